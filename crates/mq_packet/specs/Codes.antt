@@ -1,0 +1,34 @@
+-- Codes of CONNACK (3.2.2.3) and SUBACK (3.9.3) as numbers.
+use Rattle.std.specs.Prelude.{ℕ, Option, Some, None, ◌==◌, if◌then◌else◌}
+use Rattle.mq_topic.specs.declared.qos.Qos.TheVariants.{Q0, Q1, Q2}
+use Rattle.mq_topic.specs.Qos.{qos_number}
+use Rattle.mq_packet.specs.declared.connack.RefusalCode.{RefusalCode}
+use Rattle.mq_packet.specs.declared.connack.RefusalCode.TheVariants.{UnacceptableProtocolVersion, IdentifierRejected, ServerUnavailable, BadUserNameOrPassword, NotAuthorized}
+use Rattle.mq_packet.specs.declared.packet.SubAckCode.{SubAckCode}
+use Rattle.mq_packet.specs.declared.packet.SubAckCode.TheVariants.{Granted, Failure}
+
+abbrev pub refusal_number : RefusalCode → ℕ
+refusal_number UnacceptableProtocolVersion = 1
+refusal_number IdentifierRejected = 2
+refusal_number ServerUnavailable = 3
+refusal_number BadUserNameOrPassword = 4
+refusal_number NotAuthorized = 5
+
+abbrev pub refusal_from : ℕ → Option RefusalCode
+refusal_from n =
+    if n == 1 then Some UnacceptableProtocolVersion else
+    (if n == 2 then Some IdentifierRejected else
+    (if n == 3 then Some ServerUnavailable else
+    (if n == 4 then Some BadUserNameOrPassword else
+    (if n == 5 then Some NotAuthorized else None))))
+
+abbrev pub code_number : SubAckCode → ℕ
+code_number (Granted qos) = qos_number qos
+code_number Failure = 128
+
+abbrev pub code_from : ℕ → Option SubAckCode
+code_from n =
+    if n == 0 then Some (Granted Q0) else
+    (if n == 1 then Some (Granted Q1) else
+    (if n == 2 then Some (Granted Q2) else
+    (if n == 128 then Some Failure else None)))

@@ -1,0 +1,3 @@
+pub mod Identifier
+pub mod Publication
+pub mod Codes

@@ -1,0 +1,20 @@
+-- What a PUBLISH carries (3.3).
+use Rattle.std.specs.Prelude.{Bool, true, false, Option, Some, None}
+use Rattle.mq_topic.specs.declared.qos.Qos.{Qos}
+use Rattle.mq_topic.specs.declared.qos.Qos.TheVariants.{Q0, Q1, Q2}
+use Rattle.mq_packet.specs.declared.message.Message.{Message}
+use Rattle.mq_packet.specs.declared.publish.Delivery.{Delivery}
+
+-- a message, and where its quality of service is over 0 the packet identifier and DUP
+pub record Publication : Type 0 where
+  pub message : Message
+  pub delivery : Option Delivery
+
+-- there is a delivery exactly where the quality of service is over 0 (2.3.1, 3.3.2.2)
+abbrev pub fits_delivery : Qos → Option Delivery → Bool
+fits_delivery Q0 None = true
+fits_delivery Q0 (Some d) = false
+fits_delivery Q1 None = false
+fits_delivery Q1 (Some d) = true
+fits_delivery Q2 None = false
+fits_delivery Q2 (Some d) = true

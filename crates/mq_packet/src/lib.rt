@@ -1,0 +1,22 @@
+//! The fourteen control packets of MQTT 3.1.1 as values (chapter 3), and how they are written.
+//!
+//! A value that is not well formed cannot be made: the parts keep their own rules.
+#![tactic(auto)]
+
+mod binary;
+mod connack;
+mod connect;
+mod id;
+mod list;
+mod message;
+mod packet;
+mod publish;
+
+pub use crate::binary::{Binary, Payload};
+pub use crate::connack::{ConnAck, RefusalCode};
+pub use crate::connect::{Connect, Login, Will};
+pub use crate::id::PacketId;
+pub use crate::list::NonEmpty;
+pub use crate::message::Message;
+pub use crate::packet::{Packet, Request, SubAckCode};
+pub use crate::publish::{Delivery, Publish};

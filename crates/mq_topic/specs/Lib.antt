@@ -1,0 +1,2 @@
+pub mod Qos
+pub mod Topic

@@ -1,0 +1,12 @@
+-- The quality of service as a number (4.3).
+use Rattle.std.specs.Prelude.{ℕ, Option, Some, None, ◌==◌, if◌then◌else◌}
+use Rattle.mq_topic.specs.declared.qos.Qos.{Qos}
+use Rattle.mq_topic.specs.declared.qos.Qos.TheVariants.{Q0, Q1, Q2}
+
+abbrev pub qos_number : Qos → ℕ
+qos_number Q0 = 0
+qos_number Q1 = 1
+qos_number Q2 = 2
+
+abbrev pub qos_from : ℕ → Option Qos
+qos_from n = if n == 0 then Some Q0 else (if n == 1 then Some Q1 else (if n == 2 then Some Q2 else None))

@@ -1,0 +1,40 @@
+//! The quality of service (4.3).
+
+ghost use Rattle.std.specs.Prelude.{◌≡◌};
+ghost use Rattle.mq_topic.specs.Qos.{qos_number, qos_from};
+
+/// How often a message is handed on (4.3): at most once, at least once, exactly once.
+#[derive(Clone, Copy, Debug, PartialEq, Eq, PartialOrd, Ord, Hash)]
+pub enum Qos {
+    /// At most once.
+    Q0,
+    /// At least once.
+    Q1,
+    /// Exactly once.
+    Q2,
+}
+
+impl Qos {
+    /// The number that stands for it in packets.
+    pub fn number(self) -> u8
+        ensures { result ≡ qos_number self }
+    {
+        match self {
+            Qos::Q0 => 0,
+            Qos::Q1 => 1,
+            Qos::Q2 => 2,
+        }
+    }
+
+    /// The quality of service that a number stands for, `None` for a number over 2.
+    pub fn from_number(number: u8) -> Option<Qos>
+        ensures { result ≡ qos_from number }
+    {
+        match number {
+            0 => Some(Qos::Q0),
+            1 => Some(Qos::Q1),
+            2 => Some(Qos::Q2),
+            _ => None,
+        }
+    }
+}

@@ -1,0 +1,110 @@
+-- Texts: the laws of reading.
+use Rattle.std.proofs.Common.{◌≡◌, ℕ, zero, suc, ◌+◌, ◌-◌, ◌*◌, ◌/◌, ◌%◌, ◌^◌, ◌<◌, ◌≤◌, Bool, true, false, cond, eqb, ltb, List, [], ◌∷◌, ◌++◌, length, take, drop, get_or, Result, Ok, Err, refl, sym, ap, subst, ◌∙◌, append_assoc, add-zero, arith, rules, inl, inr}
+use Rattle.std.specs.Str.{IsUtf8, is_utf8}
+use Rattle.std.proofs.lemmas.Bool.{cases_lt, cases_Bool, lt-ltb, le-ltb, ltb-false}
+use Rattle.std.proofs.lemmas.List.{take_at, drop_at, length-append, length-take, length-drop, take-append-drop, get_or-drop, drop-drop}
+use Rattle.std.proofs.Math.Seq.{drop-append_seam}
+use Rattle.std.proofs.lemmas.Str.{IsUtf8-from_is_utf8, is_utf8-from_IsUtf8}
+use Rattle.mq_wire.specs.declared.text.FieldFault.{FieldFault}
+use Rattle.mq_wire.specs.declared.text.FieldFault.TheVariants.{Past, NotUtf8, Nul}
+use Rattle.mq_wire.specs.Number.{number, number_in}
+use Rattle.mq_wire.specs.Text.{IsText, Text, has_nul, counted}
+use Rattle.mq_wire.specs.Reading.{AreBytes}
+use Rattle.mq_wire.specs.TextReading.{read_text, checked_text, with_place, text_end, text_bytes, TextLaws}
+
+pub not_utf8 : (t : List ℕ) → (IsUtf8 t → ⊥) → is_utf8 t ≡ false
+not_utf8 t fails =
+    elim (cases_Bool (is_utf8 t)) [
+      | inl holds ↦ absurd (fails (IsUtf8-from_is_utf8 t holds))
+      | inr e ↦ e
+    ]
+
+pub is_text : (t : List ℕ) → IsUtf8 t → has_nul t ≡ false → length t < 65536 → IsText t
+is_text t utf8 no_nul short = record { utf8 = is_utf8-from_IsUtf8 t utf8; no_nul = no_nul; short = short }
+
+-- ---- numbers in bytes
+
+number_in-drop : (bytes : List ℕ) (at : ℕ) → number_in (drop at bytes) 0 ≡ number_in bytes at
+number_in-drop bytes at =
+    let high : get_or (drop at bytes) 0 0 ≡ get_or bytes at 0 = simp (get_or-drop, add-zero) in
+    let low : get_or (drop at bytes) 1 0 ≡ get_or bytes (at + 1) 0 = simp get_or-drop in
+    rw (high, low) refl
+
+number_in-number : (n : ℕ) (rest : List ℕ) → number_in (number n ++ rest) 0 ≡ n
+number_in-number n rest = omega arith
+
+number_in-lt : (bytes : List ℕ) (at : ℕ) → AreBytes bytes → number_in bytes at < 65536
+number_in-lt bytes at fits = omega (arith, fits at, fits (at + 1))
+
+-- two bytes are the number that stands in them
+number_of_two : (bytes : List ℕ) → AreBytes bytes → 2 ≤ length bytes → bytes ≡ number (number_in bytes 0) ++ drop 2 bytes
+number_of_two [] fits two = absurd (omega arith)
+number_of_two (a ∷ []) fits two = absurd (omega arith)
+number_of_two (a ∷ b ∷ rest) fits two =
+    let high : (256 * a + b) / 256 ≡ a = omega (arith, fits 0, fits 1) in
+    let low : (256 * a + b) % 256 ≡ b = omega (arith, fits 0, fits 1) in
+    rw (high, low) refl
+
+AreBytes-drop : (n : ℕ) (bytes : List ℕ) → AreBytes bytes → AreBytes (drop n bytes)
+AreBytes-drop n bytes h i = rw get_or-drop (h (n + i))
+
+-- ---- what is a text is read
+
+again : (front t rest : List ℕ) → IsText t → read_text (front ++ (counted t ++ rest)) (length front) ≡ Ok (t, length front + 2 + length t)
+unfolding read_text checked_text
+again front t rest h =
+    let bytes : List ℕ = front ++ (counted t ++ rest) in
+    let seam : drop (length front) bytes ≡ counted t ++ rest = drop-append_seam front (counted t ++ rest) in
+    let n_is : number_in bytes (length front) ≡ length t = sym (number_in-drop bytes (length front)) ∙ (ap (λ (b : List ℕ). number_in b 0) seam ∙ number_in-number (length t) (t ++ rest)) in
+    let len : length bytes ≡ length front + (2 + (length t + length rest)) = omega (arith, length-append front (counted t ++ rest), length-append t rest) in
+    let one : ltb (length bytes) (length front + 2) ≡ false = le-ltb _ _ (omega arith) in
+    let two : ltb (length bytes) (text_end bytes (length front)) ≡ false = le-ltb _ _ (omega arith) in
+    let behind : drop (length front + 2) bytes ≡ t ++ rest = sym (drop-drop 2 (length front) bytes) ∙ ap (λ (b : List ℕ). drop 2 b) seam in
+    let t_is : text_bytes bytes (length front) ≡ t = rw (n_is, behind) (take_at t rest (length t) refl) in
+    rw (one, two, t_is, h.utf8, h.no_nul, n_is) refl
+
+-- ---- what is read is a text
+
+guards : (c1 c2 : Bool) (r : Result (List ℕ) FieldFault) (place : ℕ) (y : List ℕ × ℕ) → cond c1 (Err Past) (cond c2 (Err Past) (with_place place r)) ≡ Ok y
+    → (c1 ≡ false) × (c2 ≡ false) × (t : List ℕ) × (r ≡ Ok t) × ((t, place) ≡ y)
+guards true c2 r place y e = absurd cc
+guards false true r place y e = absurd cc
+guards false false (Err f) place y e = absurd cc
+guards false false (Ok t) place y e = (refl, refl, t, refl, cc)
+
+checked : (utf8 nul : Bool) (t u : List ℕ) → cond utf8 (cond nul (Err Nul) (Ok t)) (Err NotUtf8) ≡ Ok u → (utf8 ≡ true) × (nul ≡ false) × (t ≡ u)
+checked true false t u e = (refl, refl, cc)
+checked true true t u e = absurd cc
+checked false nul t u e = absurd cc
+
+-- the text with the place after it
+abbrev placed : List ℕ → ℕ → List ℕ × ℕ
+placed t end = (t, end)
+
+abbrev Found : List ℕ → ℕ → List ℕ × ℕ → Type 0
+Found bytes at x = IsText x.0 × (x.1 ≡ at + 2 + length x.0) × (x.1 ≤ length bytes) × (drop at bytes ≡ counted x.0 ++ drop x.1 bytes)
+
+found : (bytes : List ℕ) (at : ℕ) (t : List ℕ) (end : ℕ) → AreBytes bytes → read_text bytes at ≡ Ok (t, end)
+    → IsText t × (end ≡ at + 2 + length t) × (end ≤ length bytes) × (drop at bytes ≡ counted t ++ drop end bytes)
+unfolding read_text checked_text
+found bytes at t end fits e =
+    let g = guards (ltb (length bytes) (at + 2)) (ltb (length bytes) (text_end bytes at)) (checked_text (text_bytes bytes at)) (text_end bytes at) (t, end) e in
+    let k = checked (is_utf8 (text_bytes bytes at)) (has_nul (text_bytes bytes at)) (text_bytes bytes at) g.2 g.3 in
+    let made : placed (text_bytes bytes at) (text_end bytes at) ≡ placed t end = ap (λ (u : List ℕ). placed u (text_end bytes at)) k.2 ∙ g.4 in
+    let n = number_in bytes at in
+    let room : at + 2 ≤ length bytes = ltb-false _ _ g.0 in
+    let whole : at + 2 + n ≤ length bytes = ltb-false _ _ g.1 in
+    let n_lt : n < 65536 = number_in-lt bytes at fits in
+    let len : length (text_bytes bytes at) ≡ n = omega (arith, length-take n (drop (at + 2) bytes), length-drop (at + 2) bytes) in
+    let rest = drop at bytes in
+    let two : 2 ≤ length rest = omega (arith, length-drop at bytes) in
+    let head : rest ≡ number n ++ drop 2 rest = subst (λ (k : ℕ). rest ≡ number k ++ drop 2 rest) (number_in-drop bytes at) (number_of_two rest (AreBytes-drop at bytes fits) two) in
+    let behind : drop 2 rest ≡ drop (at + 2) bytes = drop-drop 2 at bytes in
+    let split : drop (at + 2) bytes ≡ text_bytes bytes at ++ drop (text_end bytes at) bytes =
+    sym (take-append-drop n (drop (at + 2) bytes)) ∙ ap (λ (b : List ℕ). text_bytes bytes at ++ b) (drop-drop n (at + 2) bytes) in
+    let parts : rest ≡ counted (text_bytes bytes at) ++ drop (text_end bytes at) bytes =
+    head ∙ rw (len, behind) (ap (λ (b : List ℕ). number n ++ b) split) in
+    subst (Found bytes at) made (record { utf8 = k.0; no_nul = k.1; short = omega arith }, omega arith, whole, parts)
+
+pub laws : TextLaws
+laws = record { again = again; found = found }

@@ -1,0 +1,149 @@
+//! The remaining length (2.2.3): one to four bytes of seven bits each, least first, where bit 7 says
+//! that another byte follows. A length with more bytes than it needs is refused.
+
+ghost use Rattle.std.specs.Prelude.{◌≡◌, ℕ, ◌+◌, ◌<◌, ◌≤◌, ◌^◌, ◌↔◌, List, [], ◌∷◌, ◌++◌, length, take, IsSome, IfSome, IfNone};
+ghost use Rattle.mq_wire.specs.Length.{Length};
+ghost use Rattle.mq_wire.specs.Value.{value_of};
+
+use std::marker::Model;
+
+/// What is wrong with a remaining length.
+#[derive(Clone, Copy, Debug, PartialEq, Eq)]
+pub enum VarFault {
+    /// The fourth byte says that a fifth follows.
+    TooLong,
+    /// The last byte is 0 and not the only one, so that fewer bytes would do.
+    Overlong,
+}
+
+/// What a byte makes of the bytes of a remaining length before it.
+#[derive(Clone, Copy, Debug, PartialEq, Eq)]
+pub enum VarStep {
+    /// Another byte follows.
+    More,
+    /// The length is whole.
+    Done(u32),
+    /// No length begins so.
+    Bad(VarFault),
+}
+
+/// Reads a remaining length byte by byte (2.2.3). Contracts see it as the bytes that came.
+#[derive(Debug, Drop)]
+pub struct VarlenReader {
+    bytes: [u8; 4],
+    count: usize,
+}
+
+impl Model for VarlenReader {
+    ghost use Rattle.std.specs.Prelude.{◌≤◌, ℕ, List, take};
+
+    ghost Value = { List ℕ };
+
+    ghost view = { λ r. take r.count r.bytes };
+
+    ghost invariant = { λ r. r.count ≤ 4 };
+}
+
+impl VarlenReader {
+    ghost use Rattle.mq_wire.specs.Steps.{Continue, IsStep};
+
+    /// A reader that no byte has come to.
+    pub fn new() -> VarlenReader
+        ensures { result ≡ [] }
+    {
+        VarlenReader {
+            bytes: [0; 4],
+            count: 0,
+        }
+    }
+
+    /// Takes the next byte, and says what the bytes so far are. It is not to be called again once it
+    /// has answered `Done` or `Bad`.
+    pub fn push(&mut self, byte: u8) -> VarStep
+        requires short { length self.old < 4 }
+        requires open { Continue self.old }
+        ensures bytes { self.new ≡ self.old ++ byte ∷ [] }
+        ensures step { IsStep self.old byte result }
+    {
+        let number = number_of(&self.bytes[..self.count], byte);
+        self.bytes[self.count] = byte;
+        self.count += 1;
+        if byte >= 128 {
+            if self.count == 4 {
+                return VarStep::Bad(VarFault::TooLong);
+            }
+            return VarStep::More;
+        }
+        if byte == 0 && self.count > 1 {
+            return VarStep::Bad(VarFault::Overlong);
+        }
+        VarStep::Done(number)
+    }
+}
+
+// The number whose bytes are these, of seven bits each and least first, and then the last one.
+fn number_of(before: &[u8], last: u8) -> u32
+    ensures { result ≡ value_of before.now last }
+{
+    let last = u32::from(last);
+    match before {
+        [] => last,
+        [a] => u32::from(*a % 128) + 128 * last,
+        [a, b] => u32::from(*a % 128) + 128 * u32::from(*b % 128) + 16_384 * last,
+        [a, b, c, ..] => {
+            u32::from(*a % 128)
+                + 128 * u32::from(*b % 128)
+                + 16_384 * u32::from(*c % 128)
+                + 2_097_152 * last
+        }
+    }
+}
+
+/// How many bytes the remaining length `n` takes (2.2.3), or `None` where it is over 268,435,455 and
+/// no packet can have it.
+pub fn varlen_len(n: u32) -> Option<usize>
+    ensures fits { IsSome result ↔ (n < 2 ^ 28) }
+    ensures size { IfSome result (λ k. (b : List ℕ) → Length n b → length b ≡ k) }
+    ensures most { IfSome result (λ k. k ≤ 4) }
+{
+    match n {
+        0..=127 => Some(1),
+        128..=16_383 => Some(2),
+        16_384..=2_097_151 => Some(3),
+        2_097_152..=268_435_455 => Some(4),
+        _ => None,
+    }
+}
+
+/// Writes the remaining length `n` to the front of `out` (2.2.3) and answers how many bytes it takes,
+/// or `None` where it is over 268,435,455, and then `out` is unchanged.
+pub fn put_varlen(n: u32, out: &mut [u8; 4]) -> Option<usize>
+    ensures fits { IsSome result ↔ (n < 2 ^ 28) }
+    ensures size { IfSome result (λ k. k ≤ 4) }
+    ensures form { IfSome result (λ k. Length n (take k out.new)) }
+    ensures none { IfNone result (out.new ≡ out.old) }
+{
+    let low = (n % 128) as u8;
+    let second = (n / 128 % 128) as u8;
+    let third = (n / 16_384 % 128) as u8;
+    match n {
+        0..=127 => {
+            *out = [low, 0, 0, 0];
+            Some(1)
+        }
+        128..=16_383 => {
+            *out = [low + 128, second, 0, 0];
+            Some(2)
+        }
+        16_384..=2_097_151 => {
+            *out = [low + 128, second + 128, third, 0];
+            Some(3)
+        }
+        2_097_152..=268_435_455 => {
+            let fourth = (n / 2_097_152) as u8;
+            *out = [low + 128, second + 128, third + 128, fourth];
+            Some(4)
+        }
+        _ => None,
+    }
+}

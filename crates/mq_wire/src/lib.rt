@@ -1,0 +1,13 @@
+//! What every MQTT packet is built of: the remaining length of one to four bytes (2.2.3), two-byte
+//! numbers with the high byte first (1.5.2), and texts, a count and that many bytes of UTF-8 (1.5.3).
+#![tactic(auto)]
+
+mod length;
+mod number;
+mod reading;
+mod text;
+
+pub use crate::length::{VarFault, VarStep, VarlenReader, put_varlen, varlen_len};
+pub use crate::number::{number_at, put_number};
+pub use crate::reading::{LengthReading, length_at, length_laws};
+pub use crate::text::{FieldFault, Text, TextFault, TextRef, text_at, text_laws};
