@@ -1,3 +1,5 @@
+pub mod Codes
 pub mod Identifier
 pub mod Publication
-pub mod Codes
+pub mod Spelling
+pub mod Values

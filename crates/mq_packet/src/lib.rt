@@ -6,15 +6,19 @@
 mod binary;
 mod connack;
 mod connect;
+mod encode;
+mod fields;
 mod id;
 mod list;
 mod message;
 mod packet;
 mod publish;
+mod spelled;
 
 pub use crate::binary::{Binary, Payload};
 pub use crate::connack::{ConnAck, RefusalCode};
 pub use crate::connect::{Connect, Login, Will};
+pub use crate::encode::{EncodeError, encode_into, encoded_len};
 pub use crate::id::PacketId;
 pub use crate::list::NonEmpty;
 pub use crate::message::Message;

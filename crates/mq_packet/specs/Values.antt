@@ -1,0 +1,74 @@
+-- Which values are control packets (chapter 3): each field is of its kind.
+use Rattle.std.specs.Prelude.{◌≡◌, ℕ, ◌<◌, ◌^◌, true, List, length, Option, Some, None, IfSome}
+use Rattle.std.specs.List.{AllByRecursion}
+use Rattle.mq_wire.specs.Text.{IsText}
+use Rattle.mq_topic.specs.Topic.{IsTopicName, IsTopicFilter}
+use Rattle.mq_packet.specs.declared.message.Message.{Message}
+use Rattle.mq_packet.specs.declared.connect.Connect.{Connect}
+use Rattle.mq_packet.specs.declared.connect.Will.{Will}
+use Rattle.mq_packet.specs.declared.connect.Login.{Login}
+use Rattle.mq_packet.specs.declared.packet.Request.{Request}
+use Rattle.mq_packet.specs.declared.packet.SubAckCode.{SubAckCode}
+use Rattle.mq_packet.specs.declared.packet.Packet.{Packet}
+use Rattle.mq_packet.specs.declared.packet.Packet.TheVariants as packets
+use Rattle.mq_packet.specs.Identifier.{IsIdentifier}
+use Rattle.mq_packet.specs.Publication.{Publication, fits_delivery}
+
+-- bytes that stand behind a count of two bytes
+abbrev pub IsBinary : List ℕ → Type 0
+IsBinary b = length b < 65536
+
+-- a message (3.3): a topic name, and a payload that a packet may have room for
+pub record IsMessage (m : Message) : Type 0 where
+  pub topic : IsTopicName m.topic
+  pub payload : length m.payload < 2 ^ 28
+
+-- PUBLISH (3.3): an identifier exactly where the quality of service is over 0
+pub record IsPublication (p : Publication) : Type 0 where
+  pub message : IsMessage p.message
+  pub fits : fits_delivery p.message.qos p.delivery ≡ true
+  pub identifier : IfSome p.delivery (λ d. IsIdentifier d.id)
+
+-- the parts of CONNECT (3.1.3)
+pub record IsWill (w : Will) : Type 0 where
+  pub topic : IsTopicName w.topic
+  pub message : IsBinary w.message
+
+pub record IsLogin (l : Login) : Type 0 where
+  pub name : IsText l.name
+  pub password : IfSome l.password IsBinary
+
+pub record IsConnect (c : Connect) : Type 0 where
+  pub client_id : IsText c.client_id
+  pub keep_alive : c.keep_alive < 65536
+  pub will : IfSome c.will IsWill
+  pub login : IfSome c.login IsLogin
+
+-- an item of SUBSCRIBE (3.8.3)
+abbrev pub IsRequest : Request → Type 0
+IsRequest r = IsTopicFilter r.filter
+
+-- an identifier, and a list of at least one item, each of its kind (3.8, 3.9, 3.10)
+pub record IsList {A : Type 0} (IsItem : A → Type 0) (id : ℕ) (items : List A) : Type 0 where
+  pub identifier : IsIdentifier id
+  pub item : 0 < length items
+  pub each : AllByRecursion IsItem items
+
+abbrev pub Always : {A : Type 0} → A → Type 0
+Always a = Unit {0}
+
+abbrev pub IsPacket : Packet → Type 0
+IsPacket (packets.Connect c) = IsConnect c
+IsPacket (packets.ConnAck c) = Unit {0}
+IsPacket (packets.Publish p) = IsPublication p
+IsPacket (packets.PubAck id) = IsIdentifier id
+IsPacket (packets.PubRec id) = IsIdentifier id
+IsPacket (packets.PubRel id) = IsIdentifier id
+IsPacket (packets.PubComp id) = IsIdentifier id
+IsPacket (packets.Subscribe id requests) = IsList IsRequest id requests
+IsPacket (packets.SubAck id codes) = IsList Always id codes
+IsPacket (packets.Unsubscribe id filters) = IsList IsTopicFilter id filters
+IsPacket (packets.UnsubAck id) = IsIdentifier id
+IsPacket packets.PingReq = Unit {0}
+IsPacket packets.PingResp = Unit {0}
+IsPacket packets.Disconnect = Unit {0}
