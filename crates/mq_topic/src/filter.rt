@@ -10,9 +10,8 @@ use mq_wire::Text;
 use std::alloc::{AllocError, Global};
 use std::marker::Model;
 
-/// A topic filter (4.7): a text of at least one character, where each `+` is alone in its level, and a
-/// `#` alone in the last one. A clone shares its
-/// bytes. Contracts see it as its bytes.
+/// A topic filter (4.7): a text of at least one character, where each `+` is alone in its level, and
+/// each `#` alone in the last one. A clone shares its bytes. Contracts see it as its bytes.
 #[derive(Debug, Drop)]
 pub struct TopicFilter {
     text: Text,
@@ -41,11 +40,7 @@ pub fn is_topic_filter(text: &str) -> bool
 fn filter_fault(text: &str) -> Option<TopicFault>
     ensures { result ≡ filter_fault text.now }
 {
-    let fault = text_fault(text);
-    if fault.is_none() {
-        return levels_fault(text);
-    }
-    fault
+    text_fault(text).or_else(|| levels_fault(text))
 }
 
 impl TopicFilter {
@@ -54,7 +49,7 @@ impl TopicFilter {
     pub fn parse(alloc: Global, text: &str) -> Result<TopicFilter, TopicFault>
         ensures value { IfOk result (λ filter. filter ≡ text.now) }
         ensures refused { IfSome (filter_fault text.now) (λ fault. IsErrOf result fault) }
-        ensures accepted { IfNone (filter_fault text.now)
+        ensures memory { IfNone (filter_fault text.now)
             (IfErr result (λ fault. fault ≡ TopicFault.Memory)) }
     {
         if let Some(fault) = filter_fault(text) {

@@ -1,9 +1,9 @@
 //! Topic names (4.7): what a message is published to.
 
 ghost use Rattle.std.specs.Prelude.{◌≡◌, true, IfOk, IfErr, IfSome, IfNone, IsErrOf};
+ghost use Rattle.std.specs.List.{list_any};
 ghost use Rattle.mq_topic.specs.Fault.{name_fault};
 ghost use Rattle.mq_topic.specs.Topic.{IsTopicName, is_topic_name, is_wildcard};
-ghost use Rattle.std.specs.List.{list_any};
 
 use crate::fault::{TopicFault, text_fault};
 use mq_wire::Text;
@@ -46,11 +46,10 @@ fn has_wildcard(text: &str) -> bool
 fn name_fault(text: &str) -> Option<TopicFault>
     ensures { result ≡ name_fault text.now }
 {
-    let fault = text_fault(text);
-    if fault.is_none() && has_wildcard(text) {
-        return Some(TopicFault::Wildcard);
+    match text_fault(text) {
+        None if has_wildcard(text) => Some(TopicFault::Wildcard),
+        fault => fault,
     }
-    fault
 }
 
 impl TopicName {
@@ -58,7 +57,7 @@ impl TopicName {
     pub fn parse(alloc: Global, text: &str) -> Result<TopicName, TopicFault>
         ensures value { IfOk result (λ name. name ≡ text.now) }
         ensures refused { IfSome (name_fault text.now) (λ fault. IsErrOf result fault) }
-        ensures accepted { IfNone (name_fault text.now)
+        ensures memory { IfNone (name_fault text.now)
             (IfErr result (λ fault. fault ≡ TopicFault.Memory)) }
     {
         if let Some(fault) = name_fault(text) {
