@@ -1,2 +1,3 @@
+pub mod Fault
 pub mod Qos
 pub mod Topic

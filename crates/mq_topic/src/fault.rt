@@ -1,5 +1,8 @@
 //! Why a text is no topic name, or no topic filter.
 
+ghost use Rattle.std.specs.Prelude.{◌≡◌};
+ghost use Rattle.mq_topic.specs.Fault.{TopicLaws, text_fault};
+
 use thiserror::Error;
 
 /// Why a text is no topic name, or no topic filter (4.7). It displays as its code.
@@ -27,3 +30,24 @@ pub enum TopicFault {
     #[error("N7")]
     Memory,
 }
+
+/// What keeps a text from being a topic name, and from being a topic filter.
+pub(crate) fn text_fault(text: &str) -> Option<TopicFault>
+    ensures { result ≡ text_fault text.now }
+{
+    if text.is_empty() {
+        return Some(TopicFault::Empty);
+    }
+    if text.as_bytes().contains(&0) {
+        return Some(TopicFault::Nul);
+    }
+    if text.len() > 65_535 {
+        return Some(TopicFault::TooLong);
+    }
+    None
+}
+
+/// The laws of names and filters: a text has no fault exactly where it is one.
+pub fn topic_laws()
+    ensures { TopicLaws }
+{}

@@ -1,15 +1,17 @@
 //! Topic filters (4.7): what a client subscribes to.
 
-ghost use Rattle.std.specs.Prelude.{◌≡◌, true};
+ghost use Rattle.std.specs.Prelude.{◌≡◌, true, IfOk, IfErr, IfSome, IfNone, IsErrOf};
+ghost use Rattle.mq_topic.specs.Fault.{filter_fault};
 ghost use Rattle.mq_topic.specs.Topic.{IsTopicFilter, is_topic_filter};
 
+use crate::fault::{TopicFault, text_fault};
+use crate::level::levels_fault;
 use mq_wire::Text;
-use std::alloc::AllocError;
+use std::alloc::{AllocError, Global};
 use std::marker::Model;
 
-/// A topic filter (4.7): a text of at least one character, where each `+` is alone in its level, and a
-/// `#` alone in the last one. A clone shares its
-/// bytes. Contracts see it as its bytes.
+/// A topic filter (4.7): a text of at least one character, where each `+` is alone in its level, and
+/// each `#` alone in the last one. A clone shares its bytes. Contracts see it as its bytes.
 #[derive(Debug, Drop)]
 pub struct TopicFilter {
     text: Text,
@@ -26,7 +28,39 @@ impl Model for TopicFilter {
     ghost invariant = { λ f. IsTopicFilter f.text };
 }
 
+/// Whether a text is a topic filter (4.7): it has at least one character, each `+` is alone in its
+/// level, and each `#` alone in the last.
+pub fn is_topic_filter(text: &str) -> bool
+    ensures { result ≡ is_topic_filter text.now }
+{
+    !text.is_empty() && levels_fault(text).is_none()
+}
+
+// What keeps a text from being a topic filter.
+fn filter_fault(text: &str) -> Option<TopicFault>
+    ensures { result ≡ filter_fault text.now }
+{
+    text_fault(text).or_else(|| levels_fault(text))
+}
+
 impl TopicFilter {
+    /// The topic filter that a `&str` is, or its first fault: `Empty`, `Nul`, `TooLong`, and then level
+    /// by level from the left `Plus`, `Hash`.
+    pub fn parse(alloc: Global, text: &str) -> Result<TopicFilter, TopicFault>
+        ensures value { IfOk result (λ filter. filter ≡ text.now) }
+        ensures refused { IfSome (filter_fault text.now) (λ fault. IsErrOf result fault) }
+        ensures memory { IfNone (filter_fault text.now)
+            (IfErr result (λ fault. fault ≡ TopicFault.Memory)) }
+    {
+        if let Some(fault) = filter_fault(text) {
+            return Err(fault);
+        }
+        match Text::new(alloc, text) {
+            Ok(text) => Ok(TopicFilter { text }),
+            Err(_) => Err(TopicFault::Memory),
+        }
+    }
+
     /// The topic filter that a text is.
     pub fn from_text(text: Text) -> TopicFilter
         requires { is_topic_filter text ≡ true }

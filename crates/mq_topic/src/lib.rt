@@ -3,10 +3,13 @@
 
 mod fault;
 mod filter;
+mod level;
 mod name;
 mod qos;
+#[cfg(test)]
+mod tests;
 
-pub use crate::fault::TopicFault;
-pub use crate::filter::TopicFilter;
-pub use crate::name::TopicName;
+pub use crate::fault::{TopicFault, topic_laws};
+pub use crate::filter::{TopicFilter, is_topic_filter};
+pub use crate::name::{TopicName, is_topic_name};
 pub use crate::qos::Qos;

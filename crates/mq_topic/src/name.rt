@@ -1,10 +1,13 @@
 //! Topic names (4.7): what a message is published to.
 
-ghost use Rattle.std.specs.Prelude.{◌≡◌, true};
-ghost use Rattle.mq_topic.specs.Topic.{IsTopicName, is_topic_name};
+ghost use Rattle.std.specs.Prelude.{◌≡◌, true, IfOk, IfErr, IfSome, IfNone, IsErrOf};
+ghost use Rattle.std.specs.List.{list_any};
+ghost use Rattle.mq_topic.specs.Fault.{name_fault};
+ghost use Rattle.mq_topic.specs.Topic.{IsTopicName, is_topic_name, is_wildcard};
 
+use crate::fault::{TopicFault, text_fault};
 use mq_wire::Text;
-use std::alloc::AllocError;
+use std::alloc::{AllocError, Global};
 use std::marker::Model;
 
 /// A topic name (4.7): a text of at least one character, without `+` and `#`. A clone shares its
@@ -25,7 +28,47 @@ impl Model for TopicName {
     ghost invariant = { λ n. IsTopicName n.text };
 }
 
+/// Whether a text is a topic name (4.7): it has at least one character, and none of `+` and `#`.
+pub fn is_topic_name(text: &str) -> bool
+    ensures { result ≡ is_topic_name text.now }
+{
+    !text.is_empty() && !has_wildcard(text)
+}
+
+// Whether a text has `+` or `#`.
+fn has_wildcard(text: &str) -> bool
+    ensures { result ≡ list_any is_wildcard text.now }
+{
+    text.as_bytes().iter().any(|b| *b == b'+' || *b == b'#')
+}
+
+// What keeps a text from being a topic name.
+fn name_fault(text: &str) -> Option<TopicFault>
+    ensures { result ≡ name_fault text.now }
+{
+    match text_fault(text) {
+        None if has_wildcard(text) => Some(TopicFault::Wildcard),
+        fault => fault,
+    }
+}
+
 impl TopicName {
+    /// The topic name that a `&str` is, or its first fault: `Empty`, `Nul`, `TooLong`, `Wildcard`.
+    pub fn parse(alloc: Global, text: &str) -> Result<TopicName, TopicFault>
+        ensures value { IfOk result (λ name. name ≡ text.now) }
+        ensures refused { IfSome (name_fault text.now) (λ fault. IsErrOf result fault) }
+        ensures memory { IfNone (name_fault text.now)
+            (IfErr result (λ fault. fault ≡ TopicFault.Memory)) }
+    {
+        if let Some(fault) = name_fault(text) {
+            return Err(fault);
+        }
+        match Text::new(alloc, text) {
+            Ok(text) => Ok(TopicName { text }),
+            Err(_) => Err(TopicFault::Memory),
+        }
+    }
+
     /// The topic name that a text is.
     pub fn from_text(text: Text) -> TopicName
         requires { is_topic_name text ≡ true }
