@@ -1,7 +1,7 @@
 //! Texts (1.5.3): UTF-8 of at most 65,535 bytes, without surrogates and without U+0000. In a packet
 //! a count of two bytes stands before the bytes.
 
-ghost use Rattle.std.specs.Prelude.{◌≡◌, ◌<◌, ◌↔◌, ◌≤◌, true, length, IfOk, IfErr, IsErrOf};
+ghost use Rattle.std.specs.Prelude.{◌≡◌, ◌+◌, ◌<◌, ◌↔◌, ◌≤◌, true, length, IfOk, IfErr, IsErrOf};
 ghost use Rattle.mq_wire.specs.Text.{IsText, has_nul};
 ghost use Rattle.mq_wire.specs.TextReading.{TextLaws, checked_text, read_text};
 
@@ -158,7 +158,7 @@ fn checked_text(bytes: &[u8]) -> Result<TextRef<'_>, FieldFault>
 #[tactic(auto, unfolding(crate::specs::TextReading::read_text))]
 pub fn text_at(bytes: &[u8], at: usize) -> Result<(TextRef<'_>, usize), FieldFault>
     ensures reads { result ≡ read_text bytes.now at }
-    ensures place { IfOk result (λ x. x.1 ≤ length bytes.now) }
+    ensures place { IfOk result (λ x. (at + 2 ≤ x.1) × (x.1 ≤ length bytes.now)) }
 {
     if at > bytes.len() || bytes.len() - at < 2 {
         return Err(FieldFault::Past);

@@ -1,0 +1,25 @@
+-- A reading gives a value, or the first field that is not of its kind.
+use Rattle.std.specs.Prelude.{◌≡◌, Result, Ok, Err}
+use Rattle.mq_decode.specs.declared.fault.BadField.{BadField}
+use Rattle.mq_decode.specs.declared.fault.FieldsError.{FieldsError}
+use Rattle.mq_decode.specs.declared.fault.FieldsError.TheVariants as errors
+
+-- one field after another, up to the first that is bad
+infixl 10 ◌>>=◌
+abbrev pub ◌>>=◌ : {A B : Type 0} → Result A BadField → (A → Result B BadField) → Result B BadField
+(Ok x) >>= f = f x
+(Err e) >>= f = Err e
+
+-- what a function returned, seen by view, is what reading gives
+abbrev pub Same : {X Y : Type 0} → (X → Y) → Result X BadField → Result Y BadField → Type 0
+Same view (Ok x) read = read ≡ Ok (view x)
+Same view (Err bad) read = read ≡ Err bad
+
+-- the same, unless memory ran out
+abbrev pub Fails : {Y : Type 0} → FieldsError → Result Y BadField → Type 0
+Fails errors.Memory read = Unit {0}
+Fails (errors.Bad bad) read = read ≡ Err bad
+
+abbrev pub Gives : {X Y : Type 0} → (X → Y) → Result X FieldsError → Result Y BadField → Type 0
+Gives view (Ok x) read = read ≡ Ok (view x)
+Gives view (Err e) read = Fails e read

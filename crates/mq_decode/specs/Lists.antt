@@ -1,0 +1,34 @@
+-- Reading an identifier and a list of at least one item (3.8, 3.9, 3.10).
+use Rattle.std.specs.Prelude.{ℕ, zero, suc, List, [], ◌∷◌, length, Option, Some, None, Result, Ok, Err, ◌==◌, if◌then◌else◌}
+use Rattle.mq_topic.specs.declared.qos.Qos.{Qos}
+use Rattle.mq_topic.specs.Qos.{qos_from}
+use Rattle.mq_packet.specs.declared.packet.Request.{Request}
+use Rattle.mq_packet.specs.declared.packet.SubAckCode.{SubAckCode}
+use Rattle.mq_packet.specs.Codes.{code_from}
+use Rattle.mq_decode.specs.declared.fault.FaultKind.TheVariants.{EmptyList}
+use Rattle.mq_decode.specs.declared.fault.BadField.{BadField}
+use Rattle.mq_decode.specs.Gives.{◌>>=◌}
+use Rattle.mq_decode.specs.Fields.{bad_at, identifier_at, filter_at, code_byte_at}
+
+-- the items up to the end of the packet; no more of them than so many
+abbrev pub items_at : {A : Type 0} → (List ℕ → Result (A × List ℕ) BadField) → ℕ → List ℕ → Result (List A) BadField
+items_at item more [] = Ok []
+items_at item zero (b ∷ bytes) = Ok []
+items_at item (suc more) (b ∷ bytes) = item (b ∷ bytes) >>= λ x. items_at item more x.1 >>= λ xs. Ok (x.0 ∷ xs)
+
+-- at least one item; each takes a byte or more, so there are no more of them than bytes
+abbrev pub list_at : {A : Type 0} → (List ℕ → Result (A × List ℕ) BadField) → List ℕ → Result (List A) BadField
+list_at item [] = Err (bad_at EmptyList [])
+list_at item (b ∷ bytes) = items_at item (length (b ∷ bytes)) (b ∷ bytes)
+
+-- an item of SUBSCRIBE (3.8.3): a filter and a quality of service
+unfoldable pub request_at : List ℕ → Result (Request × List ℕ) BadField
+request_at bytes = filter_at bytes >>= λ f. code_byte_at qos_from f.1 >>= λ q. Ok (record { filter = f.0; qos = q.0 }, q.1)
+
+-- an item of SUBACK (3.9.3)
+unfoldable pub suback_code_at : List ℕ → Result (SubAckCode × List ℕ) BadField
+suback_code_at bytes = code_byte_at code_from bytes
+
+-- an identifier, and then a list
+unfoldable pub list_with : {A : Type 0} → (List ℕ → Result (A × List ℕ) BadField) → List ℕ → Result (ℕ × List A) BadField
+list_with item bytes = identifier_at bytes >>= λ id. list_at item id.1 >>= λ items. Ok (id.0, items)

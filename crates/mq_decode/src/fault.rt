@@ -1,0 +1,135 @@
+//! What is wrong with bytes that are no packet.
+
+use std::alloc::{AllocError, AllocFailed};
+use thiserror::Error;
+
+/// What stands where a packet should. It displays as its code, `F1` to `F20`.
+#[derive(Clone, Copy, Debug, PartialEq, Eq, Error)]
+pub enum FaultKind {
+    /// The type is 0 or 15 (2.2.1).
+    #[error("F1")]
+    ForbiddenType,
+    /// The low four bits are not those of the type, which is not PUBLISH (2.2.2).
+    #[error("F2")]
+    WrongFlags,
+    /// A PUBLISH of quality of service 3 (3.3.1.2).
+    #[error("F3")]
+    ForbiddenQos,
+    /// DUP with quality of service 0 (3.3.1.1).
+    #[error("F4")]
+    DupWithoutDelivery,
+    /// The fourth byte of the remaining length says that a fifth follows (2.2.3).
+    #[error("F5")]
+    LengthTooLong,
+    /// The last byte of the remaining length is 0 and not the only one.
+    #[error("F6")]
+    LengthOverlong,
+    /// The remaining length is over the limit.
+    #[error("F7")]
+    OverLimit,
+    /// The remaining length is not the fixed one of the type.
+    #[error("F8")]
+    WrongSize,
+    /// A field goes past the packet's end.
+    #[error("F9")]
+    PastEnd,
+    /// A text is not UTF-8 (1.5.3).
+    #[error("F10")]
+    NotUtf8,
+    /// A text has the character U+0000 (1.5.3).
+    #[error("F11")]
+    Nul,
+    /// The protocol name is not `MQTT` (3.1.2.1).
+    #[error("F12")]
+    ProtocolName,
+    /// The protocol level is not 4 (3.1.2.2).
+    #[error("F13")]
+    ProtocolLevel,
+    /// Flags of CONNECT (3.1.2.3) or of CONNACK (3.2.2.1) that are forbidden.
+    #[error("F14")]
+    ForbiddenFlags,
+    /// A text is no topic name (4.7).
+    #[error("F15")]
+    NotTopicName,
+    /// A text is no topic filter (4.7).
+    #[error("F16")]
+    NotTopicFilter,
+    /// A packet identifier of 0 (2.3.1).
+    #[error("F17")]
+    ZeroIdentifier,
+    /// A quality of service over 2, or a code of no kind (3.2.2.3, 3.8.3, 3.9.3).
+    #[error("F18")]
+    ForbiddenCode,
+    /// A list without an item (3.8.3, 3.9.3, 3.10.3).
+    #[error("F19")]
+    EmptyList,
+    /// Bytes are left after the last field (3.1.3).
+    #[error("F20")]
+    BytesLeft,
+}
+
+/// The first fault of a packet.
+#[derive(Clone, Copy, Debug, PartialEq, Eq)]
+pub struct DecodeFault {
+    /// What is wrong.
+    pub kind: FaultKind,
+    /// Where, counted from the packet's first byte. A field's place is its first byte; that of a text
+    /// or a binary is the first byte of its count.
+    pub place: usize,
+}
+
+/// Why no further packet is read.
+#[derive(Clone, Copy, Debug, PartialEq, Eq)]
+pub enum DecodeError {
+    /// The bytes are no packet.
+    Fault(DecodeFault),
+    /// Memory ran out.
+    Memory,
+}
+
+/// The first field that is not of its kind, and how many bytes of the packet there are from it on.
+#[derive(Clone, Copy, Debug, PartialEq, Eq)]
+pub(crate) struct BadField {
+    pub(crate) kind: FaultKind,
+    pub(crate) left: usize,
+}
+
+/// Why fields were not read.
+#[derive(Clone, Copy, Debug, PartialEq, Eq)]
+pub(crate) enum FieldsError {
+    Bad(BadField),
+    Memory,
+}
+
+impl From<BadField> for FieldsError {
+    ghost use Rattle.std.specs.Prelude.{◌≡◌};
+    ghost use Rattle.mq_decode.specs.declared.fault.FieldsError.TheVariants.{Bad};
+
+    ghost from_gives = { λ bad e. e ≡ Bad bad };
+
+    fn from(bad: BadField) -> FieldsError {
+        FieldsError::Bad(bad)
+    }
+}
+
+impl From<AllocError> for FieldsError {
+    ghost use Rattle.std.specs.Prelude.{◌≡◌};
+    ghost use Rattle.mq_decode.specs.declared.fault.FieldsError.TheVariants.{Memory};
+
+    ghost from_gives = { λ _ e. e ≡ Memory };
+
+    fn from(_e: AllocError) -> FieldsError {
+        FieldsError::Memory
+    }
+}
+
+impl<T: Drop> From<AllocFailed<T>> for FieldsError {
+    ghost use Rattle.std.specs.Prelude.{◌≡◌};
+    ghost use Rattle.mq_decode.specs.declared.fault.FieldsError.TheVariants.{Memory};
+
+    ghost from_gives = { λ _ e. e ≡ Memory };
+
+    fn from(_e: AllocFailed<T>) -> FieldsError {
+        FieldsError::Memory
+    }
+}
