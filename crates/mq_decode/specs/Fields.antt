@@ -54,16 +54,13 @@ unfoldable pub binary_at : List ℕ → Result (List ℕ × List ℕ) BadField
 binary_at bytes = number_at bytes >>= λ n. if nat_lt (length n.1) n.0 then Err (bad_at PastEnd bytes) else Ok (take n.0 n.1, drop n.0 n.1)
 
 -- a byte that is a code of some kind (3.8.3, 3.9.3)
-abbrev pub code_or_fault : {A : Type 0} → (ℕ → Option A) → ℕ → List ℕ → Result (A × List ℕ) BadField
-code_or_fault from b bytes = found_code (from b) b bytes
-  where
-    found_code : {A : Type 0} → Option A → ℕ → List ℕ → Result (A × List ℕ) BadField
-    found_code None b bytes = Err (bad_at ForbiddenCode (b ∷ bytes))
-    found_code (Some a) b bytes = Ok (a, bytes)
+abbrev pub code_or_fault : {A : Type 0} → Option A → ℕ → List ℕ → Result (A × List ℕ) BadField
+code_or_fault None b bytes = Err (bad_at ForbiddenCode (b ∷ bytes))
+code_or_fault (Some a) b bytes = Ok (a, bytes)
 
 abbrev pub code_byte_at : {A : Type 0} → (ℕ → Option A) → List ℕ → Result (A × List ℕ) BadField
 code_byte_at from [] = Err (bad_at PastEnd [])
-code_byte_at from (b ∷ bytes) = code_or_fault from b bytes
+code_byte_at from (b ∷ bytes) = code_or_fault (from b) b bytes
 
 -- the end of the packet
 abbrev pub end_at : List ℕ → Result (Unit {0}) BadField

@@ -1,5 +1,5 @@
 -- What a first byte stands for (2.2.1, 2.2.2), and the types of a fixed remaining length.
-use Rattle.std.specs.Prelude.{ℕ, ◌/◌, ◌%◌, Bool, true, false, ◌&&◌, Option, Some, None, Result, Ok, Err, ◌==◌, if◌then◌else◌}
+use Rattle.std.specs.Prelude.{ℕ, ◌/◌, ◌%◌, Bool, true, false, ◌&&◌, Option, Some, None, Result, Ok, Err, ◌==◌, nat_lt, if◌then◌else◌}
 use Rattle.mq_topic.specs.declared.qos.Qos.{Qos}
 use Rattle.mq_topic.specs.declared.qos.Qos.TheVariants.{Q0, Q1, Q2}
 use Rattle.mq_topic.specs.Qos.{qos_from}
@@ -64,3 +64,11 @@ fixed_size UnsubAck = Some 2
 fixed_size PingReq = Some 0
 fixed_size PingResp = Some 0
 fixed_size Disconnect = Some 0
+
+-- a remaining length over the limit, or other than the fixed one
+abbrev pub wrong_size : Option ℕ → ℕ → Option FaultKind
+wrong_size None n = None
+wrong_size (Some size) n = if n == size then None else Some WrongSize
+
+abbrev pub size_fault : ℕ → Kind → ℕ → Option FaultKind
+size_fault limit kind n = if nat_lt limit n then Some OverLimit else wrong_size (fixed_size kind) n

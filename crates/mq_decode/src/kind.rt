@@ -89,10 +89,7 @@ pub(crate) fn fixed_size(kind: Kind) -> Option<u32>
         | Kind::PubComp
         | Kind::UnsubAck => Some(2),
         Kind::PingReq | Kind::PingResp | Kind::Disconnect => Some(0),
-        Kind::Connect
-        | Kind::Publish(_)
-        | Kind::Subscribe
-        | Kind::SubAck
-        | Kind::Unsubscribe => None,
+        Kind::Connect | Kind::Publish(_) | Kind::Subscribe | Kind::SubAck | Kind::Unsubscribe =>
+            None,
     }
 }

@@ -6,6 +6,8 @@ mod connect;
 mod fault;
 mod fields;
 mod flags;
+mod front;
+mod header;
 mod kind;
 mod limits;
 mod lists;

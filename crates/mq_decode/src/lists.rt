@@ -88,10 +88,7 @@ impl Item for SubAckCode {
 }
 
 /// The items up to the end of the packet, of which there is at least one.
-pub(crate) fn list<T: Item + Drop>(
-    alloc: Global,
-    bytes: &[u8],
-) -> Result<NonEmpty<T>, FieldsError>
+pub(crate) fn list<T: Item + Drop>(alloc: Global, bytes: &[u8]) -> Result<NonEmpty<T>, FieldsError>
     ensures { Gives (λ l. l) result (list_at T.item_at bytes.now) }
 {
     if bytes.is_empty() {

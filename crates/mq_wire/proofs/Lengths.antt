@@ -6,9 +6,10 @@ use Rattle.std.proofs.lemmas.Bool.Decides.{nat_tests}
 use Rattle.mq_wire.specs.declared.reading.LengthReading.{LengthReading}
 use Rattle.mq_wire.specs.declared.reading.LengthReading.TheVariants.{Whole, Unfinished, TooLong, Overlong}
 use Rattle.mq_wire.specs.Length.{Digits, IsShortest, Length}
+use Rattle.mq_wire.specs.Bytes.{AreBytes}
 use Rattle.mq_wire.specs.Steps.{Continue}
 use Rattle.mq_wire.specs.Value.{value_of}
-use Rattle.mq_wire.specs.Reading.{read_length, fourth_byte, third_byte, second_byte, AreBytes, IsTooLong, IsOverlong, LengthLaws}
+use Rattle.mq_wire.specs.Reading.{read_length, fourth_byte, third_byte, second_byte, IsTooLong, IsOverlong, LengthLaws}
 
 pub size_one : (n : ℕ) (b : List ℕ) → n < 128 → Length n b → length b ≡ 1
 size_one n [] lt h = absurd h.0

@@ -7,9 +7,9 @@ use Rattle.std.proofs.Math.Seq.{drop-append_seam}
 use Rattle.std.proofs.lemmas.Str.{IsUtf8-from_is_utf8, is_utf8-from_IsUtf8}
 use Rattle.mq_wire.specs.declared.text.FieldFault.{FieldFault}
 use Rattle.mq_wire.specs.declared.text.FieldFault.TheVariants.{Past, NotUtf8, Nul}
-use Rattle.mq_wire.specs.Number.{number, number_in}
+use Rattle.mq_wire.specs.Number.{number, number_in, NumberLaws}
 use Rattle.mq_wire.specs.Text.{IsText, Text, has_nul, counted}
-use Rattle.mq_wire.specs.Reading.{AreBytes}
+use Rattle.mq_wire.specs.Bytes.{AreBytes}
 use Rattle.mq_wire.specs.TextReading.{read_text, checked_text, with_place, text_end, text_bytes, TextLaws}
 
 pub not_utf8 : (t : List ℕ) → (IsUtf8 t → ⊥) → is_utf8 t ≡ false
@@ -108,3 +108,6 @@ found bytes at t end fits e =
 
 pub laws : TextLaws
 laws = record { again = again; found = found }
+
+pub number_laws : NumberLaws
+number_laws = record { again = number_in-number; found = number_of_two; below = number_in-lt }

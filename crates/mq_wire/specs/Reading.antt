@@ -1,7 +1,8 @@
 -- Reading a remaining length from the front of bytes, and what ties the reading to `Length` (2.2.3).
-use Rattle.std.specs.Prelude.{◌≡◌, ℕ, ◌+◌, ◌-◌, ◌*◌, ◌^◌, ◌<◌, ◌≤◌, List, [], ◌∷◌, ◌++◌, length, take, slice_index, nat_lt, ◌==◌, if◌then◌else◌}
+use Rattle.std.specs.Prelude.{◌≡◌, ℕ, ◌+◌, ◌-◌, ◌*◌, ◌^◌, ◌<◌, ◌≤◌, List, [], ◌∷◌, ◌++◌, length, take, nat_lt, ◌==◌, if◌then◌else◌}
 use Rattle.mq_wire.specs.declared.reading.LengthReading.{LengthReading}
 use Rattle.mq_wire.specs.declared.reading.LengthReading.TheVariants.{Whole, Unfinished, TooLong, Overlong}
+use Rattle.mq_wire.specs.Bytes.{AreBytes}
 use Rattle.mq_wire.specs.Length.{Length}
 use Rattle.mq_wire.specs.Steps.{Continue}
 
@@ -23,9 +24,12 @@ unfoldable pub read_length : List ℕ → LengthReading
 read_length [] = Unfinished
 read_length (b ∷ bs) = if nat_lt b 128 then Whole b 1 else second_byte (b - 128) bs
 
--- each item is a byte
-abbrev pub AreBytes : List ℕ → Type 0
-AreBytes b = (i : ℕ) → slice_index b i < 256
+-- a length takes at most four bytes, and is below 2 ^ 28
+abbrev pub IsSmall : LengthReading → Type 0
+IsSmall (Whole n size) = (size ≤ 4) × (n < 2 ^ 28)
+IsSmall Unfinished = Unit {0}
+IsSmall TooLong = Unit {0}
+IsSmall (Overlong size) = size ≤ 4
 
 -- four bytes that say that a fifth follows stand at the front
 pub record IsTooLong (b : List ℕ) : Type 0 where

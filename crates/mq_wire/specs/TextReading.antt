@@ -5,7 +5,7 @@ use Rattle.mq_wire.specs.declared.text.FieldFault.{FieldFault}
 use Rattle.mq_wire.specs.declared.text.FieldFault.TheVariants.{Past, NotUtf8, Nul}
 use Rattle.mq_wire.specs.Number.{number_in}
 use Rattle.mq_wire.specs.Text.{IsText, Text, has_nul, counted}
-use Rattle.mq_wire.specs.Reading.{AreBytes}
+use Rattle.mq_wire.specs.Bytes.{AreBytes}
 
 -- the bytes of a text whose count begins at a place, and the place after them
 abbrev pub text_end : List ℕ → ℕ → ℕ

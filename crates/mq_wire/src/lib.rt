@@ -10,6 +10,6 @@ mod tests;
 mod text;
 
 pub use crate::length::{VarFault, VarStep, VarlenReader, put_varlen, varlen_len};
-pub use crate::number::{number_at, put_number};
+pub use crate::number::{number_at, number_laws, put_number};
 pub use crate::reading::{LengthReading, length_at, length_laws};
 pub use crate::text::{FieldFault, Text, TextFault, TextRef, text_at, text_laws};

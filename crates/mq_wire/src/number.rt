@@ -1,7 +1,7 @@
 //! Two-byte numbers, the high byte first (1.5.2).
 
 ghost use Rattle.std.specs.Prelude.{◌≡◌, ◌+◌, ◌≤◌, ◌++◌, [], ◌∷◌, length, OnOk, OnErr};
-ghost use Rattle.mq_wire.specs.Number.{number, number_in};
+ghost use Rattle.mq_wire.specs.Number.{NumberLaws, number, number_in};
 
 use byteorder::{BigEndian, ByteOrder};
 use std::alloc::AllocError;
@@ -23,3 +23,8 @@ pub fn put_number(out: &mut Vec<u8>, n: u16) -> Result<(), AllocError>
     BigEndian::write_u16(&mut bytes, n);
     out.extend_from_slice(&bytes)
 }
+
+/// The laws of numbers: what is written is read, and what is read is written so.
+pub fn number_laws()
+    ensures { NumberLaws }
+{}

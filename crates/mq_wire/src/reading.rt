@@ -1,7 +1,7 @@
 //! A remaining length that stands at the front of bytes (2.2.3).
 
 ghost use Rattle.std.specs.Prelude.{◌≡◌};
-ghost use Rattle.mq_wire.specs.Reading.{LengthLaws, read_length};
+ghost use Rattle.mq_wire.specs.Reading.{IsSmall, LengthLaws, read_length};
 
 /// What stands at the front of bytes, read as a remaining length.
 #[derive(Clone, Copy, Debug, PartialEq, Eq)]
@@ -19,7 +19,8 @@ pub enum LengthReading {
 /// Reads the remaining length at the front of `bytes`; what follows it does not matter (2.2.3).
 #[tactic(auto, unfolding(crate::specs::Reading::read_length))]
 pub fn length_at(bytes: &[u8]) -> LengthReading
-    ensures { result ≡ read_length bytes.now }
+    ensures read { result ≡ read_length bytes.now }
+    ensures small { IsSmall result }
 {
     match bytes {
         [] => LengthReading::Unfinished,

@@ -23,4 +23,4 @@ returns-in-Err g c =
     let left : 0 < length c.loop-rest.rest.now = some_left c.is_empty-in-loop-rest.result _ c.is_empty-in-loop-rest.ensures c.loop-rest-test.true in
     let some : 0 < length c.args.bytes.now = some_left c.is_empty.result _ c.is_empty.ensures c.if-is_empty.false in
     rw list_of_some (stops c.in-Err.e g.T.Item.item_at c.loop-rest.items.items c.args.bytes.now c.loop-rest.rest.now (items_at g.T.Item.item_at (length c.args.bytes.now) c.args.bytes.now)
-        left c.loop-rest.invariant.room c.in-Err.ensures.read c.loop-rest.invariant.told)
+    left c.loop-rest.invariant.room c.in-Err.ensures.read c.loop-rest.invariant.told)

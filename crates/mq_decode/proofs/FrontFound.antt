@@ -1,0 +1,138 @@
+-- What is read at the front of bytes is what the grammar says.
+use Rattle.std.proofs.Common.{◌≡◌, ℕ, zero, suc, ◌+◌, ◌-◌, ◌*◌, ◌^◌, ◌<◌, ◌≤◌, Bool, true, false, cond, eqb, ltb, List, [], ◌∷◌, ◌++◌, length, take, drop, Option, Some, None, Result, Ok, Err, refl, sym, ap, subst, ◌∙◌, append_assoc, arith, inl, inr}
+use Rattle.std.proofs.lemmas.Bool.{ltb-false, true≢false}
+use Rattle.std.proofs.lemmas.List.{take_at, length-append, length-take, length-drop, take-append-drop}
+use Rattle.mq_wire.specs.declared.reading.LengthReading.{LengthReading}
+use Rattle.mq_wire.specs.declared.reading.LengthReading.TheVariants.{Whole, Unfinished, TooLong, Overlong}
+use Rattle.mq_wire.specs.Bytes.{AreBytes}
+use Rattle.mq_wire.specs.Length.{Length}
+use Rattle.mq_wire.specs.Reading.{read_length}
+use Rattle.mq_packet.specs.declared.packet.Packet.{Packet}
+use Rattle.mq_packet.specs.Spelling.{Spells, fields, first_byte}
+use Rattle.mq_decode.specs.declared.fault.FaultKind.{FaultKind}
+use Rattle.mq_decode.specs.declared.fault.FaultKind.TheVariants.{LengthTooLong, LengthOverlong, OverLimit}
+use Rattle.mq_decode.specs.declared.fault.DecodeFault.{DecodeFault}
+use Rattle.mq_decode.specs.declared.fault.DecodeError.{DecodeError}
+use Rattle.mq_decode.specs.declared.fault.DecodeError.TheVariants as errors
+use Rattle.mq_decode.specs.declared.fault.BadField.{BadField}
+use Rattle.mq_decode.specs.declared.kind.Kind.{Kind}
+use Rattle.mq_decode.specs.Kind.{kind_at, fixed_size, wrong_size, size_fault}
+use Rattle.mq_decode.specs.Bodies.{body_at}
+use Rattle.mq_decode.specs.Front.{fault_at, sized, header_after, header_at, packet_or_fault, front_after, front_at, GivesFront}
+use Rattle.mq_decode.specs.Grammar.{SpellsWithin, Faulty, AtFirst, AtLength, AtSize, AtField, Pending, IsFront}
+use Rattle.mq_decode.proofs.FieldLaws.{Wire, AreBytes-rest}
+use Rattle.mq_decode.proofs.KindLaws.{IsKind, kind_byte, kind_of, byte_again, kind_found}
+use Rattle.mq_decode.proofs.BodyLaws.{BodyFound, body_found}
+use Rattle.mq_decode.proofs.FrontLaws.{Read, whole_again, faulty_again, pending_at}
+
+abbrev pub FrontFound : ℕ → List ℕ → Read → Type 0
+FrontFound limit b (Ok None) = Pending limit b
+FrontFound limit b (Ok (Some x)) = (x.1 ≤ length b) × SpellsWithin limit x.0 (take x.1 b)
+FrontFound limit b (Err fault) = Faulty limit b fault.kind fault.place
+
+is_pending : (w : Wire) (limit : ℕ) (b : List ℕ) → front_at limit b ≡ Ok None → FrontFound limit b (front_at limit b)
+is_pending w limit b e = subst (FrontFound limit b) (sym e) (pending_at w limit b e)
+
+is_faulty : (w : Wire) (limit : ℕ) (b : List ℕ) (k : FaultKind) (place : ℕ) → Faulty limit b k place → FrontFound limit b (front_at limit b)
+is_faulty w limit b k place h = subst (FrontFound limit b) (sym (faulty_again w limit b k place h)) h
+
+is_whole : (w : Wire) (limit : ℕ) (p : Packet) (s rest : List ℕ) → SpellsWithin limit p s → FrontFound limit (s ++ rest) (front_at limit (s ++ rest))
+is_whole w limit p s rest h =
+    let front : take (length s) (s ++ rest) ≡ s = take_at s rest (length s) refl in
+    let fits : length s ≤ length (s ++ rest) = omega (arith, length-append s rest) in
+    subst (FrontFound limit (s ++ rest)) (sym (whole_again w limit p s rest h)) (fits, rw front h)
+
+AreBytes-front : (front rest : List ℕ) → AreBytes (front ++ rest) → AreBytes front
+AreBytes-front [] rest bytes i = omega arith
+AreBytes-front (b ∷ front) rest bytes zero = bytes 0
+AreBytes-front (b ∷ front) rest bytes (suc i) = AreBytes-front front rest (λ j. bytes (suc j)) i
+
+-- ---- from the last step to the first
+
+within : (limit : ℕ) (kind : Kind) (n : ℕ) → size_fault limit kind n ≡ None → n ≤ limit
+within limit kind n e = go (ltb limit n) refl e
+  where
+    go : (b : Bool) → ltb limit n ≡ b → cond b (Some OverLimit) (wrong_size (fixed_size kind) n) ≡ None → n ≤ limit
+    go true is e = absurd cc
+    go false is e = ltb-false _ _ is
+
+-- the header is right, and all bytes of the fields are there
+fields_found : (w : Wire) (limit first : ℕ) (kind : Kind) (len body rest : List ℕ) → kind_at first ≡ Ok kind → Length (length body) len → size_fault limit kind (length body) ≡ None
+    → AreBytes body → FrontFound limit (first ∷ (len ++ (body ++ rest))) (front_at limit (first ∷ (len ++ (body ++ rest))))
+fields_found w limit first kind len body rest right formed size bytes = go (body_at kind body) refl
+  where
+    go : (r : Result Packet BadField) → body_at kind body ≡ r → FrontFound limit (first ∷ (len ++ (body ++ rest))) (front_at limit (first ∷ (len ++ (body ++ rest))))
+    go (Err bad) e = is_faulty w limit (first ∷ (len ++ (body ++ rest))) bad.kind (1 + length len + length body - bad.left)
+        (AtField (record { first = first; len = len; body = body; rest = rest; bytes = refl; kind = kind; right = right; formed = formed; size = size; left = bad.left; fault = e; here = refl }))
+    go (Ok p) e =
+        let k = kind_found first kind right in
+        let small : length body < 2 ^ 28 = w.lengths.below (length body) len formed in
+        let f = body_found w kind body p k.1 small bytes e in
+        let first_is : first ≡ first_byte p = k.0 ∙ (ap kind_byte (sym f.kind_is) ∙ byte_again p f.packet) in
+        let s : List ℕ = first ∷ (len ++ body) in
+        let spelled : s ≡ first_byte p ∷ (len ++ fields p) = rw (first_is, f.parts) refl in
+        let count : length body ≡ length (fields p) = ap length f.parts in
+        let whole : SpellsWithin limit p s = (record { packet = f.packet; len = len; formed = subst (λ (n : ℕ). Length n len) count formed; bytes = spelled }, subst (λ (n : ℕ). n ≤ limit) count (within limit kind (length body) size)) in
+        let regrouped : s ++ rest ≡ first ∷ (len ++ (body ++ rest)) = ap (λ (t : List ℕ). first ∷ t) (append_assoc len body rest) in
+        subst (λ (b : List ℕ). FrontFound limit b (front_at limit b)) regrouped (is_whole w limit p s rest whole)
+
+-- fewer bytes than the remaining length says
+too_short : (w : Wire) (limit first n : ℕ) (kind : Kind) (len rest : List ℕ) → kind_at first ≡ Ok kind → Length n len → size_fault limit kind n ≡ None
+    → ltb (length (first ∷ (len ++ rest))) (1 + length len + n) ≡ true → front_at limit (first ∷ (len ++ rest)) ≡ Ok None
+unfolding front_at header_at
+too_short w limit first n kind len rest right formed size short = rw (right, w.lengths.again n len rest formed, size, short) refl
+
+-- the remaining length is whole
+length_found : (w : Wire) (limit first n : ℕ) (kind : Kind) (len rest : List ℕ) → kind_at first ≡ Ok kind → Length n len → AreBytes rest → FrontFound limit (first ∷ (len ++ rest)) (front_at limit (first ∷ (len ++ rest)))
+length_found w limit first n kind len rest right formed bytes = go (size_fault limit kind n) refl
+  where
+    enough : (t : Bool) → ltb (length (first ∷ (len ++ rest))) (1 + length len + n) ≡ t → size_fault limit kind n ≡ None → FrontFound limit (first ∷ (len ++ rest)) (front_at limit (first ∷ (len ++ rest)))
+    enough true is size = is_pending w limit (first ∷ (len ++ rest)) (too_short w limit first n kind len rest right formed size is)
+    enough false is size =
+        let long : 1 + length len + n ≤ length (first ∷ (len ++ rest)) = ltb-false _ _ is in
+        let count : length (take n rest) ≡ n = omega (arith, length-take n rest, length-append len rest) in
+        let split : take n rest ++ drop n rest ≡ rest = take-append-drop n rest in
+        let body_bytes : AreBytes (take n rest) = AreBytes-front (take n rest) (drop n rest) (subst AreBytes (sym split) bytes) in
+        subst (λ (r : List ℕ). FrontFound limit (first ∷ (len ++ r)) (front_at limit (first ∷ (len ++ r)))) split
+        (fields_found w limit first kind len (take n rest) (drop n rest) right (subst (λ (m : ℕ). Length m len) (sym count) formed) (rw count size) body_bytes)
+
+    go : (o : Option FaultKind) → size_fault limit kind n ≡ o → FrontFound limit (first ∷ (len ++ rest)) (front_at limit (first ∷ (len ++ rest)))
+    go (Some k) size = is_faulty w limit (first ∷ (len ++ rest)) k 1 (AtSize (record { first = first; n = n; len = len; rest = rest; bytes = refl; kind = kind; right = right; formed = formed; fault = size; here = refl }))
+    go None size = enough (ltb (length (first ∷ (len ++ rest))) (1 + length len + n)) refl size
+
+unfinished_is : (limit first : ℕ) (kind : Kind) (rest : List ℕ) → kind_at first ≡ Ok kind → read_length rest ≡ Unfinished → front_at limit (first ∷ rest) ≡ Ok None
+unfolding front_at header_at
+unfinished_is limit first kind rest right e = rw (right, e) refl
+
+-- the first byte is right
+first_found : (w : Wire) (limit first : ℕ) (kind : Kind) (rest : List ℕ) → kind_at first ≡ Ok kind → AreBytes rest → FrontFound limit (first ∷ rest) (front_at limit (first ∷ rest))
+first_found w limit first kind rest right bytes = go (read_length rest) refl
+  where
+    go : (l : LengthReading) → read_length rest ≡ l → FrontFound limit (first ∷ rest) (front_at limit (first ∷ rest))
+    go Unfinished e = is_pending w limit (first ∷ rest) (unfinished_is limit first kind rest right e)
+    go TooLong e = is_faulty w limit (first ∷ rest) LengthTooLong 4 (AtLength (record { first = first; rest = rest; bytes = refl; kind = kind; right = right; fault = (w.lengths.too_long_found rest bytes e, refl) }))
+    go (Overlong size) e = is_faulty w limit (first ∷ rest) LengthOverlong size (AtLength (record { first = first; rest = rest; bytes = refl; kind = kind; right = right; fault = w.lengths.overlong_found rest size bytes e }))
+    go (Whole n size) e =
+        let f = w.lengths.found rest n size bytes e in
+        let split : take size rest ++ drop size rest ≡ rest = take-append-drop size rest in
+        let rest_bytes : AreBytes (drop size rest) = AreBytes-rest (take size rest) (drop size rest) (subst AreBytes (sym split) bytes) in
+        subst (λ (r : List ℕ). FrontFound limit (first ∷ r) (front_at limit (first ∷ r))) split (length_found w limit first n kind (take size rest) (drop size rest) right f.1 rest_bytes)
+
+nothing_is : (limit : ℕ) → front_at limit [] ≡ Ok None
+unfolding front_at header_at
+nothing_is limit = refl
+
+pub front_found : (w : Wire) (limit : ℕ) (b : List ℕ) → AreBytes b → FrontFound limit b (front_at limit b)
+front_found w limit [] bytes = is_pending w limit [] (nothing_is limit)
+front_found w limit (first ∷ rest) bytes = go (kind_at first) refl
+  where
+    go : (r : Result Kind FaultKind) → kind_at first ≡ r → FrontFound limit (first ∷ rest) (front_at limit (first ∷ rest))
+    go (Err k) e = is_faulty w limit (first ∷ rest) k 0 (AtFirst (record { first = first; rest = rest; bytes = refl; fault = e; here = refl }))
+    go (Ok kind) e = first_found w limit first kind rest e (λ i. bytes (suc i))
+
+-- what a function returned, unless memory ran out
+pub front_is : (w : Wire) (limit : ℕ) (b : List ℕ) (r : Result (Option (Packet × ℕ)) DecodeError) → AreBytes b → GivesFront r (front_at limit b) → (r ≡ Err errors.Memory → 0 < length b) → IsFront limit b r
+front_is w limit b (Ok None) bytes e memory = subst (FrontFound limit b) e (front_found w limit b bytes)
+front_is w limit b (Ok (Some x)) bytes e memory = subst (FrontFound limit b) e (front_found w limit b bytes)
+front_is w limit b (Err errors.Memory) bytes e memory = memory refl
+front_is w limit b (Err (errors.Fault fault)) bytes e memory = subst (FrontFound limit b) e (front_found w limit b bytes)

@@ -1,0 +1,97 @@
+-- The laws of what stands at the front: each thing that the grammar names is read as that, and what is read is one.
+use Rattle.std.proofs.Common.{◌≡◌, ℕ, zero, suc, ◌+◌, ◌-◌, ◌*◌, ◌^◌, ◌<◌, ◌≤◌, Bool, true, false, cond, eqb, ltb, List, [], ◌∷◌, ◌++◌, length, take, drop, Option, Some, None, Result, Ok, Err, refl, sym, ap, subst, ◌∙◌, append_assoc, arith, inl, inr}
+use Rattle.std.proofs.lemmas.Bool.{ltb-false, le-ltb, true≢false}
+use Rattle.std.proofs.lemmas.List.{take_at, drop_at, length-append, length-take, length-drop, take-append-drop}
+use Rattle.mq_wire.specs.declared.reading.LengthReading.{LengthReading}
+use Rattle.mq_wire.specs.declared.reading.LengthReading.TheVariants.{Whole, Unfinished, TooLong, Overlong}
+use Rattle.mq_wire.specs.Bytes.{AreBytes}
+use Rattle.mq_wire.specs.Length.{Length}
+use Rattle.mq_wire.specs.Reading.{read_length, IsTooLong, IsOverlong}
+use Rattle.mq_packet.specs.declared.packet.Packet.{Packet}
+use Rattle.mq_packet.specs.Spelling.{Spells, fields, first_byte}
+use Rattle.mq_packet.specs.Values.{IsPacket}
+use Rattle.mq_decode.specs.declared.fault.FaultKind.{FaultKind}
+use Rattle.mq_decode.specs.declared.fault.FaultKind.TheVariants.{LengthTooLong, LengthOverlong, OverLimit}
+use Rattle.mq_decode.specs.declared.fault.DecodeFault.{DecodeFault}
+use Rattle.mq_decode.specs.declared.fault.DecodeError.{DecodeError}
+use Rattle.mq_decode.specs.declared.fault.DecodeError.TheVariants as errors
+use Rattle.mq_decode.specs.declared.fault.BadField.{BadField}
+use Rattle.mq_decode.specs.declared.header.Header.{Header}
+use Rattle.mq_decode.specs.declared.kind.Kind.{Kind}
+use Rattle.mq_decode.specs.Kind.{kind_at, fixed_size, wrong_size, size_fault}
+use Rattle.mq_decode.specs.Bodies.{body_at}
+use Rattle.mq_decode.specs.Front.{fault_at, sized, header_of, header_after, header_at, packet_or_fault, front_after, front_at, GivesFront}
+use Rattle.mq_decode.specs.Grammar.{SpellsWithin, FirstFault, BadLength, LengthFault, SizeFault, FieldFault, Faulty, AtFirst, AtLength, AtSize, AtField, Pending, IsFront}
+use Rattle.mq_decode.proofs.FieldLaws.{Wire, AreBytes-rest}
+use Rattle.mq_decode.proofs.KindLaws.{IsKind, kind_byte, kind_of, kind_again, byte_again, kind_found, size_again}
+use Rattle.mq_decode.proofs.BodyLaws.{BodyFound, body_found, body_again}
+
+abbrev pub Read : Type 0
+Read = Result (Option (Packet × ℕ)) DecodeFault
+
+-- ---- a header that is right
+
+header_is : (w : Wire) (limit first n : ℕ) (kind : Kind) (len rest : List ℕ) → kind_at first ≡ Ok kind → Length n len → header_at limit (first ∷ (len ++ rest)) ≡ sized (size_fault limit kind n) kind (length len) n
+unfolding header_at
+header_is w limit first n kind len rest right formed = rw (right, w.lengths.again n len rest formed) refl
+
+body_is : (first : ℕ) (len body rest : List ℕ) → take (length body) (drop (1 + length len) (first ∷ (len ++ (body ++ rest)))) ≡ body
+body_is first len body rest =
+    let back : drop (1 + length len) (first ∷ (len ++ (body ++ rest))) ≡ body ++ rest = drop_at (first ∷ len) (body ++ rest) (1 + length len) (omega arith) in
+    rw back (take_at body rest (length body) refl)
+
+whole_long : (first : ℕ) (len body rest : List ℕ) → ltb (length (first ∷ (len ++ (body ++ rest)))) (1 + length len + length body) ≡ false
+whole_long first len body rest = le-ltb _ _ (omega (arith, length-append len (body ++ rest), length-append body rest))
+
+-- with a right header and all bytes, the fields decide
+front_is : (w : Wire) (limit first : ℕ) (kind : Kind) (len body rest : List ℕ) → kind_at first ≡ Ok kind → Length (length body) len → size_fault limit kind (length body) ≡ None
+    → front_at limit (first ∷ (len ++ (body ++ rest))) ≡ packet_or_fault (1 + length len + length body) (body_at kind body)
+unfolding front_at
+front_is w limit first kind len body rest right formed size =
+    rw (header_is w limit first (length body) kind len (body ++ rest) right formed, size, whole_long first len body rest, body_is first len body rest) refl
+
+-- ---- what is spelled is read, whatever follows it
+
+pub whole_again : (w : Wire) (limit : ℕ) (p : Packet) (s rest : List ℕ) → SpellsWithin limit p s → front_at limit (s ++ rest) ≡ Ok (Some (p, length s))
+whole_again w limit p s rest h =
+    let len = h.0.len in
+    let regrouped : s ++ rest ≡ first_byte p ∷ (len ++ (fields p ++ rest)) = ap (λ (t : List ℕ). t ++ rest) h.0.bytes ∙ ap (λ (t : List ℕ). first_byte p ∷ t) (append_assoc len (fields p) rest) in
+    let count : 1 + length len + length (fields p) ≡ length s = rw h.0.bytes (omega (arith, length-append len (fields p))) in
+    let read : front_at limit (first_byte p ∷ (len ++ (fields p ++ rest))) ≡ packet_or_fault (1 + length len + length (fields p)) (body_at (kind_of p) (fields p)) =
+    front_is w limit (first_byte p) (kind_of p) len (fields p) rest (kind_again p h.0.packet) h.0.formed (size_again limit p h.1) in
+    ap (front_at limit) regrouped ∙ (read ∙ rw (body_again w p h.0.packet, count) refl)
+
+-- ---- what is faulty is read as that fault
+
+first_again : (limit : ℕ) (b : List ℕ) (k : FaultKind) (place : ℕ) → FirstFault b k place → front_at limit b ≡ Err (fault_at k place)
+unfolding front_at header_at
+first_again limit b k place h = rw (h.bytes, h.fault, h.here) refl
+
+bad_length_again : (w : Wire) (limit first : ℕ) (rest : List ℕ) (kind : Kind) (k : FaultKind) (place : ℕ) → kind_at first ≡ Ok kind → BadLength rest k place → front_at limit (first ∷ rest) ≡ Err (fault_at k place)
+unfolding front_at header_at
+bad_length_again w limit first rest kind LengthTooLong place right h = rw (right, w.lengths.too_long_again rest h.0, h.1) refl
+bad_length_again w limit first rest kind LengthOverlong place right h = rw (right, w.lengths.overlong_again rest place h) refl
+bad_length_again w limit first rest kind k place right h = absurd h
+
+size_again_at : (w : Wire) (limit : ℕ) (b : List ℕ) (k : FaultKind) (place : ℕ) → SizeFault limit b k place → front_at limit b ≡ Err (fault_at k place)
+unfolding front_at
+size_again_at w limit b k place h = rw (h.bytes, header_is w limit h.first h.n h.kind h.len h.rest h.right h.formed, h.fault, h.here) refl
+
+pub faulty_again : (w : Wire) (limit : ℕ) (b : List ℕ) (k : FaultKind) (place : ℕ) → Faulty limit b k place → front_at limit b ≡ Err (fault_at k place)
+faulty_again w limit b k place (AtFirst h) = first_again limit b k place h
+faulty_again w limit b k place (AtLength h) = rw h.bytes (bad_length_again w limit h.first h.rest h.kind k place h.right h.fault)
+faulty_again w limit b k place (AtSize h) = size_again_at w limit b k place h
+faulty_again w limit b k place (AtField h) =
+    ap (front_at limit) h.bytes ∙ (front_is w limit h.first h.kind h.len h.body h.rest h.right h.formed h.size ∙ rw (h.fault, h.here) refl)
+
+-- ---- what is read as nothing is pending
+
+pub pending_at : (w : Wire) (limit : ℕ) (b : List ℕ) → front_at limit b ≡ Ok None → Pending limit b
+pending_at w limit b e = record {
+  not_whole = λ p first rest h parts.
+      let both : Ok None ≡ Ok (Some (p, length first)) = sym e ∙ (ap (front_at limit) parts ∙ whole_again w limit p first rest h) in
+      absurd cc;
+  not_faulty = λ k place h.
+      let both : Ok None ≡ Err (fault_at k place) = sym e ∙ faulty_again w limit b k place h in
+      absurd cc;
+}

@@ -1,0 +1,59 @@
+-- Reading what stands at the front of bytes: a packet, less than a whole one, or the first fault.
+use Rattle.std.specs.Prelude.{◌≡◌, ℕ, ◌+◌, ◌-◌, List, [], ◌∷◌, length, take, drop, Option, Some, None, Result, Ok, Err, nat_lt, if◌then◌else◌}
+use Rattle.mq_wire.specs.declared.reading.LengthReading.{LengthReading}
+use Rattle.mq_wire.specs.declared.reading.LengthReading.TheVariants.{Whole, Unfinished, TooLong, Overlong}
+use Rattle.mq_wire.specs.Reading.{read_length}
+use Rattle.mq_packet.specs.declared.packet.Packet.{Packet}
+use Rattle.mq_decode.specs.declared.fault.FaultKind.{FaultKind}
+use Rattle.mq_decode.specs.declared.fault.FaultKind.TheVariants.{LengthTooLong, LengthOverlong}
+use Rattle.mq_decode.specs.declared.fault.DecodeFault.{DecodeFault}
+use Rattle.mq_decode.specs.declared.fault.DecodeError.{DecodeError}
+use Rattle.mq_decode.specs.declared.fault.DecodeError.TheVariants as errors
+use Rattle.mq_decode.specs.declared.fault.BadField.{BadField}
+use Rattle.mq_decode.specs.declared.header.Header.{Header}
+use Rattle.mq_decode.specs.declared.kind.Kind.{Kind}
+use Rattle.mq_decode.specs.Kind.{kind_at, size_fault}
+use Rattle.mq_decode.specs.Bodies.{body_at}
+
+abbrev pub fault_at : FaultKind → ℕ → DecodeFault
+fault_at kind place = record { kind = kind; place = place }
+
+-- the header, once the size is known
+abbrev pub sized : Option FaultKind → Kind → ℕ → ℕ → Result (Option Header) DecodeFault
+sized None kind len size = Ok (Some (record { kind = kind; start = 1 + len; size = size }))
+sized (Some fault) kind len size = Err (fault_at fault 1)
+
+abbrev pub header_of : ℕ → Kind → LengthReading → Result (Option Header) DecodeFault
+header_of limit kind (Whole n len) = sized (size_fault limit kind n) kind len n
+header_of limit kind Unfinished = Ok None
+header_of limit kind TooLong = Err (fault_at LengthTooLong 4)
+header_of limit kind (Overlong len) = Err (fault_at LengthOverlong len)
+
+abbrev pub header_after : ℕ → Result Kind FaultKind → List ℕ → Result (Option Header) DecodeFault
+header_after limit (Err fault) rest = Err (fault_at fault 0)
+header_after limit (Ok kind) rest = header_of limit kind (read_length rest)
+
+-- the first byte and the remaining length
+unfoldable pub header_at : ℕ → List ℕ → Result (Option Header) DecodeFault
+header_at limit [] = Ok None
+header_at limit (first ∷ rest) = header_after limit (kind_at first) rest
+
+-- the packet and where it ends, or the place of its first bad field
+abbrev pub packet_or_fault : ℕ → Result Packet BadField → Result (Option (Packet × ℕ)) DecodeFault
+packet_or_fault end (Ok packet) = Ok (Some (packet, end))
+packet_or_fault end (Err bad) = Err (fault_at bad.kind (end - bad.left))
+
+abbrev pub front_after : Result (Option Header) DecodeFault → List ℕ → Result (Option (Packet × ℕ)) DecodeFault
+front_after (Err fault) bytes = Err fault
+front_after (Ok None) bytes = Ok None
+front_after (Ok (Some h)) bytes = if nat_lt (length bytes) (h.start + h.size) then Ok None else packet_or_fault (h.start + h.size) (body_at h.kind (take h.size (drop h.start bytes)))
+
+-- the packet at the front and how many bytes it takes, nothing where it isn't whole, or its first fault
+unfoldable pub front_at : ℕ → List ℕ → Result (Option (Packet × ℕ)) DecodeFault
+front_at limit bytes = front_after (header_at limit bytes) bytes
+
+-- what a function returned is what is read, unless memory ran out
+abbrev pub GivesFront : Result (Option (Packet × ℕ)) DecodeError → Result (Option (Packet × ℕ)) DecodeFault → Type 0
+GivesFront (Ok x) read = read ≡ Ok x
+GivesFront (Err errors.Memory) read = Unit {0}
+GivesFront (Err (errors.Fault fault)) read = read ≡ Err fault

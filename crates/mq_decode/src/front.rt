@@ -1,0 +1,57 @@
+//! The packet at the front of bytes.
+
+ghost use Rattle.std.specs.Prelude.{◌≡◌, ◌<◌, length, IfErr};
+ghost use Rattle.mq_decode.specs.Front.{front_at, GivesFront};
+ghost use Rattle.mq_decode.specs.Grammar.{IsFront};
+
+use crate::body::body;
+use crate::fault::{DecodeError, DecodeFault, FieldsError};
+use crate::header::header_at;
+use crate::limits::Limits;
+use mq_packet::Packet;
+use mq_wire::{length_laws, number_laws, text_laws};
+use std::alloc::Global;
+
+// The packet at the front and how many bytes it takes, as the definitions read it.
+#[tactic(auto, unfolding(crate::specs::Front::front_at))]
+fn read_front(
+    alloc: Global,
+    limits: Limits,
+    bytes: &[u8],
+) -> Result<Option<(Packet, usize)>, DecodeError>
+    ensures read { GivesFront result (front_at limits bytes.now) }
+    ensures memory { result ≡ Err DecodeError.Memory → 0 < length bytes.now }
+{
+    let header = match header_at(limits, bytes) {
+        Ok(None) => return Ok(None),
+        Ok(Some(header)) => header,
+        Err(fault) => return Err(DecodeError::Fault(fault)),
+    };
+    let end = header.start + header.size;
+    if bytes.len() < end {
+        return Ok(None);
+    }
+    match body(alloc, header.kind, &bytes[header.start..end]) {
+        Ok(packet) => Ok(Some((packet, end))),
+        Err(FieldsError::Memory) => Err(DecodeError::Memory),
+        Err(FieldsError::Bad(bad)) => Err(DecodeError::Fault(DecodeFault {
+            kind: bad.kind,
+            place: end.saturating_sub(bad.left),
+        })),
+    }
+}
+
+/// The packet at the front and how many bytes it takes, `None` where nothing is wrong but it is not
+/// whole, or the first fault.
+pub(crate) fn front(
+    alloc: Global,
+    limits: Limits,
+    bytes: &[u8],
+) -> Result<Option<(Packet, usize)>, DecodeError>
+    ensures { IsFront limits bytes.now result }
+{
+    number_laws();
+    text_laws();
+    length_laws();
+    read_front(alloc, limits, bytes)
+}

@@ -1,0 +1,65 @@
+//! The fixed header of a packet (2.2): the first byte and the remaining length.
+
+ghost use Rattle.std.specs.Prelude.{◌≡◌, ◌+◌, ◌<◌, ◌≤◌, ◌^◌, length, IfOk, IfSome, OnSome};
+ghost use Rattle.mq_decode.specs.Kind.{size_fault};
+ghost use Rattle.mq_decode.specs.Front.{header_at};
+
+use crate::fault::{DecodeFault, FaultKind};
+use crate::kind::{Kind, fixed_size, kind_at};
+use crate::limits::Limits;
+use mq_wire::{LengthReading, length_at};
+
+/// The kind of a packet, where its fields start, and how many bytes they take.
+#[derive(Clone, Copy, Debug, PartialEq, Eq)]
+pub(crate) struct Header {
+    pub(crate) kind: Kind,
+    pub(crate) start: usize,
+    pub(crate) size: usize,
+}
+
+fn size_fault(limits: Limits, kind: Kind, size: u32) -> Option<FaultKind>
+    ensures { result ≡ size_fault limits kind size }
+{
+    if size > limits.max_packet() {
+        return Some(FaultKind::OverLimit);
+    }
+    match fixed_size(kind) {
+        Some(fixed) if size != fixed => Some(FaultKind::WrongSize),
+        _ => None,
+    }
+}
+
+/// The header at the front of `bytes`, `None` where it is not whole, or its fault.
+#[tactic(auto, unfolding(crate::specs::Front::header_at))]
+pub(crate) fn header_at(limits: Limits, bytes: &[u8]) -> Result<Option<Header>, DecodeFault>
+    ensures read { result ≡ header_at limits bytes.now }
+    ensures small { IfOk result (λ o. IfSome o (λ h. (h.start ≤ 5) × (h.size < 2 ^ 28))) }
+    ensures some { IfOk result (λ o. OnSome o (0 < length bytes.now)) }
+{
+    let Some((first, rest)) = bytes.split_first() else {
+        return Ok(None);
+    };
+    let kind = match kind_at(*first) {
+        Ok(kind) => kind,
+        Err(kind) => return Err(DecodeFault { kind, place: 0 }),
+    };
+    match length_at(rest) {
+        LengthReading::Unfinished => Ok(None),
+        LengthReading::TooLong => Err(DecodeFault {
+            kind: FaultKind::LengthTooLong,
+            place: 4,
+        }),
+        LengthReading::Overlong(place) => Err(DecodeFault {
+            kind: FaultKind::LengthOverlong,
+            place,
+        }),
+        LengthReading::Whole(size, len) => match size_fault(limits, kind, size) {
+            Some(kind) => Err(DecodeFault { kind, place: 1 }),
+            None => Ok(Some(Header {
+                kind,
+                start: 1 + len,
+                size: size as usize,
+            })),
+        },
+    }
+}
