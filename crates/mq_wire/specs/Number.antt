@@ -1,5 +1,5 @@
 -- Two-byte numbers (1.5.2).
-use Rattle.std.specs.Prelude.{◌≡◌, ℕ, ◌+◌, ◌*◌, ◌/◌, ◌%◌, ◌<◌, ◌^◌, List, [], ◌∷◌, ◌++◌, slice_index}
+use Rattle.std.specs.Prelude.{ℕ, ◌+◌, ◌*◌, ◌/◌, ◌%◌, List, [], ◌∷◌, slice_index}
 
 -- the two bytes of a number below 65,536, the high byte first
 abbrev pub number : ℕ → List ℕ
