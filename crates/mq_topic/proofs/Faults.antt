@@ -6,7 +6,9 @@ use Rattle.std.specs.Str.{is_utf8}
 use Rattle.std.proofs.lemmas.Bool.{ltb-false, le-ltb, and_parts, not-true}
 use Rattle.mq_wire.specs.Text.{has_nul}
 use Rattle.mq_topic.specs.Topic.{IsTopicFilter, IsTopicName, is_wildcard, levels, levels_fault}
-use Rattle.mq_topic.specs.Fault.{TopicLaws, filter_fault, name_fault}
+use Rattle.mq_topic.specs.Fault.{filter_fault, name_fault}
+use Rattle.mq_topic.specs.Laws.{TopicLaws}
+use Rattle.mq_topic.proofs.FilterLevels.{filter_levels, is_none-true}
 use Rattle.mq_topic.specs.declared.fault.TopicFault.{TopicFault}
 use Rattle.mq_topic.specs.declared.fault.TopicFault.TheVariants.{Empty, Nul, TooLong, Wildcard}
 
@@ -22,10 +24,6 @@ passed false false false o e = (refl, refl, refl, e)
 plain : (wildcard : Bool) → cond wildcard (Some Wildcard) None ≡ None → wildcard ≡ false
 plain true e = absurd cc
 plain false e = refl
-
-is_none-true : (o : Option TopicFault) → is_none o ≡ true → o ≡ None
-is_none-true None e = refl
-is_none-true (Some f) e = absurd cc
 
 name_from_none : (t : List ℕ) → is_utf8 t ≡ true → name_fault t ≡ None → IsTopicName t
 name_from_none t utf8 e =
@@ -57,4 +55,5 @@ pub laws : TopicLaws
 laws = record {
   name = λ t utf8. (name_from_none t utf8, none_from_name t);
   filter = λ t utf8. (filter_from_none t utf8, none_from_filter t);
+  filter_levels = filter_levels;
 }

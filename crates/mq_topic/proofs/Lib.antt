@@ -1,2 +1,3 @@
 pub mod Faults
+pub mod FilterLevels
 pub mod Levels

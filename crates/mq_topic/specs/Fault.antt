@@ -1,10 +1,9 @@
 -- What keeps a text from being a topic name or a topic filter (4.7): its first fault.
-use Rattle.std.specs.Prelude.{◌≡◌, ◌↔◌, ℕ, true, List, length, Option, Some, None, nat_lt, ◌==◌, if◌then◌else◌}
+use Rattle.std.specs.Prelude.{ℕ, List, length, Option, Some, None, nat_lt, ◌==◌, if◌then◌else◌}
 use Rattle.std.specs.List.{list_any}
 use Rattle.std.specs.Option.{option_or}
-use Rattle.std.specs.Str.{is_utf8}
 use Rattle.mq_wire.specs.Text.{has_nul}
-use Rattle.mq_topic.specs.Topic.{IsTopicFilter, IsTopicName, is_wildcard, levels, levels_fault}
+use Rattle.mq_topic.specs.Topic.{is_wildcard, levels, levels_fault}
 use Rattle.mq_topic.specs.declared.fault.TopicFault.{TopicFault}
 use Rattle.mq_topic.specs.declared.fault.TopicFault.TheVariants.{Empty, Nul, TooLong, Wildcard}
 
@@ -21,8 +20,3 @@ name_fault t = option_or (text_fault t) (if list_any is_wildcard t then Some Wil
 -- a filter has its wildcards where they may stand
 abbrev pub filter_fault : List ℕ → Option TopicFault
 filter_fault t = option_or (text_fault t) (levels_fault (levels t))
-
--- What a user of names and filters may rely on: UTF-8 has no fault exactly where it is one.
-pub record TopicLaws : Type 0 where
-  pub name : (t : List ℕ) → is_utf8 t ≡ true → (name_fault t ≡ None) ↔ IsTopicName t
-  pub filter : (t : List ℕ) → is_utf8 t ≡ true → (filter_fault t ≡ None) ↔ IsTopicFilter t

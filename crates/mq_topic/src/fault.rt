@@ -1,7 +1,8 @@
 //! Why a text is no topic name, or no topic filter.
 
 ghost use Rattle.std.specs.Prelude.{◌≡◌};
-ghost use Rattle.mq_topic.specs.Fault.{TopicLaws, text_fault};
+ghost use Rattle.mq_topic.specs.Fault.{text_fault};
+ghost use Rattle.mq_topic.specs.Laws.{TopicLaws};
 
 use thiserror::Error;
 
@@ -47,7 +48,8 @@ pub(crate) fn text_fault(text: &str) -> Option<TopicFault>
     None
 }
 
-/// The laws of names and filters: a text has no fault exactly where it is one.
+/// The laws of names and filters: a text has no fault exactly where it is one, and the levels of a
+/// filter are those that may stand in one.
 pub fn topic_laws()
     ensures { TopicLaws }
 {}

@@ -1,7 +1,6 @@
-use Rattle.std.proofs.Common.{◌≡◌, ◌<◌, ◌∷◌, [], ◌++◌, length, take, arith, subst, ap, sym, ◌∙◌}
+use Rattle.std.proofs.Common.{◌≡◌, ◌<◌, length, arith}
 use Rattle.std.proofs.lemmas.List.{length-take}
 use Rattle.mq_wire.proofs.Lengths.{value_is}
-use Rattle.mq_wire.specs.Length.{Length}
 use Rattle.mq_wire.specs.Value.{value_of}
 use Rattle.mq_wire.proofs.length.VarlenReader.push.Goals as goal
 use Rattle.mq_wire.proofs.length.VarlenReader.push.Goals.{else-byte-eq0-via-then-byte-eq0+else-self-gt1, else-byte-eq0-via-else-byte-eq0}
