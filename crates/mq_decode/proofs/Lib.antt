@@ -6,3 +6,5 @@ pub mod FrontLaws
 pub mod KindLaws
 pub mod ListLaws
 pub mod Loops
+pub mod Streams
+pub mod Uniqueness

@@ -106,6 +106,10 @@ pub record Begins (limit : ℕ) (b : List ℕ) (ps : List Packet) : Type 0 where
   pub parts : b ≡ front ++ rest
   pub left : 0 < length rest
 
+-- new is old with packets, and b is a stream of these, followed by a rest that is pending
+abbrev pub Goes : ℕ → List ℕ → List Packet → List Packet → List ℕ → Type 0
+Goes limit b old new rest = (ps : List Packet) × (new ≡ old ++ ps) × Reading limit b ps rest None
+
 -- where reading b stops: new is old with the packets before the fault, or with some of them where memory ran out
 abbrev pub Stops : ℕ → List ℕ → List Packet → List Packet → DecodeError → Type 0
 Stops limit b old new (errors.Fault fault) = (ps : List Packet) × (rest : List ℕ) × (new ≡ old ++ ps) × Reading limit b ps rest (Some fault)

@@ -5,4 +5,6 @@ pub mod Front
 pub mod Gives
 pub mod Grammar
 pub mod Kind
+pub mod Laws
 pub mod Lists
+pub mod State

@@ -1,6 +1,6 @@
 //! The packet at the front of bytes.
 
-ghost use Rattle.std.specs.Prelude.{◌≡◌, ◌<◌, length, IfErr};
+ghost use Rattle.std.specs.Prelude.{◌≡◌, ◌<◌, length, IfOk, IfSome};
 ghost use Rattle.mq_decode.specs.Front.{front_at, GivesFront};
 ghost use Rattle.mq_decode.specs.Grammar.{IsFront};
 
@@ -21,6 +21,7 @@ fn read_front(
 ) -> Result<Option<(Packet, usize)>, DecodeError>
     ensures read { GivesFront result (front_at limits bytes.now) }
     ensures memory { result ≡ Err DecodeError.Memory → 0 < length bytes.now }
+    ensures some { IfOk result (λ o. IfSome o (λ x. 0 < x.1)) }
 {
     let header = match header_at(limits, bytes) {
         Ok(None) => return Ok(None),
@@ -48,7 +49,8 @@ pub(crate) fn front(
     limits: Limits,
     bytes: &[u8],
 ) -> Result<Option<(Packet, usize)>, DecodeError>
-    ensures { IsFront limits bytes.now result }
+    ensures front { IsFront limits bytes.now result }
+    ensures some { IfOk result (λ o. IfSome o (λ x. 0 < x.1)) }
 {
     number_laws();
     text_laws();

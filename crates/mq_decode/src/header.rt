@@ -33,7 +33,7 @@ fn size_fault(limits: Limits, kind: Kind, size: u32) -> Option<FaultKind>
 #[tactic(auto, unfolding(crate::specs::Front::header_at))]
 pub(crate) fn header_at(limits: Limits, bytes: &[u8]) -> Result<Option<Header>, DecodeFault>
     ensures read { result ≡ header_at limits bytes.now }
-    ensures small { IfOk result (λ o. IfSome o (λ h. (h.start ≤ 5) × (h.size < 2 ^ 28))) }
+    ensures small { IfOk result (λ o. IfSome o (λ h. (0 < h.start) × (h.start ≤ 5) × (h.size < 2 ^ 28))) }
     ensures some { IfOk result (λ o. OnSome o (0 < length bytes.now)) }
 {
     let Some((first, rest)) = bytes.split_first() else {

@@ -3,15 +3,20 @@
 
 mod body;
 mod connect;
+mod decoder;
 mod fault;
 mod fields;
 mod flags;
 mod front;
 mod header;
 mod kind;
+mod laws;
 mod limits;
 mod lists;
 mod publish;
+mod take;
 
+pub use crate::decoder::{Decoder, decode_pieces};
 pub use crate::fault::{DecodeError, DecodeFault, FaultKind};
+pub use crate::laws::{one_reading, pending_is_short};
 pub use crate::limits::Limits;

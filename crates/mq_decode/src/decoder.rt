@@ -1,0 +1,127 @@
+//! A decoder over pieces of a stream.
+
+ghost use Rattle.std.specs.Prelude.{◌≡◌, ◌+◌, ◌≤◌, ◌++◌, ℕ, List, [], length, Option, Some, None, IfOk, IfErr, IfSome, OnOk};
+ghost use Rattle.std.specs.Result.{result_err};
+ghost use Rattle.std.specs.List.{flat_map};
+ghost use Rattle.mq_decode.specs.Grammar.{Goes, Pending, Stops};
+
+use crate::fault::DecodeError;
+use crate::laws::pending_is_short;
+use crate::limits::Limits;
+use crate::take::take_piece;
+use mq_packet::Packet;
+use std::alloc::Global;
+use std::marker::Model;
+
+/// Takes the packets out of a stream that comes in pieces, cut anywhere. It keeps the bytes of the
+/// packet that is not whole. After an error it answers the same error until `reset`.
+#[derive(Debug, Drop)]
+pub struct Decoder {
+    alloc: Global,
+    limits: Limits,
+    held: Vec<u8>,
+    failed: Option<DecodeError>,
+}
+
+impl Model for Decoder {
+    ghost use Rattle.std.specs.Prelude.{◌≡◌, None};
+    ghost use Rattle.mq_decode.specs.State.{State};
+    ghost use Rattle.mq_decode.specs.Grammar.{Pending};
+
+    ghost Value = { State };
+
+    ghost view = { λ d. record { limit = d.limits; held = d.held.items; failed = d.failed } };
+
+    ghost invariant = { λ d. d.failed ≡ None → Pending d.limits d.held.items };
+}
+
+impl Decoder {
+    /// A decoder that no byte has come to. It takes no memory.
+    pub fn new(alloc: Global, limits: Limits) -> Decoder
+        ensures limit { result.limit ≡ limits }
+        ensures held { result.held ≡ [] }
+        ensures failed { result.failed ≡ None }
+    {
+        Decoder {
+            alloc,
+            limits,
+            held: Vec::new(alloc),
+            failed: None,
+        }
+    }
+
+    /// Takes the next piece of the stream, and appends each packet that is whole now. Packets before
+    /// an error are appended and stand.
+    pub fn feed(&mut self, piece: &[u8], out: &mut Vec<Packet>) -> Result<(), DecodeError>
+        // The bytes held before and the piece are these packets, and what is held now.
+        ensures ok { OnOk result (Goes self.old.limit (self.old.held ++ piece.now)
+            out.old.items out.new.items self.new.held) }
+        // Or they stop at a fault, or where memory ran out.
+        ensures err { self.old.failed ≡ None → IfErr result
+            (Stops self.old.limit (self.old.held ++ piece.now) out.old.items out.new.items) }
+        // After an error it stands still.
+        ensures goes_on { OnOk result (self.old.failed ≡ None) }
+        ensures again { IfSome self.old.failed
+            (λ e. (result ≡ Err e) × (out.new.items ≡ out.old.items)) }
+        ensures failed { self.new.failed ≡ result_err result }
+        ensures limit { self.new.limit ≡ self.old.limit }
+    {
+        if let Some(error) = self.failed {
+            return Err(error);
+        }
+        match take_piece(self.alloc, self.limits, &mut self.held, piece, out) {
+            Ok(()) => Ok(()),
+            Err(error) => {
+                self.failed = Some(error);
+                Err(error)
+            }
+        }
+    }
+
+    /// How many bytes of the packet that is not whole are held. It takes no memory.
+    pub fn held(&self) -> usize
+        ensures value { result ≡ length self.now.held }
+        ensures most { self.now.failed ≡ None → result ≤ 5 + self.now.limit }
+    {
+        len_of(self.limits, &self.held)
+    }
+
+    /// Lets go of what is held and of an error: the stream begins anew. It takes no memory.
+    pub fn reset(&mut self)
+        ensures limit { self.new.limit ≡ self.old.limit }
+        ensures held { self.new.held ≡ [] }
+        ensures failed { self.new.failed ≡ None }
+    {
+        self.held.clear();
+        self.failed = None;
+    }
+}
+
+// How many bytes are held, which are few where they are less than a packet.
+fn len_of(limits: Limits, held: &[u8]) -> usize
+    ensures value { result ≡ length held.now }
+    ensures most { Pending limits held.now → result ≤ 5 + limits }
+{
+    pending_is_short();
+    held.len()
+}
+
+/// Feeds a new decoder each piece in turn, up to the first error, and answers how many bytes are held
+/// at the end. How the stream was cut does not matter.
+pub fn decode_pieces(
+    alloc: Global,
+    limits: Limits,
+    pieces: &[&[u8]],
+    out: &mut Vec<Packet>,
+) -> Result<usize, DecodeError>
+    ensures ok { IfOk result (λ n. (rest : List ℕ) × (n ≡ length rest)
+        × Goes limits (flat_map (λ piece. piece.now) pieces.now) out.old.items out.new.items rest) }
+    ensures err { IfErr result (Stops limits (flat_map (λ piece. piece.now) pieces.now)
+        out.old.items out.new.items) }
+{
+    let mut decoder = Decoder::new(alloc, limits);
+    for piece in pieces {
+        decoder.feed(piece, out)?;
+    }
+    Ok(decoder.held())
+}

@@ -1,0 +1,142 @@
+//! Packets from the front of bytes, one after another.
+
+ghost use Rattle.std.specs.Prelude.{◌≡◌, ◌<◌, ◌≤◌, ◌++◌, [], ◌∷◌, length, take, drop, IfOk, IfErr, OnOk};
+ghost use Rattle.mq_decode.specs.Grammar.{Goes, Stops, Pending};
+
+use crate::fault::DecodeError;
+use crate::front::front;
+use crate::header::header_at;
+use crate::limits::Limits;
+use mq_packet::Packet;
+use std::alloc::Global;
+
+// Appends a packet. Where memory runs out the list is unchanged.
+fn append(out: &mut Vec<Packet>, packet: Packet) -> Result<(), DecodeError>
+    ensures ok { OnOk result (out.new.items ≡ out.old.items ++ packet ∷ []) }
+    ensures err { IfErr result
+        (λ e. (e ≡ DecodeError.Memory) × (out.new.items ≡ out.old.items)) }
+{
+    match out.push(packet) {
+        Ok(()) => Ok(()),
+        Err(_) => Err(DecodeError::Memory),
+    }
+}
+
+/// Appends the packets that stand whole at the front, and answers how many bytes they take.
+pub(crate) fn take_packets(
+    alloc: Global,
+    limits: Limits,
+    bytes: &[u8],
+    out: &mut Vec<Packet>,
+) -> Result<usize, DecodeError>
+    ensures within { IfOk result (λ n. n ≤ length bytes.now) }
+    ensures ok { IfOk result
+        (λ n. Goes limits bytes.now out.old.items out.new.items (drop n bytes.now)) }
+    ensures err { IfErr result (Stops limits bytes.now out.old.items out.new.items) }
+{
+    let mut taken = 0;
+    loop {
+        let (_, rest) = bytes.split_at(taken);
+        match front(alloc, limits, rest) {
+            Ok(Some((packet, size))) => {
+                append(out, packet)?;
+                taken += size;
+            }
+            Ok(None) => return Ok(taken),
+            Err(error) => return Err(error),
+        }
+    }
+}
+
+// How many bytes the packet at the front still wants, as far as its header tells, and at least one.
+fn wanted(limits: Limits, held: &[u8]) -> usize
+    ensures { 0 < result }
+{
+    match header_at(limits, held) {
+        Ok(Some(header)) => (header.start + header.size)
+            .saturating_sub(held.len())
+            .max(1),
+        _ => 1,
+    }
+}
+
+// Removes bytes from the front. They are all of them, but for a packet that ends before the bytes that
+// were asked for.
+fn drop_front(held: &mut Vec<u8>, n: usize)
+    requires { n ≤ length held.old.items }
+    ensures { held.new.items ≡ drop n held.old.items }
+{
+    if n == held.len() {
+        held.clear();
+        return;
+    }
+    held.drain(..n);
+}
+
+// Appends bytes to those that are held.
+fn hold(held: &mut Vec<u8>, bytes: &[u8]) -> Result<(), DecodeError>
+    ensures ok { OnOk result (held.new.items ≡ held.old.items ++ bytes.now) }
+    ensures err { IfErr result (λ e. e ≡ DecodeError.Memory) }
+{
+    match held.extend_from_slice(bytes) {
+        Ok(()) => Ok(()),
+        Err(_) => Err(DecodeError::Memory),
+    }
+}
+
+/// Fills up the packet that is held with the bytes of `piece`, and takes it once it is whole. Answers
+/// how many bytes of the piece went in: all of them, or nothing is held any more.
+pub(crate) fn fill_up(
+    alloc: Global,
+    limits: Limits,
+    held: &mut Vec<u8>,
+    piece: &[u8],
+    out: &mut Vec<Packet>,
+) -> Result<usize, DecodeError>
+    requires { Pending limits held.old.items }
+    ensures within { IfOk result (λ n. n ≤ length piece.now) }
+    ensures used { IfOk result (λ n. n < length piece.now → held.new.items ≡ []) }
+    ensures ok { IfOk result (λ n. Goes limits (held.old.items ++ take n piece.now)
+        out.old.items out.new.items held.new.items) }
+    ensures err { IfErr result
+        (Stops limits (held.old.items ++ piece.now) out.old.items out.new.items) }
+{
+    let mut used = 0;
+    while used < piece.len() && !held.is_empty() {
+        let (_, rest) = piece.split_at(used);
+        let n = wanted(limits, held).min(rest.len());
+        let (next, _) = rest.split_at(n);
+        hold(held, next)?;
+        let taken = take_packets(alloc, limits, held, out)?;
+        drop_front(held, taken);
+        used += n;
+    }
+    Ok(used)
+}
+
+/// Takes the packets of a piece that follows what is held.
+pub(crate) fn take_piece(
+    alloc: Global,
+    limits: Limits,
+    held: &mut Vec<u8>,
+    piece: &[u8],
+    out: &mut Vec<Packet>,
+) -> Result<(), DecodeError>
+    requires { Pending limits held.old.items }
+    ensures ok { OnOk result (Goes limits (held.old.items ++ piece.now) out.old.items
+        out.new.items held.new.items) }
+    ensures err { IfErr result
+        (Stops limits (held.old.items ++ piece.now) out.old.items out.new.items) }
+{
+    let used = fill_up(alloc, limits, held, piece, out)?;
+    if used == piece.len() {
+        return Ok(());
+    }
+    let (_, rest) = piece.split_at(used);
+    let taken = take_packets(alloc, limits, rest, out)?;
+    let (_, left) = rest.split_at(taken);
+    if left.is_empty() {
+        return Ok(());
+    }
+    hold(held, left)
+}
