@@ -1,6 +1,6 @@
 //! The packet at the front of bytes.
 
-ghost use Rattle.std.specs.Prelude.{◌≡◌, ◌<◌, length, IfOk, IfSome};
+ghost use Rattle.std.specs.Prelude.{◌≡◌, ◌+◌, ◌<◌, ◌≤◌, length, IfOk, IfNone, IfSome};
 ghost use Rattle.mq_decode.specs.Front.{front_at, GivesFront};
 ghost use Rattle.mq_decode.specs.Grammar.{IsFront};
 
@@ -50,6 +50,7 @@ pub(crate) fn front(
     bytes: &[u8],
 ) -> Result<Option<(Packet, usize)>, DecodeError>
     ensures front { IsFront limits bytes.now result }
+    ensures short { IfOk result (λ o. IfNone o (length bytes.now ≤ 5 + limits)) }
     ensures some { IfOk result (λ o. IfSome o (λ x. 0 < x.1)) }
 {
     number_laws();

@@ -1,13 +1,14 @@
 //! Packets from the front of bytes, one after another.
 
 ghost use Rattle.std.specs.Prelude.{◌≡◌, ◌<◌, ◌≤◌, ◌++◌, [], ◌∷◌, length, take, drop, IfOk, IfErr, OnOk};
-ghost use Rattle.mq_decode.specs.Grammar.{Goes, Stops, Pending};
+ghost use Rattle.mq_decode.specs.Grammar.{Goes, Stops, Pending, Wants};
 
 use crate::fault::DecodeError;
 use crate::front::front;
 use crate::header::header_at;
 use crate::limits::Limits;
 use mq_packet::Packet;
+use mq_wire::{length_laws, number_laws, text_laws};
 use std::alloc::Global;
 
 // Appends a packet. Where memory runs out the list is unchanged.
@@ -48,10 +49,15 @@ pub(crate) fn take_packets(
     }
 }
 
-// How many bytes the packet at the front still wants, as far as its header tells, and at least one.
-fn wanted(limits: Limits, held: &[u8]) -> usize
-    ensures { 0 < result }
+/// How many bytes the packet at the front still wants, as far as its header tells, and at least one. A
+/// packet that these make whole ends with them.
+pub(crate) fn wanted(limits: Limits, held: &[u8]) -> usize
+    ensures some { 0 < result }
+    ensures exact { Wants limits held.now result }
 {
+    number_laws();
+    text_laws();
+    length_laws();
     match header_at(limits, held) {
         Ok(Some(header)) => (header.start + header.size)
             .saturating_sub(held.len())
