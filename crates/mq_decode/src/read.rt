@@ -124,7 +124,7 @@ fn read_one<R: Read>(
                 Err(ReadError::Cut)
             };
         }
-        match front(alloc, limits, &buffer) {
+        match front(alloc, limits, None, &buffer) {
             Ok(None) => {}
             Ok(Some(found)) => return Ok(Some(found.0)),
             Err(error) => return Err(stop_of(error)),

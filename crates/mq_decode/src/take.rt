@@ -38,7 +38,7 @@ pub(crate) fn take_packets(
     let mut taken = 0;
     loop {
         let (_, rest) = bytes.split_at(taken);
-        match front(alloc, limits, rest) {
+        match front(alloc, limits, None, rest) {
             Ok(Some((packet, size))) => {
                 append(out, packet)?;
                 taken += size;
