@@ -25,7 +25,7 @@ pub whole_taken : (limit : ℕ) (old new more : List ℕ) (wanted n : ℕ) (p : 
     → (n ≤ length new) × SpellsWithin limit p (take n new) → SpellsWithin limit p new
 whole_taken limit old new more wanted n p wants pending few e h =
     let parts : old ++ more ≡ take n new ++ drop n new = sym e ∙ sym (take-append-drop n new) in
-    let none : drop n new ≡ [] = wants pending more (drop n new) (take n new) p few h.1 parts in
+    let none : drop n new ≡ [] = wants pending more few p (take n new) (drop n new) h.1 parts in
     let same : take n new ≡ new = sym (append-nil (take n new)) ∙ (ap (λ (t : List ℕ). take n new ++ t) (sym none) ∙ take-append-drop n new) in
     subst (SpellsWithin limit p) same h.1
 

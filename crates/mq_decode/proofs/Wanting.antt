@@ -1,6 +1,6 @@
 -- How many bytes a packet that isn't whole still wants.
 use Rattle.std.proofs.Common.{◌≡◌, ℕ, zero, suc, ◌+◌, ◌-◌, ◌<◌, ◌≤◌, Bool, true, false, cond, ltb, List, [], ◌∷◌, ◌++◌, length, take, drop, Option, Some, None, Result, Ok, Err, refl, sym, ap, subst, ◌∙◌, append_assoc, arith, inl, inr}
-use Rattle.std.proofs.lemmas.Bool.{cases_lt}
+use Rattle.std.proofs.lemmas.Bool.{cases_lt, le-ltb}
 use Rattle.std.proofs.lemmas.List.{nil_from_length, length-append, length-take, take-append-drop, take_at}
 use Rattle.bytes.proofs.Ranges.{take-append_past}
 use Rattle.mq_wire.specs.declared.reading.LengthReading.{LengthReading}
@@ -16,9 +16,10 @@ use Rattle.mq_decode.specs.declared.kind.Kind.{Kind}
 use Rattle.mq_decode.specs.Kind.{kind_at, size_fault}
 use Rattle.mq_decode.specs.Bodies.{body_at}
 use Rattle.mq_decode.specs.Front.{fault_at, sized, header_of, header_after, header_at, packet_or_fault, front_after, front_at}
-use Rattle.mq_decode.specs.Grammar.{SpellsWithin, Pending, Wants}
+use Rattle.mq_decode.specs.Grammar.{SpellsWithin, Pending, IsAlone, Wants}
 use Rattle.mq_decode.proofs.FieldLaws.{Wire}
 use Rattle.mq_decode.proofs.FrontLaws.{Read, whole_again}
+use Rattle.mq_decode.proofs.FrontFound.{FrontFound, front_found}
 use Rattle.mq_decode.proofs.Uniqueness.{packet_at, same_packet}
 
 -- a front that is no longer than b is a front of b
@@ -31,7 +32,7 @@ empty rest le = nil_from_length rest (omega arith)
 
 -- what is pending with at most one byte more ends with the packet that it makes
 pub wants_one : (limit : ℕ) (b : List ℕ) → Wants limit b 1
-wants_one limit b pending more rest first p few h e =
+wants_one limit b pending more few p first rest h e =
     elim (cases_lt (length b) (length first)) [
       | inl longer ↦ empty rest (omega (arith, ap length e, length-append b more, length-append first rest))
       | inr le ↦ absurd (pending.not_whole p first (take (length b - length first) rest) h (front_of b more first rest le e))
@@ -75,7 +76,7 @@ header_end h b p n e = go (ltb (length b) (h.start + h.size)) e
 -- with the header it wants what the header says, and at least one byte
 pub wants_rest : (w : Wire) (limit : ℕ) (b : List ℕ) (h : Header) (n : ℕ) → AreBytes b → header_at limit b ≡ Ok (Some h) → length b + n ≤ h.start + h.size → Wants limit b n
 unfolding front_at
-wants_rest w limit b h n bytes e within pending more rest first p few spelled parts =
+wants_rest w limit b h n bytes e within pending more few p first rest spelled parts =
     let read : front_at limit (b ++ more) ≡ Ok (Some (p, length first)) = ap (front_at limit) parts ∙ whole_again w limit p first rest spelled in
     let ends : length first ≡ h.start + h.size = header_end h (b ++ more) p (length first) (ap (λ (r : Result (Option Header) DecodeFault). front_after r (b ++ more)) (sym (header_more w limit b more h bytes e)) ∙ read) in
     empty rest (omega (arith, ap length parts, length-append b more, length-append first rest))
@@ -85,5 +86,25 @@ pub wants_most : (w : Wire) (limit : ℕ) (b : List ℕ) (h : Header) (n : ℕ) 
 wants_most w limit b h n bytes e more one =
     elim (cases_lt (length b) (h.start + h.size)) [
       | inl lt ↦ wants_rest w limit b h n bytes e (more lt)
-      | inr le ↦ λ pending m rest first p few spelled parts. wants_one limit b pending m rest first p (omega (arith, one le, few)) spelled parts
+      | inr le ↦ λ pending m few p first rest spelled parts. wants_one limit b pending m (omega (arith, one le, few)) p first rest spelled parts
     ]
+
+-- with the header and as many bytes as it says nothing is pending
+pending_none : (w : Wire) (limit : ℕ) (b : List ℕ) → AreBytes b → Pending limit b → front_at limit b ≡ Ok None
+pending_none w limit b bytes pending = go (front_at limit b) refl (front_found w limit b bytes)
+  where
+    go : (r : Read) → front_at limit b ≡ r → FrontFound limit b r → front_at limit b ≡ Ok None
+    go (Ok None) e f = e
+    go (Ok (Some x)) e f = absurd (pending.not_whole x.0 (take x.1 b) (drop x.1 b) f.1 (sym (take-append-drop x.1 b)))
+    go (Err fault) e f = absurd (pending.not_faulty fault.kind fault.place f)
+
+never_none : (end : ℕ) (r : Result Packet BadField) → packet_or_fault end r ≡ Ok None → ⊥
+never_none end (Ok p) e = absurd cc
+never_none end (Err bad) e = absurd cc
+
+pub complete_not : (w : Wire) (limit : ℕ) (b : List ℕ) (h : Header) → AreBytes b → header_at limit b ≡ Ok (Some h) → h.start + h.size ≤ length b → Pending limit b → ⊥
+unfolding front_at
+complete_not w limit b h bytes e long pending =
+    let read : front_after (Ok (Some h)) b ≡ Ok None = ap (λ (r : Result (Option Header) DecodeFault). front_after r b) (sym e) ∙ pending_none w limit b bytes pending in
+    let enough : ltb (length b) (h.start + h.size) ≡ false = le-ltb _ _ long in
+    never_none (h.start + h.size) (body_at h.kind (take h.size (drop h.start b))) (rw enough at read)

@@ -39,11 +39,7 @@ fn delivery(flags: PublishFlags, bytes: &[u8]) -> Result<(Option<Delivery>, &[u8
 }
 
 // The payload of its own: it shares the packet where that is whole in a buffer, and else is a copy.
-fn payload_of(
-    alloc: Global,
-    whole: Option<&Bytes>,
-    payload: &[u8],
-) -> Result<Payload, AllocError>
+fn payload_of(alloc: Global, whole: Option<&Bytes>, payload: &[u8]) -> Result<Payload, AllocError>
     requires shared { IfSome whole (λ packet. EndsWith packet.now payload.now) }
     requires small { length payload.now < 2 ^ 28 }
     ensures { IfOk result (λ p. p ≡ payload.now) }

@@ -7,10 +7,9 @@ ghost use Rattle.mq_decode.specs.Grammar.{SpellsWithin, Pending};
 ghost use Rattle.mq_decode.specs.Reader.{ReadStops, Answers, stop_of};
 
 use crate::fault::{DecodeError, DecodeFault};
-use crate::front::front;
 use crate::laws::reads_again;
 use crate::limits::Limits;
-use crate::take::wanted;
+use crate::take::{take_held, wanted};
 use mq_packet::Packet;
 use std::alloc::Global;
 use std::io;
@@ -124,7 +123,7 @@ fn read_one<R: Read>(
                 Err(ReadError::Cut)
             };
         }
-        match front(alloc, limits, None, &buffer) {
+        match take_held(alloc, limits, &mut buffer) {
             Ok(None) => {}
             Ok(Some(found)) => return Ok(Some(found.0)),
             Err(error) => return Err(stop_of(error)),

@@ -14,10 +14,7 @@ pub returns-in-Ok-Some-clause-packet : goal.returns-in-Ok-Some-clause-packet
 returns-in-Ok-Some-clause-packet g c =
     let read = c.in_ok-count.ensures.bytes in
     let taken = consumes_then (g.R.Read.remaining c.args.reader.now) (g.R.Read.remaining c.loop-buffer.reader) (g.R.Read.remaining c.fill.new.reader) c.loop-buffer.buffer.items read.0 c.fill.new.buffer.items read.2 c.loop-buffer.invariant.taken read.3 in
-    let bytes_is : c.deref-in-loop-buffer.result.now ≡ c.fill.new.buffer.items = c.deref-in-loop-buffer.ensures.value in
-    let front = rw c.in-Ok-Some.field-0-is at c.in-Ok-Some.ensures.front in
-    let found : (c.in-Ok-Some.found.1 ≤ length c.fill.new.buffer.items) × SpellsWithin c.args.limits c.in-Ok-Some.found.0 (take c.in-Ok-Some.found.1 c.fill.new.buffer.items) =
-    subst (λ (b : List ℕ). (c.in-Ok-Some.found.1 ≤ length b) × SpellsWithin c.args.limits c.in-Ok-Some.found.0 (take c.in-Ok-Some.found.1 b)) bytes_is front in
+    let found = rw c.in-Ok-Some.field-0-is at c.in-Ok-Some.ensures.front in
     let wants : Wants c.args.limits c.loop-buffer.buffer.items c.wanted.result = subst (λ (b : List ℕ). Wants c.args.limits b c.wanted.result) c.deref.ensures.value c.wanted.ensures.exact in
     let few : length read.0 ≤ c.wanted.result = omega (arith, read.1, c.in_ok-count.ensures.most, c.min-most.ensures) in
     (c.fill.new.buffer.items, whole_taken c.args.limits c.loop-buffer.buffer.items c.fill.new.buffer.items read.0 c.wanted.result c.in-Ok-Some.found.1 c.in-Ok-Some.found.0 wants c.loop-buffer.invariant.pending few read.2 found, taken)
@@ -26,5 +23,4 @@ pub returns-in-Err-clause-err : goal.returns-in-Err-clause-err
 returns-in-Err-clause-err g c =
     let read = c.in_ok-count.ensures.bytes in
     let taken = consumes_then (g.R.Read.remaining c.args.reader.now) (g.R.Read.remaining c.loop-buffer.reader) (g.R.Read.remaining c.fill.new.reader) c.loop-buffer.buffer.items read.0 c.fill.new.buffer.items read.2 c.loop-buffer.invariant.taken read.3 in
-    let front : IsFront c.args.limits c.fill.new.buffer.items (Err c.in-Err.error) = subst (λ (b : List ℕ). IsFront c.args.limits b (Err c.in-Err.error)) c.deref-in-loop-buffer.ensures.value c.in-Err.ensures.front in
-    rw c.stop_of.ensures (stops_at c.args.limits (g.R.Read.remaining c.args.reader.now) (g.R.Read.remaining c.fill.new.reader) c.fill.new.buffer.items c.in-Err.error front taken)
+    rw c.stop_of.ensures (stops_at c.args.limits (g.R.Read.remaining c.args.reader.now) (g.R.Read.remaining c.fill.new.reader) c.fill.new.buffer.items c.in-Err.error c.in-Err.ensures.front taken)
