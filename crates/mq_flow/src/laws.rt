@@ -1,0 +1,15 @@
+//! The laws of the sender's book.
+
+ghost use Rattle.mq_flow.specs.Laws.{IdentifierLaws, StrayLaws};
+
+/// The identifiers of a sender's book: from 1 to 65,535, each in use once, and at most as many as the
+/// capacity, whatever moves it makes (2.3.1).
+pub fn identifier_laws()
+    ensures { IdentifierLaws }
+{}
+
+/// An acknowledgement that nothing waits for changes nothing, one that something waits for takes exactly
+/// that out of the book (4.3.2, 4.3.3).
+pub fn stray_laws()
+    ensures { StrayLaws }
+{}
