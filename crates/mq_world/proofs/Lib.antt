@@ -1,0 +1,11 @@
+pub mod Stages
+pub mod Lists
+pub mod Places
+pub mod Members
+pub mod Second
+pub mod First
+pub mod Queues
+pub mod Both
+pub mod Flows
+pub mod Steps
+pub mod Whole
