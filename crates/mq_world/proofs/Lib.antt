@@ -9,3 +9,5 @@ pub mod Both
 pub mod Flows
 pub mod Steps
 pub mod Whole
+pub mod Samples
+pub mod Together

@@ -1,0 +1,23 @@
+-- Runs that the machine has.
+use Rattle.std.proofs.Common.{◌≡◌, ℕ, true, false, Some, None, List, [], ◌∷◌, refl, sym, ap, subst, ◌∙◌, arith}
+use Rattle.std.specs.FinSet.{contains-empty}
+use Rattle.std.specs.Ordering.{nat_cmp}
+use Rattle.mq_world.specs.Machine.{Machine, Move, Run, blank_machine}
+use Rattle.mq_world.specs.Examples.{Examples, after_all, pubrec_lost, puback_lost, dropped_inside}
+use Rattle.mq_world.proofs.Members.{insert_same}
+
+pub samples : Examples
+samples = record {
+  pubrec_lost_runs = (tt, (tt, (tt, ((refl, ((omega arith, omega arith), refl)), (tt, (tt, refl))))));
+  pubrec_lost_before = simp (contains-empty nat_cmp);
+  pubrec_lost_after = simp (contains-empty nat_cmp, insert_same);
+  puback_lost_runs = (tt, (tt, (tt, ((refl, ((omega arith, omega arith), refl)), (tt, (tt, refl))))));
+  puback_lost_before = refl;
+  puback_lost_after = refl;
+  dropped_inside_runs = (tt, (tt, (tt, refl)));
+  dropped_inside_server = refl;
+  dropped_inside_client = refl;
+  dropped_inside_after = refl;
+  refused_before = refl;
+  accepted_after = (tt, (tt, ((refl, ((omega arith, omega arith), refl)), refl)));
+}
