@@ -11,3 +11,4 @@ pub mod Steps
 pub mod Whole
 pub mod Samples
 pub mod Together
+pub mod Marks
