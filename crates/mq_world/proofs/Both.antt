@@ -1,23 +1,21 @@
 -- What holds between two sides at every point of a run.
-use Rattle.std.proofs.Common.{◌≡◌, ℕ, zero, suc, ◌+◌, ◌<◌, ◌≤◌, Bool, true, false, cond, not, Option, Some, None, List, [], ◌∷◌, ◌++◌, map, length, refl, sym, ap, subst, ◌∙◌, arith}
-use Rattle.mq_topic.specs.declared.qos.Qos.TheVariants.{Q0, Q1, Q2}
+use Rattle.std.proofs.Common.{◌≡◌, ℕ, ◌+◌, ◌≤◌, true, false, Option, List, [], ◌∷◌, ◌++◌, map, refl, sym, subst, arith}
+use Rattle.mq_topic.specs.declared.qos.Qos.TheVariants.{Q1, Q2}
 use Rattle.mq_packet.specs.declared.message.Message.{Message}
 use Rattle.mq_packet.specs.declared.packet.Packet.{Packet}
 use Rattle.mq_packet.specs.declared.packet.Packet.TheVariants as packets
 use Rattle.mq_flow.specs.declared.entry.Entry.{Entry}
 use Rattle.mq_flow.specs.declared.claim.Claimed.{Claimed}
-use Rattle.mq_flow.specs.Sender.{SenderBook, blank_book, times, uses, held, resent, all_sent}
+use Rattle.mq_flow.specs.Sender.{SenderBook, times, held, resent, all_sent}
 use Rattle.mq_flow.specs.Receiver.{ReceiverBook}
-use Rattle.mq_flow.specs.Laws.{IsSound, IdentifierLaws}
+use Rattle.mq_flow.specs.Laws.{IsSound}
 use Rattle.mq_flow.proofs.Books.{laws as books, times_uses}
 use Rattle.mq_end.specs.declared.state.State.{State}
 use Rattle.mq_end.specs.declared.state.State.TheVariants.{Closed, Open, Up}
-use Rattle.mq_end.specs.declared.happening.Happening.{Happening}
-use Rattle.mq_end.specs.declared.happening.Happening.TheVariants as happens
 use Rattle.mq_end.specs.declared.reason.CloseReason.{CloseReason}
-use Rattle.mq_end.specs.End.{End, Reply, is_up, closes_after, comes_up, puts_out}
+use Rattle.mq_end.specs.End.{is_up}
 use Rattle.mq_end.specs.Both.{has_identifier}
-use Rattle.mq_world.specs.Half.{Half, Accepted, HandedOn, joined, put, took}
+use Rattle.mq_world.specs.Half.{Half, Accepted, HandedOn, joined, put}
 use Rattle.mq_world.specs.Machine.{first_packet}
 use Rattle.mq_world.proofs.Stages.{When}
 use Rattle.mq_world.proofs.Lists.{Each, each_append, each_map, ids, times_held, held_sent}
@@ -105,49 +103,48 @@ apart capacity b s i = let d = s.distinct i in let e = times_uses i b in let f =
 
 pub close_keeps : (capacity : ℕ) (h y : Half) (st : State) (q rest ps : List Packet) (reason : Option CloseReason) → answers ps ≡ no_answers → flight ps ≡ no_flight → Each IsPlain ps → Both capacity (upon h st q) y
     → Both capacity
-      (record h { end = record h.end { book = record h.end.book { claimed = [] }; state = Closed; clean = false }; coming = [] })
-      (put ps y)
+    (record h { end = record h.end { book = record h.end.book { claimed = [] }; state = Closed; clean = false }; coming = [] })
+    (put ps y)
 close_keeps capacity h y st q rest ps reason no_an no_fl plain b =
     finish capacity (upon h st q) y (record h { end = record h.end { book = record h.end.book { claimed = [] }; state = Closed; clean = false }; coming = [] }) ps (answers y.coming) (flight y.coming)
-      (same_answers y.end.state y.coming ps no_an) (same_flight y.end.state y.coming ps no_fl)
-      (second.sender_drops b.to_y.0, first.sender_drops b.to_y.1, b.to_y.2)
-      (second.receiver_drops b.to_x.0, first.receiver_drops b.to_x.1, zeroth_lost _ _ _ b.to_x.2)
-      (books.drops capacity h.end.book b.own_x.0, tt, b.own_x.2)
-      refl
-      tt
-      plain
-      b
+    (same_answers y.end.state y.coming ps no_an) (same_flight y.end.state y.coming ps no_fl)
+    (second.sender_drops b.to_y.0, first.sender_drops b.to_y.1, b.to_y.2)
+    (second.receiver_drops b.to_x.0, first.receiver_drops b.to_x.1, zeroth_lost _ _ _ b.to_x.2)
+    (books.drops capacity h.end.book b.own_x.0, tt, b.own_x.2)
+    refl
+    tt
+    plain
+    b
 
 -- ---- the side comes up
 
 pub up_keeps : (capacity : ℕ) (h y : Half) (p : Packet) (rest before : List Packet) (alive : ℕ) → answers before ≡ no_answers → flight before ≡ no_flight → Each IsPlain before
     → answers (p ∷ rest) ≡ answers rest → flight (p ∷ rest) ≡ flight rest → Both capacity (upon h Open (p ∷ rest)) y
     → Both capacity
-      (record h { end = record h.end { book = all_sent h.end.book; state = Up; known = true; clean = false; keep_alive = alive }; coming = rest })
-      (put (before ++ resent h.end.book) y)
+    (record h { end = record h.end { book = all_sent h.end.book; state = Up; known = true; clean = false; keep_alive = alive }; coming = rest })
+    (put (before ++ resent h.end.book) y)
 up_keeps capacity h y p rest before alive no_an no_fl plain an_rest fl_rest b =
     let book : SenderBook = h.end.book in
     let way2 : Second Up y.end.state (held Q2 book.entries) book.released y.end.received (answers rest).rec (answers rest).comp (joined y.end.state (flight y.coming).pub2 (held Q2 book.entries)) (joined y.end.state (flight y.coming).rel book.released) h.accepted.exactly_once y.handed.exactly_once =
-          subst (λ (a : Answers). Second Up y.end.state (held Q2 book.entries) book.released y.end.received a.rec a.comp (joined y.end.state (flight y.coming).pub2 (held Q2 book.entries)) (joined y.end.state (flight y.coming).rel book.released) h.accepted.exactly_once y.handed.exactly_once)
-            an_rest (second.sender_up b.to_y.0) in
+    subst (λ (a : Answers). Second Up y.end.state (held Q2 book.entries) book.released y.end.received a.rec a.comp (joined y.end.state (flight y.coming).pub2 (held Q2 book.entries)) (joined y.end.state (flight y.coming).rel book.released) h.accepted.exactly_once y.handed.exactly_once)
+    an_rest (second.sender_up b.to_y.0) in
     let way1 : First Up y.end.state (held Q1 book.entries) (answers rest).ack (joined y.end.state (flight y.coming).pub1 (held Q1 book.entries)) h.accepted.at_least_once y.handed.at_least_once h.freed =
-          subst (λ (a : Answers). First Up y.end.state (held Q1 book.entries) a.ack (joined y.end.state (flight y.coming).pub1 (held Q1 book.entries)) h.accepted.at_least_once y.handed.at_least_once h.freed)
-            an_rest (first.sender_up b.to_y.1) in
+    subst (λ (a : Answers). First Up y.end.state (held Q1 book.entries) a.ack (joined y.end.state (flight y.coming).pub1 (held Q1 book.entries)) h.accepted.at_least_once y.handed.at_least_once h.freed)
+    an_rest (first.sender_up b.to_y.1) in
     finish capacity (upon h Open (p ∷ rest)) y (record h { end = record h.end { book = all_sent h.end.book; state = Up; known = true; clean = false; keep_alive = alive }; coming = rest }) (before ++ resent h.end.book)
-      (answers y.coming) (record { pub2 = joined y.end.state (flight y.coming).pub2 (held Q2 book.entries); pub1 = joined y.end.state (flight y.coming).pub1 (held Q1 book.entries); rel = joined y.end.state (flight y.coming).rel book.released; msg = (flight y.coming).msg })
-      (same_answers y.end.state y.coming (before ++ resent book) (resent_answers before book no_an))
-      (resent_joins y.end.state y.coming before book no_fl)
-      (
-        subst (λ (E : List (ℕ × Message)). Second Up y.end.state E book.released y.end.received (answers rest).rec (answers rest).comp (joined y.end.state (flight y.coming).pub2 (held Q2 book.entries)) (joined y.end.state (flight y.coming).rel book.released) h.accepted.exactly_once y.handed.exactly_once) (sym (held_sent Q2 book.entries)) way2,
-        subst (λ (E : List (ℕ × Message)). First Up y.end.state E (answers rest).ack (joined y.end.state (flight y.coming).pub1 (held Q1 book.entries)) h.accepted.at_least_once y.handed.at_least_once h.freed) (sym (held_sent Q1 book.entries)) way1,
-        b.to_y.2,
-      )
-      (subst (λ (f : Flight). Ways y.end.state y.end.book Up h.end.received (answers y.coming) f y.accepted h.handed y.freed) fl_rest (second.receiver_up b.to_x.0, first.receiver_up b.to_x.1, b.to_x.2))
-      (books.sends capacity book b.own_x.0, each_map IsSent (λ (e : Entry). record { id = e.id; message = e.message; sent = true }) book.entries (λ e. refl), held_still book.entries b.own_x.2)
-      refl
-      b.queue_x.1
-      (each_append IsPlain before (resent book) plain (plain_resent book))
-      b
+    (answers y.coming) (record { pub2 = joined y.end.state (flight y.coming).pub2 (held Q2 book.entries); pub1 = joined y.end.state (flight y.coming).pub1 (held Q1 book.entries); rel = joined y.end.state (flight y.coming).rel book.released; msg = (flight y.coming).msg })
+    (same_answers y.end.state y.coming (before ++ resent book) (resent_answers before book no_an))
+    (resent_joins y.end.state y.coming before book no_fl) (
+      subst (λ (E : List (ℕ × Message)). Second Up y.end.state E book.released y.end.received (answers rest).rec (answers rest).comp (joined y.end.state (flight y.coming).pub2 (held Q2 book.entries)) (joined y.end.state (flight y.coming).rel book.released) h.accepted.exactly_once y.handed.exactly_once) (sym (held_sent Q2 book.entries)) way2,
+      subst (λ (E : List (ℕ × Message)). First Up y.end.state E (answers rest).ack (joined y.end.state (flight y.coming).pub1 (held Q1 book.entries)) h.accepted.at_least_once y.handed.at_least_once h.freed) (sym (held_sent Q1 book.entries)) way1,
+      b.to_y.2,
+    )
+    (subst (λ (f : Flight). Ways y.end.state y.end.book Up h.end.received (answers y.coming) f y.accepted h.handed y.freed) fl_rest (second.receiver_up b.to_x.0, first.receiver_up b.to_x.1, b.to_x.2))
+    (books.sends capacity book b.own_x.0, each_map IsSent (λ (e : Entry). record { id = e.id; message = e.message; sent = true }) book.entries (λ e. refl), held_still book.entries b.own_x.2)
+    refl
+    b.queue_x.1
+    (each_append IsPlain before (resent book) plain (plain_resent book))
+    b
   where
     held_still : (es : List Entry) → Each IsHeld es → Each IsHeld (map (λ (e : Entry). record { id = e.id; message = e.message; sent = true }) es)
     held_still [] k = tt
@@ -163,11 +160,11 @@ pub calm_keeps : (capacity : ℕ) (h y : Half) (st : State) (p : Packet) (rest p
     → Both capacity (record h { end = record h.end { book = record h.end.book { claimed = cs }; state = st; clean = false }; coming = rest }) (put ps y)
 calm_keeps capacity h y st p rest ps cs no_an no_fl plain an_rest fl_rest sound b =
     finish capacity (upon h st (p ∷ rest)) y (record h { end = record h.end { book = record h.end.book { claimed = cs }; state = st; clean = false }; coming = rest }) ps (answers y.coming) (flight y.coming)
-      (same_answers y.end.state y.coming ps no_an) (same_flight y.end.state y.coming ps no_fl)
-      (subst (λ (a : Answers). Ways st h.end.book y.end.state y.end.received a (flight y.coming) h.accepted y.handed h.freed) an_rest b.to_y)
-      (subst (λ (f : Flight). Ways y.end.state y.end.book st h.end.received (answers y.coming) f y.accepted h.handed y.freed) fl_rest b.to_x)
-      (sound, b.own_x.1, b.own_x.2)
-      refl
-      b.queue_x.1
-      plain
-      b
+    (same_answers y.end.state y.coming ps no_an) (same_flight y.end.state y.coming ps no_fl)
+    (subst (λ (a : Answers). Ways st h.end.book y.end.state y.end.received a (flight y.coming) h.accepted y.handed h.freed) an_rest b.to_y)
+    (subst (λ (f : Flight). Ways y.end.state y.end.book st h.end.received (answers y.coming) f y.accepted h.handed y.freed) fl_rest b.to_x)
+    (sound, b.own_x.1, b.own_x.2)
+    refl
+    b.queue_x.1
+    plain
+    b

@@ -1,18 +1,17 @@
 -- At least once, and at most once, from one side to the other, over lists alone.
-use Rattle.std.proofs.Common.{◌≡◌, ℕ, zero, suc, ◌+◌, ◌<◌, ◌≤◌, max, Bool, true, false, cond, not, ◌&&◌, ◌||◌, eqb, Some, List, [], ◌∷◌, ◌++◌, map, length, slice_get, refl, sym, ap, subst, ◌∙◌, arith, append_assoc, append-nil, inl, inr}
-use Rattle.std.proofs.lemmas.Bool.{cases_eq, cases_lt, ne_eqb}
+use Rattle.std.proofs.Common.{◌≡◌, ℕ, ◌+◌, ◌<◌, ◌≤◌, true, Some, List, [], ◌∷◌, ◌++◌, length, slice_get, refl, sym, ap, subst, ◌∙◌, arith, append_assoc, append-nil, inl, inr}
+use Rattle.std.proofs.lemmas.Bool.{cases_lt}
 use Rattle.std.proofs.lemmas.List.{map-append, length-append, length-map}
 use Rattle.mq_packet.specs.declared.message.Message.{Message}
 use Rattle.mq_flow.specs.Sender.{times}
-use Rattle.mq_flow.proofs.Counting.{times_append, times_same, times_other}
+use Rattle.mq_flow.proofs.Counting.{times_same}
 use Rattle.mq_end.specs.declared.state.State.{State}
 use Rattle.mq_end.specs.declared.state.State.TheVariants.{Closed, Open, Up}
-use Rattle.mq_end.specs.End.{is_up, is_live}
 use Rattle.mq_world.specs.Half.{joined, last_place}
-use Rattle.mq_world.specs.Orders.{Walk, IsAt, AllIn, is_among, messages, Part}
+use Rattle.mq_world.specs.Orders.{Walk, IsAt, is_among, messages, Part}
 use Rattle.mq_world.proofs.Stages.{Stages, TakesIn, Again, New, Answered, Answer}
 use Rattle.mq_world.proofs.Stages as stages
-use Rattle.mq_world.proofs.Lists.{Each, each_append, ids, times_ids}
+use Rattle.mq_world.proofs.Lists.{Each, each_append, ids}
 use Rattle.mq_world.proofs.Places.{reach, walk_more, reach_more, at_more, at_grown, get_seam, each_later, among_more, among_last, last_place_at, part_more, part_both, part_front}
 
 -- E: the messages of quality of service 1 that x holds; ak: the PUBACKs on their way to x; pb: the PUBLISHes on their way to
@@ -113,7 +112,7 @@ takes_publish {x} {E} {ak} {rest} {A} {H} {F} i m h =
     elim (stages.takes_in _ _ _ _ _ _ _ h.e) [
       | Again front back split now ↦
           let whole : A ≡ (h.gone ++ front) ++ (i, m) ∷ (back ++ h.W) =
-                h.acc ∙ (ap (λ (q : List (ℕ × Message)). h.gone ++ q) (h.parts ∙ (ap (λ (q : List (ℕ × Message)). q ++ h.W) split ∙ append_assoc front ((i, m) ∷ back) h.W)) ∙ sym (append_assoc h.gone front ((i, m) ∷ (back ++ h.W)))) in
+          h.acc ∙ (ap (λ (q : List (ℕ × Message)). h.gone ++ q) (h.parts ∙ (ap (λ (q : List (ℕ × Message)). q ++ h.W) split ∙ append_assoc front ((i, m) ∷ back) h.W)) ∙ sym (append_assoc h.gone front ((i, m) ∷ (back ++ h.W)))) in
           let place : ℕ = length (h.gone ++ front) in
           let size = length-append h.gone front in
           let kept = ap length split in
@@ -135,7 +134,7 @@ takes_publish {x} {E} {ak} {rest} {A} {H} {F} i m h =
           }
       | New later split now ↦
           let whole : A ≡ (h.gone ++ h.K) ++ (i, m) ∷ later =
-                h.acc ∙ (ap (λ (q : List (ℕ × Message)). h.gone ++ q) (h.parts ∙ ap (λ (q : List (ℕ × Message)). h.K ++ q) split) ∙ sym (append_assoc h.gone h.K ((i, m) ∷ later))) in
+          h.acc ∙ (ap (λ (q : List (ℕ × Message)). h.gone ++ q) (h.parts ∙ ap (λ (q : List (ℕ × Message)). h.K ++ q) split) ∙ sym (append_assoc h.gone h.K ((i, m) ∷ later))) in
           let size = length-append h.gone h.K in
           let size2 = length-append h.K ((i, m) ∷ []) in
           let far = h.reached in
@@ -168,10 +167,10 @@ takes_puback {y} {E} {rest} {pb} {A} {H} {F} i once h =
           let whole : E ≡ a ∷ (later ++ h.W) = h.parts ∙ ap (λ (q : List (ℕ × Message)). q ++ h.W) split in
           let all : A ≡ h.gone ++ a ∷ (later ++ h.W) = h.acc ∙ ap (λ (q : List (ℕ × Message)). h.gone ++ q) whole in
           let single : times i (ids (later ++ h.W)) ≡ 0 =
-                let c : times i (ids E) ≡ times i (i ∷ ids (later ++ h.W)) = ap (λ (q : List (ℕ × Message)). times i (ids q)) whole ∙ ap (λ (k : ℕ). times i (k ∷ ids (later ++ h.W))) same in
-                let d = times_same i (ids (later ++ h.W)) in
-                let o = once i in
-                omega arith in
+          let c : times i (ids E) ≡ times i (i ∷ ids (later ++ h.W)) = ap (λ (q : List (ℕ × Message)). times i (ids q)) whole ∙ ap (λ (k : ℕ). times i (k ∷ ids (later ++ h.W))) same in
+          let d = times_same i (ids (later ++ h.W)) in
+          let o = once i in
+          omega arith in
           let place : last_place i A ≡ length h.gone = ap (last_place i) all ∙ last_place_at i h.gone (later ++ h.W) a same single in
           let size = length-append h.gone (a ∷ []) in
           let kept = ap length split in
@@ -188,9 +187,9 @@ takes_puback {y} {E} {rest} {pb} {A} {H} {F} i once h =
             reached = let r = h.reached in omega arith;
             freed = each_append (λ (p : ℕ). p < length (h.gone ++ a ∷ [])) F (last_place i A ∷ []) (each_later (length h.gone) (length (h.gone ++ a ∷ [])) F (omega arith) h.freed) (omega arith, tt);
             all_freed = λ j lt. elim (cases_lt j (length h.gone)) [
-                | inl below ↦ among_more j F (last_place i A) (h.all_freed j below)
-                | inr above ↦ let e : last_place i A ≡ j = omega arith in subst (λ (k : ℕ). is_among j (F ++ k ∷ []) ≡ true) (sym e) (among_last j F)
-              ];
+              | inl below ↦ among_more j F (last_place i A) (h.all_freed j below)
+              | inr above ↦ let e : last_place i A ≡ j = omega arith in subst (λ (k : ℕ). is_among j (F ++ k ∷ []) ≡ true) (sym e) (among_last j F)
+            ];
           })
     ]
 

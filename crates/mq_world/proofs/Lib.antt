@@ -12,3 +12,5 @@ pub mod Whole
 pub mod Samples
 pub mod Together
 pub mod Marks
+pub mod Ranks
+pub mod Settle

@@ -1,14 +1,13 @@
 -- The entries of a book, by quality of service.
-use Rattle.std.proofs.Common.{◌≡◌, ℕ, zero, suc, ◌+◌, ◌<◌, ◌≤◌, Bool, true, false, cond, not, ◌&&◌, ◌||◌, eqb, List, [], ◌∷◌, ◌++◌, map, length, filter, refl, sym, ap, subst, ◌∙◌, arith, append_assoc, append-nil, inl, inr}
+use Rattle.std.proofs.Common.{◌≡◌, ℕ, ◌+◌, ◌≤◌, Bool, true, false, cond, not, ◌&&◌, ◌||◌, eqb, List, [], ◌∷◌, ◌++◌, map, filter, refl, sym, ap, subst, ◌∙◌, arith, inl, inr}
 use Rattle.std.proofs.lemmas.Bool.{cases_eq, ne_eqb, cond_both}
 use Rattle.std.proofs.lemmas.List.{map-append}
 use Rattle.std.proofs.lemmas.List.Elements.{filter-append}
-use Rattle.std.specs.List.{list_any}
 use Rattle.mq_topic.specs.declared.qos.Qos.{Qos}
 use Rattle.mq_topic.specs.declared.qos.Qos.TheVariants.{Q0, Q1, Q2}
 use Rattle.mq_packet.specs.declared.message.Message.{Message}
 use Rattle.mq_flow.specs.declared.entry.Entry.{Entry}
-use Rattle.mq_flow.specs.Sender.{SenderBook, times, without, without_entry, is_awaited, same_qos, held, all_sent}
+use Rattle.mq_flow.specs.Sender.{times, without_entry, is_awaited, same_qos, held}
 use Rattle.mq_flow.proofs.Counting.{times_append, eqb_self, times_same, times_other, map_filter}
 
 -- each item of a list is so
@@ -83,12 +82,12 @@ filter_swap t s [] = refl
 filter_swap {A} t s (x ∷ xs) =
     let h = filter_swap t s xs in
     cond_both (s x) (x ∷ filter s xs) (filter s xs) (λ ys. filter t ys ≡ filter s (cond (t x) (x ∷ filter t xs) (filter t xs)))
-      (λ es. cond_both (t x) (x ∷ filter t xs) (filter t xs) (λ zs. filter t (x ∷ filter s xs) ≡ filter s zs)
-        (λ et. rw (et, es) (ap (λ (ys : List A). x ∷ ys) h))
-        (λ et. rw et h))
-      (λ es. cond_both (t x) (x ∷ filter t xs) (filter t xs) (λ zs. filter t (filter s xs) ≡ filter s zs)
-        (λ et. rw es h)
-        (λ et. h))
+    (λ es. cond_both (t x) (x ∷ filter t xs) (filter t xs) (λ zs. filter t (x ∷ filter s xs) ≡ filter s zs)
+    (λ et. rw (et, es) (ap (λ (ys : List A). x ∷ ys) h))
+    (λ et. rw et h))
+    (λ es. cond_both (t x) (x ∷ filter t xs) (filter t xs) (λ zs. filter t (filter s xs) ≡ filter s zs)
+    (λ et. rw es h)
+    (λ et. h))
 
 pub held_without : (q : Qos) (i : ℕ) (es : List Entry) → held q (without_entry i es) ≡ without_pair i (held q es)
 held_without q i es =

@@ -1,5 +1,5 @@
 -- Where the client's session is established, or an accepting CONNACK is on its way to it, the server has a session.
-use Rattle.std.proofs.Common.{◌≡◌, ℕ, Bool, true, false, cond, not, ◌&&◌, eqb, Option, Some, None, List, [], ◌∷◌, ◌++◌, length, refl, sym, ap, subst, ◌∙◌}
+use Rattle.std.proofs.Common.{◌≡◌, ℕ, Bool, true, false, not, ◌&&◌, eqb, Option, Some, None, List, [], ◌∷◌, length, refl, sym, subst, ◌∙◌}
 use Rattle.std.proofs.lemmas.Bool.{cond_both}
 use Rattle.mq_topic.specs.declared.qos.Qos.{Qos}
 use Rattle.mq_topic.specs.declared.qos.Qos.TheVariants.{Q0, Q1, Q2}
@@ -18,11 +18,10 @@ use Rattle.mq_end.specs.declared.happening.Happening.TheVariants as happens
 use Rattle.mq_end.specs.declared.reason.CloseReason.TheVariants as reasons
 use Rattle.mq_end.specs.End.{End, Reply, is_up, tells, closes, comes_up, renewed}
 use Rattle.mq_end.specs.Both.{publish_gets, flow_gets, publishes_at}
-use Rattle.mq_end.specs.Client.{connack_gets, client_open_gets, client_up_gets, client_gets_in, connects}
+use Rattle.mq_end.specs.Client.{client_open_gets, client_up_gets, client_gets_in, connects}
 use Rattle.mq_end.specs.Server.{connect_gets, refuses, server_open_gets, server_up_gets, server_gets_in}
-use Rattle.mq_world.specs.declared.side.Side.{Side}
 use Rattle.mq_world.specs.declared.side.Side.TheVariants.{Client, Server}
-use Rattle.mq_world.specs.Half.{Half, Action, Publishes, Arrives, Drops, Leaves, Pings, joined, kept, put, took, arrival, publication, May, moved}
+use Rattle.mq_world.specs.Half.{Half, Action, Publishes, Arrives, Drops, Leaves, Pings, joined, kept, put, arrival, May, moved}
 use Rattle.mq_world.specs.Machine.{Machine, Move, By, Opens, Run, IsAllowed, after, blank_machine, first_packet, opened_client, opened_server}
 use Rattle.mq_world.proofs.Lists.{Each, each_append}
 use Rattle.mq_world.proofs.Both.{Both, upon}
@@ -90,9 +89,9 @@ joined_no_connack Up q ps a b = each_append IsNoConnack q ps a b
 client_arrival : (st : State) (q : List Packet) (c s : Half) → Marks (upon c st q) s → Marks (arrival q Client (upon c st q)).half s
 client_arrival st [] c s m = m
 client_arrival st (p ∷ rest) c s m = λ k. (
-      client_known st p c (m k).1.0 ∙ (m k).0,
-      kept_no_connack (client_gets_in st p (upon c st []).end).end.state rest (m k).1.1,
-    )
+  client_known st p c (m k).1.0 ∙ (m k).0,
+  kept_no_connack (client_gets_in st p (upon c st []).end).end.state rest (m k).1.1,
+)
 
 published_known : (q : Qos) (i : ℕ) (m : Message) (e : End) → (publishes_at q i m e).end.known ≡ e.known
 published_known Q0 i m e = refl
@@ -129,8 +128,8 @@ Tells h r = r.end.known ≡ false → (h.end.known ≡ false) × Each IsNoConnac
 connect_tells : (c : Connect) (h : Half) → Tells h (connect_gets c (upon h Open []).end)
 connect_tells c h =
     cond_both (not c.clean_session && eqb (length c.client_id) 0) (refuses IdentifierRejected (upon h Open []).end)
-      (comes_up (packets.ConnAck (connacks.Accepted (not c.clean_session && h.end.known)) ∷ []) (not c.clean_session && h.end.known) (record (renewed c.clean_session (upon h Open []).end) { keep_alive = c.keep_alive }))
-      (Tells h) (λ t k. (k, (tt, tt))) (λ f k. absurd (true_not k))
+    (comes_up (packets.ConnAck (connacks.Accepted (not c.clean_session && h.end.known)) ∷ []) (not c.clean_session && h.end.known) (record (renewed c.clean_session (upon h Open []).end) { keep_alive = c.keep_alive }))
+    (Tells h) (λ t k. (k, (tt, tt))) (λ f k. absurd (true_not k))
   where
     true_not : true ≡ false → ⊥
     true_not e = cc
@@ -177,7 +176,7 @@ after_marks limit capacity w (By Client action) may kc ks m =
     subst P (sym kc) (λ may. client_marks limit capacity action w.client.end.state w.client.coming w.client w.server may m) may
 after_marks limit capacity w (By Server action) may kc ks m =
     let P : Bool → Type 0 = λ b. May limit capacity Server action (record w.server { end = record w.server.end { clean = b } })
-          → Marks (put (moved Server action (record w.server { end = record w.server.end { clean = b } })).out w.client) (moved Server action (record w.server { end = record w.server.end { clean = b } })).half in
+    → Marks (put (moved Server action (record w.server { end = record w.server.end { clean = b } })).out w.client) (moved Server action (record w.server { end = record w.server.end { clean = b } })).half in
     subst P (sym ks) (λ may. server_marks limit capacity action w.server.end.state w.server.coming w.client w.server may m) may
 after_marks limit capacity w Opens may kc ks m =
     let P : Bool → Bool → Type 0 = λ b d. Marks (opened_client (record w.client { end = record w.client.end { clean = b } })) (opened_server (connects first_packet w.client.end).out (record w.server { end = record w.server.end { clean = d } })) in

@@ -1,5 +1,5 @@
 -- What stands in a set of numbers after an insertion and a removal.
-use Rattle.std.proofs.Common.{◌≡◌, ℕ, Bool, true, false, not, ◌&&◌, ◌||◌, eqb, refl, sym, ap, subst, ◌∙◌, arith}
+use Rattle.std.proofs.Common.{◌≡◌, ℕ, true, false, not, ◌&&◌, ◌||◌, ap, ◌∙◌}
 use Rattle.std.proofs.lemmas.Bool.{ne_eqb}
 use Rattle.std.specs.FinSet.{FinSet, insert, remove, contains, contains-insert, contains-remove}
 use Rattle.std.specs.Ordering.{nat_cmp}

@@ -1,13 +1,11 @@
 -- Places in a list: walks, what stands there, and what was freed.
-use Rattle.std.proofs.Common.{◌≡◌, ℕ, zero, suc, ◌+◌, ◌<◌, ◌≤◌, max, Bool, true, false, cond, not, ◌&&◌, ◌||◌, eqb, Option, Some, None, List, [], ◌∷◌, ◌++◌, map, length, slice_get, ◌⊎◌, refl, sym, ap, subst, ◌∙◌, arith, append_assoc, append-nil, inl, inr}
-use Rattle.std.proofs.lemmas.Bool.{cases_eq, cases_lt, ne_eqb, cond_both}
-use Rattle.std.proofs.lemmas.Bool.Decides.{nat_tests}
-use Rattle.std.proofs.lemmas.List.{map-append, length-append}
+use Rattle.std.proofs.Common.{◌≡◌, ℕ, zero, suc, ◌+◌, ◌<◌, ◌≤◌, max, Bool, true, false, cond, ◌||◌, eqb, Some, List, [], ◌∷◌, ◌++◌, length, slice_get, refl, sym, ap, subst, ◌∙◌, arith, inl, inr}
+use Rattle.std.proofs.lemmas.Bool.{cases_eq, cases_lt, ne_eqb}
 use Rattle.mq_packet.specs.declared.message.Message.{Message}
 use Rattle.mq_flow.specs.Sender.{times}
 use Rattle.mq_flow.proofs.Counting.{eqb_self, times_same, times_other}
 use Rattle.mq_world.specs.Half.{is_given, last_place}
-use Rattle.mq_world.specs.Orders.{WalkFrom, Walk, IsAt, In, AllIn, is_among, others_from, messages, Beginning, Part}
+use Rattle.mq_world.specs.Orders.{WalkFrom, Walk, IsAt, In, AllIn, is_among, others_from, Part}
 use Rattle.mq_world.proofs.Lists.{Each, ids}
 
 -- one past the greatest place
@@ -131,23 +129,23 @@ pub part_more : (xs ys : List Message) (y : Message) → Part xs ys → Part xs 
 part_more [] ys y h = tt
 part_more (x ∷ xs) [] y h = absurd h
 part_more (x ∷ xs) (z ∷ ys) y h = elim h [
-      | inl t ↦ inl (t.0, part_more xs ys y t.1)
-      | inr t ↦ inr (part_more (x ∷ xs) ys y t)
-    ]
+  | inl t ↦ inl (t.0, part_more xs ys y t.1)
+  | inr t ↦ inr (part_more (x ∷ xs) ys y t)
+]
 
 pub part_both : (xs ys : List Message) (y : Message) → Part xs ys → Part (xs ++ y ∷ []) (ys ++ y ∷ [])
 part_both [] [] y h = inl (refl, tt)
 part_both [] (z ∷ ys) y h = inr (part_both [] ys y tt)
 part_both (x ∷ xs) [] y h = absurd h
 part_both (x ∷ xs) (z ∷ ys) y h = elim h [
-      | inl t ↦ inl (t.0, part_both xs ys y t.1)
-      | inr t ↦ inr (part_both (x ∷ xs) ys y t)
-    ]
+  | inl t ↦ inl (t.0, part_both xs ys y t.1)
+  | inr t ↦ inr (part_both (x ∷ xs) ys y t)
+]
 
 pub part_front : (xs zs ys : List Message) → Part (xs ++ zs) ys → Part xs ys
 part_front [] zs ys h = tt
 part_front (x ∷ xs) zs [] h = absurd h
 part_front (x ∷ xs) zs (y ∷ ys) h = elim h [
-      | inl t ↦ inl (t.0, part_front xs zs ys t.1)
-      | inr t ↦ inr (part_front (x ∷ xs) zs ys t)
-    ]
+  | inl t ↦ inl (t.0, part_front xs zs ys t.1)
+  | inr t ↦ inr (part_front (x ∷ xs) zs ys t)
+]

@@ -1,5 +1,5 @@
 -- What of a message's flow is in a queue.
-use Rattle.std.proofs.Common.{◌≡◌, ℕ, Bool, true, false, cond, Option, Some, None, List, [], ◌∷◌, ◌++◌, map, filter, refl, sym, ap, subst, ◌∙◌, append_assoc, append-nil}
+use Rattle.std.proofs.Common.{◌≡◌, ℕ, false, cond, Option, Some, None, List, [], ◌∷◌, ◌++◌, map, filter, refl, ap, ◌∙◌, append-nil}
 use Rattle.std.specs.List.{filter_map, cons_option}
 use Rattle.std.proofs.lemmas.List.Elements.{filter_map-append}
 use Rattle.mq_topic.specs.declared.qos.Qos.{Qos}
@@ -219,19 +219,19 @@ first_of_entries (e ∷ es) =
 
 no_zeroth : (e : Entry) → as_zeroth (publish_packet e.id e.sent e.message) ≡ None
 no_zeroth e = elim e.message.qos as (λ q. zeroth_of q (Some (record { id = e.id; dup = e.sent })) e.message ≡ None) [
-      | Q0 ↦ refl
-      | Q1 ↦ refl
-      | Q2 ↦ refl
-    ]
+  | Q0 ↦ refl
+  | Q1 ↦ refl
+  | Q2 ↦ refl
+]
 
 resent_of : {A : Type 0} (f : Packet → Option A) (before : List Packet) (b : SenderBook) (xs ys : List A) → filter_map f before ≡ [] → filter_map f (map packets.PubRel b.released) ≡ xs
     → filter_map f (map (λ (e : Entry). publish_packet e.id e.sent e.message) b.entries) ≡ ys → filter_map f (before ++ resent b) ≡ xs ++ ys
 resent_of {A} f before b xs ys none e g =
     filter_map-append f before (resent b)
-      ∙ (ap (λ (q : List A). q ++ filter_map f (resent b)) none
-      ∙ (filter_map-append f (map packets.PubRel b.released) (map (λ (e : Entry). publish_packet e.id e.sent e.message) b.entries)
-      ∙ (ap (λ (q : List A). q ++ filter_map f (map (λ (e : Entry). publish_packet e.id e.sent e.message) b.entries)) e
-      ∙ ap (λ (q : List A). xs ++ q) g)))
+    ∙ (ap (λ (q : List A). q ++ filter_map f (resent b)) none
+    ∙ (filter_map-append f (map packets.PubRel b.released) (map (λ (e : Entry). publish_packet e.id e.sent e.message) b.entries)
+    ∙ (ap (λ (q : List A). q ++ filter_map f (map (λ (e : Entry). publish_packet e.id e.sent e.message) b.entries)) e
+    ∙ ap (λ (q : List A). xs ++ q) g)))
 
 pub resent_answers : (before : List Packet) (b : SenderBook) → answers before ≡ no_answers → answers (before ++ resent b) ≡ no_answers
 resent_answers before b none =

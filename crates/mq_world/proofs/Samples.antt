@@ -1,9 +1,8 @@
 -- Runs that the machine has.
-use Rattle.std.proofs.Common.{◌≡◌, ℕ, true, false, Some, None, List, [], ◌∷◌, refl, sym, ap, subst, ◌∙◌, arith}
+use Rattle.std.proofs.Common.{refl, arith}
 use Rattle.std.specs.FinSet.{contains-empty}
 use Rattle.std.specs.Ordering.{nat_cmp}
-use Rattle.mq_world.specs.Machine.{Machine, Move, Run, blank_machine}
-use Rattle.mq_world.specs.Examples.{Examples, after_all, pubrec_lost, puback_lost, dropped_inside}
+use Rattle.mq_world.specs.Examples.{Examples}
 use Rattle.mq_world.proofs.Members.{insert_same}
 
 pub samples : Examples

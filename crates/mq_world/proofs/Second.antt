@@ -1,15 +1,14 @@
 -- Exactly once, from one side to the other, over lists alone.
-use Rattle.std.proofs.Common.{◌≡◌, ℕ, zero, suc, ◌+◌, ◌<◌, ◌≤◌, Bool, true, false, cond, not, ◌&&◌, ◌||◌, eqb, List, [], ◌∷◌, ◌++◌, map, length, refl, sym, ap, subst, ◌∙◌, arith, append_assoc, append-nil, map-id, inl, inr}
-use Rattle.std.proofs.lemmas.Bool.{cases_eq, ne_eqb}
+use Rattle.std.proofs.Common.{◌≡◌, ℕ, ◌+◌, ◌≤◌, Bool, true, false, cond, List, [], ◌∷◌, ◌++◌, map, refl, sym, ap, subst, ◌∙◌, arith, append_assoc, map-id, inl, inr}
+use Rattle.std.proofs.lemmas.Bool.{cases_eq}
 use Rattle.std.proofs.lemmas.List.{map-append}
 use Rattle.std.specs.FinSet as FinSet
 use Rattle.std.specs.Ordering.{nat_cmp}
 use Rattle.mq_packet.specs.declared.message.Message.{Message}
-use Rattle.mq_flow.specs.Sender.{times, without}
-use Rattle.mq_flow.proofs.Counting.{times_append, eqb_self, times_same, times_other, without_same, without_other, without_first}
+use Rattle.mq_flow.specs.Sender.{times}
+use Rattle.mq_flow.proofs.Counting.{times_append, times_same, times_other}
 use Rattle.mq_end.specs.declared.state.State.{State}
 use Rattle.mq_end.specs.declared.state.State.TheVariants.{Closed, Open, Up}
-use Rattle.mq_end.specs.End.{is_up, is_live}
 use Rattle.mq_world.specs.Half.{joined}
 use Rattle.mq_world.specs.Orders.{messages}
 use Rattle.mq_world.proofs.Stages.{Stages, TakesIn, Again, New, Answered, Answer}
@@ -197,12 +196,12 @@ accepts {x} {y} {E} {L} {S} i m pb2 h fresh e = record {
   l = h.l;
   has = h.has;
   hasnt = λ j q. elim (cases_eq i j) [
-      | inl same ↦ subst (λ (k : ℕ). FinSet.contains S k ≡ false) same (not_stored (FinSet.contains S i) (λ t. let o = h.only i t in let s = split_times h i in absurd (omega arith)))
-      | inr other ↦
-          let s = times_ids j h.W ((i, m) ∷ []) in
-          let o = times_other j i [] other in
-          h.hasnt j (omega arith)
-    ];
+    | inl same ↦ subst (λ (k : ℕ). FinSet.contains S k ≡ false) same (not_stored (FinSet.contains S i) (λ t. let o = h.only i t in let s = split_times h i in absurd (omega arith)))
+    | inr other ↦
+        let s = times_ids j h.W ((i, m) ∷ []) in
+        let o = times_other j i [] other in
+        h.hasnt j (omega arith)
+  ];
   only = h.only;
   done = h.done;
   acc = ap (λ (q : List Message). q ++ m ∷ []) h.acc ∙ (append_assoc h.gone (messages E) (m ∷ []) ∙ ap (λ (q : List Message). h.gone ++ q) (sym (map-append (λ (p : ℕ × Message). p.1) E ((i, m) ∷ []))));
@@ -222,65 +221,65 @@ takes_publish {x} {E} {L} {S} {rc} {cp} {rest} {rl} {A} {H} i m h once t is =
       | Again front back split now ↦
           let there : 1 ≤ times i (ids h.K) = subst (λ (q : List (ℕ × Message)). 1 ≤ times i (ids q)) (sym split) (in_middle i front back (i, m) refl) in
           subst (λ (b : Bool). Second x Up E L (FinSet.insert S i) (joined x rc (i ∷ [])) cp rest rl A (cond b H (H ++ m ∷ []))) (sym (h.has i there) ∙ is)
-            (record {
-              K = h.K;
-              W = h.W;
-              LK = h.LK;
-              LW = h.LW;
-              gone = h.gone;
-              parts = h.parts;
-              lparts = h.lparts;
-              e = now;
-              l = h.l;
-              has = λ j q. more j (h.has j q);
-              hasnt = λ j q. insert_other S i j (λ same. let o = once i in let s = split_times h i in let u : 1 ≤ times i (ids h.W) = subst (λ (k : ℕ). 1 ≤ times k (ids h.W)) same q in absurd (omega arith)) ∙ h.hasnt j q;
-              only = λ j q. elim (cases_eq j i) [
-                  | inl same ↦ let u : 1 ≤ times j (ids h.K) = subst (λ (k : ℕ). 1 ≤ times k (ids h.K)) (sym same) there in omega arith
-                  | inr other ↦ h.only j (sym (insert_other S i j other) ∙ q)
-                ];
-              done = λ j q. insert_other S i j (λ same. let o = once i in let s = split_times h i in let d = done_released h i in let u : 1 ≤ times i cp = subst (λ (k : ℕ). 1 ≤ times k cp) same q in absurd (omega arith)) ∙ h.done j q;
-              acc = h.acc;
-              hand = h.hand;
-            })
+          (record {
+            K = h.K;
+            W = h.W;
+            LK = h.LK;
+            LW = h.LW;
+            gone = h.gone;
+            parts = h.parts;
+            lparts = h.lparts;
+            e = now;
+            l = h.l;
+            has = λ j q. more j (h.has j q);
+            hasnt = λ j q. insert_other S i j (λ same. let o = once i in let s = split_times h i in let u : 1 ≤ times i (ids h.W) = subst (λ (k : ℕ). 1 ≤ times k (ids h.W)) same q in absurd (omega arith)) ∙ h.hasnt j q;
+            only = λ j q. elim (cases_eq j i) [
+              | inl same ↦ let u : 1 ≤ times j (ids h.K) = subst (λ (k : ℕ). 1 ≤ times k (ids h.K)) (sym same) there in omega arith
+              | inr other ↦ h.only j (sym (insert_other S i j other) ∙ q)
+            ];
+            done = λ j q. insert_other S i j (λ same. let o = once i in let s = split_times h i in let d = done_released h i in let u : 1 ≤ times i cp = subst (λ (k : ℕ). 1 ≤ times k cp) same q in absurd (omega arith)) ∙ h.done j q;
+            acc = h.acc;
+            hand = h.hand;
+          })
       | New later split now ↦
           let s0 : (j : ℕ) → times j (ids h.W) ≡ times j (i ∷ ids later) = λ j. ap (λ (q : List (ℕ × Message)). times j (ids q)) split in
           let here : 1 ≤ times i (ids h.W) = let a = s0 i in let b = times_same i (ids later) in omega arith in
           let kk : (j : ℕ) → times j (ids (h.K ++ (i, m) ∷ [])) ≡ times j (ids h.K) + times j (i ∷ []) = λ j. times_ids j h.K ((i, m) ∷ []) in
           subst (λ (b : Bool). Second x Up E L (FinSet.insert S i) (joined x rc (i ∷ [])) cp rest rl A (cond b H (H ++ m ∷ []))) (sym (h.hasnt i here) ∙ is)
-            (record {
-              K = h.K ++ (i, m) ∷ [];
-              W = later;
-              LK = h.LK;
-              LW = h.LW;
-              gone = h.gone;
-              parts = h.parts ∙ (ap (λ (q : List (ℕ × Message)). h.K ++ q) split ∙ sym (append_assoc h.K ((i, m) ∷ []) later));
-              lparts = h.lparts;
-              e = now;
-              l = h.l;
-              has = λ j q. elim (cases_eq j i) [
-                  | inl same ↦ subst (λ (k : ℕ). FinSet.contains (FinSet.insert S i) k ≡ true) (sym same) (insert_same S i)
-                  | inr other ↦ let a = kk j in let b = times_other j i [] (λ z. other (sym z)) in insert_other S i j other ∙ h.has j (omega arith)
-                ];
-              hasnt = λ j q.
+          (record {
+            K = h.K ++ (i, m) ∷ [];
+            W = later;
+            LK = h.LK;
+            LW = h.LW;
+            gone = h.gone;
+            parts = h.parts ∙ (ap (λ (q : List (ℕ × Message)). h.K ++ q) split ∙ sym (append_assoc h.K ((i, m) ∷ []) later));
+            lparts = h.lparts;
+            e = now;
+            l = h.l;
+            has = λ j q. elim (cases_eq j i) [
+              | inl same ↦ subst (λ (k : ℕ). FinSet.contains (FinSet.insert S i) k ≡ true) (sym same) (insert_same S i)
+              | inr other ↦ let a = kk j in let b = times_other j i [] (λ z. other (sym z)) in insert_other S i j other ∙ h.has j (omega arith)
+            ];
+            hasnt = λ j q.
                 let a = s0 j in
                 let ne : j ≡ i → ⊥ = λ same. let o = once i in let s = split_times h i in let b = s0 i in let c = times_same i (ids later) in let u : 1 ≤ times i (ids later) = subst (λ (k : ℕ). 1 ≤ times k (ids later)) same q in absurd (omega arith) in
                 let b = times_other j i (ids later) (λ z. ne (sym z)) in
                 insert_other S i j ne ∙ h.hasnt j (omega arith);
-              only = λ j q. elim (cases_eq j i) [
-                  | inl same ↦ let a = kk i in let b = times_same i [] in let u : 1 ≤ times i (ids (h.K ++ (i, m) ∷ [])) + times i L = omega arith in subst (λ (k : ℕ). 1 ≤ times k (ids (h.K ++ (i, m) ∷ [])) + times k L) (sym same) u
-                  | inr other ↦ let a = kk j in let o = h.only j (sym (insert_other S i j other) ∙ q) in omega arith
-                ];
-              done = λ j q. insert_other S i j (λ same. let o = once i in let s = split_times h i in let d = done_released h i in let u : 1 ≤ times i cp = subst (λ (k : ℕ). 1 ≤ times k cp) same q in absurd (omega arith)) ∙ h.done j q;
-              acc = h.acc;
-              hand = ap (λ (q : List Message). q ++ m ∷ []) h.hand ∙ (append_assoc h.gone (messages h.K) (m ∷ []) ∙ ap (λ (q : List Message). h.gone ++ q) (sym (map-append (λ (p : ℕ × Message). p.1) h.K ((i, m) ∷ []))));
-            })
+            only = λ j q. elim (cases_eq j i) [
+              | inl same ↦ let a = kk i in let b = times_same i [] in let u : 1 ≤ times i (ids (h.K ++ (i, m) ∷ [])) + times i L = omega arith in subst (λ (k : ℕ). 1 ≤ times k (ids (h.K ++ (i, m) ∷ [])) + times k L) (sym same) u
+              | inr other ↦ let a = kk j in let o = h.only j (sym (insert_other S i j other) ∙ q) in omega arith
+            ];
+            done = λ j q. insert_other S i j (λ same. let o = once i in let s = split_times h i in let d = done_released h i in let u : 1 ≤ times i cp = subst (λ (k : ℕ). 1 ≤ times k cp) same q in absurd (omega arith)) ∙ h.done j q;
+            acc = h.acc;
+            hand = ap (λ (q : List Message). q ++ m ∷ []) h.hand ∙ (append_assoc h.gone (messages h.K) (m ∷ []) ∙ ap (λ (q : List Message). h.gone ++ q) (sym (map-append (λ (p : ℕ × Message). p.1) h.K ((i, m) ∷ []))));
+          })
     ]
   where
     more : (j : ℕ) → FinSet.contains S j ≡ true → FinSet.contains (FinSet.insert S i) j ≡ true
     more j q = elim (cases_eq j i) [
-          | inl same ↦ subst (λ (k : ℕ). FinSet.contains (FinSet.insert S i) k ≡ true) (sym same) (insert_same S i)
-          | inr other ↦ insert_other S i j other ∙ q
-        ]
+      | inl same ↦ subst (λ (k : ℕ). FinSet.contains (FinSet.insert S i) k ≡ true) (sym same) (insert_same S i)
+      | inr other ↦ insert_other S i j other ∙ q
+    ]
 
 -- ---- a PUBREL comes
 
@@ -300,13 +299,13 @@ forgets {x} {E} {L} {S} {rc} {cp} i rest cp2 LK2 LW2 h once there split now few 
   has = λ j q. remove_other S i j (λ same. let o = once i in let s = split_times h i in let u : 1 ≤ times i (ids h.K) = subst (λ (k : ℕ). 1 ≤ times k (ids h.K)) same q in absurd (omega arith)) ∙ h.has j q;
   hasnt = λ j q. remove_other S i j (λ same. let o = once i in let s = split_times h i in let u : 1 ≤ times i (ids h.W) = subst (λ (k : ℕ). 1 ≤ times k (ids h.W)) same q in absurd (omega arith)) ∙ h.hasnt j q;
   only = λ j q. elim (cases_eq j i) [
-      | inl same ↦ let bad : true ≡ false = sym q ∙ subst (λ (k : ℕ). FinSet.contains (FinSet.remove S i) k ≡ false) (sym same) (remove_same S i) in absurd (true_not bad)
-      | inr other ↦ h.only j (sym (remove_other S i j other) ∙ q)
-    ];
+    | inl same ↦ let bad : true ≡ false = sym q ∙ subst (λ (k : ℕ). FinSet.contains (FinSet.remove S i) k ≡ false) (sym same) (remove_same S i) in absurd (true_not bad)
+    | inr other ↦ h.only j (sym (remove_other S i j other) ∙ q)
+  ];
   done = λ j q. elim (cases_eq j i) [
-      | inl same ↦ subst (λ (k : ℕ). FinSet.contains (FinSet.remove S i) k ≡ false) (sym same) (remove_same S i)
-      | inr other ↦ let f = few j in let o = times_other j i [] (λ z. other (sym z)) in remove_other S i j other ∙ h.done j (omega arith)
-    ];
+    | inl same ↦ subst (λ (k : ℕ). FinSet.contains (FinSet.remove S i) k ≡ false) (sym same) (remove_same S i)
+    | inr other ↦ let f = few j in let o = times_other j i [] (λ z. other (sym z)) in remove_other S i j other ∙ h.done j (omega arith)
+  ];
   acc = h.acc;
   hand = h.hand;
 }
@@ -392,12 +391,12 @@ takes_pubcomp {y} {E} {L} {S} {rc} {rest} {pb} {rl} {A} {H} i h =
             has = h.has;
             hasnt = h.hasnt;
             only = λ j q. elim (cases_eq j i) [
-                | inl z ↦
-                    let one : 1 ≤ times i (i ∷ rest) = let t = times_same i rest in omega arith in
-                    let off : FinSet.contains S j ≡ false = subst (λ (k : ℕ). FinSet.contains S k ≡ false) (sym z) (h.done i one) in
-                    absurd (true_not (sym q ∙ off))
-                | inr other ↦ let o = h.only j q in let s = ap (times j) whole in let t = times_other j i (later ++ h.LW) (λ z. other (sym z)) in omega arith
-              ];
+              | inl z ↦
+                  let one : 1 ≤ times i (i ∷ rest) = let t = times_same i rest in omega arith in
+                  let off : FinSet.contains S j ≡ false = subst (λ (k : ℕ). FinSet.contains S k ≡ false) (sym z) (h.done i one) in
+                  absurd (true_not (sym q ∙ off))
+              | inr other ↦ let o = h.only j q in let s = ap (times j) whole in let t = times_other j i (later ++ h.LW) (λ z. other (sym z)) in omega arith
+            ];
             done = λ j q. h.done j (let t = times_append j (i ∷ []) rest in omega arith);
             acc = h.acc;
             hand = h.hand;

@@ -2,7 +2,7 @@
 -- Each item of the book is in one of five stages, which follow one another in the order of the book:
 -- R: y took it in, and its answer is on its way; N: y took it in, nothing is on its way; Z: y took it in before, and it is on
 -- its way again; T: it is on its way for the first time; U: it is not on its way.
-use Rattle.std.proofs.Common.{◌≡◌, ℕ, zero, suc, ◌+◌, ◌<◌, ◌≤◌, Bool, true, false, not, ◌&&◌, ◌||◌, List, [], ◌∷◌, ◌++◌, map, length, refl, sym, ap, subst, ◌∙◌, arith, append_assoc, append-nil}
+use Rattle.std.proofs.Common.{◌≡◌, ℕ, ◌≤◌, Bool, true, false, not, ◌&&◌, ◌||◌, List, [], ◌∷◌, ◌++◌, map, refl, sym, ap, subst, ◌∙◌, arith, append_assoc, append-nil}
 use Rattle.std.proofs.lemmas.List.{map-append}
 use Rattle.mq_flow.specs.Sender.{times}
 use Rattle.mq_flow.proofs.Counting.{times_append}

@@ -1,5 +1,5 @@
 -- Each move keeps what holds between two sides.
-use Rattle.std.proofs.Common.{◌≡◌, ℕ, zero, suc, ◌+◌, ◌<◌, ◌≤◌, Bool, true, false, cond, not, ◌&&◌, Option, Some, None, List, [], ◌∷◌, ◌++◌, map, length, refl, sym, ap, subst, ◌∙◌, arith, append-nil}
+use Rattle.std.proofs.Common.{◌≡◌, ℕ, ◌+◌, Bool, true, false, cond, not, ◌&&◌, Some, None, List, [], ◌∷◌, ◌++◌, length, refl, sym, subst, ◌∙◌, arith, append-nil}
 use Rattle.std.proofs.lemmas.Bool.{cond_both}
 use Rattle.mq_topic.specs.declared.qos.Qos.{Qos}
 use Rattle.mq_topic.specs.declared.qos.Qos.TheVariants.{Q0, Q1, Q2}
@@ -10,24 +10,23 @@ use Rattle.mq_packet.specs.declared.connack.ConnAck.TheVariants as connacks
 use Rattle.mq_packet.specs.declared.packet.Packet.{Packet}
 use Rattle.mq_packet.specs.declared.packet.Packet.TheVariants as packets
 use Rattle.mq_flow.specs.declared.entry.Entry.{Entry}
-use Rattle.mq_flow.specs.Sender.{SenderBook, times, uses, held, IsFree, accept, release, without_claim, awaits_suback, awaits_unsuback, publish_packet}
-use Rattle.mq_flow.specs.Laws.{IsSound, IdentifierLaws}
+use Rattle.mq_flow.specs.Sender.{SenderBook, times, held, IsFree, accept, release, without_claim, awaits_suback, awaits_unsuback}
+use Rattle.mq_flow.specs.Laws.{IsSound}
 use Rattle.mq_flow.proofs.Books.{laws as books, times_uses}
 use Rattle.mq_end.specs.declared.state.State.{State}
 use Rattle.mq_end.specs.declared.state.State.TheVariants.{Closed, Open, Up}
 use Rattle.mq_end.specs.declared.happening.Happening.TheVariants as happens
 use Rattle.mq_end.specs.declared.reason.CloseReason.TheVariants as reasons
-use Rattle.mq_end.specs.declared.refusal.PublishRefusal.{PublishRefusal}
 use Rattle.mq_end.specs.declared.refusal.PublishRefusal.TheVariants as refusals
-use Rattle.mq_end.specs.End.{End, Reply, is_up, silent, tells, closes, comes_up}
-use Rattle.mq_end.specs.Both.{flow_gets, has_identifier, publish_refusal, publishes}
+use Rattle.mq_end.specs.End.{End, is_up, tells, closes, comes_up}
+use Rattle.mq_end.specs.Both.{has_identifier, publish_refusal}
 use Rattle.mq_end.specs.Client.{connack_gets, client_open_gets, client_up_gets, client_gets_in, connects}
-use Rattle.mq_end.specs.Server.{connect_gets, server_open_gets, server_up_gets, server_gets_in, server_publish_refusal, opens}
-use Rattle.mq_end.specs.Laws.{MayHave, SoundLaws}
+use Rattle.mq_end.specs.Server.{connect_gets, server_open_gets, server_up_gets, server_gets_in}
+use Rattle.mq_end.specs.Laws.{MayHave}
 use Rattle.mq_end.proofs.Soundness.{laws as sound}
 use Rattle.mq_world.specs.declared.side.Side.{Side}
 use Rattle.mq_world.specs.declared.side.Side.TheVariants.{Client, Server}
-use Rattle.mq_world.specs.Half.{Half, Outcome, Action, Publishes, Arrives, Drops, Leaves, Pings, joined, kept, put, took, arrival, publication, accepted_with, refusal, May, moved, gets}
+use Rattle.mq_world.specs.Half.{Half, Action, Publishes, Arrives, Drops, Leaves, Pings, joined, put, arrival, publication, accepted_with, refusal, May, moved}
 use Rattle.mq_world.specs.Machine.{first_packet, opened_client, opened_server}
 use Rattle.mq_world.proofs.Stages.{When}
 use Rattle.mq_world.proofs.Stages as stages
@@ -36,8 +35,8 @@ use Rattle.mq_world.proofs.Second.{Second}
 use Rattle.mq_world.proofs.Second as second
 use Rattle.mq_world.proofs.First.{First, Zeroth, zeroth_lost, zeroth_accepts}
 use Rattle.mq_world.proofs.First as first
-use Rattle.mq_world.proofs.Queues.{Answers, Flight, answers, flight, no_answers, no_flight, same_answers, same_flight, zeroth_joins, first_joins, second_joins, packet_0, packet_1, packet_2}
-use Rattle.mq_world.proofs.Both.{IsPlain, IsSent, IsHeld, OwnOf, Ways, Both, turned, finish, upon, close_keeps, up_keeps, calm_keeps}
+use Rattle.mq_world.proofs.Queues.{answers, flight, no_answers, no_flight, same_answers, same_flight, zeroth_joins, first_joins, second_joins, packet_0, packet_1, packet_2}
+use Rattle.mq_world.proofs.Both.{IsPlain, IsSent, IsHeld, OwnOf, Both, finish, upon, close_keeps, up_keeps, calm_keeps}
 use Rattle.mq_world.proofs.Flows.{Keeps, flow_keeps}
 
 -- ---- the client takes a packet in
@@ -46,8 +45,8 @@ connack_keeps : (capacity : ℕ) (h y : Half) (a : ConnAck) (rest : List Packet)
 connack_keeps capacity h y (connacks.Refused code) rest b = close_keeps capacity h y Open (packets.ConnAck (connacks.Refused code) ∷ rest) rest [] None refl refl tt b
 connack_keeps capacity h y (connacks.Accepted present) rest b =
     cond_both (h.end.known && not present) (closes reasons.SessionLost (upon h Open rest).end) (comes_up [] present (upon h Open rest).end) (Keeps capacity (upon h Open (packets.ConnAck (connacks.Accepted present) ∷ rest)) rest y)
-      (λ t. close_keeps capacity h y Open (packets.ConnAck (connacks.Accepted present) ∷ rest) rest [] None refl refl tt b)
-      (λ f. up_keeps capacity h y (packets.ConnAck (connacks.Accepted present)) rest [] h.end.keep_alive refl refl tt refl refl b)
+    (λ t. close_keeps capacity h y Open (packets.ConnAck (connacks.Accepted present) ∷ rest) rest [] None refl refl tt b)
+    (λ f. up_keeps capacity h y (packets.ConnAck (connacks.Accepted present)) rest [] h.end.keep_alive refl refl tt refl refl b)
 
 client_open_keeps : (capacity : ℕ) (h y : Half) (p : Packet) (rest : List Packet) → Both capacity (upon h Open (p ∷ rest)) y → Keeps capacity (upon h Open (p ∷ rest)) rest y (client_open_gets p (upon h Open rest).end)
 client_open_keeps capacity h y (packets.ConnAck a) rest b = connack_keeps capacity h y a rest b
@@ -56,12 +55,12 @@ client_open_keeps capacity h y p rest b = close_keeps capacity h y Open (p ∷ r
 client_up_keeps : (capacity : ℕ) (h y : Half) (p : Packet) (rest : List Packet) → Both capacity (upon h Up (p ∷ rest)) y → Keeps capacity (upon h Up (p ∷ rest)) rest y (client_up_gets p (upon h Up rest).end)
 client_up_keeps capacity h y (packets.SubAck i codes) rest b =
     cond_both (awaits_suback i (length codes) h.end.book) (tells (happens.SubAck i codes) (record (upon h Up rest).end { book = release i h.end.book })) (closes reasons.Unexpected (upon h Up rest).end) (Keeps capacity (upon h Up (packets.SubAck i codes ∷ rest)) rest y)
-      (λ t. calm_keeps capacity h y Up (packets.SubAck i codes) rest [] (without_claim i h.end.book.claimed) refl refl tt refl refl (books.releases capacity i h.end.book b.own_x.0) b)
-      (λ f. close_keeps capacity h y Up (packets.SubAck i codes ∷ rest) rest [] None refl refl tt b)
+    (λ t. calm_keeps capacity h y Up (packets.SubAck i codes) rest [] (without_claim i h.end.book.claimed) refl refl tt refl refl (books.releases capacity i h.end.book b.own_x.0) b)
+    (λ f. close_keeps capacity h y Up (packets.SubAck i codes ∷ rest) rest [] None refl refl tt b)
 client_up_keeps capacity h y (packets.UnsubAck i) rest b =
     cond_both (awaits_unsuback i h.end.book) (tells (happens.UnsubAck i) (record (upon h Up rest).end { book = release i h.end.book })) (closes reasons.Unexpected (upon h Up rest).end) (Keeps capacity (upon h Up (packets.UnsubAck i ∷ rest)) rest y)
-      (λ t. calm_keeps capacity h y Up (packets.UnsubAck i) rest [] (without_claim i h.end.book.claimed) refl refl tt refl refl (books.releases capacity i h.end.book b.own_x.0) b)
-      (λ f. close_keeps capacity h y Up (packets.UnsubAck i ∷ rest) rest [] None refl refl tt b)
+    (λ t. calm_keeps capacity h y Up (packets.UnsubAck i) rest [] (without_claim i h.end.book.claimed) refl refl tt refl refl (books.releases capacity i h.end.book b.own_x.0) b)
+    (λ f. close_keeps capacity h y Up (packets.UnsubAck i ∷ rest) rest [] None refl refl tt b)
 client_up_keeps capacity h y packets.PingResp rest b = calm_keeps capacity h y Up packets.PingResp rest [] h.end.book.claimed refl refl tt refl refl b.own_x.0 b
 client_up_keeps capacity h y p rest b = flow_keeps capacity h y p rest b
 
@@ -69,13 +68,13 @@ client_up_keeps capacity h y p rest b = flow_keeps capacity h y p rest b
 closed_keeps : (capacity : ℕ) (h y : Half) (q : List Packet) → Both capacity (upon h Closed q) y → Both capacity (upon h Closed []) (put [] y)
 closed_keeps capacity h y q b =
     finish capacity (upon h Closed q) y (upon h Closed []) [] (answers y.coming) (flight y.coming) (same_answers y.end.state y.coming [] refl) (same_flight y.end.state y.coming [] refl)
-      (second.sender_drops b.to_y.0, first.sender_drops b.to_y.1, b.to_y.2)
-      (second.receiver_drops b.to_x.0, first.receiver_drops b.to_x.1, zeroth_lost _ _ _ b.to_x.2)
-      b.own_x
-      refl
-      tt
-      tt
-      b
+    (second.sender_drops b.to_y.0, first.sender_drops b.to_y.1, b.to_y.2)
+    (second.receiver_drops b.to_x.0, first.receiver_drops b.to_x.1, zeroth_lost _ _ _ b.to_x.2)
+    b.own_x
+    refl
+    tt
+    tt
+    b
 
 client_keeps : (capacity : ℕ) (h y : Half) (st : State) (p : Packet) (rest : List Packet) → Both capacity (upon h st (p ∷ rest)) y → Keeps capacity (upon h st (p ∷ rest)) rest y (client_gets_in st p (upon h st rest).end)
 client_keeps capacity h y Closed p rest b = closed_keeps capacity h y (p ∷ rest) b
@@ -120,14 +119,14 @@ arrival_keeps capacity Server h y st (p ∷ rest) b = server_keeps capacity h y 
 published_0 : (capacity : ℕ) (h y : Half) (st : State) (q : List Packet) (i : ℕ) (m : Message) → Both capacity (upon h st q) y → Both capacity (publication i (record m { qos = Q0 }) (upon h st q)).half (put (publication i (record m { qos = Q0 }) (upon h st q)).out y)
 published_0 capacity h y st q i m b =
     finish capacity (upon h st q) y (publication i (record m { qos = Q0 }) (upon h st q)).half (packet_0 m ∷ []) (answers y.coming) (record { pub2 = (flight y.coming).pub2; pub1 = (flight y.coming).pub1; rel = (flight y.coming).rel; msg = joined y.end.state (flight y.coming).msg (record m { qos = Q0 } ∷ []) })
-      (same_answers y.end.state y.coming (packet_0 m ∷ []) refl) (zeroth_joins y.end.state y.coming m)
-      (b.to_y.0, b.to_y.1, zeroth_accepts y.end.state _ _ _ (record m { qos = Q0 }) b.to_y.2)
-      b.to_x
-      b.own_x
-      refl
-      b.queue_x
-      (tt, tt)
-      b
+    (same_answers y.end.state y.coming (packet_0 m ∷ []) refl) (zeroth_joins y.end.state y.coming m)
+    (b.to_y.0, b.to_y.1, zeroth_accepts y.end.state _ _ _ (record m { qos = Q0 }) b.to_y.2)
+    b.to_x
+    b.own_x
+    refl
+    b.queue_x
+    (tt, tt)
+    b
 
 -- what is held with one more message
 held_1 : (es : List Entry) (i : ℕ) (m : Message) (sent : Bool) → held Q1 (es ++ record { id = i; message = record m { qos = Q1 }; sent = sent } ∷ []) ≡ held Q1 es ++ (i, record m { qos = Q1 }) ∷ []
@@ -155,38 +154,36 @@ down_1 : (capacity : ℕ) (h y : Half) (st : State) (q : List Packet) (i : ℕ) 
     → Both capacity (record (upon h st q) { end = record (upon h st q).end { book = accept i (record m { qos = Q1 }) false h.end.book }; accepted = accepted_with Q1 i (record m { qos = Q1 }) h.accepted }) (put [] y)
 down_1 capacity h y st q i m down s b =
     finish capacity (upon h st q) y (record (upon h st q) { end = record (upon h st q).end { book = accept i (record m { qos = Q1 }) false h.end.book }; accepted = accepted_with Q1 i (record m { qos = Q1 }) h.accepted }) []
-      (answers y.coming) (flight y.coming) (same_answers y.end.state y.coming [] refl) (same_flight y.end.state y.coming [] refl)
-      (
-        subst (λ (E : List (ℕ × Message)). Second st y.end.state E h.end.book.released y.end.received (answers q).rec (answers q).comp (flight y.coming).pub2 (flight y.coming).rel h.accepted.exactly_once y.handed.exactly_once) (sym (held_1_other h.end.book.entries i m false)) b.to_y.0,
-        subst (λ (E : List (ℕ × Message)). First st y.end.state E (answers q).ack (flight y.coming).pub1 (h.accepted.at_least_once ++ (i, record m { qos = Q1 }) ∷ []) y.handed.at_least_once h.freed) (sym (held_1 h.end.book.entries i m false))
+    (answers y.coming) (flight y.coming) (same_answers y.end.state y.coming [] refl) (same_flight y.end.state y.coming [] refl) (
+      subst (λ (E : List (ℕ × Message)). Second st y.end.state E h.end.book.released y.end.received (answers q).rec (answers q).comp (flight y.coming).pub2 (flight y.coming).rel h.accepted.exactly_once y.handed.exactly_once) (sym (held_1_other h.end.book.entries i m false)) b.to_y.0,
+      subst (λ (E : List (ℕ × Message)). First st y.end.state E (answers q).ack (flight y.coming).pub1 (h.accepted.at_least_once ++ (i, record m { qos = Q1 }) ∷ []) y.handed.at_least_once h.freed) (sym (held_1 h.end.book.entries i m false))
           (first.accepts i (record m { qos = Q1 }) (flight y.coming).pub1 b.to_y.1 (stages.accepted_down _ _ _ _ _ _ _ (i, record m { qos = Q1 }) down b.to_y.1.e)),
-        b.to_y.2,
-      )
-      b.to_x
-      (unsent_own capacity st h.end.book (record { id = i; message = record m { qos = Q1 }; sent = false }) down refl b.own_x s)
-      refl
-      b.queue_x
-      tt
-      b
+      b.to_y.2,
+    )
+    b.to_x
+    (unsent_own capacity st h.end.book (record { id = i; message = record m { qos = Q1 }; sent = false }) down refl b.own_x s)
+    refl
+    b.queue_x
+    tt
+    b
 
 up_1 : (capacity : ℕ) (h y : Half) (q : List Packet) (i : ℕ) (m : Message) → IsSound capacity (accept i (record m { qos = Q1 }) true h.end.book) → Both capacity (upon h Up q) y
     → Both capacity (record (upon h Up q) { end = record (upon h Up q).end { book = accept i (record m { qos = Q1 }) true h.end.book }; accepted = accepted_with Q1 i (record m { qos = Q1 }) h.accepted }) (put (packet_1 i m ∷ []) y)
 up_1 capacity h y q i m s b =
     finish capacity (upon h Up q) y (record (upon h Up q) { end = record (upon h Up q).end { book = accept i (record m { qos = Q1 }) true h.end.book }; accepted = accepted_with Q1 i (record m { qos = Q1 }) h.accepted }) (packet_1 i m ∷ [])
-      (answers y.coming) (record { pub2 = (flight y.coming).pub2; pub1 = joined y.end.state (flight y.coming).pub1 ((i, record m { qos = Q1 }) ∷ []); rel = (flight y.coming).rel; msg = (flight y.coming).msg })
-      (same_answers y.end.state y.coming (packet_1 i m ∷ []) refl) (first_joins y.end.state y.coming i m)
-      (
-        subst (λ (E : List (ℕ × Message)). Second Up y.end.state E h.end.book.released y.end.received (answers q).rec (answers q).comp (flight y.coming).pub2 (flight y.coming).rel h.accepted.exactly_once y.handed.exactly_once) (sym (held_1_other h.end.book.entries i m true)) b.to_y.0,
-        subst (λ (E : List (ℕ × Message)). First Up y.end.state E (answers q).ack (joined y.end.state (flight y.coming).pub1 ((i, record m { qos = Q1 }) ∷ [])) (h.accepted.at_least_once ++ (i, record m { qos = Q1 }) ∷ []) y.handed.at_least_once h.freed) (sym (held_1 h.end.book.entries i m true))
+    (answers y.coming) (record { pub2 = (flight y.coming).pub2; pub1 = joined y.end.state (flight y.coming).pub1 ((i, record m { qos = Q1 }) ∷ []); rel = (flight y.coming).rel; msg = (flight y.coming).msg })
+    (same_answers y.end.state y.coming (packet_1 i m ∷ []) refl) (first_joins y.end.state y.coming i m) (
+      subst (λ (E : List (ℕ × Message)). Second Up y.end.state E h.end.book.released y.end.received (answers q).rec (answers q).comp (flight y.coming).pub2 (flight y.coming).rel h.accepted.exactly_once y.handed.exactly_once) (sym (held_1_other h.end.book.entries i m true)) b.to_y.0,
+      subst (λ (E : List (ℕ × Message)). First Up y.end.state E (answers q).ack (joined y.end.state (flight y.coming).pub1 ((i, record m { qos = Q1 }) ∷ [])) (h.accepted.at_least_once ++ (i, record m { qos = Q1 }) ∷ []) y.handed.at_least_once h.freed) (sym (held_1 h.end.book.entries i m true))
           (first.accepts i (record m { qos = Q1 }) (joined y.end.state (flight y.coming).pub1 ((i, record m { qos = Q1 }) ∷ [])) b.to_y.1 (stages.accepted_up _ _ _ _ _ _ (i, record m { qos = Q1 }) b.to_y.1.e)),
-        b.to_y.2,
-      )
-      b.to_x
-      (sent_own capacity h.end.book (record { id = i; message = record m { qos = Q1 }; sent = true }) refl refl b.own_x s)
-      refl
-      b.queue_x
-      (tt, tt)
-      b
+      b.to_y.2,
+    )
+    b.to_x
+    (sent_own capacity h.end.book (record { id = i; message = record m { qos = Q1 }; sent = true }) refl refl b.own_x s)
+    refl
+    b.queue_x
+    (tt, tt)
+    b
 
 fresh_2 : (b : SenderBook) (i : ℕ) → IsFree b i → times i (ids (held Q2 b.entries)) + times i b.released ≡ 0
 fresh_2 b i free = let z = free.1 in let e = times_uses i b in let f = times_held i b.entries in omega arith
@@ -195,38 +192,36 @@ down_2 : (capacity : ℕ) (h y : Half) (st : State) (q : List Packet) (i : ℕ) 
     → Both capacity (record (upon h st q) { end = record (upon h st q).end { book = accept i (record m { qos = Q2 }) false h.end.book }; accepted = accepted_with Q2 i (record m { qos = Q2 }) h.accepted }) (put [] y)
 down_2 capacity h y st q i m down free s b =
     finish capacity (upon h st q) y (record (upon h st q) { end = record (upon h st q).end { book = accept i (record m { qos = Q2 }) false h.end.book }; accepted = accepted_with Q2 i (record m { qos = Q2 }) h.accepted }) []
-      (answers y.coming) (flight y.coming) (same_answers y.end.state y.coming [] refl) (same_flight y.end.state y.coming [] refl)
-      (
-        subst (λ (E : List (ℕ × Message)). Second st y.end.state E h.end.book.released y.end.received (answers q).rec (answers q).comp (flight y.coming).pub2 (flight y.coming).rel (h.accepted.exactly_once ++ record m { qos = Q2 } ∷ []) y.handed.exactly_once) (sym (held_2 h.end.book.entries i m false))
+    (answers y.coming) (flight y.coming) (same_answers y.end.state y.coming [] refl) (same_flight y.end.state y.coming [] refl) (
+      subst (λ (E : List (ℕ × Message)). Second st y.end.state E h.end.book.released y.end.received (answers q).rec (answers q).comp (flight y.coming).pub2 (flight y.coming).rel (h.accepted.exactly_once ++ record m { qos = Q2 } ∷ []) y.handed.exactly_once) (sym (held_2 h.end.book.entries i m false))
           (second.accepts i (record m { qos = Q2 }) (flight y.coming).pub2 b.to_y.0 (fresh_2 h.end.book i free) (stages.accepted_down _ _ _ _ _ _ _ (i, record m { qos = Q2 }) down b.to_y.0.e)),
-        subst (λ (E : List (ℕ × Message)). First st y.end.state E (answers q).ack (flight y.coming).pub1 h.accepted.at_least_once y.handed.at_least_once h.freed) (sym (held_2_other h.end.book.entries i m false)) b.to_y.1,
-        b.to_y.2,
-      )
-      b.to_x
-      (unsent_own capacity st h.end.book (record { id = i; message = record m { qos = Q2 }; sent = false }) down refl b.own_x s)
-      refl
-      b.queue_x
-      tt
-      b
+      subst (λ (E : List (ℕ × Message)). First st y.end.state E (answers q).ack (flight y.coming).pub1 h.accepted.at_least_once y.handed.at_least_once h.freed) (sym (held_2_other h.end.book.entries i m false)) b.to_y.1,
+      b.to_y.2,
+    )
+    b.to_x
+    (unsent_own capacity st h.end.book (record { id = i; message = record m { qos = Q2 }; sent = false }) down refl b.own_x s)
+    refl
+    b.queue_x
+    tt
+    b
 
 up_2 : (capacity : ℕ) (h y : Half) (q : List Packet) (i : ℕ) (m : Message) → IsFree h.end.book i → IsSound capacity (accept i (record m { qos = Q2 }) true h.end.book) → Both capacity (upon h Up q) y
     → Both capacity (record (upon h Up q) { end = record (upon h Up q).end { book = accept i (record m { qos = Q2 }) true h.end.book }; accepted = accepted_with Q2 i (record m { qos = Q2 }) h.accepted }) (put (packet_2 i m ∷ []) y)
 up_2 capacity h y q i m free s b =
     finish capacity (upon h Up q) y (record (upon h Up q) { end = record (upon h Up q).end { book = accept i (record m { qos = Q2 }) true h.end.book }; accepted = accepted_with Q2 i (record m { qos = Q2 }) h.accepted }) (packet_2 i m ∷ [])
-      (answers y.coming) (record { pub2 = joined y.end.state (flight y.coming).pub2 ((i, record m { qos = Q2 }) ∷ []); pub1 = (flight y.coming).pub1; rel = (flight y.coming).rel; msg = (flight y.coming).msg })
-      (same_answers y.end.state y.coming (packet_2 i m ∷ []) refl) (second_joins y.end.state y.coming i m)
-      (
-        subst (λ (E : List (ℕ × Message)). Second Up y.end.state E h.end.book.released y.end.received (answers q).rec (answers q).comp (joined y.end.state (flight y.coming).pub2 ((i, record m { qos = Q2 }) ∷ [])) (flight y.coming).rel (h.accepted.exactly_once ++ record m { qos = Q2 } ∷ []) y.handed.exactly_once) (sym (held_2 h.end.book.entries i m true))
+    (answers y.coming) (record { pub2 = joined y.end.state (flight y.coming).pub2 ((i, record m { qos = Q2 }) ∷ []); pub1 = (flight y.coming).pub1; rel = (flight y.coming).rel; msg = (flight y.coming).msg })
+    (same_answers y.end.state y.coming (packet_2 i m ∷ []) refl) (second_joins y.end.state y.coming i m) (
+      subst (λ (E : List (ℕ × Message)). Second Up y.end.state E h.end.book.released y.end.received (answers q).rec (answers q).comp (joined y.end.state (flight y.coming).pub2 ((i, record m { qos = Q2 }) ∷ [])) (flight y.coming).rel (h.accepted.exactly_once ++ record m { qos = Q2 } ∷ []) y.handed.exactly_once) (sym (held_2 h.end.book.entries i m true))
           (second.accepts i (record m { qos = Q2 }) (joined y.end.state (flight y.coming).pub2 ((i, record m { qos = Q2 }) ∷ [])) b.to_y.0 (fresh_2 h.end.book i free) (stages.accepted_up _ _ _ _ _ _ (i, record m { qos = Q2 }) b.to_y.0.e)),
-        subst (λ (E : List (ℕ × Message)). First Up y.end.state E (answers q).ack (flight y.coming).pub1 h.accepted.at_least_once y.handed.at_least_once h.freed) (sym (held_2_other h.end.book.entries i m true)) b.to_y.1,
-        b.to_y.2,
-      )
-      b.to_x
-      (sent_own capacity h.end.book (record { id = i; message = record m { qos = Q2 }; sent = true }) refl refl b.own_x s)
-      refl
-      b.queue_x
-      (tt, tt)
-      b
+      subst (λ (E : List (ℕ × Message)). First Up y.end.state E (answers q).ack (flight y.coming).pub1 h.accepted.at_least_once y.handed.at_least_once h.freed) (sym (held_2_other h.end.book.entries i m true)) b.to_y.1,
+      b.to_y.2,
+    )
+    b.to_x
+    (sent_own capacity h.end.book (record { id = i; message = record m { qos = Q2 }; sent = true }) refl refl b.own_x s)
+    refl
+    b.queue_x
+    (tt, tt)
+    b
 
 published_keeps : (limit capacity : ℕ) (h y : Half) (st : State) (q : List Packet) (i : ℕ) (qos : Qos) (m : Message) → publish_refusal limit capacity (record m { qos = qos }) (upon h st q).end ≡ None → MayHave (has_identifier qos) (upon h st q).end i → Both capacity (upon h st q) y
     → Both capacity (publication i (record m { qos = qos }) (upon h st q)).half (put (publication i (record m { qos = qos }) (upon h st q)).out y)
@@ -258,7 +253,7 @@ move_keeps limit capacity side Pings h y st q may b = still_keeps capacity (upon
 pub moved_keeps : (limit capacity : ℕ) (side : Side) (action : Action) (x y : Half) → May limit capacity side action x → Both capacity x y → Both capacity (moved side action x).half (put (moved side action x).out y)
 moved_keeps limit capacity side action x y may b =
     let P : Bool → Type 0 = λ c. May limit capacity side action (record x { end = record x.end { clean = c } }) → Both capacity (record x { end = record x.end { clean = c } }) y
-          → Both capacity (moved side action (record x { end = record x.end { clean = c } })).half (put (moved side action (record x { end = record x.end { clean = c } })).out y) in
+    → Both capacity (moved side action (record x { end = record x.end { clean = c } })).half (put (moved side action (record x { end = record x.end { clean = c } })).out y) in
     subst P (sym b.kept_x) (move_keeps limit capacity side action x y x.end.state x.coming) may b
 
 -- ---- a new connection
@@ -278,6 +273,6 @@ opens_keep capacity h g st rt q r b = record {
 pub opened_keeps : (capacity : ℕ) (x y : Half) → Both capacity x y → Both capacity (opened_client x) (opened_server (connects first_packet x.end).out y)
 opened_keeps capacity x y b =
     let P : Bool → Bool → Type 0 = λ c d. Both capacity (record x { end = record x.end { clean = c } }) (record y { end = record y.end { clean = d } })
-          → Both capacity (opened_client (record x { end = record x.end { clean = c } })) (opened_server (connects first_packet (record x { end = record x.end { clean = c } }).end).out (record y { end = record y.end { clean = d } })) in
+    → Both capacity (opened_client (record x { end = record x.end { clean = c } })) (opened_server (connects first_packet (record x { end = record x.end { clean = c } }).end).out (record y { end = record y.end { clean = d } })) in
     let half : P false y.end.clean = subst (λ (d : Bool). P false d) (sym b.kept_y) (opens_keep capacity x y x.end.state y.end.state x.coming y.coming) in
     subst (λ (c : Bool). P c y.end.clean) (sym b.kept_x) half b

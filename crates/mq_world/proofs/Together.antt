@@ -1,5 +1,5 @@
 -- Packets that come at once are as many arrivals.
-use Rattle.std.proofs.Common.{◌≡◌, ℕ, zero, suc, ◌+◌, Bool, true, false, cond, List, [], ◌∷◌, ◌++◌, map, length, refl, sym, ap, subst, ◌∙◌, arith, append_assoc, append-nil}
+use Rattle.std.proofs.Common.{◌≡◌, ℕ, zero, suc, cond, List, [], ◌∷◌, ◌++◌, length, refl, sym, ap, subst, ◌∙◌, append_assoc, append-nil}
 use Rattle.mq_topic.specs.declared.qos.Qos.{Qos}
 use Rattle.mq_topic.specs.declared.qos.Qos.TheVariants.{Q0, Q1, Q2}
 use Rattle.mq_packet.specs.declared.message.Message.{Message}
@@ -10,11 +10,9 @@ use Rattle.mq_end.specs.declared.state.State.TheVariants.{Closed, Open, Up}
 use Rattle.mq_end.specs.declared.happening.Happening.{Happening}
 use Rattle.mq_end.specs.declared.happening.Happening.TheVariants as happens
 use Rattle.mq_end.specs.End.{End, Reply, silent, followed, one_by_one}
-use Rattle.mq_end.specs.Client.{client_gets, client_gets_all}
-use Rattle.mq_end.specs.Server.{server_gets, server_gets_all}
 use Rattle.mq_world.specs.declared.side.Side.{Side}
 use Rattle.mq_world.specs.declared.side.Side.TheVariants.{Client, Server}
-use Rattle.mq_world.specs.Half.{Half, Outcome, Arrives, HandedOn, joined, kept, put, took, told, freed_with, last_place, arrival, moved, gets}
+use Rattle.mq_world.specs.Half.{Half, Arrives, joined, kept, put, took, told, freed_with, last_place, moved, gets}
 use Rattle.mq_world.specs.Machine.{Machine, By, after}
 use Rattle.mq_world.specs.Settling.{arrivals}
 use Rattle.mq_world.specs.AtOnce.{AtOnceLaw}
@@ -78,7 +76,7 @@ after_both rest q x y r s =
 
 first_comes : (side : Side) (p : Packet) (ps rest : List Packet) (h y : Half) (st : State) → ((x y : Half) → x.coming ≡ kept x.end.state (ps ++ rest) → arrive_at (length ps) side x y ≡ result rest x y (one_by_one (gets side) ps x.end))
     → arrive_at (length (p ∷ ps)) side (record h { end = record h.end { state = st }; coming = kept st (p ∷ (ps ++ rest)) }) y
-      ≡ result rest (record h { end = record h.end { state = st }; coming = kept st (p ∷ (ps ++ rest)) }) y (one_by_one (gets side) (p ∷ ps) (record h.end { state = st }))
+    ≡ result rest (record h { end = record h.end { state = st }; coming = kept st (p ∷ (ps ++ rest)) }) y (one_by_one (gets side) (p ∷ ps) (record h.end { state = st }))
 first_comes side p ps rest h y Closed next =
     let e : End = record h.end { state = Closed } in
     let x : Half = record h { end = e; coming = [] } in

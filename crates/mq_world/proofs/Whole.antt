@@ -1,22 +1,22 @@
 -- The run, from the start, and the headline.
-use Rattle.std.proofs.Common.{◌≡◌, ℕ, zero, suc, ◌+◌, ◌<◌, ◌≤◌, Bool, true, false, cond, not, List, [], ◌∷◌, ◌++◌, map, length, refl, sym, ap, subst, ◌∙◌, arith, append_assoc}
+use Rattle.std.proofs.Common.{◌≡◌, ℕ, ◌+◌, Bool, true, false, List, [], ◌∷◌, ◌++◌, length, refl, sym, ap, subst, ◌∙◌, arith, append_assoc}
 use Rattle.std.proofs.lemmas.List.{map-append, length-append, length-map}
 use Rattle.std.specs.FinSet as FinSet
 use Rattle.std.specs.Ordering.{nat_cmp}
-use Rattle.mq_topic.specs.declared.qos.Qos.TheVariants.{Q0, Q1, Q2}
+use Rattle.mq_topic.specs.declared.qos.Qos.TheVariants.{Q1, Q2}
 use Rattle.mq_packet.specs.declared.message.Message.{Message}
 use Rattle.mq_flow.specs.Sender.{held, IsFree}
-use Rattle.mq_flow.specs.Laws.{IsSound, IsGiven, IdentifierLaws}
+use Rattle.mq_flow.specs.Laws.{IsSound, IsGiven}
 use Rattle.mq_flow.proofs.Books.{laws as books}
 use Rattle.mq_end.specs.Both.{has_identifier}
-use Rattle.mq_end.specs.Laws.{MayHave, SoundLaws}
+use Rattle.mq_end.specs.Laws.{MayHave}
 use Rattle.mq_end.proofs.Soundness.{laws as sound}
 use Rattle.mq_world.specs.declared.side.Side.{Side}
 use Rattle.mq_world.specs.declared.side.Side.TheVariants.{Client, Server}
-use Rattle.mq_world.specs.Half.{Half, Action, Publishes, moved, put}
+use Rattle.mq_world.specs.Half.{Half, Publishes}
 use Rattle.mq_world.specs.Machine.{Machine, Move, By, Opens, Run, IsAllowed, after, blank_machine}
 use Rattle.mq_world.specs.Orders.{messages, others_from}
-use Rattle.mq_world.specs.Headline.{AtMostOnce, AtLeastOnce, ExactlyOnce, Headline, HeadlineLaw}
+use Rattle.mq_world.specs.Headline.{AtMostOnce, AtLeastOnce, ExactlyOnce, HeadlineLaw}
 use Rattle.mq_world.specs.Identifiers.{half_of, IdentifiersLaw}
 use Rattle.mq_world.proofs.Places.{all_covered, others_gone, others_none, part_front}
 use Rattle.mq_world.proofs.Second as second
@@ -63,10 +63,10 @@ at_least_once x y way =
       are = f.are;
       freed = all_covered f.places x.freed (length f.gone) f.walk (omega arith) f.freed;
       rest =
-        ap (others_from 0 x.freed) f.acc
-        ∙ (others_gone 0 x.freed f.gone (held Q1 x.end.book.entries) (λ j le lt. f.all_freed j (omega arith))
-        ∙ (ap (λ (k : ℕ). others_from k x.freed (held Q1 x.end.book.entries)) zero_more
-        ∙ others_none (length f.gone) x.freed (held Q1 x.end.book.entries) f.freed));
+          ap (others_from 0 x.freed) f.acc
+          ∙ (others_gone 0 x.freed f.gone (held Q1 x.end.book.entries) (λ j le lt. f.all_freed j (omega arith))
+          ∙ (ap (λ (k : ℕ). others_from k x.freed (held Q1 x.end.book.entries)) zero_more
+          ∙ others_none (length f.gone) x.freed (held Q1 x.end.book.entries) f.freed));
     }
   where
     zero_more : 0 + length way.1.gone ≡ length way.1.gone

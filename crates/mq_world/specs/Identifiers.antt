@@ -17,4 +17,4 @@ pub record IdentifiersLaw : Type 0 where
   pub sound : (limit capacity : ℕ) (moves : List Move) (w : Machine) → Run limit capacity blank_machine moves w → (side : Side) → IsSound capacity (half_of side w).end.book
   -- an identifier that a message is given was not in use, and there is room for it
   pub given : (limit capacity i : ℕ) (m : Message) (side : Side) (w : Machine) → IsAllowed limit capacity w (By side (Publishes i m)) → has_identifier m.qos ≡ true
-    → IsGiven capacity (half_of side w).end.book (half_of side (after w (By side (Publishes i m)))).end.book i
+      → IsGiven capacity (half_of side w).end.book (half_of side (after w (By side (Publishes i m)))).end.book i

@@ -1,5 +1,5 @@
 -- Two sides that are joined by two queues of packets, and what may happen.
-use Rattle.std.specs.Prelude.{ℕ, ◌≡◌, Bool, true, false, Option, None, List, [], ◌∷◌}
+use Rattle.std.specs.Prelude.{ℕ, ◌≡◌, false, None, List, [], ◌∷◌}
 use Rattle.mq_packet.specs.declared.connect.Connect.{Connect}
 use Rattle.mq_packet.specs.declared.packet.Packet.{Packet}
 use Rattle.mq_end.specs.Client.{connects}

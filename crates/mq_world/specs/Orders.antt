@@ -1,5 +1,5 @@
 -- How one list stands to another.
-use Rattle.std.specs.Prelude.{ℕ, ◌+◌, ◌≡◌, ◌≤◌, max, Bool, true, false, ◌||◌, ◌==◌, if◌then◌else◌, ◌⊎◌, Option, Some, List, [], ◌∷◌, ◌++◌, map, slice_get}
+use Rattle.std.specs.Prelude.{ℕ, ◌+◌, ◌≡◌, ◌≤◌, max, Bool, false, ◌||◌, ◌==◌, if◌then◌else◌, ◌⊎◌, Some, List, [], ◌∷◌, ◌++◌, map, slice_get}
 use Rattle.mq_packet.specs.declared.message.Message.{Message}
 
 -- y is x followed by some list

@@ -3,7 +3,7 @@ use Rattle.std.specs.Prelude.{ℕ, zero, suc, ◌≡◌, ◌<◌, List, [], leng
 use Rattle.mq_packet.specs.declared.packet.Packet.{Packet}
 use Rattle.mq_world.specs.declared.side.Side.{Side}
 use Rattle.mq_world.specs.declared.side.Side.TheVariants.{Client, Server}
-use Rattle.mq_world.specs.Half.{Half, Action, Arrives}
+use Rattle.mq_world.specs.Half.{Half, Arrives}
 use Rattle.mq_world.specs.Machine.{Machine, Move, By, Opens, Run, after, blank_machine}
 use Rattle.mq_world.specs.Orders.{Walk, IsAt, In, messages}
 
