@@ -28,6 +28,10 @@ pub record End : Type 0 where
 abbrev pub blank_end : End
 blank_end = record { book = blank_book; received = none_received; state = Closed; known = false; clean = false; keep_alive = 0 }
 
+-- an end that goes on with a session of before, its claims freed; known says how it counts
+abbrev pub resumed : Bool → SenderBook → ReceiverBook → End
+resumed known book received = record { book = no_claims book; received = received; state = Closed; known = known; clean = false; keep_alive = 0 }
+
 -- What comes of a packet or of a call: the end after it, the packets that it puts out in order, what it tells its user,
 -- the identifiers whose message of quality of service 1 is acknowledged, and why the connection is closed, where it is.
 pub record Reply : Type 0 where

@@ -1,25 +1,30 @@
--- Whatever an end takes in and whatever its user asks, its book stays sound.
-use Rattle.std.specs.Prelude.{ℕ, ◌≡◌, Bool, true, false, None, List}
+-- What an end keeps, whatever it takes in and whatever its user asks.
+use Rattle.std.specs.Prelude.{ℕ, ◌≡◌, Bool, true, false, None, Some, List}
 use Rattle.mq_packet.specs.declared.connect.Connect.{Connect}
 use Rattle.mq_packet.specs.declared.message.Message.{Message}
 use Rattle.mq_packet.specs.declared.packet.Packet.{Packet}
 use Rattle.mq_packet.specs.declared.packet.Request.{Request}
-use Rattle.mq_flow.specs.Sender.{IsFree}
+use Rattle.mq_flow.specs.Sender.{IsFree, blank_book, no_claims}
+use Rattle.mq_flow.specs.Receiver.{none_received}
 use Rattle.mq_flow.specs.Laws.{IsSound, IsGiven}
-use Rattle.mq_end.specs.End.{End, drops}
+use Rattle.mq_end.specs.declared.reason.CloseReason.{CloseReason}
+use Rattle.mq_end.specs.declared.state.State.TheVariants.{Closed}
+use Rattle.mq_end.specs.End.{End, drops, over, silent}
 use Rattle.mq_end.specs.Both.{publishes, publish_refusal, has_identifier}
-use Rattle.mq_end.specs.Client.{client_gets, connects, subscribes, unsubscribes, subscribe_refusal, unsubscribe_refusal, leaves}
-use Rattle.mq_end.specs.Server.{server_gets, opens}
+use Rattle.mq_end.specs.Client.{client_gets, client_gets_all, connects, subscribes, unsubscribes, subscribe_refusal, unsubscribe_refusal, leaves}
+use Rattle.mq_end.specs.Server.{server_gets, server_gets_all, opens, level_refused}
+use Rattle.mq_end.specs.KeepAlive.{server_ticks}
 
--- an identifier is free, where the message has one
+-- an identifier is free, where the message has one (2.3.1)
 abbrev pub MayHave : Bool → End → ℕ → Type 0
 MayHave true e i = IsFree e.book i
 MayHave false e i = Unit {0}
 
--- the end's book is sound
+-- the identifiers in use at the end are sound (2.3.1)
 abbrev pub IsSoundEnd : ℕ → End → Type 0
 IsSoundEnd capacity e = IsSound capacity e.book
 
+-- Whatever an end takes in and whatever its user asks, its book stays sound.
 pub record SoundLaws : Type 0 where
   pub client : (capacity : ℕ) (p : Packet) (e : End) → IsSoundEnd capacity e → IsSoundEnd capacity (client_gets p e).end
   pub server : (capacity : ℕ) (p : Packet) (e : End) → IsSoundEnd capacity e → IsSoundEnd capacity (server_gets p e).end
@@ -31,3 +36,18 @@ pub record SoundLaws : Type 0 where
   pub opened : (capacity : ℕ) (e : End) → IsSoundEnd capacity e → IsSoundEnd capacity (opens e).end
   pub leave : (capacity : ℕ) (e : End) → IsSoundEnd capacity e → IsSoundEnd capacity (leaves e).end
   pub drop : (capacity : ℕ) (e : End) → IsSoundEnd capacity e → IsSoundEnd capacity (drops e).end
+
+-- Where a packet or a call closes the connection, the session is as it was just before, but for the identifiers of SUBSCRIBE
+-- and UNSUBSCRIBE, which are free; and after clean session 1 it ends (3.1.2.4).
+pub record ClosingLaws : Type 0 where
+  pub client : (p : Packet) (e : End) (reason : CloseReason) → (client_gets p e).close ≡ Some reason → (client_gets p e).end ≡ over e
+  pub server : (p : Packet) (e : End) (reason : CloseReason) → (server_gets p e).close ≡ Some reason → (server_gets p e).end ≡ over e
+  pub level : (e : End) → (level_refused e).end ≡ over e
+  pub late : (last now : ℕ) (e : End) (reason : CloseReason) → (server_ticks last now e).close ≡ Some reason → (server_ticks last now e).end ≡ over e
+  pub leave : (e : End) → (leaves e).end ≡ over e
+  pub closed : (e : End) → (over e).state ≡ Closed
+  pub keeps : (e : End) → e.clean ≡ false → ((over e).book ≡ no_claims e.book) × ((over e).received ≡ e.received) × ((over e).known ≡ e.known)
+  pub discards : (e : End) → e.clean ≡ true → ((over e).book ≡ blank_book) × ((over e).received ≡ none_received) × ((over e).known ≡ false)
+  -- a closed end takes nothing in
+  pub client_ignores : (ps : List Packet) (e : End) → e.state ≡ Closed → client_gets_all ps e ≡ silent e
+  pub server_ignores : (ps : List Packet) (e : End) → e.state ≡ Closed → server_gets_all ps e ≡ silent e

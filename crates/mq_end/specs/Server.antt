@@ -1,5 +1,5 @@
 -- The server end, which belongs to one client: what it does with a packet, and with each call of its user.
-use Rattle.std.specs.Prelude.{ℕ, Bool, true, false, not, ◌&&◌, if◌then◌else◌, Option, Some, None, List, [], ◌∷◌, length, nat_lt, ◌==◌}
+use Rattle.std.specs.Prelude.{ℕ, ◌-◌, Bool, true, false, not, ◌&&◌, if◌then◌else◌, Option, Some, None, List, [], ◌∷◌, length, filter, nat_lt, ◌==◌}
 use Rattle.std.specs.List.{list_any}
 use Rattle.mq_packet.specs.declared.connect.Connect.{Connect}
 use Rattle.mq_packet.specs.declared.connack.ConnAck.TheVariants as connacks
@@ -9,6 +9,7 @@ use Rattle.mq_packet.specs.declared.message.Message.{Message}
 use Rattle.mq_packet.specs.declared.packet.SubAckCode.{SubAckCode}
 use Rattle.mq_packet.specs.declared.packet.Packet.{Packet}
 use Rattle.mq_packet.specs.declared.packet.Packet.TheVariants as packets
+use Rattle.mq_flow.specs.Sender.{uses}
 use Rattle.mq_end.specs.declared.state.State.{State}
 use Rattle.mq_end.specs.declared.state.State.TheVariants.{Closed, Open, Up}
 use Rattle.mq_end.specs.declared.happening.Happening.{Happening}
@@ -17,8 +18,8 @@ use Rattle.mq_end.specs.declared.reason.CloseReason.TheVariants as reasons
 use Rattle.mq_end.specs.declared.refusal.PublishRefusal.{PublishRefusal}
 use Rattle.mq_end.specs.declared.refusal.PublishRefusal.TheVariants as refusals
 use Rattle.mq_end.specs.End.{End, Reply, silent, puts_out, tells, over, closes, closes_after, renewed, comes_up, is_up, one_by_one}
-use Rattle.mq_end.specs.Both.{flow_gets, publish_refusal}
-use Rattle.mq_end.specs.Sizes.{suback_size, unsuback_size}
+use Rattle.mq_end.specs.Both.{flow_gets, has_identifier, publish_refusal}
+use Rattle.mq_end.specs.Sizes.{publish_size, suback_size, unsuback_size}
 
 -- ---- packets
 
@@ -88,6 +89,15 @@ opens e = silent (record (over e) { state = Open })
 -- why a message is refused, the first that stands: there has to be a session for the client (3.1.2.4)
 abbrev pub server_publish_refusal : ℕ → ℕ → Message → End → Option PublishRefusal
 server_publish_refusal limit capacity m e = if e.known then publish_refusal limit capacity m e else Some refusals.NoSession
+
+-- Why not all of these messages could be published one after another, the first that stands: one of them would be refused
+-- for want of a session, of a connection, or for its size; or fewer identifiers are free than messages need one.
+abbrev pub ready_refusal : ℕ → ℕ → List Message → End → Option PublishRefusal
+ready_refusal limit capacity ms e =
+    if list_any (λ m. not e.known) ms then Some refusals.NoSession else
+    (if list_any (λ m. not (has_identifier m.qos) && not (is_up e.state)) ms then Some refusals.NotConnected else
+    (if list_any (λ m. nat_lt limit (publish_size m)) ms then Some refusals.TooLarge else
+    (if nat_lt (capacity - length (uses e.book)) (length (filter (λ m. has_identifier m.qos) ms)) then Some refusals.Full else None)))
 
 -- SUBACK and UNSUBACK answer what the client asked (3.9, 3.11)
 abbrev pub subacks : ℕ → List SubAckCode → End → Reply

@@ -10,7 +10,7 @@ mod refusal;
 mod state;
 
 pub use crate::happening::Happening;
-pub use crate::laws::{keep_alive_laws, sound_laws};
+pub use crate::laws::{closing_laws, keep_alive_laws, sound_laws};
 pub use crate::reason::CloseReason;
 pub use crate::refusal::PublishRefusal;
 pub use crate::state::State;

@@ -1,5 +1,5 @@
 -- Each move keeps the sender's book sound.
-use Rattle.std.proofs.Common.{◌≡◌, ℕ, ◌+◌, ◌<◌, ◌≤◌, Bool, true, false, cond, not, eqb, List, [], ◌∷◌, ◌++◌, map, length, refl, sym, ap, subst, arith, inl, inr}
+use Rattle.std.proofs.Common.{◌≡◌, ℕ, zero, suc, ◌+◌, ◌<◌, ◌≤◌, ◌⊎◌, ◌∙◌, Bool, true, false, cond, not, eqb, List, [], ◌∷◌, ◌++◌, map, length, refl, sym, ap, subst, arith, inl, inr}
 use Rattle.std.proofs.lemmas.Bool.{cases_eq, cond_both}
 use Rattle.std.proofs.lemmas.Bool.Decides.{nat_tests}
 use Rattle.std.proofs.lemmas.List.{length-append, length-map, map-append}
@@ -213,8 +213,43 @@ pub sound_sent : (capacity : ℕ) (b : SenderBook) → IsSound capacity b → Is
 sound_sent capacity b s =
     fewer capacity b (all_sent b) (λ j. let e = ap (times j) (uses_sent b) in omega arith) (let e = ap length (uses_sent b) in omega arith) s
 
+-- ---- a book that is not full has an identifier to give
+
+-- one of the first n numbers does not stand in a list, or the list is as long
+spare : (n : ℕ) (xs : List ℕ) → ((i : ℕ) × (0 < i) × (i ≤ n) × (times i xs ≡ 0)) ⊎ (n ≤ length xs)
+spare zero xs = inr (omega arith)
+spare (suc n) xs =
+    elim (cases_eq (times (suc n) xs) 0) [
+      | inl z ↦ inl (suc n, omega arith, omega arith, z)
+      | inr there ↦
+          let fewer = without_fewer (suc n) xs (omega arith) in
+          elim (spare n (without (suc n) xs)) [
+            | inl f ↦
+                let le : f.0 ≤ n = f.2 in
+                let ne : f.0 ≡ suc n → ⊥ = λ e. absurd (omega arith) in
+                inl (f.0, f.1, omega arith, sym (without_other (suc n) f.0 xs ne) ∙ f.3)
+            | inr l ↦ inr (omega arith)
+          ]
+    ]
+
+free : (capacity : ℕ) (b : SenderBook) → capacity ≤ 65535 → is_full capacity b ≡ false → (i : ℕ) × IsFree b i
+free capacity b le room =
+    let r = has_room capacity b room in
+    elim (spare 65535 (uses b)) [
+      | inl f ↦ let le2 : f.0 ≤ 65535 = f.2 in (f.0, ((f.1, omega arith), f.3))
+      | inr l ↦ absurd (omega arith)
+    ]
+
+full_is : (capacity : ℕ) (b : SenderBook) → is_full capacity b ≡ true → capacity ≤ length (uses b)
+full_is capacity b h = grind (arith, nat_tests)
+
+full_from : (capacity : ℕ) (b : SenderBook) → capacity ≤ length (uses b) → is_full capacity b ≡ true
+full_from capacity b h = grind (arith, nat_tests)
+
 pub laws : IdentifierLaws
 laws = record {
+  free = free;
+  full = λ capacity b. (full_is capacity b, full_from capacity b);
   at_first = at_first;
   accepted = λ capacity i m sent b room free. gives capacity i b (accept i m sent b) room free (λ j. times_accept i j m sent b) (length_accept i m sent b);
   accepts = λ capacity i m sent b room free s. gives_sound capacity i b (accept i m sent b) room free (λ j. times_accept i j m sent b) (length_accept i m sent b) s;

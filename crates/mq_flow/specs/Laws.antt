@@ -1,9 +1,10 @@
 -- What a sender's book keeps, whatever moves it makes.
-use Rattle.std.specs.Prelude.{ℕ, ◌+◌, ◌≤◌, ◌≡◌, Bool, true, false, length, []}
+use Rattle.std.specs.Prelude.{ℕ, ◌+◌, ◌≤◌, ◌≡◌, ◌↔◌, Bool, true, false, length, []}
 use Rattle.mq_topic.specs.declared.qos.Qos.TheVariants.{Q1, Q2}
 use Rattle.mq_packet.specs.Identifier.{IsIdentifier}
 use Rattle.mq_packet.specs.declared.message.Message.{Message}
 use Rattle.mq_flow.specs.declared.claim.Claim.{Claim}
+use Rattle.mq_flow.specs.Receiver.{ReceiverBook, none_received, is_new, on_publish, on_pubrel}
 use Rattle.mq_flow.specs.Sender.{SenderBook, blank_book, uses, times, IsFree, is_full, is_awaited, accept, on_puback, on_pubrec, on_pubcomp, all_sent, claim, release, no_claims, pubrec_answer}
 
 -- The identifiers in use are from 1 to 65,535, each is in use once, and they are at most so many (2.3.1).
@@ -20,8 +21,10 @@ pub record IsGiven (capacity : ℕ) (old new : SenderBook) (i : ℕ) : Type 0 wh
   pub more : length (uses new) ≡ length (uses old) + 1
   pub room : length (uses new) ≤ capacity
 
--- Each move keeps the book sound.
+-- Each move keeps the book sound, and a book that is not full has an identifier to give.
 pub record IdentifierLaws : Type 0 where
+  pub free : (capacity : ℕ) (b : SenderBook) → capacity ≤ 65535 → is_full capacity b ≡ false → (i : ℕ) × IsFree b i
+  pub full : (capacity : ℕ) (b : SenderBook) → is_full capacity b ≡ true ↔ (capacity ≤ length (uses b))
   pub at_first : (capacity : ℕ) → IsSound capacity blank_book
   pub accepted : (capacity i : ℕ) (m : Message) (sent : Bool) (b : SenderBook) → is_full capacity b ≡ false → IsFree b i → IsGiven capacity b (accept i m sent b) i
   pub accepts : (capacity i : ℕ) (m : Message) (sent : Bool) (b : SenderBook) → is_full capacity b ≡ false → IsFree b i → IsSound capacity b → IsSound capacity (accept i m sent b)
@@ -41,3 +44,11 @@ pub record StrayLaws : Type 0 where
   pub puback_frees : (capacity i : ℕ) (b : SenderBook) → IsSound capacity b → is_awaited Q1 i b.entries ≡ true → times i (uses (on_puback i b)) ≡ 0
   pub pubrec_keeps : (capacity i : ℕ) (b : SenderBook) → IsSound capacity b → is_awaited Q2 i b.entries ≡ true → (j : ℕ) → times j (uses (on_pubrec i b)) ≡ times j (uses b)
   pub pubcomp_frees : (capacity i : ℕ) (b : SenderBook) → IsSound capacity b → 1 ≤ times i b.released → times i (uses (on_pubcomp i b)) ≡ 0
+
+-- A receiver tells a message that it stored from a new one, until PUBREL (4.3.3).
+pub record ReceiverLaws : Type 0 where
+  pub at_first : (i : ℕ) → is_new i none_received ≡ true
+  pub stored : (i : ℕ) (r : ReceiverBook) → is_new i (on_publish i r) ≡ false
+  pub forgotten : (i : ℕ) (r : ReceiverBook) → is_new i (on_pubrel i r) ≡ true
+  pub others_stored : (i j : ℕ) (r : ReceiverBook) → (j ≡ i → ⊥) → is_new j (on_publish i r) ≡ is_new j r
+  pub others_forgotten : (i j : ℕ) (r : ReceiverBook) → (j ≡ i → ⊥) → is_new j (on_pubrel i r) ≡ is_new j r

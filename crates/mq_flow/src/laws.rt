@@ -1,9 +1,9 @@
 //! The laws of the sender's book.
 
-ghost use Rattle.mq_flow.specs.Laws.{IdentifierLaws, StrayLaws};
+ghost use Rattle.mq_flow.specs.Laws.{IdentifierLaws, ReceiverLaws, StrayLaws};
 
 /// The identifiers of a sender's book: from 1 to 65,535, each in use once, and at most as many as the
-/// capacity, whatever moves it makes (2.3.1).
+/// capacity, whatever moves it makes; and one that is not full has an identifier to give (2.3.1).
 pub fn identifier_laws()
     ensures { IdentifierLaws }
 {}
@@ -12,4 +12,10 @@ pub fn identifier_laws()
 /// that out of the book (4.3.2, 4.3.3).
 pub fn stray_laws()
     ensures { StrayLaws }
+{}
+
+/// A receiver takes a message of quality of service 2 for a new one exactly until its PUBLISH and again from its
+/// PUBREL (4.3.3).
+pub fn receiver_laws()
+    ensures { ReceiverLaws }
 {}

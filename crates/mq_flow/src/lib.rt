@@ -9,4 +9,4 @@ mod laws;
 
 pub use crate::claim::{Claim, Claimed};
 pub use crate::entry::Entry;
-pub use crate::laws::{identifier_laws, stray_laws};
+pub use crate::laws::{identifier_laws, receiver_laws, stray_laws};
