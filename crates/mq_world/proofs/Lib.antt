@@ -1,7 +1,6 @@
 pub mod Stages
 pub mod Lists
 pub mod Places
-pub mod Members
 pub mod Second
 pub mod First
 pub mod Queues
@@ -14,3 +13,4 @@ pub mod Together
 pub mod Marks
 pub mod Ranks
 pub mod Settle
+pub mod Chains

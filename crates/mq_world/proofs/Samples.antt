@@ -3,7 +3,7 @@ use Rattle.std.proofs.Common.{refl, arith}
 use Rattle.std.specs.FinSet.{contains-empty}
 use Rattle.std.specs.Ordering.{nat_cmp}
 use Rattle.mq_world.specs.Examples.{Examples}
-use Rattle.mq_world.proofs.Members.{insert_same}
+use Rattle.mq_flow.proofs.Members.{insert_same}
 
 pub samples : Examples
 samples = record {

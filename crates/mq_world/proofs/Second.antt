@@ -14,7 +14,7 @@ use Rattle.mq_world.specs.Orders.{messages}
 use Rattle.mq_world.proofs.Stages.{Stages, TakesIn, Again, New, Answered, Answer}
 use Rattle.mq_world.proofs.Stages as stages
 use Rattle.mq_world.proofs.Lists.{ids, times_ids}
-use Rattle.mq_world.proofs.Members.{insert_same, insert_other, remove_same, remove_other}
+use Rattle.mq_flow.proofs.Members.{insert_same, insert_other, remove_same, remove_other}
 
 abbrev pub pair_key : ℕ × Message → ℕ
 pair_key p = p.0

@@ -230,6 +230,10 @@ settles capacity w well =
       to_client = all_handed w3.server w3.client g3.both.to_x o3.1;
       client_same = g3.same_x;
       server_same = g3.same_y;
+      client_up = g3.up_x;
+      server_up = g3.up_y;
+      client_queue = c;
+      server_queue = s;
       client_second = holds_none capacity w2.client w2.server g2.both.own_x g2.both.to_y o2.0;
       server_second = holds_none capacity w2.server w2.client g2.both.own_y g2.both.to_x o2.1;
     }

@@ -6,3 +6,5 @@ pub mod Settling
 pub mod AtOnce
 pub mod Identifiers
 pub mod Examples
+pub mod Runs
+pub mod Sessions

@@ -1,6 +1,7 @@
 -- A new connection and three exchanges settle everything (4.4).
 use Rattle.std.specs.Prelude.{ℕ, zero, suc, ◌≡◌, ◌<◌, List, [], length}
 use Rattle.mq_packet.specs.declared.packet.Packet.{Packet}
+use Rattle.mq_end.specs.declared.state.State.TheVariants.{Up}
 use Rattle.mq_world.specs.declared.side.Side.{Side}
 use Rattle.mq_world.specs.declared.side.Side.TheVariants.{Client, Server}
 use Rattle.mq_world.specs.Half.{Half, Arrives}
@@ -48,6 +49,11 @@ pub record Settles (w : Machine) : Type 0 where
   pub to_client : AllHanded (settled w).server (settled w).client
   pub client_same : (settled w).client.accepted ≡ w.client.accepted
   pub server_same : (settled w).server.accepted ≡ w.server.accepted
+  -- both sides are up, and nothing is on its way
+  pub client_up : (settled w).client.end.state ≡ Up
+  pub server_up : (settled w).server.end.state ≡ Up
+  pub client_queue : (settled w).client.coming ≡ []
+  pub server_queue : (settled w).server.coming ≡ []
   -- after the second exchange neither side holds a message, after the third neither a released identifier
   pub client_second : (exchange (exchange (after w Opens))).client.end.book.entries ≡ []
   pub server_second : (exchange (exchange (after w Opens))).server.end.book.entries ≡ []

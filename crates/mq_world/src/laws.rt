@@ -4,6 +4,8 @@ ghost use Rattle.mq_world.specs.Headline.{HeadlineLaw};
 ghost use Rattle.mq_world.specs.Settling.{SettlingLaw};
 ghost use Rattle.mq_world.specs.AtOnce.{AtOnceLaw};
 ghost use Rattle.mq_world.specs.Identifiers.{IdentifiersLaw};
+ghost use Rattle.mq_world.specs.Runs.{RunsLaw};
+ghost use Rattle.mq_world.specs.Sessions.{SessionsLaw};
 ghost use Rattle.mq_world.specs.Examples.{Examples};
 
 /// Over every run of two ends that keep their sessions, in each direction: the messages of quality of service
@@ -35,4 +37,15 @@ pub fn identifiers()
 /// Runs that the machine has: an acknowledgement lost, a drop in the handshake, a refused message.
 pub fn examples()
     ensures { Examples }
+{}
+
+/// Runs follow one another, and arrivals and settling are runs.
+pub fn runs()
+    ensures { RunsLaw }
+{}
+
+/// Over every run both sides keep their sessions, and where the client's is established the server has one
+/// (3.1.2.4).
+pub fn sessions()
+    ensures { SessionsLaw }
 {}

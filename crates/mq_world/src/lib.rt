@@ -6,5 +6,7 @@
 mod laws;
 mod side;
 
-pub use crate::laws::{arrivals_at_once, examples, headline, identifiers, settling};
+pub use crate::laws::{
+    arrivals_at_once, examples, headline, identifiers, runs, sessions, settling,
+};
 pub use crate::side::Side;
