@@ -15,11 +15,11 @@ use Rattle.mq_end.specs.declared.refusal.PublishRefusal.TheVariants as refusals
 use Rattle.mq_end.specs.End.{End, Reply, silent, puts_out, tells, closes, is_up}
 use Rattle.mq_end.specs.Sizes.{publish_size}
 
--- PUBLISH comes to an end that is up, by the quality of service.
+-- PUBLISH comes to an end that is up, by the quality of service (3.3, 4.3).
 abbrev pub publish_gets : Qos → Option Delivery → Message → End → Reply
 -- at most once: handed on (4.3.1)
 publish_gets Q0 None m e = tells (happens.Handed m) e
--- at least once: handed on, and answered by PUBACK, whatever DUP is (4.3.2)
+-- at least once: each PUBLISH is handed on and acknowledged by PUBACK, a repeated one too (4.3.2)
 publish_gets Q1 (Some d) m e = record {
   end = e;
   out = packets.PubAck d.id ∷ [];
@@ -27,7 +27,7 @@ publish_gets Q1 (Some d) m e = record {
   freed = [];
   close = None;
 }
--- exactly once: the identifier is stored and answered by PUBREC; the message is handed on where it was not stored (4.3.3)
+-- exactly once: the identifier is stored, and PUBREC says so; only a message whose identifier was not stored is handed on (4.3.3)
 publish_gets Q2 (Some d) m e = record {
   end = record e { received = on_publish d.id e.received };
   out = packets.PubRec d.id ∷ [];
@@ -38,7 +38,7 @@ publish_gets Q2 (Some d) m e = record {
 -- there is no other PUBLISH: an identifier stands exactly where the quality of service is over 0 (2.3.1)
 publish_gets qos delivery m e = closes reasons.Unexpected e
 
--- A packet of a message's flow comes to an end that is up.
+-- A packet of a message's flow comes to an end that is up (4.3).
 abbrev pub flow_gets : Packet → End → Reply
 flow_gets (packets.Publish p) e = publish_gets p.message.qos p.delivery p.message e
 -- PUBACK (3.4, 4.3.2)
@@ -74,15 +74,17 @@ publishes_at qos i m e = puts_out
     (if is_up e.state then publish_packet i false m ∷ [] else [])
     (record e { book = accept i m (is_up e.state) e.book })
 
+-- a message is published, by its quality of service (3.3, 4.3)
 abbrev pub publishes : ℕ → Message → End → Reply
 publishes i m e = publishes_at m.qos i m e
 
--- the identifier that the call answers
+-- the identifier that the call answers: there is one where the quality of service is over 0 (2.3.1)
 abbrev pub answered_identifier : Qos → ℕ → Option ℕ
 answered_identifier qos i = if has_identifier qos then Some i else None
 
--- Why a message is refused, the first that stands: with quality of service 0 there has to be a connection that is up; its
--- remaining length is within the limit; and where it has an identifier, there is room for one.
+-- Why a message is refused, the first that stands: with quality of service 0, which is not kept (4.3.1), there has to be a
+-- connection that is up; the remaining length (2.2.3) is within the limit; and a message with an identifier (2.3.1) finds room
+-- for one.
 abbrev pub publish_refusal : ℕ → ℕ → Message → End → Option PublishRefusal
 publish_refusal limit capacity m e =
     if not (has_identifier m.qos) && not (is_up e.state) then Some refusals.NotConnected else

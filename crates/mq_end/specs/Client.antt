@@ -36,6 +36,7 @@ abbrev pub client_open_gets : Packet → End → Reply
 client_open_gets (packets.ConnAck answer) e = connack_gets answer e
 client_open_gets p e = closes reasons.Unexpected e
 
+-- A packet comes to a client that is up.
 abbrev pub client_up_gets : Packet → End → Reply
 -- SUBACK has the identifier of a SUBSCRIBE that waits, and as many codes as it has filters (3.8.4, 3.9)
 client_up_gets (packets.SubAck i codes) e =
@@ -50,17 +51,18 @@ client_up_gets packets.PingResp e = tells happens.Pong e
 -- messages and their acknowledgements; any other packet may not come to a client (4.3, 4.8)
 client_up_gets p e = flow_gets p e
 
+-- a packet comes to a client whose connection is so far
 abbrev pub client_gets_in : State → Packet → End → Reply
 -- without a connection nothing comes
 client_gets_in Closed p e = silent e
 client_gets_in Open p e = client_open_gets p e
 client_gets_in Up p e = client_up_gets p e
 
--- a packet comes to the client
+-- a packet comes to the client (3.2 to 3.13)
 abbrev pub client_gets : Packet → End → Reply
 client_gets p e = client_gets_in e.state p e
 
--- packets come at once
+-- packets come at once, one after another (4.6)
 abbrev pub client_gets_all : List Packet → End → Reply
 client_gets_all ps e = one_by_one client_gets ps e
 
@@ -78,16 +80,18 @@ subscribes i requests e = puts_out (packets.Subscribe i requests ∷ []) (record
 abbrev pub unsubscribes : ℕ → List (List ℕ) → End → Reply
 unsubscribes i filters e = puts_out (packets.Unsubscribe i filters ∷ []) (record e { book = claim i claims.Unsubscribe (length filters) e.book })
 
--- why a packet of this size that takes an identifier is refused, the first that stands
+-- why a packet of this remaining length (2.2.3) that takes an identifier (2.3.1) is refused, the first that stands
 abbrev pub request_refusal : ℕ → ℕ → ℕ → End → Option PublishRefusal
 request_refusal limit capacity size e =
     if not (is_up e.state) then Some refusals.NotConnected else
     (if nat_lt limit size then Some refusals.TooLarge else
     (if is_full capacity e.book then Some refusals.Full else None))
 
+-- why SUBSCRIBE is refused (3.8)
 abbrev pub subscribe_refusal : ℕ → ℕ → List Request → End → Option PublishRefusal
 subscribe_refusal limit capacity requests e = request_refusal limit capacity (subscribe_size requests) e
 
+-- why UNSUBSCRIBE is refused (3.10)
 abbrev pub unsubscribe_refusal : ℕ → ℕ → List (List ℕ) → End → Option PublishRefusal
 unsubscribe_refusal limit capacity filters e = request_refusal limit capacity (unsubscribe_size filters) e
 
@@ -95,5 +99,6 @@ unsubscribe_refusal limit capacity filters e = request_refusal limit capacity (u
 abbrev pub leaves : End → Reply
 leaves e = closes_after (packets.Disconnect ∷ []) reasons.Left e
 
+-- why DISCONNECT is refused (3.14)
 abbrev pub leave_refusal : End → Option PublishRefusal
 leave_refusal e = if is_up e.state then None else Some refusals.NotConnected

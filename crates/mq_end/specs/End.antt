@@ -24,11 +24,11 @@ pub record End : Type 0 where
   pub clean : Bool
   pub keep_alive : ℕ
 
--- an end without a session, and without a connection
+-- an end without a session (3.1.2.4) and without a connection
 abbrev pub blank_end : End
 blank_end = record { book = blank_book; received = none_received; state = Closed; known = false; clean = false; keep_alive = 0 }
 
--- an end that goes on with a session of before, its claims freed; known says how it counts
+-- An end that goes on with a session of before (3.1.2.4), its claimed identifiers freed; known is its mark.
 abbrev pub resumed : Bool → SenderBook → ReceiverBook → End
 resumed known book received = record { book = no_claims book; received = received; state = Closed; known = known; clean = false; keep_alive = 0 }
 
@@ -41,12 +41,13 @@ pub record Reply : Type 0 where
   pub freed : List ℕ
   pub close : Option CloseReason
 
+-- the CONNECT of the connection is accepted (3.2)
 abbrev pub is_up : State → Bool
 is_up Closed = false
 is_up Open = false
 is_up Up = true
 
--- there is a connection
+-- there is a connection (4.2)
 abbrev pub is_live : State → Bool
 is_live Closed = false
 is_live Open = true
@@ -76,10 +77,11 @@ over e = record e {
   clean = false;
 }
 
--- the end closes the connection, after these packets
+-- the end closes the connection (4.8), after these packets
 abbrev pub closes_after : List Packet → CloseReason → End → Reply
 closes_after ps reason e = record { end = over e; out = ps; happenings = []; freed = []; close = Some reason }
 
+-- the end closes the connection, and puts out nothing (4.8)
 abbrev pub closes : CloseReason → End → Reply
 closes reason e = closes_after [] reason e
 
@@ -110,6 +112,7 @@ drops e = silent (over e)
 
 -- ---- packets that come at once
 
+-- the first of two reasons
 abbrev pub first_reason : Option CloseReason → Option CloseReason → Option CloseReason
 first_reason (Some reason) later = Some reason
 first_reason None later = later
@@ -124,7 +127,7 @@ followed r s = record {
   close = first_reason r.close s.close;
 }
 
--- packets come one after another to an end that does this with each
+-- packets come one after another (4.6) to an end that does this with each
 abbrev pub one_by_one : (Packet → End → Reply) → List Packet → End → Reply
 one_by_one does [] e = silent e
 one_by_one does (p ∷ ps) e = followed (does p e) (one_by_one does ps (does p e).end)

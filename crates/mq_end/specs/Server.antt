@@ -47,6 +47,7 @@ abbrev pub server_open_gets : Packet → End → Reply
 server_open_gets (packets.Connect c) e = connect_gets c e
 server_open_gets p e = closes reasons.Unexpected e
 
+-- A packet comes to a server that is up.
 abbrev pub server_up_gets : Packet → End → Reply
 -- SUBSCRIBE and UNSUBSCRIBE are the user's to answer (3.8.4, 3.10.4)
 server_up_gets (packets.Subscribe i requests) e = tells (happens.Subscribe i requests) e
@@ -58,31 +59,33 @@ server_up_gets packets.Disconnect e = closes reasons.Left e
 -- messages and their acknowledgements; any other packet may not come to a server, and no second CONNECT (3.1, 4.3, 4.8)
 server_up_gets p e = flow_gets p e
 
+-- a packet comes to a server whose connection is so far
 abbrev pub server_gets_in : State → Packet → End → Reply
 -- without a connection nothing comes
 server_gets_in Closed p e = silent e
 server_gets_in Open p e = server_open_gets p e
 server_gets_in Up p e = server_up_gets p e
 
--- a packet comes to the server
+-- a packet comes to the server (3.1 to 3.14)
 abbrev pub server_gets : Packet → End → Reply
 server_gets p e = server_gets_in e.state p e
 
--- packets come at once
+-- packets come at once, one after another (4.6)
 abbrev pub server_gets_all : List Packet → End → Reply
 server_gets_all ps e = one_by_one server_gets ps e
 
+-- a message is handed on (4.3)
 abbrev pub is_handed : Happening → Bool
 is_handed (happens.Handed m) = true
 is_handed h = false
 
--- the arrival of the packet would hand a message on
+-- the arrival of the packet would hand a message on (4.3)
 abbrev pub would_hand : Packet → End → Bool
 would_hand p e = list_any is_handed (server_gets p e).happenings
 
 -- ---- calls of its user
 
--- a connection is opened; one that was there is over first
+-- a connection is opened (4.2); one that was there is over first
 abbrev pub opens : End → Reply
 opens e = silent (record (over e) { state = Open })
 
@@ -91,7 +94,8 @@ abbrev pub server_publish_refusal : ℕ → ℕ → Message → End → Option P
 server_publish_refusal limit capacity m e = if e.known then publish_refusal limit capacity m e else Some refusals.NoSession
 
 -- Why not all of these messages could be published one after another, the first that stands: one of them would be refused
--- for want of a session, of a connection, or for its size; or fewer identifiers are free than messages need one.
+-- for want of a session (3.1.2.4), of a connection, or for its size (2.2.3); or fewer identifiers are free than messages need
+-- one (2.3.1).
 abbrev pub ready_refusal : ℕ → ℕ → List Message → End → Option PublishRefusal
 ready_refusal limit capacity ms e =
     if list_any (λ m. not e.known) ms then Some refusals.NoSession else
@@ -99,21 +103,24 @@ ready_refusal limit capacity ms e =
     (if list_any (λ m. nat_lt limit (publish_size m)) ms then Some refusals.TooLarge else
     (if nat_lt (capacity - length (uses e.book)) (length (filter (λ m. has_identifier m.qos) ms)) then Some refusals.Full else None)))
 
--- SUBACK and UNSUBACK answer what the client asked (3.9, 3.11)
+-- SUBACK answers what the client asked (3.9)
 abbrev pub subacks : ℕ → List SubAckCode → End → Reply
 subacks i codes e = puts_out (packets.SubAck i codes ∷ []) e
 
+-- UNSUBACK answers what the client asked (3.11)
 abbrev pub unsubacks : ℕ → End → Reply
 unsubacks i e = puts_out (packets.UnsubAck i ∷ []) e
 
--- why such an answer of this size is refused, the first that stands
+-- why an answer of this remaining length (2.2.3) is refused, the first that stands
 abbrev pub answer_refusal : ℕ → ℕ → End → Option PublishRefusal
 answer_refusal limit size e =
     if not (is_up e.state) then Some refusals.NotConnected else
     (if nat_lt limit size then Some refusals.TooLarge else None)
 
+-- why SUBACK is refused (3.9)
 abbrev pub suback_refusal : ℕ → List SubAckCode → End → Option PublishRefusal
 suback_refusal limit codes e = answer_refusal limit (suback_size codes) e
 
+-- why UNSUBACK is refused (3.11)
 abbrev pub unsuback_refusal : ℕ → End → Option PublishRefusal
 unsuback_refusal limit e = answer_refusal limit unsuback_size e

@@ -16,19 +16,21 @@ identifier_size Q2 = 2
 abbrev pub publish_size : Message → ℕ
 publish_size m = (2 + length m.topic) + (identifier_size m.qos + length m.payload)
 
--- SUBSCRIBE (3.8.2, 3.8.3): identifier; for each request its filter and a byte
+-- for each request of SUBSCRIBE its filter and a byte (3.8.3)
 abbrev pub requests_size : List Request → ℕ
 requests_size [] = 0
 requests_size (r ∷ rs) = (2 + length r.filter) + (1 + requests_size rs)
 
+-- SUBSCRIBE (3.8.2, 3.8.3): identifier, requests
 abbrev pub subscribe_size : List Request → ℕ
 subscribe_size requests = 2 + requests_size requests
 
--- UNSUBSCRIBE (3.10.2, 3.10.3): identifier, filters
+-- the filters of UNSUBSCRIBE (3.10.3)
 abbrev pub filters_size : List (List ℕ) → ℕ
 filters_size [] = 0
 filters_size (f ∷ fs) = (2 + length f) + filters_size fs
 
+-- UNSUBSCRIBE (3.10.2, 3.10.3): identifier, filters
 abbrev pub unsubscribe_size : List (List ℕ) → ℕ
 unsubscribe_size filters = 2 + filters_size filters
 

@@ -1,3 +1,4 @@
 pub mod Counting
 pub mod Books
 pub mod Members
+pub mod Sending

@@ -4,11 +4,11 @@ use Rattle.std.specs.Prelude.{ℕ, Bool, not}
 use Rattle.std.specs.FinSet as FinSet
 use Rattle.std.specs.Ordering.{nat_cmp}
 
--- the receiver's book: a set of identifiers
+-- the receiver's book: a set of identifiers (4.3.3)
 abbrev pub ReceiverBook : Type 0
 ReceiverBook = FinSet.FinSet nat_cmp
 
--- no message waits for its PUBREL
+-- no message waits for its PUBREL (4.3.3)
 abbrev pub none_received : ReceiverBook
 none_received = FinSet.empty
 

@@ -1,6 +1,6 @@
 //! The laws of the sender's book.
 
-ghost use Rattle.mq_flow.specs.Laws.{IdentifierLaws, ReceiverLaws, StrayLaws};
+ghost use Rattle.mq_flow.specs.Laws.{IdentifierLaws, ReceiverLaws, SendingLaws, StrayLaws};
 
 /// The identifiers of a sender's book: from 1 to 65,535, each in use once, and at most as many as the
 /// capacity, whatever moves it makes; and one that is not full has an identifier to give (2.3.1).
@@ -18,4 +18,10 @@ pub fn stray_laws()
 /// PUBREL (4.3.3).
 pub fn receiver_laws()
     ensures { ReceiverLaws }
+{}
+
+/// A message that is accepted and then sent is one that is accepted where the sender is connected: one PUBLISH
+/// goes out, without DUP (3.3.1.1).
+pub fn sending_laws()
+    ensures { SendingLaws }
 {}

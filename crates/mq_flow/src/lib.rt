@@ -6,7 +6,9 @@
 mod claim;
 mod entry;
 mod laws;
+mod reaction;
 
 pub use crate::claim::{Claim, Claimed};
 pub use crate::entry::Entry;
-pub use crate::laws::{identifier_laws, receiver_laws, stray_laws};
+pub use crate::laws::{identifier_laws, receiver_laws, sending_laws, stray_laws};
+pub use crate::reaction::{Reaction, Refusal};

@@ -14,28 +14,31 @@ abbrev pub after_all : Machine → List Move → Machine
 after_all w [] = w
 after_all w (move ∷ moves) = after_all (after w move) moves
 
--- a connection is opened, CONNECT comes, CONNACK comes
+-- a connection is opened, CONNECT comes, CONNACK comes (3.1, 3.2), and these moves follow
 abbrev pub handshake : List Move → List Move
 handshake moves = Opens ∷ By Server Arrives ∷ By Client Arrives ∷ moves
 
+-- a message of quality of service 1
 abbrev pub word_1 : Message
 word_1 = record { topic = 116 ∷ []; payload = 120 ∷ []; qos = Q1; retain = false }
 
+-- a message of quality of service 2
 abbrev pub word_2 : Message
 word_2 = record { topic = 116 ∷ []; payload = 120 ∷ []; qos = Q2; retain = false }
 
--- a message of quality of service 2 comes to the server, and the client drops before PUBREC comes
+-- a message of quality of service 2 comes to the server, and the client drops before PUBREC comes (4.3.3)
 abbrev pub pubrec_lost : List Move
 pubrec_lost = handshake (By Client (Publishes 1 word_2) ∷ By Server Arrives ∷ By Client Drops ∷ [])
 
--- a message of quality of service 1 comes to the server, and the client drops before PUBACK comes
+-- a message of quality of service 1 comes to the server, and the client drops before PUBACK comes (4.3.2)
 abbrev pub puback_lost : List Move
 puback_lost = handshake (By Client (Publishes 1 word_1) ∷ By Server Arrives ∷ By Client Drops ∷ [])
 
--- the server takes CONNECT in, and the client drops before CONNACK comes
+-- the server takes CONNECT in, and the client drops before CONNACK comes (3.2)
 abbrev pub dropped_inside : List Move
 dropped_inside = Opens ∷ By Server Arrives ∷ By Client Drops ∷ []
 
+-- That the machine has these runs, and what comes of them.
 pub record Examples : Type 0 where
   -- PUBREC lost: handed on once, before and after all is settled
   pub pubrec_lost_runs : Run 100 4 blank_machine pubrec_lost (after_all blank_machine pubrec_lost)

@@ -32,8 +32,9 @@ pub record HandedOn : Type 0 where
   pub at_least_once : List Message
   pub exactly_once : List Message
 
--- A side: its end, the queue of packets toward it, the oldest first, and of the run so far what it accepted, what it handed
--- on, and the places, among the messages of quality of service 1 that it accepted, of those that were acknowledged to it.
+-- A side: its end, the queue of packets toward it (4.6), the oldest first, and of the run so far what it accepted, what it
+-- handed on, and the places, among the messages of quality of service 1 that it accepted, of those that were acknowledged to it
+-- (4.3.2).
 pub record Half : Type 0 where
   pub end : End
   pub coming : List Packet
@@ -41,6 +42,7 @@ pub record Half : Type 0 where
   pub handed : HandedOn
   pub freed : List ℕ
 
+-- no session, no connection, nothing accepted or handed on
 abbrev pub blank_half : Half
 blank_half = record {
   end = blank_end;
@@ -52,34 +54,36 @@ blank_half = record {
 
 -- ---- queues
 
--- what joins the queue toward a side: packets toward a closed one are lost
+-- what joins the queue toward a side: packets toward a closed one are lost (4.2)
 abbrev pub joined : {A : Type 0} → State → List A → List A → List A
 joined Closed queue ps = queue
 joined Open queue ps = queue ++ ps
 joined Up queue ps = queue ++ ps
 
--- an end that closes leaves nothing in the queue toward it
+-- an end that closes leaves nothing in the queue toward it (4.2)
 abbrev pub kept : State → List Packet → List Packet
 kept Closed queue = []
 kept Open queue = queue
 kept Up queue = queue
 
+-- packets are put into the queue toward a side
 abbrev pub put : List Packet → Half → Half
 put ps h = record h { coming = joined h.end.state h.coming ps }
 
 -- ---- the lists of the run
 
--- the messages of a quality of service, after those that are told of
+-- the messages of a quality of service (4.3), after those that are told of
 abbrev pub told : Qos → List Happening → List Message → List Message
 told q [] ms = ms
 told q (happens.Handed m ∷ hs) ms = told q hs (if same_qos q m.qos then ms ++ m ∷ [] else ms)
 told q (h ∷ hs) ms = told q hs ms
 
--- an identifier stands in a list of pairs; the place of the last pair with it
+-- an identifier stands in a list of pairs
 abbrev pub is_given : ℕ → List (ℕ × Message) → Bool
 is_given i [] = false
 is_given i (p ∷ ps) = p.0 == i || is_given i ps
 
+-- the place of the last pair with an identifier
 abbrev pub last_place : ℕ → List (ℕ × Message) → ℕ
 last_place i [] = 0
 last_place i (p ∷ ps) = if is_given i ps then last_place i ps + 1 else 0
@@ -89,7 +93,7 @@ abbrev pub freed_with : List (ℕ × Message) → List ℕ → List ℕ → List
 freed_with given [] places = places
 freed_with given (i ∷ is) places = freed_with given is (places ++ last_place i given ∷ [])
 
--- the messages accepted, with one more
+-- the messages accepted, by quality of service (4.3), with one more
 abbrev pub accepted_with : Qos → ℕ → Message → Accepted → Accepted
 accepted_with Q0 i m a = record a { at_most_once = a.at_most_once ++ m ∷ [] }
 accepted_with Q1 i m a = record a { at_least_once = a.at_least_once ++ (i, m) ∷ [] }
@@ -118,16 +122,17 @@ took h rest r = record {
   out = r.out;
 }
 
+-- a packet comes to the end of a side
 abbrev pub gets : Side → Packet → End → Reply
 gets Client p e = client_gets p e
 gets Server p e = server_gets p e
 
--- the oldest packet of the queue comes
+-- the oldest packet of the queue comes (4.6)
 abbrev pub arrival : List Packet → Side → Half → Outcome
 arrival [] side h = record { half = h; out = [] }
 arrival (p ∷ rest) side h = took h rest (gets side p h.end)
 
--- a message is accepted, with this identifier where it has one
+-- a message is accepted, with this identifier where it has one (2.3.1, 4.3)
 abbrev pub publication : ℕ → Message → Half → Outcome
 publication i m h = record {
   half = record h { end = (publishes i m h.end).end; accepted = accepted_with m.qos i m h.accepted };
@@ -147,6 +152,7 @@ pub data Action : Type 0 where
   -- the client asks whether the server is there
   Pings : Action
 
+-- why the end of a side refuses a message
 abbrev pub refusal : Side → ℕ → ℕ → Message → End → Option PublishRefusal
 refusal Client limit capacity m e = publish_refusal limit capacity m e
 refusal Server limit capacity m e = server_publish_refusal limit capacity m e
@@ -162,7 +168,7 @@ May limit capacity Server Leaves h = ⊥
 May limit capacity Client Pings h = is_up h.end.state ≡ true
 May limit capacity Server Pings h = ⊥
 
--- What comes of it.
+-- What comes of an action.
 abbrev pub moved : Side → Action → Half → Outcome
 moved side (Publishes i m) h = publication i m h
 moved side Arrives h = arrival h.coming side h

@@ -8,6 +8,7 @@ use Rattle.mq_world.specs.declared.side.Side.{Side}
 use Rattle.mq_world.specs.declared.side.Side.TheVariants.{Client, Server}
 use Rattle.mq_world.specs.Half.{Half, Action, blank_half, May, moved, put}
 
+-- The machine: both sides.
 pub record Machine : Type 0 where
   pub client : Half
   pub server : Half
@@ -26,13 +27,15 @@ pub data Move : Type 0 where
   By : Side → Action → Move
   Opens : Move
 
--- a new connection finds the queues empty, and CONNECT on its way
+-- the client of a new connection: the queue toward it is empty
 abbrev pub opened_client : Half → Half
 opened_client h = record h { end = (connects first_packet h.end).end; coming = [] }
 
+-- the server of a new connection: the queue toward it has just what the client puts out, its CONNECT (3.1)
 abbrev pub opened_server : List Packet → Half → Half
 opened_server ps h = record h { end = (opens h.end).end; coming = ps }
 
+-- when a move may be made; a connection may be opened at any time
 abbrev pub IsAllowed : ℕ → ℕ → Machine → Move → Type 0
 IsAllowed limit capacity w (By Client action) = May limit capacity Client action w.client
 IsAllowed limit capacity w (By Server action) = May limit capacity Server action w.server

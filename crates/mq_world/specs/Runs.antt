@@ -5,6 +5,7 @@ use Rattle.mq_world.specs.Half.{Arrives}
 use Rattle.mq_world.specs.Machine.{Machine, Move, By, Run}
 use Rattle.mq_world.specs.Settling.{arrivals, settled}
 
+-- Arrivals and settling add nothing that the moves could not do.
 pub record RunsLaw : Type 0 where
   -- one run after another is a run
   pub joins : (limit capacity : ℕ) (u v w : Machine) (xs ys : List Move) → Run limit capacity u xs v → Run limit capacity v ys w → Run limit capacity u (xs ++ ys) w

@@ -26,15 +26,16 @@ delivered side w = arrivals (length (queue side w)) side w
 abbrev pub exchange : Machine → Machine
 exchange w = delivered Client (delivered Server w)
 
+-- a new connection, and three exchanges
 abbrev pub settled : Machine → Machine
 settled w = exchange (exchange (exchange (after w Opens)))
 
--- the sender's book has no message and no released identifier
+-- nothing of a side's own waits for the other: it holds no message, and no identifier is released (4.3)
 pub record Idle (h : Half) : Type 0 where
   pub entries : h.end.book.entries ≡ []
   pub released : h.end.book.released ≡ []
 
--- all that x accepted with quality of service 1 or 2 was handed on at y, exactly once with 2
+-- y handed on each message that x accepted: with quality of service 2 once (4.3.3), with 1 at least once (4.3.2)
 pub record AllHanded (x y : Half) : Type 0 where
   pub exactly_once : y.handed.exactly_once ≡ x.accepted.exactly_once
   pub places : List ℕ
@@ -42,6 +43,7 @@ pub record AllHanded (x y : Half) : Type 0 where
   pub are : IsAt y.handed.at_least_once (messages x.accepted.at_least_once) places
   pub each : (p : ℕ) → p < length x.accepted.at_least_once → In p places
 
+-- What settling leaves (4.4).
 pub record Settles (w : Machine) : Type 0 where
   pub client_idle : Idle (settled w).client
   pub server_idle : Idle (settled w).server
@@ -54,9 +56,10 @@ pub record Settles (w : Machine) : Type 0 where
   pub server_up : (settled w).server.end.state ≡ Up
   pub client_queue : (settled w).client.coming ≡ []
   pub server_queue : (settled w).server.coming ≡ []
-  -- after the second exchange neither side holds a message, after the third neither a released identifier
+  -- for the messages two exchanges are enough, the third is for the released identifiers
   pub client_second : (exchange (exchange (after w Opens))).client.end.book.entries ≡ []
   pub server_second : (exchange (exchange (after w Opens))).server.end.book.entries ≡ []
 
+-- from every machine that a run reaches
 abbrev pub SettlingLaw : Type 0
 SettlingLaw = (limit capacity : ℕ) (moves : List Move) (w : Machine) → Run limit capacity blank_machine moves w → Settles w

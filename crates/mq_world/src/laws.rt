@@ -8,11 +8,13 @@ ghost use Rattle.mq_world.specs.Runs.{RunsLaw};
 ghost use Rattle.mq_world.specs.Sessions.{SessionsLaw};
 ghost use Rattle.mq_world.specs.Examples.{Examples};
 
-/// Over every run of two ends that keep their sessions, in each direction: the messages of quality of service
-/// 2 that are handed on are a beginning of those accepted, each once and in order, and lack none but last ones
-/// that the sender still holds; those of quality of service 1 are accepted ones whose first appearances come in
-/// order without a gap, and every one whose identifier was freed is among them; those of quality of service 0
-/// are some of the accepted ones, in order (4.3).
+/// What holds after every run of two ends that keep their sessions, whatever is lost on the way, in each
+/// direction.
+///
+/// Exactly once (4.3.3): the messages handed on are how the list of those accepted begins, so none comes twice or
+/// out of turn; what has not come yet is at the end of that list, and the sender still holds it. At least once
+/// (4.3.2): only accepted messages come, each for the first time when all before it have come; one that was
+/// acknowledged has come. At most once (4.3.1): some of the accepted messages come, in order.
 pub fn headline()
     ensures { HeadlineLaw }
 {}
