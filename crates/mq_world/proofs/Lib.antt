@@ -14,3 +14,4 @@ pub mod Marks
 pub mod Ranks
 pub mod Settle
 pub mod Chains
+pub mod Carrying

@@ -6,14 +6,10 @@ use Rattle.std.proofs.lemmas.List.Elements.{filter-append}
 use Rattle.mq_topic.specs.declared.qos.Qos.{Qos}
 use Rattle.mq_topic.specs.declared.qos.Qos.TheVariants.{Q0, Q1, Q2}
 use Rattle.mq_packet.specs.declared.message.Message.{Message}
+pub use Rattle.mq_world.specs.Orders.{Each}
 use Rattle.mq_flow.specs.declared.entry.Entry.{Entry}
 use Rattle.mq_flow.specs.Sender.{times, without_entry, is_awaited, same_qos, held}
 use Rattle.mq_flow.proofs.Counting.{times_append, eqb_self, times_same, times_other, map_filter}
-
--- each item of a list is so
-abbrev pub Each : {A : Type 0} → (A → Type 0) → List A → Type 0
-Each P [] = Unit {0}
-Each P (x ∷ xs) = P x × Each P xs
 
 pub each_append : {A : Type 0} (P : A → Type 0) (xs ys : List A) → Each P xs → Each P ys → Each P (xs ++ ys)
 each_append P [] ys p q = q

@@ -8,3 +8,4 @@ pub mod Identifiers
 pub mod Examples
 pub mod Runs
 pub mod Sessions
+pub mod Carried

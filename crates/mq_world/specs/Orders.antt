@@ -55,3 +55,8 @@ others places xs = others_from 0 places xs
 -- the messages of pairs
 abbrev pub messages : List (ℕ × Message) → List Message
 messages ps = map (λ p. p.1) ps
+
+-- each item of a list is so
+abbrev pub Each : {A : Type 0} → (A → Type 0) → List A → Type 0
+Each P [] = Unit {0}
+Each P (x ∷ xs) = P x × Each P xs

@@ -6,6 +6,7 @@ ghost use Rattle.mq_world.specs.AtOnce.{AtOnceLaw};
 ghost use Rattle.mq_world.specs.Identifiers.{IdentifiersLaw};
 ghost use Rattle.mq_world.specs.Runs.{RunsLaw};
 ghost use Rattle.mq_world.specs.Sessions.{SessionsLaw};
+ghost use Rattle.mq_world.specs.Carried.{CarriedLaw};
 ghost use Rattle.mq_world.specs.Examples.{Examples};
 
 /// What holds after every run of two ends that keep their sessions, whatever is lost on the way, in each
@@ -50,4 +51,10 @@ pub fn runs()
 /// (3.1.2.4).
 pub fn sessions()
     ensures { SessionsLaw }
+{}
+
+/// Over every run, what is held and what is on its way is well formed and made of the messages that were
+/// published: whatever test these pass, the others pass (2.3.1, 3.3).
+pub fn carried()
+    ensures { CarriedLaw }
 {}

@@ -7,6 +7,6 @@ mod laws;
 mod side;
 
 pub use crate::laws::{
-    arrivals_at_once, examples, headline, identifiers, runs, sessions, settling,
+    arrivals_at_once, carried, examples, headline, identifiers, runs, sessions, settling,
 };
 pub use crate::side::Side;
