@@ -14,6 +14,7 @@ mod message;
 mod packet;
 mod publish;
 mod spelled;
+mod write;
 
 pub use crate::binary::{Binary, Payload};
 pub use crate::connack::{ConnAck, RefusalCode};
@@ -24,3 +25,4 @@ pub use crate::list::NonEmpty;
 pub use crate::message::Message;
 pub use crate::packet::{Packet, Request, SubAckCode};
 pub use crate::publish::{Delivery, Publish};
+pub use crate::write::{WriteError, write_packet};
