@@ -260,7 +260,7 @@ fn a_writer_that_fails_has_a_beginning(rt: HostRuntime) -> Result<(), Fail> {
     let packet = publish(rt.alloc(), "a/b", Bytes::from_static(b"hi"))?;
     for room in 0..=bytes.len() {
         let mut writer = Narrow {
-            taken: Vec::new(rt.alloc()),
+            taken: Vec::with_capacity(rt.alloc(), bytes.len())?,
             room,
             is_interrupted: false,
         };
