@@ -15,6 +15,8 @@ mod limits;
 mod lists;
 mod publish;
 mod take;
+#[cfg(test)]
+mod tests;
 
 pub use crate::decoder::{Decoder, decode_pieces};
 pub use crate::fault::{DecodeError, DecodeFault, FaultKind};
