@@ -5,7 +5,6 @@ use crate::sample;
 use crate::stream::Stream;
 use crate::subject::Subject;
 use crate::work::Work;
-use mq_packet::Packet;
 use std::alloc::Global;
 use std::rt::Clock;
 use std::time::Instant;
@@ -64,9 +63,9 @@ fn print_row(
     let name = work.to_string(alloc)?;
     let megabytes = figures.bytes_per_second() / 1_000_000;
     let packets = figures.packets_per_second();
-    let of_scan = figures.ratio_to(plain.scan);
-    let of_copy = figures.ratio_to(plain.copy);
-    println!(rt; "{name:<26} {megabytes:>8} {packets:>12}    {of_scan}    {of_copy}")?;
+    let of_scan = figures.ratio_to(plain.scan).to_string(alloc)?;
+    let of_copy = figures.ratio_to(plain.copy).to_string(alloc)?;
+    println!(rt; "  {name:<26} {megabytes:>8} {packets:>12} {of_scan:>8} {of_copy:>8}")?;
     Ok(())
 }
 
@@ -82,14 +81,34 @@ fn measure_work(
     print_row(rt, alloc, work, figures, plain)
 }
 
-/// Does every work on the stream of these packets, and prints the figures.
+/// Prints what a table is of, and the names of its columns.
+fn print_heading(
+    rt: &impl Print,
+    subject: Subject,
+    stream: &Stream<'_>,
+    short: &Stream<'_>,
+) -> anyhow::Result<()> {
+    let name = subject.name();
+    let bytes = stream.byte_count();
+    let packets = stream.packet_count();
+    let short_bytes = short.byte_count();
+    println!(rt;
+        "{name}: {bytes} bytes, {packets} packets ({short_bytes} bytes in pieces of 1 B)"
+    )?;
+    println!(rt; "                                 MB/s    packets/s  of scan  of copy")?;
+    Ok(())
+}
+
+/// Does every work on the stream of a subject, and prints the figures.
 fn measure_stream(
     rt: &(impl Print + Clock),
     alloc: Global,
-    packets: &[Packet],
+    subject: Subject,
 ) -> anyhow::Result<()> {
-    let stream = Stream::new(alloc, packets, STREAM)?;
-    let short = Stream::new(alloc, packets, SHORT_STREAM)?;
+    let packets = sample::packets(alloc, subject)?;
+    let stream = Stream::new(alloc, packets.as_slice(), STREAM)?;
+    let short = Stream::new(alloc, packets.as_slice(), SHORT_STREAM)?;
+    print_heading(rt, subject, &stream, &short)?;
     let plain = Plain {
         scan: time(rt, alloc, Work::Scan, &stream)?,
         copy: time(rt, alloc, Work::Copy, &stream)?,
@@ -109,10 +128,7 @@ pub(crate) fn measure(
     subject: Subject,
 ) -> anyhow::Result<()> {
     for subject in subject.streams() {
-        let packets = sample::packets(alloc, *subject)?;
-        let name = subject.name();
-        println!(rt; "{name:<26}     MB/s    packets/s  of scan  of copy")?;
-        measure_stream(rt, alloc, packets.as_slice())?;
+        measure_stream(rt, alloc, *subject)?;
     }
     Ok(())
 }
