@@ -1,0 +1,4 @@
+pub mod Matches
+pub mod Pieces
+pub mod Statuses
+pub mod Streams
