@@ -1,0 +1,4 @@
+pub mod CommandLine
+pub mod Hexadecimal
+pub mod Show
+pub mod Status

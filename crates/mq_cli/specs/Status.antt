@@ -1,0 +1,24 @@
+-- What the statuses of the program mean.
+use Rattle.std.specs.Prelude.{◌≡◌, ◌⊎◌, ℕ, List}
+use Rattle.mq_cli.specs.declared.jobs.Job.{Job}
+use Rattle.mq_cli.specs.declared.jobs.Job.TheVariants as jobs
+use Rattle.mq_cli.specs.declared.stream.StreamEnd.{StreamEnd}
+use Rattle.mq_cli.specs.declared.stream.StreamEnd.TheVariants.{Whole, Held, Fault}
+use Rattle.mq_cli.specs.declared.stream.Shown.{Shown}
+use Rattle.mq_cli.specs.Hexadecimal.{IsHexadecimal}
+use Rattle.mq_cli.specs.Show.{Shows}
+
+-- 0 where all bytes are packets
+abbrev pub end_status : StreamEnd → ℕ
+end_status Whole = 0
+end_status (Held n) = 1
+end_status (Fault fault start) = 1
+
+-- that of what is shown within the limit of the standard, 2 for what is no hexadecimal, or 3 for want of memory
+abbrev pub IsShowStatus : List ℕ → ℕ → Type 0
+IsShowStatus digits status =
+    ((shown : Shown) × Shows 268435455 digits shown × (status ≡ end_status shown.end)) ⊎ ((status ≡ 2) × (¬ IsHexadecimal digits)) ⊎ (status ≡ 3)
+
+-- the status that a job ends with
+abbrev pub IsStatus : Job → ℕ → Type 0
+IsStatus (jobs.Show hex) status = IsShowStatus hex.now status

@@ -1,0 +1,19 @@
+//! The program `mqtt` as calls: the words of its command line are read, and its jobs are done over any
+//! reader and writer.
+#![tactic(auto)]
+
+mod jobs;
+mod line;
+mod output;
+mod show;
+mod stream;
+#[cfg(test)]
+mod tests;
+mod words;
+
+pub use crate::jobs::Job;
+pub use crate::line::Line;
+pub use crate::output::perform;
+pub use crate::show::{ShowFault, shown};
+pub use crate::stream::{Shown, StreamEnd};
+pub use crate::words::{WordsFault, job};

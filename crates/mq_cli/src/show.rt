@@ -1,0 +1,83 @@
+//! The packets of bytes that are written as hexadecimal digits.
+
+ghost use Rattle.std.specs.Prelude.{◌≡◌, ◌+◌, ◌<◌, ◌↔◌, ℕ, List, Option, IsTrue, IfOk, IsErrOf, length};
+ghost use Rattle.hex.specs.Hex.{decode_of};
+ghost use Rattle.mq_packet.specs.declared.packet.Packet.{Packet};
+ghost use Rattle.mq_decode.specs.declared.fault.DecodeFault.{DecodeFault};
+ghost use Rattle.mq_decode.specs.Grammar.{Reading};
+ghost use Rattle.mq_cli.specs.Hexadecimal.{IsHexadecimal};
+ghost use Rattle.mq_cli.specs.Show.{Shows};
+
+use crate::stream::{Shown, StreamEnd};
+use mq_decode::{DecodeError, Limits, decode_pieces};
+use mq_packet::{Packet, encoded_len};
+use std::alloc::Global;
+use thiserror::Error;
+
+/// Why nothing is shown.
+#[derive(Clone, Copy, Debug, PartialEq, Eq, Error)]
+pub enum ShowFault {
+    /// The text is not an even number of hexadecimal digits.
+    #[error("bad hex")]
+    BadHex,
+    /// Memory ran out.
+    #[error("out of memory")]
+    Memory,
+}
+
+// Whether a text is an even number of hexadecimal digits.
+fn is_hexadecimal(text: &str) -> bool
+    ensures { IsTrue result ↔ IsHexadecimal text.now }
+{
+    text.len() % 2 == 0
+        && text
+            .as_bytes()
+            .iter()
+            .all(|digit| digit.is_ascii_hexdigit())
+}
+
+// The bytes that digits stand for. The digits are tested before memory is asked for, so that bad
+// ones are always named.
+fn bytes_of(alloc: Global, text: &str) -> Result<Vec<u8>, ShowFault>
+    ensures bytes { IfOk result (λ bytes. decode_of text.now ≡ Ok bytes.items) }
+    ensures bad_hex { IsErrOf result ShowFault.BadHex ↔ ¬ IsHexadecimal text.now }
+{
+    if !is_hexadecimal(text) {
+        return Err(ShowFault::BadHex);
+    }
+    hex::decode(alloc, text).map_err(|_| ShowFault::Memory)
+}
+
+// How many of the bytes the packets take.
+fn size_of(limits: Limits, packets: &[Packet], bytes: &[u8]) -> usize
+    requires { (rest : List ℕ) × (end : Option DecodeFault)
+        × Reading limits bytes.now packets.now rest end }
+    ensures { (rest : List ℕ) (end : Option DecodeFault)
+        → Reading limits bytes.now packets.now rest end → result + length rest ≡ length bytes.now }
+{
+    let _ = (bytes.len(), limits.max_packet());
+    let mut size = 0;
+    for packet in packets {
+        size += encoded_len(packet).unwrap() as usize;
+    }
+    size
+}
+
+/// The packets of the bytes that hexadecimal digits stand for, two a byte, and how the bytes end.
+pub fn shown(alloc: Global, text: &str, limits: Limits) -> Result<Shown, ShowFault>
+    ensures shows { IfOk result (Shows limits text.now) }
+    ensures bad_hex { IsErrOf result ShowFault.BadHex ↔ ¬ IsHexadecimal text.now }
+{
+    let bytes = bytes_of(alloc, text)?;
+    let mut packets = Vec::new(alloc);
+    let end = match decode_pieces(alloc, limits, &[bytes.as_slice()], &mut packets) {
+        Ok(0) => StreamEnd::Whole,
+        Ok(held) => StreamEnd::Held(held),
+        Err(DecodeError::Fault(fault)) => StreamEnd::Fault {
+            fault,
+            start: size_of(limits, packets.as_slice(), bytes.as_slice()),
+        },
+        Err(DecodeError::Memory) => return Err(ShowFault::Memory),
+    };
+    Ok(Shown { packets, end })
+}

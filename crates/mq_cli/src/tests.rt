@@ -1,0 +1,255 @@
+use crate::{Job, ShowFault, StreamEnd, WordsFault, job, perform, shown};
+use clap::error::ErrorKind;
+use mq_decode::{DecodeFault, FaultKind, Limits};
+use std::alloc::Global;
+use std::io;
+use std::io::Write;
+use std::test::Fail;
+
+// What `show` prints of bytes, and its status. The bytes are spelled by hand from chapters 2 and 3 of the
+// standard.
+static ROWS: [(&str, u8, &str); 59] = [
+    // Nothing, and what is no pair of digits.
+    ("", 0, ""),
+    ("c", 2, "bad hex\n"),
+    ("c00", 2, "bad hex\n"),
+    ("zz", 2, "bad hex\n"),
+    ("c0 0", 2, "bad hex\n"),
+    ("0x", 2, "bad hex\n"),
+    ("c000zz", 2, "bad hex\n"),
+    // Packets of two and four bytes.
+    ("c000", 0, "PINGREQ\n"),
+    ("C000", 0, "PINGREQ\n"),
+    ("d000", 0, "PINGRESP\n"),
+    ("e000", 0, "DISCONNECT\n"),
+    ("62020001c000", 0, "PUBREL id=1\nPINGREQ\n"),
+    ("4002ffff", 0, "PUBACK id=65535\n"),
+    ("50020100", 0, "PUBREC id=256\n"),
+    ("7002000a", 0, "PUBCOMP id=10\n"),
+    ("b0020002", 0, "UNSUBACK id=2\n"),
+    ("20020000", 0, "CONNACK session=0 code=0\n"),
+    ("20020100", 0, "CONNACK session=1 code=0\n"),
+    ("20020005", 0, "CONNACK session=0 code=5\n"),
+    // Packets with texts and lists.
+    (
+        "100d00044d5154540402003c000161",
+        0,
+        "CONNECT id=a clean=1 keep=60\n",
+    ),
+    ("100c00044d51545404000000", 1, "held 12\n"),
+    (
+        "101a00044d51545404ee000a000161000177000200ff000175000170",
+        0,
+        "CONNECT id=a clean=1 keep=10 will=w wqos=1 wretain=1 wmsg=00ff user=u pass=70\n",
+    ),
+    (
+        "101300044d51545404800000000225410003752575",
+        0,
+        "CONNECT id=%25A clean=0 keep=0 user=u%25u\n",
+    ),
+    (
+        "30070003612f626869",
+        0,
+        "PUBLISH topic=a/b qos=0 dup=0 retain=0 payload=6869\n",
+    ),
+    (
+        "3c090003612f6200016869",
+        0,
+        "PUBLISH topic=a/b qos=2 dup=1 retain=0 id=1 payload=6869\n",
+    ),
+    (
+        "33050001740007",
+        0,
+        "PUBLISH topic=t qos=1 dup=0 retain=1 id=7 payload=\n",
+    ),
+    (
+        "30050003efbbbf",
+        0,
+        "PUBLISH topic=%ef%bb%bf qos=0 dup=0 retain=0 payload=\n",
+    ),
+    (
+        "300700052120207e7f",
+        0,
+        "PUBLISH topic=!%20%20~%7f qos=0 dup=0 retain=0 payload=\n",
+    ),
+    (
+        "820e00010003612f2b010003612f2302",
+        0,
+        "SUBSCRIBE id=1 a/+:1 a/#:2\n",
+    ),
+    ("900400010180", 0, "SUBACK id=1 1 128\n"),
+    ("a2050002000161", 0, "UNSUBSCRIBE id=2 a\n"),
+    ("a209000200016100022f62", 0, "UNSUBSCRIBE id=2 a /b\n"),
+    // Less than a whole packet.
+    ("c0", 1, "held 1\n"),
+    ("3005000361", 1, "held 5\n"),
+    (
+        "30050003612f62",
+        0,
+        "PUBLISH topic=a/b qos=0 dup=0 retain=0 payload=\n",
+    ),
+    ("c000c0", 1, "PINGREQ\nheld 1\n"),
+    // Faults of the header.
+    ("f000", 1, "fault F1 at 0 in packet at 0\n"),
+    ("60020001", 1, "fault F2 at 0 in packet at 0\n"),
+    ("3600", 1, "fault F3 at 0 in packet at 0\n"),
+    ("3800", 1, "fault F4 at 0 in packet at 0\n"),
+    ("3080808080", 1, "fault F5 at 4 in packet at 0\n"),
+    ("c08000", 1, "fault F6 at 2 in packet at 0\n"),
+    ("c000c08000", 1, "PINGREQ\nfault F6 at 2 in packet at 2\n"),
+    ("c00100", 1, "fault F8 at 1 in packet at 0\n"),
+    // Faults of fields.
+    (
+        "100d00044d5154540402003c000261",
+        1,
+        "fault F9 at 12 in packet at 0\n",
+    ),
+    ("30050003eda080", 1, "fault F10 at 2 in packet at 0\n"),
+    ("3003000100", 1, "fault F11 at 2 in packet at 0\n"),
+    (
+        "100d00044d5154550402003c000161",
+        1,
+        "fault F12 at 2 in packet at 0\n",
+    ),
+    (
+        "100d00044d5154540502003c000161",
+        1,
+        "fault F13 at 8 in packet at 0\n",
+    ),
+    (
+        "100d00044d5154540403003c000161",
+        1,
+        "fault F14 at 9 in packet at 0\n",
+    ),
+    ("20020200", 1, "fault F14 at 2 in packet at 0\n"),
+    ("300300012b", 1, "fault F15 at 2 in packet at 0\n"),
+    ("820700010002612300", 1, "fault F16 at 4 in packet at 0\n"),
+    ("40020000", 1, "fault F17 at 2 in packet at 0\n"),
+    ("32050001740000", 1, "fault F17 at 5 in packet at 0\n"),
+    ("20020105", 1, "fault F18 at 3 in packet at 0\n"),
+    ("8206000100016103", 1, "fault F18 at 7 in packet at 0\n"),
+    ("82020001", 1, "fault F19 at 4 in packet at 0\n"),
+    (
+        "100e00044d5154540402003c00016100",
+        1,
+        "fault F20 at 15 in packet at 0\n",
+    ),
+];
+
+#[test]
+fn shows_packets(rt: HostRuntime) -> Result<(), Fail> {
+    let alloc = rt.alloc();
+    for (hex, status, printed) in &ROWS {
+        let mut output = Vec::new(alloc);
+        let answer = perform(alloc, &Job::Show { hex }, &mut io::empty(), &mut output)?;
+        assert_eq!(rt; output.as_slice(), printed.as_bytes(), "show {hex}");
+        assert_eq!(rt; answer, *status, "show {hex}");
+    }
+    Ok(())
+}
+
+#[test]
+fn shows_within_a_limit(rt: HostRuntime) -> Result<(), Fail> {
+    let alloc = rt.alloc();
+    let limits = Limits::new(64).ok_or("64 is a limit")?;
+    for (hex, kind) in [
+        ("c040", FaultKind::WrongSize),
+        ("c041", FaultKind::OverLimit),
+    ] {
+        let shown = shown(alloc, hex, limits)?;
+        let fault = DecodeFault { kind, place: 1 };
+        assert_eq!(rt; shown.packets.len(), 0);
+        assert_eq!(rt; shown.end, StreamEnd::Fault { fault, start: 0 });
+    }
+    assert_eq!(rt; shown(alloc, "4", limits).err(), Some(ShowFault::BadHex));
+    Ok(())
+}
+
+// A writer that takes so many bytes, and then fails.
+#[derive(Drop)]
+struct Full(usize);
+
+impl Write for Full {
+    fn write(&mut self, buf: &[u8]) -> io::Result<usize> {
+        if self.0 == 0 {
+            return Err(io::Error::from(io::ErrorKind::BrokenPipe));
+        }
+        let n = self.0.min(buf.len());
+        self.0 -= n;
+        Ok(n)
+    }
+
+    fn flush(&mut self) -> io::Result<()> {
+        Ok(())
+    }
+}
+
+#[test]
+fn tells_of_failed_writes(rt: HostRuntime) {
+    let alloc = rt.alloc();
+    for (hex, size) in [("c000", 8), ("c0", 7), ("f000", 29), ("zz", 8)] {
+        for room in 0..size {
+            let answer = perform(alloc, &Job::Show { hex }, &mut io::empty(), &mut Full(room));
+            assert!(rt; answer.is_err(), "show {hex} with room for {room}");
+        }
+        let answer = perform(alloc, &Job::Show { hex }, &mut io::empty(), &mut Full(size));
+        assert!(rt; answer.is_ok(), "show {hex} with room");
+    }
+}
+
+// The kind of the error that the words are.
+fn error_of(alloc: Global, words: &[&str]) -> Option<ErrorKind> {
+    match job(alloc, words) {
+        Err(WordsFault::Words(error)) => Some(error.kind()),
+        _ => None,
+    }
+}
+
+#[test]
+fn reads_words(rt: HostRuntime) -> Result<(), Fail> {
+    let alloc = rt.alloc();
+    for (words, hex) in [
+        (["mqtt", "show", "c000"].as_slice(), "c000"),
+        (&["mqtt", "show", ""], ""),
+        (&["mqtt", "show", "--", "-a"], "-a"),
+    ] {
+        assert!(rt; matches!(job(alloc, words), Ok(Job::Show { hex: read }) if read == hex));
+    }
+    for (words, kind) in [
+        (
+            ["mqtt"].as_slice(),
+            ErrorKind::DisplayHelpOnMissingArgumentOrSubcommand,
+        ),
+        (&["mqtt", "--help"], ErrorKind::DisplayHelp),
+        (&["mqtt", "help", "show"], ErrorKind::DisplayHelp),
+        (&["mqtt", "show", "-h"], ErrorKind::DisplayHelp),
+        (&["mqtt", "--version"], ErrorKind::DisplayVersion),
+        (&["mqtt", "shwo", "c000"], ErrorKind::InvalidSubcommand),
+        (&["mqtt", "show"], ErrorKind::MissingRequiredArgument),
+        (&["mqtt", "show", "-a"], ErrorKind::UnknownArgument),
+        (&["mqtt", "show", "c0", "00"], ErrorKind::UnknownArgument),
+    ] {
+        assert_eq!(rt; error_of(alloc, words), Some(kind), "{words:?}");
+    }
+    Ok(())
+}
+
+#[test]
+fn prints_help(rt: HostRuntime) -> Result<(), Fail> {
+    let Err(WordsFault::Words(error)) = job(rt.alloc(), &["mqtt", "show", "--help"]) else {
+        return Err("no help".into());
+    };
+    let text = format!(in rt.alloc(); "{error}")?;
+    let help = "Prints each packet of a stream of bytes on a line, and how the stream ends
+
+Usage: mqtt show <HEX>
+
+Arguments:
+  <HEX>  The bytes, two hexadecimal digits each
+
+Options:
+  -h, --help  Print help
+";
+    assert_eq!(rt; text.as_str(), help);
+    Ok(())
+}
