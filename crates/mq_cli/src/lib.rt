@@ -2,6 +2,7 @@
 //! reader and writer.
 #![tactic(auto)]
 
+mod count;
 mod jobs;
 mod line;
 mod output;
@@ -11,6 +12,7 @@ mod stream;
 mod tests;
 mod words;
 
+pub use crate::count::{CountEnd, CountFault, PacketCount, count_packets};
 pub use crate::jobs::Job;
 pub use crate::line::Line;
 pub use crate::output::perform;
