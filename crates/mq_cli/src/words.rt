@@ -1,5 +1,10 @@
 //! The words of the command line.
 
+ghost use Rattle.std.specs.Prelude.{◌≡◌, false, map, IfOk, IfSome};
+ghost use Rattle.clap.specs.Words.{app_of, subcommand_of, subcommand_rows_of};
+ghost use Rattle.clap.specs.declared.builder.command.Command.TheViews.{out-Command};
+ghost use Rattle.mq_cli.specs.CommandLine.{IsJobOf, program_words, show_words};
+
 use crate::jobs::Job;
 use clap::error::ErrorKind;
 use clap::{Arg, ArgMatches, Command, Error};
@@ -30,7 +35,11 @@ impl From<Error> for WordsFault {
     }
 }
 
-fn show_command<'a>(alloc: Global) -> Result<Command<'a>, AllocError> {
+// `show HEX`.
+fn show_command<'a>(alloc: Global) -> Result<Command<'a>, AllocError>
+    ensures words { IfOk result (λ command. app_of command ≡ show_words) }
+    ensures local { IfOk result (λ command. (out-Command command).has_globals ≡ false) }
+{
     let hex = Arg::new(alloc, "HEX")
         .help("The bytes, two hexadecimal digits each")
         .required(true);
@@ -39,26 +48,35 @@ fn show_command<'a>(alloc: Global) -> Result<Command<'a>, AllocError> {
         .arg(hex)
 }
 
-fn command<'a>(alloc: Global) -> Result<Command<'a>, AllocError> {
+// The whole command line.
+fn command<'a>(alloc: Global) -> Result<Command<'a>, AllocError>
+    ensures { IfOk result (λ command. app_of command ≡ program_words) }
+{
+    let show = show_command(alloc)?;
     Command::new(alloc, "mqtt")
         .version("0.1.0")
         .about("Reads and writes MQTT 3.1.1")
         .subcommand_required(true)
         .arg_required_else_help(true)
-        .subcommand(show_command(alloc)?)
+        .subcommand(show)
 }
 
-fn job_of<'a>(matches: &ArgMatches<'a>) -> Option<Job<'a>> {
-    match matches.subcommand()? {
-        ("show", show) => Some(Job::Show {
-            hex: show.get_str("HEX")?,
-        }),
-        _ => None,
-    }
+// The job of the command that was met.
+fn job_of<'a>(matches: &ArgMatches<'a>) -> Option<Job<'a>>
+    ensures { IfSome result (IsJobOf (subcommand_rows_of matches.now)) }
+{
+    let show = matches.subcommand_matches("show")?;
+    let hex = show.get_str("HEX")?;
+    Some(Job::Show { hex })
 }
 
 /// The job that the words of a command line ask for. The first word is the program's name.
-pub fn job<'a>(alloc: Global, words: &'a [&'a str]) -> Result<Job<'a>, WordsFault> {
+/// An error has the text for the user, or says that memory ran out; which words it refuses is that of
+/// the command line's parser.
+pub fn job<'a>(alloc: Global, words: &'a [&'a str]) -> Result<Job<'a>, WordsFault>
+    ensures { IfOk result
+        (IsJobOf (subcommand_of program_words (map (λ word. word.now) words.entry.now))) }
+{
     let mut command = command(alloc)?;
     let matches = command.try_get_matches_from_mut(words)?;
     match job_of(&matches) {
