@@ -25,8 +25,8 @@ pub record Counted (limit : ℕ) (left now : Option (List ℕ)) (packets start :
 
 -- nothing yet
 pub none_counted : (limit : ℕ) (left : Option (List ℕ)) → Counted limit left left 0 0
-none_counted limit None = record { front = []; read = []; stream = refl; number = refl; size = refl; taken = tt; }
-none_counted limit (Some xs) = record { front = []; read = []; stream = refl; number = refl; size = refl; taken = refl; }
+none_counted limit None = record { front = []; read = []; stream = refl; number = refl; size = refl; taken = tt }
+none_counted limit (Some xs) = record { front = []; read = []; stream = refl; number = refl; size = refl; taken = refl }
 
 -- a stream and one packet more
 pub stream_and : (limit : ℕ) (ps : List Packet) (p : Packet) (b s : List ℕ) → Stream limit ps b → SpellsWithin limit p s → Stream limit (ps ++ p ∷ []) (b ++ s)
@@ -71,7 +71,7 @@ pub counted_all : (laws : ReadsAgain) (limit : ℕ) (left now : Option (List ℕ
 counted_all laws limit None now packets start h end = tt
 counted_all laws limit (Some xs) None packets start h end = absurd h.taken
 counted_all laws limit (Some xs) (Some ys) packets start h end =
-    (h.read, record { front = h.front; stream = h.stream; parts = h.taken ∙ ap (λ (t : List ℕ). h.front ++ t) end; ends = nothing_pending limit laws; }, h.number)
+    (h.read, record { front = h.front; stream = h.stream; parts = h.taken ∙ ap (λ (t : List ℕ). h.front ++ t) end; ends = nothing_pending limit laws }, h.number)
 
 some_is : {a b : CountEnd} → Some a ≡ Some b → a ≡ b
 some_is e = cc
@@ -82,8 +82,8 @@ pub counted_to : (limit : ℕ) (left now : Option (List ℕ)) (packets start : �
 counted_to limit None now packets start error end h stops e = tt
 counted_to limit (Some xs) None packets start error end h stops e = absurd h.taken
 counted_to limit (Some xs) (Some ys) packets start errors.Cut end h stops e =
-    rw (sym (some_is e)) (h.read, (ys, record { front = h.front; stream = h.stream; parts = h.taken; ends = stops.0; }, stops.1), h.number)
+    rw (sym (some_is e)) (h.read, (ys, record { front = h.front; stream = h.stream; parts = h.taken; ends = stops.0 }, stops.1), h.number)
 counted_to limit (Some xs) (Some ys) packets start (errors.Fault fault) end h stops e =
-    rw (sym (some_is e)) (h.read, (ys, record { front = h.front; stream = h.stream; parts = h.taken; ends = stops; }, omega (arith, h.size, ap length h.taken, length-append h.front ys)), h.number)
+    rw (sym (some_is e)) (h.read, (ys, record { front = h.front; stream = h.stream; parts = h.taken; ends = stops }, omega (arith, h.size, ap length h.taken, length-append h.front ys)), h.number)
 counted_to limit (Some xs) (Some ys) packets start (errors.Io error) end h stops e = absurd cc
 counted_to limit (Some xs) (Some ys) packets start errors.Memory end h stops e = absurd cc

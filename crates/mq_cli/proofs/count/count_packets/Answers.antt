@@ -3,7 +3,7 @@ use Rattle.mq_cli.proofs.Counting.{none_counted, one_more, counted_to}
 use Rattle.mq_cli.proofs.count.count_packets.Goals as goal
 
 pub loop-size-init : goal.loop-size-init
-loop-size-init g c = record { counted = none_counted c.args.limits (g.R.Read.remaining c.args.reader.now); few = omega arith; }
+loop-size-init g c = record { counted = none_counted c.args.limits (g.R.Read.remaining c.args.reader.now); few = omega arith }
 
 pub returns-in-Err : goal.returns-in-Err
 returns-in-Err g c =
