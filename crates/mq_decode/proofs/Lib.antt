@@ -8,3 +8,6 @@ pub mod ListLaws
 pub mod Loops
 pub mod Streams
 pub mod Uniqueness
+pub mod Wanting
+pub mod Filling
+pub mod Readers

@@ -13,7 +13,7 @@ use Rattle.mq_decode.specs.declared.fault.FaultKind.TheVariants.{LengthTooLong, 
 use Rattle.mq_decode.specs.declared.fault.DecodeFault.{DecodeFault}
 use Rattle.mq_decode.specs.declared.fault.DecodeError.{DecodeError}
 use Rattle.mq_decode.specs.declared.fault.DecodeError.TheVariants as errors
-use Rattle.mq_decode.specs.Grammar.{SpellsWithin, Stream, FirstFault, BadLength, LengthFault, SizeFault, FieldFault, Faulty, AtFirst, AtLength, AtSize, AtField, Pending, Ends, Reading, Begins, Goes, Stops, IsFront}
+use Rattle.mq_decode.specs.Grammar.{SpellsWithin, Stream, FirstFault, BadLength, LengthFault, SizeFault, FieldFault, Faulty, AtFirst, AtLength, AtSize, AtField, Pending, Ends, Reading, Begins, Goes, Stops, IsFront, IsAlone, Wants}
 
 -- ---- one stream after another
 
@@ -230,3 +230,30 @@ pieces_stop f xs i d limit limits old mid new held e lt same h k =
     let whole : (flat_map f (take i xs) ++ x) ++ flat_map f (drop (i + 1) xs) ≡ flat_map f xs =
     ap (λ (t : List ℕ). t ++ flat_map f (drop (i + 1) xs)) (sym (parts f xs i d lt)) ∙ (sym (flat_map-append f (take (i + 1) xs) (drop (i + 1) xs)) ∙ ap (flat_map f) (take-append-drop (i + 1) xs)) in
     subst (λ (b : List ℕ). Stops limits b old new e) whole more
+
+-- ---- the packet that is held alone
+
+pending_nil : (limit : ℕ) → Pending limit []
+pending_nil limit = record { not_whole = λ p first rest h e. no_bytes p first rest h e; not_faulty = no_fault }
+  where
+    no_bytes : (p : Packet) (first rest : List ℕ) → SpellsWithin limit p first → [] ≡ first ++ rest → ⊥
+    no_bytes p first rest h e = absurd (omega (arith, ap length h.0.bytes, ap length e, length-append first rest))
+
+    no_fault : (k : FaultKind) (place : ℕ) → Faulty limit [] k place → ⊥
+    no_fault k place (AtFirst h) = let e : [] ≡ h.first ∷ h.rest = h.bytes in absurd cc
+    no_fault k place (AtLength h) = let e : [] ≡ h.first ∷ h.rest = h.bytes in absurd cc
+    no_fault k place (AtSize h) = let e : [] ≡ h.first ∷ (h.len ++ h.rest) = h.bytes in absurd cc
+    no_fault k place (AtField h) = let e : [] ≡ h.first ∷ (h.len ++ (h.body ++ h.rest)) = h.bytes in absurd cc
+
+pub alone_goes : (limit : ℕ) (b : List ℕ) (p : Packet) (n : ℕ) (old new : List Packet) (rest : List ℕ) → IsAlone limit b → (n ≤ length b) × SpellsWithin limit p (take n b) → new ≡ old ++ p ∷ [] → rest ≡ [] → Goes limit b old new rest
+alone_goes limit b p n old new rest alone h e none =
+    let parts : b ≡ take n b ++ drop n b = sym (take-append-drop n b) in
+    let ended : drop n b ≡ [] = alone p (take n b) (drop n b) h.1 parts in
+    rw none (p ∷ [], e, record { front = take n b; stream = stream_one limit p (take n b) h.1; parts = parts ∙ ap (λ (t : List ℕ). take n b ++ t) ended; ends = pending_nil limit })
+
+pub front_stops : (limit : ℕ) (b : List ℕ) (old : List Packet) (e : DecodeError) → IsFront limit b (Err e) → Stops limit b old old e
+front_stops limit b old e h = taken_stops limit b 0 old old e (taken_none limit b old) h
+
+pub held_alone : (limit : ℕ) (now piece next : List ℕ) (used n wanted : ℕ) → next ≡ now ++ take n (drop used piece) → n ≤ wanted → Wants limit now wanted → Pending limit now → IsAlone limit next
+held_alone limit now piece next used n wanted e few wants pending =
+    subst (IsAlone limit) (sym e) (wants pending (take n (drop used piece)) (omega (arith, length-take n (drop used piece), few)))

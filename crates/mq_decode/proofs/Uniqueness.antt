@@ -1,5 +1,6 @@
 -- Every list of bytes has one reading, and what is pending is short.
 use Rattle.std.proofs.Common.{◌≡◌, ℕ, zero, suc, ◌+◌, ◌-◌, ◌<◌, ◌≤◌, Bool, true, false, cond, eqb, ltb, List, [], ◌∷◌, ◌++◌, length, take, drop, Option, Some, None, Result, Ok, Err, refl, sym, ap, subst, ◌∙◌, append_assoc, arith, ◌⊎◌, inl, inr}
+use Rattle.std.specs.Prelude.{IfOk, IfNone}
 use Rattle.std.proofs.lemmas.Bool.{ltb-true, ltb-false}
 use Rattle.std.proofs.lemmas.List.{length-append, length-take, take-append-drop, drop_at, take_at}
 use Rattle.mq_wire.specs.declared.reading.LengthReading.{LengthReading}
@@ -11,13 +12,14 @@ use Rattle.mq_decode.specs.declared.fault.FaultKind.{FaultKind}
 use Rattle.mq_decode.specs.declared.fault.FaultKind.TheVariants.{LengthTooLong, LengthOverlong, OverLimit}
 use Rattle.mq_decode.specs.declared.fault.BadField.{BadField}
 use Rattle.mq_decode.specs.declared.fault.DecodeFault.{DecodeFault}
+use Rattle.mq_decode.specs.declared.fault.DecodeError.{DecodeError}
 use Rattle.mq_decode.specs.declared.header.Header.{Header}
 use Rattle.mq_decode.specs.declared.kind.Kind.{Kind}
 use Rattle.mq_decode.specs.Kind.{kind_at, fixed_size, wrong_size, size_fault}
 use Rattle.mq_decode.specs.Bodies.{body_at}
 use Rattle.mq_decode.specs.Front.{fault_at, sized, header_of, header_after, header_at, packet_or_fault, front_after, front_at}
-use Rattle.mq_decode.specs.Grammar.{SpellsWithin, Stream, Faulty, Pending, Ends, Reading}
-use Rattle.mq_decode.specs.Laws.{OneReading, PendingIsShort}
+use Rattle.mq_decode.specs.Grammar.{SpellsWithin, Stream, Faulty, Pending, Ends, Reading, IsFront}
+use Rattle.mq_decode.specs.Laws.{OneReading, PendingIsShort, ReadsAgain}
 use Rattle.mq_decode.proofs.FieldLaws.{Wire}
 use Rattle.mq_decode.proofs.ListLaws.{chosen}
 use Rattle.mq_decode.proofs.FrontLaws.{Read, whole_again, faulty_again}
@@ -109,10 +111,10 @@ pending_short w limit b bytes pending = go (front_at limit b) refl (front_found 
 -- ---- one reading
 
 -- a packet that was read, and where it ends
-abbrev packet_at : Packet × ℕ → Read
+abbrev pub packet_at : Packet × ℕ → Read
 packet_at x = Ok (Some x)
 
-same_packet : (x y : Packet × ℕ) → packet_at x ≡ packet_at y → x ≡ y
+pub same_packet : (x y : Packet × ℕ) → packet_at x ≡ packet_at y → x ≡ y
 same_packet x y e = cc
 
 abbrev faulted : DecodeFault → Read
@@ -169,3 +171,27 @@ one_stream w limit (p ∷ ps) (q ∷ qs) f g rest last end stop sf sg e ef eg =
 
 pub one_way : (w : Wire) → OneReading
 one_way w limit b ps qs rest last end stop h k = one_stream w limit ps qs h.front k.front rest last end stop h.stream k.stream (sym h.parts ∙ k.parts) h.ends k.ends
+
+-- ---- what is spelled
+
+one_front : (w : Wire) (limit : ℕ) (p q : Packet) (s t rest more : List ℕ) → SpellsWithin limit p s → SpellsWithin limit q t → s ++ rest ≡ t ++ more → (p ≡ q) × (rest ≡ more)
+one_front w limit p q s t rest more h k e =
+    let both : packet_at (p, length s) ≡ packet_at (q, length t) = sym (whole_again w limit p s rest h) ∙ (ap (front_at limit) e ∙ whole_again w limit q t more k) in
+    let same = same_packet (p, length s) (q, length t) both in
+    let len : length s ≡ length t = ap (λ (x : Packet × ℕ). x.1) same in
+    (ap (λ (x : Packet × ℕ). x.0) same, same_back s t rest more len e)
+
+some_bytes : (limit : ℕ) (p : Packet) (s : List ℕ) → SpellsWithin limit p s → 0 < length s
+some_bytes limit p s h = omega (arith, ap length h.0.bytes)
+
+not_faulty_front : (w : Wire) (limit : ℕ) (p : Packet) (s rest : List ℕ) (k : FaultKind) (place : ℕ) → SpellsWithin limit p s → Faulty limit (s ++ rest) k place → ⊥
+not_faulty_front w limit p s rest k place h bad = not_ended w limit p s rest (s ++ rest) (Some (fault_at k place)) h refl bad
+
+pub again_laws : (w : Wire) → ReadsAgain
+again_laws w = record { one = one_front w; some = some_bytes; right = not_faulty_front w }
+
+-- what a function found to be pending is short
+pub found_short : (w : Wire) (limit : ℕ) (b : List ℕ) (r : Result (Option (Packet × ℕ)) DecodeError) → AreBytes b → IsFront limit b r → IfOk r (λ o. IfNone o (length b ≤ 5 + limit))
+found_short w limit b (Err e) bytes h = tt
+found_short w limit b (Ok (Some x)) bytes h = tt
+found_short w limit b (Ok None) bytes h = pending_short w limit b bytes h

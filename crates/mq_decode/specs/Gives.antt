@@ -1,5 +1,5 @@
 -- A reading gives a value, or the first field that is not of its kind.
-use Rattle.std.specs.Prelude.{◌≡◌, Result, Ok, Err}
+use Rattle.std.specs.Prelude.{◌≡◌, ℕ, ◌-◌, ◌≤◌, List, length, drop, Result, Ok, Err}
 use Rattle.mq_decode.specs.declared.fault.BadField.{BadField}
 use Rattle.mq_decode.specs.declared.fault.FieldsError.{FieldsError}
 use Rattle.mq_decode.specs.declared.fault.FieldsError.TheVariants as errors
@@ -23,3 +23,7 @@ Fails (errors.Bad bad) read = read ≡ Err bad
 abbrev pub Gives : {X Y : Type 0} → (X → Y) → Result X FieldsError → Result Y BadField → Type 0
 Gives view (Ok x) read = read ≡ Ok (view x)
 Gives view (Err e) read = Fails e read
+
+-- the bytes end with these
+abbrev pub EndsWith : List ℕ → List ℕ → Type 0
+EndsWith bytes rest = (length rest ≤ length bytes) × (drop (length bytes - length rest) bytes ≡ rest)

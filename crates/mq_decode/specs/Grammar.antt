@@ -121,3 +121,11 @@ IsFront limit b (Ok None) = Pending limit b
 IsFront limit b (Ok (Some x)) = (x.1 ≤ length b) × SpellsWithin limit x.0 (take x.1 b)
 IsFront limit b (Err errors.Memory) = 0 < length b
 IsFront limit b (Err (errors.Fault fault)) = Faulty limit b fault.kind fault.place
+
+-- a packet that b begins with is all of b
+abbrev pub IsAlone : ℕ → List ℕ → Type 0
+IsAlone limit b = (p : Packet) (first rest : List ℕ) → SpellsWithin limit p first → b ≡ first ++ rest → rest ≡ []
+
+-- what is pending wants so many bytes: a packet that at most so many make whole ends with them
+abbrev pub Wants : ℕ → List ℕ → ℕ → Type 0
+Wants limit b n = Pending limit b → (more : List ℕ) → length more ≤ n → IsAlone limit (b ++ more)

@@ -7,4 +7,5 @@ pub mod Grammar
 pub mod Kind
 pub mod Laws
 pub mod Lists
+pub mod Reader
 pub mod State

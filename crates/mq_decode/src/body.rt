@@ -1,7 +1,7 @@
 //! The fields of a packet, all of them (chapter 3).
 
-ghost use Rattle.std.specs.Prelude.{◌≡◌, ◌<◌, ◌^◌, length};
-ghost use Rattle.mq_decode.specs.Gives.{Same, Gives};
+ghost use Rattle.std.specs.Prelude.{◌≡◌, ◌<◌, ◌^◌, length, IfSome};
+ghost use Rattle.mq_decode.specs.Gives.{EndsWith, Gives, Same};
 ghost use Rattle.mq_decode.specs.Lists.{list_with};
 ghost use Rattle.mq_decode.specs.Bodies.{present_at, answer_at, connack_at, only_identifier_at, body_at};
 
@@ -11,6 +11,7 @@ use crate::fields::{bad_at, end, identifier};
 use crate::kind::Kind;
 use crate::lists::{Item, list};
 use crate::publish::publish;
+use bytes::Bytes;
 use mq_packet::{ConnAck, NonEmpty, Packet, PacketId, RefusalCode};
 use std::alloc::Global;
 
@@ -81,15 +82,22 @@ fn identified<T: Item + Drop>(
     Ok((id, items))
 }
 
-/// All fields of a packet of this kind.
-pub(crate) fn body(alloc: Global, kind: Kind, bytes: &[u8]) -> Result<Packet, FieldsError>
-    requires { length bytes.now < 2 ^ 28 }
+/// All fields of a packet of this kind. Where `whole` is the packet that they end, a payload shares its
+/// bytes.
+pub(crate) fn body(
+    alloc: Global,
+    kind: Kind,
+    whole: Option<&Bytes>,
+    bytes: &[u8],
+) -> Result<Packet, FieldsError>
+    requires shared { IfSome whole (λ packet. EndsWith packet.now bytes.now) }
+    requires small { length bytes.now < 2 ^ 28 }
     ensures { Gives (λ p. p) result (body_at kind bytes.now) }
 {
     match kind {
         Kind::Connect => Ok(Packet::Connect(connect(alloc, bytes)?)),
         Kind::ConnAck => Ok(Packet::ConnAck(connack(bytes)?)),
-        Kind::Publish(flags) => Ok(Packet::Publish(publish(alloc, flags, bytes)?)),
+        Kind::Publish(flags) => Ok(Packet::Publish(publish(alloc, flags, whole, bytes)?)),
         Kind::PubAck => Ok(Packet::PubAck(only_identifier(bytes)?)),
         Kind::PubRec => Ok(Packet::PubRec(only_identifier(bytes)?)),
         Kind::PubRel => Ok(Packet::PubRel(only_identifier(bytes)?)),

@@ -3,7 +3,7 @@
 
 ghost use Rattle.std.specs.Prelude.{◌≡◌, ◌<◌, ℕ, Option, true, length, IfOk, Ok};
 ghost use Rattle.mq_topic.specs.Topic.{is_topic_name, is_topic_filter};
-ghost use Rattle.mq_decode.specs.Gives.{Same};
+ghost use Rattle.mq_decode.specs.Gives.{EndsWith, Same};
 ghost use Rattle.mq_decode.specs.Fields.{number_at, identifier_at, text_at, name_at, filter_at, binary_at, end_at, text_fault};
 
 use crate::fault::{BadField, FaultKind};
@@ -25,17 +25,20 @@ pub(crate) fn bad_at<T>(kind: FaultKind, bytes: &[u8]) -> Result<T, BadField>
 pub(crate) fn number(bytes: &[u8]) -> Result<(u16, &[u8]), BadField>
     ensures read { Same (λ x. (x.0, x.1.now)) result (number_at bytes.now) }
     ensures shorter { IfOk result (λ x. length x.1.now < length bytes.now) }
+    ensures end { IfOk result (λ x. EndsWith bytes.now x.1.now) }
 {
     if bytes.len() < 2 {
         return bad_at(FaultKind::PastEnd, bytes);
     }
-    Ok((mq_wire::number_at(bytes, 0), &bytes[2..]))
+    let (_, rest) = bytes.split_at(2);
+    Ok((mq_wire::number_at(bytes, 0), rest))
 }
 
 #[tactic(auto, unfolding(crate::specs::Fields::identifier_at))]
 pub(crate) fn identifier(bytes: &[u8]) -> Result<(PacketId, &[u8]), BadField>
     ensures read { Same (λ x. (x.0, x.1.now)) result (identifier_at bytes.now) }
     ensures shorter { IfOk result (λ x. length x.1.now < length bytes.now) }
+    ensures end { IfOk result (λ x. EndsWith bytes.now x.1.now) }
 {
     let (number, rest) = number(bytes)?;
     match PacketId::new(number) {
@@ -58,12 +61,14 @@ fn text_fault(fault: FieldFault) -> FaultKind
 pub(crate) fn text(bytes: &[u8]) -> Result<(TextRef<'_>, &[u8]), BadField>
     ensures read { Same (λ x. (x.0, x.1.now)) result (text_at bytes.now) }
     ensures shorter { IfOk result (λ x. length x.1.now < length bytes.now) }
+    ensures end { IfOk result (λ x. EndsWith bytes.now x.1.now) }
 {
     let (text, end) = match mq_wire::text_at(bytes, 0) {
         Ok(field) => field,
         Err(fault) => return bad_at(text_fault(fault), bytes),
     };
-    Ok((text, &bytes[end..]))
+    let (_, rest) = bytes.split_at(end);
+    Ok((text, rest))
 }
 
 #[tactic(auto, unfolding(crate::specs::Fields::name_at))]
@@ -71,6 +76,7 @@ pub(crate) fn name(bytes: &[u8]) -> Result<(TextRef<'_>, &[u8]), BadField>
     ensures read { Same (λ x. (x.0, x.1.now)) result (name_at bytes.now) }
     ensures name { IfOk result (λ x. is_topic_name x.0 ≡ true) }
     ensures shorter { IfOk result (λ x. length x.1.now < length bytes.now) }
+    ensures end { IfOk result (λ x. EndsWith bytes.now x.1.now) }
 {
     match text(bytes) {
         Ok((name, rest)) => {

@@ -1,6 +1,6 @@
 //! Laws of the grammar.
 
-ghost use Rattle.mq_decode.specs.Laws.{OneReading, PendingIsShort};
+ghost use Rattle.mq_decode.specs.Laws.{OneReading, PendingIsShort, ReadsAgain};
 
 use mq_wire::{length_laws, number_laws, text_laws};
 
@@ -16,6 +16,15 @@ pub fn one_reading()
 /// Less than a whole packet is at most five bytes and the bound on the remaining length.
 pub fn pending_is_short()
     ensures { PendingIsShort }
+{
+    number_laws();
+    text_laws();
+    length_laws();
+}
+
+/// Where a packet is spelled at the front, no other one is, nothing is pending, and there is no fault.
+pub fn reads_again()
+    ensures { ReadsAgain }
 {
     number_laws();
     text_laws();

@@ -14,9 +14,13 @@ mod laws;
 mod limits;
 mod lists;
 mod publish;
+mod read;
 mod take;
+#[cfg(test)]
+mod tests;
 
 pub use crate::decoder::{Decoder, decode_pieces};
 pub use crate::fault::{DecodeError, DecodeFault, FaultKind};
-pub use crate::laws::{one_reading, pending_is_short};
+pub use crate::laws::{one_reading, pending_is_short, reads_again};
 pub use crate::limits::Limits;
+pub use crate::read::{ReadError, read_packet};

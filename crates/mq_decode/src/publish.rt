@@ -1,8 +1,8 @@
 //! PUBLISH (3.3).
 
-ghost use Rattle.std.specs.Prelude.{◌≡◌, ◌<◌, ◌≤◌, ◌^◌, true, length, IfOk, IsSome};
+ghost use Rattle.std.specs.Prelude.{◌≡◌, ◌<◌, ◌≤◌, ◌^◌, true, length, IfOk, IfSome, IsSome};
 ghost use Rattle.mq_packet.specs.Publication.{fits_delivery};
-ghost use Rattle.mq_decode.specs.Gives.{Same, Gives};
+ghost use Rattle.mq_decode.specs.Gives.{EndsWith, Gives, Same};
 ghost use Rattle.mq_decode.specs.Bodies.{identified_at, delivery_at, publish_at};
 
 use crate::fault::{BadField, FieldsError};
@@ -11,13 +11,13 @@ use crate::kind::PublishFlags;
 use bytes::Bytes;
 use mq_packet::{Delivery, Message, Payload, Publish};
 use mq_topic::{Qos, TopicName};
-use std::alloc::Global;
+use std::alloc::{AllocError, Global};
 
 // The identifier of a quality of service over 0.
 fn identified(dup: bool, bytes: &[u8]) -> Result<(Option<Delivery>, &[u8]), BadField>
     ensures read { Same (λ x. (x.0, x.1.now)) result (identified_at dup bytes.now) }
     ensures some { IfOk result (λ x. IsSome x.0) }
-    ensures shorter { IfOk result (λ x. length x.1.now < length bytes.now) }
+    ensures end { IfOk result (λ x. EndsWith bytes.now x.1.now) }
 {
     match identifier(bytes) {
         Ok((id, rest)) => Ok((Some(Delivery { id, dup }), rest)),
@@ -29,7 +29,7 @@ fn identified(dup: bool, bytes: &[u8]) -> Result<(Option<Delivery>, &[u8]), BadF
 fn delivery(flags: PublishFlags, bytes: &[u8]) -> Result<(Option<Delivery>, &[u8]), BadField>
     ensures read { Same (λ x. (x.0, x.1.now)) result (delivery_at flags bytes.now) }
     ensures fits { IfOk result (λ x. fits_delivery flags.qos x.0 ≡ true) }
-    ensures rest { IfOk result (λ x. length x.1.now ≤ length bytes.now) }
+    ensures end { IfOk result (λ x. EndsWith bytes.now x.1.now) }
 {
     match flags.qos {
         Qos::Q0 => Ok((None, bytes)),
@@ -38,14 +38,29 @@ fn delivery(flags: PublishFlags, bytes: &[u8]) -> Result<(Option<Delivery>, &[u8
     }
 }
 
-/// All fields of a PUBLISH.
+// The payload of its own: it shares the packet where that is whole in a buffer, and else is a copy.
+fn payload_of(alloc: Global, whole: Option<&Bytes>, payload: &[u8]) -> Result<Payload, AllocError>
+    requires shared { IfSome whole (λ packet. EndsWith packet.now payload.now) }
+    requires small { length payload.now < 2 ^ 28 }
+    ensures { IfOk result (λ p. p ≡ payload.now) }
+{
+    let bytes = match whole {
+        Some(packet) => packet.slice(packet.len() - payload.len()..)?,
+        None => Bytes::copy_from_slice(alloc, payload)?,
+    };
+    Ok(Payload::new(bytes).unwrap())
+}
+
+/// All fields of a PUBLISH. Where `whole` is the packet that they end, the payload shares its bytes.
 #[tactic(auto, unfolding(crate::specs::Bodies::publish_at))]
 pub(crate) fn publish(
     alloc: Global,
     flags: PublishFlags,
+    whole: Option<&Bytes>,
     bytes: &[u8],
 ) -> Result<Publish, FieldsError>
-    requires { length bytes.now < 2 ^ 28 }
+    requires shared { IfSome whole (λ packet. EndsWith packet.now bytes.now) }
+    requires small { length bytes.now < 2 ^ 28 }
     ensures { Gives (λ p. p) result (publish_at flags bytes.now) }
 {
     let (topic, rest) = match name(bytes) {
@@ -57,7 +72,7 @@ pub(crate) fn publish(
         Err(bad) => return Err(FieldsError::Bad(bad)),
     };
     let topic = TopicName::from_text(topic.to_text(alloc)?);
-    let payload = Payload::new(Bytes::copy_from_slice(alloc, payload)?).unwrap();
+    let payload = payload_of(alloc, whole, payload)?;
     let message = Message {
         topic,
         payload,

@@ -1,14 +1,17 @@
 //! Packets from the front of bytes, one after another.
 
-ghost use Rattle.std.specs.Prelude.{◌≡◌, ◌<◌, ◌≤◌, ◌++◌, [], ◌∷◌, length, take, drop, IfOk, IfErr, OnOk};
-ghost use Rattle.mq_decode.specs.Grammar.{Goes, Stops, Pending};
+ghost use Rattle.std.specs.Prelude.{◌≡◌, ◌+◌, ◌<◌, ◌≤◌, ◌++◌, [], ◌∷◌, length, take, drop, IfOk, IfErr, IfNone, IfSome, IsTrue, OnOk};
+ghost use Rattle.mq_decode.specs.Grammar.{Goes, IsAlone, IsFront, Pending, Stops, Wants};
 
 use crate::fault::DecodeError;
 use crate::front::front;
 use crate::header::header_at;
 use crate::limits::Limits;
+use bytes::Bytes;
 use mq_packet::Packet;
+use mq_wire::{length_laws, number_laws, text_laws};
 use std::alloc::Global;
+use std::mem;
 
 // Appends a packet. Where memory runs out the list is unchanged.
 fn append(out: &mut Vec<Packet>, packet: Packet) -> Result<(), DecodeError>
@@ -37,7 +40,7 @@ pub(crate) fn take_packets(
     let mut taken = 0;
     loop {
         let (_, rest) = bytes.split_at(taken);
-        match front(alloc, limits, rest) {
+        match front(alloc, limits, None, rest) {
             Ok(Some((packet, size))) => {
                 append(out, packet)?;
                 taken += size;
@@ -48,10 +51,15 @@ pub(crate) fn take_packets(
     }
 }
 
-// How many bytes the packet at the front still wants, as far as its header tells, and at least one.
-fn wanted(limits: Limits, held: &[u8]) -> usize
-    ensures { 0 < result }
+/// How many bytes the packet at the front still wants, as far as its header tells, and at least one. A
+/// packet that these make whole ends with them.
+pub(crate) fn wanted(limits: Limits, held: &[u8]) -> usize
+    ensures some { 0 < result }
+    ensures exact { Wants limits held.now result }
 {
+    number_laws();
+    text_laws();
+    length_laws();
     match header_at(limits, held) {
         Ok(Some(header)) => (header.start + header.size)
             .saturating_sub(held.len())
@@ -60,17 +68,39 @@ fn wanted(limits: Limits, held: &[u8]) -> usize
     }
 }
 
-// Removes bytes from the front. They are all of them, but for a packet that ends before the bytes that
-// were asked for.
-fn drop_front(held: &mut Vec<u8>, n: usize)
-    requires { n ≤ length held.old.items }
-    ensures { held.new.items ≡ drop n held.old.items }
+// Whether the header is whole, and as many bytes are there as it says.
+fn is_complete(limits: Limits, held: &[u8]) -> bool
+    ensures { IsTrue result → Pending limits held.now → ⊥ }
 {
-    if n == held.len() {
-        held.clear();
-        return;
+    number_laws();
+    text_laws();
+    length_laws();
+    match header_at(limits, held) {
+        Ok(Some(header)) => header.start + header.size <= held.len(),
+        _ => false,
     }
-    held.drain(..n);
+}
+
+/// The packet that stands at the front of a buffer, and how many bytes it takes. A packet that fills the
+/// buffer takes it, and its payload shares it.
+pub(crate) fn take_held(
+    alloc: Global,
+    limits: Limits,
+    held: &mut Vec<u8>,
+) -> Result<Option<(Packet, usize)>, DecodeError>
+    ensures front { IsFront limits held.old.items result }
+    ensures some { IfOk result (λ o. IfSome o (λ x. 0 < x.1)) }
+    ensures short { IfOk result (λ o. IfNone o (length held.new.items ≤ 5 + limits)) }
+    ensures kept { IfOk result (λ o. IfNone o (held.new.items ≡ held.old.items)) }
+{
+    if !is_complete(limits, held) {
+        return front(alloc, limits, None, held);
+    }
+    let buffer = mem::replace(held, Vec::new(alloc));
+    match Bytes::from_vec(buffer) {
+        Ok(whole) => front(alloc, limits, Some(&whole), whole.as_slice()),
+        Err(_) => Err(DecodeError::Memory),
+    }
 }
 
 // Appends bytes to those that are held.
@@ -81,6 +111,28 @@ fn hold(held: &mut Vec<u8>, bytes: &[u8]) -> Result<(), DecodeError>
     match held.extend_from_slice(bytes) {
         Ok(()) => Ok(()),
         Err(_) => Err(DecodeError::Memory),
+    }
+}
+
+// Takes the packet that is held, if it is whole; it has no bytes after it.
+fn take_one(
+    alloc: Global,
+    limits: Limits,
+    held: &mut Vec<u8>,
+    out: &mut Vec<Packet>,
+) -> Result<(), DecodeError>
+    requires { IsAlone limits held.old.items }
+    ensures ok { OnOk result (Goes limits held.old.items out.old.items out.new.items held.new.items) }
+    ensures err { IfErr result (Stops limits held.old.items out.old.items out.new.items) }
+{
+    match take_held(alloc, limits, held) {
+        Ok(None) => Ok(()),
+        Ok(Some(found)) => {
+            append(out, found.0)?;
+            held.clear();
+            Ok(())
+        }
+        Err(error) => Err(error),
     }
 }
 
@@ -107,8 +159,7 @@ pub(crate) fn fill_up(
         let n = wanted(limits, held).min(rest.len());
         let (next, _) = rest.split_at(n);
         hold(held, next)?;
-        let taken = take_packets(alloc, limits, held, out)?;
-        drop_front(held, taken);
+        take_one(alloc, limits, held, out)?;
         used += n;
     }
     Ok(used)

@@ -3,3 +3,4 @@ pub mod Identifier
 pub mod Publication
 pub mod Spelling
 pub mod Values
+pub mod Writing

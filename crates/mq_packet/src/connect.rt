@@ -1,8 +1,11 @@
 //! CONNECT (3.1).
 
+ghost use Rattle.std.specs.Prelude.{◌≡◌};
+
 use crate::binary::Binary;
 use mq_topic::{Qos, TopicName};
 use mq_wire::Text;
+use std::alloc::AllocError;
 
 /// CONNECT (3.1): the first packet of a client.
 #[derive(Debug, Drop)]
@@ -39,4 +42,45 @@ pub struct Login {
     pub name: Text,
     /// The password, any bytes.
     pub password: Option<Binary>,
+}
+
+impl Clone for Connect {
+    ghost is_clone = { λ connect copy. copy ≡ connect };
+
+    /// Another owner of the same bytes; none is copied.
+    fn clone(&self) -> Result<Connect, AllocError> {
+        Ok(Connect {
+            client_id: self.client_id.clone()?,
+            clean_session: self.clean_session,
+            keep_alive: self.keep_alive,
+            will: self.will.clone()?,
+            login: self.login.clone()?,
+        })
+    }
+}
+
+impl Clone for Will {
+    ghost is_clone = { λ will copy. copy ≡ will };
+
+    /// Another owner of the same bytes; none is copied.
+    fn clone(&self) -> Result<Will, AllocError> {
+        Ok(Will {
+            topic: self.topic.clone()?,
+            message: self.message.clone()?,
+            qos: self.qos,
+            retain: self.retain,
+        })
+    }
+}
+
+impl Clone for Login {
+    ghost is_clone = { λ login copy. copy ≡ login };
+
+    /// Another owner of the same bytes; none is copied.
+    fn clone(&self) -> Result<Login, AllocError> {
+        Ok(Login {
+            name: self.name.clone()?,
+            password: self.password.clone()?,
+        })
+    }
 }

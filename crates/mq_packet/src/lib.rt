@@ -14,6 +14,9 @@ mod message;
 mod packet;
 mod publish;
 mod spelled;
+#[cfg(test)]
+mod tests;
+mod write;
 
 pub use crate::binary::{Binary, Payload};
 pub use crate::connack::{ConnAck, RefusalCode};
@@ -24,3 +27,4 @@ pub use crate::list::NonEmpty;
 pub use crate::message::Message;
 pub use crate::packet::{Packet, Request, SubAckCode};
 pub use crate::publish::{Delivery, Publish};
+pub use crate::write::{WriteError, write_packet};

@@ -1,7 +1,9 @@
 //! Lists that hold at least one item.
 
 ghost use Rattle.std.specs.Prelude.{◌≡◌, ◌<◌, length};
+ghost use Rattle.std.specs.List.{AllZip};
 
+use std::alloc::AllocError;
 use std::marker::Model;
 
 /// A list of at least one item, as SUBSCRIBE, SUBACK and UNSUBSCRIBE carry it (3.8.3, 3.9.3, 3.10.3).
@@ -44,5 +46,15 @@ impl<T> NonEmpty<T> {
         ensures some { 0 < length self.now }
     {
         self.items.as_slice()
+    }
+}
+
+impl<T: Clone> Clone for NonEmpty<T> {
+    ghost is_clone = { λ list copy. AllZip T.is_clone list copy };
+
+    /// A list of clones of the items.
+    fn clone(&self) -> Result<NonEmpty<T>, AllocError> {
+        let items = self.items.clone()?;
+        Ok(NonEmpty { items })
     }
 }

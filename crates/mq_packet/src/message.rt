@@ -1,7 +1,10 @@
 //! Application messages.
 
+ghost use Rattle.std.specs.Prelude.{◌≡◌};
+
 use crate::binary::Payload;
 use mq_topic::{Qos, TopicName};
+use std::alloc::AllocError;
 
 /// An application message, as it is published (3.3). A clone shares its bytes.
 #[derive(Debug, Drop)]
@@ -14,4 +17,18 @@ pub struct Message {
     pub qos: Qos,
     /// RETAIN: the server keeps it for later subscribers.
     pub retain: bool,
+}
+
+impl Clone for Message {
+    ghost is_clone = { λ message copy. copy ≡ message };
+
+    /// Another owner of the same bytes; none is copied.
+    fn clone(&self) -> Result<Message, AllocError> {
+        Ok(Message {
+            topic: self.topic.clone()?,
+            payload: self.payload.clone()?,
+            qos: self.qos,
+            retain: self.retain,
+        })
+    }
 }

@@ -9,6 +9,7 @@ use crate::id::PacketId;
 use crate::list::NonEmpty;
 use crate::publish::Publish;
 use mq_topic::{Qos, TopicFilter};
+use std::alloc::AllocError;
 
 /// A control packet (chapter 3).
 #[derive(Debug, Drop)]
@@ -98,5 +99,50 @@ impl SubAckCode {
             128 => Some(SubAckCode::Failure),
             _ => None,
         }
+    }
+}
+
+impl Clone for Request {
+    ghost is_clone = { λ request copy. copy ≡ request };
+
+    /// Another owner of the same bytes; none is copied.
+    fn clone(&self) -> Result<Request, AllocError> {
+        Ok(Request {
+            filter: self.filter.clone()?,
+            qos: self.qos,
+        })
+    }
+}
+
+impl Clone for Packet {
+    ghost is_clone = { λ packet copy. copy ≡ packet };
+
+    /// A packet whose texts, binary fields and payload are the same bytes; of these none is copied.
+    fn clone(&self) -> Result<Packet, AllocError> {
+        Ok(match self {
+            Packet::Connect(connect) => Packet::Connect(connect.clone()?),
+            Packet::ConnAck(connack) => Packet::ConnAck(*connack),
+            Packet::Publish(publish) => Packet::Publish(publish.clone()?),
+            Packet::PubAck(id) => Packet::PubAck(*id),
+            Packet::PubRec(id) => Packet::PubRec(*id),
+            Packet::PubRel(id) => Packet::PubRel(*id),
+            Packet::PubComp(id) => Packet::PubComp(*id),
+            Packet::Subscribe { id, requests } => Packet::Subscribe {
+                id: *id,
+                requests: requests.clone()?,
+            },
+            Packet::SubAck { id, codes } => Packet::SubAck {
+                id: *id,
+                codes: codes.clone()?,
+            },
+            Packet::Unsubscribe { id, filters } => Packet::Unsubscribe {
+                id: *id,
+                filters: filters.clone()?,
+            },
+            Packet::UnsubAck(id) => Packet::UnsubAck(*id),
+            Packet::PingReq => Packet::PingReq,
+            Packet::PingResp => Packet::PingResp,
+            Packet::Disconnect => Packet::Disconnect,
+        })
     }
 }

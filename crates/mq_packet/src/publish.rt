@@ -5,6 +5,7 @@ ghost use Rattle.mq_packet.specs.Publication.{fits_delivery};
 
 use crate::id::PacketId;
 use crate::message::Message;
+use std::alloc::AllocError;
 use std::marker::Model;
 
 /// What a PUBLISH of quality of service 1 or 2 has beside its message (3.3.1.1, 3.3.2.2).
@@ -70,5 +71,18 @@ impl Publish {
             delivery: _,
         } = self;
         message
+    }
+}
+
+impl Clone for Publish {
+    ghost is_clone = { λ publish copy. copy ≡ publish };
+
+    /// Another owner of the same bytes; none is copied.
+    fn clone(&self) -> Result<Publish, AllocError> {
+        let message = self.message.clone()?;
+        Ok(Publish {
+            message,
+            delivery: self.delivery,
+        })
     }
 }

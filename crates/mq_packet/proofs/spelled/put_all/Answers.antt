@@ -1,4 +1,4 @@
-use Rattle.std.proofs.Common.{◌≡◌, ◌++◌, length, take, ap, subst}
+use Rattle.std.proofs.Common.{take}
 use Rattle.std.specs.List.{flat_map}
 use Rattle.mq_packet.proofs.Lists.{on_err, kept_front}
 use Rattle.mq_packet.proofs.spelled.put_all.Goals as goal

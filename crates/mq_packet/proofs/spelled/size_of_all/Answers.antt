@@ -1,4 +1,4 @@
-use Rattle.std.proofs.Common.{sym, arith}
+use Rattle.std.proofs.Common.{sym}
 use Rattle.mq_packet.proofs.Lists.{too_long}
 use Rattle.mq_packet.proofs.spelled.size_of_all.Goals as goal
 

@@ -1,0 +1,56 @@
+//! Measures how fast packets are decoded and encoded, beside a plain scan and a plain copy of the same
+//! bytes in the same run. With no words it lists what it can measure.
+#![tactic(auto)]
+
+mod figures;
+mod measure;
+mod plain;
+mod sample;
+mod stream;
+mod subject;
+mod work;
+
+use anyhow::Context;
+use std::env;
+use std::process::ExitCode;
+use subject::Subject;
+
+/// Names each subject and says what it is.
+fn list(rt: &impl Print) -> anyhow::Result<()> {
+    for subject in Subject::ALL {
+        println!(rt; "{:<14} {}", subject.name(), subject.explanation())?;
+    }
+    Ok(())
+}
+
+/// Whether a word names a subject.
+fn is_known(word: &String) -> bool {
+    Subject::named(word.as_str()).is_some()
+}
+
+/// Says that the words cannot be read.
+fn refuse(rt: &impl Eprint, word: &str) -> anyhow::Result<ExitCode> {
+    eprintln!(rt; "mq_bench: cannot measure {word:?}; without words it lists what it can")?;
+    Ok(ExitCode::from(2))
+}
+
+fn main(rt: HostRuntime) -> anyhow::Result<ExitCode> {
+    let alloc = rt.alloc();
+    let words: Vec<String> = env::args(&rt)
+        .context("reading the words")?
+        .skip(1)
+        .collect(alloc)?;
+    if words.is_empty() {
+        list(&rt)?;
+    }
+    if let Some(word) = words.iter().find(|word| !is_known(word)) {
+        return refuse(&rt, word.as_str());
+    }
+    for subject in words
+        .iter()
+        .filter_map(|word| Subject::named(word.as_str()))
+    {
+        measure::measure(&rt, alloc, subject)?;
+    }
+    Ok(ExitCode::SUCCESS)
+}

@@ -1,0 +1,132 @@
+//! Packets from a reader.
+
+ghost use Rattle.std.specs.Prelude.{◌≡◌, ◌+◌, ◌<◌, ◌≤◌, ◌++◌, ℕ, List, Option, Some, None, [], length, take, IfOk, IfErr, IfSome, IfNone, OnErr, OnOk};
+ghost use Rattle.std.specs.Io.KnownBytes.{Consumes, IsAtEnd, Keeps, ReadConsumes};
+ghost use Rattle.mq_packet.specs.declared.packet.Packet.{Packet};
+ghost use Rattle.mq_decode.specs.Grammar.{SpellsWithin, Pending};
+ghost use Rattle.mq_decode.specs.Reader.{ReadStops, Answers, stop_of};
+
+use crate::fault::{DecodeError, DecodeFault};
+use crate::laws::reads_again;
+use crate::limits::Limits;
+use crate::take::{take_held, wanted};
+use mq_packet::Packet;
+use std::alloc::Global;
+use std::io;
+use std::io::{ErrorKind, Read};
+
+/// Why no packet was read.
+#[derive(Debug, Drop)]
+pub enum ReadError {
+    /// The reader ended within a packet.
+    Cut,
+    /// The reader failed.
+    Io(io::Error),
+    /// The bytes are no packet.
+    Fault(DecodeFault),
+    /// Memory ran out.
+    Memory,
+}
+
+// How far the buffer grows at a time.
+const CHUNK: usize = 4096;
+
+// One read, retried where a signal interrupts it.
+fn read_some<R: Read>(reader: &mut R, room: &mut [u8]) -> io::Result<usize>
+    ensures count { IfOk result (λ n. n ≤ length room.new) }
+    ensures within { IfOk result (λ n. n ≤ length room.old) }
+    ensures bytes { ReadConsumes (R.remaining reader.old) (R.remaining reader.new) result room.new }
+{
+    for _ in 0..u64::MAX {
+        match reader.read(room) {
+            Err(error) if error.kind() == ErrorKind::Interrupted => {}
+            answer => return answer,
+        }
+    }
+    reader.read(room)
+}
+
+// Reads at most `most` bytes behind those of the buffer, none only at the reader's end.
+fn fill<R: Read>(reader: &mut R, buffer: &mut Vec<u8>, most: usize) -> Result<usize, ReadError>
+    requires some { 0 < most }
+    requires chunk { most ≤ 4096 }
+    ensures most { IfOk result (λ n. n ≤ most) }
+    ensures bytes { IfOk result (λ n. (more : List ℕ) × (length more ≡ n)
+        × (buffer.new.items ≡ buffer.old.items ++ more)
+        × Consumes (R.remaining reader.old) (R.remaining reader.new) more) }
+    ensures end { IfOk result (λ n. n ≡ 0 → IsAtEnd (R.remaining reader.new)) }
+    ensures err { (limit : ℕ) (left : Option (List ℕ)) → IfErr result (ReadStops limit left) }
+{
+    let start = buffer.len();
+    if buffer.resize(start + most, 0).is_err() {
+        return Err(ReadError::Memory);
+    }
+    let read = read_some(reader, &mut buffer[start..]);
+    match read {
+        Ok(count) => {
+            buffer.truncate(start + count);
+            Ok(count)
+        }
+        Err(error) => Err(ReadError::Io(error)),
+    }
+}
+
+/// Reads the next packet, and takes just its bytes from the reader. `None`: the reader was at its end.
+/// After an error the reader stands somewhere in the packet, and is not to be read on.
+pub fn read_packet<R: Read>(
+    alloc: Global,
+    reader: &mut R,
+    limits: Limits,
+) -> Result<Option<Packet>, ReadError>
+    // A packet that was read is spelled by the bytes that were taken.
+    ensures packet { IfOk result (λ o. IfSome o (λ p. (s : List ℕ) × SpellsWithin limits p s
+        × Consumes (R.remaining reader.old) (R.remaining reader.new) s)) }
+    ensures none { IfOk result (λ o. IfNone o (IsAtEnd (R.remaining reader.old))) }
+    ensures err { IfErr result (ReadStops limits (R.remaining reader.old)) }
+    // A packet that stands there is read, and what follows is left.
+    ensures again { (p : Packet) (s rest : List ℕ) → SpellsWithin limits p s
+        → R.remaining reader.old ≡ Some (s ++ rest) → Answers p rest result (R.remaining reader.new) }
+{
+    reads_again();
+    read_one(alloc, reader, limits)
+}
+
+// The decoder's error, for a reader.
+fn stop_of(error: DecodeError) -> ReadError
+    ensures { result ≡ stop_of error }
+{
+    match error {
+        DecodeError::Fault(fault) => ReadError::Fault(fault),
+        DecodeError::Memory => ReadError::Memory,
+    }
+}
+
+// The same, without what follows from the grammar.
+fn read_one<R: Read>(
+    alloc: Global,
+    reader: &mut R,
+    limits: Limits,
+) -> Result<Option<Packet>, ReadError>
+    ensures packet { IfOk result (λ o. IfSome o (λ p. (s : List ℕ) × SpellsWithin limits p s
+        × Consumes (R.remaining reader.old) (R.remaining reader.new) s)) }
+    ensures none { IfOk result (λ o. IfNone o (IsAtEnd (R.remaining reader.old))) }
+    ensures err { IfErr result (ReadStops limits (R.remaining reader.old)) }
+{
+    let mut buffer = Vec::new(alloc);
+    loop {
+        let most = wanted(limits, &buffer).min(CHUNK);
+        let count = fill(reader, &mut buffer, most)?;
+        if count == 0 {
+            return if buffer.is_empty() {
+                Ok(None)
+            } else {
+                Err(ReadError::Cut)
+            };
+        }
+        match take_held(alloc, limits, &mut buffer) {
+            Ok(None) => {}
+            Ok(Some(found)) => return Ok(Some(found.0)),
+            Err(error) => return Err(stop_of(error)),
+        }
+    }
+}

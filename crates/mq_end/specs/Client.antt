@@ -1,0 +1,104 @@
+-- The client end: what it does with a packet, and with each call of its user.
+use Rattle.std.specs.Prelude.{ℕ, not, ◌&&◌, if◌then◌else◌, Option, Some, None, List, [], ◌∷◌, length, nat_lt}
+use Rattle.mq_packet.specs.declared.connect.Connect.{Connect}
+use Rattle.mq_packet.specs.declared.connack.ConnAck.{ConnAck}
+use Rattle.mq_packet.specs.declared.connack.ConnAck.TheVariants as connacks
+use Rattle.mq_packet.specs.declared.packet.Request.{Request}
+use Rattle.mq_packet.specs.declared.packet.Packet.{Packet}
+use Rattle.mq_packet.specs.declared.packet.Packet.TheVariants as packets
+use Rattle.mq_flow.specs.declared.claim.Claim.TheVariants as claims
+use Rattle.mq_flow.specs.Sender.{is_full, claim, release, awaits_suback, awaits_unsuback}
+use Rattle.mq_end.specs.declared.state.State.{State}
+use Rattle.mq_end.specs.declared.state.State.TheVariants.{Closed, Open, Up}
+use Rattle.mq_end.specs.declared.happening.Happening.TheVariants as happens
+use Rattle.mq_end.specs.declared.reason.CloseReason.TheVariants as reasons
+use Rattle.mq_end.specs.declared.refusal.PublishRefusal.{PublishRefusal}
+use Rattle.mq_end.specs.declared.refusal.PublishRefusal.TheVariants as refusals
+use Rattle.mq_end.specs.End.{End, Reply, silent, puts_out, tells, over, closes, closes_after, renewed, comes_up, is_up, one_by_one}
+use Rattle.mq_end.specs.Both.{flow_gets}
+use Rattle.mq_end.specs.Sizes.{subscribe_size, unsubscribe_size}
+
+-- ---- packets
+
+-- CONNACK comes to a client that waits for it (3.2).
+abbrev pub connack_gets : ConnAck → End → Reply
+-- CONNECT is refused (3.2.2.3)
+connack_gets (connacks.Refused code) e = closes (reasons.Refused code) e
+-- It is accepted. Session Present may not be 1 after clean session 1 (3.2.2.2); it may not be 0 after clean session 0 where
+-- the session is established, since the server then lost it (3.2.2.2, 3.1.2.4). Else the client is up.
+connack_gets (connacks.Accepted session_present) e =
+    if e.clean && session_present then closes reasons.Unexpected e else
+    (if not e.clean && (e.known && not session_present) then closes reasons.SessionLost e else
+    comes_up [] session_present e)
+
+-- the first packet has to be CONNACK (3.2)
+abbrev pub client_open_gets : Packet → End → Reply
+client_open_gets (packets.ConnAck answer) e = connack_gets answer e
+client_open_gets p e = closes reasons.Unexpected e
+
+-- A packet comes to a client that is up.
+abbrev pub client_up_gets : Packet → End → Reply
+-- SUBACK has the identifier of a SUBSCRIBE that waits, and as many codes as it has filters (3.8.4, 3.9)
+client_up_gets (packets.SubAck i codes) e =
+    if awaits_suback i (length codes) e.book then tells (happens.SubAck i codes) (record e { book = release i e.book }) else
+    closes reasons.Unexpected e
+-- UNSUBACK has the identifier of an UNSUBSCRIBE that waits (3.10.4, 3.11)
+client_up_gets (packets.UnsubAck i) e =
+    if awaits_unsuback i e.book then tells (happens.UnsubAck i) (record e { book = release i e.book }) else
+    closes reasons.Unexpected e
+-- PINGRESP (3.13)
+client_up_gets packets.PingResp e = tells happens.Pong e
+-- messages and their acknowledgements; any other packet may not come to a client (4.3, 4.8)
+client_up_gets p e = flow_gets p e
+
+-- a packet comes to a client whose connection is so far
+abbrev pub client_gets_in : State → Packet → End → Reply
+-- without a connection nothing comes
+client_gets_in Closed p e = silent e
+client_gets_in Open p e = client_open_gets p e
+client_gets_in Up p e = client_up_gets p e
+
+-- a packet comes to the client (3.2 to 3.13)
+abbrev pub client_gets : Packet → End → Reply
+client_gets p e = client_gets_in e.state p e
+
+-- packets come at once, one after another (4.6)
+abbrev pub client_gets_all : List Packet → End → Reply
+client_gets_all ps e = one_by_one client_gets ps e
+
+-- ---- calls of its user
+
+-- The user opens a connection with this CONNECT (3.1). One that was there is over first.
+abbrev pub connects : Connect → End → Reply
+connects c e = puts_out (packets.Connect c ∷ []) (record (renewed c.clean_session (over e)) { state = Open; keep_alive = c.keep_alive })
+
+-- SUBSCRIBE with this identifier (3.8)
+abbrev pub subscribes : ℕ → List Request → End → Reply
+subscribes i requests e = puts_out (packets.Subscribe i requests ∷ []) (record e { book = claim i claims.Subscribe (length requests) e.book })
+
+-- UNSUBSCRIBE with this identifier (3.10)
+abbrev pub unsubscribes : ℕ → List (List ℕ) → End → Reply
+unsubscribes i filters e = puts_out (packets.Unsubscribe i filters ∷ []) (record e { book = claim i claims.Unsubscribe (length filters) e.book })
+
+-- why a packet of this remaining length (2.2.3) that takes an identifier (2.3.1) is refused, the first that stands
+abbrev pub request_refusal : ℕ → ℕ → ℕ → End → Option PublishRefusal
+request_refusal limit capacity size e =
+    if not (is_up e.state) then Some refusals.NotConnected else
+    (if nat_lt limit size then Some refusals.TooLarge else
+    (if is_full capacity e.book then Some refusals.Full else None))
+
+-- why SUBSCRIBE is refused (3.8)
+abbrev pub subscribe_refusal : ℕ → ℕ → List Request → End → Option PublishRefusal
+subscribe_refusal limit capacity requests e = request_refusal limit capacity (subscribe_size requests) e
+
+-- why UNSUBSCRIBE is refused (3.10)
+abbrev pub unsubscribe_refusal : ℕ → ℕ → List (List ℕ) → End → Option PublishRefusal
+unsubscribe_refusal limit capacity filters e = request_refusal limit capacity (unsubscribe_size filters) e
+
+-- the client leaves: DISCONNECT, and then it closes (3.14)
+abbrev pub leaves : End → Reply
+leaves e = closes_after (packets.Disconnect ∷ []) reasons.Left e
+
+-- why DISCONNECT is refused (3.14)
+abbrev pub leave_refusal : End → Option PublishRefusal
+leave_refusal e = if is_up e.state then None else Some refusals.NotConnected

@@ -1,0 +1,133 @@
+-- An end of a connection, and what comes of a packet or of a call.
+use Rattle.std.specs.Prelude.{ℕ, Bool, true, false, if◌then◌else◌, Option, Some, None, List, [], ◌∷◌, ◌++◌}
+use Rattle.mq_packet.specs.declared.packet.Packet.{Packet}
+use Rattle.mq_flow.specs.Sender.{SenderBook, blank_book, no_claims, all_sent, resent}
+use Rattle.mq_flow.specs.Receiver.{ReceiverBook, none_received}
+use Rattle.mq_end.specs.declared.state.State.{State}
+use Rattle.mq_end.specs.declared.state.State.TheVariants.{Closed, Open, Up}
+use Rattle.mq_end.specs.declared.happening.Happening.{Happening}
+use Rattle.mq_end.specs.declared.happening.Happening.TheVariants as happens
+use Rattle.mq_end.specs.declared.reason.CloseReason.{CloseReason}
+
+-- An end. Its session (3.1.2.4) is book, received and known.
+-- book, received: what it sends and receives, and is not through with (4.1, 4.3).
+-- known: at the client, that the session is established: a CONNACK that accepts was read for it; at the server, that
+--   a session stands for the client.
+-- clean: the CONNECT of the connection, at the server the accepted one, has clean session 1, so that the session ends
+--   with the connection (3.1.2.4).
+-- keep_alive: the seconds of that CONNECT (3.1.2.10).
+pub record End : Type 0 where
+  pub book : SenderBook
+  pub received : ReceiverBook
+  pub state : State
+  pub known : Bool
+  pub clean : Bool
+  pub keep_alive : ℕ
+
+-- an end without a session (3.1.2.4) and without a connection
+abbrev pub blank_end : End
+blank_end = record { book = blank_book; received = none_received; state = Closed; known = false; clean = false; keep_alive = 0 }
+
+-- An end that goes on with a session of before (3.1.2.4), its claimed identifiers freed; known is its mark.
+abbrev pub resumed : Bool → SenderBook → ReceiverBook → End
+resumed known book received = record { book = no_claims book; received = received; state = Closed; known = known; clean = false; keep_alive = 0 }
+
+-- What comes of a packet or of a call: the end after it, the packets that it puts out in order, what it tells its user,
+-- the identifiers whose message of quality of service 1 is acknowledged, and why the connection is closed, where it is.
+pub record Reply : Type 0 where
+  pub end : End
+  pub out : List Packet
+  pub happenings : List Happening
+  pub freed : List ℕ
+  pub close : Option CloseReason
+
+-- the CONNECT of the connection is accepted (3.2)
+abbrev pub is_up : State → Bool
+is_up Closed = false
+is_up Open = false
+is_up Up = true
+
+-- there is a connection (4.2)
+abbrev pub is_live : State → Bool
+is_live Closed = false
+is_live Open = true
+is_live Up = true
+
+-- nothing comes of it but the end
+abbrev pub silent : End → Reply
+silent e = record { end = e; out = []; happenings = []; freed = []; close = None }
+
+-- packets are put out
+abbrev pub puts_out : List Packet → End → Reply
+puts_out ps e = record { end = e; out = ps; happenings = []; freed = []; close = None }
+
+-- something is told
+abbrev pub tells : Happening → End → Reply
+tells h e = record { end = e; out = []; happenings = h ∷ []; freed = []; close = None }
+
+-- The connection is over. The identifiers of SUBSCRIBE and UNSUBSCRIBE are free; the rest of the session stays, but one of
+-- a CONNECT with clean session 1 ends with its connection, however that ends: the client then has a new session that was
+-- never established, the server has none (3.1.2.4).
+abbrev pub over : End → End
+over e = record e {
+  book = if e.clean then blank_book else no_claims e.book;
+  received = if e.clean then none_received else e.received;
+  state = Closed;
+  known = if e.clean then false else e.known;
+  clean = false;
+}
+
+-- the end closes the connection (4.8), after these packets
+abbrev pub closes_after : List Packet → CloseReason → End → Reply
+closes_after ps reason e = record { end = over e; out = ps; happenings = []; freed = []; close = Some reason }
+
+-- the end closes the connection, and puts out nothing (4.8)
+abbrev pub closes : CloseReason → End → Reply
+closes reason e = closes_after [] reason e
+
+-- A connection begins to which clean session applies or not: with 1 the session before is discarded, with 0 it goes on
+-- (3.1.2.4).
+abbrev pub renewed : Bool → End → End
+renewed clean e = record e {
+  book = if clean then blank_book else e.book;
+  received = if clean then none_received else e.received;
+  known = if clean then false else e.known;
+  clean = clean;
+}
+
+-- The end is up: after these packets it sends again what is not acknowledged (4.4), and for the first time what was
+-- accepted since.
+abbrev pub comes_up : List Packet → Bool → End → Reply
+comes_up before session_present e = record {
+  end = record e { state = Up; known = true; book = all_sent e.book };
+  out = before ++ resent e.book;
+  happenings = happens.Up session_present ∷ [];
+  freed = [];
+  close = None;
+}
+
+-- the connection is lost (4.2)
+abbrev pub drops : End → Reply
+drops e = silent (over e)
+
+-- ---- packets that come at once
+
+-- the first of two reasons
+abbrev pub first_reason : Option CloseReason → Option CloseReason → Option CloseReason
+first_reason (Some reason) later = Some reason
+first_reason None later = later
+
+-- one reply after another
+abbrev pub followed : Reply → Reply → Reply
+followed r s = record {
+  end = s.end;
+  out = r.out ++ s.out;
+  happenings = r.happenings ++ s.happenings;
+  freed = r.freed ++ s.freed;
+  close = first_reason r.close s.close;
+}
+
+-- packets come one after another (4.6) to an end that does this with each
+abbrev pub one_by_one : (Packet → End → Reply) → List Packet → End → Reply
+one_by_one does [] e = silent e
+one_by_one does (p ∷ ps) e = followed (does p e) (one_by_one does ps (does p e).end)

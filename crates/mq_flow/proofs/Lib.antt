@@ -1,0 +1,4 @@
+pub mod Counting
+pub mod Books
+pub mod Members
+pub mod Sending

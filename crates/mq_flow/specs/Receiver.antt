@@ -1,0 +1,25 @@
+-- What a receiver writes down, and its moves (4.3.3): the identifiers whose message of quality of service 2 was
+-- handed on and that are not released. It hands a message on when its PUBLISH comes (method B).
+use Rattle.std.specs.Prelude.{ℕ, Bool, not}
+use Rattle.std.specs.FinSet as FinSet
+use Rattle.std.specs.Ordering.{nat_cmp}
+
+-- the receiver's book: a set of identifiers (4.3.3)
+abbrev pub ReceiverBook : Type 0
+ReceiverBook = FinSet.FinSet nat_cmp
+
+-- no message waits for its PUBREL (4.3.3)
+abbrev pub none_received : ReceiverBook
+none_received = FinSet.empty
+
+-- a PUBLISH of quality of service 2 with this identifier is a new message, which is handed on (4.3.3)
+abbrev pub is_new : ℕ → ReceiverBook → Bool
+is_new i r = not (FinSet.contains r i)
+
+-- PUBLISH of quality of service 2: its identifier is stored; the answer is PUBREC (4.3.3)
+abbrev pub on_publish : ℕ → ReceiverBook → ReceiverBook
+on_publish i r = FinSet.insert r i
+
+-- PUBREL: the identifier is forgotten; the answer is PUBCOMP, whether it was stored or not (4.3.3)
+abbrev pub on_pubrel : ℕ → ReceiverBook → ReceiverBook
+on_pubrel i r = FinSet.remove r i

@@ -1,0 +1,27 @@
+//! The laws of the sender's book.
+
+ghost use Rattle.mq_flow.specs.Laws.{IdentifierLaws, ReceiverLaws, SendingLaws, StrayLaws};
+
+/// The identifiers of a sender's book: from 1 to 65,535, each in use once, and at most as many as the
+/// capacity, whatever moves it makes; and one that is not full has an identifier to give (2.3.1).
+pub fn identifier_laws()
+    ensures { IdentifierLaws }
+{}
+
+/// An acknowledgement that nothing waits for changes nothing, one that something waits for takes exactly
+/// that out of the book (4.3.2, 4.3.3).
+pub fn stray_laws()
+    ensures { StrayLaws }
+{}
+
+/// A receiver takes a message of quality of service 2 for a new one exactly until its PUBLISH and again from its
+/// PUBREL (4.3.3).
+pub fn receiver_laws()
+    ensures { ReceiverLaws }
+{}
+
+/// A message that is accepted and then sent is one that is accepted where the sender is connected: one PUBLISH
+/// goes out, without DUP (3.3.1.1).
+pub fn sending_laws()
+    ensures { SendingLaws }
+{}

@@ -1,0 +1,26 @@
+//! What an acknowledgement does to a sender's book, and why a message is refused.
+
+use mq_packet::PacketId;
+use thiserror::Error;
+
+/// What an acknowledgement does to a sender's book (4.3.2, 4.3.3).
+#[derive(Clone, Copy, Debug, PartialEq, Eq)]
+pub enum Reaction {
+    /// The identifier is free.
+    Freed,
+    /// The message is acknowledged, and a PUBREL of this identifier goes out.
+    Release(PacketId),
+    /// Nothing waits for it, and nothing changes.
+    Stray,
+}
+
+/// Why a sender refuses a message, or gives no identifier. It displays as its code.
+#[derive(Clone, Copy, Debug, PartialEq, Eq, Error)]
+pub enum Refusal {
+    /// As many identifiers are in use as there is room for.
+    #[error("S1")]
+    Full,
+    /// Memory ran out.
+    #[error("S2")]
+    Memory,
+}

@@ -1,0 +1,17 @@
+pub mod Stages
+pub mod Lists
+pub mod Places
+pub mod Second
+pub mod First
+pub mod Queues
+pub mod Both
+pub mod Flows
+pub mod Steps
+pub mod Whole
+pub mod Samples
+pub mod Together
+pub mod Marks
+pub mod Ranks
+pub mod Settle
+pub mod Chains
+pub mod Carrying

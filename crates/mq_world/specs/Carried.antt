@@ -1,0 +1,58 @@
+-- What is held and what is on its way, over every run.
+use Rattle.std.specs.Prelude.{ℕ, ◌≡◌, Bool, true, Option, Some, None, List, [], ◌∷◌}
+use Rattle.mq_packet.specs.Identifier.{IsIdentifier}
+use Rattle.mq_packet.specs.Publication.{fits_delivery}
+use Rattle.mq_packet.specs.declared.message.Message.{Message}
+use Rattle.mq_packet.specs.declared.publish.Delivery.{Delivery}
+use Rattle.mq_packet.specs.declared.packet.Packet.{Packet}
+use Rattle.mq_packet.specs.declared.packet.Packet.TheVariants as packets
+use Rattle.mq_flow.specs.declared.entry.Entry.{Entry}
+use Rattle.mq_end.specs.Both.{has_identifier}
+use Rattle.mq_world.specs.Half.{Half, Publishes}
+use Rattle.mq_world.specs.Machine.{Machine, Move, By, Run, blank_machine, first_packet}
+use Rattle.mq_world.specs.Orders.{Each}
+
+-- where there is an identifier, it is one (2.3.1)
+abbrev pub IsDelivery : Option Delivery → Type 0
+IsDelivery None = Unit {0}
+IsDelivery (Some d) = IsIdentifier d.id
+
+-- the PUBLISH of a message that passes the test (3.3)
+abbrev pub IsPublication : (Message → Bool) → Message → Option Delivery → Type 0
+IsPublication test m d = (test m ≡ true) × (fits_delivery m.qos d ≡ true) × IsDelivery d
+
+-- A packet that may be on its way: a new connection's CONNECT (3.1), the PUBLISH of a message that passes the test (3.3),
+-- what answers one (3.4 to 3.7), and packets without an identifier.
+abbrev pub IsCarried : (Message → Bool) → Packet → Type 0
+IsCarried test (packets.Connect c) = c ≡ first_packet
+IsCarried test (packets.ConnAck answer) = Unit {0}
+IsCarried test (packets.Publish p) = IsPublication test p.message p.delivery
+IsCarried test (packets.PubAck i) = IsIdentifier i
+IsCarried test (packets.PubRec i) = IsIdentifier i
+IsCarried test (packets.PubRel i) = IsIdentifier i
+IsCarried test (packets.PubComp i) = IsIdentifier i
+IsCarried test packets.PingReq = Unit {0}
+IsCarried test packets.PingResp = Unit {0}
+IsCarried test packets.Disconnect = Unit {0}
+-- nobody subscribes
+IsCarried test p = ⊥
+
+-- a message that passes the test is held, with its identifier (4.3.2, 4.3.3)
+abbrev pub IsEntry : (Message → Bool) → Entry → Type 0
+IsEntry test e = (test e.message ≡ true) × (has_identifier e.message.qos ≡ true) × IsIdentifier e.id
+
+-- a side holds only such messages, and only such packets are on their way to it
+pub record CarriesOnly (test : Message → Bool) (h : Half) : Type 0 where
+  pub entries : Each (IsEntry test) h.end.book.entries
+  pub released : Each IsIdentifier h.end.book.released
+  pub coming : Each (IsCarried test) h.coming
+
+-- only messages that pass the test are published
+abbrev pub PublishOnly : (Message → Bool) → List Move → Type 0
+PublishOnly test [] = Unit {0}
+PublishOnly test (By side (Publishes i m) ∷ moves) = (test m ≡ true) × PublishOnly test moves
+PublishOnly test (move ∷ moves) = PublishOnly test moves
+
+-- over every run
+abbrev pub CarriedLaw : Type 0
+CarriedLaw = (test : Message → Bool) (limit capacity : ℕ) (moves : List Move) (w : Machine) → PublishOnly test moves → Run limit capacity blank_machine moves w → CarriesOnly test w.client × CarriesOnly test w.server

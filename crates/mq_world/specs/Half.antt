@@ -1,0 +1,177 @@
+-- One side of the machine: its end, the queue of packets toward it, and the lists of the run; and its moves.
+use Rattle.std.specs.Prelude.{ℕ, ◌+◌, ◌≡◌, Bool, true, false, ◌||◌, if◌then◌else◌, Option, None, List, [], ◌∷◌, ◌++◌, ◌==◌}
+use Rattle.mq_topic.specs.declared.qos.Qos.{Qos}
+use Rattle.mq_topic.specs.declared.qos.Qos.TheVariants.{Q0, Q1, Q2}
+use Rattle.mq_packet.specs.declared.message.Message.{Message}
+use Rattle.mq_packet.specs.declared.packet.Packet.{Packet}
+use Rattle.mq_packet.specs.declared.packet.Packet.TheVariants as packets
+use Rattle.mq_flow.specs.Sender.{same_qos}
+use Rattle.mq_end.specs.declared.state.State.{State}
+use Rattle.mq_end.specs.declared.state.State.TheVariants.{Closed, Open, Up}
+use Rattle.mq_end.specs.declared.happening.Happening.{Happening}
+use Rattle.mq_end.specs.declared.happening.Happening.TheVariants as happens
+use Rattle.mq_end.specs.declared.refusal.PublishRefusal.{PublishRefusal}
+use Rattle.mq_end.specs.End.{End, Reply, blank_end, is_up, drops}
+use Rattle.mq_end.specs.Both.{publishes, publish_refusal, has_identifier}
+use Rattle.mq_end.specs.Client.{client_gets, leaves, leave_refusal}
+use Rattle.mq_end.specs.Server.{server_gets, server_publish_refusal}
+use Rattle.mq_end.specs.Laws.{MayHave}
+use Rattle.mq_world.specs.declared.side.Side.{Side}
+use Rattle.mq_world.specs.declared.side.Side.TheVariants.{Client, Server}
+
+-- The messages that a side accepted from its user, in order, by quality of service (4.3); those of quality of service 1
+-- with the identifiers that it gave them.
+pub record Accepted : Type 0 where
+  pub at_most_once : List Message
+  pub at_least_once : List (ℕ × Message)
+  pub exactly_once : List Message
+
+-- the messages that a side handed on to its user, in order, by quality of service (4.3)
+pub record HandedOn : Type 0 where
+  pub at_most_once : List Message
+  pub at_least_once : List Message
+  pub exactly_once : List Message
+
+-- A side: its end, the queue of packets toward it (4.6), the oldest first, and of the run so far what it accepted, what it
+-- handed on, and the places, among the messages of quality of service 1 that it accepted, of those that were acknowledged to it
+-- (4.3.2).
+pub record Half : Type 0 where
+  pub end : End
+  pub coming : List Packet
+  pub accepted : Accepted
+  pub handed : HandedOn
+  pub freed : List ℕ
+
+-- no session, no connection, nothing accepted or handed on
+abbrev pub blank_half : Half
+blank_half = record {
+  end = blank_end;
+  coming = [];
+  accepted = record { at_most_once = []; at_least_once = []; exactly_once = [] };
+  handed = record { at_most_once = []; at_least_once = []; exactly_once = [] };
+  freed = [];
+}
+
+-- ---- queues
+
+-- what joins the queue toward a side: packets toward a closed one are lost (4.2)
+abbrev pub joined : {A : Type 0} → State → List A → List A → List A
+joined Closed queue ps = queue
+joined Open queue ps = queue ++ ps
+joined Up queue ps = queue ++ ps
+
+-- an end that closes leaves nothing in the queue toward it (4.2)
+abbrev pub kept : State → List Packet → List Packet
+kept Closed queue = []
+kept Open queue = queue
+kept Up queue = queue
+
+-- packets are put into the queue toward a side
+abbrev pub put : List Packet → Half → Half
+put ps h = record h { coming = joined h.end.state h.coming ps }
+
+-- ---- the lists of the run
+
+-- the messages of a quality of service (4.3), after those that are told of
+abbrev pub told : Qos → List Happening → List Message → List Message
+told q [] ms = ms
+told q (happens.Handed m ∷ hs) ms = told q hs (if same_qos q m.qos then ms ++ m ∷ [] else ms)
+told q (h ∷ hs) ms = told q hs ms
+
+-- an identifier stands in a list of pairs
+abbrev pub is_given : ℕ → List (ℕ × Message) → Bool
+is_given i [] = false
+is_given i (p ∷ ps) = p.0 == i || is_given i ps
+
+-- the place of the last pair with an identifier
+abbrev pub last_place : ℕ → List (ℕ × Message) → ℕ
+last_place i [] = 0
+last_place i (p ∷ ps) = if is_given i ps then last_place i ps + 1 else 0
+
+-- the places freed, after those of these identifiers
+abbrev pub freed_with : List (ℕ × Message) → List ℕ → List ℕ → List ℕ
+freed_with given [] places = places
+freed_with given (i ∷ is) places = freed_with given is (places ++ last_place i given ∷ [])
+
+-- the messages accepted, by quality of service (4.3), with one more
+abbrev pub accepted_with : Qos → ℕ → Message → Accepted → Accepted
+accepted_with Q0 i m a = record a { at_most_once = a.at_most_once ++ m ∷ [] }
+accepted_with Q1 i m a = record a { at_least_once = a.at_least_once ++ (i, m) ∷ [] }
+accepted_with Q2 i m a = record a { exactly_once = a.exactly_once ++ m ∷ [] }
+
+-- ---- moves
+
+-- a side after its move, and what it puts out
+pub record Outcome : Type 0 where
+  pub half : Half
+  pub out : List Packet
+
+-- a side after its end's reply, with this left in the queue toward it
+abbrev pub took : Half → List Packet → Reply → Outcome
+took h rest r = record {
+  half = record h {
+    end = r.end;
+    coming = kept r.end.state rest;
+    handed = record {
+      at_most_once = told Q0 r.happenings h.handed.at_most_once;
+      at_least_once = told Q1 r.happenings h.handed.at_least_once;
+      exactly_once = told Q2 r.happenings h.handed.exactly_once;
+    };
+    freed = freed_with h.accepted.at_least_once r.freed h.freed;
+  };
+  out = r.out;
+}
+
+-- a packet comes to the end of a side
+abbrev pub gets : Side → Packet → End → Reply
+gets Client p e = client_gets p e
+gets Server p e = server_gets p e
+
+-- the oldest packet of the queue comes (4.6)
+abbrev pub arrival : List Packet → Side → Half → Outcome
+arrival [] side h = record { half = h; out = [] }
+arrival (p ∷ rest) side h = took h rest (gets side p h.end)
+
+-- a message is accepted, with this identifier where it has one (2.3.1, 4.3)
+abbrev pub publication : ℕ → Message → Half → Outcome
+publication i m h = record {
+  half = record h { end = (publishes i m h.end).end; accepted = accepted_with m.qos i m h.accepted };
+  out = (publishes i m h.end).out;
+}
+
+-- What one side may do.
+pub data Action : Type 0 where
+  -- its user publishes a message, which is given this identifier where it has one
+  Publishes : (id : ℕ) (message : Message) → Action
+  -- the oldest packet of the queue toward it comes
+  Arrives : Action
+  -- its connection is lost
+  Drops : Action
+  -- the client leaves
+  Leaves : Action
+  -- the client asks whether the server is there
+  Pings : Action
+
+-- why the end of a side refuses a message
+abbrev pub refusal : Side → ℕ → ℕ → Message → End → Option PublishRefusal
+refusal Client limit capacity m e = publish_refusal limit capacity m e
+refusal Server limit capacity m e = server_publish_refusal limit capacity m e
+
+-- When it may: a message is not refused, and an identifier that it is given is free. A packet may come at any time, a
+-- connection may be lost at any time.
+abbrev pub May : ℕ → ℕ → Side → Action → Half → Type 0
+May limit capacity side (Publishes i m) h = (refusal side limit capacity m h.end ≡ None) × MayHave (has_identifier m.qos) h.end i
+May limit capacity side Arrives h = Unit {0}
+May limit capacity side Drops h = Unit {0}
+May limit capacity Client Leaves h = leave_refusal h.end ≡ None
+May limit capacity Server Leaves h = ⊥
+May limit capacity Client Pings h = is_up h.end.state ≡ true
+May limit capacity Server Pings h = ⊥
+
+-- What comes of an action.
+abbrev pub moved : Side → Action → Half → Outcome
+moved side (Publishes i m) h = publication i m h
+moved side Arrives h = arrival h.coming side h
+moved side Drops h = took h [] (drops h.end)
+moved side Leaves h = took h [] (leaves h.end)
+moved side Pings h = record { half = h; out = packets.PingReq ∷ [] }

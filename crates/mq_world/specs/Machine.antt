@@ -1,0 +1,54 @@
+-- Two sides that are joined by two queues of packets, and what may happen.
+use Rattle.std.specs.Prelude.{ℕ, ◌≡◌, false, None, List, [], ◌∷◌}
+use Rattle.mq_packet.specs.declared.connect.Connect.{Connect}
+use Rattle.mq_packet.specs.declared.packet.Packet.{Packet}
+use Rattle.mq_end.specs.Client.{connects}
+use Rattle.mq_end.specs.Server.{opens}
+use Rattle.mq_world.specs.declared.side.Side.{Side}
+use Rattle.mq_world.specs.declared.side.Side.TheVariants.{Client, Server}
+use Rattle.mq_world.specs.Half.{Half, Action, blank_half, May, moved, put}
+
+-- The machine: both sides.
+pub record Machine : Type 0 where
+  pub client : Half
+  pub server : Half
+
+-- at first neither side has a session, and there is no connection
+abbrev pub blank_machine : Machine
+blank_machine = record { client = blank_half; server = blank_half }
+
+-- Each connection begins with this CONNECT: the client `w`, clean session 0, so that both sides keep their sessions
+-- (3.1.2.4), and a keep-alive of 60 seconds.
+abbrev pub first_packet : Connect
+first_packet = record { client_id = 119 ∷ []; clean_session = false; keep_alive = 60; will = None; login = None }
+
+-- A move: a side does something, or a new connection is opened.
+pub data Move : Type 0 where
+  By : Side → Action → Move
+  Opens : Move
+
+-- the client of a new connection: the queue toward it is empty
+abbrev pub opened_client : Half → Half
+opened_client h = record h { end = (connects first_packet h.end).end; coming = [] }
+
+-- the server of a new connection: the queue toward it has just what the client puts out, its CONNECT (3.1)
+abbrev pub opened_server : List Packet → Half → Half
+opened_server ps h = record h { end = (opens h.end).end; coming = ps }
+
+-- when a move may be made; a connection may be opened at any time
+abbrev pub IsAllowed : ℕ → ℕ → Machine → Move → Type 0
+IsAllowed limit capacity w (By Client action) = May limit capacity Client action w.client
+IsAllowed limit capacity w (By Server action) = May limit capacity Server action w.server
+IsAllowed limit capacity w Opens = Unit {0}
+
+-- the machine after a move: what a side puts out joins the queue toward the other
+abbrev pub after : Machine → Move → Machine
+after w (By Client action) = record { client = (moved Client action w.client).half; server = put (moved Client action w.client).out w.server }
+after w (By Server action) = record { client = put (moved Server action w.server).out w.client; server = (moved Server action w.server).half }
+after w Opens = record { client = opened_client w.client; server = opened_server (connects first_packet w.client.end).out w.server }
+
+-- The machine may make these moves, one after another, from one machine to another; limit bounds the remaining length of
+-- what is published, capacity the identifiers in use at a side.
+abbrev pub Run : ℕ → ℕ → Machine → List Move → Machine → Type 0
+Run limit capacity w [] v = v ≡ w
+Run limit capacity w (move ∷ moves) v = IsAllowed limit capacity w move × Run limit capacity (after w move) moves v

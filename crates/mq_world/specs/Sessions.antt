@@ -1,0 +1,14 @@
+-- Sessions over every run (3.1.2.4).
+use Rattle.std.specs.Prelude.{ℕ, ◌≡◌, true, false, List}
+use Rattle.mq_world.specs.Machine.{Machine, Move, Run, blank_machine}
+
+-- Neither side's connection has clean session 1, so neither discards its session; and where the client's session is
+-- established, one stands at the server (3.1.2.4).
+pub record KeepsSessions (w : Machine) : Type 0 where
+  pub client : w.client.end.clean ≡ false
+  pub server : w.server.end.clean ≡ false
+  pub known : w.client.end.known ≡ true → w.server.end.known ≡ true
+
+-- over every run
+abbrev pub SessionsLaw : Type 0
+SessionsLaw = (limit capacity : ℕ) (moves : List Move) (w : Machine) → Run limit capacity blank_machine moves w → KeepsSessions w

@@ -1,0 +1,65 @@
+-- A new connection and three exchanges settle everything (4.4).
+use Rattle.std.specs.Prelude.{ℕ, zero, suc, ◌≡◌, ◌<◌, List, [], length}
+use Rattle.mq_packet.specs.declared.packet.Packet.{Packet}
+use Rattle.mq_end.specs.declared.state.State.TheVariants.{Up}
+use Rattle.mq_world.specs.declared.side.Side.{Side}
+use Rattle.mq_world.specs.declared.side.Side.TheVariants.{Client, Server}
+use Rattle.mq_world.specs.Half.{Half, Arrives}
+use Rattle.mq_world.specs.Machine.{Machine, Move, By, Opens, Run, after, blank_machine}
+use Rattle.mq_world.specs.Orders.{Walk, IsAt, In, messages}
+
+-- the queue toward a side
+abbrev pub queue : Side → Machine → List Packet
+queue Client w = w.client.coming
+queue Server w = w.server.coming
+
+-- so many packets come, one after another
+abbrev pub arrivals : ℕ → Side → Machine → Machine
+arrivals zero side w = w
+arrivals (suc n) side w = arrivals n side (after w (By side Arrives))
+
+-- all that is in the queue toward a side comes
+abbrev pub delivered : Side → Machine → Machine
+delivered side w = arrivals (length (queue side w)) side w
+
+-- all that is on its way to the server comes, then all that is on its way to the client
+abbrev pub exchange : Machine → Machine
+exchange w = delivered Client (delivered Server w)
+
+-- a new connection, and three exchanges
+abbrev pub settled : Machine → Machine
+settled w = exchange (exchange (exchange (after w Opens)))
+
+-- nothing of a side's own waits for the other: it holds no message, and no identifier is released (4.3)
+pub record Idle (h : Half) : Type 0 where
+  pub entries : h.end.book.entries ≡ []
+  pub released : h.end.book.released ≡ []
+
+-- y handed on each message that x accepted: with quality of service 2 once (4.3.3), with 1 at least once (4.3.2)
+pub record AllHanded (x y : Half) : Type 0 where
+  pub exactly_once : y.handed.exactly_once ≡ x.accepted.exactly_once
+  pub places : List ℕ
+  pub walk : Walk places
+  pub are : IsAt y.handed.at_least_once (messages x.accepted.at_least_once) places
+  pub each : (p : ℕ) → p < length x.accepted.at_least_once → In p places
+
+-- What settling leaves (4.4).
+pub record Settles (w : Machine) : Type 0 where
+  pub client_idle : Idle (settled w).client
+  pub server_idle : Idle (settled w).server
+  pub to_server : AllHanded (settled w).client (settled w).server
+  pub to_client : AllHanded (settled w).server (settled w).client
+  pub client_same : (settled w).client.accepted ≡ w.client.accepted
+  pub server_same : (settled w).server.accepted ≡ w.server.accepted
+  -- both sides are up, and nothing is on its way
+  pub client_up : (settled w).client.end.state ≡ Up
+  pub server_up : (settled w).server.end.state ≡ Up
+  pub client_queue : (settled w).client.coming ≡ []
+  pub server_queue : (settled w).server.coming ≡ []
+  -- for the messages two exchanges are enough, the third is for the released identifiers
+  pub client_second : (exchange (exchange (after w Opens))).client.end.book.entries ≡ []
+  pub server_second : (exchange (exchange (after w Opens))).server.end.book.entries ≡ []
+
+-- from every machine that a run reaches
+abbrev pub SettlingLaw : Type 0
+SettlingLaw = (limit capacity : ℕ) (moves : List Move) (w : Machine) → Run limit capacity blank_machine moves w → Settles w
