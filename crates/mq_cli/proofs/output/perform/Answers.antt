@@ -1,4 +1,4 @@
-use Rattle.std.proofs.Common.{◌≡◌, refl}
+use Rattle.std.proofs.Common.{refl}
 use Rattle.mq_cli.proofs.Statuses.{show_job_status}
 use Rattle.mq_cli.proofs.output.perform.Goals as goal
 
