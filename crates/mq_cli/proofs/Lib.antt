@@ -1,3 +1,4 @@
+pub mod Counting
 pub mod Matches
 pub mod Pieces
 pub mod Statuses

@@ -1,5 +1,5 @@
 -- From the parser's matches to a job.
-use Rattle.std.proofs.Common.{◌≡◌, ◌∙◌, sym, refl, ap, true, List, Option, Some, None, option_map, codes}
+use Rattle.std.proofs.Common.{◌≡◌, refl, true, List, Option, Some, None, option_map}
 use Rattle.std.specs.Prelude.{Box}
 use Rattle.std.specs.Box.{box_value}
 use Rattle.clap.specs.Simple.{is_simple}

@@ -2,19 +2,12 @@
 use Rattle.std.proofs.Common.{◌≡◌, ◌⊎◌, ℕ, List, Bor, Result, inl, inr, refl, subst}
 use Rattle.std.proofs.lemmas.Result.{IfOk-weaker}
 use Rattle.std.specs.Result.{IfOk}
-use Rattle.mq_cli.specs.declared.jobs.Job.{Job}
-use Rattle.mq_cli.specs.declared.jobs.Job.TheVariants.{Show}
 use Rattle.mq_cli.specs.declared.stream.Shown.{Shown}
 use Rattle.mq_cli.specs.Show.{Shows}
-use Rattle.mq_cli.specs.Status.{IsShowStatus, IsStatus, end_status}
+use Rattle.mq_cli.specs.Status.{IsShowStatus, end_status}
 
 pub shown_status : {E : Type 0} (limit : ℕ) (digits : List ℕ) (shown : Shown) (r : Result ℕ E) → limit ≡ 268435455 → Shows limit digits shown
     → IfOk r (λ status. (status ≡ end_status shown.end) ⊎ (status ≡ 3)) → IfOk r (IsShowStatus digits)
 shown_status limit digits shown r most shows h =
     let widest : Shows 268435455 digits shown = subst (λ (n : ℕ). Shows n digits shown) most shows in
     IfOk-weaker r _ _ (λ status s. elim s [ inl end ↦ inl (shown, widest, end) | inr memory ↦ inr (inr memory) ]) h
-
--- the digits are those of the job
-pub show_job_status : {E : Type 0} (job : Job) (digits : List ℕ) (r : Result ℕ E) → ((hex : Bor (List ℕ)) → job ≡ Show hex → digits ≡ hex.now)
-    → IfOk r (IsShowStatus digits) → IfOk r (IsStatus job)
-show_job_status (Show hex) digits r same h = subst (λ (d : List ℕ). IfOk r (IsShowStatus d)) (same hex refl) h

@@ -1,3 +1,4 @@
+pub mod Count
 pub mod CommandLine
 pub mod Hexadecimal
 pub mod Show

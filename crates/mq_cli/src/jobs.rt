@@ -8,4 +8,9 @@ pub enum Job<'a> {
         /// The bytes, as hexadecimal digits.
         hex: &'a str,
     },
+    /// To count the packets of a file.
+    Check {
+        /// The file's name.
+        file: &'a str,
+    },
 }

@@ -2,6 +2,7 @@
 //! reader and writer.
 #![tactic(auto)]
 
+mod count;
 mod jobs;
 mod line;
 mod output;
@@ -11,9 +12,10 @@ mod stream;
 mod tests;
 mod words;
 
+pub use crate::count::{CountEnd, CountFault, PacketCount, count_packets};
 pub use crate::jobs::Job;
 pub use crate::line::Line;
-pub use crate::output::perform;
+pub use crate::output::{file_not_read, perform};
 pub use crate::show::{ShowFault, shown};
 pub use crate::stream::{Shown, StreamEnd};
 pub use crate::words::{WordsFault, job};

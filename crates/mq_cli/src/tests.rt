@@ -1,9 +1,9 @@
-use crate::{Job, ShowFault, StreamEnd, WordsFault, job, perform, shown};
+use crate::{CountEnd, Job, ShowFault, StreamEnd, WordsFault, count_packets, job, perform, shown};
 use clap::error::ErrorKind;
 use mq_decode::{DecodeFault, FaultKind, Limits};
 use std::alloc::Global;
 use std::io;
-use std::io::Write;
+use std::io::{Read, Write};
 use std::test::Fail;
 
 // What `show` prints of bytes, and its status. The bytes are spelled by hand from chapters 2 and 3 of the
@@ -197,6 +197,100 @@ fn tells_of_failed_writes(rt: HostRuntime) {
     }
 }
 
+// What `check` prints of a file's bytes, and its status.
+static FILES: [(&[u8], u8, &str); 9] = [
+    (&[], 0, "packets 0\n"),
+    (&[0xc0, 0x00, 0xe0, 0x00], 0, "packets 2\n"),
+    (&[0xc0], 1, "packets 0\ncut\n"),
+    (&[0x30, 0xff, 0xff, 0xff, 0x7f, 0x00], 1, "packets 0\ncut\n"),
+    (
+        &[0xc0, 0x00, 0x30, 0x05, 0x00, 0x03, 0x61],
+        1,
+        "packets 1\ncut\n",
+    ),
+    (
+        &[0x30, 0x05, 0x00, 0x03, 0x61, 0x2f, 0x62],
+        0,
+        "packets 1\n",
+    ),
+    (&[0xf0], 1, "packets 0\nfault F1 at 0 in packet at 0\n"),
+    (
+        &[0xc0, 0x00, 0xc0, 0x80, 0x00],
+        1,
+        "packets 1\nfault F6 at 2 in packet at 2\n",
+    ),
+    (
+        &[0x62, 0x02, 0x00, 0x01, 0x82, 0x02, 0x00, 0x01, 0xc0, 0x00],
+        1,
+        "packets 1\nfault F19 at 4 in packet at 4\n",
+    ),
+];
+
+// A reader that gives so many bytes at a time, and fails where it has none left.
+#[derive(Drop)]
+struct Broken<'a> {
+    bytes: &'a [u8],
+    at_once: usize,
+}
+
+impl Read for Broken<'_> {
+    fn read(&mut self, room: &mut [u8]) -> io::Result<usize> {
+        if self.bytes.is_empty() {
+            return Err(io::Error::from(io::ErrorKind::ConnectionReset));
+        }
+        let n = self.at_once.min(room.len()).min(self.bytes.len());
+        let (given, left) = self.bytes.split_at(n);
+        room[..n].copy_from_slice(given);
+        self.bytes = left;
+        Ok(n)
+    }
+}
+
+#[test]
+fn checks_files(rt: HostRuntime) -> Result<(), Fail> {
+    let alloc = rt.alloc();
+    let job = Job::Check { file: "a file" };
+    for (bytes, status, printed) in FILES {
+        let mut output = Vec::new(alloc);
+        let mut input = bytes;
+        let answer = perform(alloc, &job, &mut input, &mut output)?;
+        assert_eq!(rt; output.as_slice(), printed.as_bytes(), "check {bytes:?}");
+        assert_eq!(rt; answer, status, "check {bytes:?}");
+    }
+    Ok(())
+}
+
+#[test]
+fn counts_packets_within_a_limit(rt: HostRuntime) -> Result<(), Fail> {
+    let limits = Limits::new(64).ok_or("64 is a limit")?;
+    let mut input: &[u8] = &[0xc0, 0x00, 0x30, 0x41, 0x00];
+    let count = match count_packets(rt.alloc(), &mut input, limits) {
+        Ok(count) => count,
+        Err(_) => return Err("not counted".into()),
+    };
+    let fault = DecodeFault {
+        kind: FaultKind::OverLimit,
+        place: 1,
+    };
+    assert_eq!(rt; count.packets, 1);
+    assert_eq!(rt; count.end, CountEnd::Fault { fault, start: 2 });
+    Ok(())
+}
+
+#[test]
+fn tells_of_failed_reads(rt: HostRuntime) -> Result<(), Fail> {
+    let alloc = rt.alloc();
+    let job = Job::Check { file: "a file" };
+    for at_once in 1..4 {
+        let mut output = Vec::new(alloc);
+        let bytes: &[u8] = &[0xc0, 0x00, 0x40, 0x02, 0x00, 0x01, 0xc0];
+        let answer = perform(alloc, &job, &mut Broken { bytes, at_once }, &mut output)?;
+        assert_eq!(rt; output.as_slice(), b"file not read\n".as_slice());
+        assert_eq!(rt; answer, 2);
+    }
+    Ok(())
+}
+
 // The kind of the error that the words are.
 fn error_of(alloc: Global, words: &[&str]) -> Option<ErrorKind> {
     match job(alloc, words) {
@@ -215,6 +309,12 @@ fn reads_words(rt: HostRuntime) -> Result<(), Fail> {
     ] {
         assert!(rt; matches!(job(alloc, words), Ok(Job::Show { hex: read }) if read == hex));
     }
+    for (words, file) in [
+        (["mqtt", "check", "a.bin"].as_slice(), "a.bin"),
+        (&["mqtt", "check", "a b"], "a b"),
+    ] {
+        assert!(rt; matches!(job(alloc, words), Ok(Job::Check { file: read }) if read == file));
+    }
     for (words, kind) in [
         (
             ["mqtt"].as_slice(),
@@ -228,6 +328,8 @@ fn reads_words(rt: HostRuntime) -> Result<(), Fail> {
         (&["mqtt", "show"], ErrorKind::MissingRequiredArgument),
         (&["mqtt", "show", "-a"], ErrorKind::UnknownArgument),
         (&["mqtt", "show", "c0", "00"], ErrorKind::UnknownArgument),
+        (&["mqtt", "check"], ErrorKind::MissingRequiredArgument),
+        (&["mqtt", "check", "-h"], ErrorKind::DisplayHelp),
     ] {
         assert_eq!(rt; error_of(alloc, words), Some(kind), "{words:?}");
     }

@@ -3,7 +3,7 @@
 ghost use Rattle.std.specs.Prelude.{◌≡◌, false, map, IfOk, IfSome};
 ghost use Rattle.clap.specs.Words.{app_of, subcommand_of, subcommand_rows_of};
 ghost use Rattle.clap.specs.declared.builder.command.Command.TheViews.{out-Command};
-ghost use Rattle.mq_cli.specs.CommandLine.{IsJobOf, program_words, show_words};
+ghost use Rattle.mq_cli.specs.CommandLine.{IsJobOf, check_words, program_words, show_words};
 
 use crate::jobs::Job;
 use clap::error::ErrorKind;
@@ -48,26 +48,60 @@ fn show_command<'a>(alloc: Global) -> Result<Command<'a>, AllocError>
         .arg(hex)
 }
 
+// `check FILE`.
+fn check_command<'a>(alloc: Global) -> Result<Command<'a>, AllocError>
+    ensures words { IfOk result (λ command. app_of command ≡ check_words) }
+    ensures local { IfOk result (λ command. (out-Command command).has_globals ≡ false) }
+{
+    let file = Arg::new(alloc, "FILE")
+        .help("The file that has the bytes")
+        .required(true);
+    Command::new(alloc, "check")
+        .about("Counts the packets of a file, and says how it ends")
+        .arg(file)
+}
+
 // The whole command line.
 fn command<'a>(alloc: Global) -> Result<Command<'a>, AllocError>
     ensures { IfOk result (λ command. app_of command ≡ program_words) }
 {
     let show = show_command(alloc)?;
+    let check = check_command(alloc)?;
     Command::new(alloc, "mqtt")
         .version("0.1.0")
         .about("Reads and writes MQTT 3.1.1")
         .subcommand_required(true)
         .arg_required_else_help(true)
-        .subcommand(show)
+        .subcommand(show)?
+        .subcommand(check)
+}
+
+// The job of `show`, where that was met.
+fn show_job<'a>(matches: &ArgMatches<'a>) -> Option<Job<'a>>
+    ensures { IfSome result (IsJobOf (subcommand_rows_of matches.now)) }
+{
+    let show = matches.subcommand_matches("show")?;
+    let hex = show.get_str("HEX")?;
+    Some(Job::Show { hex })
+}
+
+// The job of `check`, where that was met.
+fn check_job<'a>(matches: &ArgMatches<'a>) -> Option<Job<'a>>
+    ensures { IfSome result (IsJobOf (subcommand_rows_of matches.now)) }
+{
+    let check = matches.subcommand_matches("check")?;
+    let file = check.get_str("FILE")?;
+    Some(Job::Check { file })
 }
 
 // The job of the command that was met.
 fn job_of<'a>(matches: &ArgMatches<'a>) -> Option<Job<'a>>
     ensures { IfSome result (IsJobOf (subcommand_rows_of matches.now)) }
 {
-    let show = matches.subcommand_matches("show")?;
-    let hex = show.get_str("HEX")?;
-    Some(Job::Show { hex })
+    match show_job(matches) {
+        Some(job) => Some(job),
+        None => check_job(matches),
+    }
 }
 
 /// The job that the words of a command line ask for. The first word is the program's name.

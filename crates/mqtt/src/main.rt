@@ -1,9 +1,24 @@
 //! The program `mqtt`: it does the job that its words ask for, and prints to the standard output.
 #![tactic(auto)]
 
-use mq_cli::{WordsFault, job, perform};
+use mq_cli::{Job, WordsFault, file_not_read, job, perform};
+use std::fs::File;
+use std::io::BufReader;
 use std::process::ExitCode;
 use std::{env, io};
+
+/// Does a job over its file, or over the standard input where it has none.
+fn perform_over_file(rt: &HostRuntime, job: &Job<'_>) -> io::Result<u8> {
+    let alloc = rt.alloc();
+    let output = &mut io::writer(rt);
+    match job {
+        Job::Check { file } => match File::open(rt, *file) {
+            Ok(file) => perform(alloc, job, &mut BufReader::new(alloc, file)?, output),
+            Err(_) => file_not_read(output),
+        },
+        Job::Show { .. } => perform(alloc, job, &mut io::empty(), output),
+    }
+}
 
 /// Does what the words ask for, and answers the status.
 fn run(rt: &HostRuntime) -> io::Result<u8> {
@@ -11,7 +26,7 @@ fn run(rt: &HostRuntime) -> io::Result<u8> {
     let words: Vec<String> = env::args(rt)?.collect(alloc)?;
     let words: Vec<&str> = words.iter().map(|word| word.as_str()).collect(alloc)?;
     match job(alloc, words.as_slice()) {
-        Ok(job) => perform(alloc, &job, &mut rt.reader(), &mut io::writer(rt)),
+        Ok(job) => perform_over_file(rt, &job),
         Err(WordsFault::Words(error)) => {
             error.print(rt)?;
             Ok(if error.use_stderr() { 2 } else { 0 })

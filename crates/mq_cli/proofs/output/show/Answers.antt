@@ -1,4 +1,3 @@
-use Rattle.std.proofs.Common.{◌≡◌, ℕ}
 use Rattle.mq_cli.proofs.Statuses.{shown_status}
 use Rattle.mq_cli.proofs.output.show.Goals as goal
 

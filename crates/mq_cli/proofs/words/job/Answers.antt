@@ -1,4 +1,4 @@
-use Rattle.std.proofs.Common.{◌≡◌, ◌∙◌, ap, subst, map, Bor, List, ℕ, Option}
+use Rattle.std.proofs.Common.{◌∙◌, ap, subst, map, Bor, List, ℕ, Option}
 use Rattle.clap.specs.Simple.{is_simple}
 use Rattle.clap.specs.Words.{App, Row, Text, subcommand_of}
 use Rattle.mq_cli.specs.CommandLine.{IsJobOf}
