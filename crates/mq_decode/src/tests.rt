@@ -1,3 +1,4 @@
+mod readers;
 mod rows;
 
 use crate::FaultKind::{
