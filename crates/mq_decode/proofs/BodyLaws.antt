@@ -1,9 +1,8 @@
 -- The laws of whole bodies: what is read is spelled so, and what is spelled so is read.
-use Rattle.std.proofs.Common.{◌≡◌, ℕ, zero, suc, ◌+◌, ◌-◌, ◌*◌, ◌/◌, ◌%◌, ◌^◌, ◌<◌, ◌≤◌, Bool, true, false, cond, eqb, ltb, List, [], ◌∷◌, ◌++◌, length, Option, Some, None, Result, Ok, Err, refl, sym, ap, subst, ◌∙◌, append_assoc, arith, ◌⊎◌, inl, inr}
+use Rattle.std.proofs.Common.{◌≡◌, ℕ, ◌^◌, ◌<◌, Bool, true, false, cond, eqb, List, [], ◌∷◌, ◌++◌, length, Option, Some, None, Ok, Err, refl, ap, subst, ◌∙◌, arith, inl, inr}
 use Rattle.std.specs.Prelude.{IfSome}
 use Rattle.std.proofs.lemmas.Bool.{eqb-true}
 use Rattle.std.proofs.lemmas.List.{append-nil, length-append}
-use Rattle.std.specs.List.{flat_map}
 use Rattle.mq_wire.specs.Bytes.{AreBytes}
 use Rattle.mq_wire.specs.Number.{number}
 use Rattle.mq_wire.specs.Text.{counted}
@@ -14,19 +13,14 @@ use Rattle.mq_packet.specs.declared.connack.ConnAck.{ConnAck}
 use Rattle.mq_packet.specs.declared.connack.ConnAck.TheVariants.{Accepted, Refused}
 use Rattle.mq_packet.specs.declared.connack.RefusalCode.{RefusalCode}
 use Rattle.mq_packet.specs.declared.connack.RefusalCode.TheVariants.{UnacceptableProtocolVersion, IdentifierRejected, ServerUnavailable, BadUserNameOrPassword, NotAuthorized}
-use Rattle.mq_packet.specs.declared.connect.Connect.{Connect}
-use Rattle.mq_packet.specs.declared.message.Message.{Message}
 use Rattle.mq_packet.specs.declared.packet.Packet.{Packet}
 use Rattle.mq_packet.specs.declared.packet.Packet.TheVariants as packets
-use Rattle.mq_packet.specs.declared.packet.Request.{Request}
-use Rattle.mq_packet.specs.declared.packet.SubAckCode.{SubAckCode}
 use Rattle.mq_packet.specs.declared.publish.Delivery.{Delivery}
 use Rattle.mq_packet.specs.Codes.{refusal_number, refusal_from}
 use Rattle.mq_packet.specs.Identifier.{IsIdentifier}
 use Rattle.mq_packet.specs.Publication.{Publication, fits_delivery}
 use Rattle.mq_packet.specs.Spelling.{bit, connack_fields, delivery_fields, publish_fields, request_fields, code_fields, fields}
-use Rattle.mq_packet.specs.Values.{IsMessage, IsPublication, IsRequest, Always, IsPacket}
-use Rattle.mq_decode.specs.declared.fault.BadField.{BadField}
+use Rattle.mq_packet.specs.Values.{IsPublication, IsRequest, Always, IsPacket}
 use Rattle.mq_decode.specs.declared.fault.FaultKind.TheVariants.{ForbiddenCode, ForbiddenFlags}
 use Rattle.mq_decode.specs.declared.kind.Kind.{Kind}
 use Rattle.mq_decode.specs.declared.kind.Kind.TheVariants as kinds
@@ -37,7 +31,7 @@ use Rattle.mq_decode.specs.Fields.{bad_at, identifier_at, name_at, filter_at, en
 use Rattle.mq_decode.specs.Lists.{list_with, request_at, suback_code_at}
 use Rattle.mq_decode.specs.Connects.{connect_at}
 use Rattle.mq_decode.specs.Bodies.{refusal_or_fault, answer_at, present_at, connack_at, identified_at, delivery_of, delivery_at, publish_at, only_identifier_at, body_at}
-use Rattle.mq_decode.proofs.FieldLaws.{Wire, bind_ok, test_ok, ok_is, done, Takes, takes, Takes-then, identifier_found, identifier_again, name_found, name_again, end_found}
+use Rattle.mq_decode.proofs.FieldLaws.{Wire, bind_ok, test_ok, ok_is, Takes, takes, identifier_found, identifier_again, name_found, name_again, end_found}
 use Rattle.mq_decode.proofs.ListLaws.{chosen, some_is, filter_laws, request_laws, suback_code_laws, list_with_found, list_with_again}
 use Rattle.mq_decode.proofs.ConnectLaws.{connect_found, connect_again}
 use Rattle.mq_decode.proofs.KindLaws.{IsKind, dup_of, kind_of}

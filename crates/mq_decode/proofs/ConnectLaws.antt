@@ -1,8 +1,8 @@
 -- The laws of CONNECT: what is read is spelled so, and what is spelled so is read.
-use Rattle.std.proofs.Common.{◌≡◌, ℕ, zero, suc, ◌+◌, ◌-◌, ◌*◌, ◌/◌, ◌%◌, ◌<◌, ◌≤◌, Bool, true, false, ◌&&◌, cond, eqb, ltb, List, [], ◌∷◌, ◌++◌, length, Option, Some, None, Result, Ok, Err, refl, sym, ap, subst, ◌∙◌, append_assoc, arith, ◌⊎◌, inl, inr}
+use Rattle.std.proofs.Common.{◌≡◌, ℕ, zero, suc, ◌+◌, ◌*◌, ◌/◌, ◌%◌, ◌<◌, Bool, true, false, ◌&&◌, cond, eqb, List, [], ◌∷◌, ◌++◌, Option, Some, None, Ok, Err, refl, sym, ap, subst, ◌∙◌, append_assoc, arith, inl, inr}
 use Rattle.std.specs.Prelude.{IfSome}
 use Rattle.std.specs.Str.{IsAscii}
-use Rattle.std.proofs.lemmas.Bool.{eqb-true, eqb-false, and_parts, cases_Bool, true≢false}
+use Rattle.std.proofs.lemmas.Bool.{eqb-true, eqb-false, and_parts}
 use Rattle.std.proofs.lemmas.List.{append-nil}
 use Rattle.std.proofs.lemmas.Str.{IsUtf8-from_ascii, is_utf8-from_IsUtf8}
 use Rattle.mq_wire.specs.Bytes.{AreBytes}
@@ -14,16 +14,15 @@ use Rattle.mq_topic.specs.Qos.{qos_number, qos_from}
 use Rattle.mq_packet.specs.declared.connect.Connect.{Connect}
 use Rattle.mq_packet.specs.declared.connect.Will.{Will}
 use Rattle.mq_packet.specs.declared.connect.Login.{Login}
-use Rattle.mq_packet.specs.Spelling.{bit, protocol, will_flags, login_flags, password_flag, connect_flags, connect_protocol, connect_head, connect_fields, will_fields, login_fields, password_fields}
+use Rattle.mq_packet.specs.Spelling.{bit, will_flags, login_flags, password_flag, connect_flags, connect_fields, will_fields, login_fields, password_fields}
 use Rattle.mq_packet.specs.Values.{IsBinary, IsWill, IsLogin, IsConnect}
-use Rattle.mq_decode.specs.declared.fault.BadField.{BadField}
-use Rattle.mq_decode.specs.declared.fault.FaultKind.TheVariants.{ProtocolName, ProtocolLevel, ForbiddenFlags, PastEnd}
+use Rattle.mq_decode.specs.declared.fault.FaultKind.TheVariants.{ProtocolName, ProtocolLevel}
 use Rattle.mq_decode.specs.declared.flags.ConnectFlags.{ConnectFlags}
 use Rattle.mq_decode.specs.declared.flags.WillFlags.{WillFlags}
 use Rattle.mq_decode.specs.Gives.{◌>>=◌}
 use Rattle.mq_decode.specs.Fields.{bad_at, number_at, text_at, name_at, binary_at, end_at}
 use Rattle.mq_decode.specs.Connects.{will_with, will_from, login_from, flags_with, flags_from, flags_or_fault, flags_at, is_protocol, protocol_at, level_at, will_at, password_at, login_at, connect_at}
-use Rattle.mq_decode.proofs.FieldLaws.{Wire, bind_ok, test_ok, ok_is, done, Takes, takes, Takes-then, number_found, number_again, text_found, text_again, name_found, name_again, binary_found, binary_again, end_found}
+use Rattle.mq_decode.proofs.FieldLaws.{Wire, bind_ok, test_ok, ok_is, Takes, takes, Takes-then, number_found, number_again, text_found, text_again, name_found, name_again, binary_found, binary_again, end_found}
 use Rattle.mq_decode.proofs.ListLaws.{chosen, some_is, qos_exact}
 
 -- ---- the flags

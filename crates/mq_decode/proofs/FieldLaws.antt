@@ -1,7 +1,7 @@
 -- The laws of single fields: what is read is spelled so, and what is spelled so is read.
-use Rattle.std.proofs.Common.{◌≡◌, ℕ, zero, suc, ◌+◌, ◌-◌, ◌*◌, ◌/◌, ◌%◌, ◌^◌, ◌<◌, ◌≤◌, Bool, true, false, cond, eqb, ltb, List, [], ◌∷◌, ◌++◌, length, take, drop, get_or, Option, Some, None, Result, Ok, Err, refl, sym, ap, subst, ◌∙◌, append_assoc, arith, inl, inr}
-use Rattle.std.proofs.lemmas.Bool.{cases_lt, ltb-false, le-ltb, eqb-false, ne_eqb}
-use Rattle.std.proofs.lemmas.List.{take_at, drop_at, length-append, length-take, length-drop, take-append-drop, get_or-drop}
+use Rattle.std.proofs.Common.{◌≡◌, ℕ, ◌+◌, ◌<◌, ◌≤◌, Bool, true, false, cond, eqb, ltb, List, [], ◌∷◌, ◌++◌, length, take, drop, Result, Ok, Err, refl, sym, ap, subst, ◌∙◌, append_assoc, arith}
+use Rattle.std.proofs.lemmas.Bool.{ltb-false, le-ltb, eqb-false, ne_eqb}
+use Rattle.std.proofs.lemmas.List.{take_at, drop_at, length-append, length-take, take-append-drop, get_or-drop}
 use Rattle.std.proofs.Math.Seq.{drop-append_seam}
 use Rattle.mq_wire.specs.declared.text.FieldFault.{FieldFault}
 use Rattle.mq_wire.specs.Bytes.{AreBytes}
@@ -12,7 +12,7 @@ use Rattle.mq_wire.specs.Reading.{LengthLaws}
 use Rattle.mq_topic.specs.Topic.{IsTopicName, IsTopicFilter, is_topic_name, is_topic_filter}
 use Rattle.mq_packet.specs.Identifier.{IsIdentifier}
 use Rattle.mq_packet.specs.Values.{IsBinary}
-use Rattle.mq_decode.specs.declared.fault.FaultKind.TheVariants.{PastEnd, NotUtf8, Nul, NotTopicName, NotTopicFilter, ZeroIdentifier, BytesLeft}
+use Rattle.mq_decode.specs.declared.fault.FaultKind.TheVariants.{PastEnd, NotTopicName, NotTopicFilter, ZeroIdentifier}
 use Rattle.mq_decode.specs.declared.fault.BadField.{BadField}
 use Rattle.mq_decode.specs.Gives.{◌>>=◌}
 use Rattle.mq_decode.specs.Fields.{bad_at, number_at, identifier_at, text_field, text_at, name_at, filter_at, binary_at, end_at}

@@ -1,6 +1,6 @@
 -- What stands in a buffer after a read behind its bytes.
 use Rattle.std.proofs.Common.{◌≡◌, ℕ, ◌+◌, ◌≤◌, Bool, true, List, ◌++◌, length, take, cond, refl, sym, ap, ◌∙◌, append_assoc, arith}
-use Rattle.std.proofs.lemmas.List.{take-take, take-append-le, take_all, take_at, length-append}
+use Rattle.std.proofs.lemmas.List.{take-take, take-append-le, take_all, take_at}
 use Rattle.bytes.proofs.Ranges.{take-append_past}
 
 -- the front of a buffer that was made longer

@@ -1,28 +1,27 @@
 -- What is read at the front of bytes is what the grammar says.
-use Rattle.std.proofs.Common.{◌≡◌, ℕ, zero, suc, ◌+◌, ◌-◌, ◌*◌, ◌^◌, ◌<◌, ◌≤◌, Bool, true, false, cond, eqb, ltb, List, [], ◌∷◌, ◌++◌, length, take, drop, Option, Some, None, Result, Ok, Err, refl, sym, ap, subst, ◌∙◌, append_assoc, arith, inl, inr}
-use Rattle.std.proofs.lemmas.Bool.{ltb-false, true≢false}
-use Rattle.std.proofs.lemmas.List.{take_at, length-append, length-take, length-drop, take-append-drop}
+use Rattle.std.proofs.Common.{◌≡◌, ℕ, zero, suc, ◌+◌, ◌-◌, ◌^◌, ◌<◌, ◌≤◌, Bool, true, false, cond, ltb, List, [], ◌∷◌, ◌++◌, length, take, drop, Option, Some, None, Result, Ok, Err, refl, sym, ap, subst, ◌∙◌, append_assoc, arith}
+use Rattle.std.proofs.lemmas.Bool.{ltb-false}
+use Rattle.std.proofs.lemmas.List.{take_at, length-append, length-take, take-append-drop}
 use Rattle.mq_wire.specs.declared.reading.LengthReading.{LengthReading}
 use Rattle.mq_wire.specs.declared.reading.LengthReading.TheVariants.{Whole, Unfinished, TooLong, Overlong}
 use Rattle.mq_wire.specs.Bytes.{AreBytes}
 use Rattle.mq_wire.specs.Length.{Length}
 use Rattle.mq_wire.specs.Reading.{read_length}
 use Rattle.mq_packet.specs.declared.packet.Packet.{Packet}
-use Rattle.mq_packet.specs.Spelling.{Spells, fields, first_byte}
+use Rattle.mq_packet.specs.Spelling.{fields, first_byte}
 use Rattle.mq_decode.specs.declared.fault.FaultKind.{FaultKind}
 use Rattle.mq_decode.specs.declared.fault.FaultKind.TheVariants.{LengthTooLong, LengthOverlong, OverLimit}
-use Rattle.mq_decode.specs.declared.fault.DecodeFault.{DecodeFault}
 use Rattle.mq_decode.specs.declared.fault.DecodeError.{DecodeError}
 use Rattle.mq_decode.specs.declared.fault.DecodeError.TheVariants as errors
 use Rattle.mq_decode.specs.declared.fault.BadField.{BadField}
 use Rattle.mq_decode.specs.declared.kind.Kind.{Kind}
 use Rattle.mq_decode.specs.Kind.{kind_at, fixed_size, wrong_size, size_fault}
 use Rattle.mq_decode.specs.Bodies.{body_at}
-use Rattle.mq_decode.specs.Front.{fault_at, sized, header_after, header_at, packet_or_fault, front_after, front_at, GivesFront}
+use Rattle.mq_decode.specs.Front.{header_at, front_at, GivesFront}
 use Rattle.mq_decode.specs.Grammar.{SpellsWithin, Faulty, AtFirst, AtLength, AtSize, AtField, Pending, IsFront}
 use Rattle.mq_decode.proofs.FieldLaws.{Wire, AreBytes-rest}
-use Rattle.mq_decode.proofs.KindLaws.{IsKind, kind_byte, kind_of, byte_again, kind_found}
-use Rattle.mq_decode.proofs.BodyLaws.{BodyFound, body_found}
+use Rattle.mq_decode.proofs.KindLaws.{kind_byte, byte_again, kind_found}
+use Rattle.mq_decode.proofs.BodyLaws.{body_found}
 use Rattle.mq_decode.proofs.FrontLaws.{Read, whole_again, faulty_again, pending_at}
 
 abbrev pub FrontFound : ℕ → List ℕ → Read → Type 0

@@ -1,30 +1,21 @@
 -- The laws of what stands at the front: each thing that the grammar names is read as that, and what is read is one.
-use Rattle.std.proofs.Common.{◌≡◌, ℕ, zero, suc, ◌+◌, ◌-◌, ◌*◌, ◌^◌, ◌<◌, ◌≤◌, Bool, true, false, cond, eqb, ltb, List, [], ◌∷◌, ◌++◌, length, take, drop, Option, Some, None, Result, Ok, Err, refl, sym, ap, subst, ◌∙◌, append_assoc, arith, inl, inr}
-use Rattle.std.proofs.lemmas.Bool.{ltb-false, le-ltb, true≢false}
-use Rattle.std.proofs.lemmas.List.{take_at, drop_at, length-append, length-take, length-drop, take-append-drop}
-use Rattle.mq_wire.specs.declared.reading.LengthReading.{LengthReading}
-use Rattle.mq_wire.specs.declared.reading.LengthReading.TheVariants.{Whole, Unfinished, TooLong, Overlong}
-use Rattle.mq_wire.specs.Bytes.{AreBytes}
+use Rattle.std.proofs.Common.{◌≡◌, ℕ, ◌+◌, false, ltb, List, ◌∷◌, ◌++◌, length, take, drop, Option, Some, None, Result, Ok, Err, refl, sym, ap, ◌∙◌, append_assoc, arith}
+use Rattle.std.proofs.lemmas.Bool.{le-ltb}
+use Rattle.std.proofs.lemmas.List.{take_at, drop_at, length-append}
 use Rattle.mq_wire.specs.Length.{Length}
-use Rattle.mq_wire.specs.Reading.{read_length, IsTooLong, IsOverlong}
 use Rattle.mq_packet.specs.declared.packet.Packet.{Packet}
-use Rattle.mq_packet.specs.Spelling.{Spells, fields, first_byte}
-use Rattle.mq_packet.specs.Values.{IsPacket}
+use Rattle.mq_packet.specs.Spelling.{fields, first_byte}
 use Rattle.mq_decode.specs.declared.fault.FaultKind.{FaultKind}
-use Rattle.mq_decode.specs.declared.fault.FaultKind.TheVariants.{LengthTooLong, LengthOverlong, OverLimit}
+use Rattle.mq_decode.specs.declared.fault.FaultKind.TheVariants.{LengthTooLong, LengthOverlong}
 use Rattle.mq_decode.specs.declared.fault.DecodeFault.{DecodeFault}
-use Rattle.mq_decode.specs.declared.fault.DecodeError.{DecodeError}
-use Rattle.mq_decode.specs.declared.fault.DecodeError.TheVariants as errors
-use Rattle.mq_decode.specs.declared.fault.BadField.{BadField}
-use Rattle.mq_decode.specs.declared.header.Header.{Header}
 use Rattle.mq_decode.specs.declared.kind.Kind.{Kind}
-use Rattle.mq_decode.specs.Kind.{kind_at, fixed_size, wrong_size, size_fault}
+use Rattle.mq_decode.specs.Kind.{kind_at, size_fault}
 use Rattle.mq_decode.specs.Bodies.{body_at}
-use Rattle.mq_decode.specs.Front.{fault_at, sized, header_of, header_after, header_at, packet_or_fault, front_after, front_at, GivesFront}
-use Rattle.mq_decode.specs.Grammar.{SpellsWithin, FirstFault, BadLength, LengthFault, SizeFault, FieldFault, Faulty, AtFirst, AtLength, AtSize, AtField, Pending, IsFront}
-use Rattle.mq_decode.proofs.FieldLaws.{Wire, AreBytes-rest}
-use Rattle.mq_decode.proofs.KindLaws.{IsKind, kind_byte, kind_of, kind_again, byte_again, kind_found, size_again}
-use Rattle.mq_decode.proofs.BodyLaws.{BodyFound, body_found, body_again}
+use Rattle.mq_decode.specs.Front.{fault_at, sized, header_at, packet_or_fault, front_at}
+use Rattle.mq_decode.specs.Grammar.{SpellsWithin, FirstFault, BadLength, SizeFault, Faulty, AtFirst, AtLength, AtSize, AtField, Pending}
+use Rattle.mq_decode.proofs.FieldLaws.{Wire}
+use Rattle.mq_decode.proofs.KindLaws.{kind_of, kind_again, size_again}
+use Rattle.mq_decode.proofs.BodyLaws.{body_again}
 
 abbrev pub Read : Type 0
 Read = Result (Option (Packet × ℕ)) DecodeFault

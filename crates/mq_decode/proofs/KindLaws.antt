@@ -1,5 +1,5 @@
 -- The laws of the first byte: the kind that it stands for, and the byte of a kind.
-use Rattle.std.proofs.Common.{◌≡◌, ℕ, zero, suc, ◌+◌, ◌-◌, ◌*◌, ◌/◌, ◌%◌, ◌<◌, ◌≤◌, Bool, true, false, cond, eqb, ltb, List, [], ◌∷◌, ◌++◌, length, Option, Some, None, Result, Ok, Err, refl, sym, ap, subst, ◌∙◌, arith, inl, inr}
+use Rattle.std.proofs.Common.{◌≡◌, ℕ, zero, suc, ◌+◌, ◌*◌, ◌/◌, ◌%◌, ◌<◌, ◌≤◌, Bool, true, false, cond, eqb, length, Option, Some, None, Result, Ok, Err, refl, subst, arith, inl, inr}
 use Rattle.std.proofs.lemmas.Bool.{eqb-true, le-ltb}
 use Rattle.mq_topic.specs.declared.qos.Qos.{Qos}
 use Rattle.mq_topic.specs.declared.qos.Qos.TheVariants.{Q0, Q1, Q2}
@@ -12,11 +12,10 @@ use Rattle.mq_packet.specs.Publication.{fits_delivery}
 use Rattle.mq_packet.specs.Spelling.{bit, dup_bit, first_byte, fields}
 use Rattle.mq_packet.specs.Values.{IsPacket}
 use Rattle.mq_decode.specs.declared.fault.FaultKind.{FaultKind}
-use Rattle.mq_decode.specs.declared.fault.FaultKind.TheVariants.{ForbiddenType, WrongFlags, ForbiddenQos, DupWithoutDelivery}
+use Rattle.mq_decode.specs.declared.fault.FaultKind.TheVariants.{ForbiddenType, WrongFlags, DupWithoutDelivery}
 use Rattle.mq_decode.specs.declared.kind.Kind.{Kind}
 use Rattle.mq_decode.specs.declared.kind.Kind.TheVariants as kinds
-use Rattle.mq_decode.specs.declared.kind.PublishFlags.{PublishFlags}
-use Rattle.mq_decode.specs.Kind.{dup_fits, publish_of, publish_kind, with_flags, kind_at, fixed_size, wrong_size, size_fault}
+use Rattle.mq_decode.specs.Kind.{dup_fits, publish_of, publish_kind, with_flags, kind_at, size_fault}
 use Rattle.mq_decode.proofs.ListLaws.{chosen, qos_exact}
 
 -- the byte of a kind

@@ -1,8 +1,8 @@
 -- The laws of lists: what is read is spelled so, and what is spelled so is read.
-use Rattle.std.proofs.Common.{◌≡◌, ℕ, zero, suc, ◌+◌, ◌-◌, ◌<◌, ◌≤◌, Bool, true, false, cond, eqb, ltb, List, [], ◌∷◌, ◌++◌, length, Option, Some, None, Result, Ok, Err, refl, sym, ap, subst, ◌∙◌, append_assoc, arith, ◌⊎◌, inl, inr}
+use Rattle.std.proofs.Common.{◌≡◌, ℕ, zero, suc, ◌<◌, ◌≤◌, Bool, true, false, cond, eqb, List, [], ◌∷◌, ◌++◌, length, Option, Some, None, Result, Ok, refl, ap, subst, ◌∙◌, append_assoc, arith, ◌⊎◌, inl, inr}
 use Rattle.std.specs.List.{flat_map, AllByRecursion}
 use Rattle.std.proofs.lemmas.Bool.{eqb-true}
-use Rattle.std.proofs.lemmas.List.{length-append, append-nil}
+use Rattle.std.proofs.lemmas.List.{length-append}
 use Rattle.mq_wire.specs.Bytes.{AreBytes}
 use Rattle.mq_wire.specs.Number.{number}
 use Rattle.mq_wire.specs.Text.{counted}
@@ -14,12 +14,11 @@ use Rattle.mq_packet.specs.declared.packet.Request.{Request}
 use Rattle.mq_packet.specs.declared.packet.SubAckCode.{SubAckCode}
 use Rattle.mq_packet.specs.declared.packet.SubAckCode.TheVariants.{Granted, Failure}
 use Rattle.mq_packet.specs.Codes.{code_number, code_from}
-use Rattle.mq_packet.specs.Identifier.{IsIdentifier}
 use Rattle.mq_packet.specs.Spelling.{request_fields, code_fields}
 use Rattle.mq_packet.specs.Values.{IsRequest, Always, IsList}
 use Rattle.mq_decode.specs.declared.fault.BadField.{BadField}
 use Rattle.mq_decode.specs.Gives.{◌>>=◌}
-use Rattle.mq_decode.specs.Fields.{bad_at, identifier_at, filter_at, code_byte_at, code_or_fault}
+use Rattle.mq_decode.specs.Fields.{identifier_at, filter_at, code_byte_at, code_or_fault}
 use Rattle.mq_decode.specs.Lists.{items_at, list_at, request_at, suback_code_at, list_with}
 use Rattle.mq_decode.proofs.FieldLaws.{Wire, bind_ok, ok_is, done, Takes, takes, Takes-then, identifier_found, identifier_again, filter_found, filter_again}
 

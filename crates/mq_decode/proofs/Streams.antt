@@ -1,19 +1,16 @@
 -- Streams: one after another, cut anywhere, and read in one way.
-use Rattle.std.proofs.Common.{◌≡◌, ℕ, zero, suc, ◌+◌, ◌-◌, ◌<◌, ◌≤◌, Bool, true, false, eqb, List, [], ◌∷◌, ◌++◌, length, take, drop, get_or, Option, Some, None, Result, Ok, Err, refl, sym, ap, subst, ◌∙◌, append_assoc, arith, inl, inr}
+use Rattle.std.proofs.Common.{◌≡◌, ℕ, ◌+◌, ◌<◌, ◌≤◌, Bool, true, eqb, List, [], ◌∷◌, ◌++◌, length, take, drop, get_or, Option, Some, None, Ok, Err, refl, sym, ap, subst, ◌∙◌, append_assoc, arith}
 use Rattle.std.proofs.lemmas.Bool.{eqb-true}
 use Rattle.std.proofs.lemmas.List.{nil_from_length, append-nil, length-append, length-take, length-drop, take-append-drop, take-take, drop-take, take_more}
 use Rattle.std.proofs.lemmas.List.Concat.{flat_map-append}
 use Rattle.std.specs.List.{flat_map}
-use Rattle.mq_wire.specs.Length.{Length}
-use Rattle.mq_wire.specs.Reading.{IsTooLong, IsOverlong}
 use Rattle.mq_packet.specs.declared.packet.Packet.{Packet}
-use Rattle.mq_packet.specs.Spelling.{Spells, fields, first_byte}
 use Rattle.mq_decode.specs.declared.fault.FaultKind.{FaultKind}
 use Rattle.mq_decode.specs.declared.fault.FaultKind.TheVariants.{LengthTooLong, LengthOverlong}
 use Rattle.mq_decode.specs.declared.fault.DecodeFault.{DecodeFault}
 use Rattle.mq_decode.specs.declared.fault.DecodeError.{DecodeError}
 use Rattle.mq_decode.specs.declared.fault.DecodeError.TheVariants as errors
-use Rattle.mq_decode.specs.Grammar.{SpellsWithin, Stream, FirstFault, BadLength, LengthFault, SizeFault, FieldFault, Faulty, AtFirst, AtLength, AtSize, AtField, Pending, Ends, Reading, Begins, Goes, Stops, IsFront, IsAlone, Wants}
+use Rattle.mq_decode.specs.Grammar.{SpellsWithin, Stream, BadLength, Faulty, AtFirst, AtLength, AtSize, AtField, Pending, Reading, Goes, Stops, IsFront, IsAlone, Wants}
 
 -- ---- one stream after another
 

@@ -1,5 +1,5 @@
 -- How many bytes a packet that isn't whole still wants.
-use Rattle.std.proofs.Common.{◌≡◌, ℕ, zero, suc, ◌+◌, ◌-◌, ◌<◌, ◌≤◌, Bool, true, false, cond, ltb, List, [], ◌∷◌, ◌++◌, length, take, drop, Option, Some, None, Result, Ok, Err, refl, sym, ap, subst, ◌∙◌, append_assoc, arith, inl, inr}
+use Rattle.std.proofs.Common.{◌≡◌, ℕ, suc, ◌+◌, ◌-◌, ◌<◌, ◌≤◌, Bool, true, false, cond, ltb, List, [], ◌∷◌, ◌++◌, length, take, drop, Option, Some, None, Result, Ok, Err, refl, sym, ap, ◌∙◌, append_assoc, arith, inl, inr}
 use Rattle.std.proofs.lemmas.Bool.{cases_lt, le-ltb}
 use Rattle.std.proofs.lemmas.List.{nil_from_length, length-append, length-take, take-append-drop, take_at}
 use Rattle.bytes.proofs.Ranges.{take-append_past}
@@ -13,10 +13,10 @@ use Rattle.mq_decode.specs.declared.fault.BadField.{BadField}
 use Rattle.mq_decode.specs.declared.fault.DecodeFault.{DecodeFault}
 use Rattle.mq_decode.specs.declared.header.Header.{Header}
 use Rattle.mq_decode.specs.declared.kind.Kind.{Kind}
-use Rattle.mq_decode.specs.Kind.{kind_at, size_fault}
+use Rattle.mq_decode.specs.Kind.{kind_at}
 use Rattle.mq_decode.specs.Bodies.{body_at}
-use Rattle.mq_decode.specs.Front.{fault_at, sized, header_of, header_after, header_at, packet_or_fault, front_after, front_at}
-use Rattle.mq_decode.specs.Grammar.{SpellsWithin, Pending, IsAlone, Wants}
+use Rattle.mq_decode.specs.Front.{header_of, header_after, header_at, packet_or_fault, front_after, front_at}
+use Rattle.mq_decode.specs.Grammar.{Pending, Wants}
 use Rattle.mq_decode.proofs.FieldLaws.{Wire}
 use Rattle.mq_decode.proofs.FrontLaws.{Read, whole_again}
 use Rattle.mq_decode.proofs.FrontFound.{FrontFound, front_found}

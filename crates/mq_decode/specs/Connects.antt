@@ -1,5 +1,5 @@
 -- Reading CONNECT (3.1).
-use Rattle.std.specs.Prelude.{ℕ, ◌/◌, ◌%◌, Bool, true, false, ◌&&◌, not, List, [], ◌∷◌, Option, Some, None, option_map, Result, Ok, Err, ◌==◌, if◌then◌else◌}
+use Rattle.std.specs.Prelude.{ℕ, ◌/◌, ◌%◌, Bool, true, false, ◌&&◌, List, [], ◌∷◌, Option, Some, None, Result, Ok, Err, ◌==◌, if◌then◌else◌}
 use Rattle.mq_topic.specs.declared.qos.Qos.{Qos}
 use Rattle.mq_topic.specs.Qos.{qos_from}
 use Rattle.mq_packet.specs.declared.connect.Connect.{Connect}
@@ -10,7 +10,7 @@ use Rattle.mq_decode.specs.declared.fault.BadField.{BadField}
 use Rattle.mq_decode.specs.declared.flags.ConnectFlags.{ConnectFlags}
 use Rattle.mq_decode.specs.declared.flags.WillFlags.{WillFlags}
 use Rattle.mq_decode.specs.Gives.{◌>>=◌}
-use Rattle.mq_decode.specs.Fields.{bad_at, number_at, text_at, name_at, binary_at, byte_at, end_at}
+use Rattle.mq_decode.specs.Fields.{bad_at, number_at, text_at, name_at, binary_at, end_at}
 
 -- the bits of the flags (3.1.2.3) that speak of the will: without bit 2 none of bits 3, 4 and 5 is set, and the quality of
 -- service is not 3

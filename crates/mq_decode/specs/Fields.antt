@@ -1,12 +1,10 @@
 -- Reading single fields from the front of the bytes of a packet (1.5). Each gives its value and the bytes after it, or the
 -- first thing that is wrong, with the number of bytes from the field on.
-use Rattle.std.specs.Prelude.{ℕ, ◌+◌, ◌<◌, Bool, true, false, ◌&&◌, List, [], ◌∷◌, length, take, drop, Option, Some, None, Result, Ok, Err, nat_lt, ◌==◌, if◌then◌else◌}
+use Rattle.std.specs.Prelude.{ℕ, List, [], ◌∷◌, length, take, drop, Option, Some, None, Result, Ok, Err, nat_lt, ◌==◌, if◌then◌else◌}
 use Rattle.mq_wire.specs.declared.text.FieldFault.TheVariants as texts
 use Rattle.mq_wire.specs.declared.text.FieldFault.{FieldFault}
 use Rattle.mq_wire.specs.Number.{number_in}
 use Rattle.mq_wire.specs.TextReading.{read_text}
-use Rattle.mq_topic.specs.declared.qos.Qos.{Qos}
-use Rattle.mq_topic.specs.Qos.{qos_from}
 use Rattle.mq_topic.specs.Topic.{is_topic_name, is_topic_filter}
 use Rattle.mq_decode.specs.declared.fault.FaultKind.{FaultKind}
 use Rattle.mq_decode.specs.declared.fault.FaultKind.TheVariants.{PastEnd, NotUtf8, Nul, NotTopicName, NotTopicFilter, ZeroIdentifier, ForbiddenCode, BytesLeft}

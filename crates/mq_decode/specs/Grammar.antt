@@ -9,7 +9,6 @@ use Rattle.mq_decode.specs.declared.fault.FaultKind.TheVariants.{LengthTooLong, 
 use Rattle.mq_decode.specs.declared.fault.DecodeFault.{DecodeFault}
 use Rattle.mq_decode.specs.declared.fault.DecodeError.{DecodeError}
 use Rattle.mq_decode.specs.declared.fault.DecodeError.TheVariants as errors
-use Rattle.mq_decode.specs.declared.fault.BadField.{BadField}
 use Rattle.mq_decode.specs.declared.kind.Kind.{Kind}
 use Rattle.mq_decode.specs.Kind.{kind_at, size_fault}
 use Rattle.mq_decode.specs.Bodies.{body_at}

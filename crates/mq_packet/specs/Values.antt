@@ -1,5 +1,5 @@
 -- Which values are control packets (chapter 3): each field is of its kind.
-use Rattle.std.specs.Prelude.{◌≡◌, ℕ, ◌<◌, ◌^◌, true, List, length, Option, Some, None, IfSome}
+use Rattle.std.specs.Prelude.{◌≡◌, ℕ, ◌<◌, ◌^◌, true, List, length, IfSome}
 use Rattle.std.specs.List.{AllByRecursion}
 use Rattle.mq_wire.specs.Text.{IsText}
 use Rattle.mq_topic.specs.Topic.{IsTopicName, IsTopicFilter}
@@ -8,7 +8,6 @@ use Rattle.mq_packet.specs.declared.connect.Connect.{Connect}
 use Rattle.mq_packet.specs.declared.connect.Will.{Will}
 use Rattle.mq_packet.specs.declared.connect.Login.{Login}
 use Rattle.mq_packet.specs.declared.packet.Request.{Request}
-use Rattle.mq_packet.specs.declared.packet.SubAckCode.{SubAckCode}
 use Rattle.mq_packet.specs.declared.packet.Packet.{Packet}
 use Rattle.mq_packet.specs.declared.packet.Packet.TheVariants as packets
 use Rattle.mq_packet.specs.Identifier.{IsIdentifier}

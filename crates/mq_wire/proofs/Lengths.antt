@@ -1,15 +1,14 @@
 -- Remaining lengths: how many bytes a number takes, and the laws of reading.
-use Rattle.std.proofs.Common.{◌≡◌, ℕ, zero, suc, ◌+◌, ◌-◌, ◌*◌, ◌/◌, ◌%◌, ◌^◌, ◌<◌, ◌≤◌, Bool, true, false, cond, eqb, ltb, List, [], ◌∷◌, ◌++◌, length, take, get_or, refl, sym, ap, subst, ◌∙◌, arith, rules, inl, inr}
+use Rattle.std.proofs.Common.{◌≡◌, ℕ, suc, ◌+◌, ◌-◌, ◌*◌, ◌/◌, ◌%◌, ◌^◌, ◌<◌, ◌≤◌, List, [], ◌∷◌, ◌++◌, length, take, refl, sym, ap, subst, ◌∙◌, arith, inl, inr}
 use Rattle.std.proofs.lemmas.Bool.{cases_lt, cases_eq, lt-ltb, le-ltb, ne_eqb}
 use Rattle.std.proofs.lemmas.List.{take_at, length-append}
 use Rattle.std.proofs.lemmas.Bool.Decides.{nat_tests}
-use Rattle.mq_wire.specs.declared.reading.LengthReading.{LengthReading}
 use Rattle.mq_wire.specs.declared.reading.LengthReading.TheVariants.{Whole, Unfinished, TooLong, Overlong}
-use Rattle.mq_wire.specs.Length.{Digits, IsShortest, Length}
+use Rattle.mq_wire.specs.Length.{Length}
 use Rattle.mq_wire.specs.Bytes.{AreBytes}
 use Rattle.mq_wire.specs.Steps.{Continue}
 use Rattle.mq_wire.specs.Value.{value_of}
-use Rattle.mq_wire.specs.Reading.{read_length, fourth_byte, third_byte, second_byte, IsTooLong, IsOverlong, LengthLaws}
+use Rattle.mq_wire.specs.Reading.{read_length, IsTooLong, IsOverlong, LengthLaws}
 
 pub size_one : (n : ℕ) (b : List ℕ) → n < 128 → Length n b → length b ≡ 1
 size_one n [] lt h = absurd h.0

@@ -1,14 +1,14 @@
 -- Texts: the laws of reading.
-use Rattle.std.proofs.Common.{◌≡◌, ℕ, zero, suc, ◌+◌, ◌-◌, ◌*◌, ◌/◌, ◌%◌, ◌^◌, ◌<◌, ◌≤◌, Bool, true, false, cond, eqb, ltb, List, [], ◌∷◌, ◌++◌, length, take, drop, get_or, Result, Ok, Err, refl, sym, ap, subst, ◌∙◌, append_assoc, add-zero, arith, rules, inl, inr}
+use Rattle.std.proofs.Common.{◌≡◌, ℕ, ◌+◌, ◌*◌, ◌/◌, ◌%◌, ◌<◌, ◌≤◌, Bool, true, false, cond, ltb, List, [], ◌∷◌, ◌++◌, length, drop, get_or, Result, Ok, Err, refl, sym, ap, subst, ◌∙◌, add-zero, arith, inl, inr}
 use Rattle.std.specs.Str.{IsUtf8, is_utf8}
-use Rattle.std.proofs.lemmas.Bool.{cases_lt, cases_Bool, lt-ltb, le-ltb, ltb-false}
-use Rattle.std.proofs.lemmas.List.{take_at, drop_at, length-append, length-take, length-drop, take-append-drop, get_or-drop, drop-drop}
+use Rattle.std.proofs.lemmas.Bool.{cases_Bool, le-ltb, ltb-false}
+use Rattle.std.proofs.lemmas.List.{take_at, length-append, length-take, length-drop, take-append-drop, get_or-drop, drop-drop}
 use Rattle.std.proofs.Math.Seq.{drop-append_seam}
 use Rattle.std.proofs.lemmas.Str.{IsUtf8-from_is_utf8, is_utf8-from_IsUtf8}
 use Rattle.mq_wire.specs.declared.text.FieldFault.{FieldFault}
 use Rattle.mq_wire.specs.declared.text.FieldFault.TheVariants.{Past, NotUtf8, Nul}
 use Rattle.mq_wire.specs.Number.{number, number_in, NumberLaws}
-use Rattle.mq_wire.specs.Text.{IsText, Text, has_nul, counted}
+use Rattle.mq_wire.specs.Text.{IsText, has_nul, counted}
 use Rattle.mq_wire.specs.Bytes.{AreBytes}
 use Rattle.mq_wire.specs.TextReading.{read_text, checked_text, with_place, text_end, text_bytes, TextLaws}
 

@@ -1,10 +1,10 @@
 -- Reading a text, and what ties the reading to `Text` (1.5.3).
-use Rattle.std.specs.Prelude.{◌≡◌, ℕ, ◌+◌, ◌-◌, ◌<◌, ◌≤◌, ◌^◌, List, ◌++◌, length, take, drop, Result, Ok, Err, nat_lt, if◌then◌else◌}
+use Rattle.std.specs.Prelude.{◌≡◌, ℕ, ◌+◌, ◌≤◌, List, ◌++◌, length, take, drop, Result, Ok, Err, nat_lt, if◌then◌else◌}
 use Rattle.std.specs.Str.{is_utf8}
 use Rattle.mq_wire.specs.declared.text.FieldFault.{FieldFault}
 use Rattle.mq_wire.specs.declared.text.FieldFault.TheVariants.{Past, NotUtf8, Nul}
 use Rattle.mq_wire.specs.Number.{number_in}
-use Rattle.mq_wire.specs.Text.{IsText, Text, has_nul, counted}
+use Rattle.mq_wire.specs.Text.{IsText, has_nul, counted}
 use Rattle.mq_wire.specs.Bytes.{AreBytes}
 
 -- the bytes of a text whose count begins at a place, and the place after them

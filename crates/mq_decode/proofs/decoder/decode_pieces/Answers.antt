@@ -1,4 +1,4 @@
-use Rattle.std.proofs.Common.{◌≡◌, ℕ, List, sym, ◌∙◌, arith}
+use Rattle.std.proofs.Common.{◌∙◌}
 use Rattle.std.proofs.lemmas.Result.{err_from_is_err_and}
 use Rattle.mq_decode.proofs.Streams.{pieces_more, pieces_stop}
 use Rattle.mq_decode.proofs.decoder.decode_pieces.Goals as goal

@@ -1,7 +1,6 @@
-use Rattle.std.proofs.Common.{◌≡◌, ◌+◌, ◌<◌, ◌≤◌, ◌++◌, ◌∷◌, [], length, sym, subst, arith}
+use Rattle.std.proofs.Common.{◌<◌, ◌∷◌, [], length, arith}
 use Rattle.std.proofs.lemmas.List.{length-append}
-use Rattle.mq_decode.specs.Gives.{Fails}
-use Rattle.mq_decode.specs.Lists.{items_at, list_at}
+use Rattle.mq_decode.specs.Lists.{items_at}
 use Rattle.mq_decode.proofs.Loops.{goes_on, stops, list_of_some, some_left}
 use Rattle.mq_decode.proofs.lists.list.Goals as goal
 

@@ -1,7 +1,6 @@
-use Rattle.std.proofs.Common.{◌≡◌, ℕ, List, Err, take, ◌≤◌, ◌++◌, length, min, sym, ◌∙◌, ap, subst, arith}
-use Rattle.std.specs.Io.KnownBytes.{Consumes}
+use Rattle.std.proofs.Common.{ℕ, List, ◌≤◌, length, subst, arith}
 use Rattle.std.proofs.lemmas.Result.{err_from_is_err_and}
-use Rattle.mq_decode.specs.Grammar.{IsFront, SpellsWithin, Wants, Pending}
+use Rattle.mq_decode.specs.Grammar.{Wants}
 use Rattle.mq_decode.proofs.Readers.{stops_at, whole_taken, consumes_then}
 use Rattle.mq_decode.proofs.read.read_one.Goals as goal
 

@@ -1,7 +1,6 @@
-use Rattle.std.proofs.Common.{◌≡◌, ℕ, List, ◌+◌, ◌≤◌, ◌++◌, length, take, drop, ap, subst, sym, ◌∙◌, arith}
-use Rattle.std.proofs.lemmas.List.{length-take}
+use Rattle.std.proofs.Common.{◌≡◌, ℕ, List, ◌≤◌, ◌++◌, take, drop, ap, subst, ◌∙◌, arith}
 use Rattle.std.proofs.lemmas.Result.{err_from_is_err_and}
-use Rattle.mq_decode.specs.Grammar.{IsAlone, Wants}
+use Rattle.mq_decode.specs.Grammar.{Wants}
 use Rattle.mq_decode.proofs.Streams.{filled_more, filled_stops, filled_memory, goes_pending, held_alone}
 use Rattle.mq_decode.proofs.take.fill_up.Goals as goal
 

@@ -1,7 +1,7 @@
-use Rattle.std.proofs.Common.{◌≡◌, ℕ, List, ◌<◌, [], ◌++◌, length, take, drop, ap, subst, sym, ◌∙◌, arith}
+use Rattle.std.proofs.Common.{◌≡◌, ℕ, List, ◌<◌, [], ◌++◌, length, drop, ap, sym, ◌∙◌, arith}
 use Rattle.std.proofs.lemmas.Result.{err_from_is_err_and, on_ok_weaker, IfErr-weaker}
 use Rattle.mq_decode.specs.declared.fault.DecodeError.TheVariants as errors
-use Rattle.mq_decode.specs.Grammar.{Goes, Stops}
+use Rattle.mq_decode.specs.Grammar.{Stops}
 use Rattle.mq_decode.proofs.Loops.{some_left}
 use Rattle.mq_decode.proofs.Streams.{filled_all, filled_stops_all, left_memory, nil_left, rest_goes}
 use Rattle.mq_decode.proofs.take.take_piece.Goals as goal

@@ -1,4 +1,3 @@
-use Rattle.std.proofs.Common.{arith}
 use Rattle.mq_decode.proofs.decoder.Decoder.feed.Goals as goal
 
 pub returns-in-Err-clause-err : goal.returns-in-Err-clause-err
