@@ -1,18 +1,18 @@
 -- What was counted of a reader so far.
-use Rattle.std.proofs.Common.{◌≡◌, ℕ, ◌+◌, ◌<◌, List, [], ◌∷◌, ◌++◌, length, Option, Some, None, refl, sym, ap, ◌∙◌, append_assoc, arith}
+use Rattle.std.proofs.Common.{◌≡◌, ℕ, ◌+◌, List, [], ◌∷◌, ◌++◌, length, Option, Some, None, refl, sym, ap, ◌∙◌, append_assoc, arith}
 use Rattle.std.specs.Prelude.{IfSome}
 use Rattle.std.specs.Io.KnownBytes.{Consumes, IsAtEnd}
 use Rattle.std.proofs.lemmas.List.{append-nil, length-append}
 use Rattle.mq_packet.specs.declared.packet.Packet.{Packet}
 use Rattle.mq_decode.specs.declared.fault.FaultKind.{FaultKind}
-use Rattle.mq_decode.specs.Grammar.{SpellsWithin, Stream, Reading, Faulty, AtFirst, AtLength, AtSize, AtField, Pending}
+use Rattle.mq_decode.specs.Grammar.{SpellsWithin, Stream, Faulty, AtFirst, AtLength, AtSize, AtField, Pending}
 use Rattle.mq_decode.specs.Laws.{ReadsAgain}
 use Rattle.mq_decode.specs.Reader.{ReadStops}
 use Rattle.mq_decode.specs.declared.read.ReadError.{ReadError}
 use Rattle.mq_decode.specs.declared.read.ReadError.TheVariants as errors
 use Rattle.mq_cli.specs.declared.count.CountEnd.{CountEnd}
 use Rattle.mq_cli.specs.declared.count.CountEnd.TheVariants as ends
-use Rattle.mq_cli.specs.Count.{Counts, EndsAt, IsTaken, end_with}
+use Rattle.mq_cli.specs.Count.{Counts, IsTaken, end_with}
 
 -- the bytes that were taken are so many packets, and so many bytes
 pub record Counted (limit : ℕ) (left now : Option (List ℕ)) (packets start : ℕ) : Type 0 where

@@ -1,5 +1,5 @@
 -- The status of what is shown.
-use Rattle.std.proofs.Common.{◌≡◌, ◌⊎◌, ℕ, List, Bor, Result, inl, inr, refl, subst}
+use Rattle.std.proofs.Common.{◌≡◌, ◌⊎◌, ℕ, List, Result, inl, inr, subst}
 use Rattle.std.proofs.lemmas.Result.{IfOk-weaker}
 use Rattle.std.specs.Result.{IfOk}
 use Rattle.mq_cli.specs.declared.stream.Shown.{Shown}

@@ -1,6 +1,4 @@
-use Rattle.std.proofs.Common.{◌≡◌, ◌-◌, ◌^◌, ◌≤◌, List, length}
-use Rattle.std.specs.Io.KnownBytes.{Consumes}
-use Rattle.mq_packet.specs.declared.packet.Packet.{Packet}
+use Rattle.std.proofs.Common.{◌-◌, ◌^◌, ◌≤◌}
 use Rattle.mq_cli.proofs.Counting.{Counted}
 use Rattle.mq_cli.proofs.count.count_packets.Given as goal
 

@@ -1,5 +1,5 @@
-use Rattle.std.proofs.Common.{rules, ◌≡◌, ◌∙◌, sym, ap, Some, option_map, codes, IsSome, Bor, List, ℕ}
-use Rattle.clap.specs.Words.{found_of, rows_of, first_of}
+use Rattle.std.proofs.Common.{rules, ◌≡◌, ◌∙◌, sym, Some, option_map, codes, IsSome, Bor, List, ℕ}
+use Rattle.clap.specs.Words.{found_of, rows_of}
 use Rattle.clap.specs.declared.parser.matches.ArgMatches.TheViews.{out-ArgMatches}
 use Rattle.clap.proofs.WalkLemmas.{first_value-rows}
 use Rattle.mq_cli.proofs.Matches.{command_met}
