@@ -12,9 +12,6 @@ use std::time::Instant;
 /// How many bytes a stream has, but for a rest of less than one turn.
 const STREAM: usize = 64_000_000;
 
-/// How many bytes a stream has that is decoded byte by byte.
-const SHORT_STREAM: usize = 8_000_000;
-
 /// How often each work is done. The middle one of its times counts.
 const ROUNDS: usize = 5;
 
@@ -82,19 +79,11 @@ fn measure_work(
 }
 
 /// Prints what a table is of, and the names of its columns.
-fn print_heading(
-    rt: &impl Print,
-    subject: Subject,
-    stream: &Stream<'_>,
-    short: &Stream<'_>,
-) -> anyhow::Result<()> {
+fn print_heading(rt: &impl Print, subject: Subject, stream: &Stream<'_>) -> anyhow::Result<()> {
     let name = subject.name();
     let bytes = stream.byte_count();
     let packets = stream.packet_count();
-    let short_bytes = short.byte_count();
-    println!(rt;
-        "{name}: {bytes} bytes, {packets} packets ({short_bytes} bytes in pieces of 1 B)"
-    )?;
+    println!(rt; "{name}: {bytes} bytes, {packets} packets")?;
     println!(rt; "                                 MB/s    packets/s  of scan  of copy")?;
     Ok(())
 }
@@ -107,15 +96,14 @@ fn measure_stream(
 ) -> anyhow::Result<()> {
     let packets = sample::packets(alloc, subject)?;
     let stream = Stream::new(alloc, packets.as_slice(), STREAM)?;
-    let short = Stream::new(alloc, packets.as_slice(), SHORT_STREAM)?;
-    print_heading(rt, subject, &stream, &short)?;
+    print_heading(rt, subject, &stream)?;
     let plain = Plain {
         scan: time(rt, alloc, Work::Scan, &stream)?,
         copy: time(rt, alloc, Work::Copy, &stream)?,
     };
     print_row(rt, alloc, Work::Scan, plain.scan, plain)?;
     print_row(rt, alloc, Work::Copy, plain.copy, plain)?;
-    measure_work(rt, alloc, Work::Decode(1), &short, plain)?;
+    measure_work(rt, alloc, Work::Decode(1), &stream, plain)?;
     measure_work(rt, alloc, Work::Decode(64), &stream, plain)?;
     measure_work(rt, alloc, Work::Decode(65_536), &stream, plain)?;
     measure_work(rt, alloc, Work::Encode, &stream, plain)
