@@ -1,3 +1,4 @@
 pub mod Sender
+pub mod Sending
 pub mod Receiver
 pub mod Laws

@@ -1,5 +1,5 @@
 -- What a sender writes down, and its moves (2.3.1, 4.3.2, 4.3.3, 4.4).
-use Rattle.std.specs.Prelude.{ℕ, ◌+◌, ◌≡◌, Bool, true, false, not, ◌&&◌, if◌then◌else◌, List, [], ◌∷◌, ◌++◌, map, length, ◌==◌, nat_le, filter, Some}
+use Rattle.std.specs.Prelude.{ℕ, ◌+◌, ◌-◌, ◌≤◌, ◌≡◌, Bool, true, false, not, ◌&&◌, if◌then◌else◌, List, [], ◌∷◌, ◌++◌, map, length, ◌==◌, nat_le, nat_lt, filter, Some}
 use Rattle.std.specs.List.{list_any}
 use Rattle.mq_topic.specs.declared.qos.Qos.{Qos}
 use Rattle.mq_topic.specs.declared.qos.Qos.TheVariants.{Q1, Q2}
@@ -39,6 +39,15 @@ times i (j ∷ js) = (if j == i then 1 else 0) + times i js
 -- an identifier that may be given to a new packet: 1 to 65,535 and not in use (2.3.1)
 abbrev pub IsFree : SenderBook → ℕ → Type 0
 IsFree b i = IsIdentifier i × (times i (uses b) ≡ 0)
+
+-- how many steps it takes from one identifier to the next ones, counted round from 65,535 to 1; 0 stands before 1 (2.3.1)
+abbrev pub steps : ℕ → ℕ → ℕ
+steps last i = if nat_lt last i then i - last else (65535 - last) + i
+
+-- the first identifier that is free after the one that was given last, 0 where none was, counted round (2.3.1)
+pub record IsFirstFree (last : ℕ) (b : SenderBook) (i : ℕ) : Type 0 where
+  pub free : IsFree b i
+  pub first : (j : ℕ) → IsFree b j → steps last i ≤ steps last j
 
 -- as many identifiers are in use as there is room for (2.3.1)
 abbrev pub is_full : ℕ → SenderBook → Bool

@@ -3,12 +3,23 @@
 //! The definitions are in `specs/`: the sender's book and its moves, the receiver's book and its moves.
 #![tactic(auto)]
 
+mod acknowledge;
 mod claim;
 mod entry;
 mod laws;
+mod queue;
 mod reaction;
+mod receiver;
+mod resend;
+mod sender;
+mod session;
+#[cfg(test)]
+mod tests;
 
 pub use crate::claim::{Claim, Claimed};
 pub use crate::entry::Entry;
 pub use crate::laws::{identifier_laws, receiver_laws, sending_laws, stray_laws};
 pub use crate::reaction::{Reaction, Refusal};
+pub use crate::receiver::Receiver;
+pub use crate::sender::Sender;
+pub use crate::session::Session;

@@ -1,0 +1,15 @@
+use Rattle.std.proofs.Common.{◌≡◌, false, sym, subst}
+use Rattle.std.specs.VecDeque.{deque_capacity}
+use Rattle.mq_flow.specs.Sender.{SenderBook, IsFree, is_full}
+use Rattle.mq_flow.specs.Sending.{Sending}
+use Rattle.mq_flow.proofs.Kept.{keeps_claim}
+use Rattle.mq_flow.proofs.sender.Sender.claim_as.Goals as goal
+
+pub invariant_of-self-2 : goal.invariant_of-self-2
+invariant_of-self-2 c =
+    let b : SenderBook = record { entries = c.self.inside.entries.items; released = c.self.inside.released.items; claimed = c.self.inside.claimed.items } in
+    let s : Sending = record { book = b; capacity = c.self.inside.capacity; last = c.self.inside.last } in
+    let n = deque_capacity c.self.inside.released in
+    let free = subst (λ (v : Sending). IsFree v.book c.args.id) (sym c.self.view_is) c.requires.free in
+    let room = subst (λ (v : Sending). is_full v.capacity v.book ≡ false) (sym c.self.view_is) c.requires.room in
+    rw (c.in_ok-push.ensures.items, c.get-self-inside.ensures.value) (keeps_claim s n c.args.id c.args.kind c.args.count c.self.invariant room free)

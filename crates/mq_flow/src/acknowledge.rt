@@ -1,0 +1,57 @@
+//! What acknowledgements do to a sender (4.3.2, 4.3.3).
+
+ghost use Rattle.std.specs.Prelude.{◌≡◌};
+ghost use Rattle.mq_flow.specs.Sender.{on_puback, on_pubrec, on_pubcomp, puback_reaction, pubrec_reaction, pubcomp_reaction};
+
+use crate::queue::{awaited_at, place_of, take_out};
+use crate::reaction::Reaction;
+use crate::sender::Sender;
+use mq_packet::PacketId;
+use mq_topic::Qos;
+
+impl Sender {
+    /// PUBACK: the message of quality of service 1 that went out with this identifier is acknowledged, and the
+    /// identifier is free (4.3.2). Where there is none nothing changes. It takes no memory.
+    pub fn on_puback(&mut self, id: PacketId) -> Reaction
+        ensures book { self.new.book ≡ on_puback id self.old.book }
+        ensures result { result ≡ puback_reaction id self.old.book }
+        ensures capacity { self.new.capacity ≡ self.old.capacity }
+        ensures last { self.new.last ≡ self.old.last }
+    {
+        let Some(at) = awaited_at(&self.entries, Qos::Q1, id) else {
+            return Reaction::Stray;
+        };
+        take_out(&mut self.entries, at);
+        Reaction::Freed
+    }
+
+    /// PUBREC: the message of quality of service 2 that went out with this identifier is acknowledged, and a PUBREL
+    /// is to answer; the identifier stays in use (4.3.3). Where there is none nothing changes. It takes no memory.
+    pub fn on_pubrec(&mut self, id: PacketId) -> Reaction
+        ensures book { self.new.book ≡ on_pubrec id self.old.book }
+        ensures result { result ≡ pubrec_reaction id self.old.book }
+        ensures capacity { self.new.capacity ≡ self.old.capacity }
+        ensures last { self.new.last ≡ self.old.last }
+    {
+        let Some(at) = awaited_at(&self.entries, Qos::Q2, id) else {
+            return Reaction::Stray;
+        };
+        take_out(&mut self.entries, at);
+        self.released.push_back_reserved(id);
+        Reaction::Release(id)
+    }
+
+    /// PUBCOMP: the released identifier is free (4.3.3). Where it isn't released nothing changes. It takes no memory.
+    pub fn on_pubcomp(&mut self, id: PacketId) -> Reaction
+        ensures book { self.new.book ≡ on_pubcomp id self.old.book }
+        ensures result { result ≡ pubcomp_reaction id self.old.book }
+        ensures capacity { self.new.capacity ≡ self.old.capacity }
+        ensures last { self.new.last ≡ self.old.last }
+    {
+        let Some(at) = place_of(&self.released, id) else {
+            return Reaction::Stray;
+        };
+        take_out(&mut self.released, at);
+        Reaction::Freed
+    }
+}

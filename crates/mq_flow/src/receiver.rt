@@ -1,0 +1,103 @@
+//! What a receiver of messages keeps (4.3.3).
+
+ghost use Rattle.std.specs.Prelude.{◌≡◌, ◌↔◌, true, IsTrue, IfOk, OnOk, OnErr, Some, None, if◌then◌else◌};
+ghost use Rattle.mq_topic.specs.declared.qos.Qos.TheVariants.{Q0, Q1, Q2};
+ghost use Rattle.mq_packet.specs.declared.packet.Packet.TheVariants as packets;
+ghost use Rattle.std.specs.FinSet as set;
+ghost use Rattle.mq_flow.specs.Receiver.{none_received, is_new, on_publish, on_pubrel};
+
+use mq_packet::{Message, Packet, PacketId};
+use mq_topic::Qos;
+use std::alloc::{AllocError, Global};
+use std::collections::BTreeSet;
+use std::marker::Model;
+
+/// A receiver: the identifiers of the messages of quality of service 2 that were handed on and that are not
+/// released (4.3.3, method B).
+#[derive(Debug, Drop)]
+pub struct Receiver {
+    stored: BTreeSet<u16>,
+}
+
+impl Model for Receiver {
+    ghost use Rattle.std.specs.Ordering.{nat_cmp};
+    ghost use Rattle.std.specs.Coded.{coded_ℕ};
+    ghost use Rattle.std.specs.FinSet as set;
+    ghost use Rattle.mq_flow.specs.Receiver.{ReceiverBook};
+
+    ghost Value = { ReceiverBook };
+
+    ghost coded = { set.code {R = nat_cmp} coded_ℕ };
+
+    ghost view = { λ r. set.from_list r.stored.keys };
+}
+
+impl Receiver {
+    /// A receiver that has stored no identifier. It takes no memory.
+    pub fn new(alloc: Global) -> Receiver
+        ensures { result ≡ none_received }
+    {
+        Receiver {
+            stored: BTreeSet::new(alloc),
+        }
+    }
+
+    /// Whether an identifier is stored: its message was handed on, and its PUBREL has not come (4.3.3).
+    pub fn is_stored(&self, id: PacketId) -> bool
+        ensures { result ≡ set.contains self.now id }
+    {
+        self.stored.contains(&id.get())
+    }
+
+    /// Stores an identifier (4.3.3). The answer says whether it is new, so that its message is to be handed on.
+    /// Errs where memory runs out, and then nothing changes.
+    pub fn store(&mut self, id: PacketId) -> Result<bool, AllocError>
+        ensures new { IfOk result (λ b. b ≡ is_new id self.old) }
+        ensures book { OnOk result (self.new ≡ on_publish id self.old) }
+        ensures err { OnErr result (self.new ≡ self.old) }
+    {
+        Ok(self.stored.insert(id.get())?)
+    }
+
+    /// A PUBLISH of quality of service 1 or 2: the message, where it is handed on, and the packet that answers
+    /// (4.3.2, 4.3.3). With quality of service 1 it is always handed on and PUBACK answers; with 2 it is handed on
+    /// exactly where its identifier is new, and PUBREC answers. Errs where memory runs out, and then nothing changes.
+    pub fn on_publish(
+        &mut self,
+        id: PacketId,
+        qos: Qos,
+        message: Message,
+    ) -> Result<(Option<Message>, Packet), AllocError>
+        requires own { qos ≡ message.qos }
+        requires acknowledged { qos ≡ Q0 → ⊥ }
+        ensures once { qos ≡ Q1 → IfOk result (λ r. r ≡ (Some message, packets.PubAck id)) }
+        ensures same { qos ≡ Q1 → self.new ≡ self.old }
+        ensures exactly { qos ≡ Q2 → IfOk result (λ r. r ≡ ((if is_new id self.old then Some message else None), packets.PubRec id)) }
+        ensures book { qos ≡ Q2 → OnOk result (self.new ≡ on_publish id self.old) }
+        ensures err { OnErr result (self.new ≡ self.old) }
+    {
+        if qos == Qos::Q1 {
+            return Ok((Some(message), Packet::PubAck(id)));
+        }
+        let new = self.store(id)?;
+        let handed = if new { Some(message) } else { None };
+        Ok((handed, Packet::PubRec(id)))
+    }
+
+    /// PUBREL: the identifier is forgotten, and PUBCOMP answers, whether it was stored or not (4.3.3). It takes no
+    /// memory.
+    pub fn on_pubrel(&mut self, id: PacketId) -> Packet
+        ensures answer { result ≡ packets.PubComp id }
+        ensures book { self.new ≡ on_pubrel id self.old }
+    {
+        let _ = self.stored.remove(&id.get());
+        Packet::PubComp(id)
+    }
+
+    /// Whether no identifier is stored. It takes no memory.
+    pub fn is_empty(&self) -> bool
+        ensures { IsTrue result ↔ (self.now ≡ none_received) }
+    {
+        self.stored.is_empty()
+    }
+}

@@ -1,0 +1,92 @@
+//! What a sender sends again when it comes up (4.4).
+
+ghost use Rattle.std.specs.Prelude.{◌≡◌, ◌++◌, false, length, take, map, OnOk, OnErr};
+ghost use Rattle.std.specs.List.{list_any};
+ghost use Rattle.mq_topic.specs.declared.qos.Qos.TheVariants.{Q0};
+ghost use Rattle.mq_packet.specs.declared.packet.Packet.TheVariants as packets;
+ghost use Rattle.mq_flow.specs.Sender.{resent, all_sent, publish_packet, same_qos};
+
+use crate::entry::Entry;
+use crate::queue::mark_all;
+use crate::sender::Sender;
+use mq_packet::{Delivery, Packet, PacketId, Publish};
+use std::alloc::AllocError;
+use std::collections::VecDeque;
+
+impl Sender {
+    /// Appends what is sent again: a PUBREL for each released identifier, in the order of the PUBRECs, then a PUBLISH
+    /// for each message, in the order of acceptance, with DUP where it was sent before (4.4, 3.3.1.1). Errs where
+    /// memory runs out, and then nothing changes.
+    pub fn resent(&self, out: &mut Vec<Packet>) -> Result<(), AllocError>
+        ensures ok { OnOk result (out.new.items ≡ out.old.items ++ resent self.now.book) }
+        ensures err { OnErr result (out.new.items ≡ out.old.items) }
+    {
+        let before = out.len();
+        let put = self.put_resent(out);
+        if put.is_err() {
+            out.truncate(before);
+        }
+        put
+    }
+
+    /// Appends what is sent again; where memory runs out a beginning of it.
+    fn put_resent(&self, out: &mut Vec<Packet>) -> Result<(), AllocError>
+        ensures ok { OnOk result (out.new.items ≡ out.old.items ++ resent self.now.book) }
+        ensures err { OnErr result (take (length out.old.items) out.new.items ≡ out.old.items) }
+    {
+        put_releases(&self.released, out)?;
+        put_messages(&self.entries, out)
+    }
+
+    /// Marks each message as sent: the next PUBLISH of each has DUP (3.3.1.1). It takes no memory.
+    pub fn mark_sent(&mut self)
+        ensures book { self.new.book ≡ all_sent self.old.book }
+        ensures capacity { self.new.capacity ≡ self.old.capacity }
+        ensures last { self.new.last ≡ self.old.last }
+    {
+        mark_all(&mut self.entries);
+    }
+
+    /// Sends again: appends what is sent again and marks each message as sent (4.4). Errs where memory runs out, and
+    /// then nothing changes.
+    pub fn resend(&mut self, out: &mut Vec<Packet>) -> Result<(), AllocError>
+        ensures out { OnOk result (out.new.items ≡ out.old.items ++ resent self.old.book) }
+        ensures book { OnOk result (self.new.book ≡ all_sent self.old.book) }
+        ensures capacity { self.new.capacity ≡ self.old.capacity }
+        ensures last { self.new.last ≡ self.old.last }
+        ensures err_out { OnErr result (out.new.items ≡ out.old.items) }
+        ensures err { OnErr result (self.new ≡ self.old) }
+    {
+        self.resent(out)?;
+        self.mark_sent();
+        Ok(())
+    }
+}
+
+/// Appends a PUBREL for each identifier.
+fn put_releases(released: &VecDeque<PacketId>, out: &mut Vec<Packet>) -> Result<(), AllocError>
+    ensures ok { OnOk result (out.new.items ≡ out.old.items ++ map packets.PubRel released.now.items) }
+    ensures err { OnErr result (take (length out.old.items) out.new.items ≡ out.old.items) }
+{
+    for id in released {
+        out.push(Packet::PubRel(*id))?;
+    }
+    Ok(())
+}
+
+/// Appends a PUBLISH for each message, with DUP where it was sent before.
+fn put_messages(entries: &VecDeque<Entry>, out: &mut Vec<Packet>) -> Result<(), AllocError>
+    requires { list_any (λ e. same_qos Q0 e.message.qos) entries.now.items ≡ false }
+    ensures ok { OnOk result (out.new.items ≡ out.old.items ++ map (λ e. publish_packet e.id e.sent e.message) entries.now.items) }
+    ensures err { OnErr result (take (length out.old.items) out.new.items ≡ out.old.items) }
+{
+    for entry in entries {
+        let delivery = Delivery {
+            id: entry.id,
+            dup: entry.sent,
+        };
+        let publish = Publish::new(entry.message.clone()?, Some(delivery));
+        out.push(Packet::Publish(publish))?;
+    }
+    Ok(())
+}

@@ -1,0 +1,76 @@
+//! The session of a client or a server (3.1.2.4, 4.1).
+
+ghost use Rattle.std.specs.Prelude.{◌≡◌, ◌↔◌, ◌<◌, true, IfOk, OnErr, IsErrOf};
+ghost use Rattle.mq_flow.specs.Sender.{blank_book, IsFirstFree, is_full, claim, release};
+ghost use Rattle.mq_flow.specs.Receiver.{none_received};
+
+use crate::claim::{Claim, Claimed};
+use crate::reaction::Refusal;
+use crate::receiver::Receiver;
+use crate::sender::Sender;
+use mq_packet::PacketId;
+use std::alloc::Global;
+
+/// A session (3.1.2.4): what an end sends and receives, and is not through with (4.1).
+#[derive(Debug, Drop)]
+pub struct Session {
+    /// What it sends.
+    pub sender: Sender,
+    /// What it receives.
+    pub receiver: Receiver,
+}
+
+impl Session {
+    /// A session in which nothing was sent or received, and in which so many identifiers may be in use (2.3.1).
+    /// It takes no memory.
+    pub fn new(alloc: Global, capacity: u16) -> Session
+        requires { 0 < capacity }
+        ensures book { result.sender.book ≡ blank_book }
+        ensures capacity { result.sender.capacity ≡ capacity }
+        ensures last { result.sender.last ≡ 0 }
+        ensures received { result.receiver ≡ none_received }
+    {
+        Session {
+            sender: Sender::new(alloc, capacity),
+            receiver: Receiver::new(alloc),
+        }
+    }
+
+    /// Puts the next identifier in use by a SUBSCRIBE or an UNSUBSCRIBE with so many filters (2.3.1). Errs where as
+    /// many identifiers are in use as there is room for, or where memory runs out, and then nothing changes.
+    pub fn claim_id(&mut self, kind: Claim, count: usize) -> Result<PacketId, Refusal>
+        ensures full { IsErrOf result Refusal.Full ↔ (is_full self.old.sender.capacity self.old.sender.book ≡ true) }
+        ensures first { IfOk result (IsFirstFree self.old.sender.last self.old.sender.book) }
+        ensures book { IfOk result (λ id. self.new.sender.book ≡ claim id kind count self.old.sender.book) }
+        ensures last { IfOk result (λ id. self.new.sender.last ≡ id) }
+        ensures capacity { self.new.sender.capacity ≡ self.old.sender.capacity }
+        ensures received { self.new.receiver ≡ self.old.receiver }
+        ensures err { OnErr result (self.new ≡ self.old) }
+    {
+        let Some(id) = self.sender.next_id() else {
+            return Err(Refusal::Full);
+        };
+        match self.sender.claim_as(id, kind, count) {
+            Ok(()) => Ok(id),
+            Err(_) => Err(Refusal::Memory),
+        }
+    }
+
+    /// Frees an identifier that is in use by a SUBSCRIBE or an UNSUBSCRIBE; nothing changes where it isn't (2.3.1).
+    /// It takes no memory.
+    pub fn release_id(&mut self, id: PacketId)
+        ensures book { self.new.sender.book ≡ release id self.old.sender.book }
+        ensures capacity { self.new.sender.capacity ≡ self.old.sender.capacity }
+        ensures last { self.new.sender.last ≡ self.old.sender.last }
+        ensures received { self.new.receiver ≡ self.old.receiver }
+    {
+        self.sender.release_id(id);
+    }
+
+    /// The identifiers that are in use by SUBSCRIBE and UNSUBSCRIBE, in the order of the claims (2.3.1).
+    pub fn pending(&self) -> &[Claimed]
+        ensures { result.now ≡ self.now.sender.book.claimed }
+    {
+        self.sender.pending()
+    }
+}
