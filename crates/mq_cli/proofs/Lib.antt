@@ -1,5 +1,5 @@
 pub mod Counting
 pub mod Matches
 pub mod Pieces
-pub mod Statuses
+pub mod Printing
 pub mod Streams

@@ -1,4 +1,4 @@
--- What the statuses of the program mean.
+-- What the statuses of the program mean, and what it prints with each.
 use Rattle.std.specs.Prelude.{◌≡◌, ◌⊎◌, ℕ, List, Option, IfSome}
 use Rattle.mq_cli.specs.declared.jobs.Job.{Job}
 use Rattle.mq_cli.specs.declared.jobs.Job.TheVariants as jobs
@@ -10,6 +10,7 @@ use Rattle.mq_cli.specs.declared.count.CountEnd.{CountEnd}
 use Rattle.mq_cli.specs.declared.count.CountEnd.TheVariants as ends
 use Rattle.mq_cli.specs.Count.{Counts}
 use Rattle.mq_cli.specs.Hexadecimal.{IsHexadecimal}
+use Rattle.mq_cli.specs.Printed.{bad_hex, count_lines, file_not_read, no_memory, shown_lines}
 use Rattle.mq_cli.specs.Show.{Shows}
 
 -- 0 where all bytes are packets
@@ -18,23 +19,25 @@ end_status Whole = 0
 end_status (Held n) = 1
 end_status (Fault fault start) = 1
 
--- that of what is shown within the limit of the standard, 2 for what is no hexadecimal, or 3 for want of memory
-abbrev pub IsShowStatus : List ℕ → ℕ → Type 0
-IsShowStatus digits status =
-    ((shown : Shown) × Shows 268435455 digits shown × (status ≡ end_status shown.end)) ⊎ ((status ≡ 2) × (¬ IsHexadecimal digits)) ⊎ (status ≡ 3)
-
 -- 0 where all bytes of a file are packets
 abbrev pub count_status : CountEnd → ℕ
 count_status ends.Whole = 0
 count_status ends.Cut = 1
 count_status (ends.Fault fault start) = 1
 
--- that of what a file has, where its bytes are known, or 2 where it can't be read, or 3 for want of memory
-abbrev pub IsCheckStatus : Option (List ℕ) → ℕ → Type 0
-IsCheckStatus left status =
-    ((count : PacketCount) × IfSome left (Counts 268435455 count) × (status ≡ count_status count.end)) ⊎ (status ≡ 2) ⊎ (status ≡ 3)
+-- the status and the lines of `show`: those of what is shown within the limit of the standard, 2 for what is no hexadecimal, or 3
+-- for want of memory
+abbrev pub IsShowDone : List ℕ → ℕ → List ℕ → Type 0
+IsShowDone digits status text =
+    ((shown : Shown) × Shows 268435455 digits shown × (status ≡ end_status shown.end) × (text ≡ shown_lines shown)) ⊎ ((status ≡ 2) × (text ≡ bad_hex) × (¬ IsHexadecimal digits)) ⊎ ((status ≡ 3) × (text ≡ no_memory))
 
--- the status that a job ends with, over a file with these bytes
-abbrev pub IsStatus : Job → Option (List ℕ) → ℕ → Type 0
-IsStatus (jobs.Show hex) left status = IsShowStatus hex.now status
-IsStatus (jobs.Check file) left status = IsCheckStatus left status
+-- the status and the lines of `check`: those of what a file has, where its bytes are known, or 2 where it can't be read, or 3 for
+-- want of memory
+abbrev pub IsCheckDone : Option (List ℕ) → ℕ → List ℕ → Type 0
+IsCheckDone left status text =
+    ((count : PacketCount) × IfSome left (Counts 268435455 count) × (status ≡ count_status count.end) × (text ≡ count_lines count)) ⊎ ((status ≡ 2) × (text ≡ file_not_read)) ⊎ ((status ≡ 3) × (text ≡ no_memory))
+
+-- the status that a job ends with and the lines that it prints, over a file with these bytes
+abbrev pub IsDone : Job → Option (List ℕ) → ℕ → List ℕ → Type 0
+IsDone (jobs.Show hex) left status text = IsShowDone hex.now status text
+IsDone (jobs.Check file) left status text = IsCheckDone left status text

@@ -1,7 +1,12 @@
 //! Packets as lines of text.
 
+ghost use Rattle.std.specs.Prelude.{◌≡◌, Some};
+ghost use Rattle.std.specs.List.{flat_map};
+ghost use Rattle.std.specs.Fmt.{DisplaysOnOk};
+ghost use Rattle.mq_cli.specs.Lines.{code_text, connack_text, connect_text, delivery_text, escaped, escaped_byte, filter_text, hex_of, identified, is_dup, login_text, packet_text, password_text, publish_text, request_text, will_text};
+
 use mq_packet::{
-    Binary, ConnAck, Connect, Login, NonEmpty, Packet, PacketId, Publish, Request, SubAckCode, Will,
+    Binary, ConnAck, Connect, Delivery, Login, Packet, PacketId, Publish, Request, SubAckCode, Will,
 };
 use mq_topic::TopicFilter;
 use std::fmt;
@@ -12,6 +17,8 @@ use std::fmt;
 pub struct Line<'a>(pub &'a Packet);
 
 impl fmt::Display for Line<'_> {
+    ghost output = { λ line. Some (packet_text line.0.now) };
+
     fn fmt<W: fmt::Write>(&self, f: &mut fmt::Formatter<W>) -> fmt::Result {
         match self.0 {
             Packet::Connect(connect) => write_connect(f, connect),
@@ -21,9 +28,18 @@ impl fmt::Display for Line<'_> {
             Packet::PubRec(id) => write_identified(f, "PUBREC", *id),
             Packet::PubRel(id) => write_identified(f, "PUBREL", *id),
             Packet::PubComp(id) => write_identified(f, "PUBCOMP", *id),
-            Packet::Subscribe { id, requests } => write_subscribe(f, *id, requests),
-            Packet::SubAck { id, codes } => write_suback(f, *id, codes),
-            Packet::Unsubscribe { id, filters } => write_unsubscribe(f, *id, filters),
+            Packet::Subscribe { id, requests } => {
+                write_identified(f, "SUBSCRIBE", *id)?;
+                write_requests(f, requests.as_slice())
+            }
+            Packet::SubAck { id, codes } => {
+                write_identified(f, "SUBACK", *id)?;
+                write_codes(f, codes.as_slice())
+            }
+            Packet::Unsubscribe { id, filters } => {
+                write_identified(f, "UNSUBSCRIBE", *id)?;
+                write_filters(f, filters.as_slice())
+            }
             Packet::UnsubAck(id) => write_identified(f, "UNSUBACK", *id),
             Packet::PingReq => f.write_str("PINGREQ"),
             Packet::PingResp => f.write_str("PINGRESP"),
@@ -32,18 +48,27 @@ impl fmt::Display for Line<'_> {
     }
 }
 
-// A text: its bytes 21 to 7e (hexadecimal) as they are, but `%`; the others as `%` and two digits.
+// A byte of a text: 21 to 7e (hexadecimal) as it is, but `%`; that, and any other, as `%` and two digits.
+fn write_escaped<W: fmt::Write>(f: &mut fmt::Formatter<W>, byte: u8) -> fmt::Result
+    ensures { DisplaysOnOk W.write_str_gives f.old result (Some (escaped_byte byte)) f.new }
+{
+    if byte.is_ascii_graphic() && byte != b'%' {
+        return f.write_char(char::from(byte));
+    }
+    let (high, low) = (byte / 16, byte % 16);
+    write!(f, "%{high:x}{low:x}")
+}
+
+// A text, byte by byte.
 #[derive(Clone, Copy)]
 struct Escaped<'a>(&'a str);
 
 impl fmt::Display for Escaped<'_> {
+    ghost output = { λ text. Some (escaped text.0.now) };
+
     fn fmt<W: fmt::Write>(&self, f: &mut fmt::Formatter<W>) -> fmt::Result {
         for byte in self.0.as_bytes() {
-            match *byte {
-                b'%' => f.write_str("%25")?,
-                byte @ 0x21..=0x7e => f.write_char(char::from(byte))?,
-                byte => write!(f, "%{byte:02x}")?,
-            }
+            write_escaped(f, *byte)?;
         }
         Ok(())
     }
@@ -54,9 +79,12 @@ impl fmt::Display for Escaped<'_> {
 struct Hex<'a>(&'a [u8]);
 
 impl fmt::Display for Hex<'_> {
+    ghost output = { λ bytes. Some (hex_of bytes.0.now) };
+
     fn fmt<W: fmt::Write>(&self, f: &mut fmt::Formatter<W>) -> fmt::Result {
         for byte in self.0 {
-            write!(f, "{byte:02x}")?;
+            let (high, low) = (*byte / 16, *byte % 16);
+            write!(f, "{high:x}{low:x}")?;
         }
         Ok(())
     }
@@ -66,28 +94,29 @@ fn write_identified<W: fmt::Write>(
     f: &mut fmt::Formatter<W>,
     name: &str,
     id: PacketId,
-) -> fmt::Result {
+) -> fmt::Result
+    ensures { DisplaysOnOk W.write_str_gives f.old result (Some (identified name.now id)) f.new }
+{
     write!(f, "{name} id={}", id.get())
 }
 
-fn write_connect<W: fmt::Write>(f: &mut fmt::Formatter<W>, connect: &Connect) -> fmt::Result {
+fn write_connect<W: fmt::Write>(f: &mut fmt::Formatter<W>, connect: &Connect) -> fmt::Result
+    ensures { DisplaysOnOk W.write_str_gives f.old result (Some (connect_text connect.now)) f.new }
+{
     let id = Escaped(connect.client_id.as_str());
     let clean = u8::from(connect.clean_session);
-    write!(
-        f,
-        "CONNECT id={id} clean={clean} keep={}",
-        connect.keep_alive
-    )?;
-    if let Some(will) = &connect.will {
-        write_will(f, will)?;
-    }
-    if let Some(login) = &connect.login {
-        write_login(f, login)?;
-    }
-    Ok(())
+    let keep = connect.keep_alive;
+    write!(f, "CONNECT id={id} clean={clean} keep={keep}")?;
+    write_will(f, &connect.will)?;
+    write_login(f, &connect.login)
 }
 
-fn write_will<W: fmt::Write>(f: &mut fmt::Formatter<W>, will: &Will) -> fmt::Result {
+fn write_will<W: fmt::Write>(f: &mut fmt::Formatter<W>, will: &Option<Will>) -> fmt::Result
+    ensures { DisplaysOnOk W.write_str_gives f.old result (Some (will_text will.now)) f.new }
+{
+    let Some(will) = will else {
+        return Ok(());
+    };
     let topic = Escaped(will.topic.as_str());
     let qos = will.qos.number();
     let retain = u8::from(will.retain);
@@ -98,77 +127,112 @@ fn write_will<W: fmt::Write>(f: &mut fmt::Formatter<W>, will: &Will) -> fmt::Res
     )
 }
 
-fn write_login<W: fmt::Write>(f: &mut fmt::Formatter<W>, login: &Login) -> fmt::Result {
+fn write_login<W: fmt::Write>(f: &mut fmt::Formatter<W>, login: &Option<Login>) -> fmt::Result
+    ensures { DisplaysOnOk W.write_str_gives f.old result (Some (login_text login.now)) f.new }
+{
+    let Some(login) = login else {
+        return Ok(());
+    };
     let name = Escaped(login.name.as_str());
     write!(f, " user={name}")?;
-    match &login.password {
-        Some(password) => write_password(f, password),
-        None => Ok(()),
-    }
+    write_password(f, &login.password)
 }
 
-fn write_password<W: fmt::Write>(f: &mut fmt::Formatter<W>, password: &Binary) -> fmt::Result {
+fn write_password<W: fmt::Write>(
+    f: &mut fmt::Formatter<W>,
+    password: &Option<Binary>,
+) -> fmt::Result
+    ensures { DisplaysOnOk W.write_str_gives f.old result (Some (password_text password.now)) f.new }
+{
+    let Some(password) = password else {
+        return Ok(());
+    };
     let password = Hex(password.as_slice());
     write!(f, " pass={password}")
 }
 
-fn write_connack<W: fmt::Write>(f: &mut fmt::Formatter<W>, answer: ConnAck) -> fmt::Result {
-    let (session, code) = match answer {
-        ConnAck::Accepted { session_present } => (u8::from(session_present), 0),
-        ConnAck::Refused(code) => (0, code.number()),
-    };
-    write!(f, "CONNACK session={session} code={code}")
+fn write_connack<W: fmt::Write>(f: &mut fmt::Formatter<W>, answer: ConnAck) -> fmt::Result
+    ensures { DisplaysOnOk W.write_str_gives f.old result (Some (connack_text answer)) f.new }
+{
+    match answer {
+        ConnAck::Accepted { session_present } => {
+            let session = u8::from(session_present);
+            write!(f, "CONNACK session={session} code=0")
+        }
+        ConnAck::Refused(refusal) => {
+            let code = refusal.number();
+            write!(f, "CONNACK session=0 code={code}")
+        }
+    }
 }
 
-fn write_publish<W: fmt::Write>(f: &mut fmt::Formatter<W>, publish: &Publish) -> fmt::Result {
+// Whether a PUBLISH may have come before.
+fn is_dup(delivery: Option<Delivery>) -> bool
+    ensures { result ≡ is_dup delivery }
+{
+    match delivery {
+        Some(delivery) => delivery.dup,
+        None => false,
+    }
+}
+
+fn write_delivery<W: fmt::Write>(
+    f: &mut fmt::Formatter<W>,
+    delivery: Option<Delivery>,
+) -> fmt::Result
+    ensures { DisplaysOnOk W.write_str_gives f.old result (Some (delivery_text delivery)) f.new }
+{
+    match delivery {
+        Some(delivery) => write!(f, " id={}", delivery.id.get()),
+        None => Ok(()),
+    }
+}
+
+fn write_publish<W: fmt::Write>(f: &mut fmt::Formatter<W>, publish: &Publish) -> fmt::Result
+    ensures { DisplaysOnOk W.write_str_gives f.old result (Some (publish_text publish.now)) f.new }
+{
     let message = publish.message();
     let topic = Escaped(message.topic.as_str());
     let qos = message.qos.number();
-    let dup = u8::from(publish.delivery().is_some_and(|delivery| delivery.dup));
+    let dup = u8::from(is_dup(publish.delivery()));
     let retain = u8::from(message.retain);
     write!(
         f,
         "PUBLISH topic={topic} qos={qos} dup={dup} retain={retain}"
     )?;
-    if let Some(delivery) = publish.delivery() {
-        write!(f, " id={}", delivery.id.get())?;
-    }
+    write_delivery(f, publish.delivery())?;
     let payload = Hex(message.payload.as_slice());
     write!(f, " payload={payload}")
 }
 
-fn write_subscribe<W: fmt::Write>(
-    f: &mut fmt::Formatter<W>,
-    id: PacketId,
-    requests: &NonEmpty<Request>,
-) -> fmt::Result {
-    write_identified(f, "SUBSCRIBE", id)?;
-    for request in requests.as_slice() {
+fn write_requests<W: fmt::Write>(f: &mut fmt::Formatter<W>, requests: &[Request]) -> fmt::Result
+    ensures { DisplaysOnOk W.write_str_gives f.old result
+        (Some (flat_map request_text requests.now)) f.new }
+{
+    for request in requests {
         let filter = Escaped(request.filter.as_str());
-        write!(f, " {filter}:{}", request.qos.number())?;
+        let qos = request.qos.number();
+        write!(f, " {filter}:{qos}")?;
     }
     Ok(())
 }
 
-fn write_suback<W: fmt::Write>(
-    f: &mut fmt::Formatter<W>,
-    id: PacketId,
-    codes: &NonEmpty<SubAckCode>,
-) -> fmt::Result {
-    write_identified(f, "SUBACK", id)?;
-    for code in codes.as_slice() {
-        write!(f, " {}", code.number())?;
+fn write_codes<W: fmt::Write>(f: &mut fmt::Formatter<W>, codes: &[SubAckCode]) -> fmt::Result
+    ensures { DisplaysOnOk W.write_str_gives f.old result
+        (Some (flat_map code_text codes.now)) f.new }
+{
+    for code in codes {
+        let number = code.number();
+        write!(f, " {number}")?;
     }
     Ok(())
 }
 
-fn write_unsubscribe<W: fmt::Write>(
-    f: &mut fmt::Formatter<W>,
-    id: PacketId,
-    filters: &NonEmpty<TopicFilter>,
-) -> fmt::Result {
-    write_identified(f, "UNSUBSCRIBE", id)?;
-    for filter in filters.as_slice() {
+fn write_filters<W: fmt::Write>(f: &mut fmt::Formatter<W>, filters: &[TopicFilter]) -> fmt::Result
+    ensures { DisplaysOnOk W.write_str_gives f.old result
+        (Some (flat_map filter_text filters.now)) f.new }
+{
+    for filter in filters {
         let filter = Escaped(filter.as_str());
         write!(f, " {filter}")?;
     }

@@ -1,7 +1,9 @@
 //! Jobs done over a reader and a writer.
 
-ghost use Rattle.std.specs.Prelude.{◌≡◌, ◌⊎◌, IfOk};
-ghost use Rattle.mq_cli.specs.Status.{IsCheckStatus, IsShowStatus, IsStatus, count_status, end_status};
+ghost use Rattle.std.specs.Prelude.{◌≡◌, IfOk, OnOk};
+ghost use Rattle.std.specs.Io.KnownBytes.{Appends};
+ghost use Rattle.mq_cli.specs.Printed.{Prints, bad_hex, count_end_lines, count_lines, end_lines, fault_line, file_not_read, no_memory, packets_line, shown_lines};
+ghost use Rattle.mq_cli.specs.Status.{IsCheckDone, IsDone, IsShowDone, count_status, end_status};
 
 use crate::count::{CountEnd, CountFault, PacketCount, count_packets};
 use crate::jobs::Job;
@@ -11,7 +13,7 @@ use crate::stream::{Shown, StreamEnd};
 use mq_decode::{DecodeFault, Limits};
 use std::alloc::Global;
 use std::io;
-use std::io::{BufWriter, Read, Write};
+use std::io::{Read, Write};
 
 /// Nothing is wrong.
 const DONE: u8 = 0;
@@ -26,15 +28,28 @@ const NO_MEMORY: u8 = 3;
 const MAX_PACKET: u32 = 268_435_455;
 
 fn out_of_memory<W: Write>(output: &mut W) -> io::Result<u8>
-    ensures { IfOk result (λ status. status ≡ NO_MEMORY) }
+    ensures status { IfOk result (λ status. status ≡ NO_MEMORY) }
+    ensures printed { OnOk result
+        (Appends (W.contents output.old) (W.contents output.new) no_memory) }
 {
     writeln!(output, "out of memory")?;
     Ok(NO_MEMORY)
 }
 
+fn bad_hex<W: Write>(output: &mut W) -> io::Result<u8>
+    ensures status { IfOk result (λ status. status ≡ BAD_INPUT) }
+    ensures printed { OnOk result
+        (Appends (W.contents output.old) (W.contents output.new) bad_hex) }
+{
+    writeln!(output, "bad hex")?;
+    Ok(BAD_INPUT)
+}
+
 // Writes what is wrong with a packet, and where in all bytes it begins.
 fn write_fault<W: Write>(output: &mut W, fault: DecodeFault, start: u64) -> io::Result<u8>
-    ensures { IfOk result (λ status. status ≡ FAULT) }
+    ensures status { IfOk result (λ status. status ≡ FAULT) }
+    ensures printed { OnOk result
+        (Appends (W.contents output.old) (W.contents output.new) (fault_line fault start)) }
 {
     let kind = fault.kind;
     let place = fault.place;
@@ -44,7 +59,9 @@ fn write_fault<W: Write>(output: &mut W, fault: DecodeFault, start: u64) -> io::
 
 // Writes how the bytes end.
 fn write_end<W: Write>(output: &mut W, end: StreamEnd) -> io::Result<u8>
-    ensures { IfOk result (λ status. status ≡ end_status end) }
+    ensures status { IfOk result (λ status. status ≡ end_status end) }
+    ensures printed { OnOk result
+        (Appends (W.contents output.old) (W.contents output.new) (end_lines end)) }
 {
     match end {
         StreamEnd::Whole => Ok(DONE),
@@ -57,47 +74,42 @@ fn write_end<W: Write>(output: &mut W, end: StreamEnd) -> io::Result<u8>
 }
 
 fn write_shown<W: Write>(output: &mut W, shown: &Shown) -> io::Result<u8>
-    ensures { IfOk result (λ status. status ≡ end_status shown.now.end) }
+    ensures status { IfOk result (λ status. status ≡ end_status shown.now.end) }
+    ensures printed { OnOk result
+        (Appends (W.contents output.old) (W.contents output.new) (shown_lines shown.now)) }
 {
     for packet in &shown.packets {
         writeln!(output, "{}", Line(packet))?;
     }
-    let status = write_end(output, shown.end)?;
-    output.flush()?;
-    Ok(status)
-}
-
-fn print_shown<W: Write>(alloc: Global, shown: &Shown, output: &mut W) -> io::Result<u8>
-    ensures { IfOk result (λ status.
-        (status ≡ end_status shown.now.end) ⊎ (status ≡ NO_MEMORY)) }
-{
-    let Ok(mut buffered) = BufWriter::new(alloc, &mut *output) else {
-        return out_of_memory(output);
-    };
-    write_shown(&mut buffered, shown)
+    write_end(output, shown.end)
 }
 
 fn show<W: Write>(alloc: Global, hex: &str, output: &mut W) -> io::Result<u8>
-    ensures { IfOk result (IsShowStatus hex.now) }
+    ensures { IfOk result (λ status. Prints (W.contents output.old) (W.contents output.new)
+        (IsShowDone hex.now status)) }
 {
     let limits = Limits::new(MAX_PACKET).unwrap();
     match shown(alloc, hex, limits) {
-        Ok(shown) => print_shown(alloc, &shown, output),
-        Err(ShowFault::BadHex) => {
-            writeln!(output, "bad hex")?;
-            Ok(BAD_INPUT)
-        }
+        Ok(shown) => write_shown(output, &shown),
+        Err(ShowFault::BadHex) => bad_hex(output),
         Err(ShowFault::Memory) => out_of_memory(output),
     }
 }
 
-// Writes how many packets a file has, and how they end.
-fn write_count<W: Write>(output: &mut W, count: PacketCount) -> io::Result<u8>
-    ensures { IfOk result (λ status. status ≡ count_status count.end) }
+fn write_packets<W: Write>(output: &mut W, packets: u64) -> io::Result<()>
+    ensures { OnOk result
+        (Appends (W.contents output.old) (W.contents output.new) (packets_line packets)) }
 {
-    let packets = count.packets;
-    writeln!(output, "packets {packets}")?;
-    match count.end {
+    writeln!(output, "packets {packets}")
+}
+
+// Writes how the packets of a file end.
+fn write_count_end<W: Write>(output: &mut W, end: CountEnd) -> io::Result<u8>
+    ensures status { IfOk result (λ status. status ≡ count_status end) }
+    ensures printed { OnOk result
+        (Appends (W.contents output.old) (W.contents output.new) (count_end_lines end)) }
+{
+    match end {
         CountEnd::Whole => Ok(DONE),
         CountEnd::Cut => {
             writeln!(output, "cut")?;
@@ -107,16 +119,29 @@ fn write_count<W: Write>(output: &mut W, count: PacketCount) -> io::Result<u8>
     }
 }
 
+// Writes how many packets a file has, and how they end.
+fn write_count<W: Write>(output: &mut W, count: PacketCount) -> io::Result<u8>
+    ensures status { IfOk result (λ status. status ≡ count_status count.end) }
+    ensures printed { OnOk result
+        (Appends (W.contents output.old) (W.contents output.new) (count_lines count)) }
+{
+    write_packets(output, count.packets)?;
+    write_count_end(output, count.end)
+}
+
 /// Writes that a file can't be read, and answers the status for that.
 pub fn file_not_read<W: Write>(output: &mut W) -> io::Result<u8>
-    ensures { IfOk result (λ status. status ≡ BAD_INPUT) }
+    ensures status { IfOk result (λ status. status ≡ BAD_INPUT) }
+    ensures printed { OnOk result
+        (Appends (W.contents output.old) (W.contents output.new) file_not_read) }
 {
     writeln!(output, "file not read")?;
     Ok(BAD_INPUT)
 }
 
 fn check<R: Read, W: Write>(alloc: Global, input: &mut R, output: &mut W) -> io::Result<u8>
-    ensures { IfOk result (IsCheckStatus (R.remaining input.old)) }
+    ensures { IfOk result (λ status. Prints (W.contents output.old) (W.contents output.new)
+        (IsCheckDone (R.remaining input.old) status)) }
 {
     let limits = Limits::new(MAX_PACKET).unwrap();
     match count_packets(alloc, input, limits) {
@@ -126,15 +151,17 @@ fn check<R: Read, W: Write>(alloc: Global, input: &mut R, output: &mut W) -> io:
     }
 }
 
-/// Does a job: writes what it prints, and answers the status that the program ends with. `input` is the
-/// file of the job, where it has one. An error is that of a write that failed.
+/// Does a job: writes what it prints, line by line, and answers the status that the program ends with.
+/// `input` is the file of the job, where it has one. An error is that of a write that failed. The writer
+/// is not flushed.
 pub fn perform<R: Read, W: Write>(
     alloc: Global,
     job: &Job<'_>,
     input: &mut R,
     output: &mut W,
 ) -> io::Result<u8>
-    ensures { IfOk result (IsStatus job.now (R.remaining input.old)) }
+    ensures { IfOk result (λ status. Prints (W.contents output.old) (W.contents output.new)
+        (IsDone job.now (R.remaining input.old) status)) }
 {
     match job {
         Job::Show { hex } => show(alloc, hex, output),

@@ -1,72 +1,96 @@
 //! What is wrong with bytes that are no packet.
 
+ghost use Rattle.std.specs.Prelude.{◌≡◌, Some};
+ghost use Rattle.mq_decode.specs.Fault.{fault_code, fault_number};
+
 use std::alloc::{AllocError, AllocFailed};
-use thiserror::Error;
+use std::error::Error;
+use std::fmt;
 
 /// What stands where a packet should. It displays as its code, `F1` to `F20`.
-#[derive(Clone, Copy, Debug, PartialEq, Eq, Error)]
+#[derive(Clone, Copy, Debug, PartialEq, Eq)]
 pub enum FaultKind {
     /// The type is 0 or 15 (2.2.1).
-    #[error("F1")]
     ForbiddenType,
     /// The low four bits are not those of the type, which is not PUBLISH (2.2.2).
-    #[error("F2")]
     WrongFlags,
     /// A PUBLISH of quality of service 3 (3.3.1.2).
-    #[error("F3")]
     ForbiddenQos,
     /// DUP with quality of service 0 (3.3.1.1).
-    #[error("F4")]
     DupWithoutDelivery,
     /// The fourth byte of the remaining length says that a fifth follows (2.2.3).
-    #[error("F5")]
     LengthTooLong,
     /// The last byte of the remaining length is 0 and not the only one.
-    #[error("F6")]
     LengthOverlong,
     /// The remaining length is over the limit.
-    #[error("F7")]
     OverLimit,
     /// The remaining length is not the fixed one of the type.
-    #[error("F8")]
     WrongSize,
     /// A field goes past the packet's end.
-    #[error("F9")]
     PastEnd,
     /// A text is not UTF-8 (1.5.3).
-    #[error("F10")]
     NotUtf8,
     /// A text has the character U+0000 (1.5.3).
-    #[error("F11")]
     Nul,
     /// The protocol name is not `MQTT` (3.1.2.1).
-    #[error("F12")]
     ProtocolName,
     /// The protocol level is not 4 (3.1.2.2).
-    #[error("F13")]
     ProtocolLevel,
     /// Flags of CONNECT (3.1.2.3) or of CONNACK (3.2.2.1) that are forbidden.
-    #[error("F14")]
     ForbiddenFlags,
     /// A text is no topic name (4.7).
-    #[error("F15")]
     NotTopicName,
     /// A text is no topic filter (4.7).
-    #[error("F16")]
     NotTopicFilter,
     /// A packet identifier of 0 (2.3.1).
-    #[error("F17")]
     ZeroIdentifier,
     /// A quality of service over 2, or a code of no kind (3.2.2.3, 3.8.3, 3.9.3).
-    #[error("F18")]
     ForbiddenCode,
     /// A list without an item (3.8.3, 3.9.3, 3.10.3).
-    #[error("F19")]
     EmptyList,
     /// Bytes are left after the last field (3.1.3).
-    #[error("F20")]
     BytesLeft,
 }
+
+impl FaultKind {
+    /// The number of its code, from 1 to 20.
+    pub fn number(self) -> u8
+        ensures { result ≡ fault_number self }
+    {
+        match self {
+            FaultKind::ForbiddenType => 1,
+            FaultKind::WrongFlags => 2,
+            FaultKind::ForbiddenQos => 3,
+            FaultKind::DupWithoutDelivery => 4,
+            FaultKind::LengthTooLong => 5,
+            FaultKind::LengthOverlong => 6,
+            FaultKind::OverLimit => 7,
+            FaultKind::WrongSize => 8,
+            FaultKind::PastEnd => 9,
+            FaultKind::NotUtf8 => 10,
+            FaultKind::Nul => 11,
+            FaultKind::ProtocolName => 12,
+            FaultKind::ProtocolLevel => 13,
+            FaultKind::ForbiddenFlags => 14,
+            FaultKind::NotTopicName => 15,
+            FaultKind::NotTopicFilter => 16,
+            FaultKind::ZeroIdentifier => 17,
+            FaultKind::ForbiddenCode => 18,
+            FaultKind::EmptyList => 19,
+            FaultKind::BytesLeft => 20,
+        }
+    }
+}
+
+impl fmt::Display for FaultKind {
+    ghost output = { λ kind. Some (fault_code kind) };
+
+    fn fmt<W: fmt::Write>(&self, f: &mut fmt::Formatter<W>) -> fmt::Result {
+        write!(f, "F{}", self.number())
+    }
+}
+
+impl Error for FaultKind {}
 
 /// The first fault of a packet.
 #[derive(Clone, Copy, Debug, PartialEq, Eq)]

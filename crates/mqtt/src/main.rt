@@ -3,14 +3,22 @@
 
 use mq_cli::{Job, WordsFault, file_not_read, job, perform};
 use std::fs::File;
-use std::io::BufReader;
+use std::io::{BufReader, BufWriter, Write};
 use std::process::ExitCode;
 use std::{env, io};
 
-/// Does a job over its file, or over the standard input where it has none.
+/// Does a job over its file, if it has one, and prints to the standard output through a buffer.
 fn perform_over_file(rt: &HostRuntime, job: &Job<'_>) -> io::Result<u8> {
     let alloc = rt.alloc();
-    let output = &mut io::writer(rt);
+    let mut output = BufWriter::new(alloc, io::writer(rt))?;
+    let status = perform_into(rt, job, &mut output)?;
+    output.flush()?;
+    Ok(status)
+}
+
+/// Does a job over its file, or over no bytes where it has none.
+fn perform_into<W: Write>(rt: &HostRuntime, job: &Job<'_>, output: &mut W) -> io::Result<u8> {
+    let alloc = rt.alloc();
     match job {
         Job::Check { file } => match File::open(rt, *file) {
             Ok(file) => perform(alloc, job, &mut BufReader::new(alloc, file)?, output),

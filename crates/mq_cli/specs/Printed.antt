@@ -1,0 +1,61 @@
+-- What the program prints: lines, each with its end.
+use Rattle.std.specs.Prelude.{ℕ, List, [], ◌++◌, Option, codes, decimal}
+use Rattle.std.specs.List.{flat_map}
+use Rattle.std.specs.Io.KnownBytes.{Appends}
+use Rattle.mq_packet.specs.declared.packet.Packet.{Packet}
+use Rattle.mq_decode.specs.declared.fault.DecodeFault.{DecodeFault}
+use Rattle.mq_decode.specs.Fault.{fault_code}
+use Rattle.mq_cli.specs.declared.stream.StreamEnd.{StreamEnd}
+use Rattle.mq_cli.specs.declared.stream.StreamEnd.TheVariants.{Whole, Held, Fault}
+use Rattle.mq_cli.specs.declared.stream.Shown.{Shown}
+use Rattle.mq_cli.specs.declared.count.PacketCount.{PacketCount}
+use Rattle.mq_cli.specs.declared.count.CountEnd.{CountEnd}
+use Rattle.mq_cli.specs.declared.count.CountEnd.TheVariants as ends
+use Rattle.mq_cli.specs.Lines.{packet_text}
+
+abbrev pub no_memory : List ℕ
+no_memory = codes "out of memory\n"
+
+abbrev pub bad_hex : List ℕ
+bad_hex = codes "bad hex\n"
+
+abbrev pub file_not_read : List ℕ
+file_not_read = codes "file not read\n"
+
+-- the fault's code, its place in its packet, and where that begins
+abbrev pub fault_line : DecodeFault → ℕ → List ℕ
+fault_line fault start = codes "fault " ++ (fault_code fault.kind ++ (codes " at " ++ (decimal fault.place ++ (codes " in packet at " ++ (decimal start ++ codes "\n")))))
+
+-- ---- show
+
+abbrev pub packet_line : Packet → List ℕ
+packet_line packet = packet_text packet ++ codes "\n"
+
+abbrev pub end_lines : StreamEnd → List ℕ
+end_lines Whole = []
+end_lines (Held n) = codes "held " ++ (decimal n ++ codes "\n")
+end_lines (Fault fault start) = fault_line fault start
+
+-- the packets in order, and how they end
+abbrev pub shown_lines : Shown → List ℕ
+shown_lines shown = flat_map packet_line shown.packets.items ++ end_lines shown.end
+
+-- ---- check
+
+abbrev pub count_end_lines : CountEnd → List ℕ
+count_end_lines ends.Whole = []
+count_end_lines ends.Cut = codes "cut\n"
+count_end_lines (ends.Fault fault start) = fault_line fault start
+
+abbrev pub packets_line : ℕ → List ℕ
+packets_line packets = codes "packets " ++ (decimal packets ++ codes "\n")
+
+-- how many packets there are, and how they end
+abbrev pub count_lines : PacketCount → List ℕ
+count_lines count = packets_line count.packets ++ count_end_lines count.end
+
+-- ---- any
+
+-- a text of which this holds was written behind what the writer holds, where that is known
+abbrev pub Prints : Option (List ℕ) → Option (List ℕ) → (List ℕ → Type 0) → Type 0
+Prints old new P = (text : List ℕ) × Appends old new text × P text
