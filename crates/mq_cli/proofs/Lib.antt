@@ -3,3 +3,4 @@ pub mod Matches
 pub mod Pieces
 pub mod Printing
 pub mod Streams
+pub mod TopicStatuses

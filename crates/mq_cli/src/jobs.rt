@@ -12,5 +12,11 @@ pub enum Job<'a> {
     Check {
         /// The file's name.
         file: &'a str,
+    }, /// To match a topic filter against a topic name.
+    Match {
+        /// The filter.
+        filter: &'a str,
+        /// The name.
+        name: &'a str,
     },
 }

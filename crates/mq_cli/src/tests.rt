@@ -165,6 +165,41 @@ fn shows_within_a_limit(rt: HostRuntime) -> Result<(), Fail> {
     Ok(())
 }
 
+// What `match` prints of a filter and a name, and its status (4.7).
+static MATCHES: [(&str, &str, u8, &str); 14] = [
+    ("sport/#", "sport", 0, "yes\n"),
+    ("sport/+", "sport", 1, "no\n"),
+    ("sport/+", "sport/", 0, "yes\n"),
+    ("+/+", "/finance", 0, "yes\n"),
+    ("+", "/finance", 1, "no\n"),
+    ("#", "$SYS/x", 1, "no\n"),
+    ("$SYS/#", "$SYS/x", 0, "yes\n"),
+    ("a/+", "a/$x", 0, "yes\n"),
+    ("a+", "a", 2, "filter N5\n"),
+    ("a/#/b", "a", 2, "filter N6\n"),
+    ("", "a", 2, "filter N1\n"),
+    ("a", "a/+", 2, "name N4\n"),
+    ("a+", "a/+", 2, "filter N5\n"),
+    ("a", "", 2, "name N1\n"),
+];
+
+#[test]
+fn matches_filters(rt: HostRuntime) -> Result<(), Fail> {
+    let alloc = rt.alloc();
+    for (filter, name, status, printed) in &MATCHES {
+        let mut output = Vec::new(alloc);
+        let job = Job::Match { filter, name };
+        let answer = perform(alloc, &job, &mut io::empty(), &mut output)?;
+        assert_eq!(rt;
+            output.as_slice(),
+            printed.as_bytes(),
+            "match {filter} {name}"
+        );
+        assert_eq!(rt; answer, *status, "match {filter} {name}");
+    }
+    Ok(())
+}
+
 // A writer that takes so many bytes, and then fails.
 #[derive(Drop)]
 struct Full(usize);
@@ -315,6 +350,10 @@ fn reads_words(rt: HostRuntime) -> Result<(), Fail> {
     ] {
         assert!(rt; matches!(job(alloc, words), Ok(Job::Check { file: read }) if read == file));
     }
+    let words: &[&str] = &["mqtt", "match", "a/#", "a"];
+    assert!(rt;
+        matches!(job(alloc, words), Ok(Job::Match { filter, name }) if filter == "a/#" && name == "a")
+    );
     for (words, kind) in [
         (
             ["mqtt"].as_slice(),
@@ -330,6 +369,7 @@ fn reads_words(rt: HostRuntime) -> Result<(), Fail> {
         (&["mqtt", "show", "c0", "00"], ErrorKind::UnknownArgument),
         (&["mqtt", "check"], ErrorKind::MissingRequiredArgument),
         (&["mqtt", "check", "-h"], ErrorKind::DisplayHelp),
+        (&["mqtt", "match", "a"], ErrorKind::MissingRequiredArgument),
     ] {
         assert_eq!(rt; error_of(alloc, words), Some(kind), "{words:?}");
     }

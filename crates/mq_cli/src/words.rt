@@ -3,7 +3,7 @@
 ghost use Rattle.std.specs.Prelude.{◌≡◌, false, map, IfOk, IfSome};
 ghost use Rattle.clap.specs.Words.{app_of, subcommand_of, subcommand_rows_of};
 ghost use Rattle.clap.specs.declared.builder.command.Command.TheViews.{out-Command};
-ghost use Rattle.mq_cli.specs.CommandLine.{IsJobOf, check_words, program_words, show_words};
+ghost use Rattle.mq_cli.specs.CommandLine.{IsJobOf, check_words, match_words, program_words, show_words, stream_words};
 
 use crate::jobs::Job;
 use clap::error::ErrorKind;
@@ -61,9 +61,26 @@ fn check_command<'a>(alloc: Global) -> Result<Command<'a>, AllocError>
         .arg(file)
 }
 
-// The whole command line.
-fn command<'a>(alloc: Global) -> Result<Command<'a>, AllocError>
-    ensures { IfOk result (λ command. app_of command ≡ program_words) }
+// `match FILTER NAME`.
+fn match_command<'a>(alloc: Global) -> Result<Command<'a>, AllocError>
+    ensures words { IfOk result (λ command. app_of command ≡ match_words) }
+    ensures local { IfOk result (λ command. (out-Command command).has_globals ≡ false) }
+{
+    let filter = Arg::new(alloc, "FILTER")
+        .help("The topic filter")
+        .required(true);
+    let name = Arg::new(alloc, "NAME")
+        .help("The topic name")
+        .required(true);
+    Command::new(alloc, "match")
+        .about("Says whether a topic filter matches a topic name")
+        .arg(filter)?
+        .arg(name)
+}
+
+// The command line with the commands on streams of packets.
+fn stream_commands<'a>(alloc: Global) -> Result<Command<'a>, AllocError>
+    ensures { IfOk result (λ command. app_of command ≡ stream_words) }
 {
     let show = show_command(alloc)?;
     let check = check_command(alloc)?;
@@ -74,6 +91,14 @@ fn command<'a>(alloc: Global) -> Result<Command<'a>, AllocError>
         .arg_required_else_help(true)
         .subcommand(show)?
         .subcommand(check)
+}
+
+// The whole command line.
+fn command<'a>(alloc: Global) -> Result<Command<'a>, AllocError>
+    ensures { IfOk result (λ command. app_of command ≡ program_words) }
+{
+    let matching = match_command(alloc)?;
+    stream_commands(alloc)?.subcommand(matching)
 }
 
 // The job of `show`, where that was met.
@@ -94,13 +119,26 @@ fn check_job<'a>(matches: &ArgMatches<'a>) -> Option<Job<'a>>
     Some(Job::Check { file })
 }
 
+// The job of `match`, where that was met.
+fn match_job<'a>(matches: &ArgMatches<'a>) -> Option<Job<'a>>
+    ensures { IfSome result (IsJobOf (subcommand_rows_of matches.now)) }
+{
+    let words = matches.subcommand_matches("match")?;
+    let filter = words.get_str("FILTER")?;
+    let name = words.get_str("NAME")?;
+    Some(Job::Match { filter, name })
+}
+
 // The job of the command that was met.
 fn job_of<'a>(matches: &ArgMatches<'a>) -> Option<Job<'a>>
     ensures { IfSome result (IsJobOf (subcommand_rows_of matches.now)) }
 {
-    match show_job(matches) {
+    if let Some(job) = show_job(matches) {
+        return Some(job);
+    }
+    match check_job(matches) {
         Some(job) => Some(job),
-        None => check_job(matches),
+        None => match_job(matches),
     }
 }
 

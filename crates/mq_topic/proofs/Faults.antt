@@ -9,6 +9,7 @@ use Rattle.mq_topic.specs.Topic.{IsTopicFilter, IsTopicName, is_wildcard, levels
 use Rattle.mq_topic.specs.Fault.{filter_fault, name_fault}
 use Rattle.mq_topic.specs.Laws.{TopicLaws}
 use Rattle.mq_topic.proofs.FilterLevels.{filter_levels, is_none-true}
+use Rattle.mq_topic.proofs.Standard.{matching}
 use Rattle.mq_topic.specs.declared.fault.TopicFault.{TopicFault}
 use Rattle.mq_topic.specs.declared.fault.TopicFault.TheVariants.{Empty, Nul, TooLong, Wildcard}
 
@@ -56,4 +57,5 @@ laws = record {
   name = λ t utf8. (name_from_none t utf8, none_from_name t);
   filter = λ t utf8. (filter_from_none t utf8, none_from_filter t);
   filter_levels = filter_levels;
+  matching = matching;
 }

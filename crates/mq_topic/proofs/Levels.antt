@@ -12,7 +12,7 @@ one_part-cons : (b : Bool) (p : ℕ → Bool) (x : ℕ) (xs : List ℕ) → (pos
 one_part-cons true p x xs tail e = absurd (omega arith)
 one_part-cons false p x xs tail e = rw (tail (omega arith)) refl
 
-one_part : (p : ℕ → Bool) (xs : List ℕ) → position_or_len p xs ≡ length xs → slice_split p xs ≡ xs ∷ []
+pub one_part : (p : ℕ → Bool) (xs : List ℕ) → position_or_len p xs ≡ length xs → slice_split p xs ≡ xs ∷ []
 one_part p [] e = refl
 one_part p (x ∷ xs) e = one_part-cons (p x) p x xs (one_part p xs) e
 

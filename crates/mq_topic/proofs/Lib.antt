@@ -1,3 +1,11 @@
 pub mod Faults
 pub mod FilterLevels
+pub mod Fitting
+pub mod Greatest
+pub mod Keys
 pub mod Levels
+pub mod Noting
+pub mod Placing
+pub mod Standard
+pub mod StoreFacts
+pub mod Storing

@@ -3,6 +3,8 @@ use Rattle.std.specs.Prelude.{◌≡◌, ◌↔◌, ◌⊎◌, ℕ, ◌<◌, Boo
 use Rattle.std.specs.List.{list_any}
 use Rattle.std.specs.Str.{is_utf8}
 use Rattle.mq_topic.specs.Topic.{IsTopicFilter, IsTopicName, is_topic_filter, is_wildcard, levels}
+use Rattle.mq_topic.specs.Match.{Match}
+use Rattle.mq_topic.specs.Matching.{is_match}
 use Rattle.mq_topic.specs.Fault.{filter_fault, name_fault}
 
 -- a level of a filter has no wildcards, or is `+`, or is `#` and the last one
@@ -19,3 +21,5 @@ pub record TopicLaws : Type 0 where
   pub filter : (t : List ℕ) → is_utf8 t ≡ true → (filter_fault t ≡ None) ↔ IsTopicFilter t
   -- a filter has a character, and each of its levels is one of a filter
   pub filter_levels : (t : List ℕ) → (is_topic_filter t ≡ true) ↔ ((0 < length t) × AreFilterLevels (levels t))
+  -- the test of a filter against a name says what the standard does
+  pub matching : (filter name : List ℕ) → (is_match filter name ≡ true) ↔ Match filter name

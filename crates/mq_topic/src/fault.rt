@@ -48,8 +48,9 @@ pub(crate) fn text_fault(text: &str) -> Option<TopicFault>
     None
 }
 
-/// The laws of names and filters: a text has no fault exactly where it is one, and the levels of a
-/// filter are those that may stand in one.
+/// The laws of names and filters: a text has no fault exactly where it is one, the levels of a
+/// filter are those that may stand in one, and the test of a filter against a name says what the
+/// standard does.
 pub fn topic_laws()
     ensures { TopicLaws }
 {}

@@ -1,6 +1,12 @@
 //! Topic filters (4.7): what a client subscribes to.
 
-ghost use Rattle.std.specs.Prelude.{◌≡◌, true, IfOk, IfErr, IfSome, IfNone, IsErrOf};
+ghost use Rattle.std.specs.Prelude.{◌≡◌, true, nat_eq, refl, Some, IfOk, IfErr, IfSome, IfNone, IsErrOf};
+ghost use Rattle.std.specs.Cmp.{partial_equiv_from_equiv};
+ghost use Rattle.std.specs.Cmp.Lexicographic.{pointwise, slice_cmp, nat_list_eq_equiv, nat_list_cmp_total, texts_ties, texts_po};
+ghost use Rattle.std.specs.Cmp.Rules.{hashing};
+ghost use Rattle.std.specs.Hash as fed;
+ghost use Rattle.std.specs.Ordering.{nat_cmp};
+ghost use Rattle.std.proofs.Common.{rules};
 ghost use Rattle.mq_topic.specs.Fault.{filter_fault};
 ghost use Rattle.mq_topic.specs.Topic.{IsTopicFilter, is_topic_filter};
 
@@ -8,6 +14,8 @@ use crate::fault::{TopicFault, text_fault};
 use crate::level::levels_fault;
 use mq_wire::Text;
 use std::alloc::{AllocError, Global};
+use std::cmp::Ordering;
+use std::hash::{Hash, Hasher};
 use std::marker::Model;
 
 /// A topic filter (4.7): a text of at least one character, where each `+` is alone in its level, and
@@ -86,5 +94,54 @@ impl Clone for TopicFilter {
     fn clone(&self) -> Result<TopicFilter, AllocError> {
         let text = self.text.clone()?;
         Ok(TopicFilter { text })
+    }
+}
+
+impl PartialEq for TopicFilter {
+    ghost eq = { pointwise nat_eq };
+
+    ghost laws = { partial_equiv_from_equiv nat_list_eq_equiv };
+
+    fn eq(&self, other: &TopicFilter) -> bool {
+        self.as_str() == other.as_str()
+    }
+}
+
+impl Eq for TopicFilter {
+    ghost laws = { nat_list_eq_equiv };
+}
+
+impl PartialOrd for TopicFilter {
+    ghost partial_cmp = { λ x y. Some (slice_cmp nat_cmp x y) };
+
+    ghost laws = { texts_po };
+
+    fn partial_cmp(&self, other: &TopicFilter) -> Option<Ordering> {
+        Some(self.cmp(other))
+    }
+}
+
+impl Ord for TopicFilter {
+    ghost cmp = { slice_cmp nat_cmp };
+
+    ghost total = { nat_list_cmp_total };
+
+    ghost matches_partial_cmp = { λ x y. refl };
+
+    ghost matches_eq = { texts_ties };
+
+    /// Filters ascend by their bytes.
+    fn cmp(&self, other: &TopicFilter) -> Ordering {
+        self.as_str().cmp(other.as_str())
+    }
+}
+
+impl Hash for TopicFilter {
+    ghost hash_input = { fed.str };
+
+    ghost respects_eq = { Prim.search (hashing, rules) };
+
+    fn hash<H: Hasher>(&self, state: &mut H) {
+        self.as_str().hash(state);
     }
 }

@@ -1,15 +1,24 @@
-//! Topic names and topic filters (4.7), and the quality of service (4.3).
+//! Topic names and topic filters (4.7), which filters match a name, stores of subscriptions, and the
+//! quality of service (4.3).
 #![tactic(auto)]
 
+mod client;
 mod fault;
 mod filter;
 mod level;
+mod list_store;
+mod matching;
 mod name;
 mod qos;
+mod store;
 #[cfg(test)]
 mod tests;
 
+pub use crate::client::ClientKey;
 pub use crate::fault::{TopicFault, topic_laws};
 pub use crate::filter::{TopicFilter, is_topic_filter};
+pub use crate::list_store::ListStore;
+pub use crate::matching::matches;
 pub use crate::name::{TopicName, is_topic_name};
 pub use crate::qos::Qos;
+pub use crate::store::{FilterStore, store_laws};

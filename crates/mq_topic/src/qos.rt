@@ -1,7 +1,7 @@
 //! The quality of service (4.3).
 
 ghost use Rattle.std.specs.Prelude.{◌≡◌};
-ghost use Rattle.mq_topic.specs.Qos.{qos_number, qos_from};
+ghost use Rattle.mq_topic.specs.Qos.{greater, qos_number, qos_from};
 
 /// How often a message is handed on (4.3): at most once, at least once, exactly once.
 #[derive(Clone, Copy, Debug, PartialEq, Eq, PartialOrd, Ord, Hash)]
@@ -23,6 +23,17 @@ impl Qos {
             Qos::Q0 => 0,
             Qos::Q1 => 1,
             Qos::Q2 => 2,
+        }
+    }
+
+    /// The greater of two.
+    pub fn greater(self, other: Qos) -> Qos
+        ensures { result ≡ greater self other }
+    {
+        match (self, other) {
+            (Qos::Q0, _) => other,
+            (Qos::Q1, Qos::Q2) => Qos::Q2,
+            _ => self,
         }
     }
 
