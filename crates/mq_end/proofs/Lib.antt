@@ -1,3 +1,9 @@
 pub mod Soundness
 pub mod Lateness
 pub mod Closing
+pub mod Replies
+pub mod Received
+pub mod Hearing
+pub mod Openings
+pub mod Accepted
+pub mod Along

@@ -72,7 +72,7 @@ abbrev pub publishes_at : Qos → ℕ → Message → End → Reply
 publishes_at Q0 i m e = puts_out (packets.Publish (record { message = m; delivery = None }) ∷ []) e
 publishes_at qos i m e = puts_out
     (if is_up e.state then publish_packet i false m ∷ [] else [])
-    (record e { book = accept i m (is_up e.state) e.book })
+    (record e { book = accept i m (is_up e.state) e.book; last = i })
 
 -- a message is published, by its quality of service (3.3, 4.3)
 abbrev pub publishes : ℕ → Message → End → Reply

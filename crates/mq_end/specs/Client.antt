@@ -74,11 +74,11 @@ connects c e = puts_out (packets.Connect c ∷ []) (record (renewed c.clean_sess
 
 -- SUBSCRIBE with this identifier (3.8)
 abbrev pub subscribes : ℕ → List Request → End → Reply
-subscribes i requests e = puts_out (packets.Subscribe i requests ∷ []) (record e { book = claim i claims.Subscribe (length requests) e.book })
+subscribes i requests e = puts_out (packets.Subscribe i requests ∷ []) (record e { book = claim i claims.Subscribe (length requests) e.book; last = i })
 
 -- UNSUBSCRIBE with this identifier (3.10)
 abbrev pub unsubscribes : ℕ → List (List ℕ) → End → Reply
-unsubscribes i filters e = puts_out (packets.Unsubscribe i filters ∷ []) (record e { book = claim i claims.Unsubscribe (length filters) e.book })
+unsubscribes i filters e = puts_out (packets.Unsubscribe i filters ∷ []) (record e { book = claim i claims.Unsubscribe (length filters) e.book; last = i })
 
 -- why a packet of this remaining length (2.2.3) that takes an identifier (2.3.1) is refused, the first that stands
 abbrev pub request_refusal : ℕ → ℕ → ℕ → End → Option PublishRefusal

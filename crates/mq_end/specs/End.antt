@@ -9,8 +9,9 @@ use Rattle.mq_end.specs.declared.happening.Happening.{Happening}
 use Rattle.mq_end.specs.declared.happening.Happening.TheVariants as happens
 use Rattle.mq_end.specs.declared.reason.CloseReason.{CloseReason}
 
--- An end. Its session (3.1.2.4) is book, received and known.
+-- An end. Its session (3.1.2.4) is book, received, last and known.
 -- book, received: what it sends and receives, and is not through with (4.1, 4.3).
+-- last: the packet identifier that it gave last, 0 where it gave none (2.3.1).
 -- known: at the client, that the session is established: a CONNACK that accepts was read for it; at the server, that
 --   a session stands for the client.
 -- clean: the CONNECT of the connection, at the server the accepted one, has clean session 1, so that the session ends
@@ -19,6 +20,7 @@ use Rattle.mq_end.specs.declared.reason.CloseReason.{CloseReason}
 pub record End : Type 0 where
   pub book : SenderBook
   pub received : ReceiverBook
+  pub last : ℕ
   pub state : State
   pub known : Bool
   pub clean : Bool
@@ -26,11 +28,11 @@ pub record End : Type 0 where
 
 -- an end without a session (3.1.2.4) and without a connection
 abbrev pub blank_end : End
-blank_end = record { book = blank_book; received = none_received; state = Closed; known = false; clean = false; keep_alive = 0 }
+blank_end = record { book = blank_book; received = none_received; last = 0; state = Closed; known = false; clean = false; keep_alive = 0 }
 
 -- An end that goes on with a session of before (3.1.2.4), its claimed identifiers freed; known is its mark.
-abbrev pub resumed : Bool → SenderBook → ReceiverBook → End
-resumed known book received = record { book = no_claims book; received = received; state = Closed; known = known; clean = false; keep_alive = 0 }
+abbrev pub resumed : Bool → SenderBook → ReceiverBook → ℕ → End
+resumed known book received last = record { book = no_claims book; received = received; last = last; state = Closed; known = known; clean = false; keep_alive = 0 }
 
 -- What comes of a packet or of a call: the end after it, the packets that it puts out in order, what it tells its user,
 -- the identifiers whose message of quality of service 1 is acknowledged, and why the connection is closed, where it is.
@@ -72,6 +74,7 @@ abbrev pub over : End → End
 over e = record e {
   book = if e.clean then blank_book else no_claims e.book;
   received = if e.clean then none_received else e.received;
+  last = if e.clean then 0 else e.last;
   state = Closed;
   known = if e.clean then false else e.known;
   clean = false;
@@ -91,6 +94,7 @@ abbrev pub renewed : Bool → End → End
 renewed clean e = record e {
   book = if clean then blank_book else e.book;
   received = if clean then none_received else e.received;
+  last = if clean then 0 else e.last;
   known = if clean then false else e.known;
   clean = clean;
 }

@@ -4,4 +4,8 @@ pub mod Both
 pub mod Client
 pub mod Server
 pub mod KeepAlive
+pub mod State
+pub mod Receiving
+pub mod Publishing
+pub mod Opening
 pub mod Laws

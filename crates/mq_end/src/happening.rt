@@ -1,7 +1,10 @@
 //! What an end tells its user.
 
+ghost use Rattle.std.specs.Prelude.{◌≡◌};
+
 use mq_packet::{Message, NonEmpty, PacketId, Request, SubAckCode};
 use mq_topic::TopicFilter;
+use std::alloc::AllocError;
 
 /// What an end tells its user of a packet that came.
 #[derive(Debug, Drop)]
@@ -38,4 +41,32 @@ pub enum Happening {
     UnsubAck(PacketId),
     /// The server answers a PINGREQ (3.13).
     Pong,
+}
+
+impl Clone for Happening {
+    ghost is_clone = { λ happening copy. copy ≡ happening };
+
+    /// The same happening; the bytes of its texts and payload are shared, none is copied.
+    fn clone(&self) -> Result<Happening, AllocError> {
+        Ok(match self {
+            Happening::Up { session_present } => Happening::Up {
+                session_present: *session_present,
+            },
+            Happening::Handed(message) => Happening::Handed(message.clone()?),
+            Happening::Subscribe { id, requests } => Happening::Subscribe {
+                id: *id,
+                requests: requests.clone()?,
+            },
+            Happening::Unsubscribe { id, filters } => Happening::Unsubscribe {
+                id: *id,
+                filters: filters.clone()?,
+            },
+            Happening::SubAck { id, codes } => Happening::SubAck {
+                id: *id,
+                codes: codes.clone()?,
+            },
+            Happening::UnsubAck(id) => Happening::UnsubAck(*id),
+            Happening::Pong => Happening::Pong,
+        })
+    }
 }

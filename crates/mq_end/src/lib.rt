@@ -3,14 +3,36 @@
 //! The definitions are in `specs/`; this crate has the words that they share with the code.
 #![tactic(auto)]
 
+mod client;
+mod config;
+mod flows;
 mod happening;
+mod items;
 mod laws;
+mod link;
+mod opening;
+mod progress;
+mod publishing;
+mod queue;
 mod reason;
+mod receiving;
 mod refusal;
+mod role;
+mod server;
 mod state;
+mod taking;
+#[cfg(test)]
+mod tests;
+mod told;
 
+pub use crate::client::ClientEnd;
+pub use crate::config::{ClientConfig, ServerConfig};
 pub use crate::happening::Happening;
+pub use crate::items::Items;
 pub use crate::laws::{closing_laws, keep_alive_laws, sound_laws};
+pub use crate::progress::Progress;
+pub use crate::queue::ByteQueue;
 pub use crate::reason::CloseReason;
 pub use crate::refusal::PublishRefusal;
+pub use crate::server::ServerEnd;
 pub use crate::state::State;

@@ -1,11 +1,15 @@
 //! Why a connection is closed.
 
+use mq_decode::DecodeFault;
 use mq_packet::RefusalCode;
 use thiserror::Error;
 
 /// Why an end closed its connection. It displays as its code.
 #[derive(Clone, Copy, Debug, PartialEq, Eq, Error)]
 pub enum CloseReason {
+    /// Bytes that are no packet (4.8).
+    #[error("C1")]
+    Fault(DecodeFault),
     /// A packet that may not come there (4.8).
     #[error("C2")]
     Unexpected,

@@ -15,3 +15,9 @@ pub mod Ranks
 pub mod Settle
 pub mod Chains
 pub mod Carrying
+pub mod Streams
+pub mod Wires
+pub mod Standing
+pub mod Moving
+pub mod Delivering
+pub mod Events

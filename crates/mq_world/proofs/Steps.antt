@@ -151,9 +151,9 @@ sent_own capacity b e is_sent is_held own s =
     (s, each_append IsSent b.entries (e ∷ []) own.1 (is_sent, tt), each_append IsHeld b.entries (e ∷ []) own.2 (is_held, tt))
 
 down_1 : (capacity : ℕ) (h y : Half) (st : State) (q : List Packet) (i : ℕ) (m : Message) → is_up st ≡ false → IsSound capacity (accept i (record m { qos = Q1 }) false h.end.book) → Both capacity (upon h st q) y
-    → Both capacity (record (upon h st q) { end = record (upon h st q).end { book = accept i (record m { qos = Q1 }) false h.end.book }; accepted = accepted_with Q1 i (record m { qos = Q1 }) h.accepted }) (put [] y)
+    → Both capacity (record (upon h st q) { end = record (upon h st q).end { book = accept i (record m { qos = Q1 }) false h.end.book; last = i }; accepted = accepted_with Q1 i (record m { qos = Q1 }) h.accepted }) (put [] y)
 down_1 capacity h y st q i m down s b =
-    finish capacity (upon h st q) y (record (upon h st q) { end = record (upon h st q).end { book = accept i (record m { qos = Q1 }) false h.end.book }; accepted = accepted_with Q1 i (record m { qos = Q1 }) h.accepted }) []
+    finish capacity (upon h st q) y (record (upon h st q) { end = record (upon h st q).end { book = accept i (record m { qos = Q1 }) false h.end.book; last = i }; accepted = accepted_with Q1 i (record m { qos = Q1 }) h.accepted }) []
     (answers y.coming) (flight y.coming) (same_answers y.end.state y.coming [] refl) (same_flight y.end.state y.coming [] refl) (
       subst (λ (E : List (ℕ × Message)). Second st y.end.state E h.end.book.released y.end.received (answers q).rec (answers q).comp (flight y.coming).pub2 (flight y.coming).rel h.accepted.exactly_once y.handed.exactly_once) (sym (held_1_other h.end.book.entries i m false)) b.to_y.0,
       subst (λ (E : List (ℕ × Message)). First st y.end.state E (answers q).ack (flight y.coming).pub1 (h.accepted.at_least_once ++ (i, record m { qos = Q1 }) ∷ []) y.handed.at_least_once h.freed) (sym (held_1 h.end.book.entries i m false))
@@ -168,9 +168,9 @@ down_1 capacity h y st q i m down s b =
     b
 
 up_1 : (capacity : ℕ) (h y : Half) (q : List Packet) (i : ℕ) (m : Message) → IsSound capacity (accept i (record m { qos = Q1 }) true h.end.book) → Both capacity (upon h Up q) y
-    → Both capacity (record (upon h Up q) { end = record (upon h Up q).end { book = accept i (record m { qos = Q1 }) true h.end.book }; accepted = accepted_with Q1 i (record m { qos = Q1 }) h.accepted }) (put (packet_1 i m ∷ []) y)
+    → Both capacity (record (upon h Up q) { end = record (upon h Up q).end { book = accept i (record m { qos = Q1 }) true h.end.book; last = i }; accepted = accepted_with Q1 i (record m { qos = Q1 }) h.accepted }) (put (packet_1 i m ∷ []) y)
 up_1 capacity h y q i m s b =
-    finish capacity (upon h Up q) y (record (upon h Up q) { end = record (upon h Up q).end { book = accept i (record m { qos = Q1 }) true h.end.book }; accepted = accepted_with Q1 i (record m { qos = Q1 }) h.accepted }) (packet_1 i m ∷ [])
+    finish capacity (upon h Up q) y (record (upon h Up q) { end = record (upon h Up q).end { book = accept i (record m { qos = Q1 }) true h.end.book; last = i }; accepted = accepted_with Q1 i (record m { qos = Q1 }) h.accepted }) (packet_1 i m ∷ [])
     (answers y.coming) (record { pub2 = (flight y.coming).pub2; pub1 = joined y.end.state (flight y.coming).pub1 ((i, record m { qos = Q1 }) ∷ []); rel = (flight y.coming).rel; msg = (flight y.coming).msg })
     (same_answers y.end.state y.coming (packet_1 i m ∷ []) refl) (first_joins y.end.state y.coming i m) (
       subst (λ (E : List (ℕ × Message)). Second Up y.end.state E h.end.book.released y.end.received (answers q).rec (answers q).comp (flight y.coming).pub2 (flight y.coming).rel h.accepted.exactly_once y.handed.exactly_once) (sym (held_1_other h.end.book.entries i m true)) b.to_y.0,
@@ -189,9 +189,9 @@ fresh_2 : (b : SenderBook) (i : ℕ) → IsFree b i → times i (ids (held Q2 b.
 fresh_2 b i free = let z = free.1 in let e = times_uses i b in let f = times_held i b.entries in omega arith
 
 down_2 : (capacity : ℕ) (h y : Half) (st : State) (q : List Packet) (i : ℕ) (m : Message) → is_up st ≡ false → IsFree h.end.book i → IsSound capacity (accept i (record m { qos = Q2 }) false h.end.book) → Both capacity (upon h st q) y
-    → Both capacity (record (upon h st q) { end = record (upon h st q).end { book = accept i (record m { qos = Q2 }) false h.end.book }; accepted = accepted_with Q2 i (record m { qos = Q2 }) h.accepted }) (put [] y)
+    → Both capacity (record (upon h st q) { end = record (upon h st q).end { book = accept i (record m { qos = Q2 }) false h.end.book; last = i }; accepted = accepted_with Q2 i (record m { qos = Q2 }) h.accepted }) (put [] y)
 down_2 capacity h y st q i m down free s b =
-    finish capacity (upon h st q) y (record (upon h st q) { end = record (upon h st q).end { book = accept i (record m { qos = Q2 }) false h.end.book }; accepted = accepted_with Q2 i (record m { qos = Q2 }) h.accepted }) []
+    finish capacity (upon h st q) y (record (upon h st q) { end = record (upon h st q).end { book = accept i (record m { qos = Q2 }) false h.end.book; last = i }; accepted = accepted_with Q2 i (record m { qos = Q2 }) h.accepted }) []
     (answers y.coming) (flight y.coming) (same_answers y.end.state y.coming [] refl) (same_flight y.end.state y.coming [] refl) (
       subst (λ (E : List (ℕ × Message)). Second st y.end.state E h.end.book.released y.end.received (answers q).rec (answers q).comp (flight y.coming).pub2 (flight y.coming).rel (h.accepted.exactly_once ++ record m { qos = Q2 } ∷ []) y.handed.exactly_once) (sym (held_2 h.end.book.entries i m false))
           (second.accepts i (record m { qos = Q2 }) (flight y.coming).pub2 b.to_y.0 (fresh_2 h.end.book i free) (stages.accepted_down _ _ _ _ _ _ _ (i, record m { qos = Q2 }) down b.to_y.0.e)),
@@ -206,9 +206,9 @@ down_2 capacity h y st q i m down free s b =
     b
 
 up_2 : (capacity : ℕ) (h y : Half) (q : List Packet) (i : ℕ) (m : Message) → IsFree h.end.book i → IsSound capacity (accept i (record m { qos = Q2 }) true h.end.book) → Both capacity (upon h Up q) y
-    → Both capacity (record (upon h Up q) { end = record (upon h Up q).end { book = accept i (record m { qos = Q2 }) true h.end.book }; accepted = accepted_with Q2 i (record m { qos = Q2 }) h.accepted }) (put (packet_2 i m ∷ []) y)
+    → Both capacity (record (upon h Up q) { end = record (upon h Up q).end { book = accept i (record m { qos = Q2 }) true h.end.book; last = i }; accepted = accepted_with Q2 i (record m { qos = Q2 }) h.accepted }) (put (packet_2 i m ∷ []) y)
 up_2 capacity h y q i m free s b =
-    finish capacity (upon h Up q) y (record (upon h Up q) { end = record (upon h Up q).end { book = accept i (record m { qos = Q2 }) true h.end.book }; accepted = accepted_with Q2 i (record m { qos = Q2 }) h.accepted }) (packet_2 i m ∷ [])
+    finish capacity (upon h Up q) y (record (upon h Up q) { end = record (upon h Up q).end { book = accept i (record m { qos = Q2 }) true h.end.book; last = i }; accepted = accepted_with Q2 i (record m { qos = Q2 }) h.accepted }) (packet_2 i m ∷ [])
     (answers y.coming) (record { pub2 = joined y.end.state (flight y.coming).pub2 ((i, record m { qos = Q2 }) ∷ []); pub1 = (flight y.coming).pub1; rel = (flight y.coming).rel; msg = (flight y.coming).msg })
     (same_answers y.end.state y.coming (packet_2 i m ∷ []) refl) (second_joins y.end.state y.coming i m) (
       subst (λ (E : List (ℕ × Message)). Second Up y.end.state E h.end.book.released y.end.received (answers q).rec (answers q).comp (joined y.end.state (flight y.coming).pub2 ((i, record m { qos = Q2 }) ∷ [])) (flight y.coming).rel (h.accepted.exactly_once ++ record m { qos = Q2 } ∷ []) y.handed.exactly_once) (sym (held_2 h.end.book.entries i m true))

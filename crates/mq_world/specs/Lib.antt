@@ -9,3 +9,5 @@ pub mod Examples
 pub mod Runs
 pub mod Sessions
 pub mod Carried
+pub mod Carries
+pub mod OverBytes

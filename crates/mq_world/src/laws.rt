@@ -8,6 +8,10 @@ ghost use Rattle.mq_world.specs.Runs.{RunsLaw};
 ghost use Rattle.mq_world.specs.Sessions.{SessionsLaw};
 ghost use Rattle.mq_world.specs.Carried.{CarriedLaw};
 ghost use Rattle.mq_world.specs.Examples.{Examples};
+ghost use Rattle.mq_world.specs.OverBytes.{OverBytes};
+
+use mq_decode::reads_again;
+use mq_end::closing_laws;
 
 /// What holds after every run of two ends that keep their sessions, whatever is lost on the way, in each
 /// direction.
@@ -58,3 +62,13 @@ pub fn sessions()
 pub fn carried()
     ensures { CarriedLaw }
 {}
+
+/// A world over bytes, cut anywhere, is a run of the machine: whatever comes to a side, is published, is lost, is
+/// opened again, or is asked, the machine that the world carries makes moves, and so what every run keeps holds of
+/// the world (4.2, 4.3, 4.6).
+pub fn over_bytes()
+    ensures { OverBytes }
+{
+    reads_again();
+    closing_laws();
+}

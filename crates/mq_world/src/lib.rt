@@ -7,6 +7,7 @@ mod laws;
 mod side;
 
 pub use crate::laws::{
-    arrivals_at_once, carried, examples, headline, identifiers, runs, sessions, settling,
+    arrivals_at_once, carried, examples, headline, identifiers, over_bytes, runs, sessions,
+    settling,
 };
 pub use crate::side::Side;

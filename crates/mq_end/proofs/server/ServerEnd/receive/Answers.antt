@@ -1,0 +1,10 @@
+use Rattle.std.proofs.Common.{◌≡◌, true, subst}
+use Rattle.mq_end.specs.End.{is_live}
+use Rattle.mq_end.specs.State.{EndState}
+use Rattle.mq_end.specs.Receiving.{ServerReceives}
+use Rattle.mq_end.proofs.server.ServerEnd.receive.Goals as goal
+
+pub returns-clause-open : goal.returns-clause-open
+returns-clause-open c =
+    subst (λ (l : EndState). is_live l.end.state ≡ true → ServerReceives c.args.piece.now l c.receive.new.self c.receive.result.happenings c.receive.result.acknowledged c.receive.result.closed) c.self.view_is
+    c.receive.ensures.open

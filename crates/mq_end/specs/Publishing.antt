@@ -1,0 +1,26 @@
+-- What comes of a message that an end accepts (3.3, 4.3).
+use Rattle.std.specs.Prelude.{◌≡◌, ℕ, Bool, true, Option}
+use Rattle.mq_packet.specs.declared.message.Message.{Message}
+use Rattle.mq_packet.specs.declared.connect.Connect.{Connect}
+use Rattle.mq_flow.specs.Sender.{IsFirstFree}
+use Rattle.mq_end.specs.declared.config.ClientConfig.{ClientConfig}
+use Rattle.mq_end.specs.Both.{publishes, has_identifier, answered_identifier}
+use Rattle.mq_end.specs.State.{EndState, PutsOut}
+
+-- A message is published, and the call answers its identifier, where it has one: the first that is free after the one that was given
+-- last (2.3.1). It goes out at once where the end is up.
+pub record Accepts (answer : Option ℕ) (m : Message) (old new : EndState) : Type 0 where
+  pub id : ℕ
+  pub answered : answer ≡ answered_identifier m.qos id
+  pub first : has_identifier m.qos ≡ true → IsFirstFree old.end.last old.end.book id
+  pub out : PutsOut (publishes id m old.end).out old.output new.output
+  pub state : new ≡ record old { end = (publishes id m old.end).end; output = new.output }
+
+-- the CONNECT of a client, with clean session or not (3.1)
+abbrev pub connect_of : ClientConfig → Bool → Connect
+connect_of config clean = record { client_id = config.id; clean_session = clean; keep_alive = config.keep_alive; will = config.will; login = config.login }
+
+-- What contracts see of a client end: the end, and what its user said of it.
+pub record ClientState : Type 0 where
+  pub link : EndState
+  pub config : ClientConfig

@@ -1,0 +1,123 @@
+-- What comes of bytes that an open end receives, cut anywhere (4.2, 4.6, 4.8).
+use Rattle.std.specs.Prelude.{◌≡◌, ◌⊎◌, ℕ, Bool, false, not, ◌&&◌, ◌<◌, List, [], ◌∷◌, ◌++◌, length, Option, Some, None}
+use Rattle.mq_packet.specs.declared.packet.Packet.{Packet}
+use Rattle.mq_decode.specs.declared.fault.DecodeFault.{DecodeFault}
+use Rattle.mq_decode.specs.Grammar.{Stream, Pending, Faulty}
+use Rattle.mq_end.specs.declared.happening.Happening.{Happening}
+use Rattle.mq_end.specs.declared.reason.CloseReason.{CloseReason}
+use Rattle.mq_end.specs.declared.role.Role.{Role}
+use Rattle.mq_end.specs.declared.role.Role.TheVariants.{Client, Server}
+use Rattle.mq_end.specs.declared.told.Told.{Told}
+use Rattle.mq_end.specs.declared.reason.CloseReason.TheVariants as reasons
+use Rattle.mq_end.specs.End.{End, Reply, closes, followed, is_up, one_by_one}
+use Rattle.mq_end.specs.Client.{client_gets}
+use Rattle.mq_end.specs.Server.{server_gets}
+use Rattle.mq_end.specs.State.{EndState, PutsOut, is_level, client_faulted, server_faulted}
+
+-- How it ends, where s is what came of the whole packets, rest the bytes behind them, r all that comes of it, and held what the
+-- end then holds.
+pub data Ending (limit : ℕ) (faulted : DecodeFault → End → Reply) (s : Reply) (rest : List ℕ) (r : Reply) (held : List ℕ) : Type 0 where
+  -- the rest is less than a whole packet, and is held
+  Waits : Pending limit rest → s.close ≡ None → r ≡ s → held ≡ rest → Ending limit faulted s rest r held
+  -- the end closed at the last of these packets
+  Closes : (reason : CloseReason) → s.close ≡ Some reason → r ≡ s → held ≡ [] → Ending limit faulted s rest r held
+  -- the rest is no packet (4.8)
+  Breaks : (fault : DecodeFault) → Faulty limit rest fault.kind fault.place → s.close ≡ None → r ≡ followed s (faulted fault s.end) → held ≡ [] → Ending limit faulted s rest r held
+  -- memory ran out before all was taken in
+  Starves : 0 < length rest → s.close ≡ None → r ≡ followed s (closes reasons.Memory s.end) → held ≡ [] → Ending limit faulted s rest r held
+
+-- The bytes held before and the new ones are whole packets, which come one after another, up to the first at which the end closes,
+-- and a rest.
+pub record Receives (limit : ℕ) (gets : Packet → End → Reply) (faulted : DecodeFault → End → Reply) (b : List ℕ) (e : End) (r : Reply) (held : List ℕ) : Type 0 where
+  pub packets : List Packet
+  pub front : List ℕ
+  pub rest : List ℕ
+  pub stream : Stream limit packets front
+  pub parts : b ≡ front ++ rest
+  pub ending : Ending limit faulted (one_by_one gets packets e) rest r held
+
+-- What the user of an end sees of a reply: the end after it, what it puts out, what it tells, the identifiers whose message is
+-- acknowledged, and why it closed, where it did.
+pub record Shows (r : Reply) (old new : EndState) (happenings : List Happening) (acknowledged : List ℕ) (closed : Option CloseReason) : Type 0 where
+  pub after : new.end ≡ r.end
+  pub out : PutsOut r.out old.output new.output
+  pub told : happenings ≡ r.happenings
+  pub freed : acknowledged ≡ r.freed
+  pub close : closed ≡ r.close
+
+-- the client receives bytes
+abbrev pub ClientReceives : List ℕ → EndState → EndState → List Happening → List ℕ → Option CloseReason → Type 0
+ClientReceives piece old new happenings acknowledged closed = (r : Reply)
+    × Receives old.limit client_gets client_faulted (old.held ++ piece) old.end r new.held
+    × Shows r old new happenings acknowledged closed
+
+-- the server receives bytes
+abbrev pub ServerReceives : List ℕ → EndState → EndState → List Happening → List ℕ → Option CloseReason → Type 0
+ServerReceives piece old new happenings acknowledged closed = (r : Reply)
+    × Receives old.limit server_gets server_faulted (old.held ++ piece) old.end r new.held
+    × Shows r old new happenings acknowledged closed
+
+-- ---- packets that are taken in, where memory may run out
+
+-- what a closed end holds of a packet that is not whole: nothing
+abbrev pub held_after : Option CloseReason → List ℕ → List ℕ
+held_after None held = held
+held_after (Some reason) held = []
+
+-- A reply that tells nothing is made: the end after it, and its packets put out.
+pub record Acts (r : Reply) (old new : EndState) : Type 0 where
+  pub out : PutsOut r.out old.output new.output
+  pub state : new ≡ record old { end = r.end; output = new.output; held = held_after r.close old.held }
+
+-- A reply is made: the end after it, its packets put out, and what it tells behind what was told before.
+pub record Makes (r : Reply) (old new : EndState) (told now : Told) : Type 0 where
+  pub out : PutsOut r.out old.output new.output
+  pub state : new ≡ record old { end = r.end; output = new.output; held = held_after r.close old.held }
+  pub happenings : now.happenings.items ≡ told.happenings.items ++ r.happenings
+  pub acknowledged : now.acknowledged.items ≡ told.acknowledged.items ++ r.freed
+
+-- nothing happens, since memory ran out
+pub record Stays (old new : EndState) (told now : Told) : Type 0 where
+  pub state : new ≡ old
+  pub happenings : now.happenings.items ≡ told.happenings.items
+  pub acknowledged : now.acknowledged.items ≡ told.acknowledged.items
+
+-- What comes of packets that are taken in one after another: all are, or those up to one at which the end closes, or those before
+-- one for which memory runs out.
+pub data Taken (gets : Packet → End → Reply) (ps : List Packet) (e : End) (r : Reply) : Type 0 where
+  TakesAll : (one_by_one gets ps e).close ≡ None → r ≡ one_by_one gets ps e → Taken gets ps e r
+  Closed : (first rest : List Packet) (reason : CloseReason) → ps ≡ first ++ rest → (one_by_one gets first e).close ≡ Some reason → r ≡ one_by_one gets first e → Taken gets ps e r
+  Starved : (first rest : List Packet) (p : Packet) → ps ≡ first ++ p ∷ rest → (one_by_one gets first e).close ≡ None → r ≡ followed (one_by_one gets first e) (closes reasons.Memory (one_by_one gets first e).end) → Taken gets ps e r
+
+-- what an end of this role does with a packet, and with bytes that are no packet
+abbrev pub gets_as : Role → Packet → End → Reply
+gets_as Client p e = client_gets p e
+gets_as Server p e = server_gets p e
+
+abbrev pub faulted_as : Role → DecodeFault → End → Reply
+faulted_as Client fault e = client_faulted fault e
+faulted_as Server fault e = server_faulted fault e
+
+-- whether bytes that are no packet are answered: a CONNECT of another level, where one is waited for (3.1.2.2)
+abbrev pub is_answered : Role → DecodeFault → End → Bool
+is_answered Client fault e = false
+is_answered Server fault e = not (is_up e.state) && is_level fault.kind
+
+-- what comes of bytes that are no packet, where memory may run out for an answer
+abbrev pub IsBreak : Role → DecodeFault → End → Reply → Type 0
+IsBreak role fault e r = (r ≡ faulted_as role fault e) ⊎ (r ≡ closes reasons.Memory e)
+
+-- Bytes came to an end with a connection, and this is what it did with them.
+pub record Hears (role : Role) (piece : List ℕ) (old new : EndState) (told now : Told) (closed : Option CloseReason) : Type 0 where
+  pub reply : Reply
+  pub receives : Receives old.limit (gets_as role) (faulted_as role) (old.held ++ piece) old.end reply new.held
+  pub out : PutsOut reply.out old.output new.output
+  pub state : new ≡ record old { end = reply.end; output = new.output; held = new.held }
+  pub happenings : now.happenings.items ≡ told.happenings.items ++ reply.happenings
+  pub acknowledged : now.acknowledged.items ≡ told.acknowledged.items ++ reply.freed
+  pub close : closed ≡ reply.close
+
+-- an end of this role receives bytes
+abbrev pub ReceivesAs : Role → List ℕ → EndState → EndState → List Happening → List ℕ → Option CloseReason → Type 0
+ReceivesAs Client piece old new happenings acknowledged closed = ClientReceives piece old new happenings acknowledged closed
+ReceivesAs Server piece old new happenings acknowledged closed = ServerReceives piece old new happenings acknowledged closed

@@ -1,0 +1,177 @@
+//! The client end.
+
+ghost use Rattle.std.specs.Prelude.{◌≡◌, ◌<◌, ◌≤◌, ◌∷◌, ℕ, [], true, false, length, drop, IfOk, IfErr, IfSome, IfNone, IsSome, OnOk, OnErr, Err, None, Some};
+ghost use Rattle.mq_packet.specs.declared.packet.Packet.TheVariants as packets;
+ghost use Rattle.mq_end.specs.End.{blank_end, is_live, over};
+ghost use Rattle.mq_end.specs.Both.{publish_refusal};
+ghost use Rattle.mq_end.specs.Client.{connects};
+ghost use Rattle.mq_end.specs.State.{PutsOut};
+ghost use Rattle.mq_end.specs.Receiving.{ClientReceives};
+ghost use Rattle.mq_end.specs.Publishing.{Accepts, connect_of};
+
+use crate::config::ClientConfig;
+use crate::link::Link;
+use crate::progress::Progress;
+use crate::queue::ByteQueue;
+use crate::refusal::PublishRefusal;
+use crate::role::Role;
+use crate::state::State;
+use mq_flow::Session;
+use mq_packet::{Connect, Message, Packet, PacketId};
+use std::alloc::{AllocError, Global};
+use std::marker::Model;
+
+/// The client end of connections, one after another, with its session (3.1.2.4). Bytes go in, and happenings and bytes
+/// come out; it knows no socket and no clock. Moments are milliseconds.
+#[derive(Debug, Drop)]
+pub struct ClientEnd {
+    config: ClientConfig,
+    link: Link,
+}
+
+impl Model for ClientEnd {
+    ghost use Rattle.std.specs.Prelude.{◌≡◌};
+    ghost use Rattle.std.specs.Coded.{codes, coded_ℕ};
+    ghost use Rattle.std.specs.FinSet as set;
+    ghost use Rattle.std.specs.Ordering.{nat_cmp};
+    ghost use Rattle.mq_end.specs.Publishing.{ClientState};
+
+    ghost Value = { ClientState };
+
+    ghost coded = { Prim.hlevel (codes, set.code {R = nat_cmp} coded_ℕ) };
+
+    ghost view = { λ c. record { link = c.link; config = c.config } };
+}
+
+impl ClientEnd {
+    /// A client without a session and without a connection. It takes no memory.
+    pub fn new(alloc: Global, config: ClientConfig) -> ClientEnd
+        requires { 0 < config.capacity }
+        ensures end { result.link.end ≡ blank_end }
+        ensures capacity { result.link.capacity ≡ config.capacity }
+        ensures limit { result.link.limit ≡ config.limits }
+        ensures output { result.link.output ≡ [] }
+        ensures held { result.link.held ≡ [] }
+        ensures config { result.config ≡ config }
+    {
+        let link = Link::new(alloc, config.limits, config.capacity);
+        ClientEnd { config, link }
+    }
+
+    // The CONNECT that it begins a connection with.
+    fn connect_packet(&self, clean: bool) -> Result<Connect, AllocError>
+        ensures { IfOk result (λ connect. connect ≡ connect_of self.now.config clean) }
+    {
+        Ok(Connect {
+            client_id: self.config.id.clone()?,
+            clean_session: clean,
+            keep_alive: self.config.keep_alive,
+            will: self.config.will.clone()?,
+            login: self.config.login.clone()?,
+        })
+    }
+
+    /// Begins a connection: CONNECT is put out (3.1). A connection that is open is dropped first, and what waits to be
+    /// written of an earlier one is gone. With clean session the session is discarded (3.1.2.4). Errs where memory runs
+    /// out, and then nothing changes.
+    pub fn connect(&mut self, now: u64, clean: bool) -> Result<(), AllocError>
+        ensures end { OnOk result (self.new.link.end ≡ (connects (connect_of self.old.config clean) self.old.link.end).end) }
+        ensures output { OnOk result (PutsOut (packets.Connect (connect_of self.old.config clean) ∷ []) [] self.new.link.output) }
+        ensures held { OnOk result (self.new.link.held ≡ []) }
+        ensures moment { OnOk result (self.new.link.moment ≡ now) }
+        ensures limit { self.new.link.limit ≡ self.old.link.limit }
+        ensures capacity { self.new.link.capacity ≡ self.old.link.capacity }
+        ensures config { self.new.config ≡ self.old.config }
+        ensures err { OnErr result (self.new ≡ self.old) }
+    {
+        let packet = Packet::Connect(self.connect_packet(clean)?);
+        let mut output = ByteQueue::new(self.link.alloc);
+        output.append_packet(&packet)?;
+        self.link.output = output;
+        self.link.begin(clean, self.config.keep_alive, now);
+        Ok(())
+    }
+
+    /// Bytes come from the server, at this moment. Without a connection they are ignored. The whole packets among them
+    /// come one after another, up to one at which the end closes; where memory runs out it closes.
+    pub fn receive(&mut self, _now: u64, piece: &[u8]) -> Progress
+        ensures open { is_live self.old.link.end.state ≡ true → ClientReceives piece.now self.old.link self.new.link
+            result.happenings result.acknowledged result.closed }
+        ensures closed { is_live self.old.link.end.state ≡ false → self.new ≡ self.old }
+        ensures nothing { is_live self.old.link.end.state ≡ false
+            → (result.happenings ≡ []) × (result.acknowledged ≡ []) × (result.closed ≡ None) }
+        ensures limit { self.new.link.limit ≡ self.old.link.limit }
+        ensures capacity { self.new.link.capacity ≡ self.old.link.capacity }
+        ensures moment { self.new.link.moment ≡ self.old.link.moment }
+        ensures config { self.new.config ≡ self.old.config }
+    {
+        self.link.receive(Role::Client, piece)
+    }
+
+    /// Publishes a message, and answers its packet identifier, where it has one (2.3.1). While the end is not up, one of
+    /// quality of service 1 or 2 is kept, and goes out when the end comes up. Errs with the first refusal that stands, and
+    /// then nothing changes.
+    pub fn publish(&mut self, message: Message) -> Result<Option<PacketId>, PublishRefusal>
+        ensures refused { IfSome (publish_refusal self.old.link.limit self.old.link.capacity message self.old.link.end)
+            (λ why. result ≡ Err why) }
+        ensures memory { IfNone (publish_refusal self.old.link.limit self.old.link.capacity message self.old.link.end)
+            (IfErr result (λ why. why ≡ PublishRefusal.Memory)) }
+        ensures ok { IfOk result (λ answer. Accepts answer message self.old.link self.new.link) }
+        ensures config { self.new.config ≡ self.old.config }
+        ensures err { OnErr result (self.new ≡ self.old) }
+    {
+        self.link.publish(message)
+    }
+
+    /// The connection is lost (4.2): what waits to be written is gone. It takes no memory.
+    pub fn dropped(&mut self)
+        ensures end { self.new.link.end ≡ over self.old.link.end }
+        ensures output { self.new.link.output ≡ [] }
+        ensures held { self.new.link.held ≡ [] }
+        ensures limit { self.new.link.limit ≡ self.old.link.limit }
+        ensures capacity { self.new.link.capacity ≡ self.old.link.capacity }
+        ensures moment { self.new.link.moment ≡ self.old.link.moment }
+        ensures config { self.new.config ≡ self.old.config }
+    {
+        self.link.drop_connection();
+    }
+
+    /// The bytes that wait to be written.
+    pub fn output(&self) -> &[u8]
+        ensures { result.now ≡ self.now.link.output }
+    {
+        self.link.output.as_slice()
+    }
+
+    /// So many bytes were written. It takes no memory.
+    pub fn take_output(&mut self, count: usize)
+        requires { count ≤ length self.old.link.output }
+        ensures { self.new ≡ record self.old { link = record self.old.link { output = drop count self.old.link.output } } }
+    {
+        self.link.output.take(count);
+    }
+
+    /// All bytes that wait to be written, which it gives away. It takes no memory.
+    pub fn take_all_output(&mut self) -> ByteQueue
+        ensures bytes { result ≡ self.old.link.output }
+        ensures left { self.new ≡ record self.old { link = record self.old.link { output = [] } } }
+    {
+        self.link.take_all_output()
+    }
+
+    /// How far the connection is.
+    pub fn state(&self) -> State
+        ensures { result ≡ self.now.link.end.state }
+    {
+        self.link.state
+    }
+
+    /// The session.
+    pub fn session(&self) -> Option<&Session>
+        ensures book { IfSome result (λ session. session.now.sender.book ≡ self.now.link.end.book) }
+        ensures received { IfSome result (λ session. session.now.receiver ≡ self.now.link.end.received) }
+        ensures there { IsSome result }
+    {
+        Some(&self.link.session)
+    }
+}

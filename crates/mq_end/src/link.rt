@@ -1,0 +1,204 @@
+//! What both ends have: a session, how far the connection is, and the connection's bytes.
+
+ghost use Rattle.std.specs.Prelude.{◌≡◌, ◌<◌, ◌++◌, ◌∷◌, [], List, ℕ, true, false, length, take, OnOk, OnErr};
+ghost use Rattle.mq_packet.specs.Spelling.{Spells};
+ghost use Rattle.mq_flow.specs.Sender.{blank_book, all_sent};
+ghost use Rattle.mq_flow.specs.Receiver.{none_received};
+ghost use Rattle.mq_end.specs.End.{End, blank_end, over, renewed};
+ghost use Rattle.mq_end.specs.State.{PutsOut};
+ghost use Rattle.mq_end.specs.declared.state.State.TheVariants as states;
+
+use crate::queue::ByteQueue;
+use crate::reason::CloseReason;
+use crate::state::State;
+use mq_decode::{Decoder, Limits};
+use mq_flow::Session;
+use mq_packet::Packet;
+use std::alloc::{AllocError, Global};
+use std::marker::Model;
+use std::mem;
+
+/// An end of a connection, which both ends are made of.
+#[derive(Debug, Drop)]
+pub(crate) struct Link {
+    pub(crate) alloc: Global,
+    pub(crate) session: Session,
+    pub(crate) known: bool,
+    pub(crate) state: State,
+    pub(crate) clean: bool,
+    pub(crate) keep_alive: u16,
+    pub(crate) capacity: u16,
+    pub(crate) limits: Limits,
+    pub(crate) moment: u64,
+    pub(crate) decoder: Decoder,
+    pub(crate) output: ByteQueue,
+}
+
+impl Model for Link {
+    ghost use Rattle.std.specs.Prelude.{◌≡◌, ◌<◌, None};
+    ghost use Rattle.std.specs.Coded.{codes, coded_ℕ};
+    ghost use Rattle.std.specs.FinSet as set;
+    ghost use Rattle.std.specs.Ordering.{nat_cmp};
+    ghost use Rattle.mq_end.specs.State.{EndState};
+
+    ghost Value = { EndState };
+
+    ghost coded = { Prim.hlevel (codes, set.code {R = nat_cmp} coded_ℕ) };
+
+    ghost view = { λ l. record {
+      end = record {
+        book = l.session.sender.book;
+        received = l.session.receiver;
+        last = l.session.sender.last;
+        state = l.state;
+        known = l.known;
+        clean = l.clean;
+        keep_alive = l.keep_alive;
+      };
+      capacity = l.session.sender.capacity;
+      limit = l.limits;
+      held = l.decoder.held;
+      output = l.output;
+      moment = l.moment;
+    } };
+
+    ghost invariant = { λ l. (0 < l.capacity) × (l.session.sender.capacity ≡ l.capacity)
+        × (l.decoder.limit ≡ l.limits) × (l.decoder.failed ≡ None) };
+}
+
+impl Link {
+    /// An end without a session and without a connection.
+    pub(crate) fn new(alloc: Global, limits: Limits, capacity: u16) -> Link
+        requires { 0 < capacity }
+        ensures { result ≡ record { end = blank_end; capacity = capacity; limit = limits; held = []; output = []; moment = 0 } }
+    {
+        Link {
+            alloc,
+            session: Session::new(alloc, capacity),
+            known: false,
+            state: State::Closed,
+            clean: false,
+            keep_alive: 0,
+            capacity,
+            limits,
+            moment: 0,
+            decoder: Decoder::new(alloc, limits),
+            output: ByteQueue::new(alloc),
+        }
+    }
+
+    /// The session is as new, and not known.
+    fn forget(&mut self)
+        ensures { self.new ≡ record self.old { end = record self.old.end { book = blank_book; received = none_received; last = 0; known = false } } }
+    {
+        self.session = Session::new(self.alloc, self.capacity);
+        self.known = false;
+    }
+
+    /// The connection is over (3.1.2.4). What waits to be written stays.
+    pub(crate) fn end_connection(&mut self)
+        ensures { self.new ≡ record self.old { end = over self.old.end; held = [] } }
+    {
+        if self.clean {
+            self.forget();
+        } else {
+            self.session.sender.free_claims();
+        }
+        self.state = State::Closed;
+        self.clean = false;
+        self.decoder.reset();
+    }
+
+    /// The end closes its connection (4.8).
+    pub(crate) fn close(&mut self, reason: CloseReason) -> CloseReason
+        ensures reason { result ≡ reason }
+        ensures state { self.new ≡ record self.old { end = over self.old.end; held = [] } }
+    {
+        self.end_connection();
+        reason
+    }
+
+    /// A connection begins, with clean session or not (3.1.2.4).
+    pub(crate) fn renew(&mut self, clean: bool)
+        ensures { self.new ≡ record self.old { end = renewed clean self.old.end } }
+    {
+        if clean {
+            self.forget();
+        }
+        self.clean = clean;
+    }
+
+    /// The end is up, and all that it holds is sent (4.4).
+    pub(crate) fn rise(&mut self)
+        ensures { self.new ≡ record self.old { end = record self.old.end { state = states.Up; known = true; book = all_sent self.old.end.book } } }
+    {
+        self.session.sender.mark_sent();
+        self.known = true;
+        self.state = State::Up;
+    }
+
+    /// The connection is lost, and what waits to be written is gone (4.2).
+    pub(crate) fn drop_connection(&mut self)
+        ensures { self.new ≡ record self.old { end = over self.old.end; held = []; output = [] } }
+    {
+        self.end_connection();
+        self.output.clear();
+    }
+
+    /// A client's connection begins, with this clean session and keep-alive, at this moment; one that is open is over
+    /// first.
+    pub(crate) fn begin(&mut self, clean: bool, keep_alive: u16, now: u64)
+        ensures { self.new ≡ record self.old {
+          end = record (renewed clean (over self.old.end)) { state = states.Open; keep_alive = keep_alive };
+          held = [];
+          moment = now;
+        } }
+    {
+        self.end_connection();
+        self.renew(clean);
+        self.state = State::Open;
+        self.keep_alive = keep_alive;
+        self.moment = now;
+    }
+
+    /// All bytes that wait to be written, which it gives away.
+    pub(crate) fn take_all_output(&mut self) -> ByteQueue
+        ensures bytes { result ≡ self.old.output }
+        ensures left { self.new ≡ record self.old { output = [] } }
+    {
+        mem::replace(&mut self.output, ByteQueue::new(self.alloc))
+    }
+
+    /// A packet is put out. Errs where memory runs out, and then nothing changes.
+    pub(crate) fn write(&mut self, packet: &Packet) -> Result<(), AllocError>
+        ensures ok { OnOk result ((b : List ℕ) × Spells packet.now b × (self.new ≡ record self.old { output = self.old.output ++ b })) }
+        ensures err { OnErr result (self.new ≡ self.old) }
+    {
+        self.output.append_packet(packet)
+    }
+
+    /// Packets are put out. Errs where memory runs out, and then nothing changes.
+    pub(crate) fn write_all(&mut self, packets: &[Packet]) -> Result<(), AllocError>
+        ensures ok { OnOk result (PutsOut packets.now self.old.output self.new.output) }
+        ensures state { self.new ≡ record self.old { output = self.new.output } }
+        ensures err { OnErr result (self.new ≡ self.old) }
+    {
+        let before = self.output.len();
+        let written = put_packets(&mut self.output, packets);
+        if written.is_err() {
+            self.output.truncate(before);
+        }
+        written
+    }
+}
+
+// Appends packets; where memory runs out a beginning of them.
+fn put_packets(output: &mut ByteQueue, packets: &[Packet]) -> Result<(), AllocError>
+    ensures ok { OnOk result (PutsOut packets.now output.old output.new) }
+    ensures err { OnErr result ((rest : List ℕ) × (output.new ≡ output.old ++ rest)) }
+{
+    for packet in packets {
+        output.append_packet(packet)?;
+    }
+    Ok(())
+}

@@ -1,0 +1,196 @@
+//! The first packet of a connection (3.1, 3.2), and what is sent again when an end comes up (4.4).
+
+ghost use Rattle.std.specs.Prelude.{◌≡◌, ◌∷◌, [], IfOk, OnOk, OnErr};
+ghost use Rattle.mq_packet.specs.declared.packet.Packet.TheVariants as packets;
+ghost use Rattle.mq_packet.specs.declared.connack.ConnAck.TheVariants as connacks;
+ghost use Rattle.mq_flow.specs.Sender.{resent};
+ghost use Rattle.mq_end.specs.Client.{client_open_gets, connack_gets};
+ghost use Rattle.mq_end.specs.Server.{server_open_gets, refuses};
+ghost use Rattle.mq_end.specs.End.{comes_up, renewed};
+ghost use Rattle.mq_end.specs.Opening.{accepts_connect, connack_in, terms_get, terms_in, terms_of};
+ghost use Rattle.mq_end.specs.Receiving.{Makes, Stays};
+
+use crate::happening::Happening;
+use crate::link::Link;
+use crate::reason::CloseReason;
+use crate::told::Told;
+use mq_packet::{ConnAck, Connect, Packet, RefusalCode};
+use std::alloc::AllocError;
+
+/// What of a CONNECT says how the server answers it.
+#[derive(Clone, Copy)]
+struct Terms {
+    clean: bool,
+    keep_alive: u16,
+    // the client has no identifier of its own (3.1.3.1)
+    anonymous: bool,
+}
+
+// The answer that a packet is, if it is CONNACK (3.2).
+fn connack_in(packet: Packet) -> Option<ConnAck>
+    ensures { result ≡ connack_in packet }
+{
+    match packet {
+        Packet::ConnAck(answer) => Some(answer),
+        _ => None,
+    }
+}
+
+// The terms of a packet, if it is CONNECT (3.1).
+fn terms_in(packet: Packet) -> Option<Terms>
+    ensures { result ≡ terms_in packet }
+{
+    match packet {
+        Packet::Connect(connect) => Some(terms_of(&connect)),
+        _ => None,
+    }
+}
+
+fn terms_of(connect: &Connect) -> Terms
+    ensures { result ≡ terms_of connect.now }
+{
+    Terms {
+        clean: connect.clean_session,
+        keep_alive: connect.keep_alive,
+        anonymous: connect.client_id.as_str().is_empty(),
+    }
+}
+
+impl Link {
+    /// The client is up (4.4).
+    fn come_up(&mut self, session_present: bool, told: &mut Told) -> Result<(), AllocError>
+        ensures ok { OnOk result (Makes (comes_up [] session_present self.old.end) self.old self.new told.old told.new) }
+        ensures err { OnErr result (Stays self.old self.new told.old told.new) }
+    {
+        told.happenings.reserve(1)?;
+        let mut packets = Vec::new(self.alloc);
+        self.session.sender.resent(&mut packets)?;
+        self.write_all(&packets)?;
+        told.happenings
+            .push_reserved(Happening::Up { session_present });
+        self.rise();
+        Ok(())
+    }
+
+    /// CONNACK comes to a client that waits for it (3.2).
+    fn take_connack(
+        &mut self,
+        answer: ConnAck,
+        told: &mut Told,
+    ) -> Result<Option<CloseReason>, AllocError>
+        ensures closed { IfOk result (λ closed. closed ≡ (connack_gets answer self.old.end).close) }
+        ensures ok { OnOk result (Makes (connack_gets answer self.old.end) self.old self.new told.old told.new) }
+        ensures err { OnErr result (Stays self.old self.new told.old told.new) }
+    {
+        let session_present = match answer {
+            ConnAck::Refused(code) => return Ok(Some(self.close(CloseReason::Refused(code)))),
+            ConnAck::Accepted { session_present } => session_present,
+        };
+        if self.clean && session_present {
+            return Ok(Some(self.close(CloseReason::Unexpected)));
+        }
+        if !self.clean && self.known && !session_present {
+            return Ok(Some(self.close(CloseReason::SessionLost)));
+        }
+        self.come_up(session_present, told)?;
+        Ok(None)
+    }
+
+    /// The first packet comes to the client (3.2).
+    pub(crate) fn open_client(
+        &mut self,
+        packet: Packet,
+        told: &mut Told,
+    ) -> Result<Option<CloseReason>, AllocError>
+        ensures closed { IfOk result (λ closed. closed ≡ (client_open_gets packet self.old.end).close) }
+        ensures ok { OnOk result (Makes (client_open_gets packet self.old.end) self.old self.new told.old told.new) }
+        ensures err { OnErr result (Stays self.old self.new told.old told.new) }
+    {
+        match connack_in(packet) {
+            Some(answer) => self.take_connack(answer, told),
+            None => Ok(Some(self.close(CloseReason::Unexpected))),
+        }
+    }
+
+    /// CONNECT is refused: CONNACK says why, and the end closes (3.2.2.3).
+    pub(crate) fn refuse(
+        &mut self,
+        code: RefusalCode,
+        told: &mut Told,
+    ) -> Result<Option<CloseReason>, AllocError>
+        ensures closed { IfOk result (λ closed. closed ≡ (refuses code self.old.end).close) }
+        ensures ok { OnOk result (Makes (refuses code self.old.end) self.old self.new told.old told.new) }
+        ensures err { OnErr result (Stays self.old self.new told.old told.new) }
+    {
+        self.write(&Packet::ConnAck(ConnAck::Refused(code)))?;
+        Ok(Some(self.close(CloseReason::Refused(code))))
+    }
+
+    /// What a server that accepts CONNECT puts out: CONNACK, and what is sent again (3.2, 4.4).
+    fn answers_to(&self, clean: bool, session_present: bool) -> Result<Vec<Packet>, AllocError>
+        ensures { IfOk result (λ ps. ps.items ≡ packets.ConnAck (connacks.Accepted session_present)
+            ∷ resent (renewed clean self.now.end).book) }
+    {
+        let mut packets = Vec::new(self.alloc);
+        packets.push(Packet::ConnAck(ConnAck::Accepted { session_present }))?;
+        if !clean {
+            self.session.sender.resent(&mut packets)?;
+        }
+        Ok(packets)
+    }
+
+    /// CONNECT is accepted (3.1.4).
+    fn accept_connect(
+        &mut self,
+        terms: Terms,
+        session_present: bool,
+        told: &mut Told,
+    ) -> Result<(), AllocError>
+        ensures ok { OnOk result (Makes (accepts_connect terms session_present self.old.end) self.old self.new told.old told.new) }
+        ensures err { OnErr result (Stays self.old self.new told.old told.new) }
+    {
+        told.happenings.reserve(1)?;
+        let packets = self.answers_to(terms.clean, session_present)?;
+        self.write_all(&packets)?;
+        told.happenings
+            .push_reserved(Happening::Up { session_present });
+        self.renew(terms.clean);
+        self.keep_alive = terms.keep_alive;
+        self.rise();
+        Ok(())
+    }
+
+    /// CONNECT comes to a server that waits for it (3.1.4).
+    fn take_connect(
+        &mut self,
+        terms: Terms,
+        told: &mut Told,
+    ) -> Result<Option<CloseReason>, AllocError>
+        ensures closed { IfOk result (λ closed. closed ≡ (terms_get terms self.old.end).close) }
+        ensures ok { OnOk result (Makes (terms_get terms self.old.end) self.old self.new told.old told.new) }
+        ensures err { OnErr result (Stays self.old self.new told.old told.new) }
+    {
+        if !terms.clean && terms.anonymous {
+            return self.refuse(RefusalCode::IdentifierRejected, told);
+        }
+        let session_present = !terms.clean && self.known;
+        self.accept_connect(terms, session_present, told)?;
+        Ok(None)
+    }
+
+    /// The first packet comes to the server (3.1).
+    pub(crate) fn open_server(
+        &mut self,
+        packet: Packet,
+        told: &mut Told,
+    ) -> Result<Option<CloseReason>, AllocError>
+        ensures closed { IfOk result (λ closed. closed ≡ (server_open_gets packet self.old.end).close) }
+        ensures ok { OnOk result (Makes (server_open_gets packet self.old.end) self.old self.new told.old told.new) }
+        ensures err { OnErr result (Stays self.old self.new told.old told.new) }
+    {
+        match terms_in(packet) {
+            Some(terms) => self.take_connect(terms, told),
+            None => Ok(Some(self.close(CloseReason::Unexpected))),
+        }
+    }
+}

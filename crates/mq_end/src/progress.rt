@@ -1,0 +1,34 @@
+//! What comes of bytes that an end receives.
+
+ghost use Rattle.std.specs.Prelude.{◌≡◌};
+
+use crate::happening::Happening;
+use crate::items::Items;
+use crate::reason::CloseReason;
+use mq_packet::PacketId;
+use std::alloc::AllocError;
+
+/// What comes of bytes that an end receives.
+#[derive(Debug, Drop)]
+pub struct Progress {
+    /// What the packets tell, in their order.
+    pub happenings: Items<Happening>,
+    /// The identifiers of the messages of quality of service 1 that were acknowledged and are free (4.3.2), in
+    /// their order.
+    pub acknowledged: Items<PacketId>,
+    /// Why the end closed, where it did.
+    pub closed: Option<CloseReason>,
+}
+
+impl Clone for Progress {
+    ghost is_clone = { λ progress copy. copy ≡ progress };
+
+    /// The same progress; the bytes of its texts and payloads are shared, none is copied.
+    fn clone(&self) -> Result<Progress, AllocError> {
+        Ok(Progress {
+            happenings: self.happenings.clone()?,
+            acknowledged: self.acknowledged.clone()?,
+            closed: self.closed,
+        })
+    }
+}

@@ -1,0 +1,112 @@
+//! Bytes that wait to be written.
+
+ghost use Rattle.std.specs.Prelude.{◌≡◌, ℕ, ◌≤◌, ◌==◌, List, [], ◌++◌, length, drop, take, OnOk, OnErr};
+ghost use Rattle.mq_packet.specs.Spelling.{Spells};
+
+use mq_packet::{Packet, encode_into};
+use std::alloc::{AllocError, Global};
+use std::marker::Model;
+
+/// Bytes that wait, the oldest first: they are appended at the end and taken from the front, at a cost that
+/// grows with the bytes and not with what waits. Contracts see them as a list.
+#[derive(Debug, Drop)]
+pub struct ByteQueue {
+    bytes: Vec<u8>,
+    // so many of them are gone
+    gone: usize,
+}
+
+impl Model for ByteQueue {
+    ghost use Rattle.std.specs.Prelude.{ℕ, List, ◌≤◌, drop, length};
+
+    ghost Value = { List ℕ };
+
+    ghost view = { λ q. drop q.gone q.bytes.items };
+
+    ghost invariant = { λ q. q.gone ≤ length q.bytes.items };
+}
+
+impl ByteQueue {
+    /// No bytes. It takes no memory.
+    pub fn new(alloc: Global) -> ByteQueue
+        ensures { result ≡ [] }
+    {
+        ByteQueue {
+            bytes: Vec::new(alloc),
+            gone: 0,
+        }
+    }
+
+    /// The bytes, the oldest first.
+    pub fn as_slice(&self) -> &[u8]
+        ensures { result.now ≡ self.now }
+    {
+        let (_, rest) = self.bytes.split_at(self.gone);
+        rest
+    }
+
+    /// How many bytes wait.
+    pub fn len(&self) -> usize
+        ensures { result ≡ length self.now }
+    {
+        self.bytes.len() - self.gone
+    }
+
+    /// Whether none waits.
+    pub fn is_empty(&self) -> bool
+        ensures { result ≡ (length self.now == 0) }
+    {
+        self.len() == 0
+    }
+
+    /// Appends bytes. Errs where memory runs out, and then nothing changes.
+    pub fn append(&mut self, bytes: &[u8]) -> Result<(), AllocError>
+        ensures ok { OnOk result (self.new ≡ self.old ++ bytes.now) }
+        ensures err { OnErr result (self.new ≡ self.old) }
+    {
+        self.bytes.extend_from_slice(bytes)
+    }
+
+    /// Appends the bytes of a packet (chapter 3). Errs where memory runs out or the packet is too large, and then
+    /// nothing changes.
+    pub fn append_packet(&mut self, packet: &Packet) -> Result<(), AllocError>
+        ensures ok { OnOk result
+            ((b : List ℕ) × Spells packet.now b × (self.new ≡ self.old ++ b)) }
+        ensures err { OnErr result (self.new ≡ self.old) }
+    {
+        match encode_into(packet, &mut self.bytes) {
+            Ok(()) => Ok(()),
+            Err(_) => Err(AllocError),
+        }
+    }
+
+    /// Takes bytes from the front. It takes no memory.
+    pub fn take(&mut self, count: usize)
+        requires { count ≤ length self.old }
+        ensures { self.new ≡ drop count self.old }
+    {
+        self.gone += count;
+        let left = self.bytes.len() - self.gone;
+        if left <= self.gone {
+            self.bytes.rotate_left(self.gone);
+            self.bytes.truncate(left);
+            self.gone = 0;
+        }
+    }
+
+    /// Keeps the first bytes alone. It takes no memory.
+    pub fn truncate(&mut self, count: usize)
+        requires { count ≤ length self.old }
+        ensures { self.new ≡ take count self.old }
+    {
+        self.bytes.truncate(self.gone + count);
+    }
+
+    /// Takes all bytes. It takes no memory.
+    pub fn clear(&mut self)
+        ensures { self.new ≡ [] }
+    {
+        self.bytes.clear();
+        self.gone = 0;
+    }
+}

@@ -1,0 +1,94 @@
+//! Bytes that come to an end (4.2, 4.8).
+
+ghost use Rattle.std.specs.Prelude.{◌≡◌, ◌++◌, [], true, false, IfErr, OnOk, None, Some};
+ghost use Rattle.mq_decode.specs.Grammar.{Goes, Stops};
+ghost use Rattle.mq_end.specs.End.{Reply, is_live};
+ghost use Rattle.mq_end.specs.Receiving.{Hears, IsBreak, Makes, ReceivesAs, is_answered};
+
+use crate::link::Link;
+use crate::progress::Progress;
+use crate::reason::CloseReason;
+use crate::role::Role;
+use crate::state::State;
+use crate::told::Told;
+use mq_decode::{DecodeError, DecodeFault, FaultKind, reads_again};
+use mq_packet::{Packet, RefusalCode};
+
+impl Link {
+    /// Takes the whole packets out of what is held and a piece. After an error nothing is held.
+    fn decode(&mut self, piece: &[u8], out: &mut Vec<Packet>) -> Result<(), DecodeError>
+        ensures ok { OnOk result (Goes self.old.limit (self.old.held ++ piece.now) out.old.items out.new.items self.new.held) }
+        ensures err { IfErr result (Stops self.old.limit (self.old.held ++ piece.now) out.old.items out.new.items) }
+        ensures state { self.new ≡ record self.old { held = self.new.held } }
+    {
+        match self.decoder.feed(piece, out) {
+            Ok(()) => Ok(()),
+            Err(error) => {
+                self.decoder.reset();
+                Err(error)
+            }
+        }
+    }
+
+    /// Whether bytes that are no packet are answered: a CONNECT of another level, where one is waited for (3.1.2.2).
+    fn is_answered(&self, role: Role, fault: DecodeFault) -> bool
+        ensures { result ≡ is_answered role fault self.now.end }
+    {
+        match role {
+            Role::Client => false,
+            Role::Server => {
+                self.state != State::Up && matches!(fault.kind, FaultKind::ProtocolLevel)
+            }
+        }
+    }
+
+    /// Bytes that are no packet came (4.8).
+    fn break_off(&mut self, role: Role, fault: DecodeFault, told: &mut Told) -> CloseReason
+        ensures { (r : Reply) × IsBreak role fault self.old.end r × (Some result ≡ r.close)
+            × Makes r self.old self.new told.old told.new }
+    {
+        if !self.is_answered(role, fault) {
+            return self.close(CloseReason::Fault(fault));
+        }
+        match self.refuse(RefusalCode::UnacceptableProtocolVersion, told) {
+            Ok(_) => CloseReason::Refused(RefusalCode::UnacceptableProtocolVersion),
+            Err(_) => self.close(CloseReason::Memory),
+        }
+    }
+
+    /// Bytes come to an end with a connection.
+    fn take_bytes(&mut self, role: Role, piece: &[u8], told: &mut Told) -> Option<CloseReason>
+        ensures { Hears role piece.now self.old self.new told.old told.new result }
+    {
+        reads_again();
+        let mut packets = Vec::new(self.alloc);
+        let decoded = self.decode(piece, &mut packets);
+        match self.take_all(role, packets, told) {
+            Some(reason) => Some(reason),
+            None => match decoded {
+                Ok(()) => None,
+                Err(DecodeError::Memory) => Some(self.close(CloseReason::Memory)),
+                Err(DecodeError::Fault(fault)) => Some(self.break_off(role, fault, told)),
+            },
+        }
+    }
+
+    /// Bytes come to the end. Without a connection they are ignored.
+    pub(crate) fn receive(&mut self, role: Role, piece: &[u8]) -> Progress
+        ensures open { is_live self.old.end.state ≡ true → ReceivesAs role piece.now self.old self.new
+            result.happenings result.acknowledged result.closed }
+        ensures closed { is_live self.old.end.state ≡ false → self.new ≡ self.old }
+        ensures nothing { is_live self.old.end.state ≡ false
+            → (result.happenings ≡ []) × (result.acknowledged ≡ []) × (result.closed ≡ None) }
+        ensures limit { self.new.limit ≡ self.old.limit }
+        ensures capacity { self.new.capacity ≡ self.old.capacity }
+        ensures moment { self.new.moment ≡ self.old.moment }
+    {
+        let mut told = Told::new(self.alloc);
+        if self.state == State::Closed {
+            return told.into_progress(None);
+        }
+        let closed = self.take_bytes(role, piece, &mut told);
+        told.into_progress(closed)
+    }
+}

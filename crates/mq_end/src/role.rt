@@ -1,0 +1,10 @@
+//! Which end it is.
+
+/// Which end of a connection it is.
+#[derive(Clone, Copy, Debug, PartialEq, Eq)]
+pub(crate) enum Role {
+    /// The client.
+    Client,
+    /// The server.
+    Server,
+}

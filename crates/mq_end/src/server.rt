@@ -1,0 +1,155 @@
+//! The server end.
+
+ghost use Rattle.std.specs.Prelude.{◌≡◌, ◌<◌, ◌≤◌, ◌↔◌, ℕ, [], true, false, length, drop, IfOk, IfErr, IfSome, IfNone, IsSome, OnErr, Err, None, Some};
+ghost use Rattle.mq_end.specs.End.{blank_end, is_live, over};
+ghost use Rattle.mq_end.specs.Server.{opens, server_publish_refusal};
+ghost use Rattle.mq_end.specs.Receiving.{ServerReceives};
+ghost use Rattle.mq_end.specs.Publishing.{Accepts};
+
+use crate::config::ServerConfig;
+use crate::link::Link;
+use crate::progress::Progress;
+use crate::queue::ByteQueue;
+use crate::refusal::PublishRefusal;
+use crate::role::Role;
+use crate::state::State;
+use mq_flow::Session;
+use mq_packet::{Message, PacketId};
+use std::alloc::Global;
+use std::marker::Model;
+
+/// The server end of one client's connections, one after another, with the client's session (3.1.2.4). Bytes go in, and
+/// happenings and bytes come out; it knows no socket and no clock. Moments are milliseconds.
+#[derive(Debug, Drop)]
+pub struct ServerEnd {
+    link: Link,
+}
+
+impl Model for ServerEnd {
+    ghost use Rattle.std.specs.Coded.{codes, coded_ℕ};
+    ghost use Rattle.std.specs.FinSet as set;
+    ghost use Rattle.std.specs.Ordering.{nat_cmp};
+    ghost use Rattle.mq_end.specs.State.{EndState};
+
+    ghost Value = { EndState };
+
+    ghost coded = { Prim.hlevel (codes, set.code {R = nat_cmp} coded_ℕ) };
+
+    ghost view = { λ s. s.link };
+}
+
+impl ServerEnd {
+    /// A server end without a session and without a connection. It takes no memory.
+    pub fn new(alloc: Global, config: ServerConfig) -> ServerEnd
+        requires { 0 < config.capacity }
+        ensures end { result.end ≡ blank_end }
+        ensures capacity { result.capacity ≡ config.capacity }
+        ensures limit { result.limit ≡ config.limits }
+        ensures output { result.output ≡ [] }
+        ensures held { result.held ≡ [] }
+    {
+        ServerEnd {
+            link: Link::new(alloc, config.limits, config.capacity),
+        }
+    }
+
+    /// A connection is opened, at this moment; its CONNECT is waited for (3.1). One that is open is dropped first, and
+    /// what waits to be written of an earlier one is gone. It takes no memory.
+    pub fn opened(&mut self, now: u64)
+        ensures end { self.new.end ≡ (opens self.old.end).end }
+        ensures output { self.new.output ≡ [] }
+        ensures held { self.new.held ≡ [] }
+        ensures limit { self.new.limit ≡ self.old.limit }
+        ensures capacity { self.new.capacity ≡ self.old.capacity }
+        ensures moment { self.new.moment ≡ now }
+    {
+        self.link.drop_connection();
+        self.link.state = State::Open;
+        self.link.moment = now;
+    }
+
+    /// Bytes come from the client, at this moment. Without a connection they are ignored. The whole packets among them
+    /// come one after another, up to one at which the end closes; where memory runs out it closes.
+    pub fn receive(&mut self, _now: u64, piece: &[u8]) -> Progress
+        ensures open { is_live self.old.end.state ≡ true → ServerReceives piece.now self.old self.new
+            result.happenings result.acknowledged result.closed }
+        ensures closed { is_live self.old.end.state ≡ false → self.new ≡ self.old }
+        ensures nothing { is_live self.old.end.state ≡ false
+            → (result.happenings ≡ []) × (result.acknowledged ≡ []) × (result.closed ≡ None) }
+        ensures limit { self.new.limit ≡ self.old.limit }
+        ensures capacity { self.new.capacity ≡ self.old.capacity }
+    {
+        self.link.receive(Role::Server, piece)
+    }
+
+    /// Publishes a message to the client, and answers its packet identifier, where it has one (2.3.1). While the end is
+    /// not up, one of quality of service 1 or 2 is kept, and goes out when the end comes up. Errs with the first refusal
+    /// that stands, and then nothing changes.
+    pub fn publish(&mut self, message: Message) -> Result<Option<PacketId>, PublishRefusal>
+        ensures refused { IfSome (server_publish_refusal self.old.limit self.old.capacity message self.old.end)
+            (λ why. result ≡ Err why) }
+        ensures memory { IfNone (server_publish_refusal self.old.limit self.old.capacity message self.old.end)
+            (IfErr result (λ why. why ≡ PublishRefusal.Memory)) }
+        ensures ok { IfOk result (λ answer. Accepts answer message self.old self.new) }
+        ensures err { OnErr result (self.new ≡ self.old) }
+    {
+        if !self.link.known {
+            return Err(PublishRefusal::NoSession);
+        }
+        self.link.publish(message)
+    }
+
+    /// The connection is lost (4.2): what waits to be written is gone. It takes no memory.
+    pub fn dropped(&mut self)
+        ensures end { self.new.end ≡ over self.old.end }
+        ensures output { self.new.output ≡ [] }
+        ensures held { self.new.held ≡ [] }
+        ensures limit { self.new.limit ≡ self.old.limit }
+        ensures capacity { self.new.capacity ≡ self.old.capacity }
+        ensures moment { self.new.moment ≡ self.old.moment }
+    {
+        self.link.drop_connection();
+    }
+
+    /// The bytes that wait to be written.
+    pub fn output(&self) -> &[u8]
+        ensures { result.now ≡ self.now.output }
+    {
+        self.link.output.as_slice()
+    }
+
+    /// So many bytes were written. It takes no memory.
+    pub fn take_output(&mut self, count: usize)
+        requires { count ≤ length self.old.output }
+        ensures { self.new ≡ record self.old { output = drop count self.old.output } }
+    {
+        self.link.output.take(count);
+    }
+
+    /// All bytes that wait to be written, which it gives away. It takes no memory.
+    pub fn take_all_output(&mut self) -> ByteQueue
+        ensures bytes { result ≡ self.old.output }
+        ensures left { self.new ≡ record self.old { output = [] } }
+    {
+        self.link.take_all_output()
+    }
+
+    /// How far the connection is.
+    pub fn state(&self) -> State
+        ensures { result ≡ self.now.end.state }
+    {
+        self.link.state
+    }
+
+    /// The client's session, `None` where there is none (3.1.2.4).
+    pub fn session(&self) -> Option<&Session>
+        ensures there { IsSome result ↔ (self.now.end.known ≡ true) }
+        ensures book { IfSome result (λ session. session.now.sender.book ≡ self.now.end.book) }
+        ensures received { IfSome result (λ session. session.now.receiver ≡ self.now.end.received) }
+    {
+        if !self.link.known {
+            return None;
+        }
+        Some(&self.link.session)
+    }
+}
