@@ -20,4 +20,5 @@ pub mod Wires
 pub mod Standing
 pub mod Moving
 pub mod Delivering
+pub mod Exchanging
 pub mod Events

@@ -11,3 +11,4 @@ pub mod Sessions
 pub mod Carried
 pub mod Carries
 pub mod OverBytes
+pub mod SettlesOver

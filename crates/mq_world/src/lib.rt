@@ -8,6 +8,6 @@ mod side;
 
 pub use crate::laws::{
     arrivals_at_once, carried, examples, headline, identifiers, over_bytes, runs, sessions,
-    settling,
+    settles_over_bytes, settling,
 };
 pub use crate::side::Side;
