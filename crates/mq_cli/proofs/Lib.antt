@@ -3,4 +3,3 @@ pub mod Matches
 pub mod Pieces
 pub mod Printing
 pub mod Streams
-pub mod TopicStatuses

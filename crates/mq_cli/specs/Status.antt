@@ -1,5 +1,8 @@
 -- What the statuses of the program mean, and what it prints with each.
-use Rattle.std.specs.Prelude.{◌≡◌, ◌⊎◌, ℕ, List, Option, IfSome}
+use Rattle.std.specs.Prelude.{◌≡◌, ◌⊎◌, ℕ, Bool, true, false, List, Option, Some, None, IfSome, codes}
+use Rattle.mq_topic.specs.Fault.{filter_fault, name_fault}
+use Rattle.mq_topic.specs.Matching.{is_match}
+use Rattle.mq_topic.specs.declared.fault.TopicFault.{TopicFault}
 use Rattle.mq_cli.specs.declared.jobs.Job.{Job}
 use Rattle.mq_cli.specs.declared.jobs.Job.TheVariants as jobs
 use Rattle.mq_cli.specs.declared.stream.StreamEnd.{StreamEnd}
@@ -10,7 +13,7 @@ use Rattle.mq_cli.specs.declared.count.CountEnd.{CountEnd}
 use Rattle.mq_cli.specs.declared.count.CountEnd.TheVariants as ends
 use Rattle.mq_cli.specs.Count.{Counts}
 use Rattle.mq_cli.specs.Hexadecimal.{IsHexadecimal}
-use Rattle.mq_cli.specs.Printed.{bad_hex, count_lines, file_not_read, no_memory, shown_lines}
+use Rattle.mq_cli.specs.Printed.{bad_hex, count_lines, file_not_read, match_line, no_memory, shown_lines, topic_line}
 use Rattle.mq_cli.specs.Show.{Shows}
 
 -- 0 where all bytes are packets
@@ -37,7 +40,24 @@ abbrev pub IsCheckDone : Option (List ℕ) → ℕ → List ℕ → Type 0
 IsCheckDone left status text =
     ((count : PacketCount) × IfSome left (Counts 268435455 count) × (status ≡ count_status count.end) × (text ≡ count_lines count)) ⊎ ((status ≡ 2) × (text ≡ file_not_read)) ⊎ ((status ≡ 3) × (text ≡ no_memory))
 
+-- 0 where the filter matches
+abbrev pub match_status : Bool → ℕ
+match_status true = 0
+match_status false = 1
+
+-- the status and the line of `match`: those of the filter's fault, or else of the name's, or else of whether the one matches the other
+abbrev pub match_outcome : Option TopicFault → Option TopicFault → Bool → ℕ × List ℕ
+match_outcome (Some fault) name matches = (2, topic_line (codes "filter") fault)
+match_outcome None (Some fault) matches = (2, topic_line (codes "name") fault)
+match_outcome None None matches = (match_status matches, match_line matches)
+
+-- those, or 3 for want of memory
+abbrev pub IsMatchDone : List ℕ → List ℕ → ℕ → List ℕ → Type 0
+IsMatchDone filter name status text =
+    ((status, text) ≡ match_outcome (filter_fault filter) (name_fault name) (is_match filter name)) ⊎ ((status ≡ 3) × (text ≡ no_memory))
+
 -- the status that a job ends with and the lines that it prints, over a file with these bytes
 abbrev pub IsDone : Job → Option (List ℕ) → ℕ → List ℕ → Type 0
 IsDone (jobs.Show hex) left status text = IsShowDone hex.now status text
 IsDone (jobs.Check file) left status text = IsCheckDone left status text
+IsDone (jobs.Match filter name) left status text = IsMatchDone filter.now name.now status text

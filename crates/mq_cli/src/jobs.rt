@@ -12,7 +12,8 @@ pub enum Job<'a> {
     Check {
         /// The file's name.
         file: &'a str,
-    }, /// To match a topic filter against a topic name.
+    },
+    /// To match a topic filter against a topic name.
     Match {
         /// The filter.
         filter: &'a str,

@@ -2,8 +2,9 @@
 
 ghost use Rattle.std.specs.Prelude.{◌≡◌, IfOk, OnOk};
 ghost use Rattle.std.specs.Io.KnownBytes.{Appends};
-ghost use Rattle.mq_cli.specs.Printed.{Prints, bad_hex, count_end_lines, count_lines, end_lines, fault_line, file_not_read, no_memory, packets_line, shown_lines};
-ghost use Rattle.mq_cli.specs.Status.{IsCheckDone, IsDone, IsShowDone, count_status, end_status};
+ghost use Rattle.mq_topic.specs.Matching.{is_match};
+ghost use Rattle.mq_cli.specs.Printed.{Prints, bad_hex, count_end_lines, count_lines, end_lines, fault_line, file_not_read, match_line, no_memory, packets_line, shown_lines, topic_code, topic_line};
+ghost use Rattle.mq_cli.specs.Status.{IsCheckDone, IsDone, IsMatchDone, IsShowDone, count_status, end_status, match_status};
 
 use crate::count::{CountEnd, CountFault, PacketCount, count_packets};
 use crate::jobs::Job;
@@ -11,15 +12,16 @@ use crate::line::Line;
 use crate::show::{ShowFault, shown};
 use crate::stream::{Shown, StreamEnd};
 use mq_decode::{DecodeFault, Limits};
+use mq_topic::{TopicFault, TopicFilter, TopicName, matches};
 use std::alloc::Global;
 use std::io;
 use std::io::{Read, Write};
 
 /// Nothing is wrong.
 const DONE: u8 = 0;
-/// A fault was found, or less than a whole packet.
+/// A fault was found, or less than a whole packet, or the answer is no.
 const FAULT: u8 = 1;
-/// The digits or the file can't be read.
+/// The digits or the file can't be read, or a text is no filter or no name.
 const BAD_INPUT: u8 = 2;
 /// Memory ran out.
 const NO_MEMORY: u8 = 3;
@@ -151,6 +153,65 @@ fn check<R: Read, W: Write>(alloc: Global, input: &mut R, output: &mut W) -> io:
     }
 }
 
+// The code of what is wrong with a filter or a name.
+fn topic_code(fault: TopicFault) -> &'static str
+    ensures { result.now ≡ topic_code fault }
+{
+    match fault {
+        TopicFault::Empty => "N1",
+        TopicFault::Nul => "N2",
+        TopicFault::TooLong => "N3",
+        TopicFault::Wildcard => "N4",
+        TopicFault::Plus => "N5",
+        TopicFault::Hash => "N6",
+        TopicFault::Memory => "N7",
+    }
+}
+
+// Writes that a text is not of this kind: no filter, or no name.
+fn write_topic_fault<W: Write>(output: &mut W, kind: &str, fault: TopicFault) -> io::Result<u8>
+    ensures status { IfOk result (λ status. status ≡ BAD_INPUT) }
+    ensures printed { OnOk result
+        (Appends (W.contents output.old) (W.contents output.new) (topic_line kind.now fault)) }
+{
+    let code = topic_code(fault);
+    writeln!(output, "{kind} {code}")?;
+    Ok(BAD_INPUT)
+}
+
+// Writes whether a filter matches a name.
+fn write_match<W: Write>(output: &mut W, filter: &TopicFilter, name: &TopicName) -> io::Result<u8>
+    ensures status { IfOk result
+        (λ status. status ≡ match_status (is_match filter.now name.now)) }
+    ensures printed { OnOk result
+        (Appends (W.contents output.old) (W.contents output.new)
+            (match_line (is_match filter.now name.now))) }
+{
+    if matches(filter, name) {
+        writeln!(output, "yes")?;
+        return Ok(DONE);
+    }
+    writeln!(output, "no")?;
+    Ok(FAULT)
+}
+
+fn match_texts<W: Write>(alloc: Global, filter: &str, name: &str, output: &mut W) -> io::Result<u8>
+    ensures { IfOk result (λ status. Prints (W.contents output.old) (W.contents output.new)
+        (IsMatchDone filter.now name.now status)) }
+{
+    let filter = match TopicFilter::parse(alloc, filter) {
+        Ok(filter) => filter,
+        Err(TopicFault::Memory) => return out_of_memory(output),
+        Err(fault) => return write_topic_fault(output, "filter", fault),
+    };
+    let name = match TopicName::parse(alloc, name) {
+        Ok(name) => name,
+        Err(TopicFault::Memory) => return out_of_memory(output),
+        Err(fault) => return write_topic_fault(output, "name", fault),
+    };
+    write_match(output, &filter, &name)
+}
+
 /// Does a job: writes what it prints, line by line, and answers the status that the program ends with.
 /// `input` is the file of the job, where it has one. An error is that of a write that failed. The writer
 /// is not flushed.
@@ -166,5 +227,6 @@ pub fn perform<R: Read, W: Write>(
     match job {
         Job::Show { hex } => show(alloc, hex, output),
         Job::Check { .. } => check(alloc, input, output),
+        Job::Match { filter, name } => match_texts(alloc, filter, name, output),
     }
 }
