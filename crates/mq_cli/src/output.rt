@@ -185,7 +185,7 @@ fn write_match<W: Write>(output: &mut W, filter: &TopicFilter, name: &TopicName)
         (λ status. status ≡ match_status (is_match filter.now name.now)) }
     ensures printed { OnOk result
         (Appends (W.contents output.old) (W.contents output.new)
-            (match_line (is_match filter.now name.now))) }
+        (match_line (is_match filter.now name.now))) }
 {
     if matches(filter, name) {
         writeln!(output, "yes")?;
