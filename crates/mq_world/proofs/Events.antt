@@ -2,14 +2,13 @@
 use Rattle.mq_decode.specs.Laws.{ReadsAgain}
 use Rattle.mq_end.specs.Laws.{ClosingLaws}
 use Rattle.mq_world.specs.OverBytes.{OverBytes}
-use Rattle.mq_world.proofs.Standing.{blank, chain, alike, unheard, seen_headline}
+use Rattle.mq_world.proofs.Standing.{blank, alike, unheard, seen_headline}
 use Rattle.mq_world.proofs.Moving.{publish, drop, drop_both, opened, leave, ping}
 use Rattle.mq_world.proofs.Delivering.{deliver}
 
 pub law : ReadsAgain → ClosingLaws → OverBytes
 law reads laws = record {
   blank = blank;
-  chain = chain;
   alike = alike;
   unheard = unheard;
   deliver = deliver reads laws;

@@ -20,5 +20,6 @@ pub mod Wires
 pub mod Standing
 pub mod Moving
 pub mod Delivering
-pub mod Exchanging
 pub mod Events
+pub mod Worlds
+pub mod Accounts

@@ -91,9 +91,6 @@ all_put_out ps old new e p = subst (Spelled ps) (sym (p.2 ∙ ap (λ (b : List �
 
 -- ---- worlds
 
-pub chain : (limit capacity : ℕ) (w v : Wired) (m : Machine) (xs ys : List Move) → (f : Follows limit capacity m xs w) → Follows limit capacity f.machine ys v → Follows limit capacity m (xs ++ ys) v
-chain limit capacity w v m xs ys f g = record { machine = g.machine; run = chains.joins limit capacity m f.machine g.machine xs ys f.run g.run; stands = g.stands }
-
 pub blank : (limit capacity : ℕ) (c s : EndState) → 64 ≤ limit → c.end ≡ blank_end → c.limit ≡ limit → c.capacity ≡ capacity → s.end ≡ blank_end → s.limit ≡ limit → s.capacity ≡ capacity
     → Stands limit capacity (record { client = blank_side c; server = blank_side s }) blank_machine
 blank limit capacity c s large ce cl cc_ se sl sc = record {

@@ -11,4 +11,6 @@ pub mod Sessions
 pub mod Carried
 pub mod Carries
 pub mod OverBytes
-pub mod SettlesOver
+pub mod Listed
+pub mod Pairs
+pub mod World

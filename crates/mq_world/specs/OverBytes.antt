@@ -19,7 +19,6 @@ use Rattle.mq_world.specs.declared.side.Side.TheVariants.{Client, Server}
 use Rattle.mq_world.specs.Half.{HandedOn, Publishes, Drops, Leaves, Pings, blank_half, gets, refusal, told, freed_with, accepted_with}
 use Rattle.mq_world.specs.Machine.{Machine, Move, By, Opens, Run, blank_machine, first_packet}
 use Rattle.mq_world.specs.Headline.{Headline}
-use Rattle.mq_world.specs.Identifiers.{half_of}
 use Rattle.mq_world.specs.Carries.{WiredSide, Wired, Carries, Reached, Comes, AreArrivals, seen}
 
 -- ---- the world
@@ -110,13 +109,11 @@ ReceivesAt side piece old new happenings acknowledged closed = (r : Reply)
     × Receives old.limit (gets side) (faulted side) (old.held ++ piece) old.end r new.held
     × Shows r old new happenings acknowledged closed
 
--- Bytes came to a side: with them packets, the first of the queue toward it, and the machine made as many arrivals.
+-- Bytes came to a side: with them so many packets, and the machine made as many arrivals.
 pub record Delivers (limit capacity : ℕ) (side : Side) (m : Machine) (b : List ℕ) (closed : Option CloseReason) (w : Wired) : Type 0 where
   pub packets : List Packet
   pub moves : List Move
   pub comes : Comes limit b closed packets
-  pub later : List Packet
-  pub first : (half_of side m).coming ≡ packets ++ later
   pub arrivals : AreArrivals side (length packets) closed moves
   pub follows : Follows limit capacity m moves w
 
@@ -139,8 +136,6 @@ pub record OverBytes : Type 0 where
       → c.end ≡ blank_end → c.limit ≡ limit → c.capacity ≡ capacity
       → s.end ≡ blank_end → s.limit ≡ limit → s.capacity ≡ capacity
       → Stands limit capacity (record { client = blank_side c; server = blank_side s }) blank_machine
-  -- one event after another
-  pub chain : (limit capacity : ℕ) (w v : Wired) (m : Machine) (xs ys : List Move) → (f : Follows limit capacity m xs w) → Follows limit capacity f.machine ys v → Follows limit capacity m (xs ++ ys) v
   -- worlds whose sides are alike
   pub alike : (limit capacity : ℕ) (w v : Wired) (m : Machine) → Stands limit capacity w m
       → Alike w.client v.client → Alike w.server v.server → Stands limit capacity v m

@@ -1,13 +1,27 @@
-//! Two ends that are joined by two queues of packets, and what every run of them keeps.
+//! Two ends that are joined by two wires of bytes, under a list of events, and what every run of them keeps.
 //!
-//! The definitions are in `specs/`: the machine and its moves, the headline, settling.
+//! The definitions are in `specs/`: the machine of two ends and two queues of packets, its moves, the headline, settling, and
+//! the world over bytes that carries such a machine.
 #![tactic(auto)]
 
+mod account;
+mod answer;
+mod event;
 mod laws;
+mod pair;
 mod side;
+#[cfg(test)]
+mod tests;
+mod trace;
+mod world;
 
+pub use crate::account::Account;
+pub use crate::answer::{Answer, Delivery, Opening, Settling};
+pub use crate::event::Event;
 pub use crate::laws::{
     arrivals_at_once, carried, examples, headline, identifiers, over_bytes, runs, sessions,
-    settles_over_bytes, settling,
+    settling,
 };
 pub use crate::side::Side;
+pub use crate::trace::Trace;
+pub use crate::world::World;

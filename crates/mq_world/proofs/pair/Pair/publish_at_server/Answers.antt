@@ -1,0 +1,26 @@
+use Rattle.std.proofs.Common.{◌≡◌, ℕ, true, false, Option, None, Some, List, [], ◌∷◌, ◌++◌, refl, sym, ap, subst, ◌∙◌}
+use Rattle.mq_end.specs.End.{is_live}
+use Rattle.mq_end.specs.State.{EndState}
+use Rattle.mq_end.specs.Publishing.{ClientState}
+use Rattle.mq_world.specs.declared.side.Side.{Side}
+use Rattle.mq_world.specs.declared.side.Side.TheVariants.{Client, Server}
+use Rattle.mq_world.specs.Carries.{WiredSide, Wired}
+use Rattle.mq_world.specs.Pairs.{wired_of}
+use Rattle.mq_world.specs.Listed.{accepted_in, handed_in}
+use Rattle.mq_world.proofs.Worlds.{published_at}
+use Rattle.mq_world.proofs.pair.Pair.publish_at_server.Goals as goal
+
+pub returns-in_ok-carry-in-Ok-clause-does : goal.returns-in_ok-carry-in-Ok-clause-does
+returns-in_ok-carry-in-Ok-clause-does c = λ limit capacity m s.
+    let w : Wired = wired_of c.args.self.now in
+    let a = c.accept.new.self in
+    let v : Wired = record {
+      client = record w.client { wire = c.carry.new.wire };
+      server = record { state = c.take_all_output-output.new.self; wire = w.server.wire; accepted = accepted_in a; handed = handed_in a; freed = a.freed.items };
+    } in (
+      refl,
+      published_at c.over_bytes.ensures limit capacity Server w v m c.args.message.now c.in_ok-clone.field-0 c.in_ok-clone-in-Ok.field-0 c.in-Ok.id c.publish.new.self c.take_all_output-output.result s
+          c.in_ok-clone.ensures.cases c.in_ok-clone-in-Ok.ensures.cases c.in-Ok.ensures.refused c.in-Ok.ensures.ok
+          c.take_all_output-output.ensures.left refl c.in_ok-accept-in-Ok.ensures.accepted c.in_ok-accept-in-Ok.ensures.handed c.in_ok-accept-in-Ok.ensures.freed
+          c.take_all_output-output.ensures.bytes c.in_ok-carry-in-Ok.ensures.ok refl,
+    )

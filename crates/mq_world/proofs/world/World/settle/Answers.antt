@@ -1,0 +1,28 @@
+use Rattle.std.proofs.Common.{◌≡◌, ℕ, false, sym, ap, subst, ◌∙◌}
+use Rattle.mq_end.specs.Publishing.{connect_of}
+use Rattle.mq_end.specs.declared.config.ClientConfig.{ClientConfig}
+use Rattle.mq_world.specs.Pairs.{wired_of}
+use Rattle.mq_world.specs.World.{WorldState, IsSettled}
+use Rattle.mq_world.proofs.Worlds.{stands_settled}
+use Rattle.mq_world.proofs.world.World.settle.Goals as goal
+
+pub invariant_of-self-2 : goal.invariant_of-self-2
+invariant_of-self-2 c =
+    let f = c.self.inside in
+    let st = c.self.invariant.1 c.if-self.false in (
+      ap (λ (z : ClientConfig). connect_of z false) c.settle.ensures.config ∙ c.self.invariant.0,
+      λ _. stands_settled c.over_bytes.ensures f.limits f.capacity (wired_of f.pair) (wired_of c.settle.new.self) st.0 c.in_ok-settle.field-0 st.1 (c.in_ok-settle.ensures.settled f.limits f.capacity st.0 st.1),
+    )
+
+pub returns-clause-settles : goal.returns-clause-settles
+returns-clause-settles c =
+    let f = c.self.inside in
+    let st = c.self.invariant.1 c.if-self.false in
+    subst (λ (z : WorldState). IsSettled z.limit z.capacity c.in_ok-settle.field-0 z.wired (wired_of c.settle.new.self)) c.self.view_is (c.in_ok-settle.ensures.settled f.limits f.capacity st.0 st.1)
+
+pub returns-clause-headline : goal.returns-clause-headline
+returns-clause-headline c =
+    let f = c.self.inside in
+    let st = c.self.invariant.1 c.if-self.false in
+    let g = stands_settled c.over_bytes.ensures f.limits f.capacity (wired_of f.pair) (wired_of c.settle.new.self) st.0 c.in_ok-settle.field-0 st.1 (c.in_ok-settle.ensures.settled f.limits f.capacity st.0 st.1) in
+    c.over_bytes.ensures.headline f.limits f.capacity (wired_of c.settle.new.self) g.0 g.1

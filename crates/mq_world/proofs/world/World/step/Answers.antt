@@ -1,0 +1,21 @@
+use Rattle.std.proofs.Common.{◌≡◌, ℕ, false, sym, ap, subst, ◌∙◌}
+use Rattle.mq_end.specs.Publishing.{connect_of}
+use Rattle.mq_end.specs.declared.config.ClientConfig.{ClientConfig}
+use Rattle.mq_world.specs.Pairs.{wired_of}
+use Rattle.mq_world.proofs.Worlds.{stands_done}
+use Rattle.mq_world.proofs.world.World.step.Goals as goal
+
+pub invariant_of-self-2 : goal.invariant_of-self-2
+invariant_of-self-2 c =
+    let f = c.self.inside in
+    let st = c.self.invariant.1 c.if-self.false in (
+      ap (λ (z : ClientConfig). connect_of z false) c.make.ensures.config ∙ c.self.invariant.0,
+      λ _. stands_done c.over_bytes.ensures f.limits f.capacity c.args.event.now c.in_ok-answer.answer (wired_of f.pair) (wired_of c.make.new.self) st.0 st.1 (c.in_ok-answer.ensures.does f.limits f.capacity st.0 st.1),
+    )
+
+pub returns-clause-headline : goal.returns-clause-headline
+returns-clause-headline c =
+    let f = c.self.inside in
+    let st = c.self.invariant.1 c.if-self.false in
+    let g = stands_done c.over_bytes.ensures f.limits f.capacity c.args.event.now c.in_ok-answer.answer (wired_of f.pair) (wired_of c.make.new.self) st.0 st.1 (c.in_ok-answer.ensures.does f.limits f.capacity st.0 st.1) in
+    c.over_bytes.ensures.headline f.limits f.capacity (wired_of c.make.new.self) g.0 g.1

@@ -1,0 +1,27 @@
+-- What contracts see of the lists of a side.
+use Rattle.std.specs.Prelude.{ℕ, List, length}
+use Rattle.mq_topic.specs.declared.qos.Qos.{Qos}
+use Rattle.mq_topic.specs.declared.qos.Qos.TheVariants.{Q0, Q1, Q2}
+use Rattle.mq_packet.specs.declared.message.Message.{Message}
+use Rattle.mq_world.specs.declared.account.Account.{Account}
+use Rattle.mq_world.specs.Half.{Accepted, HandedOn}
+
+-- what a side accepted
+abbrev pub accepted_in : Account → Accepted
+accepted_in l = record { at_most_once = l.accepted_at_most_once.items; at_least_once = l.accepted_at_least_once.items; exactly_once = l.accepted_exactly_once.items }
+
+-- what it handed on
+abbrev pub handed_in : Account → HandedOn
+handed_in l = record { at_most_once = l.handed_at_most_once.items; at_least_once = l.handed_at_least_once.items; exactly_once = l.handed_exactly_once.items }
+
+-- how many messages of a quality of service were accepted
+abbrev pub accepted_count : Qos → Accepted → ℕ
+accepted_count Q0 a = length a.at_most_once
+accepted_count Q1 a = length a.at_least_once
+accepted_count Q2 a = length a.exactly_once
+
+-- how many messages of a quality of service were handed on
+abbrev pub handed_count : Qos → HandedOn → ℕ
+handed_count Q0 h = length h.at_most_once
+handed_count Q1 h = length h.at_least_once
+handed_count Q2 h = length h.exactly_once

@@ -1,0 +1,148 @@
+-- A world: two ends over bytes, what came of each event, and what it leads to.
+use Rattle.std.specs.Prelude.{ℕ, ◌≡◌, ◌↔◌, Bool, true, false, not, ◌&&◌, Option, None, Some, Ok, Err, List, [], ◌∷◌, ◌++◌, length, take, drop, nat_lt, IsTrue}
+use Rattle.mq_packet.specs.declared.message.Message.{Message}
+use Rattle.mq_end.specs.declared.refusal.PublishRefusal.{PublishRefusal}
+use Rattle.mq_end.specs.declared.refusal.PublishRefusal.TheVariants as refusals
+use Rattle.mq_end.specs.End.{End, is_live}
+use Rattle.mq_end.specs.State.{EndState}
+use Rattle.mq_end.specs.Both.{answered_identifier}
+use Rattle.mq_world.specs.declared.side.Side.{Side}
+use Rattle.mq_world.specs.declared.side.Side.TheVariants.{Client, Server}
+use Rattle.mq_world.specs.declared.event.Event.{Event}
+use Rattle.mq_world.specs.declared.event.Event.TheVariants as events
+use Rattle.mq_world.specs.declared.answer.Answer.{Answer}
+use Rattle.mq_world.specs.declared.answer.Answer.TheVariants as answers
+use Rattle.mq_world.specs.declared.answer.Delivery.{Delivery}
+use Rattle.mq_world.specs.declared.answer.Opening.{Opening}
+use Rattle.mq_world.specs.declared.answer.Settling.{Settling}
+use Rattle.mq_world.specs.Half.{Publishes, Drops, refusal, freed_with}
+use Rattle.mq_world.specs.Machine.{Machine, Move, By, Opens, blank_machine}
+use Rattle.mq_world.specs.Carries.{WiredSide, Wired}
+use Rattle.mq_world.specs.OverBytes.{Stands, Follows, Delivers, ReceivesAt, SameBounds, near, far, facing, with_more, hearing, handed_with, left_on}
+
+-- What contracts see of a world: its sides, the bound on the remaining length (2.2.3), the most packet identifiers in use at a side
+-- (2.3.1), whether memory ran out, and what came of the events so far, the oldest first.
+pub record WorldState : Type 0 where
+  pub wired : Wired
+  pub limit : ℕ
+  pub capacity : ℕ
+  pub failed : Bool
+  pub answers : List Answer
+
+-- a new world: no session, no connection, no byte on its way, nothing accepted or handed on
+pub record IsNew (limit capacity : ℕ) (w : Wired) : Type 0 where
+  pub stands : Stands limit capacity w blank_machine
+  pub to_client : w.client.wire ≡ []
+  pub to_server : w.server.wire ≡ []
+
+-- whatever machine a world carries, these moves of it lead to one that another world carries
+abbrev pub Moves : ℕ → ℕ → Wired → List Move → Wired → Type 0
+Moves limit capacity old moves new = (m : Machine) → Stands limit capacity old m → Follows limit capacity m moves new
+
+-- ---- what comes of an event
+
+-- A message is accepted, with this identifier where it has one (2.3.1, 4.3).
+pub record IsAccepted (limit capacity : ℕ) (side : Side) (m : Message) (answer : Option ℕ) (old new : Wired) : Type 0 where
+  pub id : ℕ
+  pub answered : answer ≡ answered_identifier m.qos id
+  pub moves : Moves limit capacity old (By side (Publishes id m) ∷ []) new
+
+-- the first reason that stands against a message, else that memory ran out
+abbrev pub reason_or_memory : Option PublishRefusal → PublishRefusal
+reason_or_memory None = refusals.Memory
+reason_or_memory (Some why) = why
+
+-- It is refused, and nothing changes.
+pub record IsRefused (limit capacity : ℕ) (side : Side) (m : Message) (why : PublishRefusal) (old new : Wired) : Type 0 where
+  pub reason : why ≡ reason_or_memory (refusal side limit capacity m (near side old).state.end)
+  pub same : new ≡ old
+
+-- The end of a side that has a connection receives the bytes: the world after it.
+pub record Hears (side : Side) (left : List ℕ) (d : Delivery) (old new : Wired) : Type 0 where
+  pub state : EndState
+  pub receives : ReceivesAt side d.bytes (near side old).state state d.progress.happenings d.progress.acknowledged d.progress.closed
+  pub bounds : SameBounds (near side old).state state
+  pub world : new ≡ facing side (hearing left state d.progress.happenings d.progress.acknowledged d.progress.closed (near side old)) (with_more state.output (far side old))
+
+-- The end of a side without a connection lets the bytes go.
+pub record Ignores (side : Side) (left : List ℕ) (d : Delivery) (old new : Wired) : Type 0 where
+  pub happenings : d.progress.happenings ≡ []
+  pub acknowledged : d.progress.acknowledged ≡ []
+  pub closed : d.progress.closed ≡ None
+  pub world : new ≡ facing side (record (near side old) { wire = left }) (far side old)
+
+-- So many bytes come to a side, or all that are on their way to it where they are fewer (4.2, 4.6).
+pub record IsDelivered (limit capacity : ℕ) (side : Side) (count : ℕ) (d : Delivery) (old new : Wired) : Type 0 where
+  pub to : d.side ≡ side
+  pub bytes : d.bytes ≡ take count (near side old).wire
+  -- they are no longer on their way, and an end that closes leaves nothing there
+  pub left : (near side new).wire ≡ left_on d.progress.closed (drop count (near side old).wire)
+  -- what the end tells is handed on, and what is acknowledged to it is free
+  pub handed : (near side new).handed ≡ handed_with d.progress.happenings (near side old).handed
+  pub freed : (near side new).freed ≡ freed_with (near side old).accepted.at_least_once d.progress.acknowledged (near side old).freed
+  pub lost : d.lost ≡ (not (is_live (near side old).state.end.state) && nat_lt 0 (length d.bytes))
+  -- with a connection, just the packets whose last byte is among them arrive
+  pub arrive : is_live (near side old).state.end.state ≡ true → (m : Machine) → Stands limit capacity old m
+      → Delivers limit capacity side m ((near side old).state.held ++ d.bytes) d.progress.closed new
+  pub hears : is_live (near side old).state.end.state ≡ true → Hears side (drop count (near side old).wire) d old new
+  pub ignores : is_live (near side old).state.end.state ≡ false → Ignores side (drop count (near side old).wire) d old new
+
+-- The connection of a side is lost, and the bytes on their way to it (4.2).
+pub record IsLost (limit capacity : ℕ) (side : Side) (was_open : Bool) (old new : Wired) : Type 0 where
+  pub said : was_open ≡ is_live (near side old).state.end.state
+  pub wire : (near side new).wire ≡ []
+  pub moves : Moves limit capacity old (By side Drops ∷ []) new
+
+-- A connection is opened (3.1), earlier ones are lost; where memory runs out for CONNECT, both ends are closed.
+pub record IsOpened (limit capacity : ℕ) (o : Opening) (old new : Wired) : Type 0 where
+  pub client_dropped : o.client_dropped ≡ is_live old.client.state.end.state
+  pub server_dropped : o.server_dropped ≡ is_live old.server.state.end.state
+  pub to_client : new.client.wire ≡ []
+  pub opens : o.refused ≡ false → Moves limit capacity old (Opens ∷ []) new
+  pub refused : o.refused ≡ true → (new.server.wire ≡ []) × Moves limit capacity old (By Client Drops ∷ By Server Drops ∷ []) new
+
+-- What comes of an event, by the event and its answer.
+abbrev pub Does : ℕ → ℕ → Event → Answer → Wired → Wired → Type 0
+Does limit capacity (events.Publish side m) (answers.Published at (Ok id)) old new = (at ≡ side) × IsAccepted limit capacity side m id old new
+Does limit capacity (events.Publish side m) (answers.Published at (Err why)) old new = (at ≡ side) × IsRefused limit capacity side m why old new
+Does limit capacity (events.Deliver side count) (answers.Delivered d) old new = IsDelivered limit capacity side count d old new
+Does limit capacity (events.Drop side) (answers.Dropped at was_open) old new = (at ≡ side) × IsLost limit capacity side was_open old new
+Does limit capacity events.Open (answers.Opened o) old new = IsOpened limit capacity o old new
+Does limit capacity event answer old new = ⊥
+
+-- Events come one after another, each with its answer.
+abbrev pub Leads : ℕ → ℕ → List Event → List Answer → Wired → Wired → Type 0
+Leads limit capacity [] [] old new = new ≡ old
+Leads limit capacity (e ∷ es) (a ∷ rest) old new = (mid : Wired) × Does limit capacity e a old mid × Leads limit capacity es rest mid new
+Leads limit capacity [] (a ∷ rest) old new = ⊥
+Leads limit capacity (e ∷ es) [] old new = ⊥
+
+-- ---- settling
+
+-- All bytes that are on their way to each of these sides come, one side after another.
+abbrev pub InTurn : ℕ → ℕ → List Side → List Delivery → Wired → Wired → Type 0
+InTurn limit capacity [] [] old new = new ≡ old
+InTurn limit capacity (side ∷ sides) (d ∷ rest) old new = (mid : Wired) × IsDelivered limit capacity side (length (near side old).wire) d old mid × InTurn limit capacity sides rest mid new
+InTurn limit capacity [] (d ∷ rest) old new = ⊥
+InTurn limit capacity (side ∷ sides) [] old new = ⊥
+
+-- an exchange: toward the server, then toward the client; and three of them
+abbrev pub exchanges : List Side
+exchanges = Server ∷ Client ∷ Server ∷ Client ∷ Server ∷ Client ∷ []
+
+-- nothing of an end's own waits for the other end: it holds no message, and no identifier is released (4.3)
+abbrev pub IsIdle : End → Type 0
+IsIdle e = (e.book.entries ≡ []) × (e.book.released ≡ [])
+
+-- A connection is opened, and three exchanges follow (4.4).
+pub record IsSettled (limit capacity : ℕ) (s : Settling) (old new : Wired) : Type 0 where
+  pub between : Wired
+  pub opened : IsOpened limit capacity s.opening old between
+  pub exchanged : InTurn limit capacity exchanges s.deliveries between new
+  -- a server without a session has nothing that waits
+  pub idle : IsTrue s.idle ↔ (IsIdle new.client.state.end × (new.server.state.end.known ≡ true → IsIdle new.server.state.end))
+
+-- what comes of settling, by its answer
+abbrev pub Settles : ℕ → ℕ → Answer → Wired → Wired → Type 0
+Settles limit capacity (answers.Settled s) old new = IsSettled limit capacity s old new
+Settles limit capacity answer old new = ⊥

@@ -1,0 +1,160 @@
+//! What a side accepted and handed on.
+
+ghost use Rattle.std.specs.Prelude.{◌≡◌, ◌∷◌, ℕ, [], OnOk};
+ghost use Rattle.mq_end.specs.Both.{answered_identifier};
+ghost use Rattle.mq_world.specs.Half.{accepted_with, freed_with, last_place, blank_half};
+ghost use Rattle.mq_world.specs.OverBytes.{handed_with};
+ghost use Rattle.mq_world.specs.Listed.{accepted_in, handed_in, accepted_count, handed_count};
+
+use mq_end::{Happening, Progress};
+use mq_packet::{Message, PacketId};
+use mq_topic::Qos;
+use std::alloc::{AllocError, Global};
+
+/// What one side accepted from its user and handed on to it, in order, by quality of service (4.3).
+#[derive(Debug, Drop)]
+pub struct Account {
+    /// The messages of quality of service 0 that it accepted.
+    pub accepted_at_most_once: Vec<Message>,
+    /// The messages of quality of service 1 that it accepted, with the identifiers that they were given.
+    pub accepted_at_least_once: Vec<(PacketId, Message)>,
+    /// The messages of quality of service 2 that it accepted.
+    pub accepted_exactly_once: Vec<Message>,
+    /// The messages of quality of service 0 that it handed on.
+    pub handed_at_most_once: Vec<Message>,
+    /// The messages of quality of service 1 that it handed on.
+    pub handed_at_least_once: Vec<Message>,
+    /// The messages of quality of service 2 that it handed on.
+    pub handed_exactly_once: Vec<Message>,
+    /// The places, among the messages of quality of service 1 that it accepted, of those that were acknowledged to it.
+    pub freed: Vec<usize>,
+}
+
+impl Account {
+    /// Nothing accepted, nothing handed on. It takes no memory.
+    pub fn new(alloc: Global) -> Account
+        ensures accepted { accepted_in result ≡ blank_half.accepted }
+        ensures handed { handed_in result ≡ blank_half.handed }
+        ensures freed { result.freed.items ≡ [] }
+    {
+        Account {
+            accepted_at_most_once: Vec::new(alloc),
+            accepted_at_least_once: Vec::new(alloc),
+            accepted_exactly_once: Vec::new(alloc),
+            handed_at_most_once: Vec::new(alloc),
+            handed_at_least_once: Vec::new(alloc),
+            handed_exactly_once: Vec::new(alloc),
+            freed: Vec::new(alloc),
+        }
+    }
+
+    /// How many messages of this quality of service it accepted.
+    pub fn accepted(&self, qos: Qos) -> usize
+        ensures { result ≡ accepted_count qos (accepted_in self.now) }
+    {
+        match qos {
+            Qos::Q0 => self.accepted_at_most_once.len(),
+            Qos::Q1 => self.accepted_at_least_once.len(),
+            Qos::Q2 => self.accepted_exactly_once.len(),
+        }
+    }
+
+    /// How many messages of this quality of service it handed on.
+    pub fn handed(&self, qos: Qos) -> usize
+        ensures { result ≡ handed_count qos (handed_in self.now) }
+    {
+        match qos {
+            Qos::Q0 => self.handed_at_most_once.len(),
+            Qos::Q1 => self.handed_at_least_once.len(),
+            Qos::Q2 => self.handed_exactly_once.len(),
+        }
+    }
+
+    // It accepted a message, with this identifier where it has one.
+    pub(crate) fn accept(
+        &mut self,
+        id: Option<PacketId>,
+        message: Message,
+    ) -> Result<(), AllocError>
+        ensures accepted { OnOk result ((i : ℕ) → id ≡ answered_identifier message.qos i
+            → accepted_in self.new ≡ accepted_with message.qos i message (accepted_in self.old)) }
+        ensures handed { OnOk result (handed_in self.new ≡ handed_in self.old) }
+        ensures freed { OnOk result (self.new.freed.items ≡ self.old.freed.items) }
+    {
+        match (message.qos, id) {
+            (Qos::Q0, _) => self.accepted_at_most_once.push(message)?,
+            (Qos::Q1, Some(id)) => self.accepted_at_least_once.push((id, message))?,
+            (Qos::Q1, None) => (),
+            (Qos::Q2, _) => self.accepted_exactly_once.push(message)?,
+        }
+        Ok(())
+    }
+
+    // It hands a message on.
+    fn hand(&mut self, message: Message) -> Result<(), AllocError>
+        ensures handed { OnOk result (handed_in self.new ≡ handed_with (Happening.Handed message ∷ []) (handed_in self.old)) }
+        ensures accepted { OnOk result (accepted_in self.new ≡ accepted_in self.old) }
+        ensures freed { OnOk result (self.new.freed.items ≡ self.old.freed.items) }
+    {
+        match message.qos {
+            Qos::Q0 => self.handed_at_most_once.push(message)?,
+            Qos::Q1 => self.handed_at_least_once.push(message)?,
+            Qos::Q2 => self.handed_exactly_once.push(message)?,
+        }
+        Ok(())
+    }
+
+    // It hands on what these happenings tell of.
+    fn hand_all(&mut self, happenings: &[Happening]) -> Result<(), AllocError>
+        ensures handed { OnOk result (handed_in self.new ≡ handed_with happenings.now (handed_in self.old)) }
+        ensures accepted { OnOk result (accepted_in self.new ≡ accepted_in self.old) }
+        ensures freed { OnOk result (self.new.freed.items ≡ self.old.freed.items) }
+    {
+        for happening in happenings {
+            if let Happening::Handed(message) = happening {
+                self.hand(message.clone()?)?;
+            }
+        }
+        Ok(())
+    }
+
+    // The messages with these identifiers were acknowledged to it.
+    fn free_all(&mut self, acknowledged: &[PacketId]) -> Result<(), AllocError>
+        ensures freed { OnOk result (self.new.freed.items
+            ≡ freed_with self.old.accepted_at_least_once.items acknowledged.now self.old.freed.items) }
+        ensures accepted { OnOk result (accepted_in self.new ≡ accepted_in self.old) }
+        ensures handed { OnOk result (handed_in self.new ≡ handed_in self.old) }
+    {
+        for id in acknowledged {
+            let place = last_place(self.accepted_at_least_once.as_slice(), *id);
+            self.freed.push(place)?;
+        }
+        Ok(())
+    }
+
+    // What came of bytes.
+    pub(crate) fn tell(&mut self, progress: &Progress) -> Result<(), AllocError>
+        ensures handed { OnOk result (handed_in self.new ≡ handed_with progress.now.happenings (handed_in self.old)) }
+        ensures freed { OnOk result (self.new.freed.items
+            ≡ freed_with (accepted_in self.old).at_least_once progress.now.acknowledged self.old.freed.items) }
+        ensures accepted { OnOk result (accepted_in self.new ≡ accepted_in self.old) }
+    {
+        self.hand_all(progress.happenings.as_slice())?;
+        self.free_all(progress.acknowledged.as_slice())
+    }
+}
+
+// The place of the last message with this identifier: acknowledged messages are mostly young, so it is looked for from the
+// back.
+fn last_place(given: &[(PacketId, Message)], id: PacketId) -> usize
+    ensures { result ≡ last_place id given.now }
+{
+    let mut place = given.len();
+    while place > 0 {
+        place -= 1;
+        if given[place].0 == id {
+            return place;
+        }
+    }
+    0
+}

@@ -1,0 +1,321 @@
+//! Two ends that are joined by two wires of bytes, and what they do at each event.
+
+ghost use Rattle.std.specs.Prelude.{◌≡◌, ◌++◌, ◌↔◌, ◌&&◌, ℕ, true, false, not, nat_lt, take, drop, length, OnOk, OnErr, IfOk, IsTrue};
+ghost use Rattle.mq_end.specs.End.{is_live};
+ghost use Rattle.mq_end.specs.Publishing.{connect_of};
+ghost use Rattle.mq_world.specs.Machine.{Machine, first_packet};
+ghost use Rattle.mq_world.specs.OverBytes.{Stands, near, left_on};
+ghost use Rattle.mq_world.specs.Pairs.{wired_of};
+ghost use Rattle.mq_world.specs.World.{Does, IsDelivered, IsOpened, IsSettled, IsIdle};
+
+use crate::answer::{Answer, Delivery, Opening, Settling};
+use crate::event::Event;
+use crate::laws::over_bytes;
+use crate::side::Side;
+use crate::trace::Trace;
+use mq_end::{ByteQueue, ClientEnd, CloseReason, Items, ServerEnd, State};
+use mq_packet::Message;
+use std::alloc::{AllocError, Global};
+
+// A connection is opened, and toward each of these sides all comes that is on its way: three exchanges.
+const EXCHANGES: [Side; 6] = [
+    Side::Server,
+    Side::Client,
+    Side::Server,
+    Side::Client,
+    Side::Server,
+    Side::Client,
+];
+
+/// Two ends that are joined by two wires of bytes, and what came of it all so far.
+#[derive(Debug, Drop)]
+pub(crate) struct Pair {
+    pub(crate) alloc: Global,
+    pub(crate) client: ClientEnd,
+    pub(crate) server: ServerEnd,
+    pub(crate) to_client: ByteQueue,
+    pub(crate) to_server: ByteQueue,
+    pub(crate) trace: Trace,
+}
+
+impl Pair {
+    // The user of the client publishes a message.
+    fn publish_at_client(&mut self, message: &Message) -> Result<Answer, AllocError>
+        ensures does { IfOk result (λ answer. (limit capacity : ℕ) (m : Machine) → Stands limit capacity (wired_of self.old) m
+            → Does limit capacity (Event.Publish Side.Client message.now) answer (wired_of self.old) (wired_of self.new)) }
+        ensures config { self.new.client.config ≡ self.old.client.config }
+        ensures answers { self.new.trace.answers ≡ self.old.trace.answers }
+    {
+        over_bytes();
+        match self.client.publish(message.clone()?) {
+            Ok(id) => {
+                self.trace.client.accept(id, message.clone()?)?;
+                let output = self.client.take_all_output();
+                carry(&mut self.to_server, output)?;
+                Ok(Answer::Published(Side::Client, Ok(id)))
+            }
+            Err(why) => Ok(Answer::Published(Side::Client, Err(why))),
+        }
+    }
+
+    // The user of the server publishes a message.
+    fn publish_at_server(&mut self, message: &Message) -> Result<Answer, AllocError>
+        ensures does { IfOk result (λ answer. (limit capacity : ℕ) (m : Machine) → Stands limit capacity (wired_of self.old) m
+            → Does limit capacity (Event.Publish Side.Server message.now) answer (wired_of self.old) (wired_of self.new)) }
+        ensures config { self.new.client.config ≡ self.old.client.config }
+        ensures answers { self.new.trace.answers ≡ self.old.trace.answers }
+    {
+        over_bytes();
+        match self.server.publish(message.clone()?) {
+            Ok(id) => {
+                self.trace.server.accept(id, message.clone()?)?;
+                let output = self.server.take_all_output();
+                carry(&mut self.to_client, output)?;
+                Ok(Answer::Published(Side::Server, Ok(id)))
+            }
+            Err(why) => Ok(Answer::Published(Side::Server, Err(why))),
+        }
+    }
+
+    // So many bytes come to the client, or all that are on their way to it where they are fewer.
+    fn deliver_to_client(&mut self, count: usize) -> Result<Delivery, AllocError>
+        ensures delivered { IfOk result (λ delivery. (limit capacity : ℕ) (m : Machine) → Stands limit capacity (wired_of self.old) m
+            → IsDelivered limit capacity Side.Client count delivery (wired_of self.old) (wired_of self.new)) }
+        ensures config { self.new.client.config ≡ self.old.client.config }
+        ensures answers { self.new.trace.answers ≡ self.old.trace.answers }
+    {
+        over_bytes();
+        let live = is_live(self.client.state());
+        let bytes = take_first(self.alloc, &mut self.to_client, count)?;
+        let progress = self.client.receive(0, bytes.as_slice());
+        cut_off(&mut self.to_client, progress.closed);
+        let output = self.client.take_all_output();
+        carry(&mut self.to_server, output)?;
+        self.trace.client.tell(&progress)?;
+        let lost = is_lost(live, bytes.as_slice());
+        Ok(Delivery {
+            side: Side::Client,
+            bytes,
+            lost,
+            progress,
+        })
+    }
+
+    // So many bytes come to the server, or all that are on their way to it where they are fewer.
+    fn deliver_to_server(&mut self, count: usize) -> Result<Delivery, AllocError>
+        ensures delivered { IfOk result (λ delivery. (limit capacity : ℕ) (m : Machine) → Stands limit capacity (wired_of self.old) m
+            → IsDelivered limit capacity Side.Server count delivery (wired_of self.old) (wired_of self.new)) }
+        ensures config { self.new.client.config ≡ self.old.client.config }
+        ensures answers { self.new.trace.answers ≡ self.old.trace.answers }
+    {
+        over_bytes();
+        let live = is_live(self.server.state());
+        let bytes = take_first(self.alloc, &mut self.to_server, count)?;
+        let progress = self.server.receive(0, bytes.as_slice());
+        cut_off(&mut self.to_server, progress.closed);
+        let output = self.server.take_all_output();
+        carry(&mut self.to_client, output)?;
+        self.trace.server.tell(&progress)?;
+        let lost = is_lost(live, bytes.as_slice());
+        Ok(Delivery {
+            side: Side::Server,
+            bytes,
+            lost,
+            progress,
+        })
+    }
+
+    // So many bytes come to a side, or all that are on their way to it where they are fewer.
+    fn deliver(&mut self, side: Side, count: usize) -> Result<Delivery, AllocError>
+        ensures delivered { IfOk result (λ delivery. (limit capacity : ℕ) (m : Machine) → Stands limit capacity (wired_of self.old) m
+            → IsDelivered limit capacity side count delivery (wired_of self.old) (wired_of self.new)) }
+        ensures config { self.new.client.config ≡ self.old.client.config }
+        ensures answers { self.new.trace.answers ≡ self.old.trace.answers }
+    {
+        match side {
+            Side::Client => self.deliver_to_client(count),
+            Side::Server => self.deliver_to_server(count),
+        }
+    }
+
+    // All bytes that are on their way to a side come to it.
+    fn deliver_all(&mut self, side: Side) -> Result<Delivery, AllocError>
+        ensures delivered { IfOk result (λ delivery. (limit capacity : ℕ) (m : Machine) → Stands limit capacity (wired_of self.old) m
+            → IsDelivered limit capacity side (length (near side (wired_of self.old)).wire) delivery (wired_of self.old) (wired_of self.new)) }
+        ensures config { self.new.client.config ≡ self.old.client.config }
+        ensures answers { self.new.trace.answers ≡ self.old.trace.answers }
+    {
+        match side {
+            Side::Client => {
+                let count = self.to_client.len();
+                self.deliver_to_client(count)
+            }
+            Side::Server => {
+                let count = self.to_server.len();
+                self.deliver_to_server(count)
+            }
+        }
+    }
+
+    // The connection of a side is lost, and what is on its way to it.
+    fn lose(&mut self, side: Side) -> Answer
+        ensures does { (limit capacity : ℕ) (m : Machine) → Stands limit capacity (wired_of self.old) m
+            → Does limit capacity (Event.Drop side) result (wired_of self.old) (wired_of self.new) }
+        ensures config { self.new.client.config ≡ self.old.client.config }
+        ensures answers { self.new.trace.answers ≡ self.old.trace.answers }
+    {
+        over_bytes();
+        match side {
+            Side::Client => {
+                let was_open = is_live(self.client.state());
+                self.client.dropped();
+                self.to_client.clear();
+                Answer::Dropped(Side::Client, was_open)
+            }
+            Side::Server => {
+                let was_open = is_live(self.server.state());
+                self.server.dropped();
+                self.to_server.clear();
+                Answer::Dropped(Side::Server, was_open)
+            }
+        }
+    }
+
+    // The client opens a new connection.
+    fn open(&mut self) -> Opening
+        requires config { connect_of self.old.client.config false ≡ first_packet }
+        ensures opened { (limit capacity : ℕ) (m : Machine) → Stands limit capacity (wired_of self.old) m
+            → IsOpened limit capacity result (wired_of self.old) (wired_of self.new) }
+        ensures config { self.new.client.config ≡ self.old.client.config }
+        ensures answers { self.new.trace.answers ≡ self.old.trace.answers }
+    {
+        over_bytes();
+        let client_dropped = is_live(self.client.state());
+        let server_dropped = is_live(self.server.state());
+        self.to_client.clear();
+        if self.client.connect(0, false).is_err() {
+            self.client.dropped();
+            self.server.dropped();
+            self.to_server.clear();
+            return Opening {
+                client_dropped,
+                server_dropped,
+                refused: true,
+            };
+        }
+        self.server.opened(0);
+        self.to_server = self.client.take_all_output();
+        Opening {
+            client_dropped,
+            server_dropped,
+            refused: false,
+        }
+    }
+
+    /// Makes an event.
+    pub(crate) fn make(&mut self, event: &Event) -> Result<Answer, AllocError>
+        requires config { connect_of self.old.client.config false ≡ first_packet }
+        ensures does { IfOk result (λ answer. (limit capacity : ℕ) (m : Machine) → Stands limit capacity (wired_of self.old) m
+            → Does limit capacity event.now answer (wired_of self.old) (wired_of self.new)) }
+        ensures config { self.new.client.config ≡ self.old.client.config }
+        ensures answers { self.new.trace.answers ≡ self.old.trace.answers }
+    {
+        match event {
+            Event::Publish(Side::Client, message) => self.publish_at_client(message),
+            Event::Publish(Side::Server, message) => self.publish_at_server(message),
+            Event::Deliver(side, count) => Ok(Answer::Delivered(self.deliver(*side, *count)?)),
+            Event::Drop(side) => Ok(self.lose(*side)),
+            Event::Open => Ok(Answer::Opened(self.open())),
+        }
+    }
+
+    /// Opens a connection, and makes three exchanges: all that is on its way to the server comes, then all that is on its
+    /// way to the client.
+    pub(crate) fn settle(&mut self) -> Result<Settling, AllocError>
+        requires config { connect_of self.old.client.config false ≡ first_packet }
+        ensures settled { IfOk result (λ s. (limit capacity : ℕ) (m : Machine) → Stands limit capacity (wired_of self.old) m
+            → IsSettled limit capacity s (wired_of self.old) (wired_of self.new)) }
+        ensures config { self.new.client.config ≡ self.old.client.config }
+        ensures answers { self.new.trace.answers ≡ self.old.trace.answers }
+    {
+        over_bytes();
+        let opening = self.open();
+        let mut deliveries = Vec::new(self.alloc);
+        for side in EXCHANGES {
+            let delivery = self.deliver_all(side)?;
+            deliveries.push(delivery)?;
+        }
+        Ok(Settling {
+            opening,
+            deliveries: Items::from_vec(deliveries),
+            idle: self.is_idle(),
+        })
+    }
+
+    // Whether neither side has anything of its own that waits for the other.
+    fn is_idle(&self) -> bool
+        ensures { IsTrue result ↔ (IsIdle self.now.client.link.end × (self.now.server.end.known ≡ true → IsIdle self.now.server.end)) }
+    {
+        let client = self
+            .client
+            .session()
+            .is_none_or(|session| session.sender.is_idle());
+        let server = self
+            .server
+            .session()
+            .is_none_or(|session| session.sender.is_idle());
+        client && server
+    }
+}
+
+// Whether there is a connection.
+fn is_live(state: State) -> bool
+    ensures { result ≡ is_live state }
+{
+    match state {
+        State::Closed => false,
+        State::Open | State::Up => true,
+    }
+}
+
+// Whether bytes came to an end that could not take them.
+fn is_lost(live: bool, bytes: &[u8]) -> bool
+    ensures { result ≡ (not live && nat_lt 0 (length bytes.now)) }
+{
+    !live && !bytes.is_empty()
+}
+
+// An end that closes leaves nothing on the wire toward it.
+fn cut_off(wire: &mut ByteQueue, closed: Option<CloseReason>)
+    ensures { wire.new ≡ left_on closed wire.old }
+{
+    if closed.is_some() {
+        wire.clear();
+    }
+}
+
+// Takes so many bytes from a wire, the oldest first, or all where they are fewer. Errs where memory runs out, and then nothing
+// changes.
+fn take_first(alloc: Global, wire: &mut ByteQueue, count: usize) -> Result<Items<u8>, AllocError>
+    ensures bytes { IfOk result (λ bytes. bytes ≡ take count wire.old) }
+    ensures left { OnOk result (wire.new ≡ drop count wire.old) }
+    ensures err { OnErr result (wire.new ≡ wire.old) }
+{
+    let count = count.min(wire.len());
+    let mut bytes = Vec::new(alloc);
+    bytes.extend_from_slice(&wire.as_slice()[..count])?;
+    wire.take(count);
+    Ok(Items::from_vec(bytes))
+}
+
+// Bytes go on a wire, behind all others. They are moved where there are no others, else they are copied.
+fn carry(wire: &mut ByteQueue, more: ByteQueue) -> Result<(), AllocError>
+    ensures ok { OnOk result (wire.new ≡ wire.old ++ more) }
+    ensures err { OnErr result (wire.new ≡ wire.old) }
+{
+    if wire.is_empty() {
+        *wire = more;
+        return Ok(());
+    }
+    wire.append(more.as_slice())
+}

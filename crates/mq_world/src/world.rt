@@ -1,0 +1,228 @@
+//! Two ends under a list of events.
+
+ghost use Rattle.std.specs.Prelude.{◌≡◌, ◌<◌, ◌↔◌, ◌∷◌, ◌++◌, [], true, false, IfOk, IfSome, IsSome, IsErr, OnOk, OnErr};
+ghost use Rattle.mq_world.specs.Carries.{Wired, seen};
+ghost use Rattle.mq_world.specs.Headline.{Headline};
+ghost use Rattle.mq_world.specs.OverBytes.{near};
+ghost use Rattle.mq_world.specs.Listed.{accepted_in, handed_in};
+ghost use Rattle.mq_world.specs.World.{Does, IsNew, Leads, Settles};
+
+use crate::account::Account;
+use crate::answer::Answer;
+use crate::event::Event;
+use crate::laws::over_bytes;
+use crate::pair::Pair;
+use crate::side::Side;
+use crate::trace::Trace;
+use mq_decode::Limits;
+use mq_end::{ByteQueue, ClientConfig, ClientEnd, ServerConfig, ServerEnd};
+use mq_flow::Session;
+use mq_wire::Text;
+use std::alloc::{AllocError, Global};
+use std::marker::Model;
+
+/// A client and a server that are joined by two wires of bytes, and what came of the events so far. The client is `w`, with
+/// clean session 0 and a keep-alive of 60 seconds. Where memory runs out for the wires, for what came of an event, or for the
+/// copy of a message, the event errs, and from then on each errs.
+#[derive(Debug, Drop)]
+pub struct World {
+    pair: Pair,
+    limits: Limits,
+    capacity: u16,
+    failed: bool,
+}
+
+impl Model for World {
+    ghost use Rattle.std.specs.Prelude.{◌≡◌, false};
+    ghost use Rattle.std.specs.Coded.{codes, coded_ℕ};
+    ghost use Rattle.std.specs.FinSet as set;
+    ghost use Rattle.std.specs.Ordering.{nat_cmp};
+    ghost use Rattle.mq_end.specs.Publishing.{connect_of};
+    ghost use Rattle.mq_world.specs.Machine.{Machine, first_packet};
+    ghost use Rattle.mq_world.specs.OverBytes.{Stands};
+    ghost use Rattle.mq_world.specs.World.{WorldState};
+    ghost use Rattle.mq_world.specs.Pairs.{wired_of};
+
+    ghost Value = { WorldState };
+
+    ghost coded = { Prim.hlevel (codes, set.code {R = nat_cmp} coded_ℕ) };
+
+    ghost view = { λ w. record {
+      wired = wired_of w.pair;
+      limit = w.limits;
+      capacity = w.capacity;
+      failed = w.failed;
+      answers = w.pair.trace.answers.items;
+    } };
+
+    ghost invariant = { λ w. (connect_of w.pair.client.config false ≡ first_packet)
+        × (w.failed ≡ false → (m : Machine) × Stands w.limits w.capacity (wired_of w.pair) m) };
+}
+
+impl World {
+    /// A world in which nothing happened. Packets are within these limits at both sides, and at each side at most so many
+    /// packet identifiers are in use. Errs where memory runs out.
+    pub fn new(alloc: Global, limits: Limits, capacity: u16) -> Result<World, AllocError>
+        requires { 0 < capacity }
+        ensures new { IfOk result (λ world. IsNew limits capacity world.wired) }
+        ensures limit { IfOk result (λ world. world.limit ≡ limits) }
+        ensures capacity { IfOk result (λ world. world.capacity ≡ capacity) }
+        ensures failed { IfOk result (λ world. world.failed ≡ false) }
+        ensures answers { IfOk result (λ world. world.answers ≡ []) }
+    {
+        over_bytes();
+        let _least = limits.max_packet();
+        let Ok(id) = Text::new(alloc, "w") else {
+            return Err(AllocError);
+        };
+        let config = ClientConfig {
+            id,
+            keep_alive: 60,
+            will: None,
+            login: None,
+            limits,
+            capacity,
+        };
+        let trace = Trace {
+            answers: Vec::new(alloc),
+            client: Account::new(alloc),
+            server: Account::new(alloc),
+        };
+        let pair = Pair {
+            alloc,
+            client: ClientEnd::new(alloc, config),
+            server: ServerEnd::new(alloc, ServerConfig { limits, capacity }),
+            to_client: ByteQueue::new(alloc),
+            to_server: ByteQueue::new(alloc),
+            trace,
+        };
+        Ok(World {
+            pair,
+            limits,
+            capacity,
+            failed: false,
+        })
+    }
+
+    /// Makes an event, and answers what came of it. Errs where memory runs out, and each time from then on.
+    pub fn step(&mut self, event: &Event) -> Result<Answer, AllocError>
+        ensures does { IfOk result (λ answer. Does self.old.limit self.old.capacity event.now answer self.old.wired self.new.wired) }
+        ensures answers { IfOk result (λ answer. self.new.answers ≡ self.old.answers ++ answer ∷ []) }
+        ensures headline { OnOk result (Headline (seen self.new.wired)) }
+        ensures ok { OnOk result (self.new.failed ≡ false) }
+        ensures failed { OnErr result (self.new.failed ≡ true) }
+        ensures before { self.old.failed ≡ true → IsErr result }
+        ensures limit { self.new.limit ≡ self.old.limit }
+        ensures capacity { self.new.capacity ≡ self.old.capacity }
+    {
+        over_bytes();
+        if self.failed {
+            return Err(AllocError);
+        }
+        self.failed = true;
+        let answer = self.pair.make(event)?;
+        self.pair.trace.answers.push(answer.clone()?)?;
+        self.failed = false;
+        Ok(answer)
+    }
+
+    /// Opens a connection and makes three exchanges, in each of which all that is on its way to the server comes, then all
+    /// that is on its way to the client (4.4). Errs where memory runs out, and each time from then on.
+    pub fn settle(&mut self) -> Result<Answer, AllocError>
+        ensures settles { IfOk result (λ answer. Settles self.old.limit self.old.capacity answer self.old.wired self.new.wired) }
+        ensures answers { IfOk result (λ answer. self.new.answers ≡ self.old.answers ++ answer ∷ []) }
+        ensures headline { OnOk result (Headline (seen self.new.wired)) }
+        ensures ok { OnOk result (self.new.failed ≡ false) }
+        ensures failed { OnErr result (self.new.failed ≡ true) }
+        ensures before { self.old.failed ≡ true → IsErr result }
+        ensures limit { self.new.limit ≡ self.old.limit }
+        ensures capacity { self.new.capacity ≡ self.old.capacity }
+    {
+        over_bytes();
+        if self.failed {
+            return Err(AllocError);
+        }
+        self.failed = true;
+        let answer = Answer::Settled(self.pair.settle()?);
+        self.pair.trace.answers.push(answer.clone()?)?;
+        self.failed = false;
+        Ok(answer)
+    }
+
+    /// A new world, after these events. What each of its sides handed on stands to what the other accepted as the quality of
+    /// service of the messages promises (4.3). Errs where memory runs out.
+    pub fn run(
+        alloc: Global,
+        limits: Limits,
+        capacity: u16,
+        events: &[Event],
+    ) -> Result<World, AllocError>
+        requires { 0 < capacity }
+        ensures headline { IfOk result (λ world. Headline (seen world.wired)) }
+        ensures events { IfOk result (λ world. (start : Wired) × IsNew limits capacity start
+            × Leads limits capacity events.now world.answers start world.wired) }
+        ensures limit { IfOk result (λ world. world.limit ≡ limits) }
+        ensures capacity { IfOk result (λ world. world.capacity ≡ capacity) }
+        ensures failed { IfOk result (λ world. world.failed ≡ false) }
+    {
+        let mut world = World::new(alloc, limits, capacity)?;
+        for event in events {
+            world.step(event)?;
+        }
+        world.promise();
+        Ok(world)
+    }
+
+    // What every world keeps.
+    fn promise(&self)
+        ensures { self.now.failed ≡ false → Headline (seen self.now.wired) }
+    {
+        over_bytes();
+        let _failed = self.failed;
+    }
+
+    /// What came of all events so far, and what each side accepted and handed on.
+    pub fn trace(&self) -> &Trace
+        ensures answers { result.now.answers.items ≡ self.now.answers }
+        ensures accepted_at_client { accepted_in result.now.client ≡ self.now.wired.client.accepted }
+        ensures handed_at_client { handed_in result.now.client ≡ self.now.wired.client.handed }
+        ensures freed_at_client { result.now.client.freed.items ≡ self.now.wired.client.freed }
+        ensures accepted_at_server { accepted_in result.now.server ≡ self.now.wired.server.accepted }
+        ensures handed_at_server { handed_in result.now.server ≡ self.now.wired.server.handed }
+        ensures freed_at_server { result.now.server.freed.items ≡ self.now.wired.server.freed }
+        ensures headline { self.now.failed ≡ false → Headline (seen self.now.wired) }
+    {
+        over_bytes();
+        &self.pair.trace
+    }
+
+    /// The session of a side, `None` where the server has none (3.1.2.4).
+    pub fn session(&self, side: Side) -> Option<&Session>
+        ensures book { IfSome result (λ session. session.now.sender.book ≡ (near side self.now.wired).state.end.book) }
+        ensures received { IfSome result (λ session. session.now.receiver ≡ (near side self.now.wired).state.end.received) }
+        ensures client { side ≡ Side.Client → IsSome result }
+        ensures server { side ≡ Side.Server → (IsSome result ↔ (self.now.wired.server.state.end.known ≡ true)) }
+    {
+        match side {
+            Side::Client => self.pair.client.session(),
+            Side::Server => self.pair.server.session(),
+        }
+    }
+
+    /// The bytes that are on their way to a side, the oldest first.
+    pub fn wire(&self, side: Side) -> &[u8]
+        ensures { result.now ≡ (near side self.now.wired).wire }
+    {
+        match side {
+            Side::Client => self.pair.to_client.as_slice(),
+            Side::Server => self.pair.to_server.as_slice(),
+        }
+    }
+
+    /// Whether memory ran out in an event.
+    pub fn has_failed(&self) -> bool
+        ensures { result ≡ self.now.failed }
+    {
+        self.failed
+    }
+}
