@@ -1,5 +1,5 @@
 //! Measures how fast packets are decoded and encoded, beside a plain scan and a plain copy of the same
-//! bytes in the same run. With no words it lists what it can measure.
+//! bytes in the same run, and how fast topic filters are matched. With no words it lists what it can measure.
 #![tactic(auto)]
 
 mod figures;
@@ -8,6 +8,7 @@ mod plain;
 mod sample;
 mod stream;
 mod subject;
+mod topics;
 mod work;
 
 use anyhow::Context;
@@ -20,12 +21,13 @@ fn list(rt: &impl Print) -> anyhow::Result<()> {
     for subject in Subject::ALL {
         println!(rt; "{:<14} {}", subject.name(), subject.explanation())?;
     }
+    println!(rt; "{:<14} {}", topics::NAME, topics::EXPLANATION)?;
     Ok(())
 }
 
-/// Whether a word names a subject.
+/// Whether a word names what can be measured.
 fn is_known(word: &String) -> bool {
-    Subject::named(word.as_str()).is_some()
+    Subject::named(word.as_str()).is_some() || word.as_str() == topics::NAME
 }
 
 /// Says that the words cannot be read.
@@ -46,11 +48,11 @@ fn main(rt: HostRuntime) -> anyhow::Result<ExitCode> {
     if let Some(word) = words.iter().find(|word| !is_known(word)) {
         return refuse(&rt, word.as_str());
     }
-    for subject in words
-        .iter()
-        .filter_map(|word| Subject::named(word.as_str()))
-    {
-        measure::measure(&rt, alloc, subject)?;
+    for word in &words {
+        match Subject::named(word.as_str()) {
+            Some(subject) => measure::measure(&rt, alloc, subject)?,
+            None => topics::measure(&rt, alloc)?,
+        }
     }
     Ok(ExitCode::SUCCESS)
 }
