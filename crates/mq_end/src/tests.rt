@@ -43,11 +43,12 @@ fn message(alloc: Global, qos: Qos, payload: &[u8]) -> Result<Message, Fail> {
 
 // What the client put out goes to the server, and the other way round, as often as asked.
 fn exchange(client: &mut ClientEnd, server: &mut ServerEnd, times: u8) -> usize {
-    let mut handed = 0;
+    let mut handed = 0_usize;
     for _ in 0..times {
         let out = client.take_all_output();
         let progress = server.receive(0, out.as_slice());
-        handed += progress.happenings.as_slice().len();
+        let count = progress.happenings.as_slice().len();
+        handed = handed.saturating_add(count);
         let out = server.take_all_output();
         client.receive(0, out.as_slice());
     }
