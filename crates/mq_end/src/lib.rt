@@ -21,8 +21,6 @@ mod role;
 mod server;
 mod state;
 mod taking;
-#[cfg(test)]
-mod tests;
 mod told;
 
 pub use crate::client::ClientEnd;

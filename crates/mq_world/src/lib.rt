@@ -10,8 +10,6 @@ mod event;
 mod laws;
 mod pair;
 mod side;
-#[cfg(test)]
-mod tests;
 mod trace;
 mod world;
 
