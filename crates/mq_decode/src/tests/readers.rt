@@ -140,6 +140,22 @@ fn a_reader_may_have_no_packet(rt: HostRuntime) -> Result<(), Fail> {
     Ok(())
 }
 
+// The packets that a reader gives, up to its error.
+fn packets_before_error(
+    alloc: Global,
+    reader: &mut Slow<'_>,
+) -> Result<(Vec<Packet>, ReadError), Fail> {
+    let mut packets = Vec::new(alloc);
+    for _ in 0..4 {
+        match read_packet(alloc, reader, limits(64)?) {
+            Ok(Some(packet)) => packets.push(packet)?,
+            Ok(None) => return Err("the reader did not fail".into()),
+            Err(error) => return Ok((packets, error)),
+        }
+    }
+    Err("there are too many packets".into())
+}
+
 // A reader that fails gives its error, or the packets that were whole before.
 #[test]
 fn a_reader_may_fail_at_any_call(rt: HostRuntime) -> Result<(), Fail> {
@@ -148,19 +164,8 @@ fn a_reader_may_fail_at_any_call(rt: HostRuntime) -> Result<(), Fail> {
     let mut whole = 0;
     for calls in 0..all.len() {
         let mut reader = Slow::new(&all, 1, calls);
-        let mut packets = Vec::new(alloc);
-        let mut failed = None;
-        for _ in 0..4 {
-            match read_packet(alloc, &mut reader, limits(64)?) {
-                Ok(Some(packet)) => packets.push(packet)?,
-                Ok(None) => return Err("the reader did not fail".into()),
-                Err(error) => {
-                    failed = Some(error);
-                    break;
-                }
-            }
-        }
-        let Some(ReadError::Io(error)) = failed else {
+        let (packets, error) = packets_before_error(alloc, &mut reader)?;
+        let ReadError::Io(error) = error else {
             return Err("another error".into());
         };
         let kind = error.kind();
