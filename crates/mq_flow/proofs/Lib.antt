@@ -1,7 +1,13 @@
 pub mod Counting
+pub mod Ascending
 pub mod Books
 pub mod Members
 pub mod Sending
 pub mod Queues
 pub mod Kept
 pub mod Round
+pub mod Restoring
+pub mod Fields
+pub mod EntryForms
+pub mod SessionForms
+pub mod Whole

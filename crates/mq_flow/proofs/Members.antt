@@ -1,10 +1,12 @@
 -- What stands in a set of numbers after an insertion and a removal.
-use Rattle.std.proofs.Common.{◌≡◌, ℕ, Bool, true, false, not, cond, ◌&&◌, ◌||◌, List, [], ◌∷◌, length, refl, sym, ap, ◌∙◌}
+use Rattle.std.proofs.Common.{◌≡◌, ℕ, Bool, true, false, not, cond, ◌&&◌, ◌||◌, List, [], ◌∷◌, length, refl, sym, ap, subst, ◌∙◌}
 use Rattle.std.specs.List.{list_any}
-use Rattle.std.proofs.lemmas.Bool.{ne_eqb}
+use Rattle.std.proofs.lemmas.Bool.{ne_eqb, eqb-true}
 use Rattle.std.specs.FinSet.{FinSet, empty, insert, remove, contains, from_list, same_set, nat_cmp-IsAntisymmetric, contains-empty, contains-insert, contains-remove, contains-from_list}
 use Rattle.std.specs.Ordering.{nat_cmp, eq_by_cmp}
 use Rattle.std.specs.Cmp.{unsigned_tied, nat_cmp_total, nat_eq_equiv}
+use Rattle.mq_packet.specs.Identifier.{IsIdentifier}
+use Rattle.mq_flow.specs.Receiver.{AreIdentifiers}
 use Rattle.mq_flow.specs.Laws.{ReceiverLaws}
 use Rattle.mq_flow.proofs.Counting.{eqb_self}
 
@@ -59,6 +61,21 @@ keys_removed ks ns i h =
     but : (a b : Bool) → (not a && b) ≡ cond a false b
     but true b = refl
     but false b = refl
+
+-- the keys are identifiers after an insertion of one, and after a removal
+pub identifiers_inserted : (ks ns : List ℕ) (i : ℕ) → ((q : ℕ) → list_any (eq_by_cmp nat_cmp q) ns ≡ cond (eq_by_cmp nat_cmp i q) true (list_any (eq_by_cmp nat_cmp q) ks)) → IsIdentifier i → AreIdentifiers ks → AreIdentifiers ns
+identifiers_inserted ks ns i h id are q e =
+    elim (eq_by_cmp nat_cmp i q) as (λ b. eq_by_cmp nat_cmp i q ≡ b → cond b true (list_any (eq_by_cmp nat_cmp q) ks) ≡ true → IsIdentifier q) [
+      | true ↦ λ t _. subst IsIdentifier (eqb-true i q (sym (unsigned_tied i q) ∙ t)) id
+      | false ↦ λ _ there. are q there
+    ] refl (sym (h q) ∙ e)
+
+pub identifiers_removed : (ks ns : List ℕ) (i : ℕ) → ((q : ℕ) → list_any (eq_by_cmp nat_cmp q) ns ≡ cond (eq_by_cmp nat_cmp i q) false (list_any (eq_by_cmp nat_cmp q) ks)) → AreIdentifiers ks → AreIdentifiers ns
+identifiers_removed ks ns i h are q e =
+    elim (eq_by_cmp nat_cmp i q) as (λ b. cond b false (list_any (eq_by_cmp nat_cmp q) ks) ≡ true → IsIdentifier q) [
+      | true ↦ λ clash. absurd cc
+      | false ↦ λ there. are q there
+    ] (sym (h q) ∙ e)
 
 pub no_keys : (ks : List ℕ) → from_list {R = nat_cmp} ks ≡ empty → length ks ≡ 0
 no_keys [] e = refl

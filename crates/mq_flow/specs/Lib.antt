@@ -2,3 +2,6 @@ pub mod Sender
 pub mod Sending
 pub mod Receiver
 pub mod Laws
+pub mod Saved
+pub mod Loading
+pub mod SavedLaws

@@ -1,8 +1,10 @@
 -- What a receiver writes down, and its moves (4.3.3): the identifiers whose message of quality of service 2 was
 -- handed on and that are not released. It hands a message on when its PUBLISH comes (method B).
-use Rattle.std.specs.Prelude.{ℕ, Bool, not}
+use Rattle.std.specs.Prelude.{◌≡◌, ℕ, Bool, true, not, List}
+use Rattle.std.specs.List.{list_any}
 use Rattle.std.specs.FinSet as FinSet
-use Rattle.std.specs.Ordering.{nat_cmp}
+use Rattle.std.specs.Ordering.{nat_cmp, eq_by_cmp}
+use Rattle.mq_packet.specs.Identifier.{IsIdentifier}
 
 -- the receiver's book: a set of identifiers (4.3.3)
 abbrev pub ReceiverBook : Type 0
@@ -23,3 +25,7 @@ on_publish i r = FinSet.insert r i
 -- PUBREL: the identifier is forgotten; the answer is PUBCOMP, whether it was stored or not (4.3.3)
 abbrev pub on_pubrel : ℕ → ReceiverBook → ReceiverBook
 on_pubrel i r = FinSet.remove r i
+
+-- the numbers of a list are identifiers, each from 1 to 65,535 (2.3.1)
+abbrev pub AreIdentifiers : List ℕ → Type 0
+AreIdentifiers ids = (i : ℕ) → list_any (eq_by_cmp nat_cmp i) ids ≡ true → IsIdentifier i

@@ -1,6 +1,7 @@
 //! The laws of the sender's book.
 
 ghost use Rattle.mq_flow.specs.Laws.{IdentifierLaws, ReceiverLaws, SendingLaws, StrayLaws};
+ghost use Rattle.mq_flow.specs.SavedLaws.{SavedLaws};
 
 /// The identifiers of a sender's book: from 1 to 65,535, each in use once, and at most as many as the
 /// capacity, whatever moves it makes; and one that is not full has an identifier to give (2.3.1).
@@ -24,4 +25,10 @@ pub fn receiver_laws()
 /// goes out, without DUP (3.3.1.1).
 pub fn sending_laws()
     ensures { SendingLaws }
+{}
+
+/// The saved form of a session: what is spelled is read back, what is read is spelled so, and bytes are the saved form
+/// of at most one session (4.1).
+pub fn saved_laws()
+    ensures { SavedLaws }
 {}

@@ -7,10 +7,12 @@ mod acknowledge;
 mod claim;
 mod entry;
 mod laws;
+mod loading;
 mod queue;
 mod reaction;
 mod receiver;
 mod resend;
+mod saving;
 mod sender;
 mod session;
 #[cfg(test)]
@@ -18,7 +20,8 @@ mod tests;
 
 pub use crate::claim::{Claim, Claimed};
 pub use crate::entry::Entry;
-pub use crate::laws::{identifier_laws, receiver_laws, sending_laws, stray_laws};
+pub use crate::laws::{identifier_laws, receiver_laws, saved_laws, sending_laws, stray_laws};
+pub use crate::loading::LoadError;
 pub use crate::reaction::{Reaction, Refusal};
 pub use crate::receiver::Receiver;
 pub use crate::sender::Sender;

@@ -16,20 +16,22 @@ use std::marker::Model;
 /// released (4.3.3, method B).
 #[derive(Debug, Drop)]
 pub struct Receiver {
-    stored: BTreeSet<u16>,
+    pub(crate) stored: BTreeSet<u16>,
 }
 
 impl Model for Receiver {
     ghost use Rattle.std.specs.Ordering.{nat_cmp};
     ghost use Rattle.std.specs.Coded.{coded_ℕ};
     ghost use Rattle.std.specs.FinSet as set;
-    ghost use Rattle.mq_flow.specs.Receiver.{ReceiverBook};
+    ghost use Rattle.mq_flow.specs.Receiver.{ReceiverBook, AreIdentifiers};
 
     ghost Value = { ReceiverBook };
 
     ghost coded = { set.code {R = nat_cmp} coded_ℕ };
 
     ghost view = { λ r. set.from_list r.stored.keys };
+
+    ghost invariant = { λ r. AreIdentifiers r.stored.keys };
 }
 
 impl Receiver {

@@ -1,4 +1,4 @@
-use crate::{Claim, Claimed, Reaction, Receiver, Refusal, Sender, Session};
+use crate::{Claim, Claimed, LoadError, Reaction, Receiver, Refusal, Sender, Session};
 use bytes::Bytes;
 use mq_packet::{Message, Packet, PacketId, Payload};
 use mq_topic::{Qos, TopicName};
@@ -157,5 +157,166 @@ fn claims_have_identifiers_of_the_same_pool(rt: HostRuntime) -> Result<(), Fail>
     assert_eq!(rt; session.claim_id(Claim::Subscribe, 1), Ok(id(3)?));
     session.sender.free_claims();
     assert_eq!(rt; session.sender.room(), 2);
+    Ok(())
+}
+
+// One entry: identifier 1, QoS 2, sent, topic `t`, payload `78`; capacity 4, last identifier 1.
+const SAVED: [u8; 27] = [
+    0x4d, 0x51, 0x53, 1, 0, 4, 0, 1, 0, 1, 0, 1, 2, 1, 0, 0, 1, 0x74, 0, 0, 0, 1, 0x78, 0, 0, 0, 0,
+];
+
+// What the bytes are loaded as, saved again.
+fn again(alloc: Global, bytes: &[u8]) -> Result<Vec<u8>, LoadError> {
+    let session = Session::load(alloc, bytes)?;
+    let mut out = Vec::new(alloc);
+    session.save(&mut out).map_err(|_| LoadError::Memory)?;
+    Ok(out)
+}
+
+// Why the bytes are not loaded.
+fn fault(alloc: Global, bytes: &[u8]) -> Option<LoadError> {
+    Session::load(alloc, bytes).err()
+}
+
+// Why the bytes are not loaded, with these in the place of those from a place on.
+fn fault_with(alloc: Global, at: usize, bytes: &[u8]) -> Result<Option<LoadError>, Fail> {
+    let mut all = Vec::new(alloc);
+    for (place, byte) in SAVED.iter().enumerate() {
+        if place < at {
+            all.push(*byte)?;
+        }
+    }
+    all.extend_from_slice(bytes)?;
+    for (place, byte) in SAVED.iter().enumerate() {
+        if place >= at && place - at >= bytes.len() {
+            all.push(*byte)?;
+        }
+    }
+    Ok(fault(alloc, &all))
+}
+
+// The first bad field is at this place.
+fn malformed(place: usize) -> Option<LoadError> {
+    Some(LoadError::Malformed { place })
+}
+
+#[test]
+fn a_session_is_saved_and_loaded(rt: HostRuntime) -> Result<(), Fail> {
+    assert_eq!(rt;
+        again(rt.alloc(), &SAVED),
+        Ok(Vec::from_slice(rt.alloc(), &SAVED)?)
+    );
+    Ok(())
+}
+
+#[test]
+fn a_session_is_saved_as_its_form(rt: HostRuntime) -> Result<(), Fail> {
+    let mut session = Session::new(rt.alloc(), 4);
+    let message = Message {
+        topic: TopicName::parse(rt.alloc(), "t")?,
+        payload: Payload::new(Bytes::from_static(b"x")).ok_or("no payload")?,
+        qos: Qos::Q2,
+        retain: false,
+    };
+    session.sender.accept(message).map_err(|_| "refused")?;
+    session.sender.mark_sent();
+    let mut out = Vec::new(rt.alloc());
+    session.save(&mut out)?;
+    assert_eq!(rt; out.as_slice(), SAVED.as_slice());
+    Ok(())
+}
+
+#[test]
+fn claims_are_not_saved(rt: HostRuntime) -> Result<(), Fail> {
+    let mut session = Session::new(rt.alloc(), 4);
+    session
+        .claim_id(Claim::Subscribe, 1)
+        .map_err(|_| "refused")?;
+    let mut out = Vec::new(rt.alloc());
+    session.save(&mut out)?;
+    let form = [0x4d, 0x51, 0x53, 1, 0, 4, 0, 1, 0, 0, 0, 0, 0, 0];
+    assert_eq!(rt; out.as_slice(), form.as_slice());
+    Ok(())
+}
+
+#[test]
+fn an_identifier_after_the_last_one_is_next(rt: HostRuntime) -> Result<(), Fail> {
+    let session = Session::load(rt.alloc(), &SAVED)?;
+    assert_eq!(rt; session.sender.next_id(), PacketId::new(2));
+    Ok(())
+}
+
+#[test]
+fn another_version_is_not_loaded(rt: HostRuntime) -> Result<(), Fail> {
+    assert_eq!(rt; fault(rt.alloc(), &[]), Some(LoadError::Version));
+    assert_eq!(rt;
+        fault(rt.alloc(), &[0x4d, 0x51, 0x53]),
+        Some(LoadError::Version)
+    );
+    assert_eq!(rt; fault_with(rt.alloc(), 3, &[2])?, Some(LoadError::Version));
+    Ok(())
+}
+
+#[test]
+fn bytes_that_end_early_or_late_are_malformed(rt: HostRuntime) -> Result<(), Fail> {
+    assert_eq!(rt; fault(rt.alloc(), &SAVED[..26]), malformed(25));
+    assert_eq!(rt; fault_with(rt.alloc(), 27, &[0])?, malformed(27));
+    assert_eq!(rt; fault(rt.alloc(), &SAVED[..4]), malformed(4));
+    assert_eq!(rt; fault(rt.alloc(), &SAVED[..22]), malformed(22));
+    Ok(())
+}
+
+#[test]
+fn bad_counts_are_malformed(rt: HostRuntime) -> Result<(), Fail> {
+    assert_eq!(rt; fault_with(rt.alloc(), 4, &[0, 0])?, malformed(4));
+    assert_eq!(rt; fault_with(rt.alloc(), 8, &[0, 5])?, malformed(8));
+    assert_eq!(rt; fault_with(rt.alloc(), 23, &[0, 4])?, malformed(23));
+    Ok(())
+}
+
+#[test]
+fn bad_fields_of_an_entry_are_malformed(rt: HostRuntime) -> Result<(), Fail> {
+    assert_eq!(rt; fault_with(rt.alloc(), 10, &[0, 0])?, malformed(10));
+    assert_eq!(rt; fault_with(rt.alloc(), 12, &[0])?, malformed(12));
+    assert_eq!(rt; fault_with(rt.alloc(), 12, &[3])?, malformed(12));
+    assert_eq!(rt; fault_with(rt.alloc(), 13, &[2])?, malformed(13));
+    assert_eq!(rt; fault_with(rt.alloc(), 14, &[2])?, malformed(14));
+    Ok(())
+}
+
+#[test]
+fn bad_topics_and_payloads_are_malformed(rt: HostRuntime) -> Result<(), Fail> {
+    for byte in [0, b'+', b'#', 0xff] {
+        assert_eq!(rt; fault_with(rt.alloc(), 17, &[byte])?, malformed(15));
+    }
+    let wildcard = [0, 3, b'a', b'/', b'+', 0, 0, 0, 0, 0, 0, 0, 0];
+    assert_eq!(rt; fault_with(rt.alloc(), 15, &wildcard)?, malformed(15));
+    assert_eq!(rt; fault_with(rt.alloc(), 18, &[0, 0, 0, 9])?, malformed(22));
+    assert_eq!(rt;
+        fault_with(rt.alloc(), 18, &[0x10, 0, 0, 0])?,
+        malformed(22)
+    );
+    Ok(())
+}
+
+#[test]
+fn an_identifier_twice_is_malformed(rt: HostRuntime) -> Result<(), Fail> {
+    let released = [0, 1, 0, 1, 0, 0];
+    assert_eq!(rt; fault_with(rt.alloc(), 23, &released)?, malformed(25));
+    let other = [0, 1, 0, 2, 0, 0];
+    assert_eq!(rt; fault_with(rt.alloc(), 23, &other)?, None);
+    let zero = [0, 1, 0, 0, 0, 0];
+    assert_eq!(rt; fault_with(rt.alloc(), 23, &zero)?, malformed(25));
+    Ok(())
+}
+
+#[test]
+fn received_identifiers_ascend(rt: HostRuntime) -> Result<(), Fail> {
+    assert_eq!(rt;
+        fault_with(rt.alloc(), 25, &[0, 2, 0, 2, 0, 1])?,
+        malformed(29)
+    );
+    assert_eq!(rt; fault_with(rt.alloc(), 25, &[0, 1, 0, 0])?, malformed(27));
+    assert_eq!(rt; fault_with(rt.alloc(), 25, &[0, 2, 0, 1, 0, 2])?, None);
     Ok(())
 }

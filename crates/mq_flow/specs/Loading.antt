@@ -1,0 +1,197 @@
+-- Reading the saved form of a session (3.1.2.4, 4.1). Each reads a field from the front of the bytes, and gives its value and the bytes
+-- after it; or else how many bytes there are from the bad field on, to the end.
+use Rattle.std.specs.Prelude.{◌≡◌, ℕ, zero, suc, ◌+◌, ◌-◌, ◌*◌, ◌<◌, slice_index, Bool, true, false, ◌&&◌, ◌||◌, if◌then◌else◌, List, [], ◌∷◌, ◌++◌, length, take, drop, ◌==◌, nat_le, nat_lt, nat_eq, Result, Ok, Err}
+use Rattle.std.specs.List.{starts_with, list_any}
+use Rattle.std.specs.Ordering.{nat_cmp, eq_by_cmp}
+use Rattle.std.specs.Option.{is_none}
+use Rattle.std.specs.Str.{is_utf8}
+use Rattle.mq_topic.specs.declared.qos.Qos.{Qos}
+use Rattle.mq_topic.specs.declared.qos.Qos.TheVariants.{Q1, Q2}
+use Rattle.mq_topic.specs.Fault.{name_fault}
+use Rattle.mq_packet.specs.declared.message.Message.{Message}
+use Rattle.mq_flow.specs.declared.entry.Entry.{Entry}
+use Rattle.mq_flow.specs.declared.loading.BadField.{BadField}
+use Rattle.mq_flow.specs.declared.loading.Flags.{Flags}
+use Rattle.mq_flow.specs.declared.loading.Unread.{Unread}
+use Rattle.mq_flow.specs.declared.loading.Unread.TheVariants as unread
+use Rattle.mq_flow.specs.declared.loading.LoadError.{LoadError}
+use Rattle.mq_flow.specs.declared.loading.LoadError.TheVariants as errors
+use Rattle.mq_flow.specs.declared.session.Session.{Session}
+use Rattle.mq_flow.specs.Sender.{SenderBook, blank_book, uses, times, accept}
+use Rattle.mq_flow.specs.Sending.{Sending}
+use Rattle.mq_flow.specs.Receiver.{ReceiverBook, none_received, on_publish}
+use Rattle.mq_flow.specs.Saved.{signature}
+
+-- one field after another, up to the first that is bad
+infixl 10 ◌>>=◌
+abbrev pub ◌>>=◌ : {A B : Type 0} → Result A ℕ → (A → Result B ℕ) → Result B ℕ
+(Ok x) >>= f = f x
+(Err left) >>= f = Err left
+
+-- the field at the front of these bytes is bad
+abbrev pub bad_at : {A : Type 0} → List ℕ → Result A ℕ
+bad_at bytes = Err (length bytes)
+
+-- a number of two bytes
+unfoldable pub number_at : List ℕ → Result (ℕ × List ℕ) ℕ
+number_at [] = bad_at []
+number_at (a ∷ []) = bad_at (a ∷ [])
+number_at (a ∷ b ∷ rest) = Ok (256 * a + b, rest)
+
+-- a number of four bytes
+unfoldable pub count_at : List ℕ → Result (ℕ × List ℕ) ℕ
+count_at bytes = if nat_lt (length bytes) 4 then bad_at bytes else (number_at bytes >>= λ high. number_at high.1 >>= λ low. Ok (65536 * high.0 + low.0, low.1))
+
+-- a number from 1 on
+unfoldable pub capacity_at : List ℕ → Result (ℕ × List ℕ) ℕ
+capacity_at bytes = number_at bytes >>= λ n. if n.0 == 0 then bad_at bytes else Ok n
+
+-- how many there are, where there is room for so many
+unfoldable pub number_within : ℕ → List ℕ → Result (ℕ × List ℕ) ℕ
+number_within room bytes = number_at bytes >>= λ n. if nat_lt room n.0 then bad_at bytes else Ok n
+
+-- an identifier that is free (2.3.1)
+unfoldable pub free_at : SenderBook → List ℕ → Result (ℕ × List ℕ) ℕ
+free_at b bytes = number_at bytes >>= λ id. if id.0 == 0 || nat_lt 0 (times id.0 (uses b)) then bad_at bytes else Ok id
+
+-- a quality of service over 0
+unfoldable pub qos_at : List ℕ → Result (Qos × List ℕ) ℕ
+qos_at [] = bad_at []
+qos_at (b ∷ rest) = if b == 1 then Ok (Q1, rest) else (if b == 2 then Ok (Q2, rest) else bad_at (b ∷ rest))
+
+-- 0 or 1
+unfoldable pub flag_at : List ℕ → Result (Bool × List ℕ) ℕ
+flag_at [] = bad_at []
+flag_at (b ∷ rest) = if b == 0 then Ok (false, rest) else (if b == 1 then Ok (true, rest) else bad_at (b ∷ rest))
+
+-- quality of service, whether it was sent, RETAIN
+unfoldable pub flags_at : List ℕ → Result (Flags × List ℕ) ℕ
+flags_at bytes = qos_at bytes >>= λ qos. flag_at qos.1 >>= λ sent. flag_at sent.1 >>= λ retain. Ok (record { qos = qos.0; sent = sent.0; retain = retain.0 }, retain.1)
+
+-- UTF-8 that is a topic name (4.7)
+abbrev pub is_topic : List ℕ → Bool
+is_topic t = is_utf8 t && is_none (name_fault t)
+
+-- a topic name, behind a count of two bytes
+unfoldable pub topic_at : List ℕ → Result (List ℕ × List ℕ) ℕ
+topic_at bytes = number_at bytes >>= λ n.
+    if nat_lt (length n.1) n.0 then bad_at bytes else (if is_topic (take n.0 n.1) then Ok (take n.0 n.1, drop n.0 n.1) else bad_at bytes)
+
+-- the PUBLISH with a topic name of so many bytes and a payload of so many has a remaining length over a limit (2.2.3, 3.3)
+abbrev pub is_over_limit : (limit : ℕ) → ℕ → ℕ → Bool
+is_over_limit limit topic payload = nat_lt limit (2 + topic + 2 + payload)
+
+-- a payload behind a count of four bytes; where it is bad, its place is after the count
+unfoldable pub payload_at : (limit : ℕ) → ℕ → List ℕ → Result (List ℕ × List ℕ) ℕ
+payload_at limit topic bytes = count_at bytes >>= λ n. if is_over_limit limit topic n.0 || nat_lt (length n.1) n.0 then bad_at n.1 else Ok (take n.0 n.1, drop n.0 n.1)
+
+unfoldable pub message_at : (limit : ℕ) → Flags → List ℕ → Result (Message × List ℕ) ℕ
+message_at limit flags bytes = topic_at bytes >>= λ topic. payload_at limit (length topic.0) topic.1 >>= λ payload.
+    Ok (record { topic = topic.0; payload = payload.0; qos = flags.qos; retain = flags.retain }, payload.1)
+
+-- a message that is not acknowledged, with an identifier that is free before it
+unfoldable pub entry_at : (limit : ℕ) → SenderBook → List ℕ → Result (Entry × List ℕ) ℕ
+entry_at limit b bytes = free_at b bytes >>= λ id. flags_at id.1 >>= λ flags. message_at limit flags.0 flags.1 >>= λ message.
+    Ok (record { id = id.0; message = message.0; sent = flags.0.sent }, message.1)
+
+-- the book with one entry more
+unfoldable pub with_entry_at : (limit : ℕ) → SenderBook → List ℕ → Result (SenderBook × List ℕ) ℕ
+with_entry_at limit b bytes = entry_at limit b bytes >>= λ e. Ok (accept e.0.id e.0.message e.0.sent b, e.1)
+
+-- the book with so many entries more
+abbrev pub entries_at : (limit : ℕ) → ℕ → SenderBook → List ℕ → Result (SenderBook × List ℕ) ℕ
+entries_at limit zero b bytes = Ok (b, bytes)
+entries_at limit (suc more) b bytes = with_entry_at limit b bytes >>= λ e. entries_at limit more e.0 e.1
+
+-- the book with one released identifier more
+abbrev pub with_released : ℕ → SenderBook → SenderBook
+with_released i b = record b { released = b.released ++ i ∷ [] }
+
+unfoldable pub with_released_at : SenderBook → List ℕ → Result (SenderBook × List ℕ) ℕ
+with_released_at b bytes = free_at b bytes >>= λ id. Ok (with_released id.0 b, id.1)
+
+-- the book with so many released identifiers more
+abbrev pub released_at : ℕ → SenderBook → List ℕ → Result (SenderBook × List ℕ) ℕ
+released_at zero b bytes = Ok (b, bytes)
+released_at (suc more) b bytes = with_released_at b bytes >>= λ r. released_at more r.0 r.1
+
+-- how many identifiers are released, and they
+abbrev pub released_within : ℕ → SenderBook → List ℕ → Result (SenderBook × List ℕ) ℕ
+released_within room b bytes = number_within room bytes >>= λ m. released_at m.0 b m.1
+
+-- how many entries there are, and they; and the same of the identifiers that are released
+abbrev pub book_at : (limit : ℕ) → ℕ → List ℕ → Result (SenderBook × List ℕ) ℕ
+book_at limit capacity bytes = number_within capacity bytes >>= λ n. entries_at limit n.0 blank_book n.1 >>= λ entries. released_within (capacity - n.0) entries.0 entries.1
+
+-- what a sender keeps: the capacity, the identifier given last, its book
+unfoldable pub sender_at : (limit : ℕ) → List ℕ → Result (Sending × List ℕ) ℕ
+sender_at limit bytes = capacity_at bytes >>= λ capacity. number_at capacity.1 >>= λ last. book_at limit capacity.0 last.1 >>= λ book.
+    Ok (record { book = book.0; capacity = capacity.0; last = last.0 }, book.1)
+
+-- an identifier after this one
+unfoldable pub next_at : ℕ → List ℕ → Result (ℕ × List ℕ) ℕ
+next_at last bytes = number_at bytes >>= λ id. if nat_le id.0 last then bad_at bytes else Ok id
+
+-- the set with so many identifiers more, each after the one before it
+abbrev pub received_at : ℕ → ℕ → ReceiverBook → List ℕ → Result (ReceiverBook × List ℕ) ℕ
+received_at zero last r bytes = Ok (r, bytes)
+received_at (suc more) last r bytes = next_at last bytes >>= λ id. received_at more id.0 (on_publish id.0 r) id.1
+
+-- the identifiers that were received: each from 1 on, ascending
+unfoldable pub receiver_at : List ℕ → Result (ReceiverBook × List ℕ) ℕ
+receiver_at bytes = number_at bytes >>= λ n. received_at n.0 0 none_received n.1
+
+-- nothing follows
+abbrev pub end_at : List ℕ → Result (Unit {0}) ℕ
+end_at [] = Ok tt
+end_at (b ∷ bytes) = bad_at (b ∷ bytes)
+
+-- what follows the version
+unfoldable pub session_at : (limit : ℕ) → List ℕ → Result Session ℕ
+session_at limit bytes = sender_at limit bytes >>= λ sender. receiver_at sender.1 >>= λ receiver. end_at receiver.1 >>= λ end. Ok (record { sender = sender.0; receiver = receiver.0 })
+
+-- ---- the whole
+
+-- the first four bytes are `MQS` and the version
+abbrev pub has_version : List ℕ → Bool
+has_version bytes = starts_with nat_eq bytes signature
+
+-- the place of a bad field, from the beginning
+abbrev pub placed : ℕ → Result Session ℕ → Result Session LoadError
+placed total (Ok s) = Ok s
+placed total (Err left) = Err (errors.Malformed (total - left))
+
+-- the session of which these bytes are the saved form, or what is wrong with them
+unfoldable pub read_session : List ℕ → Result Session LoadError
+read_session bytes = if has_version bytes then placed (length bytes) (session_at 268435455 (drop 4 bytes)) else Err errors.Version
+
+-- the numbers of a list are the identifiers in use
+abbrev pub AreUsed : List ℕ → SenderBook → Type 0
+AreUsed ids b = (i : ℕ) → list_any (eq_by_cmp nat_cmp i) ids ≡ nat_lt 0 (times i (uses b))
+
+-- each item is a byte
+abbrev pub AreBytes : List ℕ → Type 0
+AreBytes b = (i : ℕ) → slice_index b i < 256
+
+-- ---- what a function returned is what is read
+
+-- seen by view
+abbrev pub Same : {X Y : Type 0} → (X → Y) → Result X BadField → Result Y ℕ → Type 0
+Same view (Ok x) read = read ≡ Ok (view x)
+Same view (Err bad) read = read ≡ Err bad.left
+
+-- the same, unless memory ran out
+abbrev pub Fails : {Y : Type 0} → Unread → Result Y ℕ → Type 0
+Fails unread.Memory read = Unit {0}
+Fails (unread.Bad bad) read = read ≡ Err bad.left
+
+abbrev pub Gives : {X Y : Type 0} → (X → Y) → Result X Unread → Result Y ℕ → Type 0
+Gives view (Ok x) read = read ≡ Ok (view x)
+Gives view (Err e) read = Fails e read
+
+-- and of the whole
+abbrev pub Loads : Result Session LoadError → Result Session LoadError → Type 0
+Loads (Ok s) read = read ≡ Ok s
+Loads (Err errors.Memory) read = Unit {0}
+Loads (Err errors.Version) read = read ≡ Err errors.Version
+Loads (Err (errors.Malformed place)) read = read ≡ Err (errors.Malformed place)

@@ -1,0 +1,97 @@
+-- The saved form of a session, version 1. A session is the state that is kept while there is no connection (3.1.2.4, 4.1): the
+-- messages that are not acknowledged, the identifiers that are released, and those that are received and not released.
+use Rattle.std.specs.Prelude.{◌≡◌, ℕ, ◌+◌, ◌/◌, ◌%◌, ◌<◌, ◌≤◌, true, List, [], ◌∷◌, ◌++◌, length}
+use Rattle.std.specs.List.{flat_map, range_with_len, filter, AllByRecursion}
+use Rattle.std.specs.FinSet as set
+use Rattle.mq_topic.specs.declared.qos.Qos.TheVariants.{Q0}
+use Rattle.mq_topic.specs.Qos.{qos_number}
+use Rattle.mq_topic.specs.Topic.{IsTopicName}
+use Rattle.mq_packet.specs.Identifier.{IsIdentifier}
+use Rattle.mq_packet.specs.declared.message.Message.{Message}
+use Rattle.mq_packet.specs.Spelling.{bit}
+use Rattle.mq_flow.specs.declared.entry.Entry.{Entry}
+use Rattle.mq_flow.specs.declared.session.Session.{Session}
+use Rattle.mq_flow.specs.Sender.{no_claims}
+use Rattle.mq_flow.specs.Sending.{Sending}
+use Rattle.mq_flow.specs.Receiver.{ReceiverBook}
+use Rattle.mq_flow.specs.Laws.{IsSound}
+
+-- `MQS`, and the version
+abbrev pub signature : List ℕ
+signature = 0x4d ∷ 0x51 ∷ 0x53 ∷ 1 ∷ []
+
+-- a number of two bytes, the high byte first (1.5.2)
+abbrev pub number : ℕ → List ℕ
+number n = n / 256 ∷ n % 256 ∷ []
+
+-- a text, behind a count of two bytes (1.5.3)
+abbrev pub counted : List ℕ → List ℕ
+counted t = number (length t) ++ t
+
+-- a number of four bytes, the high byte first
+abbrev pub count : ℕ → List ℕ
+count n = number (n / 65536) ++ number (n % 65536)
+
+-- a payload, behind a count of four bytes
+abbrev pub saved_payload : List ℕ → List ℕ
+saved_payload p = count (length p) ++ p
+
+-- quality of service, whether it was sent, RETAIN
+abbrev pub saved_flags : Entry → List ℕ
+saved_flags e = qos_number e.message.qos ∷ bit e.sent ∷ bit e.message.retain ∷ []
+
+-- a message that is not acknowledged, with its identifier (4.3.2, 4.3.3)
+abbrev pub saved_entry : Entry → List ℕ
+saved_entry e = number e.id ++ (saved_flags e ++ (counted e.message.topic ++ saved_payload e.message.payload))
+
+-- so many identifiers, and they
+abbrev pub saved_ids : List ℕ → List ℕ
+saved_ids ids = number (length ids) ++ flat_map number ids
+
+-- what a sender keeps, in order, without the identifiers of SUBSCRIBE and UNSUBSCRIBE
+abbrev pub saved_sender : Sending → List ℕ
+saved_sender s = number s.capacity ++ (number s.last ++ (number (length s.book.entries) ++ (flat_map saved_entry s.book.entries ++ saved_ids s.book.released)))
+
+-- the identifiers of a set, ascending: those of 1 to 65,535 that are in it
+unfoldable pub ascending : ReceiverBook → List ℕ
+ascending r = filter (λ i. set.contains r i) (range_with_len 1 65535)
+
+-- the identifiers that were received, ascending (4.3.3)
+abbrev pub saved_receiver : ReceiverBook → List ℕ
+saved_receiver r = saved_ids (ascending r)
+
+abbrev pub saved_form : Session → List ℕ
+saved_form s = signature ++ (saved_sender s.sender ++ saved_receiver s.receiver)
+
+-- the session, and no SUBSCRIBE or UNSUBSCRIBE waits
+abbrev pub without_claims : Session → Session
+without_claims s = record s { sender = record s.sender { book = no_claims s.sender.book } }
+
+-- nothing is claimed, and b is the saved form
+pub record Saved (s : Session) (b : List ℕ) : Type 0 where
+  pub unclaimed : s.sender.book.claimed ≡ []
+  pub form : b ≡ saved_form s
+
+-- the PUBLISH of a message with an identifier has a remaining length within a limit (2.2.3, 3.3)
+abbrev pub IsWithinLimit : ℕ → Message → Type 0
+IsWithinLimit limit m = 2 + length m.topic + 2 + length m.payload ≤ limit
+
+-- what a message that is kept must be: of quality of service 1 or 2 (4.3.1), with a topic name (4.7), and within the limit
+pub record IsKept (limit : ℕ) (e : Entry) : Type 0 where
+  pub acknowledged : e.message.qos ≡ Q0 → ⊥
+  pub topic : IsTopicName e.message.topic
+  pub within : IsWithinLimit limit e.message
+
+-- What a session keeps true, and each PUBLISH of it is within the limit: its identifiers in use are sound, 1 to 65,535 may be in
+-- use, and those that were received are identifiers (2.3.1).
+pub record IsSessionWithin (limit : ℕ) (s : Session) : Type 0 where
+  pub sound : IsSound s.sender.capacity s.sender.book
+  pub able : 0 < s.sender.capacity
+  pub most : s.sender.capacity ≤ 65535
+  pub last : s.sender.last ≤ 65535
+  pub entries : AllByRecursion (IsKept limit) s.sender.book.entries
+  pub received : (i : ℕ) → set.contains s.receiver i ≡ true → IsIdentifier i
+
+-- and the limit is the standard's (2.2.3)
+abbrev pub IsSession : Session → Type 0
+IsSession s = IsSessionWithin 268435455 s

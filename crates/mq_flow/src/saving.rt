@@ -1,0 +1,179 @@
+//! Writing the saved form of a session (4.1).
+
+ghost use Rattle.std.specs.Prelude.{◌≡◌, ◌++◌, ◌<◌, ◌^◌, length, take, OnOk, OnErr};
+ghost use Rattle.std.specs.List.{flat_map};
+ghost use Rattle.std.specs.Ordering.{nat_cmp};
+ghost use Rattle.std.specs.BTreeSet.{IsOrdered};
+ghost use Rattle.mq_flow.specs.Receiver.{AreIdentifiers};
+ghost use Rattle.mq_flow.specs.Saved.{number, counted, count, saved_payload, saved_flags, saved_entry, saved_ids, saved_sender, saved_receiver, saved_form, signature, without_claims};
+
+use crate::entry::Entry;
+use crate::receiver::Receiver;
+use crate::sender::Sender;
+use crate::session::Session;
+use mq_packet::{Message, PacketId, Payload};
+use mq_topic::TopicName;
+use std::alloc::AllocError;
+use std::collections::{BTreeSet, VecDeque};
+
+/// `MQS`, and the version of the form.
+pub(crate) const SIGNATURE: [u8; 4] = [0x4d, 0x51, 0x53, 1];
+
+impl Session {
+    /// Appends the saved form of the session (4.1), version 1: what it sends and receives, and is not through with.
+    /// The identifiers in use by SUBSCRIBE and UNSUBSCRIBE are not saved. Errs where memory runs out, and then nothing
+    /// changes.
+    pub fn save(&self, out: &mut Vec<u8>) -> Result<(), AllocError>
+        ensures ok { OnOk result (out.new.items ≡ out.old.items ++ saved_form (without_claims self.now)) }
+        ensures err { OnErr result (out.new.items ≡ out.old.items) }
+    {
+        let before = out.len();
+        let put = put_session(out, self);
+        if put.is_err() {
+            out.truncate(before);
+        }
+        put
+    }
+}
+
+// Appends the saved form; where memory runs out a beginning of it.
+fn put_session(out: &mut Vec<u8>, session: &Session) -> Result<(), AllocError>
+    ensures ok { OnOk result (out.new.items ≡ out.old.items ++ saved_form session.now) }
+    ensures err { OnErr result (take (length out.old.items) out.new.items ≡ out.old.items) }
+{
+    out.extend_from_slice(&SIGNATURE)?;
+    session.sender.put(out)?;
+    session.receiver.put(out)
+}
+
+impl Sender {
+    // Appends what is saved of a sender.
+    fn put(&self, out: &mut Vec<u8>) -> Result<(), AllocError>
+        ensures ok { OnOk result (out.new.items ≡ out.old.items ++ saved_sender self.now) }
+        ensures err { OnErr result (take (length out.old.items) out.new.items ≡ out.old.items) }
+    {
+        put_number(out, self.capacity)?;
+        put_number(out, self.last)?;
+        put_entries(out, &self.entries)?;
+        put_released(out, &self.released)
+    }
+}
+
+impl Receiver {
+    // Appends what is saved of a receiver.
+    fn put(&self, out: &mut Vec<u8>) -> Result<(), AllocError>
+        ensures ok { OnOk result (out.new.items ≡ out.old.items ++ saved_receiver self.now) }
+        ensures err { OnErr result (take (length out.old.items) out.new.items ≡ out.old.items) }
+    {
+        put_stored(out, &self.stored)
+    }
+}
+
+// Appends how many identifiers there are, and they, ascending.
+fn put_stored(out: &mut Vec<u8>, stored: &BTreeSet<u16>) -> Result<(), AllocError>
+    requires { AreIdentifiers stored.now.keys }
+    ensures ok { OnOk result (out.new.items ≡ out.old.items ++ saved_ids stored.now.keys) }
+    ensures err { OnErr result (take (length out.old.items) out.new.items ≡ out.old.items) }
+    ensures ordered { IsOrdered nat_cmp stored.now }
+{
+    put_number(out, stored.len() as u16)?;
+    for id in stored {
+        put_number(out, *id)?;
+    }
+    Ok(())
+}
+
+// Appends how many entries there are, and they.
+fn put_entries(out: &mut Vec<u8>, entries: &VecDeque<Entry>) -> Result<(), AllocError>
+    requires { length entries.now.items < 65_536 }
+    ensures ok { OnOk result (out.new.items ≡ out.old.items ++ (number (length entries.now.items) ++ flat_map saved_entry entries.now.items)) }
+    ensures err { OnErr result (take (length out.old.items) out.new.items ≡ out.old.items) }
+{
+    put_number(out, entries.len() as u16)?;
+    for entry in entries {
+        put_entry(out, entry)?;
+    }
+    Ok(())
+}
+
+// Appends how many identifiers there are, and they.
+fn put_released(out: &mut Vec<u8>, released: &VecDeque<PacketId>) -> Result<(), AllocError>
+    requires { length released.now.items < 65_536 }
+    ensures ok { OnOk result (out.new.items ≡ out.old.items ++ saved_ids released.now.items) }
+    ensures err { OnErr result (take (length out.old.items) out.new.items ≡ out.old.items) }
+{
+    put_number(out, released.len() as u16)?;
+    for id in released {
+        put_number(out, id.get())?;
+    }
+    Ok(())
+}
+
+// Appends an entry.
+fn put_entry(out: &mut Vec<u8>, entry: &Entry) -> Result<(), AllocError>
+    ensures ok { OnOk result (out.new.items ≡ out.old.items ++ saved_entry entry.now) }
+    ensures err { OnErr result (take (length out.old.items) out.new.items ≡ out.old.items) }
+{
+    put_head(out, entry)?;
+    put_message(out, &entry.message)
+}
+
+// Appends what is said of an entry before its message.
+fn put_head(out: &mut Vec<u8>, entry: &Entry) -> Result<(), AllocError>
+    ensures ok { OnOk result (out.new.items ≡ out.old.items ++ (number entry.now.id ++ saved_flags entry.now)) }
+    ensures err { OnErr result (take (length out.old.items) out.new.items ≡ out.old.items) }
+{
+    put_number(out, entry.id.get())?;
+    out.extend_from_slice(&[
+        entry.message.qos.number(),
+        u8::from(entry.sent),
+        u8::from(entry.message.retain),
+    ])
+}
+
+// Appends the topic name and the payload of a message.
+fn put_message(out: &mut Vec<u8>, message: &Message) -> Result<(), AllocError>
+    ensures ok { OnOk result (out.new.items ≡ out.old.items ++ (counted message.now.topic ++ saved_payload message.now.payload)) }
+    ensures err { OnErr result (take (length out.old.items) out.new.items ≡ out.old.items) }
+{
+    put_topic(out, &message.topic)?;
+    put_payload(out, &message.payload)
+}
+
+// Appends a topic name, behind a count of two bytes.
+fn put_topic(out: &mut Vec<u8>, topic: &TopicName) -> Result<(), AllocError>
+    ensures ok { OnOk result (out.new.items ≡ out.old.items ++ counted topic.now) }
+    ensures err { OnErr result (take (length out.old.items) out.new.items ≡ out.old.items) }
+{
+    let text = topic.as_str().as_bytes();
+    put_number(out, text.len() as u16)?;
+    out.extend_from_slice(text)
+}
+
+// Appends a payload, behind a count of four bytes.
+fn put_payload(out: &mut Vec<u8>, payload: &Payload) -> Result<(), AllocError>
+    ensures ok { OnOk result (out.new.items ≡ out.old.items ++ saved_payload payload.now) }
+    ensures err { OnErr result (take (length out.old.items) out.new.items ≡ out.old.items) }
+{
+    let bytes = payload.as_slice();
+    put_count(out, bytes.len())?;
+    out.extend_from_slice(bytes)
+}
+
+// Appends a number of four bytes.
+fn put_count(out: &mut Vec<u8>, n: usize) -> Result<(), AllocError>
+    requires { n < 2 ^ 32 }
+    ensures ok { OnOk result (out.new.items ≡ out.old.items ++ count n) }
+    ensures err { OnErr result (take (length out.old.items) out.new.items ≡ out.old.items) }
+{
+    put_number(out, (n / 65_536) as u16)?;
+    put_number(out, (n % 65_536) as u16)
+}
+
+// Appends a number of two bytes.
+fn put_number(out: &mut Vec<u8>, n: u16) -> Result<(), AllocError>
+    ensures ok { OnOk result (out.new.items ≡ out.old.items ++ number n) }
+    ensures err { OnErr result (take (length out.old.items) out.new.items ≡ out.old.items) }
+{
+    out.extend_from_slice(&n.to_be_bytes())
+}
