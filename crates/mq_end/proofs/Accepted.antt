@@ -1,5 +1,5 @@
 -- Messages of quality of service 0 that are published.
-use Rattle.std.proofs.Common.{◌≡◌, ℕ, ◌++◌, List, [], ◌∷◌, None, true, refl, sym, ap, subst, ◌∙◌}
+use Rattle.std.proofs.Common.{◌≡◌, ℕ, ◌++◌, List, None, true, refl, sym, ap, subst, ◌∙◌}
 use Rattle.mq_topic.specs.declared.qos.Qos.{Qos}
 use Rattle.mq_topic.specs.declared.qos.Qos.TheVariants.{Q0}
 use Rattle.mq_packet.specs.declared.message.Message.{Message}

@@ -1,5 +1,5 @@
 -- What an end does with the bytes that come to it.
-use Rattle.std.proofs.Common.{◌≡◌, ◌⊎◌, inl, inr, ℕ, ◌<◌, List, [], ◌∷◌, ◌++◌, length, Option, Some, None, Result, Ok, Err, OnOk, IfErr, refl, sym, ap, subst, ◌∙◌}
+use Rattle.std.proofs.Common.{◌≡◌, inl, inr, ℕ, List, [], ◌++◌, Option, Some, None, Result, Ok, Err, OnOk, IfErr, refl, sym, ap, subst, ◌∙◌}
 use Rattle.mq_packet.specs.declared.packet.Packet.{Packet}
 use Rattle.mq_decode.specs.declared.fault.DecodeFault.{DecodeFault}
 use Rattle.mq_decode.specs.declared.fault.DecodeError.{DecodeError}
@@ -12,7 +12,7 @@ use Rattle.mq_end.specs.declared.role.Role.{Role}
 use Rattle.mq_end.specs.declared.role.Role.TheVariants.{Client, Server}
 use Rattle.mq_end.specs.declared.happening.Happening.{Happening}
 use Rattle.mq_end.specs.declared.told.Told.{Told}
-use Rattle.mq_end.specs.End.{End, Reply, first_reason, followed, one_by_one, closes}
+use Rattle.mq_end.specs.End.{End, Reply, first_reason, followed, closes}
 use Rattle.mq_end.specs.State.{EndState}
 use Rattle.mq_end.specs.Receiving.{Receives, ReceivesAs, Shows, Makes, Taken, Hears, IsBreak, held_after, gets_as, faulted_as}
 use Rattle.mq_end.proofs.Replies.{makes_then}

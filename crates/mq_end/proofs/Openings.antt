@@ -8,7 +8,7 @@ use Rattle.mq_end.specs.declared.opening.Terms.{Terms}
 use Rattle.mq_end.specs.declared.reason.CloseReason.TheVariants as reasons
 use Rattle.mq_end.specs.declared.role.Role.{Role}
 use Rattle.mq_end.specs.declared.role.Role.TheVariants.{Client, Server}
-use Rattle.mq_end.specs.End.{End, Reply, closes}
+use Rattle.mq_end.specs.End.{End, closes}
 use Rattle.mq_end.specs.Client.{client_open_gets, connack_gets}
 use Rattle.mq_end.specs.Server.{server_open_gets, level_refused}
 use Rattle.mq_end.specs.Opening.{connack_in, terms_get, terms_in}

@@ -1,6 +1,6 @@
 -- Bytes that come to an end: whole packets, and a rest.
 use Rattle.std.proofs.Common.{◌≡◌, ℕ, ◌<◌, ◌+◌, List, [], ◌∷◌, ◌++◌, length, Option, Some, None, refl, sym, ap, subst, ◌∙◌, append_assoc, arith}
-use Rattle.std.proofs.lemmas.List.{append-nil, length-append}
+use Rattle.std.proofs.lemmas.List.{length-append}
 use Rattle.mq_packet.specs.declared.packet.Packet.{Packet}
 use Rattle.mq_decode.specs.declared.fault.FaultKind.{FaultKind}
 use Rattle.mq_decode.specs.declared.fault.DecodeFault.{DecodeFault}
@@ -9,7 +9,7 @@ use Rattle.mq_decode.specs.Laws.{ReadsAgain}
 use Rattle.mq_end.specs.declared.reason.CloseReason.{CloseReason}
 use Rattle.mq_end.specs.declared.reason.CloseReason.TheVariants as reasons
 use Rattle.mq_end.specs.End.{End, Reply, first_reason, followed, one_by_one, closes}
-use Rattle.mq_end.specs.Receiving.{Receives, Ending, Waits, Closes, Breaks, Starves, Taken, TakesAll, Closed, Starved}
+use Rattle.mq_end.specs.Receiving.{Receives, Waits, Closes, Breaks, Starves, Taken, TakesAll, Closed, Starved}
 
 -- ---- streams and their rests
 

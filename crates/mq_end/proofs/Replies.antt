@@ -1,14 +1,13 @@
 -- Packets that come to an end one after another, and what it puts out for them.
-use Rattle.std.proofs.Common.{◌≡◌, ℕ, ◌<◌, ◌+◌, List, [], ◌∷◌, ◌++◌, length, take, get_or, Option, Some, None, refl, sym, ap, subst, ◌∙◌, append_assoc, arith}
-use Rattle.std.proofs.lemmas.List.{append-nil, length-append, take_more}
+use Rattle.std.proofs.Common.{◌≡◌, ℕ, ◌<◌, ◌+◌, List, [], ◌∷◌, ◌++◌, length, take, get_or, Option, Some, None, refl, sym, ap, subst, ◌∙◌, append_assoc}
+use Rattle.std.proofs.lemmas.List.{append-nil, take_more}
 use Rattle.mq_packet.specs.declared.packet.Packet.{Packet}
 use Rattle.mq_packet.specs.Spelling.{Spells}
 use Rattle.mq_end.specs.declared.reason.CloseReason.{CloseReason}
-use Rattle.mq_end.specs.declared.reason.CloseReason.TheVariants as reasons
 use Rattle.mq_end.specs.declared.told.Told.{Told}
-use Rattle.mq_end.specs.End.{End, Reply, silent, first_reason, followed, one_by_one, over, closes}
+use Rattle.mq_end.specs.End.{End, Reply, silent, first_reason, followed, one_by_one}
 use Rattle.mq_end.specs.State.{EndState, Spelled, PutsOut}
-use Rattle.mq_end.specs.Receiving.{Acts, Makes, Stays, held_after}
+use Rattle.mq_end.specs.Receiving.{Acts, Makes, held_after}
 
 -- ---- what is put out
 

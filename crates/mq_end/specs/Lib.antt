@@ -8,4 +8,5 @@ pub mod State
 pub mod Receiving
 pub mod Publishing
 pub mod Opening
+pub mod Requests
 pub mod Laws

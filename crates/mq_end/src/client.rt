@@ -4,20 +4,23 @@ ghost use Rattle.std.specs.Prelude.{◌≡◌, ◌<◌, ◌≤◌, ◌∷◌, �
 ghost use Rattle.mq_packet.specs.declared.packet.Packet.TheVariants as packets;
 ghost use Rattle.mq_end.specs.End.{blank_end, is_live, over};
 ghost use Rattle.mq_end.specs.Both.{publish_refusal};
-ghost use Rattle.mq_end.specs.Client.{connects};
+ghost use Rattle.mq_end.specs.Client.{connects, subscribes, subscribe_refusal, unsubscribes, unsubscribe_refusal, leaves, leave_refusal};
 ghost use Rattle.mq_end.specs.State.{PutsOut};
-ghost use Rattle.mq_end.specs.Receiving.{ClientReceives};
+ghost use Rattle.mq_end.specs.Receiving.{Acts, ClientReceives};
 ghost use Rattle.mq_end.specs.Publishing.{Accepts, connect_of};
+ghost use Rattle.mq_end.specs.Requests.{Requests, Ticks};
 
 use crate::config::ClientConfig;
 use crate::link::Link;
 use crate::progress::Progress;
 use crate::queue::ByteQueue;
+use crate::reason::CloseReason;
 use crate::refusal::PublishRefusal;
 use crate::role::Role;
 use crate::state::State;
 use mq_flow::Session;
-use mq_packet::{Connect, Message, Packet, PacketId};
+use mq_packet::{Connect, Message, NonEmpty, Packet, PacketId, Request};
+use mq_topic::TopicFilter;
 use std::alloc::{AllocError, Global};
 use std::marker::Model;
 
@@ -121,6 +124,63 @@ impl ClientEnd {
         ensures err { OnErr result (self.new ≡ self.old) }
     {
         self.link.publish(message)
+    }
+
+    /// Subscribes, and answers the packet identifier of the SUBSCRIBE, which is in use until its SUBACK (3.8). Errs with
+    /// the first refusal that stands, and then nothing changes.
+    pub fn subscribe(&mut self, requests: NonEmpty<Request>) -> Result<PacketId, PublishRefusal>
+        ensures refused { IfSome (subscribe_refusal self.old.link.limit self.old.link.capacity requests self.old.link.end)
+            (λ why. result ≡ Err why) }
+        ensures memory { IfNone (subscribe_refusal self.old.link.limit self.old.link.capacity requests self.old.link.end)
+            (IfErr result (λ why. why ≡ PublishRefusal.Memory)) }
+        ensures ok { IfOk result (λ id. Requests id (subscribes id requests self.old.link.end) self.old.link self.new.link) }
+        ensures config { self.new.config ≡ self.old.config }
+        ensures err { OnErr result (self.new ≡ self.old) }
+    {
+        self.link.subscribe(requests)
+    }
+
+    /// Gives subscriptions up, and answers the packet identifier of the UNSUBSCRIBE, which is in use until its UNSUBACK
+    /// (3.10). Errs with the first refusal that stands, and then nothing changes.
+    pub fn unsubscribe(
+        &mut self,
+        filters: NonEmpty<TopicFilter>,
+    ) -> Result<PacketId, PublishRefusal>
+        ensures refused { IfSome (unsubscribe_refusal self.old.link.limit self.old.link.capacity filters self.old.link.end)
+            (λ why. result ≡ Err why) }
+        ensures memory { IfNone (unsubscribe_refusal self.old.link.limit self.old.link.capacity filters self.old.link.end)
+            (IfErr result (λ why. why ≡ PublishRefusal.Memory)) }
+        ensures ok { IfOk result (λ id. Requests id (unsubscribes id filters self.old.link.end) self.old.link self.new.link) }
+        ensures config { self.new.config ≡ self.old.config }
+        ensures err { OnErr result (self.new ≡ self.old) }
+    {
+        self.link.unsubscribe(filters)
+    }
+
+    /// Leaves: DISCONNECT is put out, and the end closes (3.14). The session stays but for the identifiers of SUBSCRIBE
+    /// and UNSUBSCRIBE; after clean session 1 it is gone (3.1.2.4). Errs where the end is not up or memory runs out, and
+    /// then nothing changes.
+    pub fn disconnect(&mut self) -> Result<(), PublishRefusal>
+        ensures refused { IfSome (leave_refusal self.old.link.end) (λ why. result ≡ Err why) }
+        ensures memory { IfNone (leave_refusal self.old.link.end) (IfErr result (λ why. why ≡ PublishRefusal.Memory)) }
+        ensures ok { OnOk result (Acts (leaves self.old.link.end) self.old.link self.new.link) }
+        ensures config { self.new.config ≡ self.old.config }
+        ensures err { OnErr result (self.new ≡ self.old) }
+    {
+        self.link.disconnect()
+    }
+
+    /// It is this moment: where the end is up, and a keep-alive has gone by since its CONNECT or its last PINGREQ, it puts
+    /// out PINGREQ (3.1.2.10, 3.12). It never closes, so that the answer is `None`. Errs where memory runs out, and then
+    /// nothing changes.
+    pub fn tick(&mut self, now: u64) -> Result<Option<CloseReason>, AllocError>
+        ensures ok { OnOk result (Ticks now self.old.link self.new.link) }
+        ensures closed { IfOk result (λ closed. closed ≡ None) }
+        ensures config { self.new.config ≡ self.old.config }
+        ensures err { OnErr result (self.new ≡ self.old) }
+    {
+        self.link.tick_client(now)?;
+        Ok(None)
     }
 
     /// The connection is lost (4.2): what waits to be written is gone. It takes no memory.

@@ -17,10 +17,13 @@ mod queue;
 mod reason;
 mod receiving;
 mod refusal;
+mod requesting;
 mod role;
 mod server;
 mod state;
 mod taking;
+#[cfg(test)]
+mod tests;
 mod told;
 
 pub use crate::client::ClientEnd;

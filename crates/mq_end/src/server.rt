@@ -1,9 +1,9 @@
 //! The server end.
 
-ghost use Rattle.std.specs.Prelude.{◌≡◌, ◌<◌, ◌≤◌, ◌↔◌, ℕ, [], true, false, length, drop, IfOk, IfErr, IfSome, IfNone, IsSome, OnErr, Err, None, Some};
+ghost use Rattle.std.specs.Prelude.{◌≡◌, ◌<◌, ◌≤◌, ◌↔◌, ℕ, [], true, false, length, drop, IfOk, IfErr, IfSome, IfNone, IsSome, OnOk, OnErr, Err, None, Some};
 ghost use Rattle.mq_end.specs.End.{blank_end, is_live, over};
-ghost use Rattle.mq_end.specs.Server.{opens, server_publish_refusal};
-ghost use Rattle.mq_end.specs.Receiving.{ServerReceives};
+ghost use Rattle.mq_end.specs.Server.{opens, server_publish_refusal, subacks, suback_refusal, unsubacks, unsuback_refusal};
+ghost use Rattle.mq_end.specs.Receiving.{Acts, ServerReceives};
 ghost use Rattle.mq_end.specs.Publishing.{Accepts};
 
 use crate::config::ServerConfig;
@@ -14,7 +14,7 @@ use crate::refusal::PublishRefusal;
 use crate::role::Role;
 use crate::state::State;
 use mq_flow::Session;
-use mq_packet::{Message, PacketId};
+use mq_packet::{Message, NonEmpty, PacketId, SubAckCode};
 use std::alloc::Global;
 use std::marker::Model;
 
@@ -97,6 +97,34 @@ impl ServerEnd {
             return Err(PublishRefusal::NoSession);
         }
         self.link.publish(message)
+    }
+
+    /// Answers a SUBSCRIBE of the client: SUBACK is put out, with this packet identifier and these codes (3.9). Errs with
+    /// the first refusal that stands, and then nothing changes.
+    pub fn suback(
+        &mut self,
+        id: PacketId,
+        codes: NonEmpty<SubAckCode>,
+    ) -> Result<(), PublishRefusal>
+        ensures refused { IfSome (suback_refusal self.old.limit codes self.old.end) (λ why. result ≡ Err why) }
+        ensures memory { IfNone (suback_refusal self.old.limit codes self.old.end)
+            (IfErr result (λ why. why ≡ PublishRefusal.Memory)) }
+        ensures ok { OnOk result (Acts (subacks id codes self.old.end) self.old self.new) }
+        ensures err { OnErr result (self.new ≡ self.old) }
+    {
+        self.link.suback(id, codes)
+    }
+
+    /// Answers an UNSUBSCRIBE of the client: UNSUBACK is put out, with this packet identifier (3.11). Errs with the first
+    /// refusal that stands, and then nothing changes.
+    pub fn unsuback(&mut self, id: PacketId) -> Result<(), PublishRefusal>
+        ensures refused { IfSome (unsuback_refusal self.old.limit self.old.end) (λ why. result ≡ Err why) }
+        ensures memory { IfNone (unsuback_refusal self.old.limit self.old.end)
+            (IfErr result (λ why. why ≡ PublishRefusal.Memory)) }
+        ensures ok { OnOk result (Acts (unsubacks id self.old.end) self.old self.new) }
+        ensures err { OnErr result (self.new ≡ self.old) }
+    {
+        self.link.unsuback(id)
     }
 
     /// The connection is lost (4.2): what waits to be written is gone. It takes no memory.

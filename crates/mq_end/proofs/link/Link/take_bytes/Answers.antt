@@ -1,6 +1,5 @@
 use Rattle.std.proofs.Common.{Some, IfErr, Result, ◌++◌, sym, subst}
 use Rattle.mq_decode.specs.declared.fault.DecodeError.{DecodeError}
-use Rattle.mq_decode.specs.declared.fault.DecodeError.TheVariants as errors
 use Rattle.mq_decode.specs.Grammar.{Stops}
 use Rattle.mq_end.specs.declared.reason.CloseReason.{CloseReason}
 use Rattle.mq_end.specs.declared.reason.CloseReason.TheVariants as reasons
