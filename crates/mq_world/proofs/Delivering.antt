@@ -39,7 +39,7 @@ ignores : ClosingLaws → (side : Side) (ps : List Packet) (e : End) → e.state
 ignores laws Client ps e h = laws.client_ignores ps e h
 ignores laws Server ps e h = laws.server_ignores ps e h
 
-closes_all : ClosingLaws → (side : Side) (ps : List Packet) (e : End) (reason : CloseReason) → (one_by_one (gets side) ps e).close ≡ Some reason → (one_by_one (gets side) ps e).end.state ≡ Closed
+pub closes_all : ClosingLaws → (side : Side) (ps : List Packet) (e : End) (reason : CloseReason) → (one_by_one (gets side) ps e).close ≡ Some reason → (one_by_one (gets side) ps e).end.state ≡ Closed
 closes_all laws side [] e reason h = absurd (some_not reason h)
 closes_all laws side (p ∷ ps) e reason h = at (gets side p e).close refl h (closes_all laws side ps (gets side p e).end reason)
   where
@@ -140,6 +140,8 @@ module _ (limit capacity : ℕ) (side : Side) (w : Wired) (m : Machine) (b left 
         packets = ps;
         moves = moves;
         comes = record { front = front; rest = rest; stream = c.stream; parts = c.parts; all = pending };
+        later = c.later;
+        first = c.queue;
         arrivals = inl refl;
         follows = follows limit capacity side w m moves (hearing left new happenings acknowledged closed (near side w)) (took (half_of side m) c.later all).half all.out new.output c.stands run (subst (λ (r : Reply). Spelled r.out new.output) same (put_out c)) near_side;
       }
@@ -159,6 +161,8 @@ module _ (limit capacity : ℕ) (side : Side) (w : Wired) (m : Machine) (b left 
         packets = ps;
         moves = moves;
         comes = record { front = front; rest = rest; stream = c.stream; parts = c.parts; all = λ open_still. absurd (some_not reasons.Memory (sym open_still ∙ why)) };
+        later = c.later;
+        first = c.queue;
         arrivals = inr (why, refl);
         follows = follows limit capacity side w m moves (hearing left new happenings acknowledged closed (near side w)) (took (half_of side m) [] last).half all.out new.output c.stands run out near_side;
       }

@@ -20,6 +20,8 @@ pub mod Wires
 pub mod Standing
 pub mod Moving
 pub mod Delivering
+pub mod Exchanging
 pub mod Events
 pub mod Worlds
+pub mod Settled
 pub mod Accounts

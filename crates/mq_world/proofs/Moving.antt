@@ -23,7 +23,7 @@ use Rattle.mq_world.proofs.Standing.{reached_on, side_near, follows_one, no_more
 
 -- ---- publishing
 
-same_state : (q : Qos) (i : ℕ) (m : Message) (e : End) → (publishes_at q i m e).end.state ≡ e.state
+pub same_state : (q : Qos) (i : ℕ) (m : Message) (e : End) → (publishes_at q i m e).end.state ≡ e.state
 same_state Q0 i m e = refl
 same_state Q1 i m e = refl
 same_state Q2 i m e = refl

@@ -2,18 +2,15 @@
 use Rattle.std.proofs.Common.{◌≡◌, ℕ, ◌<◌, ◌≤◌, Bool, true, false, not, ◌&&◌, Option, None, Some, Result, Ok, Err, List, [], ◌∷◌, ◌++◌, length, take, drop, get_or, ◌+◌, add-one, refl, sym, ap, subst, ◌∙◌, nat_lt, IfSome, IfNone, IfErr, OnOk, OnErr}
 use Rattle.std.specs.Result.{is_err}
 use Rattle.std.proofs.Math.Seq.{take-suc}
-use Rattle.std.proofs.lemmas.List.{append-nil, take-append-drop}
+use Rattle.std.proofs.lemmas.List.{take-append-drop}
 use Rattle.mq_packet.specs.declared.message.Message.{Message}
-use Rattle.mq_end.specs.declared.happening.Happening.{Happening}
-use Rattle.mq_end.specs.declared.reason.CloseReason.{CloseReason}
 use Rattle.mq_end.specs.declared.refusal.PublishRefusal.{PublishRefusal}
 use Rattle.mq_end.specs.declared.refusal.PublishRefusal.TheVariants as refusals
-use Rattle.mq_end.specs.declared.state.State.{State}
 use Rattle.mq_packet.specs.declared.packet.Packet.TheVariants as packets
 use Rattle.mq_end.specs.End.{End, is_live, over, blank_end}
 use Rattle.mq_end.specs.Client.{connects}
 use Rattle.mq_end.specs.Server.{opens}
-use Rattle.mq_end.specs.Both.{has_identifier, answered_identifier, publishes}
+use Rattle.mq_end.specs.Both.{has_identifier, answered_identifier}
 use Rattle.mq_end.specs.Laws.{MayHave}
 use Rattle.mq_end.specs.State.{EndState, PutsOut}
 use Rattle.mq_end.specs.Publishing.{Accepts}
@@ -27,12 +24,11 @@ use Rattle.mq_world.specs.declared.answer.Answer.TheVariants as answers
 use Rattle.mq_world.specs.declared.answer.Delivery.{Delivery}
 use Rattle.mq_world.specs.declared.answer.Opening.{Opening}
 use Rattle.mq_world.specs.declared.answer.Settling.{Settling}
-use Rattle.mq_world.specs.Half.{HandedOn, Publishes, Drops, refusal, freed_with, accepted_with}
+use Rattle.mq_world.specs.Half.{Publishes, Drops, refusal, freed_with, accepted_with}
 use Rattle.mq_world.specs.Machine.{Machine, Move, By, Opens, first_packet, blank_machine}
-use Rattle.mq_world.specs.Identifiers.{half_of}
 use Rattle.mq_world.specs.Carries.{WiredSide, Wired}
 use Rattle.mq_world.specs.OverBytes.{OverBytes, Stands, Follows, Delivers, ReceivesAt, SameBounds, near, far, facing, written, with_more, accepting, hearing, handed_with, left_on, cut_off, blank_side}
-use Rattle.mq_world.specs.World.{Moves, IsAccepted, IsRefused, reason_or_memory, Hears, Ignores, IsDelivered, IsLost, IsOpened, IsSettled, Does, Leads, InTurn, exchanges}
+use Rattle.mq_world.specs.World.{Moves, IsAccepted, IsRefused, reason_or_memory, Ignores, IsDelivered, IsLost, IsOpened, IsSettled, Does, Leads, InTurn, exchanges}
 use Rattle.mq_world.proofs.Standing.{side_near, no_more_bytes}
 
 -- ---- sides
@@ -256,7 +252,7 @@ new_at law limit capacity w c s large ce cl cc_ se sl sc e = subst (λ (u : Wire
 stands_moved : (limit capacity : ℕ) (w v : Wired) (m : Machine) (moves : List Move) → Stands limit capacity w m → Moves limit capacity w moves v → (n : Machine) × Stands limit capacity v n
 stands_moved limit capacity w v m moves s f = let g = f m s in (g.machine, g.stands)
 
-live_or_not : (b : Bool) (A : Type 0) → (b ≡ true → A) → (b ≡ false → A) → A
+pub live_or_not : (b : Bool) (A : Type 0) → (b ≡ true → A) → (b ≡ false → A) → A
 live_or_not true A f g = f refl
 live_or_not false A f g = g refl
 
@@ -330,4 +326,5 @@ leads_next limit capacity es k rest e a u v w below at h come =
 pub stands_settled : OverBytes → (limit capacity : ℕ) (w v : Wired) (m : Machine) (s : Settling) → Stands limit capacity w m → IsSettled limit capacity s w v → (n : Machine) × Stands limit capacity v n
 stands_settled law limit capacity w v m s t h =
     let g = stands_opened limit capacity w h.between m s.opening t h.opened in
-    stands_turned law limit capacity exchanges s.deliveries h.between v g.0 g.1 h.exchanged
+    let k = stands_turned law limit capacity (take 4 exchanges) (take 4 s.deliveries) h.between h.second g.0 g.1 h.exchanged_twice in
+    stands_turned law limit capacity (drop 4 exchanges) (drop 4 s.deliveries) h.second v k.0 k.1 h.exchanged_again

@@ -11,6 +11,7 @@ pub mod Sessions
 pub mod Carried
 pub mod Carries
 pub mod OverBytes
+pub mod SettlesOver
 pub mod Listed
 pub mod Pairs
 pub mod World

@@ -1,8 +1,7 @@
 -- What contracts see of the lists of a side.
-use Rattle.std.specs.Prelude.{ℕ, List, length}
+use Rattle.std.specs.Prelude.{ℕ, length}
 use Rattle.mq_topic.specs.declared.qos.Qos.{Qos}
 use Rattle.mq_topic.specs.declared.qos.Qos.TheVariants.{Q0, Q1, Q2}
-use Rattle.mq_packet.specs.declared.message.Message.{Message}
 use Rattle.mq_world.specs.declared.account.Account.{Account}
 use Rattle.mq_world.specs.Half.{Accepted, HandedOn}
 

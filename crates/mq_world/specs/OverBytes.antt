@@ -19,6 +19,7 @@ use Rattle.mq_world.specs.declared.side.Side.TheVariants.{Client, Server}
 use Rattle.mq_world.specs.Half.{HandedOn, Publishes, Drops, Leaves, Pings, blank_half, gets, refusal, told, freed_with, accepted_with}
 use Rattle.mq_world.specs.Machine.{Machine, Move, By, Opens, Run, blank_machine, first_packet}
 use Rattle.mq_world.specs.Headline.{Headline}
+use Rattle.mq_world.specs.Identifiers.{half_of}
 use Rattle.mq_world.specs.Carries.{WiredSide, Wired, Carries, Reached, Comes, AreArrivals, seen}
 
 -- ---- the world
@@ -109,11 +110,13 @@ ReceivesAt side piece old new happenings acknowledged closed = (r : Reply)
     × Receives old.limit (gets side) (faulted side) (old.held ++ piece) old.end r new.held
     × Shows r old new happenings acknowledged closed
 
--- Bytes came to a side: with them so many packets, and the machine made as many arrivals.
+-- Bytes came to a side: with them the first packets of the queue toward it, and the machine made as many arrivals.
 pub record Delivers (limit capacity : ℕ) (side : Side) (m : Machine) (b : List ℕ) (closed : Option CloseReason) (w : Wired) : Type 0 where
   pub packets : List Packet
   pub moves : List Move
   pub comes : Comes limit b closed packets
+  pub later : List Packet
+  pub first : (half_of side m).coming ≡ packets ++ later
   pub arrivals : AreArrivals side (length packets) closed moves
   pub follows : Follows limit capacity m moves w
 

@@ -1,6 +1,7 @@
 -- A world: two ends over bytes, what came of each event, and what it leads to.
-use Rattle.std.specs.Prelude.{ℕ, ◌≡◌, ◌↔◌, Bool, true, false, not, ◌&&◌, Option, None, Some, Ok, Err, List, [], ◌∷◌, ◌++◌, length, take, drop, nat_lt, IsTrue}
+use Rattle.std.specs.Prelude.{ℕ, ◌≡◌, ◌≢◌, ◌↔◌, Bool, true, false, not, ◌&&◌, Option, None, Some, Ok, Err, List, [], ◌∷◌, ◌++◌, length, take, drop, nat_lt, All, IsTrue}
 use Rattle.mq_packet.specs.declared.message.Message.{Message}
+use Rattle.mq_end.specs.declared.reason.CloseReason.TheVariants as reasons
 use Rattle.mq_end.specs.declared.refusal.PublishRefusal.{PublishRefusal}
 use Rattle.mq_end.specs.declared.refusal.PublishRefusal.TheVariants as refusals
 use Rattle.mq_end.specs.End.{End, is_live}
@@ -17,8 +18,9 @@ use Rattle.mq_world.specs.declared.answer.Opening.{Opening}
 use Rattle.mq_world.specs.declared.answer.Settling.{Settling}
 use Rattle.mq_world.specs.Half.{Publishes, Drops, refusal, freed_with}
 use Rattle.mq_world.specs.Machine.{Machine, Move, By, Opens, blank_machine}
-use Rattle.mq_world.specs.Carries.{WiredSide, Wired}
+use Rattle.mq_world.specs.Carries.{Wired}
 use Rattle.mq_world.specs.OverBytes.{Stands, Follows, Delivers, ReceivesAt, SameBounds, near, far, facing, with_more, hearing, handed_with, left_on}
+use Rattle.mq_world.specs.SettlesOver.{HoldsNothing}
 
 -- What contracts see of a world: its sides, the bound on the remaining length (2.2.3), the most packet identifiers in use at a side
 -- (2.3.1), whether memory ran out, and what came of the events so far, the oldest first.
@@ -134,11 +136,21 @@ exchanges = Server ∷ Client ∷ Server ∷ Client ∷ Server ∷ Client ∷ []
 abbrev pub IsIdle : End → Type 0
 IsIdle e = (e.book.entries ≡ []) × (e.book.released ≡ [])
 
+-- Memory did not run out while a world settled: not for CONNECT, and no end closed for want of it.
+abbrev pub MetNoWant : Answer → Type 0
+MetNoWant (answers.Settled s) = (s.opening.refused ≡ false) × All (λ d. d.progress.closed ≢ Some reasons.Memory) s.deliveries
+MetNoWant answer = ⊥
+
 -- A connection is opened, and three exchanges follow (4.4).
 pub record IsSettled (limit capacity : ℕ) (s : Settling) (old new : Wired) : Type 0 where
+  -- the worlds after the opening and after the second exchange
   pub between : Wired
+  pub second : Wired
   pub opened : IsOpened limit capacity s.opening old between
-  pub exchanged : InTurn limit capacity exchanges s.deliveries between new
+  pub exchanged_twice : InTurn limit capacity (take 4 exchanges) (take 4 s.deliveries) between second
+  pub exchanged_again : InTurn limit capacity (drop 4 exchanges) (drop 4 s.deliveries) second new
+  -- for the messages two exchanges are enough, the third is for the released identifiers
+  pub second_left : MetNoWant (answers.Settled s) → HoldsNothing second
   -- a server without a session has nothing that waits
   pub idle : IsTrue s.idle ↔ (IsIdle new.client.state.end × (new.server.state.end.known ≡ true → IsIdle new.server.state.end))
 

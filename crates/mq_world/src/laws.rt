@@ -9,6 +9,7 @@ ghost use Rattle.mq_world.specs.Sessions.{SessionsLaw};
 ghost use Rattle.mq_world.specs.Carried.{CarriedLaw};
 ghost use Rattle.mq_world.specs.Examples.{Examples};
 ghost use Rattle.mq_world.specs.OverBytes.{OverBytes};
+ghost use Rattle.mq_world.specs.SettlesOver.{SettlesOver};
 
 use mq_decode::reads_again;
 use mq_end::closing_laws;
@@ -68,6 +69,15 @@ pub fn carried()
 /// the world (4.2, 4.3, 4.6).
 pub fn over_bytes()
     ensures { OverBytes }
+{
+    reads_again();
+    closing_laws();
+}
+
+/// An exchange of all the bytes of a world is one of all the packets of the machine that it carries, wherever no end
+/// runs out of memory; and so a new connection and three exchanges settle the world (4.4).
+pub fn settles_over_bytes()
+    ensures { SettlesOver }
 {
     reads_again();
     closing_laws();

@@ -10,6 +10,8 @@ mod event;
 mod laws;
 mod pair;
 mod side;
+#[cfg(test)]
+mod tests;
 mod trace;
 mod world;
 
@@ -18,7 +20,7 @@ pub use crate::answer::{Answer, Delivery, Opening, Settling};
 pub use crate::event::Event;
 pub use crate::laws::{
     arrivals_at_once, carried, examples, headline, identifiers, over_bytes, runs, sessions,
-    settling,
+    settles_over_bytes, settling,
 };
 pub use crate::side::Side;
 pub use crate::trace::Trace;

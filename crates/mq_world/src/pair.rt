@@ -6,11 +6,12 @@ ghost use Rattle.mq_end.specs.Publishing.{connect_of};
 ghost use Rattle.mq_world.specs.Machine.{Machine, first_packet};
 ghost use Rattle.mq_world.specs.OverBytes.{Stands, near, left_on};
 ghost use Rattle.mq_world.specs.Pairs.{wired_of};
-ghost use Rattle.mq_world.specs.World.{Does, IsDelivered, IsOpened, IsSettled, IsIdle};
+ghost use Rattle.mq_world.specs.SettlesOver.{SettledFrom};
+ghost use Rattle.mq_world.specs.World.{Does, IsDelivered, IsOpened, IsSettled, IsIdle, MetNoWant};
 
 use crate::answer::{Answer, Delivery, Opening, Settling};
 use crate::event::Event;
-use crate::laws::over_bytes;
+use crate::laws::{over_bytes, settles_over_bytes};
 use crate::side::Side;
 use crate::trace::Trace;
 use mq_end::{ByteQueue, ClientEnd, CloseReason, Items, ServerEnd, State};
@@ -235,10 +236,13 @@ impl Pair {
         requires config { connect_of self.old.client.config false ≡ first_packet }
         ensures settled { IfOk result (λ s. (limit capacity : ℕ) (m : Machine) → Stands limit capacity (wired_of self.old) m
             → IsSettled limit capacity s (wired_of self.old) (wired_of self.new)) }
+        ensures left { IfOk result (λ s. (limit capacity : ℕ) (m : Machine) → Stands limit capacity (wired_of self.old) m
+            → MetNoWant (Answer.Settled s) → SettledFrom (wired_of self.old) (wired_of self.new)) }
         ensures config { self.new.client.config ≡ self.old.client.config }
         ensures answers { self.new.trace.answers ≡ self.old.trace.answers }
     {
         over_bytes();
+        settles_over_bytes();
         let opening = self.open();
         let mut deliveries = Vec::new(self.alloc);
         for side in EXCHANGES {

@@ -3,9 +3,11 @@
 ghost use Rattle.std.specs.Prelude.{◌≡◌, ◌<◌, ◌↔◌, ◌∷◌, ◌++◌, [], true, false, IfOk, IfSome, IsSome, IsErr, OnOk, OnErr};
 ghost use Rattle.mq_world.specs.Carries.{Wired, seen};
 ghost use Rattle.mq_world.specs.Headline.{Headline};
-ghost use Rattle.mq_world.specs.OverBytes.{near};
+ghost use Rattle.mq_world.specs.Machine.{Machine};
+ghost use Rattle.mq_world.specs.OverBytes.{Stands, near};
 ghost use Rattle.mq_world.specs.Listed.{accepted_in, handed_in};
-ghost use Rattle.mq_world.specs.World.{Does, IsNew, Leads, Settles};
+ghost use Rattle.mq_world.specs.SettlesOver.{SettledFrom};
+ghost use Rattle.mq_world.specs.World.{Does, IsNew, Leads, MetNoWant, Settles};
 
 use crate::account::Account;
 use crate::answer::Answer;
@@ -127,9 +129,12 @@ impl World {
     }
 
     /// Opens a connection and makes three exchanges, in each of which all that is on its way to the server comes, then all
-    /// that is on its way to the client (4.4). Errs where memory runs out, and each time from then on.
+    /// that is on its way to the client (4.4). Wherever no end ran out of memory, both sides are idle then, and each message
+    /// of quality of service 1 or 2 that was accepted was handed on, with 2 just once and in order. Errs where memory runs
+    /// out, and each time from then on.
     pub fn settle(&mut self) -> Result<Answer, AllocError>
         ensures settles { IfOk result (λ answer. Settles self.old.limit self.old.capacity answer self.old.wired self.new.wired) }
+        ensures settled { IfOk result (λ answer. MetNoWant answer → SettledFrom self.old.wired self.new.wired) }
         ensures answers { IfOk result (λ answer. self.new.answers ≡ self.old.answers ++ answer ∷ []) }
         ensures headline { OnOk result (Headline (seen self.new.wired)) }
         ensures ok { OnOk result (self.new.failed ≡ false) }
@@ -173,9 +178,11 @@ impl World {
         Ok(world)
     }
 
-    // What every world keeps.
-    fn promise(&self)
-        ensures { self.now.failed ≡ false → Headline (seen self.now.wired) }
+    /// What every world keeps in which no event failed: it carries a machine that a run reaches, so what the laws say of each
+    /// run holds of it, and what its sides handed on stands to what they accepted as promised (4.3). It does nothing.
+    pub fn promise(&self)
+        ensures carries { self.now.failed ≡ false → (m : Machine) × Stands self.now.limit self.now.capacity self.now.wired m }
+        ensures headline { self.now.failed ≡ false → Headline (seen self.now.wired) }
     {
         over_bytes();
         let _failed = self.failed;

@@ -1,7 +1,7 @@
-use Rattle.std.proofs.Common.{◌≡◌, ℕ, not, ◌&&◌, nat_lt, List, length, refl, ap, ◌∙◌}
+use Rattle.std.proofs.Common.{not, ◌&&◌, nat_lt, length, refl, ap, ◌∙◌}
 use Rattle.mq_end.specs.End.{is_live}
 use Rattle.mq_end.specs.Publishing.{ClientState}
-use Rattle.mq_world.specs.declared.side.Side.TheVariants.{Client, Server}
+use Rattle.mq_world.specs.declared.side.Side.TheVariants.{Client}
 use Rattle.mq_world.specs.declared.answer.Delivery.{Delivery}
 use Rattle.mq_world.specs.Carries.{Wired}
 use Rattle.mq_world.specs.OverBytes.{left_on}

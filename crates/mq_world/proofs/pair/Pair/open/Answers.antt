@@ -1,17 +1,13 @@
-use Rattle.std.proofs.Common.{◌≡◌, ℕ, true, false, Option, None, Some, List, [], ◌∷◌, ◌++◌, refl, sym, ap, subst, ◌∙◌}
+use Rattle.std.proofs.Common.{◌≡◌, true, false, [], ◌∷◌, refl, sym, ap, subst, ◌∙◌}
 use Rattle.mq_end.specs.End.{is_live}
 use Rattle.mq_end.specs.State.{EndState}
 use Rattle.mq_end.specs.Publishing.{ClientState, connect_of}
-use Rattle.mq_world.specs.declared.side.Side.{Side}
-use Rattle.mq_world.specs.declared.side.Side.TheVariants.{Client, Server}
-use Rattle.mq_world.specs.Carries.{WiredSide, Wired}
+use Rattle.mq_world.specs.Carries.{Wired}
 use Rattle.mq_packet.specs.declared.connect.Connect.{Connect}
 use Rattle.mq_packet.specs.declared.packet.Packet.TheVariants as packets
-use Rattle.mq_end.specs.End.{End, over}
+use Rattle.mq_end.specs.End.{over}
 use Rattle.mq_end.specs.Client.{connects}
 use Rattle.mq_end.specs.State.{PutsOut}
-use Rattle.mq_world.specs.Machine.{first_packet}
-use Rattle.mq_world.specs.OverBytes.{cut_off, with_more, written}
 use Rattle.mq_world.specs.Pairs.{wired_of}
 use Rattle.mq_world.specs.declared.answer.Opening.{Opening}
 use Rattle.mq_world.proofs.Worlds.{opened_at, refused_open, cut_same, on_ok, on_err, written_same}

@@ -1,10 +1,7 @@
-use Rattle.std.proofs.Common.{◌≡◌, ℕ, true, false, Option, None, Some, List, [], ◌∷◌, ◌++◌, refl, sym, ap, subst, ◌∙◌}
-use Rattle.mq_end.specs.End.{is_live}
-use Rattle.mq_end.specs.State.{EndState}
+use Rattle.std.proofs.Common.{refl, ap}
 use Rattle.mq_end.specs.Publishing.{ClientState}
-use Rattle.mq_world.specs.declared.side.Side.{Side}
-use Rattle.mq_world.specs.declared.side.Side.TheVariants.{Client, Server}
-use Rattle.mq_world.specs.Carries.{WiredSide, Wired}
+use Rattle.mq_world.specs.declared.side.Side.TheVariants.{Client}
+use Rattle.mq_world.specs.Carries.{Wired}
 use Rattle.mq_world.specs.Pairs.{wired_of}
 use Rattle.mq_world.specs.Listed.{accepted_in, handed_in}
 use Rattle.mq_world.proofs.Worlds.{published_at}

@@ -1,9 +1,9 @@
-use Rattle.std.proofs.Common.{◌≡◌, ℕ, suc, ◌+◌, ◌<◌, List, [], ◌∷◌, ◌++◌, length, take, refl, sym, ap, subst, ◌∙◌, add-one, arith}
-use Rattle.mq_world.specs.declared.side.Side.{Side}
+use Rattle.std.proofs.Common.{◌+◌, List, take, refl, sym, subst, ◌∙◌, arith}
 use Rattle.mq_world.specs.declared.answer.Delivery.{Delivery}
 use Rattle.mq_world.specs.Pairs.{wired_of}
 use Rattle.mq_world.specs.World.{InTurn, exchanges}
-use Rattle.mq_world.proofs.Worlds.{stands_opened, stands_turned, turn_next}
+use Rattle.mq_world.proofs.Worlds.{stands_turned, turn_next}
+use Rattle.mq_world.proofs.Settled.{all_turned, turn_split, left_twice, left_settled}
 use Rattle.mq_world.proofs.pair.Pair.settle.Goals as goal
 
 pub loop-side-preserved : goal.loop-side-preserved
@@ -22,15 +22,29 @@ loop-side-preserved c = record {
 
 pub returns-clause-settled : goal.returns-clause-settled
 returns-clause-settled c = λ limit capacity m s.
+    let old = wired_of c.args.self.now in
     let start = wired_of c.open-opening.new.self in
     let last = wired_of c.loop-side.self in
+    let ds = c.from_vec.result in
     let opened = c.open-opening.ensures.opened limit capacity m s in
-    let g = stands_opened limit capacity (wired_of c.args.self.now) start m c.open-opening.result s opened in
-    let all : c.loop-side.side-index ≡ 6 = omega arith in
-    let turns = subst (λ (n : ℕ). InTurn limit capacity (take n exchanges) c.loop-side.deliveries.items start last) all (c.loop-side.invariant.turns limit capacity g.0 g.1) in
+    let turns = all_turned limit capacity c.loop-side.side-index c.loop-side.deliveries.items ds old start last m c.open-opening.result (omega arith) c.from_vec.ensures s opened (c.loop-side.invariant.turns limit capacity) in
+    let parts = turn_split limit capacity 4 exchanges ds start last turns in
     record {
       between = start;
+      second = parts.0;
       opened = opened;
-      exchanged = subst (λ (ds : List Delivery). InTurn limit capacity exchanges ds start last) (sym c.from_vec.ensures) turns;
+      exchanged_twice = parts.1;
+      exchanged_again = parts.2;
+      second_left = left_twice c.settles_over_bytes.ensures limit capacity old start parts.0 m (record { opening = c.open-opening.result; deliveries = ds; idle = c.is_idle.result }) s opened parts.1;
       idle = c.is_idle.ensures;
     }
+
+pub returns-clause-left : goal.returns-clause-left
+returns-clause-left c = λ limit capacity m s.
+    let old = wired_of c.args.self.now in
+    let start = wired_of c.open-opening.new.self in
+    let last = wired_of c.loop-side.self in
+    let ds = c.from_vec.result in
+    let opened = c.open-opening.ensures.opened limit capacity m s in
+    let turns = all_turned limit capacity c.loop-side.side-index c.loop-side.deliveries.items ds old start last m c.open-opening.result (omega arith) c.from_vec.ensures s opened (c.loop-side.invariant.turns limit capacity) in
+    left_settled c.settles_over_bytes.ensures limit capacity old start last m (record { opening = c.open-opening.result; deliveries = ds; idle = c.is_idle.result }) s opened turns

@@ -1,13 +1,8 @@
-use Rattle.std.proofs.Common.{◌≡◌, ℕ, true, false, Option, None, Some, List, [], ◌∷◌, ◌++◌, refl, sym, ap, subst, ◌∙◌}
-use Rattle.mq_end.specs.End.{is_live}
+use Rattle.std.proofs.Common.{ℕ, false, List, sym, ap, ◌∙◌}
 use Rattle.mq_end.specs.State.{EndState}
-use Rattle.mq_end.specs.Publishing.{ClientState}
-use Rattle.mq_world.specs.declared.side.Side.{Side}
-use Rattle.mq_world.specs.declared.side.Side.TheVariants.{Client, Server}
-use Rattle.mq_world.specs.Carries.{WiredSide, Wired}
+use Rattle.mq_world.specs.Carries.{Wired}
 use Rattle.mq_packet.specs.declared.connect.Connect.{Connect}
-use Rattle.mq_world.specs.Half.{Accepted, HandedOn}
-use Rattle.mq_world.specs.Machine.{Machine, first_packet, blank_machine}
+use Rattle.mq_world.specs.Machine.{first_packet, blank_machine}
 use Rattle.mq_world.specs.OverBytes.{blank_side}
 use Rattle.mq_world.specs.Pairs.{wired_of}
 use Rattle.mq_end.specs.Publishing.{connect_of}

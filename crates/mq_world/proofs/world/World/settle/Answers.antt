@@ -1,8 +1,10 @@
-use Rattle.std.proofs.Common.{◌≡◌, ℕ, false, sym, ap, subst, ◌∙◌}
+use Rattle.std.proofs.Common.{false, ap, subst, ◌∙◌}
 use Rattle.mq_end.specs.Publishing.{connect_of}
 use Rattle.mq_end.specs.declared.config.ClientConfig.{ClientConfig}
 use Rattle.mq_world.specs.Pairs.{wired_of}
-use Rattle.mq_world.specs.World.{WorldState, IsSettled}
+use Rattle.mq_world.specs.declared.answer.Answer.TheVariants as answers
+use Rattle.mq_world.specs.SettlesOver.{SettledFrom}
+use Rattle.mq_world.specs.World.{WorldState, IsSettled, MetNoWant}
 use Rattle.mq_world.proofs.Worlds.{stands_settled}
 use Rattle.mq_world.proofs.world.World.settle.Goals as goal
 
@@ -26,3 +28,9 @@ returns-clause-headline c =
     let st = c.self.invariant.1 c.if-self.false in
     let g = stands_settled c.over_bytes.ensures f.limits f.capacity (wired_of f.pair) (wired_of c.settle.new.self) st.0 c.in_ok-settle.field-0 st.1 (c.in_ok-settle.ensures.settled f.limits f.capacity st.0 st.1) in
     c.over_bytes.ensures.headline f.limits f.capacity (wired_of c.settle.new.self) g.0 g.1
+
+pub returns-clause-settled : goal.returns-clause-settled
+returns-clause-settled c =
+    let f = c.self.inside in
+    let st = c.self.invariant.1 c.if-self.false in
+    subst (λ (z : WorldState). MetNoWant (answers.Settled c.in_ok-settle.field-0) → SettledFrom z.wired (wired_of c.settle.new.self)) c.self.view_is (c.in_ok-settle.ensures.left f.limits f.capacity st.0 st.1)

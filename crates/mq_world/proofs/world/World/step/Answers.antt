@@ -1,4 +1,4 @@
-use Rattle.std.proofs.Common.{◌≡◌, ℕ, false, sym, ap, subst, ◌∙◌}
+use Rattle.std.proofs.Common.{false, ap, ◌∙◌}
 use Rattle.mq_end.specs.Publishing.{connect_of}
 use Rattle.mq_end.specs.declared.config.ClientConfig.{ClientConfig}
 use Rattle.mq_world.specs.Pairs.{wired_of}
