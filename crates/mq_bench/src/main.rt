@@ -1,10 +1,12 @@
 //! Measures how fast packets are decoded and encoded, beside a plain scan and a plain copy of the same
-//! bytes in the same run, and how fast topic filters are matched. With no words it lists what it can measure.
+//! bytes in the same run, how fast topic filters are matched, and how long schedules take to replay. With no words it lists
+//! what it can measure.
 #![tactic(auto)]
 
 mod figures;
 mod measure;
 mod plain;
+mod replays;
 mod sample;
 mod stream;
 mod subject;
@@ -22,12 +24,14 @@ fn list(rt: &impl Print) -> anyhow::Result<()> {
         println!(rt; "{:<14} {}", subject.name(), subject.explanation())?;
     }
     println!(rt; "{:<14} {}", topics::NAME, topics::EXPLANATION)?;
+    println!(rt; "{:<14} {}", replays::NAME, replays::EXPLANATION)?;
     Ok(())
 }
 
 /// Whether a word names what can be measured.
 fn is_known(word: &String) -> bool {
-    Subject::named(word.as_str()).is_some() || word.as_str() == topics::NAME
+    Subject::named(word.as_str()).is_some()
+        || [topics::NAME, replays::NAME].contains(&word.as_str())
 }
 
 /// Says that the words cannot be read.
@@ -51,7 +55,8 @@ fn main(rt: HostRuntime) -> anyhow::Result<ExitCode> {
     for word in &words {
         match Subject::named(word.as_str()) {
             Some(subject) => measure::measure(&rt, alloc, subject)?,
-            None => topics::measure(&rt, alloc)?,
+            None if word.as_str() == topics::NAME => topics::measure(&rt, alloc)?,
+            None => replays::measure(&rt, alloc)?,
         }
     }
     Ok(ExitCode::SUCCESS)

@@ -1,11 +1,15 @@
 -- What was written behind what a writer holds.
-use Rattle.std.proofs.Common.{◌≡◌, ℕ, List, ◌++◌, Option, Some, None, Result, Ok, Err, refl, sym, ap, subst, ◌∙◌, append_assoc, inl}
+use Rattle.std.proofs.Common.{◌≡◌, ℕ, List, ◌++◌, Option, Some, None, Result, Ok, Err, refl, sym, ap, subst, ◌∙◌, append_assoc, inl, inr}
 use Rattle.std.specs.Prelude.{IfOk, OnOk}
 use Rattle.std.specs.Io.KnownBytes.{Appends}
 use Rattle.mq_cli.specs.declared.stream.Shown.{Shown}
 use Rattle.mq_cli.specs.Show.{Shows}
-use Rattle.mq_cli.specs.Printed.{Prints, shown_lines}
-use Rattle.mq_cli.specs.Status.{IsShowDone, end_status}
+use Rattle.mq_line.specs.Lines.{Prints}
+use Rattle.mq_cli.specs.Printed.{no_memory, shown_lines}
+use Rattle.mq_cli.specs.Status.{IsShowDone, IsTextReplayed, end_status}
+use Rattle.mq_schedule.specs.declared.schedule.Schedule.{Schedule}
+use Rattle.mq_schedule.specs.Schedule.{IsSchedule, lines_of}
+use Rattle.mq_replay.specs.Replay.{IsCutReplay, IsReplay}
 
 -- one text after another
 pub appends_then : (a b c : Option (List ℕ)) (x y : List ℕ) → Appends a b x → Appends b c y → Appends a c (x ++ y)
@@ -31,3 +35,13 @@ shown_done limit digits shown r old new most shows h k =
 pub printed_then : {E : Type 0} (r : Result ℕ E) (a b c : Option (List ℕ)) (x y : List ℕ) → Appends a b x → OnOk r (Appends b c y) → OnOk r (Appends a c (x ++ y))
 printed_then (Ok n) a b c x y h k = appends_then a b c x y h k
 printed_then (Err e) a b c x y h k = tt
+
+-- what a replay prints, and then that memory ran out
+pub cut_off : {E : Type 0} (text : List ℕ) (schedule : Schedule) (r : Result ℕ E) (a b c : Option (List ℕ)) → IsSchedule (lines_of text) schedule → Prints a b (IsCutReplay schedule)
+    → IfOk r (λ status. status ≡ 3) → OnOk r (Appends b c no_memory) → IfOk r (λ status. Prints a c (IsTextReplayed text status))
+cut_off text schedule (Ok n) a b c reads p status k = (p.0 ++ no_memory, appends_then a b c p.0 no_memory p.1 k, inr (inr (p.0, inr (schedule, reads, p.2), status, refl)))
+cut_off text schedule (Err e) a b c reads p status k = tt
+
+-- a replay to its end
+pub replayed : (text : List ℕ) (schedule : Schedule) (a b : Option (List ℕ)) → IsSchedule (lines_of text) schedule → Prints a b (IsReplay schedule) → Prints a b (IsTextReplayed text 0)
+replayed text schedule a b reads p = (p.0, p.1, inl (schedule, reads, p.2, refl))

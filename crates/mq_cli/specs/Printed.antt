@@ -1,7 +1,6 @@
 -- What the program prints: lines, each with its end.
-use Rattle.std.specs.Prelude.{ℕ, Bool, true, false, List, [], ◌++◌, Option, codes, decimal}
+use Rattle.std.specs.Prelude.{ℕ, Bool, true, false, List, [], ◌++◌, codes, decimal}
 use Rattle.std.specs.List.{flat_map}
-use Rattle.std.specs.Io.KnownBytes.{Appends}
 use Rattle.mq_packet.specs.declared.packet.Packet.{Packet}
 use Rattle.mq_decode.specs.declared.fault.DecodeFault.{DecodeFault}
 use Rattle.mq_decode.specs.Fault.{fault_code}
@@ -13,7 +12,7 @@ use Rattle.mq_cli.specs.declared.stream.Shown.{Shown}
 use Rattle.mq_cli.specs.declared.count.PacketCount.{PacketCount}
 use Rattle.mq_cli.specs.declared.count.CountEnd.{CountEnd}
 use Rattle.mq_cli.specs.declared.count.CountEnd.TheVariants as ends
-use Rattle.mq_cli.specs.Lines.{packet_text}
+use Rattle.mq_line.specs.Lines.{packet_text}
 
 abbrev pub no_memory : List ℕ
 no_memory = codes "out of memory\n"
@@ -77,8 +76,8 @@ abbrev pub match_line : Bool → List ℕ
 match_line true = codes "yes\n"
 match_line false = codes "no\n"
 
--- ---- any
+-- ---- replay
 
--- a text of which this holds was written behind what the writer holds, where that is known
-abbrev pub Prints : Option (List ℕ) → Option (List ℕ) → (List ℕ → Type 0) → Type 0
-Prints old new P = (text : List ℕ) × Appends old new text × P text
+-- the number of a line that is of no kind, counted from 1
+abbrev pub bad_line : ℕ → List ℕ
+bad_line line = codes "line " ++ (decimal line ++ codes ": not an event\n")

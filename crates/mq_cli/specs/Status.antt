@@ -1,5 +1,5 @@
 -- What the statuses of the program mean, and what it prints with each.
-use Rattle.std.specs.Prelude.{◌≡◌, ◌⊎◌, ℕ, Bool, true, false, List, Option, Some, None, IfSome, codes}
+use Rattle.std.specs.Prelude.{◌≡◌, ◌⊎◌, ℕ, Bool, true, false, List, [], ◌++◌, Option, Some, None, IfSome, codes}
 use Rattle.mq_topic.specs.Fault.{filter_fault, name_fault}
 use Rattle.mq_topic.specs.Matching.{is_match}
 use Rattle.mq_topic.specs.declared.fault.TopicFault.{TopicFault}
@@ -13,8 +13,11 @@ use Rattle.mq_cli.specs.declared.count.CountEnd.{CountEnd}
 use Rattle.mq_cli.specs.declared.count.CountEnd.TheVariants as ends
 use Rattle.mq_cli.specs.Count.{Counts}
 use Rattle.mq_cli.specs.Hexadecimal.{IsHexadecimal}
-use Rattle.mq_cli.specs.Printed.{bad_hex, count_lines, file_not_read, match_line, no_memory, shown_lines, topic_line}
+use Rattle.mq_cli.specs.Printed.{bad_hex, bad_line, count_lines, file_not_read, match_line, no_memory, shown_lines, topic_line}
 use Rattle.mq_cli.specs.Show.{Shows}
+use Rattle.mq_schedule.specs.declared.schedule.Schedule.{Schedule}
+use Rattle.mq_schedule.specs.Schedule.{IsBadLine, IsSchedule, lines_of}
+use Rattle.mq_replay.specs.Replay.{IsCutReplay, IsReplay}
 
 -- 0 where all bytes are packets
 abbrev pub end_status : StreamEnd → ℕ
@@ -56,8 +59,25 @@ abbrev pub IsMatchDone : List ℕ → List ℕ → ℕ → List ℕ → Type 0
 IsMatchDone filter name status text =
     ((status, text) ≡ match_outcome (filter_fault filter) (name_fault name) (is_match filter name)) ⊎ ((status ≡ 3) × (text ≡ no_memory))
 
+-- what was printed before memory ran out: nothing, or the first steps of the schedule
+abbrev pub IsCutOff : List ℕ → List ℕ → Type 0
+IsCutOff text printed = (printed ≡ []) ⊎ ((schedule : Schedule) × IsSchedule (lines_of text) schedule × IsCutReplay schedule printed)
+
+-- the status and the lines of a schedule's replay: what its steps come to, or 2 and its first line that is of no kind, or 3 for want
+-- of memory
+abbrev pub IsTextReplayed : List ℕ → ℕ → List ℕ → Type 0
+IsTextReplayed text status printed =
+    ((schedule : Schedule) × IsSchedule (lines_of text) schedule × IsReplay schedule printed × (status ≡ 0)) ⊎ ((line : ℕ) × IsBadLine (lines_of text) line × (status ≡ 2) × (printed ≡ bad_line line)) ⊎ ((front : List ℕ) × IsCutOff text front × (status ≡ 3) × (printed ≡ front ++ no_memory))
+
+-- the status and the lines of `replay`: those of a file's schedule, where its bytes are known, or 2 where it can't be read as UTF-8, or
+-- 3 for want of memory
+abbrev pub IsReplayDone : Option (List ℕ) → ℕ → List ℕ → Type 0
+IsReplayDone left status printed =
+    ((text : List ℕ) × IfSome left (λ bytes. bytes ≡ text) × IsTextReplayed text status printed) ⊎ ((status ≡ 2) × (printed ≡ file_not_read)) ⊎ ((status ≡ 3) × (printed ≡ no_memory))
+
 -- the status that a job ends with and the lines that it prints, over a file with these bytes
 abbrev pub IsDone : Job → Option (List ℕ) → ℕ → List ℕ → Type 0
 IsDone (jobs.Show hex) left status text = IsShowDone hex.now status text
 IsDone (jobs.Check file) left status text = IsCheckDone left status text
 IsDone (jobs.Match filter name) left status text = IsMatchDone filter.now name.now status text
+IsDone (jobs.Replay file) left status text = IsReplayDone left status text

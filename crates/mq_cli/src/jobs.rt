@@ -20,4 +20,9 @@ pub enum Job<'a> {
         /// The name.
         name: &'a str,
     },
+    /// To replay the schedule of a file.
+    Replay {
+        /// The file's name.
+        file: &'a str,
+    },
 }

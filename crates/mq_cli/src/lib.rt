@@ -4,8 +4,8 @@
 
 mod count;
 mod jobs;
-mod line;
 mod output;
+mod replaying;
 mod show;
 mod stream;
 #[cfg(test)]
@@ -14,7 +14,6 @@ mod words;
 
 pub use crate::count::{CountEnd, CountFault, PacketCount, count_packets};
 pub use crate::jobs::Job;
-pub use crate::line::Line;
 pub use crate::output::{file_not_read, perform};
 pub use crate::show::{ShowFault, shown};
 pub use crate::stream::{Shown, StreamEnd};

@@ -3,33 +3,35 @@
 ghost use Rattle.std.specs.Prelude.{◌≡◌, IfOk, OnOk};
 ghost use Rattle.std.specs.Io.KnownBytes.{Appends};
 ghost use Rattle.mq_topic.specs.Matching.{is_match};
-ghost use Rattle.mq_cli.specs.Printed.{Prints, bad_hex, count_end_lines, count_lines, end_lines, fault_line, file_not_read, match_line, no_memory, packets_line, shown_lines, topic_code, topic_line};
+ghost use Rattle.mq_line.specs.Lines.{Prints};
+ghost use Rattle.mq_cli.specs.Printed.{bad_hex, count_end_lines, count_lines, end_lines, fault_line, file_not_read, match_line, no_memory, packets_line, shown_lines, topic_code, topic_line};
 ghost use Rattle.mq_cli.specs.Status.{IsCheckDone, IsDone, IsMatchDone, IsShowDone, count_status, end_status, match_status};
 
 use crate::count::{CountEnd, CountFault, PacketCount, count_packets};
 use crate::jobs::Job;
-use crate::line::Line;
+use crate::replaying::replay_file;
 use crate::show::{ShowFault, shown};
 use crate::stream::{Shown, StreamEnd};
 use mq_decode::{DecodeFault, Limits};
+use mq_line::Line;
 use mq_topic::{TopicFault, TopicFilter, TopicName, matches};
 use std::alloc::Global;
 use std::io;
 use std::io::{Read, Write};
 
 /// Nothing is wrong.
-const DONE: u8 = 0;
+pub(crate) const DONE: u8 = 0;
 /// A fault was found, or less than a whole packet, or the answer is no.
 const FAULT: u8 = 1;
 /// The digits or the file can't be read, or a text is no filter or no name.
-const BAD_INPUT: u8 = 2;
+pub(crate) const BAD_INPUT: u8 = 2;
 /// Memory ran out.
 const NO_MEMORY: u8 = 3;
 
 /// The greatest remaining length that there is (2.2.3).
 const MAX_PACKET: u32 = 268_435_455;
 
-fn out_of_memory<W: Write>(output: &mut W) -> io::Result<u8>
+pub(crate) fn out_of_memory<W: Write>(output: &mut W) -> io::Result<u8>
     ensures status { IfOk result (λ status. status ≡ NO_MEMORY) }
     ensures printed { OnOk result
         (Appends (W.contents output.old) (W.contents output.new) no_memory) }
@@ -228,5 +230,6 @@ pub fn perform<R: Read, W: Write>(
         Job::Show { hex } => show(alloc, hex, output),
         Job::Check { .. } => check(alloc, input, output),
         Job::Match { filter, name } => match_texts(alloc, filter, name, output),
+        Job::Replay { .. } => replay_file(alloc, input, output),
     }
 }

@@ -1,3 +1,5 @@
+mod replays;
+
 use crate::{CountEnd, Job, ShowFault, StreamEnd, WordsFault, count_packets, job, perform, shown};
 use clap::error::ErrorKind;
 use mq_decode::{DecodeFault, FaultKind, Limits};
@@ -350,10 +352,18 @@ fn reads_words(rt: HostRuntime) -> Result<(), Fail> {
     ] {
         assert!(rt; matches!(job(alloc, words), Ok(Job::Check { file: read }) if read == file));
     }
+    let words: &[&str] = &["mqtt", "replay", "a.txt"];
+    assert!(rt; matches!(job(alloc, words), Ok(Job::Replay { file }) if file == "a.txt"));
     let words: &[&str] = &["mqtt", "match", "a/#", "a"];
     assert!(rt;
         matches!(job(alloc, words), Ok(Job::Match { filter, name }) if filter == "a/#" && name == "a")
     );
+    Ok(())
+}
+
+#[test]
+fn refuses_words(rt: HostRuntime) -> Result<(), Fail> {
+    let alloc = rt.alloc();
     for (words, kind) in [
         (
             ["mqtt"].as_slice(),
@@ -370,6 +380,7 @@ fn reads_words(rt: HostRuntime) -> Result<(), Fail> {
         (&["mqtt", "check"], ErrorKind::MissingRequiredArgument),
         (&["mqtt", "check", "-h"], ErrorKind::DisplayHelp),
         (&["mqtt", "match", "a"], ErrorKind::MissingRequiredArgument),
+        (&["mqtt", "replay"], ErrorKind::MissingRequiredArgument),
     ] {
         assert_eq!(rt; error_of(alloc, words), Some(kind), "{words:?}");
     }

@@ -3,7 +3,7 @@
 ghost use Rattle.std.specs.Prelude.{◌≡◌, false, map, IfOk, IfSome};
 ghost use Rattle.clap.specs.Words.{app_of, subcommand_of, subcommand_rows_of};
 ghost use Rattle.clap.specs.declared.builder.command.Command.TheViews.{out-Command};
-ghost use Rattle.mq_cli.specs.CommandLine.{IsJobOf, check_words, match_words, program_words, show_words, stream_words};
+ghost use Rattle.mq_cli.specs.CommandLine.{IsJobOf, check_words, match_words, program_words, replay_words, show_words, stream_words};
 
 use crate::jobs::Job;
 use clap::error::ErrorKind;
@@ -78,6 +78,19 @@ fn match_command<'a>(alloc: Global) -> Result<Command<'a>, AllocError>
         .arg(name)
 }
 
+// `replay FILE`.
+fn replay_command<'a>(alloc: Global) -> Result<Command<'a>, AllocError>
+    ensures words { IfOk result (λ command. app_of command ≡ replay_words) }
+    ensures local { IfOk result (λ command. (out-Command command).has_globals ≡ false) }
+{
+    let file = Arg::new(alloc, "FILE")
+        .help("The file that has the schedule")
+        .required(true);
+    Command::new(alloc, "replay")
+        .about("Makes the events of a schedule between two ends, and prints what comes of each")
+        .arg(file)
+}
+
 // The command line with the commands on streams of packets.
 fn stream_commands<'a>(alloc: Global) -> Result<Command<'a>, AllocError>
     ensures { IfOk result (λ command. app_of command ≡ stream_words) }
@@ -98,7 +111,10 @@ fn command<'a>(alloc: Global) -> Result<Command<'a>, AllocError>
     ensures { IfOk result (λ command. app_of command ≡ program_words) }
 {
     let matching = match_command(alloc)?;
-    stream_commands(alloc)?.subcommand(matching)
+    let replaying = replay_command(alloc)?;
+    stream_commands(alloc)?
+        .subcommand(matching)?
+        .subcommand(replaying)
 }
 
 // The job of `show`, where that was met.
@@ -129,6 +145,15 @@ fn match_job<'a>(matches: &ArgMatches<'a>) -> Option<Job<'a>>
     Some(Job::Match { filter, name })
 }
 
+// The job of `replay`, where that was met.
+fn replay_job<'a>(matches: &ArgMatches<'a>) -> Option<Job<'a>>
+    ensures { IfSome result (IsJobOf (subcommand_rows_of matches.now)) }
+{
+    let replay = matches.subcommand_matches("replay")?;
+    let file = replay.get_str("FILE")?;
+    Some(Job::Replay { file })
+}
+
 // The job of the command that was met.
 fn job_of<'a>(matches: &ArgMatches<'a>) -> Option<Job<'a>>
     ensures { IfSome result (IsJobOf (subcommand_rows_of matches.now)) }
@@ -136,9 +161,12 @@ fn job_of<'a>(matches: &ArgMatches<'a>) -> Option<Job<'a>>
     if let Some(job) = show_job(matches) {
         return Some(job);
     }
-    match check_job(matches) {
+    if let Some(job) = check_job(matches) {
+        return Some(job);
+    }
+    match match_job(matches) {
         Some(job) => Some(job),
-        None => match_job(matches),
+        None => replay_job(matches),
     }
 }
 

@@ -1,0 +1,64 @@
+//! The replay of schedules, timed and printed.
+
+use anyhow::bail;
+use mq_replay::replay;
+use mq_schedule::{Schedule, read_schedule};
+use std::alloc::Global;
+use std::fmt::Write;
+use std::io;
+use std::rt::Clock;
+use std::time::Instant;
+
+/// The word for it.
+pub(crate) const NAME: &str = "replays";
+
+/// What it is, on one line.
+pub(crate) const EXPLANATION: &str = "schedules of 10,000 and of 100,000 events";
+
+/// Ten events: a connection is opened, a message goes each way, one of them cut on its way.
+const EVENTS: &str =
+    "open\nto s all\nto c all\npub c 2 t 78\npub s 1 t 79\nto s 3\nto s all\nto c all\nto s all\nto c all\n";
+
+/// How many events that is.
+const COUNT: u32 = 10;
+
+/// How many events the short schedule has, and the long one.
+const SIZES: [u32; 2] = [10_000, 100_000];
+
+/// How often each schedule is replayed. The middle one of its times counts.
+const ROUNDS: usize = 5;
+
+/// A schedule of so many events.
+fn schedule(alloc: Global, events: u32) -> anyhow::Result<Schedule> {
+    let mut text = String::new(alloc);
+    text.write_str("world 65536 100\n")?;
+    for _ in 0..events / COUNT {
+        text.write_str(EVENTS)?;
+    }
+    Ok(read_schedule(alloc, text.as_str())?)
+}
+
+/// How long a replay takes.
+fn time_replay(rt: &impl Clock, alloc: Global, schedule: &Schedule) -> anyhow::Result<u64> {
+    let start = Instant::now(rt)?;
+    if replay(alloc, schedule, &mut io::sink()).is_err() {
+        bail!("a replay stopped before its end");
+    }
+    let time = start.elapsed(rt)?;
+    Ok(u64::try_from(time.as_nanos()).unwrap_or(u64::MAX))
+}
+
+/// Measures the replay of a short and a long schedule, and prints how long each event takes.
+pub(crate) fn measure(rt: &(impl Print + Clock), alloc: Global) -> anyhow::Result<()> {
+    for events in SIZES {
+        let schedule = schedule(alloc, events)?;
+        let mut times = [0u64; ROUNDS];
+        for time in &mut times {
+            *time = time_replay(rt, alloc, &schedule)?;
+        }
+        times.sort_unstable();
+        let each = times[ROUNDS / 2] / u64::from(events);
+        println!(rt; "{NAME}: {events} events, {each} ns an event")?;
+    }
+    Ok(())
+}

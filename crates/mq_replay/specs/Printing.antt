@@ -1,0 +1,111 @@
+-- What is printed of the answers of a world: lines, each with its end.
+use Rattle.std.specs.Prelude.{ℕ, Bool, true, false, Option, None, Some, Result, Ok, Err, List, [], ◌++◌, codes, decimal}
+use Rattle.std.specs.List.{flat_map}
+use Rattle.mq_topic.specs.Qos.{qos_number}
+use Rattle.mq_packet.specs.declared.message.Message.{Message}
+use Rattle.mq_end.specs.declared.happening.Happening.{Happening}
+use Rattle.mq_end.specs.declared.happening.Happening.TheVariants.{Up, Handed, Subscribe, Unsubscribe, SubAck, UnsubAck, Pong}
+use Rattle.mq_end.specs.declared.reason.CloseReason.{CloseReason}
+use Rattle.mq_end.specs.declared.reason.CloseReason.TheVariants as closes
+use Rattle.mq_end.specs.declared.refusal.PublishRefusal.{PublishRefusal}
+use Rattle.mq_end.specs.declared.refusal.PublishRefusal.TheVariants as refusals
+use Rattle.mq_world.specs.declared.side.Side.{Side}
+use Rattle.mq_world.specs.declared.side.Side.TheVariants.{Client, Server}
+use Rattle.mq_world.specs.declared.answer.Answer.{Answer}
+use Rattle.mq_world.specs.declared.answer.Answer.TheVariants as answers
+use Rattle.mq_world.specs.declared.answer.Delivery.{Delivery}
+use Rattle.mq_world.specs.declared.answer.Opening.{Opening}
+use Rattle.mq_world.specs.declared.answer.Settling.{Settling}
+use Rattle.mq_line.specs.Lines.{escaped, truth}
+use Rattle.mq_schedule.specs.Schedule.{bytes_word, side_word}
+
+-- ---- codes
+
+abbrev pub refusal_code : PublishRefusal → List ℕ
+refusal_code refusals.NotConnected = codes "P1"
+refusal_code refusals.NoSession = codes "P2"
+refusal_code refusals.TooLarge = codes "P3"
+refusal_code refusals.Full = codes "P4"
+refusal_code refusals.Memory = codes "P5"
+
+abbrev pub close_code : CloseReason → List ℕ
+close_code (closes.Fault fault) = codes "C1"
+close_code closes.Unexpected = codes "C2"
+close_code (closes.Refused refusal) = codes "C3"
+close_code closes.SessionLost = codes "C4"
+close_code closes.KeepAlive = codes "C5"
+close_code closes.Memory = codes "C6"
+close_code closes.Left = codes "C7"
+
+-- ---- one line each: the side, and what comes of it
+
+abbrev pub line_of : Side → List ℕ → List ℕ
+line_of side text = side_word side ++ (codes " " ++ (text ++ codes "\n"))
+
+-- an identifier, or `-` where a message has none
+abbrev pub id_word : Option ℕ → List ℕ
+id_word None = codes "-"
+id_word (Some id) = decimal id
+
+abbrev pub published_line : Side → Result (Option ℕ) PublishRefusal → List ℕ
+published_line side (Ok id) = line_of side (codes "accepted " ++ id_word id)
+published_line side (Err why) = line_of side (codes "refused " ++ refusal_code why)
+
+-- a message is handed on: its quality of service, its topic, its payload
+abbrev pub handed_text : Message → List ℕ
+handed_text m = codes "got " ++ (decimal (qos_number m.qos) ++ (codes " " ++ (escaped m.topic ++ (codes " " ++ bytes_word m.payload))))
+
+-- what an end tells; no event of a world lets an end subscribe
+abbrev pub happening_line : Side → Happening → List ℕ
+happening_line side (Up present) = line_of side (codes "up " ++ truth present)
+happening_line side (Handed m) = line_of side (handed_text m)
+happening_line side (Subscribe id requests) = []
+happening_line side (Unsubscribe id filters) = []
+happening_line side (SubAck id given) = []
+happening_line side (UnsubAck id) = []
+happening_line side Pong = line_of side (codes "pong")
+
+abbrev pub closed_line : Side → Option CloseReason → List ℕ
+closed_line side None = []
+closed_line side (Some why) = line_of side (codes "closed " ++ close_code why)
+
+abbrev pub dropped_line : Side → Bool → List ℕ
+dropped_line side false = []
+dropped_line side true = line_of side (codes "dropped")
+
+-- ---- deliveries, openings, settling
+
+abbrev pub lost_line : Bool → List ℕ
+lost_line false = []
+lost_line true = codes "lost\n"
+
+abbrev pub bytes_line : Side → List ℕ → List ℕ
+bytes_line side bytes = codes "to " ++ line_of side (bytes_word bytes)
+
+-- the bytes, whether they were lost, what came of them
+abbrev pub delivery_lines : Delivery → List ℕ
+delivery_lines d = bytes_line d.side d.bytes ++ (lost_line d.lost ++ (flat_map (happening_line d.side) d.progress.happenings ++ closed_line d.side d.progress.closed))
+
+abbrev pub refused_line : Bool → List ℕ
+refused_line false = []
+refused_line true = line_of Client (codes "refused P5")
+
+-- the connections that are lost, and whether the new one was refused
+abbrev pub opening_lines : Opening → List ℕ
+opening_lines o = dropped_line Client o.client_dropped ++ (dropped_line Server o.server_dropped ++ refused_line o.refused)
+
+abbrev pub idle_line : Bool → List ℕ
+idle_line true = codes "idle yes\n"
+idle_line false = codes "idle no\n"
+
+abbrev pub settling_lines : Settling → List ℕ
+settling_lines s = opening_lines s.opening ++ (flat_map delivery_lines s.deliveries ++ idle_line s.idle)
+
+-- ---- all answers
+
+abbrev pub answer_lines : Answer → List ℕ
+answer_lines (answers.Published side outcome) = published_line side outcome
+answer_lines (answers.Delivered d) = delivery_lines d
+answer_lines (answers.Dropped side was_open) = dropped_line side was_open
+answer_lines (answers.Opened o) = opening_lines o
+answer_lines (answers.Settled s) = settling_lines s

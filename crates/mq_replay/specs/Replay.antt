@@ -1,0 +1,73 @@
+-- What a schedule comes to, and what is printed of it.
+use Rattle.std.specs.Prelude.{ℕ, ◌≡◌, if◌then◌else◌, List, [], ◌∷◌, ◌++◌, length, codes, decimal}
+use Rattle.std.specs.List.{flat_map}
+use Rattle.std.specs.Int.NonZero.{non_zero_u16_get}
+use Rattle.mq_topic.specs.declared.qos.Qos.{Qos}
+use Rattle.mq_topic.specs.declared.qos.Qos.TheVariants.{Q1, Q2}
+use Rattle.mq_topic.specs.Qos.{qos_number}
+use Rattle.mq_flow.specs.Sender.{held}
+use Rattle.mq_world.specs.declared.side.Side.{Side}
+use Rattle.mq_world.specs.declared.side.Side.TheVariants.{Client, Server}
+use Rattle.mq_world.specs.declared.answer.Answer.{Answer}
+use Rattle.mq_world.specs.Carries.{Wired}
+use Rattle.mq_world.specs.OverBytes.{near}
+use Rattle.mq_world.specs.Listed.{accepted_count, handed_count}
+use Rattle.mq_world.specs.World.{Does, IsNew, Settles}
+use Rattle.mq_schedule.specs.declared.schedule.Step.{Step}
+use Rattle.mq_schedule.specs.declared.schedule.Step.TheVariants.{Event, Settle}
+use Rattle.mq_schedule.specs.declared.schedule.Schedule.{Schedule}
+use Rattle.mq_schedule.specs.Schedule.{side_word}
+use Rattle.mq_replay.specs.Printing.{answer_lines}
+
+-- ---- what the steps come to
+
+-- what comes of a step, by the step and its answer
+abbrev pub StepDoes : ℕ → ℕ → Step → Answer → Wired → Wired → Type 0
+StepDoes limit capacity (Event event) answer old new = Does limit capacity event answer old new
+StepDoes limit capacity Settle answer old new = Settles limit capacity answer old new
+
+-- steps come one after another, each with its answer
+abbrev pub StepsLead : ℕ → ℕ → List Step → List Answer → Wired → Wired → Type 0
+StepsLead limit capacity [] [] old new = new ≡ old
+StepsLead limit capacity (s ∷ ss) (a ∷ rest) old new = (mid : Wired) × StepDoes limit capacity s a old mid × StepsLead limit capacity ss rest mid new
+StepsLead limit capacity [] (a ∷ rest) old new = ⊥
+StepsLead limit capacity (s ∷ ss) [] old new = ⊥
+
+-- from a new world
+pub record Comes (limit capacity : ℕ) (steps : List Step) (answers : List Answer) (end : Wired) : Type 0 where
+  pub start : Wired
+  pub new : IsNew limit capacity start
+  pub leads : StepsLead limit capacity steps answers start end
+
+-- ---- the last lines: of each direction and quality of service, how many messages were accepted, handed on, and are held
+
+-- how many messages the sender of a side holds, none where there is no session
+abbrev pub held_count : Qos → Side → Wired → ℕ
+held_count q Client w = length (held q w.client.state.end.book.entries)
+held_count q Server w = if w.server.state.end.known then length (held q w.server.state.end.book.entries) else 0
+
+abbrev pub total_line : Side → Side → Qos → Wired → List ℕ
+total_line from to q w = side_word from ++ (codes ">" ++ (side_word to ++ (codes " qos" ++ (decimal (qos_number q) ++ (codes " accepted " ++ (decimal (accepted_count q (near from w).accepted)
+    ++ (codes " handed " ++ (decimal (handed_count q (near to w).handed) ++ (codes " held " ++ (decimal (held_count q from w) ++ codes "\n"))))))))))
+
+abbrev pub last_lines : Wired → List ℕ
+last_lines w = total_line Client Server Q1 w ++ (total_line Client Server Q2 w ++ (total_line Server Client Q1 w ++ total_line Server Client Q2 w))
+
+-- ---- a replay
+
+-- what a schedule prints: the answers of its steps, and the last lines
+pub record IsReplay (s : Schedule) (text : List ℕ) : Type 0 where
+  pub answers : List Answer
+  pub end : Wired
+  pub comes : Comes s.limits (non_zero_u16_get s.capacity) s.steps.items answers end
+  pub text_is : text ≡ flat_map answer_lines answers ++ last_lines end
+
+-- what it prints where memory runs out: the answers of its first steps
+pub record IsCutReplay (s : Schedule) (text : List ℕ) : Type 0 where
+  pub done : List Step
+  pub left : List Step
+  pub steps : s.steps.items ≡ done ++ left
+  pub answers : List Answer
+  pub end : Wired
+  pub comes : Comes s.limits (non_zero_u16_get s.capacity) done answers end
+  pub text_is : text ≡ flat_map answer_lines answers

@@ -1,0 +1,184 @@
+//! Lines of what comes of each step.
+
+ghost use Rattle.std.specs.Prelude.{◌++◌, OnOk};
+ghost use Rattle.std.specs.List.{flat_map};
+ghost use Rattle.std.specs.Io.KnownBytes.{Appends};
+ghost use Rattle.mq_replay.specs.Printing.{answer_lines, bytes_line, closed_line, delivery_lines, dropped_line, happening_line, idle_line, lost_line, opening_lines, published_line, refused_line, settling_lines};
+
+use crate::words::{BytesWord, HandedText, IdWord, SideWord, close_code, refusal_code};
+use mq_end::{CloseReason, Happening, PublishRefusal};
+use mq_packet::PacketId;
+use mq_world::{Answer, Delivery, Opening, Settling, Side};
+use std::io;
+use std::io::Write;
+
+// Whether a message was accepted.
+fn write_published<W: Write>(
+    output: &mut W,
+    side: Side,
+    outcome: Result<Option<PacketId>, PublishRefusal>,
+) -> io::Result<()>
+    ensures { OnOk result
+        (Appends (W.contents output.old) (W.contents output.new) (published_line side outcome)) }
+{
+    let side = SideWord(side);
+    match outcome {
+        Ok(id) => writeln!(output, "{side} accepted {}", IdWord(id)),
+        Err(why) => writeln!(output, "{side} refused {}", refusal_code(why)),
+    }
+}
+
+// What an end tells. No event of a world lets an end subscribe, so nothing is written of that.
+fn write_happening<W: Write>(output: &mut W, side: Side, happening: &Happening) -> io::Result<()>
+    ensures { OnOk result
+        (Appends (W.contents output.old) (W.contents output.new) (happening_line side happening.now)) }
+{
+    let side = SideWord(side);
+    match happening {
+        Happening::Up { session_present } => {
+            let present = u8::from(*session_present);
+            writeln!(output, "{side} up {present}")
+        }
+        Happening::Handed(message) => writeln!(output, "{side} {}", HandedText(message)),
+        Happening::Subscribe { .. }
+        | Happening::Unsubscribe { .. }
+        | Happening::SubAck { .. }
+        | Happening::UnsubAck(_) => Ok(()),
+        Happening::Pong => writeln!(output, "{side} pong"),
+    }
+}
+
+// What an end tells of some bytes, in order.
+fn write_happenings<W: Write>(
+    output: &mut W,
+    side: Side,
+    happenings: &[Happening],
+) -> io::Result<()>
+    ensures { OnOk result (Appends (W.contents output.old) (W.contents output.new)
+        (flat_map (happening_line side) happenings.now)) }
+{
+    for happening in happenings {
+        write_happening(output, side, happening)?;
+    }
+    Ok(())
+}
+
+// Why an end closed its connection, where it did.
+fn write_closed<W: Write>(output: &mut W, side: Side, closed: Option<CloseReason>) -> io::Result<()>
+    ensures { OnOk result
+        (Appends (W.contents output.old) (W.contents output.new) (closed_line side closed)) }
+{
+    match closed {
+        Some(why) => writeln!(output, "{} closed {}", SideWord(side), close_code(why)),
+        None => Ok(()),
+    }
+}
+
+// That the connection of a side is lost, where it was open.
+fn write_dropped<W: Write>(output: &mut W, side: Side, was_open: bool) -> io::Result<()>
+    ensures { OnOk result
+        (Appends (W.contents output.old) (W.contents output.new) (dropped_line side was_open)) }
+{
+    if was_open {
+        return writeln!(output, "{} dropped", SideWord(side));
+    }
+    Ok(())
+}
+
+// The bytes that came to a side.
+fn write_bytes<W: Write>(output: &mut W, side: Side, bytes: &[u8]) -> io::Result<()>
+    ensures { OnOk result
+        (Appends (W.contents output.old) (W.contents output.new) (bytes_line side bytes.now)) }
+{
+    writeln!(output, "to {} {}", SideWord(side), BytesWord(bytes))
+}
+
+// That bytes were lost, where they were.
+fn write_lost<W: Write>(output: &mut W, lost: bool) -> io::Result<()>
+    ensures { OnOk result
+        (Appends (W.contents output.old) (W.contents output.new) (lost_line lost)) }
+{
+    if lost {
+        return writeln!(output, "lost");
+    }
+    Ok(())
+}
+
+// The bytes, whether they were lost, and what came of them.
+fn write_delivery<W: Write>(output: &mut W, delivery: &Delivery) -> io::Result<()>
+    ensures { OnOk result
+        (Appends (W.contents output.old) (W.contents output.new) (delivery_lines delivery.now)) }
+{
+    let side = delivery.side;
+    write_bytes(output, side, delivery.bytes.as_slice())?;
+    write_lost(output, delivery.lost)?;
+    write_happenings(output, side, delivery.progress.happenings.as_slice())?;
+    write_closed(output, side, delivery.progress.closed)
+}
+
+// What came, in order.
+fn write_deliveries<W: Write>(output: &mut W, deliveries: &[Delivery]) -> io::Result<()>
+    ensures { OnOk result (Appends (W.contents output.old) (W.contents output.new)
+        (flat_map delivery_lines deliveries.now)) }
+{
+    for delivery in deliveries {
+        write_delivery(output, delivery)?;
+    }
+    Ok(())
+}
+
+// That memory ran out for CONNECT.
+fn write_refused<W: Write>(output: &mut W, refused: bool) -> io::Result<()>
+    ensures { OnOk result
+        (Appends (W.contents output.old) (W.contents output.new) (refused_line refused)) }
+{
+    if refused {
+        return writeln!(output, "{} refused P5", SideWord(Side::Client));
+    }
+    Ok(())
+}
+
+// The connections that are lost, and whether the new one was refused.
+fn write_opening<W: Write>(output: &mut W, opening: Opening) -> io::Result<()>
+    ensures { OnOk result
+        (Appends (W.contents output.old) (W.contents output.new) (opening_lines opening)) }
+{
+    write_dropped(output, Side::Client, opening.client_dropped)?;
+    write_dropped(output, Side::Server, opening.server_dropped)?;
+    write_refused(output, opening.refused)
+}
+
+// Whether nothing waits any more.
+fn write_idle<W: Write>(output: &mut W, idle: bool) -> io::Result<()>
+    ensures { OnOk result
+        (Appends (W.contents output.old) (W.contents output.new) (idle_line idle)) }
+{
+    if idle {
+        return writeln!(output, "idle yes");
+    }
+    writeln!(output, "idle no")
+}
+
+// The opening, what came after it, and whether nothing waits any more.
+fn write_settling<W: Write>(output: &mut W, settling: &Settling) -> io::Result<()>
+    ensures { OnOk result
+        (Appends (W.contents output.old) (W.contents output.new) (settling_lines settling.now)) }
+{
+    write_opening(output, settling.opening)?;
+    write_deliveries(output, settling.deliveries.as_slice())?;
+    write_idle(output, settling.idle)
+}
+
+/// Writes what came of a step.
+pub(crate) fn write_answer<W: Write>(output: &mut W, answer: &Answer) -> io::Result<()>
+    ensures { OnOk result
+        (Appends (W.contents output.old) (W.contents output.new) (answer_lines answer.now)) }
+{
+    match answer {
+        Answer::Published(side, outcome) => write_published(output, *side, *outcome),
+        Answer::Delivered(delivery) => write_delivery(output, delivery),
+        Answer::Dropped(side, was_open) => write_dropped(output, *side, *was_open),
+        Answer::Opened(opening) => write_opening(output, *opening),
+        Answer::Settled(settling) => write_settling(output, settling),
+    }
+}

@@ -1,0 +1,124 @@
+//! Schedules that are run.
+
+ghost use Rattle.std.specs.Prelude.{◌≡◌, IfErr, IfOk, OnOk};
+ghost use Rattle.std.specs.Int.NonZero.{non_zero_u16_get};
+ghost use Rattle.std.specs.Io.KnownBytes.{Appends};
+ghost use Rattle.mq_line.specs.Lines.{Prints};
+ghost use Rattle.mq_world.specs.declared.answer.Answer.{Answer};
+ghost use Rattle.mq_world.specs.Carries.{Wired};
+ghost use Rattle.mq_world.specs.World.{IsNew};
+ghost use Rattle.mq_replay.specs.Printing.{answer_lines};
+ghost use Rattle.mq_replay.specs.Replay.{IsCutReplay, IsReplay, StepDoes};
+ghost use Rattle.mq_replay.specs.Fault.{OnMemory};
+
+use crate::answers::write_answer;
+use crate::totals::write_totals;
+use mq_decode::Limits;
+use mq_schedule::{Schedule, Step};
+use mq_world::{Answer, World, over_bytes};
+use std::alloc::{AllocError, Global};
+use std::io;
+use std::io::Write;
+
+/// Why a replay stops before its end.
+#[derive(Debug, Drop)]
+pub enum ReplayFault {
+    /// A write failed.
+    Io(io::Error),
+    /// Memory ran out.
+    Memory,
+}
+
+impl From<io::Error> for ReplayFault {
+    ghost use Rattle.std.specs.Prelude.{◌≡◌};
+    ghost use Rattle.mq_replay.specs.declared.run.ReplayFault.TheVariants.{Io};
+
+    ghost from_gives = { λ error fault. fault ≡ Io error };
+
+    fn from(error: io::Error) -> ReplayFault {
+        ReplayFault::Io(error)
+    }
+}
+
+impl From<AllocError> for ReplayFault {
+    ghost use Rattle.std.specs.Prelude.{◌≡◌};
+    ghost use Rattle.mq_replay.specs.declared.run.ReplayFault.TheVariants.{Memory};
+
+    ghost from_gives = { λ _ fault. fault ≡ Memory };
+
+    fn from(_e: AllocError) -> ReplayFault {
+        ReplayFault::Memory
+    }
+}
+
+// There is a new world within these bounds, also where memory does not suffice to make it.
+fn begins(limits: Limits, capacity: u16)
+    ensures { (start : Wired) × IsNew limits capacity start }
+{
+    over_bytes();
+    let _least = limits.max_packet();
+}
+
+// Makes a step, and answers what came of it.
+fn make(world: &mut World, step: &Step) -> Result<Answer, AllocError>
+    ensures does { IfOk result (λ answer. StepDoes world.old.limit world.old.capacity step.now answer world.old.wired world.new.wired) }
+    ensures limit { world.new.limit ≡ world.old.limit }
+    ensures capacity { world.new.capacity ≡ world.old.capacity }
+{
+    match step {
+        Step::Event(event) => world.step(event),
+        Step::Settle => world.settle(),
+    }
+}
+
+// Makes a step, and prints what came of it.
+fn advance<W: Write>(world: &mut World, step: &Step, output: &mut W) -> Result<(), ReplayFault>
+    ensures does { OnOk result ((answer : Answer)
+        × StepDoes world.old.limit world.old.capacity step.now answer world.old.wired world.new.wired
+        × Appends (W.contents output.old) (W.contents output.new) (answer_lines answer)) }
+    ensures memory { IfErr result (λ fault. OnMemory fault (output.new ≡ output.old)) }
+    ensures limit { world.new.limit ≡ world.old.limit }
+    ensures capacity { world.new.capacity ≡ world.old.capacity }
+{
+    let answer = make(world, step)?;
+    write_answer(output, &answer)?;
+    Ok(())
+}
+
+// Runs a schedule in a world that is new.
+fn run<W: Write>(world: &mut World, schedule: &Schedule, output: &mut W) -> Result<(), ReplayFault>
+    requires new { IsNew schedule.now.limits (non_zero_u16_get schedule.now.capacity) world.old.wired }
+    requires limit { world.old.limit ≡ schedule.now.limits }
+    requires capacity { world.old.capacity ≡ non_zero_u16_get schedule.now.capacity }
+    ensures printed { OnOk result
+        (Prints (W.contents output.old) (W.contents output.new) (IsReplay schedule.now)) }
+    ensures memory { IfErr result (λ fault. OnMemory fault
+        (Prints (W.contents output.old) (W.contents output.new) (IsCutReplay schedule.now))) }
+{
+    for step in &schedule.steps {
+        advance(world, step, output)?;
+    }
+    write_totals(output, world)?;
+    Ok(())
+}
+
+/// Runs a schedule in a new world and prints what comes of each step, as soon as it was made, then four last lines: for each
+/// direction, and for at least once and exactly once (4.3), how many messages were accepted, handed on, and are held. Errs
+/// where a write fails, or where memory runs out for the world: then what came of the steps before stands printed. Where memory
+/// runs out for an end, that is what came of the step (`closed C6`, `refused P5`), and the replay goes on. The writer is not
+/// flushed.
+pub fn replay<W: Write>(
+    alloc: Global,
+    schedule: &Schedule,
+    output: &mut W,
+) -> Result<(), ReplayFault>
+    ensures printed { OnOk result
+        (Prints (W.contents output.old) (W.contents output.new) (IsReplay schedule.now)) }
+    ensures memory { IfErr result (λ fault. OnMemory fault
+        (Prints (W.contents output.old) (W.contents output.new) (IsCutReplay schedule.now))) }
+{
+    let capacity = schedule.capacity.get();
+    begins(schedule.limits, capacity);
+    let mut world = World::new(alloc, schedule.limits, capacity)?;
+    run(&mut world, schedule, output)
+}

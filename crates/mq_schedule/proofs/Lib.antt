@@ -1,0 +1,6 @@
+pub mod Codes
+pub mod Cuts
+pub mod Octets
+pub mod Reading
+pub mod Values
+pub mod Written

@@ -1,0 +1,57 @@
+-- Parts of a text, and what is found in them.
+use Rattle.std.specs.Prelude.{◌≡◌, ℕ, ◌+◌, ◌≤◌, Bool, ◌==◌, ◌&&◌, not, nat_le, List, ◌∷◌, ◌++◌, [], length, Option, Some, None, Vec}
+use Rattle.std.specs.List.{AllZip, slice_split}
+use Rattle.std.specs.Borrow.{Bor}
+use Rattle.std.specs.declared.alloc.Global.{Global}
+use Rattle.mq_schedule.specs.declared.schedule.Step.{Step}
+use Rattle.mq_schedule.specs.Schedule.{IsNumber, Writes, words_of}
+
+-- the parts of a text between bytes of a kind
+abbrev pub parts : ℕ → List ℕ → List (List ℕ)
+parts by text = slice_split (λ b. b == by) text
+
+-- the parts that are left of a text, none after its last
+abbrev pub parts_left : ℕ → Option (Bor (List ℕ)) → List (List ℕ)
+parts_left by None = []
+parts_left by (Some text) = parts by text.now
+
+-- a value of which this holds, or none where it holds of none
+abbrev pub Finds : {A : Type 0} → (A → Type 0) → Option A → Type 0
+Finds {A} P None = (value : A) → ¬ P value
+Finds P (Some value) = P value
+
+-- bytes of which this holds, or none where it holds of none
+abbrev pub FindsBytes : {Z : Type 0} → (List ℕ → Type 0) → Option (Vec ℕ Z) → Type 0
+FindsBytes P None = (bytes : List ℕ) → ¬ P bytes
+FindsBytes P (Some bytes) = P bytes.items
+
+-- a byte of a text that is printed as it is
+abbrev pub is_plain : ℕ → Bool
+is_plain byte = nat_le 33 byte && nat_le byte 126 && not (byte == 37)
+
+-- a bound on the remaining length (2.2.3)
+pub record IsLimit (n : ℕ) (word : List ℕ) : Type 0 where
+  pub number : IsNumber n word
+  pub least : 64 ≤ n
+  pub most : n ≤ 268435455
+
+-- how many packet identifiers may be in use (2.3.1)
+pub record IsCapacity (n : ℕ) (word : List ℕ) : Type 0 where
+  pub number : IsNumber n word
+  pub least : 1 ≤ n
+  pub most : n ≤ 65535
+
+-- each line is a step
+abbrev pub AreSteps : List Step → List (List ℕ) → Type 0
+AreSteps steps lines = AllZip (λ step line. Writes step (words_of line)) steps lines
+
+-- lines that are steps, and then one that is none, where the first of them has the number 2
+pub record StopsAt (lines : List (List ℕ)) (n : ℕ) : Type 0 where
+  pub steps : Vec Step Global
+  pub front : List (List ℕ)
+  pub line : List ℕ
+  pub others : List (List ℕ)
+  pub lines_are : lines ≡ front ++ line ∷ others
+  pub place : n ≡ length front + 2
+  pub before : AreSteps steps.items front
+  pub no_step : (step : Step) → ¬ Writes step (words_of line)

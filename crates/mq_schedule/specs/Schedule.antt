@@ -1,0 +1,114 @@
+-- Schedules as they are written: a line for the world, and one for each step.
+use Rattle.std.specs.Prelude.{◌≡◌, ◌⊎◌, ℕ, ◌+◌, ◌-◌, ◌^◌, ◌≤◌, ◌<◌, ◌==◌, Bool, true, false, List, [], ◌∷◌, ◌++◌, length, codes}
+use Rattle.std.specs.List.{AllZip, slice_split}
+use Rattle.std.specs.Int.NonZero.{non_zero_u16_get}
+use Rattle.std.specs.Io.BufRead.{strip_last}
+use Rattle.std.specs.Str.Parse.{IsNumeral, digits_value}
+use Rattle.hex.specs.Hex.{IsBytes}
+use Rattle.mq_topic.specs.Qos.{qos_number}
+use Rattle.mq_topic.specs.Topic.{IsTopicName}
+use Rattle.mq_packet.specs.declared.message.Message.{Message}
+use Rattle.mq_world.specs.declared.side.Side.{Side}
+use Rattle.mq_world.specs.declared.side.Side.TheVariants.{Client, Server}
+use Rattle.mq_world.specs.declared.event.Event.TheVariants as events
+use Rattle.mq_line.specs.Lines.{escaped, hex_of}
+use Rattle.mq_schedule.specs.declared.schedule.Step.{Step}
+use Rattle.mq_schedule.specs.declared.schedule.Step.TheVariants.{Event, Settle}
+use Rattle.mq_schedule.specs.declared.schedule.Schedule.{Schedule}
+
+-- ---- lines and words
+
+-- the lines of a text, each with a line feed at its end, which the last one may lack
+abbrev pub lines_of : List ℕ → List (List ℕ)
+lines_of text = slice_split (λ b. b == 10) (strip_last 10 text)
+
+-- the words of a line, parted by one space each
+abbrev pub words_of : List ℕ → List (List ℕ)
+words_of line = slice_split (λ b. b == 32) line
+
+-- decimal digits, one or more, of a number of 64 bits
+pub record IsNumber (n : ℕ) (word : List ℕ) : Type 0 where
+  pub digits : IsNumeral 10 word
+  pub value : digits_value 10 word ≡ n
+  pub bound : n < 2 ^ 64
+
+abbrev pub side_word : Side → List ℕ
+side_word Client = codes "c"
+side_word Server = codes "s"
+
+-- with RETAIN 0, and with RETAIN 1
+abbrev pub publish_word : Bool → List ℕ
+publish_word false = codes "pub"
+publish_word true = codes "pubr"
+
+-- bytes as hexadecimal digits, or `-` where there are none
+abbrev pub bytes_word : List ℕ → List ℕ
+bytes_word [] = codes "-"
+bytes_word (byte ∷ bytes) = hex_of (byte ∷ bytes)
+
+-- a number of bytes, or all that there may be
+abbrev pub IsAmount : ℕ → List ℕ → Type 0
+IsAmount n word = IsNumber n word ⊎ ((word ≡ codes "all") × (n ≡ 2 ^ 64 - 1))
+
+-- ---- steps
+
+-- a side, a quality of service, a topic name as it is printed, and a payload
+pub record IsPublication (side : Side) (m : Message) (words : List (List ℕ)) : Type 0 where
+  pub qos : List ℕ
+  pub number : IsNumber (qos_number m.qos) qos
+  pub topic : IsTopicName m.topic
+  pub payload : IsBytes m.payload
+  pub size : length m.payload < 2 ^ 28
+  pub words_are : words ≡ publish_word m.retain ∷ side_word side ∷ qos ∷ escaped m.topic ∷ bytes_word m.payload ∷ []
+
+-- a step in words
+abbrev pub Writes : Step → List (List ℕ) → Type 0
+Writes (Event (events.Publish side m)) words = IsPublication side m words
+Writes (Event (events.Deliver side n)) words = (amount : List ℕ) × IsAmount n amount × (words ≡ codes "to" ∷ side_word side ∷ amount ∷ [])
+Writes (Event (events.Drop side)) words = words ≡ codes "drop" ∷ side_word side ∷ []
+Writes (Event events.Open) words = words ≡ codes "open" ∷ []
+Writes Settle words = words ≡ codes "settle" ∷ []
+
+-- ---- schedules
+
+-- the bound on the remaining length (2.2.3), and how many packet identifiers may be in use at a side (2.3.1)
+pub record IsWorldLine (limit capacity : ℕ) (words : List (List ℕ)) : Type 0 where
+  pub most : List ℕ
+  pub room : List ℕ
+  pub limit_is : IsNumber limit most
+  pub capacity_is : IsNumber capacity room
+  pub least_limit : 64 ≤ limit
+  pub most_limit : limit ≤ 268435455
+  pub least_capacity : 1 ≤ capacity
+  pub most_capacity : capacity ≤ 65535
+  pub words_are : words ≡ codes "world" ∷ most ∷ room ∷ []
+
+-- the line for the world, and then a line for each step
+pub record IsSchedule (lines : List (List ℕ)) (s : Schedule) : Type 0 where
+  pub first : List ℕ
+  pub others : List (List ℕ)
+  pub lines_are : lines ≡ first ∷ others
+  pub world : IsWorldLine s.limits (non_zero_u16_get s.capacity) (words_of first)
+  pub steps : AllZip (λ step line. Writes step (words_of line)) s.steps.items others
+
+-- the first line is none for a world
+pub record HasNoWorld (lines : List (List ℕ)) : Type 0 where
+  pub first : List ℕ
+  pub others : List (List ℕ)
+  pub lines_are : lines ≡ first ∷ others
+  pub no_world : (limit capacity : ℕ) → ¬ IsWorldLine limit capacity (words_of first)
+
+-- the lines before this one, counted from 1, are a schedule, and this one is no step
+pub record HasNoStep (lines : List (List ℕ)) (n : ℕ) : Type 0 where
+  pub schedule : Schedule
+  pub front : List (List ℕ)
+  pub line : List ℕ
+  pub others : List (List ℕ)
+  pub lines_are : lines ≡ front ++ line ∷ others
+  pub place : n ≡ length front + 1
+  pub before : IsSchedule front schedule
+  pub no_step : (step : Step) → ¬ Writes step (words_of line)
+
+-- the number of the first line that is of no kind, counted from 1
+abbrev pub IsBadLine : List (List ℕ) → ℕ → Type 0
+IsBadLine lines n = ((n ≡ 1) × HasNoWorld lines) ⊎ HasNoStep lines n

@@ -1,0 +1,116 @@
+//! What single words stand for.
+
+ghost use Rattle.std.specs.Prelude.{◌≡◌, ◌<◌, ◌^◌, ℕ, length, IfOk, IsErr, MatchOption};
+ghost use Rattle.std.specs.Int.NonZero.{non_zero_u16_get};
+ghost use Rattle.hex.specs.Hex.{IsBytes};
+ghost use Rattle.mq_topic.specs.Qos.{qos_number};
+ghost use Rattle.mq_topic.specs.Topic.{IsTopicName};
+ghost use Rattle.mq_line.specs.Lines.{escaped};
+ghost use Rattle.mq_schedule.specs.Schedule.{IsAmount, IsNumber, bytes_word, side_word};
+ghost use Rattle.mq_schedule.specs.Parts.{Finds, IsCapacity, IsLimit};
+
+use crate::printed::{hex_bytes, unescaped};
+use bytes::Bytes;
+use mq_decode::Limits;
+use mq_packet::Payload;
+use mq_topic::{Qos, TopicFault, TopicName};
+use mq_world::Side;
+use std::alloc::{AllocError, Global};
+use std::num::NonZeroU16;
+
+// A side: `c` or `s`.
+pub(crate) fn side(word: &str) -> Option<Side>
+    ensures { Finds (λ side. word.now ≡ side_word side) result }
+{
+    match word {
+        "c" => Some(Side::Client),
+        "s" => Some(Side::Server),
+        _ => None,
+    }
+}
+
+// Decimal digits, without a sign.
+fn number(word: &str) -> Option<u64>
+    ensures { Finds (λ n. IsNumber n word.now) result }
+{
+    if word.starts_with('+') {
+        return None;
+    }
+    word.parse().ok()
+}
+
+// A number of bytes; `all` stands for the greatest.
+pub(crate) fn amount(word: &str) -> Option<usize>
+    ensures { Finds (λ n. IsAmount n word.now) result }
+{
+    if word == "all" {
+        return Some(usize::MAX);
+    }
+    Some(number(word)? as usize)
+}
+
+// A quality of service (4.3).
+pub(crate) fn qos(word: &str) -> Option<Qos>
+    ensures { Finds (λ qos. IsNumber (qos_number qos) word.now) result }
+{
+    Qos::from_number(u8::try_from(number(word)?).ok()?)
+}
+
+// A bound on the remaining length (2.2.3).
+pub(crate) fn limits(word: &str) -> Option<Limits>
+    ensures { Finds (λ n. IsLimit n word.now) result }
+{
+    Limits::new(u32::try_from(number(word)?).ok()?)
+}
+
+// How many packet identifiers may be in use (2.3.1).
+pub(crate) fn capacity(word: &str) -> Option<NonZeroU16>
+    ensures { MatchOption result ((n : ℕ) → ¬ IsCapacity n word.now)
+        (λ capacity. IsCapacity (non_zero_u16_get capacity) word.now) }
+{
+    NonZeroU16::new(u16::try_from(number(word)?).ok()?)
+}
+
+// What a fault of a text says: that it is no name, or that memory ran out.
+fn no_name(fault: TopicFault) -> Result<Option<TopicName>, AllocError>
+    ensures none { IfOk result (λ name. name ≡ None) }
+    ensures memory { fault ≡ TopicFault.Memory → IsErr result }
+{
+    match fault {
+        TopicFault::Memory => Err(AllocError),
+        _ => Ok(None),
+    }
+}
+
+// A topic name (4.7), as it is printed.
+pub(crate) fn topic(alloc: Global, word: &str) -> Result<Option<TopicName>, AllocError>
+    ensures { IfOk result (Finds (λ name. IsTopicName name × (word.now ≡ escaped name))) }
+{
+    let Some(bytes) = unescaped(alloc, word.as_bytes())? else {
+        return Ok(None);
+    };
+    let Ok(text) = str::from_utf8(&bytes) else {
+        return Ok(None);
+    };
+    match TopicName::parse(alloc, text) {
+        Ok(name) => Ok(Some(name)),
+        Err(fault) => no_name(fault),
+    }
+}
+
+// A payload as hexadecimal digits, or `-` for none.
+pub(crate) fn payload(alloc: Global, word: &str) -> Result<Option<Payload>, AllocError>
+    ensures { IfOk result (Finds (λ payload. IsBytes payload × (length payload < 2 ^ 28)
+        × (word.now ≡ bytes_word payload))) }
+{
+    if word == "-" {
+        return Ok(Payload::new(Bytes::new()));
+    }
+    if word.is_empty() {
+        return Ok(None);
+    }
+    let Some(bytes) = hex_bytes(alloc, word.as_bytes())? else {
+        return Ok(None);
+    };
+    Ok(Payload::new(Bytes::from_vec(bytes)?))
+}

@@ -1,0 +1,15 @@
+//! Schedules of what happens between two ends, as texts: each is read from its lines, or the first line that is of no kind is
+//! named.
+#![tactic(auto)]
+
+mod fields;
+mod printed;
+mod read;
+mod schedule;
+mod steps;
+#[cfg(test)]
+mod tests;
+mod words;
+
+pub use crate::read::{ScheduleFault, read_schedule};
+pub use crate::schedule::{Schedule, Step};

@@ -1,0 +1,25 @@
+//! Schedules: what is to happen between two ends, step by step.
+
+use mq_decode::Limits;
+use mq_world::Event;
+use std::num::NonZeroU16;
+
+/// What is to happen next.
+#[derive(Debug, Drop)]
+pub enum Step {
+    /// An event.
+    Event(Event),
+    /// A connection is opened, and all that is on its way comes, three times to each side (4.4).
+    Settle,
+}
+
+/// A world, and what is to happen in it.
+#[derive(Debug, Drop)]
+pub struct Schedule {
+    /// The bound on the remaining length of packets (2.2.3).
+    pub limits: Limits,
+    /// How many packet identifiers may be in use at a side (2.3.1).
+    pub capacity: NonZeroU16,
+    /// The steps, in order.
+    pub steps: Vec<Step>,
+}
