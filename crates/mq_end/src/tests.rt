@@ -1,6 +1,7 @@
 mod brief;
 mod client;
 mod queue;
+mod requests;
 mod server;
 
 use crate::{ClientConfig, ClientEnd, PublishRefusal, ServerConfig, ServerEnd, State};

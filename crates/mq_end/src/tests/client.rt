@@ -34,7 +34,7 @@ fn lose(alloc: Global, client: &mut ClientEnd) -> Result<String, AllocError> {
 }
 
 // What a step of the client tells.
-fn told(alloc: Global, client: &mut ClientEnd, step: Step) -> Result<String, Fail> {
+pub(crate) fn told(alloc: Global, client: &mut ClientEnd, step: Step) -> Result<String, Fail> {
     Ok(match step {
         Open(clean) => open(alloc, client, clean)?,
         Receive(hex) => receive(alloc, client, bytes_of(alloc, hex)?.as_slice())?,
@@ -44,7 +44,7 @@ fn told(alloc: Global, client: &mut ClientEnd, step: Step) -> Result<String, Fai
 }
 
 // All that the client puts out.
-fn put_out(alloc: Global, client: &mut ClientEnd) -> Result<String, AllocError> {
+pub(crate) fn put_out(alloc: Global, client: &mut ClientEnd) -> Result<String, AllocError> {
     let output = client.take_all_output();
     hex_of(alloc, output.as_slice())
 }

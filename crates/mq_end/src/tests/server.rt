@@ -34,7 +34,7 @@ fn lose(alloc: Global, server: &mut ServerEnd) -> Result<String, AllocError> {
 }
 
 // What a step of the server tells.
-fn told(alloc: Global, server: &mut ServerEnd, step: Step) -> Result<String, Fail> {
+pub(crate) fn told(alloc: Global, server: &mut ServerEnd, step: Step) -> Result<String, Fail> {
     Ok(match step {
         Open(_) => open(alloc, server)?,
         Receive(hex) => receive(alloc, server, bytes_of(alloc, hex)?.as_slice())?,
@@ -44,7 +44,7 @@ fn told(alloc: Global, server: &mut ServerEnd, step: Step) -> Result<String, Fai
 }
 
 // All that the server puts out.
-fn put_out(alloc: Global, server: &mut ServerEnd) -> Result<String, AllocError> {
+pub(crate) fn put_out(alloc: Global, server: &mut ServerEnd) -> Result<String, AllocError> {
     let output = server.take_all_output();
     hex_of(alloc, output.as_slice())
 }
