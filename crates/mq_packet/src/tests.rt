@@ -63,112 +63,169 @@ fn expect_spelled(
     Ok(())
 }
 
-// CONNECT with all that it may have, and with the least (3.1).
-#[test]
-fn connect_is_spelled(rt: HostRuntime) -> Result<(), Fail> {
+// A CONNECT with all that it may have (3.1).
+fn whole_connect(alloc: Global) -> Result<Packet, Fail> {
     let will = Will {
-        topic: TopicName::parse(rt.alloc(), "w")?,
+        topic: TopicName::parse(alloc, "w")?,
         message: binary(b"\x00\xff")?,
         qos: Qos::Q1,
         retain: true,
     };
     let login = Login {
-        name: Text::new(rt.alloc(), "u")?,
+        name: Text::new(alloc, "u")?,
         password: Some(binary(b"p")?),
     };
-    let whole = Packet::Connect(Connect {
-        client_id: Text::new(rt.alloc(), "a")?,
+    Ok(Packet::Connect(Connect {
+        client_id: Text::new(alloc, "a")?,
         clean_session: true,
         keep_alive: 10,
         will: Some(will),
         login: Some(login),
-    });
-    let bytes =
-        b"\x10\x1a\x00\x04MQTT\x04\xee\x00\x0a\x00\x01a\x00\x01w\x00\x02\x00\xff\x00\x01u\x00\x01p";
-    expect_spelled(&rt, rt.alloc(), whole, bytes)?;
-    let least = Packet::Connect(Connect {
-        client_id: Text::new(rt.alloc(), "a")?,
+    }))
+}
+
+// A CONNECT with the least.
+fn least_connect(alloc: Global) -> Result<Packet, Fail> {
+    Ok(Packet::Connect(Connect {
+        client_id: Text::new(alloc, "a")?,
         clean_session: true,
         keep_alive: 60,
         will: None,
         login: None,
-    });
-    let bytes = b"\x10\x0d\x00\x04MQTT\x04\x02\x00\x3c\x00\x01a";
-    expect_spelled(&rt, rt.alloc(), least, bytes)
+    }))
 }
 
 #[test]
-fn publish_is_spelled(rt: HostRuntime) -> Result<(), Fail> {
-    let hi = Bytes::from_static(b"hi");
-    let once = publish(rt.alloc(), "a/b", hi.clone()?)?;
-    expect_spelled(&rt, rt.alloc(), once, b"\x30\x07\x00\x03a/bhi")?;
+fn connect_is_spelled(rt: HostRuntime) -> Result<(), Fail> {
+    let alloc = rt.alloc();
+    let whole =
+        b"\x10\x1a\x00\x04MQTT\x04\xee\x00\x0a\x00\x01a\x00\x01w\x00\x02\x00\xff\x00\x01u\x00\x01p";
+    expect_spelled(&rt, alloc, whole_connect(alloc)?, whole)?;
+    let least = b"\x10\x0d\x00\x04MQTT\x04\x02\x00\x3c\x00\x01a";
+    expect_spelled(&rt, alloc, least_connect(alloc)?, least)
+}
 
-    let message = message(rt.alloc(), "a/b", hi, Qos::Q2)?;
-    assert!(rt; message.qos == Qos::Q2);
+// A PUBLISH of quality of service 2, which may have come before.
+fn repeated_publish(alloc: Global) -> Result<Publish, Fail> {
+    let message = message(alloc, "a/b", Bytes::from_static(b"hi"), Qos::Q2)?;
+    if message.qos != Qos::Q2 {
+        return Err(Fail::new("another quality of service"));
+    }
     let delivery = Delivery {
         id: id(1)?,
         dup: true,
     };
-    let twice = Publish::new(message, Some(delivery));
-    assert!(rt; twice.delivery() == Some(delivery));
-    assert!(rt; twice.message().topic.as_str() == "a/b");
-    assert!(rt; twice.clone()?.into_message().payload.as_slice() == b"hi".as_slice());
+    Ok(Publish::new(message, Some(delivery)))
+}
+
+fn repeated_packet(alloc: Global) -> Result<Packet, Fail> {
+    Ok(Packet::Publish(repeated_publish(alloc)?))
+}
+
+#[test]
+fn publish_is_spelled(rt: HostRuntime) -> Result<(), Fail> {
+    let alloc = rt.alloc();
+    let once = publish(alloc, "a/b", Bytes::from_static(b"hi"))?;
+    expect_spelled(&rt, alloc, once, b"\x30\x07\x00\x03a/bhi")?;
     let bytes = b"\x3c\x09\x00\x03a/b\x00\x01hi";
-    expect_spelled(&rt, rt.alloc(), Packet::Publish(twice), bytes)
+    expect_spelled(&rt, alloc, repeated_packet(alloc)?, bytes)
+}
+
+// Whether a PUBLISH shows its delivery, and its message in each way.
+fn shows_its_parts(alloc: Global) -> Result<bool, Fail> {
+    let publish = repeated_publish(alloc)?;
+    let Some(delivery) = publish.delivery() else {
+        return Ok(false);
+    };
+    let topic = publish.message().topic.as_str() == "a/b";
+    let message = publish.clone()?.into_message();
+    let payload = message.payload.as_slice() == b"hi".as_slice();
+    Ok(delivery.id.get() == 1 && delivery.dup && topic && payload)
+}
+
+#[test]
+fn publish_shows_its_parts(rt: HostRuntime) -> Result<(), Fail> {
+    assert!(rt; shows_its_parts(rt.alloc())?);
+    Ok(())
+}
+
+fn request(alloc: Global, filter: &str, qos: Qos) -> Result<Request, Fail> {
+    let filter = TopicFilter::parse(alloc, filter)?;
+    Ok(Request { filter, qos })
+}
+
+fn subscribe(alloc: Global) -> Result<Packet, Fail> {
+    let mut requests = Vec::new(alloc);
+    requests.push(request(alloc, "a/+", Qos::Q1)?)?;
+    requests.push(request(alloc, "a/#", Qos::Q2)?)?;
+    Ok(Packet::Subscribe {
+        id: id(1)?,
+        requests: list(requests)?,
+    })
+}
+
+fn sub_ack(alloc: Global) -> Result<Packet, Fail> {
+    let codes = list(vec![in alloc; SubAckCode::Granted(Qos::Q1), SubAckCode::Failure]?)?;
+    Ok(Packet::SubAck {
+        id: id(1)?,
+        codes: list(codes.into_vec())?,
+    })
+}
+
+fn unsubscribe(alloc: Global) -> Result<Packet, Fail> {
+    let mut filters = Vec::new(alloc);
+    filters.push(TopicFilter::parse(alloc, "a")?)?;
+    Ok(Packet::Unsubscribe {
+        id: id(1)?,
+        filters: list(filters)?,
+    })
 }
 
 #[test]
 fn lists_are_spelled(rt: HostRuntime) -> Result<(), Fail> {
     let alloc = rt.alloc();
-    let id = id(1)?;
-    let every = Request {
-        filter: TopicFilter::parse(alloc, "a/+")?,
-        qos: Qos::Q1,
-    };
-    let all = Request {
-        filter: TopicFilter::parse(alloc, "a/#")?,
-        qos: Qos::Q2,
-    };
-    let requests = list(vec![in alloc; every, all]?)?;
-    assert!(rt; requests.as_slice().len() == 2);
     let bytes = b"\x82\x0e\x00\x01\x00\x03a/+\x01\x00\x03a/#\x02";
-    expect_spelled(&rt, alloc, Packet::Subscribe { id, requests }, bytes)?;
-
-    let codes = list(vec![in alloc; SubAckCode::Granted(Qos::Q1), SubAckCode::Failure]?)?;
-    let codes = list(codes.into_vec())?;
-    let bytes = b"\x90\x04\x00\x01\x01\x80";
-    expect_spelled(&rt, alloc, Packet::SubAck { id, codes }, bytes)?;
-
-    let filters = list(vec![in alloc; TopicFilter::parse(alloc, "a")?]?)?;
+    expect_spelled(&rt, alloc, subscribe(alloc)?, bytes)?;
+    expect_spelled(&rt, alloc, sub_ack(alloc)?, b"\x90\x04\x00\x01\x01\x80")?;
     let bytes = b"\xa2\x05\x00\x01\x00\x01a";
-    let id = PacketId::new(1).ok_or("no packet identifier")?;
-    expect_spelled(&rt, alloc, Packet::Unsubscribe { id, filters }, bytes)
+    expect_spelled(&rt, alloc, unsubscribe(alloc)?, bytes)
 }
 
 #[test]
-fn packets_of_a_fixed_size_are_spelled(rt: HostRuntime) -> Result<(), Fail> {
-    let id = id(1)?;
+fn connack_is_spelled(rt: HostRuntime) -> Result<(), Fail> {
     let accepted = ConnAck::Accepted {
         session_present: true,
     };
-    for (packet, bytes) in [
-        (Packet::ConnAck(accepted), b"\x20\x02\x01\x00".as_slice()),
-        (
-            Packet::ConnAck(ConnAck::Refused(RefusalCode::NotAuthorized)),
-            b"\x20\x02\x00\x05".as_slice(),
-        ),
-        (Packet::PubAck(id), b"\x40\x02\x00\x01".as_slice()),
-        (Packet::PubRec(id), b"\x50\x02\x00\x01".as_slice()),
-        (Packet::PubRel(id), b"\x62\x02\x00\x01".as_slice()),
-        (Packet::PubComp(id), b"\x70\x02\x00\x01".as_slice()),
-        (Packet::UnsubAck(id), b"\xb0\x02\x00\x01".as_slice()),
-        (Packet::PingReq, b"\xc0\x00".as_slice()),
-        (Packet::PingResp, b"\xd0\x00".as_slice()),
-        (Packet::Disconnect, b"\xe0\x00".as_slice()),
-    ] {
-        expect_spelled(&rt, rt.alloc(), packet, bytes)?;
-    }
-    Ok(())
+    let refused = ConnAck::Refused(RefusalCode::NotAuthorized);
+    expect_spelled(
+        &rt,
+        rt.alloc(),
+        Packet::ConnAck(accepted),
+        b"\x20\x02\x01\x00",
+    )?;
+    expect_spelled(
+        &rt,
+        rt.alloc(),
+        Packet::ConnAck(refused),
+        b"\x20\x02\x00\x05",
+    )
+}
+
+#[test]
+fn identifiers_are_spelled(rt: HostRuntime) -> Result<(), Fail> {
+    let id = id(1)?;
+    expect_spelled(&rt, rt.alloc(), Packet::PubAck(id), b"\x40\x02\x00\x01")?;
+    expect_spelled(&rt, rt.alloc(), Packet::PubRec(id), b"\x50\x02\x00\x01")?;
+    expect_spelled(&rt, rt.alloc(), Packet::PubRel(id), b"\x62\x02\x00\x01")?;
+    expect_spelled(&rt, rt.alloc(), Packet::PubComp(id), b"\x70\x02\x00\x01")?;
+    expect_spelled(&rt, rt.alloc(), Packet::UnsubAck(id), b"\xb0\x02\x00\x01")
+}
+
+#[test]
+fn packets_of_two_bytes_are_spelled(rt: HostRuntime) -> Result<(), Fail> {
+    expect_spelled(&rt, rt.alloc(), Packet::PingReq, b"\xc0\x00")?;
+    expect_spelled(&rt, rt.alloc(), Packet::PingResp, b"\xd0\x00")?;
+    expect_spelled(&rt, rt.alloc(), Packet::Disconnect, b"\xe0\x00")
 }
 
 #[test]
@@ -210,19 +267,40 @@ fn codes_and_bounds_are_those_of_the_standard(rt: HostRuntime) -> Result<(), Fai
     Ok(())
 }
 
+// The size of a PUBLISH to `a` with these bytes.
+fn publish_len(alloc: Global, bytes: Bytes) -> Result<Option<u32>, Fail> {
+    let packet = publish(alloc, "a", bytes)?;
+    Ok(encoded_len(&packet))
+}
+
+// Whether it is refused as too large in each way, and the vector is as it was.
+fn is_too_large(alloc: Global, bytes: Bytes) -> Result<bool, Fail> {
+    let packet = publish(alloc, "a", bytes)?;
+    let mut out = vec![in alloc; 0xff]?;
+    let encoded = encode_into(&packet, &mut out) == Err(EncodeError::TooLarge);
+    let written = write_packet(alloc, &packet, &mut out).is_err();
+    Ok(encoded && written && out.as_slice() == [0xff].as_slice())
+}
+
+// The first bytes of some.
+fn first(bytes: &Bytes, count: usize) -> Result<Bytes, Fail> {
+    if count > bytes.len() {
+        return Err(Fail::new("too few bytes"));
+    }
+    Ok(bytes.slice(..count)?)
+}
+
 // A remaining length of 268,435,455, and one byte more (2.2.3).
 #[test]
 fn a_remaining_length_has_28_bits(rt: HostRuntime) -> Result<(), Fail> {
-    let bytes = Bytes::from_vec(vec![in rt.alloc(); 0; 268_435_456]?)?;
-    assert!(rt; Payload::new(bytes.clone()?).is_none());
-    let longest = publish(rt.alloc(), "a", bytes.slice(..268_435_452)?)?;
-    assert_eq!(rt; encoded_len(&longest), Some(268_435_460));
-    let longer = publish(rt.alloc(), "a", bytes.slice(..268_435_453)?)?;
-    assert_eq!(rt; encoded_len(&longer), None);
-    let mut out = vec![in rt.alloc(); 0xff]?;
-    assert_eq!(rt; encode_into(&longer, &mut out), Err(EncodeError::TooLarge));
-    assert!(rt; write_packet(rt.alloc(), &longer, &mut out).is_err());
-    assert_eq!(rt; out.as_slice(), [0xff].as_slice());
+    let alloc = rt.alloc();
+    let bytes = Bytes::from_vec(vec![in alloc; 0; 268_435_456]?)?;
+    let longest = publish_len(alloc, first(&bytes, 268_435_452)?)?;
+    assert_eq!(rt; longest, Some(268_435_460));
+    let longer = publish_len(alloc, first(&bytes, 268_435_453)?)?;
+    assert_eq!(rt; longer, None);
+    assert!(rt; is_too_large(alloc, first(&bytes, 268_435_453)?)?);
+    assert!(rt; Payload::new(bytes).is_none());
     Ok(())
 }
 
@@ -254,25 +332,32 @@ impl Write for Narrow {
     }
 }
 
+// What a writer with so much room has taken of a PUBLISH, and how the writing ended.
+fn written(alloc: Global, room: usize) -> Result<(Vec<u8>, Option<ErrorKind>), Fail> {
+    let packet = publish(alloc, "a/b", Bytes::from_static(b"hi"))?;
+    let mut writer = Narrow {
+        taken: Vec::with_capacity(alloc, 16)?,
+        room,
+        is_interrupted: false,
+    };
+    let error = match write_packet(alloc, &packet, &mut writer) {
+        Ok(()) => None,
+        Err(WriteError::Io(error)) => Some(error.kind()),
+        Err(error) => return Err(Fail::from(error)),
+    };
+    let Narrow { taken, .. } = writer;
+    Ok((taken, error))
+}
+
 #[test]
 fn a_writer_that_fails_has_a_beginning(rt: HostRuntime) -> Result<(), Fail> {
-    let bytes = b"\x30\x07\x00\x03a/bhi";
-    let packet = publish(rt.alloc(), "a/b", Bytes::from_static(b"hi"))?;
-    for room in 0..=bytes.len() {
-        let mut writer = Narrow {
-            taken: Vec::with_capacity(rt.alloc(), bytes.len())?,
-            room,
-            is_interrupted: false,
-        };
-        let result = write_packet(rt.alloc(), &packet, &mut writer);
-        match result {
-            Ok(()) => assert_eq!(rt; room, bytes.len()),
-            Err(WriteError::Io(error)) => {
-                assert!(rt; room < bytes.len() && error.kind() == ErrorKind::BrokenPipe);
-            }
-            Err(error) => return Err(Fail::from(error)),
-        }
-        assert!(rt; writer.taken.as_slice() == &bytes[..room], "{room}");
+    let bytes = b"\x30\x07\x00\x03a/bhi".as_slice();
+    for room in 0..bytes.len() {
+        let (taken, error) = written(rt.alloc(), room)?;
+        assert!(rt; error == Some(ErrorKind::BrokenPipe), "{room}");
+        assert!(rt; taken.as_slice() == &bytes[..room], "{room}");
     }
+    let (taken, error) = written(rt.alloc(), bytes.len())?;
+    assert!(rt; error.is_none() && taken.as_slice() == bytes);
     Ok(())
 }
