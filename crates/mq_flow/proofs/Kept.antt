@@ -1,149 +1,180 @@
--- What a sender keeps true at each of its moves.
-use Rattle.std.proofs.Common.{◌≡◌, ℕ, ◌+◌, ◌<◌, ◌≤◌, ◌∙◌, Bool, true, false, not, cond, ◌||◌, eqb, ltb, List, [], ◌∷◌, ◌++◌, map, length, remove, refl, sym, ap, subst, arith}
+-- What a sender keeps true at each of its moves, and its book after them.
+use Rattle.std.proofs.Common.{◌≡◌, ℕ, ◌+◌, ◌<◌, ◌≤◌, ◌∙◌, Bool, true, false, not, cond, ◌||◌, eqb, ltb, List, [], ◌∷◌, ◌++◌, map, length, remove, Option, Some, None, refl, sym, ap, arith, append-nil}
 use Rattle.std.specs.List.{list_any, HoldsAt}
+use Rattle.std.specs.Option.{is_some}
+use Rattle.std.specs.Map.{keys_of, lookup, remove_entry}
+use Rattle.std.proofs.lemmas.Bool.{lt-ltb, le-ltb}
 use Rattle.std.proofs.lemmas.Bool.Decides.{nat_tests}
-use Rattle.std.proofs.lemmas.List.{length-append, length-map, map-id}
-use Rattle.std.proofs.lemmas.List.Edits.{length-remove}
+use Rattle.std.proofs.lemmas.Grind.{flat_map-append}
+use Rattle.std.proofs.lemmas.List.{map-id}
+use Rattle.mq_topic.specs.declared.qos.Qos.{Qos}
 use Rattle.mq_topic.specs.declared.qos.Qos.TheVariants.{Q0, Q1, Q2}
 use Rattle.mq_packet.specs.declared.message.Message.{Message}
 use Rattle.mq_flow.specs.declared.entry.Entry.{Entry}
 use Rattle.mq_flow.specs.declared.claim.Claim.{Claim}
 use Rattle.mq_flow.specs.declared.claim.Claimed.{Claimed}
-use Rattle.mq_flow.specs.Sender.{SenderBook, uses, times, IsFree, is_full, same_qos, is_awaited, accept, claim, release, no_claims, all_sent, on_puback, on_pubrec, without, without_entry, without_claim}
-use Rattle.mq_flow.specs.Sending.{Sending, KeepsRoom}
+use Rattle.mq_flow.specs.declared.table.Held.{Held}
+use Rattle.mq_flow.specs.declared.table.Held.TheVariants.{Waiting, Released}
+use Rattle.mq_flow.specs.Sender.{SenderBook, uses, times, IsFree, is_full, same_qos, is_awaited, accept, claim, release, no_claims, all_sent, on_puback, on_pubrec, on_pubcomp, without, without_entry, without_claim}
+use Rattle.mq_flow.specs.Held.{message_in, release_in, messages, releases, book_of, AreUnder, gone_out}
+use Rattle.mq_flow.specs.Loading.{with_released}
+use Rattle.mq_flow.specs.Sending.{Sending, Keeps}
 use Rattle.mq_flow.specs.Laws.{IsSound}
-use Rattle.mq_flow.proofs.Books.{laws, times_uses}
+use Rattle.mq_flow.proofs.Tables.{both_kinds}
+use Rattle.mq_flow.proofs.Counting.{without_absent, awaited_there}
+use Rattle.mq_flow.proofs.Books.{laws, times_uses, length_uses}
 use Rattle.mq_flow.proofs.Queues.{remove_is, others_absent, any_times, none_push, none_filter}
+use Rattle.mq_flow.proofs.Holding.{times_keys, found_keys, messages_removed, releases_removed, messages_gone, releases_gone}
 
--- the three parts of a book that is sound have each identifier at most once
-pub once_entry : (capacity i : ℕ) (b : SenderBook) → IsSound capacity b → times i (map (λ e. e.id) b.entries) ≤ 1
-once_entry capacity i b s = let d = s.distinct i in let t = times_uses i b in omega arith
-
-pub once_released : (capacity i : ℕ) (b : SenderBook) → IsSound capacity b → times i (map (λ j. j) b.released) ≤ 1
-once_released capacity i b s = let d = s.distinct i in let t = times_uses i b in let e = ap (times i) (map-id b.released) in omega arith
-
+-- the claims of a book that is sound have each identifier at most once
 pub once_claimed : (capacity i : ℕ) (b : SenderBook) → IsSound capacity b → times i (map (λ c. c.id) b.claimed) ≤ 1
 once_claimed capacity i b s = let d = s.distinct i in let t = times_uses i b in omega arith
 
--- whether an identifier is in use, part by part
-pub in_use : (i : ℕ) (b : SenderBook) → ((list_any (λ e. eqb e.id i) b.entries || list_any (λ j. eqb j i) b.released) || list_any (λ c. eqb c.id i) b.claimed) ≡ ltb 0 (times i (uses b))
-in_use i b =
-    let e = any_times (λ (e : Entry). e.id) i b.entries in
-    let r = any_times (λ (j : ℕ). j) i b.released in
-    let m = ap (times i) (map-id b.released) in
-    let c = any_times (λ (c : Claimed). c.id) i b.claimed in
-    let t = times_uses i b in
-    rw (e, r, m, c, t) (sums (times i (map (λ e. e.id) b.entries)) (times i b.released) (times i (map (λ c. c.id) b.claimed)))
+-- the book after an acknowledgement that something waits for
+puback_is : (i : ℕ) (b : SenderBook) → is_awaited Q1 i b.entries ≡ true → on_puback i b ≡ record b { entries = without_entry i b.entries }
+puback_is i b h = ap (λ t. record b { entries = cond t (without_entry i b.entries) b.entries }) h
+
+pubrec_is : (i : ℕ) (b : SenderBook) → is_awaited Q2 i b.entries ≡ true → on_pubrec i b ≡ record b { entries = without_entry i b.entries; released = b.released ++ i ∷ [] }
+pubrec_is i b h = ap (λ t. record b { entries = cond t (without_entry i b.entries) b.entries; released = cond t (b.released ++ i ∷ []) b.released }) h
+
+-- ---- what a table and the claims say of the book
+
+-- each identifier stands in the table at most once
+pub once_keys : (capacity : ℕ) (ps : List (ℕ × Held)) (cs : List Claimed) → AreUnder ps → IsSound capacity (book_of ps cs) → (i : ℕ) → times i (keys_of ps) ≤ 1
+once_keys capacity ps cs u s i = let d = s.distinct i in let t = times_uses i (book_of ps cs) in let k = times_keys ps u i in omega arith
+
+pub uses_keys : (ps : List (ℕ × Held)) (cs : List Claimed) → AreUnder ps → (i : ℕ) → times i (uses (book_of ps cs)) ≡ times i (keys_of ps) + times i (map (λ c. c.id) cs)
+uses_keys ps cs u i = let t = times_uses i (book_of ps cs) in let k = times_keys ps u i in omega arith
+
+pub length_used : (ps : List (ℕ × Held)) (cs : List Claimed) → length (uses (book_of ps cs)) ≡ length ps + length cs
+length_used ps cs = let u = length_uses (book_of ps cs) in let p = both_kinds ps in omega arith
+
+-- they are few
+pub few_pairs : (capacity last : ℕ) (ps : List (ℕ × Held)) (cs : List Claimed) → Keeps (record { book = book_of ps cs; capacity = capacity; last = last }) → length ps < 65536
+few_pairs capacity last ps cs k = let w = k.sound.within in let m = k.most in let u = length_used ps cs in omega arith
+
+-- an identifier that is free is not in the table
+pub free_absent : (i : ℕ) (ps : List (ℕ × Held)) (cs : List Claimed) → AreUnder ps → times i (uses (book_of ps cs)) ≡ 0 → lookup (eqb i) ps ≡ None
+free_absent i ps cs u z = let t = uses_keys ps cs u i in nothing (lookup (eqb i) ps) (found_keys i ps ∙ le-ltb 0 (times i (keys_of ps)) (omega arith))
   where
-    sums : (x y z : ℕ) → ((ltb 0 x || ltb 0 y) || ltb 0 z) ≡ ltb 0 (x + (y + z))
-    sums x y z = grind (arith, nat_tests)
+    nothing : (o : Option Held) → is_some o ≡ false → o ≡ None
+    nothing (Some h) e = absurd cc
+    nothing None e = refl
+
+-- what is awaited is there
+pub awaited_kept : (q : Qos) (i : ℕ) (ps : List (ℕ × Held)) → AreUnder ps → is_awaited q i (messages ps) ≡ true → is_some (lookup (eqb i) ps) ≡ true
+awaited_kept q i ps u h = let a = awaited_there q i (messages ps) h in let t = times_keys ps u i in found_keys i ps ∙ lt-ltb 0 (times i (keys_of ps)) (omega arith)
+
+-- what is awaited is not released
+awaited_unreleased : (q : Qos) (capacity i : ℕ) (ps : List (ℕ × Held)) (cs : List Claimed) → IsSound capacity (book_of ps cs) → is_awaited q i (messages ps) ≡ true → without i (releases ps) ≡ releases ps
+awaited_unreleased q capacity i ps cs s h =
+    let a = awaited_there q i (messages ps) h in
+    let t = times_uses i (book_of ps cs) in
+    let d = s.distinct i in
+    without_absent i (releases ps) (omega arith)
+
+-- what is released is no message
+released_acknowledged : (capacity i : ℕ) (ps : List (ℕ × Held)) (cs : List Claimed) → IsSound capacity (book_of ps cs) → list_any (λ j. eqb j i) (releases ps) ≡ true → without_entry i (messages ps) ≡ messages ps
+released_acknowledged capacity i ps cs s h =
+    let r : ltb 0 (times i (releases ps)) ≡ true = sym (any_times (λ (j : ℕ). j) i (releases ps) ∙ ap (λ (l : List ℕ). ltb 0 (times i l)) (map-id (releases ps))) ∙ h in
+    let t = times_uses i (book_of ps cs) in
+    let d = s.distinct i in
+    others_absent (λ (e : Entry). e.id) i (messages ps) (grind (arith, nat_tests))
+
+pub table_accept : (i : ℕ) (m : Message) (sent : Bool) (ps : List (ℕ × Held)) (cs : List Claimed) → book_of (ps ++ (i, Waiting (record { id = i; message = m; sent = sent })) ∷ []) cs ≡ accept i m sent (book_of ps cs)
+table_accept i m sent ps cs = λ t. record {
+  entries = flat_map-append (λ (p : ℕ × Held). message_in p.1) ps ((i, Waiting (record { id = i; message = m; sent = sent })) ∷ []) t;
+  released = (flat_map-append (λ (p : ℕ × Held). release_in p.1) ps ((i, Waiting (record { id = i; message = m; sent = sent })) ∷ []) ∙ append-nil (releases ps)) t;
+  claimed = cs;
+}
+
+pub table_released : (i : ℕ) (ps : List (ℕ × Held)) (cs : List Claimed) → book_of (ps ++ (i, Released i) ∷ []) cs ≡ with_released i (book_of ps cs)
+table_released i ps cs = λ t. record {
+  entries = (flat_map-append (λ (p : ℕ × Held). message_in p.1) ps ((i, Released i) ∷ []) ∙ append-nil (messages ps)) t;
+  released = flat_map-append (λ (p : ℕ × Held). release_in p.1) ps ((i, Released i) ∷ []) t;
+  claimed = cs;
+}
+
+pub table_puback : (capacity i : ℕ) (ps : List (ℕ × Held)) (cs : List Claimed) → AreUnder ps → IsSound capacity (book_of ps cs) → is_awaited Q1 i (messages ps) ≡ true → book_of (remove_entry (eqb i) ps) cs ≡ on_puback i (book_of ps cs)
+table_puback capacity i ps cs u s h =
+    let once = once_keys capacity ps cs u s in
+    let gone = messages_removed i ps u once in
+    let kept = releases_removed i ps u once ∙ awaited_unreleased Q1 capacity i ps cs s h in
+    (λ t. record { entries = gone t; released = kept t; claimed = cs }) ∙ sym (puback_is i (book_of ps cs) h)
+
+pub table_pubrec : (capacity i : ℕ) (ps : List (ℕ × Held)) (cs : List Claimed) → AreUnder ps → IsSound capacity (book_of ps cs) → is_awaited Q2 i (messages ps) ≡ true → book_of (remove_entry (eqb i) ps ++ (i, Released i) ∷ []) cs ≡ on_pubrec i (book_of ps cs)
+table_pubrec capacity i ps cs u s h =
+    let once = once_keys capacity ps cs u s in
+    let gone = messages_removed i ps u once in
+    let kept = ap (λ (js : List ℕ). js ++ i ∷ []) (releases_removed i ps u once ∙ awaited_unreleased Q2 capacity i ps cs s h) in
+    table_released i (remove_entry (eqb i) ps) cs ∙ (λ t. record { entries = gone t; released = kept t; claimed = cs }) ∙ sym (pubrec_is i (book_of ps cs) h)
+
+pub table_pubcomp : (capacity i : ℕ) (ps : List (ℕ × Held)) (cs : List Claimed) → AreUnder ps → IsSound capacity (book_of ps cs) → list_any (λ j. eqb j i) (releases ps) ≡ true → book_of (remove_entry (eqb i) ps) cs ≡ on_pubcomp i (book_of ps cs)
+table_pubcomp capacity i ps cs u s h =
+    let once = once_keys capacity ps cs u s in
+    let kept = messages_removed i ps u once ∙ released_acknowledged capacity i ps cs s h in
+    let gone = releases_removed i ps u once in
+    λ t. record { entries = kept t; released = gone t; claimed = cs }
+
+pub table_sent : (ps : List (ℕ × Held)) (cs : List Claimed) → book_of (map (λ p. (p.0, gone_out p.1)) ps) cs ≡ all_sent (book_of ps cs)
+table_sent ps cs = λ t. record { entries = messages_gone ps t; released = releases_gone ps t; claimed = cs }
 
 -- ---- the moves
 
 -- a message is accepted
-pub keeps_accept : (s : Sending) (n m i : ℕ) (message : Message) (sent : Bool) → KeepsRoom s n → is_full s.capacity s.book ≡ false → IsFree s.book i → (message.qos ≡ Q0 → ⊥)
-    → length s.book.entries + length s.book.released + 1 ≤ m → KeepsRoom (record { book = accept i message sent s.book; capacity = s.capacity; last = i }) m
-keeps_accept s n m i message sent k room free acknowledged reserved = record {
+pub keeps_accept : (s : Sending) (i : ℕ) (message : Message) (sent : Bool) → Keeps s → is_full s.capacity s.book ≡ false → IsFree s.book i → (message.qos ≡ Q0 → ⊥) → Keeps (record { book = accept i message sent s.book; capacity = s.capacity; last = i })
+keeps_accept s i message sent k room free acknowledged = record {
   sound = laws.accepts s.capacity i message sent s.book room free k.sound;
   able = k.able;
   most = k.most;
   acknowledged = none_push (λ (e : Entry). same_qos Q0 e.message.qos) s.book.entries _ k.acknowledged (not_zero message acknowledged);
-  room = let l = length-append s.book.entries (record { id = i; message = message; sent = sent } ∷ []) in omega arith;
 }
   where
     not_zero : (message : Message) → (message.qos ≡ Q0 → ⊥) → same_qos Q0 message.qos ≡ false
     not_zero message n = elim message.qos as (λ q. (q ≡ Q0 → ⊥) → same_qos Q0 q ≡ false) [ Q0 ↦ λ h. absurd (h refl) | Q1 ↦ λ h. refl | Q2 ↦ λ h. refl ] n
 
-pub keeps_claim : (s : Sending) (n i : ℕ) (kind : Claim) (count : ℕ) → KeepsRoom s n → is_full s.capacity s.book ≡ false → IsFree s.book i → KeepsRoom (record { book = claim i kind count s.book; capacity = s.capacity; last = i }) n
-keeps_claim s n i kind count k room free = record {
+pub keeps_claim : (s : Sending) (i : ℕ) (kind : Claim) (count : ℕ) → Keeps s → is_full s.capacity s.book ≡ false → IsFree s.book i → Keeps (record { book = claim i kind count s.book; capacity = s.capacity; last = i })
+keeps_claim s i kind count k room free = record {
   sound = laws.claims s.capacity i kind count s.book room free k.sound;
   able = k.able;
   most = k.most;
   acknowledged = k.acknowledged;
-  room = k.room;
 }
 
-pub keeps_release : (s : Sending) (n i : ℕ) → KeepsRoom s n → KeepsRoom (record s { book = release i s.book }) n
-keeps_release s n i k = record {
-  sound = laws.releases s.capacity i s.book k.sound;
-  able = k.able;
-  most = k.most;
-  acknowledged = k.acknowledged;
-  room = k.room;
-}
+-- the same messages, or none that was not there before
+keeps_same : (s : Sending) (b : SenderBook) → Keeps s → IsSound s.capacity b → list_any (λ e. same_qos Q0 e.message.qos) b.entries ≡ false → Keeps (record s { book = b })
+keeps_same s b k sound acknowledged = record { sound = sound; able = k.able; most = k.most; acknowledged = acknowledged }
 
-pub keeps_no_claims : (s : Sending) (n : ℕ) → KeepsRoom s n → KeepsRoom (record s { book = no_claims s.book }) n
-keeps_no_claims s n k = record {
-  sound = laws.drops s.capacity s.book k.sound;
-  able = k.able;
-  most = k.most;
-  acknowledged = k.acknowledged;
-  room = k.room;
-}
+pub keeps_release : (s : Sending) (i : ℕ) → Keeps s → Keeps (record s { book = release i s.book })
+keeps_release s i k = keeps_same s (release i s.book) k (laws.releases s.capacity i s.book k.sound) k.acknowledged
+
+pub keeps_no_claims : (s : Sending) → Keeps s → Keeps (record s { book = no_claims s.book })
+keeps_no_claims s k = keeps_same s (no_claims s.book) k (laws.drops s.capacity s.book k.sound) k.acknowledged
 
 pub none_sent : (es : List Entry) → list_any (λ (e : Entry). same_qos Q0 e.message.qos) (map (λ (e : Entry). record { id = e.id; message = e.message; sent = true }) es) ≡ list_any (λ (e : Entry). same_qos Q0 e.message.qos) es
 none_sent [] = refl
 none_sent (e ∷ es) = ap (λ b. same_qos Q0 e.message.qos || b) (none_sent es)
 
-pub keeps_sent : (s : Sending) (n : ℕ) → KeepsRoom s n → KeepsRoom (record s { book = all_sent s.book }) n
-keeps_sent s n k = record {
-  sound = laws.sends s.capacity s.book k.sound;
-  able = k.able;
-  most = k.most;
-  acknowledged = none_sent s.book.entries ∙ k.acknowledged;
-  room = let l : length (all_sent s.book).entries ≡ length s.book.entries = length-map s.book.entries (λ (e : Entry). record { id = e.id; message = e.message; sent = true }) in let r = k.room in omega arith;
-}
+pub keeps_sent : (s : Sending) → Keeps s → Keeps (record s { book = all_sent s.book })
+keeps_sent s k = keeps_same s (all_sent s.book) k (laws.sends s.capacity s.book k.sound) (none_sent s.book.entries ∙ k.acknowledged)
 
--- what is left without an entry, a released identifier, a claim at a place
-pub entry_out : (s : Sending) (n i at : ℕ) → KeepsRoom s n → at < length s.book.entries → HoldsAt (λ e. e.id ≡ i) s.book.entries at → remove s.book.entries at ≡ without_entry i s.book.entries
-entry_out s n i at k l h = remove_is (λ (e : Entry). e.id) i s.book.entries at l h (once_entry s.capacity i s.book k.sound)
+none_out : (i : ℕ) (es : List Entry) (t : Bool) → list_any (λ (e : Entry). same_qos Q0 e.message.qos) es ≡ false → list_any (λ (e : Entry). same_qos Q0 e.message.qos) (cond t (without_entry i es) es) ≡ false
+none_out i es true n = none_filter (λ (e : Entry). same_qos Q0 e.message.qos) (λ (e : Entry). not (eqb e.id i)) es n
+none_out i es false n = n
 
-pub released_out : (s : Sending) (n i at : ℕ) → KeepsRoom s n → at < length s.book.released → HoldsAt (λ j. j ≡ i) s.book.released at → remove s.book.released at ≡ without i s.book.released
-released_out s n i at k l h = remove_is (λ (j : ℕ). j) i s.book.released at l h (once_released s.capacity i s.book k.sound)
+pub keeps_puback : (s : Sending) (i : ℕ) → Keeps s → Keeps (record s { book = on_puback i s.book })
+keeps_puback s i k = keeps_same s (on_puback i s.book) k (laws.puback s.capacity i s.book k.sound) (none_out i s.book.entries (is_awaited Q1 i s.book.entries) k.acknowledged)
 
-pub claim_out : (s : Sending) (n i at : ℕ) → KeepsRoom s n → at < length s.book.claimed → HoldsAt (λ c. c.id ≡ i) s.book.claimed at → remove s.book.claimed at ≡ without_claim i s.book.claimed
-claim_out s n i at k l h = remove_is (λ (c : Claimed). c.id) i s.book.claimed at l h (once_claimed s.capacity i s.book k.sound)
+pub keeps_pubrec : (s : Sending) (i : ℕ) → Keeps s → Keeps (record s { book = on_pubrec i s.book })
+keeps_pubrec s i k = keeps_same s (on_pubrec i s.book) k (laws.pubrec s.capacity i s.book k.sound) (none_out i s.book.entries (is_awaited Q2 i s.book.entries) k.acknowledged)
 
--- the book after an acknowledgement that something waits for
-pub puback_is : (i : ℕ) (b : SenderBook) → is_awaited Q1 i b.entries ≡ true → on_puback i b ≡ record b { entries = without_entry i b.entries }
-puback_is i b h = ap (λ t. record b { entries = cond t (without_entry i b.entries) b.entries }) h
+pub keeps_pubcomp : (s : Sending) (i : ℕ) → Keeps s → Keeps (record s { book = on_pubcomp i s.book })
+keeps_pubcomp s i k = keeps_same s (on_pubcomp i s.book) k (laws.pubcomp s.capacity i s.book k.sound) k.acknowledged
 
-pub pubrec_is : (i : ℕ) (b : SenderBook) → is_awaited Q2 i b.entries ≡ true → on_pubrec i b ≡ record b { entries = without_entry i b.entries; released = b.released ++ i ∷ [] }
-pubrec_is i b h = ap (λ t. record b { entries = cond t (without_entry i b.entries) b.entries; released = cond t (b.released ++ i ∷ []) b.released }) h
+-- ---- what is left without a claim at a place
 
-pub keeps_puback : (s : Sending) (n i at : ℕ) → KeepsRoom s n → is_awaited Q1 i s.book.entries ≡ true → at < length s.book.entries → HoldsAt (λ e. e.id ≡ i) s.book.entries at → KeepsRoom (record s { book = record s.book { entries = remove s.book.entries at } }) n
-keeps_puback s n i at k awaited l h =
-    let out = entry_out s n i at k l h in
-    record {
-      sound = subst (λ (es : List Entry). IsSound s.capacity (record s.book { entries = es })) (sym out) (subst (IsSound s.capacity) (puback_is i s.book awaited) (laws.puback s.capacity i s.book k.sound));
-      able = k.able;
-      most = k.most;
-      acknowledged = ap (list_any (λ (e : Entry). same_qos Q0 e.message.qos)) out ∙ none_filter (λ (e : Entry). same_qos Q0 e.message.qos) (λ (e : Entry). not (eqb e.id i)) s.book.entries k.acknowledged;
-      room = let r = k.room in let x = length-remove s.book.entries at l in omega arith;
-    }
-
-pub keeps_pubrec : (s : Sending) (n i at : ℕ) → KeepsRoom s n → is_awaited Q2 i s.book.entries ≡ true → at < length s.book.entries → HoldsAt (λ e. e.id ≡ i) s.book.entries at
-    → KeepsRoom (record s { book = record s.book { entries = remove s.book.entries at; released = s.book.released ++ i ∷ [] } }) n
-keeps_pubrec s n i at k awaited l h =
-    let out = entry_out s n i at k l h in
-    record {
-      sound = subst (λ (es : List Entry). IsSound s.capacity (record s.book { entries = es; released = s.book.released ++ i ∷ [] })) (sym out) (subst (IsSound s.capacity) (pubrec_is i s.book awaited) (laws.pubrec s.capacity i s.book k.sound));
-      able = k.able;
-      most = k.most;
-      acknowledged = ap (list_any (λ (e : Entry). same_qos Q0 e.message.qos)) out ∙ none_filter (λ (e : Entry). same_qos Q0 e.message.qos) (λ (e : Entry). not (eqb e.id i)) s.book.entries k.acknowledged;
-      room = let r = k.room in let x = length-remove s.book.entries at l in let y = length-append s.book.released (i ∷ []) in omega arith;
-    }
-
-pub keeps_pubcomp : (s : Sending) (n i at : ℕ) → KeepsRoom s n → at < length s.book.released → HoldsAt (λ j. j ≡ i) s.book.released at → KeepsRoom (record s { book = record s.book { released = remove s.book.released at } }) n
-keeps_pubcomp s n i at k l h =
-    let out = released_out s n i at k l h in
-    record {
-      sound = subst (λ (js : List ℕ). IsSound s.capacity (record s.book { released = js })) (sym out) (laws.pubcomp s.capacity i s.book k.sound);
-      able = k.able;
-      most = k.most;
-      acknowledged = k.acknowledged;
-      room = let r = k.room in let x = length-remove s.book.released at l in omega arith;
-    }
+pub claim_out : (s : Sending) (i at : ℕ) → Keeps s → at < length s.book.claimed → HoldsAt (λ c. c.id ≡ i) s.book.claimed at → remove s.book.claimed at ≡ without_claim i s.book.claimed
+claim_out s i at k l h = remove_is (λ (c : Claimed). c.id) i s.book.claimed at l h (once_claimed s.capacity i s.book k.sound)
 
 -- nothing is released or claimed that is not there
 pub absent_released : (i : ℕ) (b : SenderBook) → list_any (λ j. eqb j i) b.released ≡ false → without i b.released ≡ b.released

@@ -1,13 +1,17 @@
+pub mod Tables
 pub mod Counting
 pub mod Ascending
 pub mod Books
 pub mod Members
 pub mod Sending
 pub mod Queues
+pub mod Holding
 pub mod Kept
+pub mod Claims
 pub mod Round
 pub mod Restoring
 pub mod Fields
 pub mod EntryForms
 pub mod SessionForms
 pub mod Whole
+pub mod Live

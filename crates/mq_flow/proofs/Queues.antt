@@ -1,51 +1,12 @@
--- A queue that is looked through from the front, and what is appended to a list.
-use Rattle.std.proofs.Common.{◌≡◌, ℕ, zero, suc, ◌+◌, ◌<◌, ◌≤◌, ◌∙◌, Bool, true, false, cond, not, ◌||◌, eqb, ltb, List, [], ◌∷◌, ◌++◌, map, length, take, drop, get_or, remove, filter, refl, sym, ap, subst, arith, inl, inr}
+-- Counting messages, and taking an item out of a list.
+use Rattle.std.proofs.Common.{◌≡◌, ℕ, zero, suc, ◌+◌, ◌<◌, ◌≤◌, ◌∙◌, Bool, true, false, cond, not, ◌||◌, eqb, ltb, List, [], ◌∷◌, ◌++◌, map, length, get_or, remove, filter, refl, sym, ap, subst, arith, inl, inr}
 use Rattle.std.specs.List.{list_any}
-use Rattle.std.proofs.Math.Numerals.{add-one}
 use Rattle.std.proofs.lemmas.Bool.{ne_eqb, cases_eq, cond_both, lt-ltb, or_parts}
 use Rattle.std.proofs.lemmas.List.{length-map}
 use Rattle.mq_topic.specs.declared.qos.Qos.{Qos}
 use Rattle.mq_flow.specs.declared.entry.Entry.{Entry}
 use Rattle.mq_flow.specs.Sender.{times, same_qos, held}
 use Rattle.mq_flow.proofs.Counting.{eqb_self, times_same, times_other, filter_le}
-
--- ---- a place in a list, from what is left there
-
-pub place_within : {A : Type 0} (xs ys : List A) (y : A) (n : ℕ) → y ∷ ys ≡ drop n xs → n < length xs
-place_within [] ys y zero e = absurd cc
-place_within [] ys y (suc n) e = absurd cc
-place_within (x ∷ xs) ys y zero e = omega arith
-place_within (x ∷ xs) ys y (suc n) e = let h = place_within xs ys y n e in omega arith
-
-pub place_item : {A : Type 0} (xs ys : List A) (y : A) (n : ℕ) → y ∷ ys ≡ drop n xs → (d : A) → get_or xs n d ≡ y
-place_item [] ys y zero e d = absurd cc
-place_item [] ys y (suc n) e d = absurd cc
-place_item (x ∷ xs) ys y zero e d = cc
-place_item (x ∷ xs) ys y (suc n) e d = place_item xs ys y n e d
-
-place_suc : {A : Type 0} (xs ys : List A) (y : A) (n : ℕ) → y ∷ ys ≡ drop n xs → ys ≡ drop (suc n) xs
-place_suc [] ys y zero e = absurd cc
-place_suc [] ys y (suc n) e = absurd cc
-place_suc (x ∷ xs) ys y zero e = cc
-place_suc (x ∷ xs) ys y (suc n) e = place_suc xs ys y n e
-
-pub place_next : {A : Type 0} (xs ys : List A) (y : A) (n : ℕ) → y ∷ ys ≡ drop n xs → ys ≡ drop (n + 1) xs
-place_next xs ys y n e = rw add-one (place_suc xs ys y n e)
-
--- what does not pass is passed over
-pub any_next : {A : Type 0} (p : A → Bool) (y : A) (ys : List A) (b : Bool) → p y ≡ false → list_any p (y ∷ ys) ≡ b → list_any p ys ≡ b
-any_next p y ys b f e = sym (ap (λ t. t || list_any p ys) f) ∙ e
-
--- ---- a front that is kept
-
-pub kept_push : {A : Type 0} (a xs ys : List A) → take (length a) xs ≡ a → take (length a) (xs ++ ys) ≡ a
-kept_push [] xs ys e = refl
-kept_push (z ∷ a) [] ys e = absurd cc
-kept_push {A} (z ∷ a) (x ∷ xs) ys e =
-    let h : take (length a) xs ≡ a = cc in
-    let k = kept_push a xs ys h in
-    let z_is : x ≡ z = cc in
-    cc
 
 -- ---- the messages of a quality of service
 
@@ -66,10 +27,10 @@ there_at f i (x ∷ xs) (suc n) l h = let k = there_at f i xs n (omega arith) h 
 abbrev pub others : {A : Type 0} → (A → ℕ) → ℕ → List A → List A
 others f i xs = filter (λ x. not (eqb (f x) i)) xs
 
-others_same : {A : Type 0} (f : A → ℕ) (i : ℕ) (x : A) (xs : List A) → f x ≡ i → others f i (x ∷ xs) ≡ others f i xs
+pub others_same : {A : Type 0} (f : A → ℕ) (i : ℕ) (x : A) (xs : List A) → f x ≡ i → others f i (x ∷ xs) ≡ others f i xs
 others_same {A} f i x xs e = let P : Bool → Type 0 = λ b. cond (not b) (x ∷ others f i xs) (others f i xs) ≡ others f i xs in subst P (sym (ap (λ (y : ℕ). eqb y i) e ∙ eqb_self i)) refl
 
-others_other : {A : Type 0} (f : A → ℕ) (i : ℕ) (x : A) (xs : List A) → (f x ≡ i → ⊥) → others f i (x ∷ xs) ≡ x ∷ others f i xs
+pub others_other : {A : Type 0} (f : A → ℕ) (i : ℕ) (x : A) (xs : List A) → (f x ≡ i → ⊥) → others f i (x ∷ xs) ≡ x ∷ others f i xs
 others_other {A} f i x xs n = let P : Bool → Type 0 = λ b. cond (not b) (x ∷ others f i xs) (others f i xs) ≡ x ∷ others f i xs in subst P (sym (ne_eqb (f x) i n)) refl
 
 pub others_absent : {A : Type 0} (f : A → ℕ) (i : ℕ) (xs : List A) → times i (map f xs) ≡ 0 → others f i xs ≡ xs

@@ -1,22 +1,18 @@
 -- Reading a session step by step, as the loops and the functions of the crate do.
-use Rattle.std.proofs.Common.{◌≡◌, ℕ, suc, ◌+◌, ◌-◌, ◌<◌, ◌≤◌, Bool, true, false, cond, eqb, ltb, List, [], ◌∷◌, length, take, refl, sym, ap, subst, ◌∙◌, arith, inl, inr, Result, Ok, Err}
-use Rattle.std.proofs.lemmas.Bool.{false_from_ne_true, and_left, le-ltb, ltb-false, lt-ltb, cases_eq, eq-eqb, ne_eqb}
+use Rattle.std.proofs.Common.{◌≡◌, ℕ, suc, ◌+◌, ◌-◌, ◌<◌, ◌≤◌, false, eqb, ltb, List, [], ◌∷◌, length, take, refl, sym, ◌∙◌, arith, Result, Ok, Err}
+use Rattle.std.proofs.lemmas.Bool.{false_from_ne_true, and_left, le-ltb, ltb-false, ne_eqb}
 use Rattle.std.proofs.lemmas.Bool.Decides.{nat_tests}
 use Rattle.std.proofs.lemmas.List.{length-append}
 use Rattle.std.proofs.lemmas.Str.{IsUtf8-from_is_utf8}
 use Rattle.std.specs.Option.{is_none}
 use Rattle.std.specs.Str.{IsUtf8, is_utf8}
 use Rattle.mq_topic.specs.Fault.{name_fault}
-use Rattle.std.specs.List.{list_any}
-use Rattle.std.specs.Ordering.{nat_cmp, eq_by_cmp}
-use Rattle.std.specs.Cmp.{unsigned_tied}
-use Rattle.mq_packet.specs.declared.message.Message.{Message}
-use Rattle.mq_flow.specs.Sender.{SenderBook, uses, times, IsFree, is_full, accept}
-use Rattle.mq_flow.specs.Sending.{Sending, KeepsRoom}
-use Rattle.mq_flow.specs.Loading.{AreUsed, bad_at, number_at, free_at, topic_at, is_topic, with_entry_at, entries_at, with_released, with_released_at, released_at, next_at, received_at}
+use Rattle.mq_flow.specs.Sender.{SenderBook, uses, times, IsFree, is_full}
+use Rattle.mq_flow.specs.Sending.{Sending, Keeps}
+use Rattle.mq_flow.specs.Loading.{bad_at, number_at, free_at, topic_at, is_topic, with_entry_at, entries_at, with_released, with_released_at, released_at, next_at, received_at}
 use Rattle.mq_flow.specs.Receiver.{ReceiverBook, on_publish}
-use Rattle.mq_flow.proofs.Counting.{times_append, times_same, times_other}
-use Rattle.mq_flow.proofs.Books.{times_uses, length_uses, gives_sound, times_accept}
+use Rattle.mq_flow.proofs.Counting.{times_append}
+use Rattle.mq_flow.proofs.Books.{times_uses, length_uses, gives_sound}
 
 -- what is no UTF-8 is no topic name
 pub not_topic : (t : List ℕ) → (IsUtf8 t → ⊥) → is_topic t ≡ false
@@ -42,48 +38,22 @@ length_released i b =
     let g = length-append b.released (i ∷ []) in
     omega arith
 
-pub keeps_released : (s : Sending) (n m i : ℕ) → KeepsRoom s n → is_full s.capacity s.book ≡ false → IsFree s.book i
-    → length s.book.entries + length s.book.released + 1 ≤ m → KeepsRoom (record s { book = with_released i s.book }) m
-keeps_released s n m i k room free reserved = record {
+pub keeps_released : (s : Sending) (i : ℕ) → Keeps s → is_full s.capacity s.book ≡ false → IsFree s.book i → Keeps (record s { book = with_released i s.book })
+keeps_released s i k room free = record {
   sound = gives_sound s.capacity i s.book (with_released i s.book) room free (λ j. times_released i j s.book) (length_released i s.book) k.sound;
   able = k.able;
   most = k.most;
   acknowledged = k.acknowledged;
-  room = let l = length-append s.book.released (i ∷ []) in omega arith;
 }
 
 -- a book with fewer identifiers in use than there is room for is not full
 pub not_full : (capacity : ℕ) (b : SenderBook) → length (uses b) < capacity → is_full capacity b ≡ false
 not_full capacity b h = grind (arith, nat_tests)
 
--- ---- the identifiers in use as a set
+-- ---- a free identifier
 
--- an identifier that is put in the set, and in use
-pub used_more : (ks ns : List ℕ) (i : ℕ) (b c : SenderBook) → ((q : ℕ) → list_any (eq_by_cmp nat_cmp q) ns ≡ cond (eq_by_cmp nat_cmp i q) true (list_any (eq_by_cmp nat_cmp q) ks))
-    → ((q : ℕ) → times q (uses c) ≡ times q (uses b) + times q (i ∷ [])) → AreUsed ks b → AreUsed ns c
-used_more ks ns i b c put more used q = elim (cases_eq i q) [
-  | inl e ↦
-      let tied : eq_by_cmp nat_cmp i q ≡ true = unsigned_tied i q ∙ eq-eqb i q e in
-      let one : times q (i ∷ []) ≡ 1 = subst (λ (j : ℕ). times q (j ∷ []) ≡ 1) (sym e) (times_same q []) in
-      put q ∙ ap (λ t. cond t true (list_any (eq_by_cmp nat_cmp q) ks)) tied ∙ sym (lt-ltb 0 (times q (uses c)) (omega (arith, more q)))
-  | inr ne ↦
-      let apart : eq_by_cmp nat_cmp i q ≡ false = unsigned_tied i q ∙ ne_eqb i q ne in
-      let none : times q (i ∷ []) ≡ 0 = times_other q i [] ne in
-      let same : times q (uses b) ≡ times q (uses c) = omega (arith, more q) in
-      put q ∙ ap (λ t. cond t true (list_any (eq_by_cmp nat_cmp q) ks)) apart ∙ used q ∙ ap (ltb 0) same
-]
-
-pub used_entry : (ks ns : List ℕ) (i : ℕ) (m : Message) (sent : Bool) (b : SenderBook) → ((q : ℕ) → list_any (eq_by_cmp nat_cmp q) ns ≡ cond (eq_by_cmp nat_cmp i q) true (list_any (eq_by_cmp nat_cmp q) ks))
-    → AreUsed ks b → AreUsed ns (accept i m sent b)
-used_entry ks ns i m sent b put used = used_more ks ns i b (accept i m sent b) put (λ q. times_accept i q m sent b) used
-
-pub used_released : (ks ns : List ℕ) (i : ℕ) (b : SenderBook) → ((q : ℕ) → list_any (eq_by_cmp nat_cmp q) ns ≡ cond (eq_by_cmp nat_cmp i q) true (list_any (eq_by_cmp nat_cmp q) ks))
-    → AreUsed ks b → AreUsed ns (with_released i b)
-used_released ks ns i b put used = used_more ks ns i b (with_released i b) put (λ q. times_released i q b) used
-
--- an identifier that is not in the set is free
-pub not_used : (ks : List ℕ) (i : ℕ) (b : SenderBook) → AreUsed ks b → list_any (eq_by_cmp nat_cmp i) ks ≡ false → times i (uses b) ≡ 0
-not_used ks i b used none = let z = ltb-false 0 (times i (uses b)) (sym (used i) ∙ none) in omega arith
+pub unused : (i : ℕ) (b : SenderBook) → ltb 0 (times i (uses b)) ≡ false → times i (uses b) ≡ 0
+unused i b none = let z = ltb-false 0 (times i (uses b)) none in omega arith
 
 pub free_read : (b : SenderBook) (bytes : List ℕ) (i : ℕ) (rest : List ℕ) → number_at bytes ≡ Ok (i, rest) → 0 < i → times i (uses b) ≡ 0 → free_at b bytes ≡ Ok (i, rest)
 unfolding free_at

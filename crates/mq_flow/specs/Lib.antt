@@ -1,4 +1,5 @@
 pub mod Sender
+pub mod Held
 pub mod Sending
 pub mod Receiver
 pub mod Laws

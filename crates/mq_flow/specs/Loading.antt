@@ -1,8 +1,7 @@
 -- Reading the saved form of a session (3.1.2.4, 4.1). Each reads a field from the front of the bytes, and gives its value and the bytes
 -- after it; or else how many bytes there are from the bad field on, to the end.
 use Rattle.std.specs.Prelude.{◌≡◌, ℕ, zero, suc, ◌+◌, ◌-◌, ◌*◌, ◌<◌, slice_index, Bool, true, false, ◌&&◌, ◌||◌, if◌then◌else◌, List, [], ◌∷◌, ◌++◌, length, take, drop, ◌==◌, nat_le, nat_lt, nat_eq, Result, Ok, Err}
-use Rattle.std.specs.List.{starts_with, list_any}
-use Rattle.std.specs.Ordering.{nat_cmp, eq_by_cmp}
+use Rattle.std.specs.List.{starts_with}
 use Rattle.std.specs.Option.{is_none}
 use Rattle.std.specs.Str.{is_utf8}
 use Rattle.mq_topic.specs.declared.qos.Qos.{Qos}
@@ -164,10 +163,6 @@ placed total (Err left) = Err (errors.Malformed (total - left))
 -- the session of which these bytes are the saved form, or what is wrong with them
 unfoldable pub read_session : List ℕ → Result Session LoadError
 read_session bytes = if has_version bytes then placed (length bytes) (session_at 268435455 (drop 4 bytes)) else Err errors.Version
-
--- the numbers of a list are the identifiers in use
-abbrev pub AreUsed : List ℕ → SenderBook → Type 0
-AreUsed ids b = (i : ℕ) → list_any (eq_by_cmp nat_cmp i) ids ≡ nat_lt 0 (times i (uses b))
 
 -- each item is a byte
 abbrev pub AreBytes : List ℕ → Type 0

@@ -92,6 +92,22 @@ pub record IsSessionWithin (limit : ℕ) (s : Session) : Type 0 where
   pub entries : AllByRecursion (IsKept limit) s.sender.book.entries
   pub received : (i : ℕ) → set.contains s.receiver i ≡ true → IsIdentifier i
 
+-- the PUBLISH of each message is within a limit (2.2.3, 3.3)
+abbrev pub AreWithin : ℕ → List Entry → Type 0
+AreWithin limit es = AllByRecursion (λ e. IsWithinLimit limit e.message) es
+
+-- each message has a topic name (4.7)
+abbrev pub HaveTopics : List Entry → Type 0
+HaveTopics es = AllByRecursion (λ e. IsTopicName e.message.topic) es
+
+-- what of this its sender keeps true
+pub record IsSenderWithin (limit : ℕ) (s : Sending) : Type 0 where
+  pub sound : IsSound s.capacity s.book
+  pub able : 0 < s.capacity
+  pub most : s.capacity ≤ 65535
+  pub last : s.last ≤ 65535
+  pub entries : AllByRecursion (IsKept limit) s.book.entries
+
 -- and the limit is the standard's (2.2.3)
 abbrev pub IsSession : Session → Type 0
 IsSession s = IsSessionWithin 268435455 s

@@ -3,9 +3,9 @@
 ghost use Rattle.std.specs.Prelude.{◌≡◌};
 ghost use Rattle.mq_flow.specs.Sender.{on_puback, on_pubrec, on_pubcomp, puback_reaction, pubrec_reaction, pubcomp_reaction};
 
-use crate::queue::{awaited_at, place_of, take_out};
 use crate::reaction::Reaction;
 use crate::sender::Sender;
+use crate::table::Held;
 use mq_packet::PacketId;
 use mq_topic::Qos;
 
@@ -18,10 +18,10 @@ impl Sender {
         ensures capacity { self.new.capacity ≡ self.old.capacity }
         ensures last { self.new.last ≡ self.old.last }
     {
-        let Some(at) = awaited_at(&self.entries, Qos::Q1, id) else {
+        if !self.awaits(Qos::Q1, id) {
             return Reaction::Stray;
-        };
-        take_out(&mut self.entries, at);
+        }
+        self.table.take(id);
         Reaction::Freed
     }
 
@@ -33,11 +33,10 @@ impl Sender {
         ensures capacity { self.new.capacity ≡ self.old.capacity }
         ensures last { self.new.last ≡ self.old.last }
     {
-        let Some(at) = awaited_at(&self.entries, Qos::Q2, id) else {
+        if !self.awaits(Qos::Q2, id) {
             return Reaction::Stray;
-        };
-        take_out(&mut self.entries, at);
-        self.released.push_back_reserved(id);
+        }
+        self.table.turn(id, Held::Released(id));
         Reaction::Release(id)
     }
 
@@ -48,10 +47,10 @@ impl Sender {
         ensures capacity { self.new.capacity ≡ self.old.capacity }
         ensures last { self.new.last ≡ self.old.last }
     {
-        let Some(at) = place_of(&self.released, id) else {
+        if !self.is_released(id) {
             return Reaction::Stray;
-        };
-        take_out(&mut self.released, at);
+        }
+        self.table.take(id);
         Reaction::Freed
     }
 }

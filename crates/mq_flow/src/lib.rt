@@ -6,6 +6,7 @@
 mod acknowledge;
 mod claim;
 mod entry;
+mod iter;
 mod laws;
 mod loading;
 mod queue;
@@ -15,11 +16,13 @@ mod resend;
 mod saving;
 mod sender;
 mod session;
+mod table;
 #[cfg(test)]
 mod tests;
 
 pub use crate::claim::{Claim, Claimed};
 pub use crate::entry::Entry;
+pub use crate::iter::Entries;
 pub use crate::laws::{identifier_laws, receiver_laws, saved_laws, sending_laws, stray_laws};
 pub use crate::loading::LoadError;
 pub use crate::reaction::{Reaction, Refusal};

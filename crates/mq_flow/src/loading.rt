@@ -6,20 +6,18 @@ ghost use Rattle.mq_topic.specs.declared.qos.Qos.TheVariants.{Q0};
 ghost use Rattle.mq_flow.specs.Sender.{IsFree, is_full, uses, blank_book};
 ghost use Rattle.mq_flow.specs.Receiver.{none_received};
 ghost use Rattle.mq_flow.specs.Saved.{Saved, IsSession};
-ghost use Rattle.std.specs.List.{list_any};
-ghost use Rattle.std.specs.Ordering.{nat_cmp, eq_by_cmp};
-ghost use Rattle.mq_flow.specs.Loading.{AreUsed, Same, Gives, Loads, number_at, count_at, capacity_at, number_within, free_at, qos_at, flag_at, flags_at, topic_at, is_over_limit, payload_at, message_at, entry_at, with_entry_at, entries_at, with_released, with_released_at, released_at, sender_at, next_at, received_at, receiver_at, end_at, session_at, read_session, has_version};
+ghost use Rattle.mq_flow.specs.Loading.{Same, Gives, Loads, number_at, count_at, capacity_at, number_within, free_at, qos_at, flag_at, flags_at, topic_at, is_over_limit, payload_at, message_at, entry_at, with_entry_at, entries_at, with_released, with_released_at, released_at, sender_at, next_at, received_at, receiver_at, end_at, session_at, read_session, has_version};
 
 use crate::entry::Entry;
 use crate::receiver::Receiver;
 use crate::saving::SIGNATURE;
 use crate::sender::Sender;
 use crate::session::Session;
+use crate::table::Held;
 use bytes::Bytes;
 use mq_packet::{Message, PacketId, Payload};
 use mq_topic::{Qos, TopicFault, TopicName};
 use std::alloc::{AllocError, Global};
-use std::collections::BTreeSet;
 use std::str;
 use thiserror::Error;
 
@@ -135,71 +133,53 @@ fn sender(alloc: Global, bytes: &[u8]) -> Result<(Sender, &[u8]), Unread>
     let (last, rest) = number(rest)?;
     let (count, rest) = number_within(capacity, rest)?;
     let mut sender = Sender::new(alloc, capacity);
-    let mut used = BTreeSet::new(alloc);
-    let rest = entries(alloc, &mut sender, &mut used, count, rest)?;
+    let rest = entries(alloc, &mut sender, count, rest)?;
     let (more, rest) = number_within(capacity - count, rest)?;
-    let rest = released(&mut sender, &mut used, more, rest)?;
+    let rest = released(&mut sender, more, rest)?;
     sender.last = last;
     Ok((sender, rest))
 }
 
-// So many entries more. The set has the identifiers in use, so that each is found quickly.
+// So many entries more.
 fn entries<'a>(
     alloc: Global,
     sender: &mut Sender,
-    used: &mut BTreeSet<u16>,
     count: u16,
     bytes: &'a [u8],
 ) -> Result<&'a [u8], Unread>
-    requires used { AreUsed used.old.keys sender.old.book }
     requires room { length (uses sender.old.book) + count ≤ sender.old.capacity }
     ensures read { Gives (λ rest. (sender.new.book, rest.now)) result (entries_at 268435455 count sender.old.book bytes.now) }
     ensures uses { OnOk result (length (uses sender.new.book) ≡ length (uses sender.old.book) + count) }
-    ensures used { OnOk result (AreUsed used.new.keys sender.new.book) }
     ensures capacity { sender.new.capacity ≡ sender.old.capacity }
 {
     let mut rest = bytes;
     for _ in 0..count {
-        rest = with_entry(alloc, sender, used, rest)?;
+        rest = with_entry(alloc, sender, rest)?;
     }
     Ok(rest)
 }
 
 // One entry more.
 #[tactic(auto, unfolding(crate::specs::Loading::with_entry_at))]
-fn with_entry<'a>(
-    alloc: Global,
-    sender: &mut Sender,
-    used: &mut BTreeSet<u16>,
-    bytes: &'a [u8],
-) -> Result<&'a [u8], Unread>
-    requires used { AreUsed used.old.keys sender.old.book }
+fn with_entry<'a>(alloc: Global, sender: &mut Sender, bytes: &'a [u8]) -> Result<&'a [u8], Unread>
     requires room { is_full sender.old.capacity sender.old.book ≡ false }
     ensures read { Gives (λ rest. (sender.new.book, rest.now)) result (with_entry_at 268435455 sender.old.book bytes.now) }
     ensures uses { OnOk result (length (uses sender.new.book) ≡ length (uses sender.old.book) + 1) }
-    ensures used { OnOk result (AreUsed used.new.keys sender.new.book) }
     ensures capacity { sender.new.capacity ≡ sender.old.capacity }
 {
-    let (entry, rest) = entry(alloc, sender, used, bytes)?;
-    use_up(used, entry.id)?;
+    let (entry, rest) = entry(alloc, sender, bytes)?;
     sender.accept_as(entry.id, entry.message, entry.sent)?;
     Ok(rest)
 }
 
 // An entry whose identifier is free.
 #[tactic(auto, unfolding(crate::specs::Loading::entry_at))]
-fn entry<'a>(
-    alloc: Global,
-    sender: &Sender,
-    used: &BTreeSet<u16>,
-    bytes: &'a [u8],
-) -> Result<(Entry, &'a [u8]), Unread>
-    requires { AreUsed used.now.keys sender.now.book }
+fn entry<'a>(alloc: Global, sender: &Sender, bytes: &'a [u8]) -> Result<(Entry, &'a [u8]), Unread>
     ensures read { Gives (λ x. (x.0, x.1.now)) result (entry_at 268435455 sender.now.book bytes.now) }
     ensures free { IfOk result (λ x. IsFree sender.now.book x.0.id) }
     ensures kept { IfOk result (λ x. x.0.message.qos ≡ Q0 → ⊥) }
 {
-    let (id, rest) = match free(sender, used, bytes) {
+    let (id, rest) = match free(sender, bytes) {
         Ok(field) => field,
         Err(bad) => return Err(Unread::Bad(bad)),
     };
@@ -311,42 +291,29 @@ fn flag(bytes: &[u8]) -> Result<(bool, &[u8]), BadField>
 
 // One released identifier more.
 #[tactic(auto, unfolding(crate::specs::Loading::with_released_at))]
-fn with_released<'a>(
-    sender: &mut Sender,
-    used: &mut BTreeSet<u16>,
-    bytes: &'a [u8],
-) -> Result<&'a [u8], Unread>
-    requires used { AreUsed used.old.keys sender.old.book }
+fn with_released<'a>(sender: &mut Sender, bytes: &'a [u8]) -> Result<&'a [u8], Unread>
     requires room { is_full sender.old.capacity sender.old.book ≡ false }
     ensures read { Gives (λ rest. (sender.new.book, rest.now)) result (with_released_at sender.old.book bytes.now) }
     ensures uses { OnOk result (length (uses sender.new.book) ≡ length (uses sender.old.book) + 1) }
-    ensures used { OnOk result (AreUsed used.new.keys sender.new.book) }
     ensures capacity { sender.new.capacity ≡ sender.old.capacity }
 {
-    let (id, rest) = match free(sender, used, bytes) {
+    let (id, rest) = match free(sender, bytes) {
         Ok(field) => field,
         Err(bad) => return Err(Unread::Bad(bad)),
     };
-    use_up(used, id)?;
     sender.release_as(id)?;
     Ok(rest)
 }
 
 // So many released identifiers more.
-fn released<'a>(
-    sender: &mut Sender,
-    used: &mut BTreeSet<u16>,
-    count: u16,
-    bytes: &'a [u8],
-) -> Result<&'a [u8], Unread>
-    requires used { AreUsed used.old.keys sender.old.book }
+fn released<'a>(sender: &mut Sender, count: u16, bytes: &'a [u8]) -> Result<&'a [u8], Unread>
     requires room { length (uses sender.old.book) + count ≤ sender.old.capacity }
     ensures read { Gives (λ rest. (sender.new.book, rest.now)) result (released_at count sender.old.book bytes.now) }
     ensures capacity { sender.new.capacity ≡ sender.old.capacity }
 {
     let mut rest = bytes;
     for _ in 0..count {
-        rest = with_released(sender, used, rest)?;
+        rest = with_released(sender, rest)?;
     }
     Ok(rest)
 }
@@ -359,37 +326,22 @@ impl Sender {
         ensures book { OnOk result (self.new.book ≡ with_released id self.old.book) }
         ensures capacity { self.new.capacity ≡ self.old.capacity }
     {
-        self.released.reserve(self.entries.len() + 1)?;
-        self.released.push_back_reserved(id);
+        self.table.add(id, Held::Released(id))?;
         Ok(())
     }
 }
 
-// An identifier that is free: the set has those that the sender has in use.
+// An identifier that is free.
 #[tactic(auto, unfolding(crate::specs::Loading::free_at))]
-fn free<'a>(
-    sender: &Sender,
-    used: &BTreeSet<u16>,
-    bytes: &'a [u8],
-) -> Result<(PacketId, &'a [u8]), BadField>
-    requires { AreUsed used.now.keys sender.now.book }
+fn free<'a>(sender: &Sender, bytes: &'a [u8]) -> Result<(PacketId, &'a [u8]), BadField>
     ensures read { Same (λ x. (x.0, x.1.now)) result (free_at sender.now.book bytes.now) }
     ensures free { IfOk result (λ x. IsFree sender.now.book x.0) }
 {
-    let _ = sender;
     let (number, rest) = number(bytes)?;
     match PacketId::new(number) {
-        Some(id) if !used.contains(&number) => Ok((id, rest)),
+        Some(id) if !sender.is_in_use(id) => Ok((id, rest)),
         _ => bad_at(bytes),
     }
-}
-
-// Puts an identifier in the set.
-fn use_up(used: &mut BTreeSet<u16>, id: PacketId) -> Result<(), AllocError>
-    ensures { OnOk result ((i : ℕ) → list_any (eq_by_cmp nat_cmp i) used.new.keys ≡ (if eq_by_cmp nat_cmp id i then true else list_any (eq_by_cmp nat_cmp i) used.old.keys)) }
-{
-    used.insert(id.get())?;
-    Ok(())
 }
 
 // The identifiers that were received.

@@ -6,12 +6,10 @@ ghost use Rattle.mq_topic.specs.declared.qos.Qos.TheVariants.{Q0};
 ghost use Rattle.mq_packet.specs.declared.packet.Packet.TheVariants as packets;
 ghost use Rattle.mq_flow.specs.Sender.{resent, all_sent, publish_packet, same_qos};
 
-use crate::entry::Entry;
-use crate::queue::mark_all;
+use crate::iter::{Entries, Releases};
 use crate::sender::Sender;
-use mq_packet::{Delivery, Packet, PacketId, Publish};
+use mq_packet::{Delivery, Packet, Publish};
 use std::alloc::AllocError;
-use std::collections::VecDeque;
 
 impl Sender {
     /// Appends what is sent again: a PUBREL for each released identifier, in the order of the PUBRECs, then a PUBLISH
@@ -34,8 +32,8 @@ impl Sender {
         ensures ok { OnOk result (out.new.items ≡ out.old.items ++ resent self.now.book) }
         ensures err { OnErr result (take (length out.old.items) out.new.items ≡ out.old.items) }
     {
-        put_releases(&self.released, out)?;
-        put_messages(&self.entries, out)
+        put_releases(self.table.releases(), out)?;
+        put_messages(self.table.entries(), out)
     }
 
     /// Marks each message as sent: the next PUBLISH of each has DUP (3.3.1.1). It takes no memory.
@@ -44,7 +42,7 @@ impl Sender {
         ensures capacity { self.new.capacity ≡ self.old.capacity }
         ensures last { self.new.last ≡ self.old.last }
     {
-        mark_all(&mut self.entries);
+        self.table.mark_all();
     }
 
     /// Sends again: appends what is sent again and marks each message as sent (4.4). Errs where memory runs out, and
@@ -64,20 +62,20 @@ impl Sender {
 }
 
 /// Appends a PUBREL for each identifier.
-fn put_releases(released: &VecDeque<PacketId>, out: &mut Vec<Packet>) -> Result<(), AllocError>
-    ensures ok { OnOk result (out.new.items ≡ out.old.items ++ map packets.PubRel released.now.items) }
+fn put_releases(released: Releases<'_>, out: &mut Vec<Packet>) -> Result<(), AllocError>
+    ensures ok { OnOk result (out.new.items ≡ out.old.items ++ map packets.PubRel released.entry) }
     ensures err { OnErr result (take (length out.old.items) out.new.items ≡ out.old.items) }
 {
     for id in released {
-        out.push(Packet::PubRel(*id))?;
+        out.push(Packet::PubRel(id))?;
     }
     Ok(())
 }
 
 /// Appends a PUBLISH for each message, with DUP where it was sent before.
-fn put_messages(entries: &VecDeque<Entry>, out: &mut Vec<Packet>) -> Result<(), AllocError>
-    requires { list_any (λ e. same_qos Q0 e.message.qos) entries.now.items ≡ false }
-    ensures ok { OnOk result (out.new.items ≡ out.old.items ++ map (λ e. publish_packet e.id e.sent e.message) entries.now.items) }
+fn put_messages(entries: Entries<'_>, out: &mut Vec<Packet>) -> Result<(), AllocError>
+    requires { list_any (λ e. same_qos Q0 e.message.qos) entries ≡ false }
+    ensures ok { OnOk result (out.new.items ≡ out.old.items ++ map (λ e. publish_packet e.id e.sent e.message) entries.entry) }
     ensures err { OnErr result (take (length out.old.items) out.new.items ≡ out.old.items) }
 {
     for entry in entries {

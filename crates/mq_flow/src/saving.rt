@@ -1,20 +1,25 @@
 //! Writing the saved form of a session (4.1).
 
-ghost use Rattle.std.specs.Prelude.{◌≡◌, ◌++◌, ◌<◌, ◌^◌, length, take, OnOk, OnErr};
+ghost use Rattle.std.specs.Prelude.{◌≡◌, ◌++◌, ◌<◌, ◌^◌, ℕ, true, length, take, OnOk, OnErr};
 ghost use Rattle.std.specs.List.{flat_map};
+ghost use Rattle.std.specs.FinSet as set;
 ghost use Rattle.std.specs.Ordering.{nat_cmp};
 ghost use Rattle.std.specs.BTreeSet.{IsOrdered};
+ghost use Rattle.mq_topic.specs.Topic.{IsTopicName};
+ghost use Rattle.mq_packet.specs.Identifier.{IsIdentifier};
+ghost use Rattle.mq_flow.specs.Held.{messages, releases};
 ghost use Rattle.mq_flow.specs.Receiver.{AreIdentifiers};
-ghost use Rattle.mq_flow.specs.Saved.{number, counted, count, saved_payload, saved_flags, saved_entry, saved_ids, saved_sender, saved_receiver, saved_form, signature, without_claims};
+ghost use Rattle.mq_flow.specs.Saved.{number, counted, count, saved_payload, saved_flags, saved_entry, saved_ids, saved_sender, saved_receiver, saved_form, signature, without_claims, AreWithin, HaveTopics, IsSenderWithin, IsSession};
 
 use crate::entry::Entry;
 use crate::receiver::Receiver;
 use crate::sender::Sender;
 use crate::session::Session;
-use mq_packet::{Message, PacketId, Payload};
+use crate::table::Table;
+use mq_packet::{Message, Payload};
 use mq_topic::TopicName;
 use std::alloc::AllocError;
-use std::collections::{BTreeSet, VecDeque};
+use std::collections::BTreeSet;
 
 /// `MQS`, and the version of the form.
 pub(crate) const SIGNATURE: [u8; 4] = [0x4d, 0x51, 0x53, 1];
@@ -25,6 +30,7 @@ impl Session {
     /// changes.
     pub fn save(&self, out: &mut Vec<u8>) -> Result<(), AllocError>
         ensures ok { OnOk result (out.new.items ≡ out.old.items ++ saved_form (without_claims self.now)) }
+        ensures session { OnOk result (AreWithin 268435455 self.now.sender.book.entries → IsSession (without_claims self.now)) }
         ensures err { OnErr result (out.new.items ≡ out.old.items) }
     {
         let before = out.len();
@@ -39,6 +45,7 @@ impl Session {
 // Appends the saved form; where memory runs out a beginning of it.
 fn put_session(out: &mut Vec<u8>, session: &Session) -> Result<(), AllocError>
     ensures ok { OnOk result (out.new.items ≡ out.old.items ++ saved_form session.now) }
+    ensures session { OnOk result (AreWithin 268435455 session.now.sender.book.entries → IsSession (without_claims session.now)) }
     ensures err { OnErr result (take (length out.old.items) out.new.items ≡ out.old.items) }
 {
     out.extend_from_slice(&SIGNATURE)?;
@@ -50,12 +57,13 @@ impl Sender {
     // Appends what is saved of a sender.
     fn put(&self, out: &mut Vec<u8>) -> Result<(), AllocError>
         ensures ok { OnOk result (out.new.items ≡ out.old.items ++ saved_sender self.now) }
+        ensures sender { OnOk result (AreWithin 268435455 self.now.book.entries → IsSenderWithin 268435455 self.now) }
         ensures err { OnErr result (take (length out.old.items) out.new.items ≡ out.old.items) }
     {
         put_number(out, self.capacity)?;
         put_number(out, self.last)?;
-        put_entries(out, &self.entries)?;
-        put_released(out, &self.released)
+        put_entries(out, &self.table)?;
+        put_released(out, &self.table)
     }
 }
 
@@ -63,6 +71,7 @@ impl Receiver {
     // Appends what is saved of a receiver.
     fn put(&self, out: &mut Vec<u8>) -> Result<(), AllocError>
         ensures ok { OnOk result (out.new.items ≡ out.old.items ++ saved_receiver self.now) }
+        ensures received { (i : ℕ) → set.contains self.now i ≡ true → IsIdentifier i }
         ensures err { OnErr result (take (length out.old.items) out.new.items ≡ out.old.items) }
     {
         put_stored(out, &self.stored)
@@ -84,26 +93,27 @@ fn put_stored(out: &mut Vec<u8>, stored: &BTreeSet<u16>) -> Result<(), AllocErro
 }
 
 // Appends how many entries there are, and they.
-fn put_entries(out: &mut Vec<u8>, entries: &VecDeque<Entry>) -> Result<(), AllocError>
-    requires { length entries.now.items < 65_536 }
-    ensures ok { OnOk result (out.new.items ≡ out.old.items ++ (number (length entries.now.items) ++ flat_map saved_entry entries.now.items)) }
+fn put_entries(out: &mut Vec<u8>, table: &Table) -> Result<(), AllocError>
+    requires { length (messages table.now) < 65_536 }
+    ensures ok { OnOk result (out.new.items ≡ out.old.items ++ (number (length (messages table.now)) ++ flat_map saved_entry (messages table.now))) }
+    ensures topics { OnOk result (HaveTopics (messages table.now)) }
     ensures err { OnErr result (take (length out.old.items) out.new.items ≡ out.old.items) }
 {
-    put_number(out, entries.len() as u16)?;
-    for entry in entries {
+    put_number(out, table.waiting() as u16)?;
+    for entry in table.entries() {
         put_entry(out, entry)?;
     }
     Ok(())
 }
 
 // Appends how many identifiers there are, and they.
-fn put_released(out: &mut Vec<u8>, released: &VecDeque<PacketId>) -> Result<(), AllocError>
-    requires { length released.now.items < 65_536 }
-    ensures ok { OnOk result (out.new.items ≡ out.old.items ++ saved_ids released.now.items) }
+fn put_released(out: &mut Vec<u8>, table: &Table) -> Result<(), AllocError>
+    requires { length (releases table.now) < 65_536 }
+    ensures ok { OnOk result (out.new.items ≡ out.old.items ++ saved_ids (releases table.now)) }
     ensures err { OnErr result (take (length out.old.items) out.new.items ≡ out.old.items) }
 {
-    put_number(out, released.len() as u16)?;
-    for id in released {
+    put_number(out, table.released() as u16)?;
+    for id in table.releases() {
         put_number(out, id.get())?;
     }
     Ok(())
@@ -112,6 +122,7 @@ fn put_released(out: &mut Vec<u8>, released: &VecDeque<PacketId>) -> Result<(), 
 // Appends an entry.
 fn put_entry(out: &mut Vec<u8>, entry: &Entry) -> Result<(), AllocError>
     ensures ok { OnOk result (out.new.items ≡ out.old.items ++ saved_entry entry.now) }
+    ensures topic { OnOk result (IsTopicName entry.now.message.topic) }
     ensures err { OnErr result (take (length out.old.items) out.new.items ≡ out.old.items) }
 {
     put_head(out, entry)?;
@@ -134,6 +145,7 @@ fn put_head(out: &mut Vec<u8>, entry: &Entry) -> Result<(), AllocError>
 // Appends the topic name and the payload of a message.
 fn put_message(out: &mut Vec<u8>, message: &Message) -> Result<(), AllocError>
     ensures ok { OnOk result (out.new.items ≡ out.old.items ++ (counted message.now.topic ++ saved_payload message.now.payload)) }
+    ensures topic { IsTopicName message.now.topic }
     ensures err { OnErr result (take (length out.old.items) out.new.items ≡ out.old.items) }
 {
     put_topic(out, &message.topic)?;
@@ -143,6 +155,7 @@ fn put_message(out: &mut Vec<u8>, message: &Message) -> Result<(), AllocError>
 // Appends a topic name, behind a count of two bytes.
 fn put_topic(out: &mut Vec<u8>, topic: &TopicName) -> Result<(), AllocError>
     ensures ok { OnOk result (out.new.items ≡ out.old.items ++ counted topic.now) }
+    ensures topic { IsTopicName topic.now }
     ensures err { OnErr result (take (length out.old.items) out.new.items ≡ out.old.items) }
 {
     let text = topic.as_str().as_bytes();

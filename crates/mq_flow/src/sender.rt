@@ -1,40 +1,46 @@
 //! What a sender of messages keeps (2.3.1, 4.3.2, 4.3.3, 4.4).
 
-ghost use Rattle.std.specs.Prelude.{◌≡◌, ◌↔◌, ◌<◌, ◌+◌, ◌-◌, ◌==◌, if◌then◌else◌, true, false, nat_lt, length, [], IsSome, IfSome, IsTrue, IfOk, OnOk, OnErr, IsErrOf};
+ghost use Rattle.std.specs.Prelude.{◌≡◌, ◌↔◌, ◌<◌, ◌+◌, ◌-◌, ◌==◌, ◌&&◌, if◌then◌else◌, true, false, nat_lt, length, [], IsSome, IfSome, IsTrue, IfOk, OnOk, OnErr, IsErrOf};
 ghost use Rattle.std.specs.List.{list_any};
+ghost use Rattle.std.specs.Map.Iter.{ShowsInOrder, deref};
+ghost use Rattle.mq_flow.specs.declared.entry.Entry.{Entry};
 ghost use Rattle.mq_topic.specs.declared.qos.Qos.TheVariants.{Q0, Q1, Q2};
-ghost use Rattle.mq_flow.specs.Sender.{blank_book, uses, times, IsFree, IsFirstFree, is_full, is_awaited, held, accept as accepted, claim, release, no_claims, awaits_suback, awaits_unsuback};
+ghost use Rattle.mq_flow.specs.Sender.{blank_book, uses, times, IsFree, IsFirstFree, is_full, is_awaited, same_qos, held, accept as accepted, claim, release, no_claims, awaits_suback, awaits_unsuback};
 
 use crate::claim::{Claim, Claimed};
 use crate::entry::Entry;
-use crate::queue::{awaited_at, claim_at, count_of, has_entry, has_subscribe, has_unsubscribe};
+use crate::iter::Entries;
+use crate::queue::{claim_at, count_of, has_subscribe, has_unsubscribe};
 use crate::reaction::Refusal;
+use crate::table::{Held, Table};
 use mq_packet::{Message, PacketId};
 use mq_topic::Qos;
 use std::alloc::{AllocError, Global};
-use std::collections::VecDeque;
+use std::collections::HashSet;
 use std::marker::Model;
 
 /// A sender: the messages that it accepted and that are not acknowledged, the identifiers that are released,
 /// those in use by SUBSCRIBE and UNSUBSCRIBE, and which identifier it gives next (2.3.1, 4.3.2, 4.3.3).
 #[derive(Debug, Drop)]
 pub struct Sender {
-    pub(crate) entries: VecDeque<Entry>,
-    pub(crate) released: VecDeque<PacketId>,
+    /// The messages and the released identifiers.
+    pub(crate) table: Table,
     pub(crate) claimed: Vec<Claimed>,
+    /// The identifiers of the claims, so that each is found at once.
+    pub(crate) claimed_ids: HashSet<u16>,
     pub(crate) capacity: u16,
     pub(crate) last: u16,
 }
 
 impl Model for Sender {
-    ghost use Rattle.std.specs.VecDeque.{deque_capacity};
-    ghost use Rattle.mq_flow.specs.Sending.{Sending, KeepsRoom};
+    ghost use Rattle.mq_flow.specs.Held.{book_of, AreUnder};
+    ghost use Rattle.mq_flow.specs.Sending.{Sending, Keeps, AreClaimed};
 
     ghost Value = { Sending };
 
-    ghost view = { λ s. record { book = record { entries = s.entries.items; released = s.released.items; claimed = s.claimed.items }; capacity = s.capacity; last = s.last } };
+    ghost view = { λ s. record { book = book_of s.table s.claimed.items; capacity = s.capacity; last = s.last } };
 
-    ghost invariant = { λ s. KeepsRoom (record { book = record { entries = s.entries.items; released = s.released.items; claimed = s.claimed.items }; capacity = s.capacity; last = s.last }) (deque_capacity s.released) };
+    ghost invariant = { λ s. Keeps (record { book = book_of s.table s.claimed.items; capacity = s.capacity; last = s.last }) × AreUnder s.table × AreClaimed s.claimed_ids.keys s.claimed.items };
 }
 
 impl Sender {
@@ -47,19 +53,35 @@ impl Sender {
         ensures last { result.last ≡ 0 }
     {
         Sender {
-            entries: VecDeque::new(alloc),
-            released: VecDeque::new(alloc),
+            table: Table::new(alloc),
             claimed: Vec::new(alloc),
+            claimed_ids: HashSet::new(alloc),
             capacity,
             last: 0,
         }
+    }
+
+    /// The most identifiers that may be in use, at least 1 (2.3.1).
+    pub fn capacity(&self) -> u16
+        ensures capacity { result ≡ self.now.capacity }
+        ensures able { 0 < result }
+    {
+        self.capacity
+    }
+
+    /// The messages that are not acknowledged, in order of acceptance (4.3.2, 4.3.3).
+    pub fn entries(&self) -> Entries<'_>
+        ensures rest { result ≡ self.now.book.entries }
+        ensures runs { ShowsInOrder (deref {X = Entry}) }
+    {
+        self.table.entries()
     }
 
     /// How many more identifiers may be in use (2.3.1).
     pub fn room(&self) -> usize
         ensures { result ≡ self.now.capacity - length (uses self.now.book) }
     {
-        let used = self.entries.len() + self.released.len() + self.claimed.len();
+        let used = self.table.len() + self.claimed.len();
         self.capacity as usize - used
     }
 
@@ -84,16 +106,10 @@ impl Sender {
     }
 
     /// Whether an identifier is in use (2.3.1).
-    fn is_in_use(&self, id: PacketId) -> bool
+    pub(crate) fn is_in_use(&self, id: PacketId) -> bool
         ensures { result ≡ nat_lt 0 (times id (uses self.now.book)) }
     {
-        if has_entry(&self.entries, id) {
-            return true;
-        }
-        if self.released.contains(&id) {
-            return true;
-        }
-        claim_at(&self.claimed, id).is_some()
+        self.table.get(id).is_some() || self.claimed_ids.contains(&id.get())
     }
 
     /// Accepts a message with an identifier that is free, while there is room; `sent` says that its PUBLISH goes
@@ -113,9 +129,8 @@ impl Sender {
         ensures capacity { self.new.capacity ≡ self.old.capacity }
         ensures err { OnErr result (self.new ≡ self.old) }
     {
-        self.entries.reserve(1)?;
-        self.released.reserve(self.entries.len() + 1)?;
-        self.entries.push_back_reserved(Entry { id, message, sent });
+        let entry = Entry { id, message, sent };
+        self.table.add(id, Held::Waiting(entry))?;
         self.last = id.get();
         Ok(())
     }
@@ -151,7 +166,9 @@ impl Sender {
         ensures capacity { self.new.capacity ≡ self.old.capacity }
         ensures err { OnErr result (self.new ≡ self.old) }
     {
-        self.claimed.push(Claimed { id, kind, count })?;
+        self.claimed.reserve(1)?;
+        self.claimed_ids.insert(id.get())?;
+        self.claimed.push_reserved(Claimed { id, kind, count });
         self.last = id.get();
         Ok(())
     }
@@ -165,6 +182,7 @@ impl Sender {
     {
         if let Some(at) = claim_at(&self.claimed, id) {
             let _ = self.claimed.remove(at);
+            let _ = self.claimed_ids.remove(&id.get());
         }
     }
 
@@ -174,6 +192,7 @@ impl Sender {
         ensures capacity { self.new.capacity ≡ self.old.capacity }
         ensures last { self.new.last ≡ self.old.last }
     {
+        self.claimed_ids.clear();
         self.claimed.clear();
     }
 
@@ -188,42 +207,68 @@ impl Sender {
     pub fn holds(&self, qos: Qos) -> usize
         ensures { result ≡ length (held qos self.now.book.entries) }
     {
-        count_of(&self.entries, qos)
+        count_of(self.table.entries(), qos)
     }
 
     /// How many identifiers are released and wait for their PUBCOMP (4.3.3).
     pub fn released(&self) -> usize
         ensures { result ≡ length self.now.book.released }
     {
-        self.released.len()
+        self.table.released()
     }
 
     /// Whether a message has this identifier.
     pub fn has(&self, id: PacketId) -> bool
         ensures { result ≡ list_any (λ e. e.id == id) self.now.book.entries }
     {
-        has_entry(&self.entries, id)
+        match self.table.get(id) {
+            Some(Held::Waiting(_)) => true,
+            Some(Held::Released(_)) => false,
+            None => false,
+        }
     }
 
     /// Whether there is no message and no released identifier.
     pub fn is_idle(&self) -> bool
         ensures { IsTrue result ↔ ((self.now.book.entries ≡ []) × (self.now.book.released ≡ [])) }
     {
-        self.entries.is_empty() && self.released.is_empty()
+        self.table.len() == 0
     }
 
     /// Whether a message of quality of service 1 went out with this identifier and waits for PUBACK (4.3.2).
     pub fn awaits_puback(&self, id: PacketId) -> bool
         ensures { result ≡ is_awaited Q1 id self.now.book.entries }
     {
-        awaited_at(&self.entries, Qos::Q1, id).is_some()
+        self.awaits(Qos::Q1, id)
     }
 
     /// Whether a message of quality of service 2 went out with this identifier and waits for PUBREC (4.3.3).
     pub fn awaits_pubrec(&self, id: PacketId) -> bool
         ensures { result ≡ is_awaited Q2 id self.now.book.entries }
     {
-        awaited_at(&self.entries, Qos::Q2, id).is_some()
+        self.awaits(Qos::Q2, id)
+    }
+
+    /// Whether a message of this quality of service went out with this identifier.
+    pub(crate) fn awaits(&self, qos: Qos, id: PacketId) -> bool
+        ensures { result ≡ is_awaited qos id self.now.book.entries }
+    {
+        match self.table.get(id) {
+            Some(Held::Waiting(entry)) => is_sent(entry, qos),
+            Some(Held::Released(_)) => false,
+            None => false,
+        }
+    }
+
+    /// Whether an identifier is released.
+    pub(crate) fn is_released(&self, id: PacketId) -> bool
+        ensures { result ≡ list_any (λ j. j == id) self.now.book.released }
+    {
+        match self.table.get(id) {
+            Some(Held::Waiting(_)) => false,
+            Some(Held::Released(_)) => true,
+            None => false,
+        }
     }
 
     /// Whether a SUBSCRIBE of this identifier waits for so many codes (3.8.4).
@@ -239,6 +284,13 @@ impl Sender {
     {
         has_unsubscribe(&self.claimed, id)
     }
+}
+
+/// Whether a message is of this quality of service and went out.
+fn is_sent(entry: &Entry, qos: Qos) -> bool
+    ensures { result ≡ (same_qos qos entry.now.message.qos && entry.now.sent) }
+{
+    entry.message.qos == qos && entry.sent
 }
 
 /// The identifier after this number, counted round from 65,535 to 1.

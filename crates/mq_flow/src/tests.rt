@@ -94,6 +94,40 @@ fn acknowledgements_free_and_release(rt: HostRuntime) -> Result<(), Fail> {
 }
 
 #[test]
+fn an_identifier_is_given_again_once_it_is_free(rt: HostRuntime) -> Result<(), Fail> {
+    let mut sender = Sender::new(rt.alloc(), 3);
+    accepted(rt.alloc(), &mut sender, "a", Qos::Q1)?;
+    accepted(rt.alloc(), &mut sender, "b", Qos::Q2)?;
+    sender.mark_sent();
+    sender.on_pubrec(id(2)?);
+    sender.last = 1;
+    assert_eq!(rt; sender.next_id(), PacketId::new(3));
+    sender.on_pubcomp(id(2)?);
+    assert_eq!(rt; sender.next_id(), PacketId::new(2));
+    Ok(())
+}
+
+// The topics of the messages that are not acknowledged.
+fn topics(alloc: Global, sender: &Sender) -> Result<String, Fail> {
+    let mut topics = String::new(alloc);
+    for entry in sender.entries() {
+        topics.push_str(entry.message.topic.as_str())?;
+    }
+    Ok(topics)
+}
+
+#[test]
+fn a_sender_shows_its_capacity_and_its_messages(rt: HostRuntime) -> Result<(), Fail> {
+    let mut sender = Sender::new(rt.alloc(), 3);
+    assert_eq!(rt; sender.capacity(), 3);
+    for topic in ["a", "b"] {
+        accepted(rt.alloc(), &mut sender, topic, Qos::Q1)?;
+    }
+    assert_eq!(rt; topics(rt.alloc(), &sender)?.as_str(), "ab");
+    Ok(())
+}
+
+#[test]
 fn releases_are_resent_before_messages(rt: HostRuntime) -> Result<(), Fail> {
     let mut sender = Sender::new(rt.alloc(), 10);
     for topic in ["a", "b", "c"] {

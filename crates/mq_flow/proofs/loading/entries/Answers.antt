@@ -7,7 +7,6 @@ pub loop-preserved : goal.loop-preserved
 loop-preserved c = record {
   told = entries_next 268435455 c.args.count c.loop.counter c.loop.sender.book c.with_entry.new.sender.book c.loop.rest.now c.in_ok-rest.rest.now (entries_at 268435455 c.args.count c.args.sender.now.book c.args.bytes.now)
       c.loop-test.true c.in_ok-rest.ensures.read c.loop.invariant.told;
-  among = c.in_ok-rest.ensures.used;
   used = omega (arith, c.loop.invariant.used, c.in_ok-rest.ensures.uses);
   within = omega (arith, c.loop-test.true);
   capacity = c.in_ok-rest.ensures.capacity ∙ c.loop.invariant.capacity;

@@ -1,12 +1,11 @@
 use Rattle.std.proofs.Common.{◌≡◌, ◌+◌, ◌-◌, ◌≤◌, length}
 use Rattle.mq_flow.specs.Sender.{uses}
-use Rattle.mq_flow.specs.Loading.{AreUsed, entries_at}
+use Rattle.mq_flow.specs.Loading.{entries_at}
 use Rattle.mq_flow.proofs.loading.entries.Given as goal
 
 abbrev pub invariant-loop : goal.invariant-loop
 invariant-loop l = record {
   told : entries_at 268435455 (l.count - l.counter) l.sender.book l.rest ≡ entries_at 268435455 l.count l.fn.sender.book l.bytes;
-  among : AreUsed l.used.keys l.sender.book;
   used : length (uses l.sender.book) ≡ length (uses l.fn.sender.book) + l.counter;
   within : l.counter ≤ l.count;
   capacity : l.sender.capacity ≡ l.fn.sender.capacity;

@@ -1,7 +1,6 @@
 use Rattle.std.proofs.Common.{◌≡◌, length, ◌+◌}
-use Rattle.std.specs.VecDeque.Iter.{deque_iter_rest}
 use Rattle.mq_flow.specs.Sender.{held}
 use Rattle.mq_flow.proofs.queue.count_of.Given as goal
 
 abbrev pub invariant-loop-entry : goal.invariant-loop-entry
-invariant-loop-entry l = l.count + length (held l.qos (deque_iter_rest l.entry-iterator)) ≡ length (held l.qos l.entries.items)
+invariant-loop-entry l = l.count + length (held l.qos l.entry-iterator) ≡ length (held l.qos l.fn.entries)

@@ -1,11 +1,11 @@
 use Rattle.std.proofs.Common.{◌≡◌, ◌++◌, length, take}
 use Rattle.std.specs.List.{flat_map}
-use Rattle.std.specs.VecDeque.Iter.{deque_iter_rest}
+use Rattle.mq_flow.specs.Held.{releases}
 use Rattle.mq_flow.specs.Saved.{number, saved_ids}
 use Rattle.mq_flow.proofs.saving.put_released.Given as goal
 
 abbrev pub invariant-loop-id : goal.invariant-loop-id
 invariant-loop-id l = record {
-  rest : l.out.items ++ flat_map number (deque_iter_rest l.id-iterator) ≡ l.fn.out.items ++ saved_ids l.released.items;
+  rest : l.out.items ++ flat_map number l.id-iterator ≡ l.fn.out.items ++ saved_ids (releases l.table);
   kept : take (length l.fn.out.items) l.out.items ≡ l.fn.out.items;
 }

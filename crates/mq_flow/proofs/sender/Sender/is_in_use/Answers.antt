@@ -1,28 +1,33 @@
-use Rattle.std.proofs.Common.{◌||◌, eqb, ltb, ap, sym, ◌∙◌}
+use Rattle.std.proofs.Common.{◌≡◌, ℕ, ◌+◌, ◌∙◌, true, false, eqb, ltb, sym, ap, arith}
+use Rattle.std.specs.Option.{is_some}
 use Rattle.std.specs.List.{list_any}
-use Rattle.mq_flow.specs.declared.claim.Claimed.{Claimed}
-use Rattle.mq_flow.specs.Sender.{SenderBook, uses, times}
+use Rattle.std.specs.Map.{keys_of}
+use Rattle.std.proofs.lemmas.Bool.Decides.{nat_tests}
+use Rattle.mq_flow.specs.Sender.{uses, times}
+use Rattle.mq_flow.specs.Held.{book_of}
 use Rattle.mq_flow.specs.Sending.{Sending}
-use Rattle.mq_flow.proofs.Kept.{in_use}
+use Rattle.mq_flow.proofs.Holding.{copied_some, found_keys}
+use Rattle.mq_flow.proofs.Kept.{uses_keys}
 use Rattle.mq_flow.proofs.sender.Sender.is_in_use.Goals as goal
 
-pub returns-then-has_entry : goal.returns-then-has_entry
-returns-then-has_entry c =
-    let b : SenderBook = record { entries = c.self.inside.entries.items; released = c.self.inside.released.items; claimed = c.self.inside.claimed.items } in
-    let there = sym c.has_entry.ensures ∙ c.if-has_entry.true in
-    sym (ap (λ t. (t || list_any (λ j. eqb j c.args.id) b.released) || list_any (λ e. eqb e.id c.args.id) b.claimed) there) ∙ in_use c.args.id b ∙ ap (λ (v : Sending). ltb 0 (times c.args.id (uses v.book))) c.self.view_is
+pub returns-then-is_some : goal.returns-then-is_some
+returns-then-is_some c =
+    let ps = c.self.inside.table in
+    let cs = c.self.inside.claimed.items in
+    let there : ltb 0 (times c.args.id (keys_of ps)) ≡ true = sym (found_keys c.args.id ps) ∙ ap is_some (sym c.get.ensures) ∙ copied_some c.get.result ∙ sym c.is_some.ensures ∙ c.if-is_some.true in
+    let used : ltb 0 (times c.args.id (uses (book_of ps cs))) ≡ true = more_times _ _ _ (uses_keys ps cs c.self.invariant.1 c.args.id) there in
+    c.if-is_some.true ∙ sym used ∙ ap (λ (v : Sending). ltb 0 (times c.args.id (uses v.book))) c.self.view_is
+  where
+    more_times : (a b d : ℕ) → a ≡ b + d → ltb 0 b ≡ true → ltb 0 a ≡ true
+    more_times a b d e h = grind (arith, nat_tests)
 
-pub returns-then-contains : goal.returns-then-contains
-returns-then-contains c =
-    let b : SenderBook = record { entries = c.self.inside.entries.items; released = c.self.inside.released.items; claimed = c.self.inside.claimed.items } in
-    let not_there = sym c.has_entry.ensures ∙ c.if-has_entry.false in
-    let there = sym c.contains.ensures.value ∙ c.if-contains.true in
-    sym (ap (λ t. (t || list_any (λ j. eqb j c.args.id) b.released) || list_any (λ e. eqb e.id c.args.id) b.claimed) not_there ∙ ap (λ t. t || list_any (λ e. eqb e.id c.args.id) b.claimed) there) ∙ in_use c.args.id b ∙ ap (λ (v : Sending). ltb 0 (times c.args.id (uses v.book))) c.self.view_is
-
-pub returns : goal.returns
-returns c =
-    let b : SenderBook = record { entries = c.self.inside.entries.items; released = c.self.inside.released.items; claimed = c.self.inside.claimed.items } in
-    let not_there = sym c.has_entry.ensures ∙ c.if-has_entry.false in
-    let nor_there = sym c.contains.ensures.value ∙ c.if-contains.false in
-    let there = c.is_some.ensures ∙ c.claim_at.ensures.there ∙ ap (list_any (λ (e : Claimed). eqb e.id c.args.id)) c.deref.ensures.value in
-    there ∙ sym (ap (λ t. (t || list_any (λ j. eqb j c.args.id) b.released) || list_any (λ e. eqb e.id c.args.id) b.claimed) not_there ∙ ap (λ t. t || list_any (λ e. eqb e.id c.args.id) b.claimed) nor_there) ∙ in_use c.args.id b ∙ ap (λ (v : Sending). ltb 0 (times c.args.id (uses v.book))) c.self.view_is
+pub returns-else-is_some : goal.returns-else-is_some
+returns-else-is_some c =
+    let ps = c.self.inside.table in
+    let cs = c.self.inside.claimed.items in
+    let absent : ltb 0 (times c.args.id (keys_of ps)) ≡ false = sym (found_keys c.args.id ps) ∙ ap is_some (sym c.get.ensures) ∙ copied_some c.get.result ∙ sym c.is_some.ensures ∙ c.if-is_some.false in
+    let claimed = c.contains.ensures ∙ ap (λ (i : ℕ). list_any (eqb i) c.self.inside.claimed_ids.keys) c.get-else-is_some.ensures.value ∙ c.self.invariant.2 c.args.id in
+    claimed ∙ sym (fewer_times _ _ _ (uses_keys ps cs c.self.invariant.1 c.args.id) absent) ∙ ap (λ (v : Sending). ltb 0 (times c.args.id (uses v.book))) c.self.view_is
+  where
+    fewer_times : (a b d : ℕ) → a ≡ b + d → ltb 0 b ≡ false → ltb 0 a ≡ ltb 0 d
+    fewer_times a b d e h = let z : b ≡ 0 = grind (arith, nat_tests) in ap (ltb 0) (omega arith)

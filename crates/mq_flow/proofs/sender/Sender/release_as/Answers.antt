@@ -1,17 +1,32 @@
-use Rattle.std.proofs.Common.{◌≡◌, ◌+◌, ◌≤◌, false, sym, subst, arith, length}
-use Rattle.std.specs.VecDeque.{deque_capacity}
-use Rattle.mq_flow.specs.Sender.{SenderBook, IsFree, is_full}
-use Rattle.mq_flow.specs.Sending.{Sending}
+use Rattle.std.proofs.Common.{◌≡◌, ℕ, ◌∙◌, false, List, refl, sym, ap, subst}
+use Rattle.mq_flow.specs.declared.table.Held.{Held}
+use Rattle.mq_flow.specs.declared.table.Held.TheVariants.{Released}
+use Rattle.mq_flow.specs.Sender.{SenderBook, uses, times, IsFree, is_full}
+use Rattle.mq_flow.specs.Held.{book_of, AreUnder}
+use Rattle.mq_flow.specs.Sending.{Sending, Keeps}
+use Rattle.mq_flow.specs.Loading.{with_released}
+use Rattle.mq_flow.proofs.Holding.{under_append}
+use Rattle.mq_flow.proofs.Kept.{few_pairs, free_absent, table_released}
 use Rattle.mq_flow.proofs.Restoring.{keeps_released}
 use Rattle.mq_flow.proofs.sender.Sender.release_as.Goals as goal
 
+pub add-requires-clause-other : goal.add-requires-clause-other
+add-requires-clause-other c = free_absent c.args.id c.self.inside.table c.self.inside.claimed.items c.self.invariant.1 (subst (λ (v : Sending). times c.args.id (uses v.book) ≡ 0) (sym c.self.view_is) c.requires.free.1)
+
+pub add-requires-clause-few : goal.add-requires-clause-few
+add-requires-clause-few c = few_pairs c.self.inside.capacity c.self.inside.last c.self.inside.table c.self.inside.claimed.items c.self.invariant.0
+
 pub invariant_of-self-2 : goal.invariant_of-self-2
 invariant_of-self-2 c =
-    let b : SenderBook = record { entries = c.self.inside.entries.items; released = c.self.inside.released.items; claimed = c.self.inside.claimed.items } in
-    let s : Sending = record { book = b; capacity = c.self.inside.capacity; last = c.self.inside.last } in
-    let free = subst (λ (v : Sending). IsFree v.book c.args.id) (sym c.self.view_is) c.requires.free in
+    let ps = c.self.inside.table in
+    let cs = c.self.inside.claimed.items in
+    let s : Sending = record { book = book_of ps cs; capacity = c.self.inside.capacity; last = c.self.inside.last } in
+    let i = c.args.id in
+    let free = subst (λ (v : Sending). IsFree v.book i) (sym c.self.view_is) c.requires.free in
     let room = subst (λ (v : Sending). is_full v.capacity v.book ≡ false) (sym c.self.view_is) c.requires.room in
-    let reserved : length b.entries + length b.released + 1 ≤ deque_capacity c.push_back_reserved.new.self =
-    omega (arith, c.self.inside.entries.ok, c.self.inside.released.ok, c.in_ok-reserve.ensures.ok, c.in_ok-reserve.ensures.len, c.len.ensures, c.push_back_reserved.ensures.capacity) in
-    rw (c.push_back_reserved.ensures.items, c.in_ok-reserve.ensures.items)
-    (keeps_released s (deque_capacity c.self.inside.released) (deque_capacity c.push_back_reserved.new.self) c.args.id c.self.invariant room free reserved)
+    let more = c.in_ok-add.ensures.ok in
+    let after : book_of c.add.new.self cs ≡ with_released i (book_of ps cs) = ap (λ (ts : List (ℕ × Held)). book_of ts cs) more ∙ table_released i ps cs in (
+      subst (λ (b : SenderBook). Keeps (record s { book = b })) (sym after) (keeps_released s i c.self.invariant.0 room free),
+      subst AreUnder (sym more) (under_append ps i (Released i) refl c.self.invariant.1),
+      c.self.invariant.2,
+    )
