@@ -1,10 +1,11 @@
 -- What an end does with the bytes that come to it.
-use Rattle.std.proofs.Common.{◌≡◌, inl, inr, ℕ, List, [], ◌++◌, Option, Some, None, Result, Ok, Err, OnOk, IfErr, refl, sym, ap, subst, ◌∙◌}
+use Rattle.std.proofs.Common.{◌≡◌, inl, inr, ℕ, ◌==◌, Bool, true, false, cond, not, List, [], ◌∷◌, ◌++◌, length, Option, Some, None, Result, Ok, Err, OnOk, IfErr, refl, sym, ap, subst, ◌∙◌, append_assoc}
+use Rattle.std.proofs.Math.Dec.{eqb-suc-zero}
 use Rattle.mq_packet.specs.declared.packet.Packet.{Packet}
 use Rattle.mq_decode.specs.declared.fault.DecodeFault.{DecodeFault}
 use Rattle.mq_decode.specs.declared.fault.DecodeError.{DecodeError}
 use Rattle.mq_decode.specs.declared.fault.DecodeError.TheVariants as errors
-use Rattle.mq_decode.specs.Grammar.{Stream, Reading, Begins, Goes, Stops}
+use Rattle.mq_decode.specs.Grammar.{Stream, Pending, Reading, Begins, Goes, Stops}
 use Rattle.mq_decode.specs.Laws.{ReadsAgain}
 use Rattle.mq_end.specs.declared.reason.CloseReason.{CloseReason}
 use Rattle.mq_end.specs.declared.reason.CloseReason.TheVariants as reasons
@@ -12,9 +13,9 @@ use Rattle.mq_end.specs.declared.role.Role.{Role}
 use Rattle.mq_end.specs.declared.role.Role.TheVariants.{Client, Server}
 use Rattle.mq_end.specs.declared.happening.Happening.{Happening}
 use Rattle.mq_end.specs.declared.told.Told.{Told}
-use Rattle.mq_end.specs.End.{End, Reply, first_reason, followed, closes}
-use Rattle.mq_end.specs.State.{EndState}
-use Rattle.mq_end.specs.Receiving.{Receives, ReceivesAs, Shows, Makes, Taken, Hears, IsBreak, held_after, gets_as, faulted_as}
+use Rattle.mq_end.specs.End.{End, Reply, is_live, first_reason, followed, closes}
+use Rattle.mq_end.specs.State.{EndState, PutsOut}
+use Rattle.mq_end.specs.Receiving.{Receives, ReceivesAs, Shows, Makes, Taken, Hears, HearsAt, HeardAs, IsBreak, held_after, heard_as, gets_as, faulted_as}
 use Rattle.mq_end.proofs.Replies.{makes_then}
 use Rattle.mq_end.proofs.Received.{received_shut, received_all, received_fault, received_fault_starved, received_starved}
 
@@ -31,28 +32,92 @@ held_none old new h t u r reason m shut = held_is old new h t u r m ∙ ap (λ (
 held_all : (old new : EndState) (h : List ℕ) (t u : Told) (r : Reply) → Makes r (with_held old h) new t u → r.close ≡ None → new.held ≡ h
 held_all old new h t u r m none = held_is old new h t u r m ∙ ap (λ (c : Option CloseReason). held_after c h) none
 
-hears_from : (role : Role) (piece : List ℕ) (old new : EndState) (h : List ℕ) (t u : Told) (r : Reply) (closed : Option CloseReason)
-    → Receives old.limit (gets_as role) (faulted_as role) (old.held ++ piece) old.end r new.held → Makes r (with_held old h) new t u → closed ≡ r.close → Hears role piece old new t u closed
-hears_from role piece old new h t u r closed receives m close = record {
+moment_is : (old new : EndState) (h : List ℕ) (t u : Told) (r : Reply) → Makes r (with_held old h) new t u → new.moment ≡ old.moment
+moment_is old new h t u r m = ap (λ (s : EndState). s.moment) m.state
+
+hears_from : (role : Role) (now : ℕ) (piece : List ℕ) (old mid new : EndState) (h : List ℕ) (t u : Told) (r : Reply) (closed : Option CloseReason)
+    → Receives old.limit (gets_as role) (faulted_as role) (old.held ++ piece) old.end r new.held → Makes r (with_held old h) mid t u → new ≡ record mid { moment = new.moment }
+    → HeardAs role now (old.held ++ piece) closed old new → closed ≡ r.close → Hears role now piece old new t u closed
+hears_from role now piece old mid new h t u r closed receives m later heard close = record {
   reply = r;
   receives = receives;
-  out = m.out;
-  state = m.state ∙ ap (λ (hs : List ℕ). record old { end = r.end; output = new.output; held = hs }) (sym (held_is old new h t u r m));
+  out = subst (λ (o : List ℕ). PutsOut r.out old.output o) (sym out_is) m.out;
+  state = later
+      ∙ ap (λ (s : EndState). record s { moment = new.moment }) m.state
+      ∙ ap (λ (o : List ℕ). record old { end = r.end; output = o; held = held_after r.close h; moment = new.moment }) (sym out_is)
+      ∙ ap (λ (hs : List ℕ). record old { end = r.end; output = new.output; held = hs; moment = new.moment }) (sym (ap (λ (s : EndState). s.held) later ∙ held_is old mid h t u r m));
+  heard = heard;
   happenings = m.happenings;
   acknowledged = m.acknowledged;
   close = close;
 }
+  where
+    out_is : new.output ≡ mid.output
+    out_is = ap (λ (s : EndState). s.output) later
 
-pub hears_shut : (role : Role) (piece : List ℕ) (old new : EndState) (h : List ℕ) (t u : Told) (r : Reply) (ps : List Packet) (front rest : List ℕ) (reason : CloseReason)
-    → ReadsAgain → Stream old.limit ps front → old.held ++ piece ≡ front ++ rest → Taken (gets_as role) ps old.end r → Makes r (with_held old h) new t u → Some reason ≡ r.close → Hears role piece old new t u (Some reason)
-hears_shut role piece old new h t u r ps front rest reason again stream parts taken m shut =
-    hears_from role piece old new h t u r (Some reason)
-    (received_shut old.limit (gets_as role) (faulted_as role) ps (old.held ++ piece) front rest old.end r reason new.held again stream parts taken (sym shut) (held_none old new h t u r reason m (sym shut))) m shut
+-- ---- the moment of an end
 
-pub hears_all : (role : Role) (piece : List ℕ) (old new : EndState) (h : List ℕ) (t u : Told) (r : Reply) (ps : List Packet)
-    → Reading old.limit (old.held ++ piece) ps h None → Taken (gets_as role) ps old.end r → Makes r (with_held old h) new t u → None ≡ r.close → Hears role piece old new t u None
-hears_all role piece old new h t u r ps reading taken m none =
-    hears_from role piece old new h t u r None (received_all old.limit (gets_as role) (faulted_as role) ps (old.held ++ piece) h old.end r new.held reading taken (sym none) (held_all old new h t u r m (sym none))) m none
+-- an end that closes keeps its moment
+heard_shut : (role : Role) (now : ℕ) (b : List ℕ) (reason : CloseReason) (old new : EndState) → new.moment ≡ old.moment → HeardAs role now b (Some reason) old new
+heard_shut Client now b reason old new same = same
+heard_shut Server now b reason old new same = record { waits = λ p. same; closes = λ s. same; hears = λ none. cc }
+
+-- no packet is whole in bytes that are pending
+pending_none : (limit : ℕ) (ps : List Packet) (b front rest : List ℕ) → Stream limit ps front → b ≡ front ++ rest → Pending limit b → ps ≡ []
+pending_none limit [] b front rest stream parts pending = refl
+pending_none limit (p ∷ ps) b front rest h parts pending =
+    absurd (pending.not_whole p h.0 (h.1 ++ rest) h.2 (parts ∙ ap (λ (t : List ℕ). t ++ rest) h.4 ∙ append_assoc h.0 h.1 rest))
+
+-- bytes without a whole packet are the rest behind none
+none_pending : (limit : ℕ) (b front rest : List ℕ) → front ≡ [] → b ≡ front ++ rest → Pending limit rest → Pending limit b
+none_pending limit b front rest none parts pending = subst (λ (t : List ℕ). Pending limit t) (sym (parts ∙ ap (λ (t : List ℕ). t ++ rest) none)) pending
+
+-- the server's moment, by whether a whole packet came
+server_heard : (now : ℕ) (ps : List Packet) (b rest : List ℕ) (old new : EndState) → Reading old.limit b ps rest None → new.moment ≡ cond (not (length ps == 0)) now old.moment → HearsAt now b None old new
+server_heard now [] b rest old new reading moment =
+    let pending = none_pending old.limit b reading.front rest reading.stream reading.parts reading.ends in
+    record { waits = λ p. moment; closes = λ s. moment; hears = λ none whole. absurd (whole pending) }
+server_heard now (p ∷ ps) b rest old new reading moment = record {
+  waits = λ pending. absurd (some_none p ps (pending_none old.limit (p ∷ ps) b reading.front rest reading.stream reading.parts pending));
+  closes = λ s. cc;
+  hears = λ none whole. moment ∙ ap (λ (t : Bool). cond (not t) now old.moment) (eqb-suc-zero (length ps));
+}
+  where
+    some_none : (q : Packet) (qs : List Packet) → q ∷ qs ≡ [] → ⊥
+    some_none q qs h = cc
+
+heard_open : (role : Role) (now : ℕ) (ps : List Packet) (b rest : List ℕ) (old new : EndState) → Reading old.limit b ps rest None → new.moment ≡ heard_as role (not (length ps == 0)) now old.moment → HeardAs role now b None old new
+heard_open Client now ps b rest old new reading moment = moment
+heard_open Server now ps b rest old new reading moment = server_heard now ps b rest old new reading moment
+
+-- an end keeps its moment, whether it has a connection or not
+kept_by : (live : Bool) (old new : EndState) → (live ≡ true → new.moment ≡ old.moment) → (live ≡ false → new ≡ old) → new.moment ≡ old.moment
+kept_by true old new at_live at_shut = at_live refl
+kept_by false old new at_live at_shut = ap (λ (s : EndState). s.moment) (at_shut refl)
+
+pub kept_moment : (old new : EndState) → (is_live old.end.state ≡ true → new.moment ≡ old.moment) → (is_live old.end.state ≡ false → new ≡ old) → new.moment ≡ old.moment
+kept_moment old new at_live at_shut = kept_by (is_live old.end.state) old new at_live at_shut
+
+-- ---- what comes of the bytes
+
+pub hears_shut : (role : Role) (now : ℕ) (piece : List ℕ) (old new : EndState) (h : List ℕ) (t u : Told) (r : Reply) (ps : List Packet) (front rest : List ℕ) (reason : CloseReason)
+    → ReadsAgain → Stream old.limit ps front → old.held ++ piece ≡ front ++ rest → Taken (gets_as role) ps old.end r → Makes r (with_held old h) new t u → Some reason ≡ r.close → Hears role now piece old new t u (Some reason)
+hears_shut role now piece old new h t u r ps front rest reason again stream parts taken m shut =
+    hears_from role now piece old new new h t u r (Some reason)
+    (received_shut old.limit (gets_as role) (faulted_as role) ps (old.held ++ piece) front rest old.end r reason new.held again stream parts taken (sym shut) (held_none old new h t u r reason m (sym shut)))
+    m refl (heard_shut role now (old.held ++ piece) reason old new (moment_is old new h t u r m)) shut
+
+-- mid: before the moment of the packets is kept
+pub hears_all : (role : Role) (now : ℕ) (piece : List ℕ) (old mid new : EndState) (h : List ℕ) (t u : Told) (r : Reply) (ps : List Packet)
+    → Reading old.limit (old.held ++ piece) ps h None → Taken (gets_as role) ps old.end r → Makes r (with_held old h) mid t u → None ≡ r.close
+    → new ≡ record mid { moment = heard_as role (not (length ps == 0)) now mid.moment } → Hears role now piece old new t u None
+hears_all role now piece old mid new h t u r ps reading taken m none later =
+    hears_from role now piece old mid new h t u r None
+    (received_all old.limit (gets_as role) (faulted_as role) ps (old.held ++ piece) h old.end r new.held reading taken (sym none) (ap (λ (s : EndState). s.held) later ∙ held_all old mid h t u r m (sym none)))
+    m (later ∙ ap (λ (n : ℕ). record mid { moment = n }) (sym moment)) (heard_open role now ps (old.held ++ piece) h old new reading (moment ∙ ap (λ (n : ℕ). heard_as role (not (length ps == 0)) now n) (moment_is old mid h t u r m))) none
+  where
+    moment : new.moment ≡ heard_as role (not (length ps == 0)) now mid.moment
+    moment = ap (λ (s : EndState). s.moment) later
 
 -- two replies, of which the second closes
 twice : (old mid new : EndState) (h : List ℕ) (t u v : Told) (r x : Reply) → None ≡ r.close → Makes r (with_held old h) mid t u → Makes x mid new u v → Makes (followed r x) (with_held old h) new t v
@@ -61,24 +126,24 @@ twice old mid new h t u v r x none m k = makes_then r x (with_held old h) mid ne
 close_is : (r x : Reply) (reason : CloseReason) → None ≡ r.close → Some reason ≡ x.close → Some reason ≡ (followed r x).close
 close_is r x reason none shut = shut ∙ ap (λ (c : Option CloseReason). first_reason c x.close) none
 
-pub hears_starved : (role : Role) (piece : List ℕ) (old mid new : EndState) (h : List ℕ) (t u v : Told) (r : Reply) (ps : List Packet)
-    → Begins old.limit (old.held ++ piece) ps → Taken (gets_as role) ps old.end r → Makes r (with_held old h) mid t u → None ≡ r.close → Makes (closes reasons.Memory r.end) mid new u v → Hears role piece old new t v (Some reasons.Memory)
-hears_starved role piece old mid new h t u v r ps begins taken m none k =
+pub hears_starved : (role : Role) (now : ℕ) (piece : List ℕ) (old mid new : EndState) (h : List ℕ) (t u v : Told) (r : Reply) (ps : List Packet)
+    → Begins old.limit (old.held ++ piece) ps → Taken (gets_as role) ps old.end r → Makes r (with_held old h) mid t u → None ≡ r.close → Makes (closes reasons.Memory r.end) mid new u v → Hears role now piece old new t v (Some reasons.Memory)
+hears_starved role now piece old mid new h t u v r ps begins taken m none k =
     let x = closes reasons.Memory r.end in
     let both = twice old mid new h t u v r x none m k in
-    hears_from role piece old new h t v (followed r x) (Some reasons.Memory)
+    hears_from role now piece old new new h t v (followed r x) (Some reasons.Memory)
     (subst (λ (hs : List ℕ). Receives old.limit (gets_as role) (faulted_as role) (old.held ++ piece) old.end (followed r x) hs) (sym (held_none old new h t v (followed r x) reasons.Memory both (sym (close_is r x reasons.Memory none refl))))
     (received_starved old.limit (gets_as role) (faulted_as role) ps (old.held ++ piece) old.end r begins taken (sym none)))
-    both (close_is r x reasons.Memory none refl)
+    both refl (heard_shut role now (old.held ++ piece) reasons.Memory old new (moment_is old new h t v (followed r x) both)) (close_is r x reasons.Memory none refl)
 
-pub hears_fault : (role : Role) (piece : List ℕ) (old mid new : EndState) (h : List ℕ) (t u v : Told) (r x : Reply) (ps : List Packet) (rest : List ℕ) (fault : DecodeFault) (reason : CloseReason)
+pub hears_fault : (role : Role) (now : ℕ) (piece : List ℕ) (old mid new : EndState) (h : List ℕ) (t u v : Told) (r x : Reply) (ps : List Packet) (rest : List ℕ) (fault : DecodeFault) (reason : CloseReason)
     → Reading old.limit (old.held ++ piece) ps rest (Some fault) → Taken (gets_as role) ps old.end r → Makes r (with_held old h) mid t u → None ≡ r.close
-    → IsBreak role fault r.end x → Some reason ≡ x.close → Makes x mid new u v → Hears role piece old new t v (Some reason)
-hears_fault role piece old mid new h t u v r x ps rest fault reason reading taken m none break shut k =
+    → IsBreak role fault r.end x → Some reason ≡ x.close → Makes x mid new u v → Hears role now piece old new t v (Some reason)
+hears_fault role now piece old mid new h t u v r x ps rest fault reason reading taken m none break shut k =
     let both = twice old mid new h t u v r x none m k in
-    hears_from role piece old new h t v (followed r x) (Some reason)
+    hears_from role now piece old new new h t v (followed r x) (Some reason)
     (subst (λ (hs : List ℕ). Receives old.limit (gets_as role) (faulted_as role) (old.held ++ piece) old.end (followed r x) hs) (sym (held_none old new h t v (followed r x) reason both (sym (close_is r x reason none shut)))) (broken break))
-    both (close_is r x reason none shut)
+    both refl (heard_shut role now (old.held ++ piece) reason old new (moment_is old new h t v (followed r x) both)) (close_is r x reason none shut)
   where
     broken : IsBreak role fault r.end x → Receives old.limit (gets_as role) (faulted_as role) (old.held ++ piece) old.end (followed r x) []
     broken (inl e) =
@@ -139,9 +204,9 @@ broken_from limit b none ps fault h g =
 
 -- ---- what the user sees of it
 
-shown : (role : Role) (piece : List ℕ) (old new : EndState) (t u : Told) (closed : Option CloseReason) (hs : List Happening) (acked : List ℕ) (shut : Option CloseReason) → (h : Hears role piece old new t u closed)
+shown : (role : Role) (now : ℕ) (piece : List ℕ) (old new : EndState) (t u : Told) (closed : Option CloseReason) (hs : List Happening) (acked : List ℕ) (shut : Option CloseReason) → (h : Hears role now piece old new t u closed)
     → t.happenings.items ≡ [] → t.acknowledged.items ≡ [] → hs ≡ u.happenings.items → acked ≡ u.acknowledged.items → shut ≡ closed → Shows h.reply old new hs acked shut
-shown role piece old new t u closed hs acked shut h none no_id same same_ids same_close = record {
+shown role now piece old new t u closed hs acked shut h none no_id same same_ids same_close = record {
   after = ap (λ (s : EndState). s.end) h.state;
   out = h.out;
   told = same ∙ h.happenings ∙ ap (λ xs. xs ++ h.reply.happenings) none;
@@ -149,7 +214,7 @@ shown role piece old new t u closed hs acked shut h none no_id same same_ids sam
   close = same_close ∙ h.close;
 }
 
-pub receives_as : (role : Role) (piece : List ℕ) (old new : EndState) (t u : Told) (closed : Option CloseReason) (hs : List Happening) (acked : List ℕ) (shut : Option CloseReason) → Hears role piece old new t u closed
+pub receives_as : (role : Role) (now : ℕ) (piece : List ℕ) (old new : EndState) (t u : Told) (closed : Option CloseReason) (hs : List Happening) (acked : List ℕ) (shut : Option CloseReason) → Hears role now piece old new t u closed
     → t.happenings.items ≡ [] → t.acknowledged.items ≡ [] → hs ≡ u.happenings.items → acked ≡ u.acknowledged.items → shut ≡ closed → ReceivesAs role piece old new hs acked shut
-receives_as Client piece old new t u closed hs acked shut h none no_id same same_ids same_close = (h.reply, h.receives, shown Client piece old new t u closed hs acked shut h none no_id same same_ids same_close)
-receives_as Server piece old new t u closed hs acked shut h none no_id same same_ids same_close = (h.reply, h.receives, shown Server piece old new t u closed hs acked shut h none no_id same same_ids same_close)
+receives_as Client now piece old new t u closed hs acked shut h none no_id same same_ids same_close = (h.reply, h.receives, shown Client now piece old new t u closed hs acked shut h none no_id same same_ids same_close)
+receives_as Server now piece old new t u closed hs acked shut h none no_id same same_ids same_close = (h.reply, h.receives, shown Server now piece old new t u closed hs acked shut h none no_id same same_ids same_close)

@@ -7,6 +7,7 @@ pub mod KeepAlive
 pub mod State
 pub mod Receiving
 pub mod Publishing
+pub mod Resuming
 pub mod Opening
 pub mod Requests
 pub mod Laws

@@ -1,5 +1,5 @@
 -- What comes of bytes that an open end receives, cut anywhere (4.2, 4.6, 4.8).
-use Rattle.std.specs.Prelude.{◌≡◌, ◌⊎◌, ℕ, Bool, false, not, ◌&&◌, ◌<◌, List, [], ◌∷◌, ◌++◌, length, Option, Some, None}
+use Rattle.std.specs.Prelude.{◌≡◌, ◌⊎◌, ℕ, Bool, false, not, ◌&&◌, if◌then◌else◌, ◌<◌, List, [], ◌∷◌, ◌++◌, length, Option, Some, None, IsSome}
 use Rattle.mq_packet.specs.declared.packet.Packet.{Packet}
 use Rattle.mq_decode.specs.declared.fault.DecodeFault.{DecodeFault}
 use Rattle.mq_decode.specs.Grammar.{Stream, Pending, Faulty}
@@ -57,6 +57,23 @@ ServerReceives piece old new happenings acknowledged closed = (r : Reply)
     × Receives old.limit server_gets server_faulted (old.held ++ piece) old.end r new.held
     × Shows r old new happenings acknowledged closed
 
+-- The server's moment, of the last whole packet, after bytes that came now: b are those held before, and they. Less than a whole
+-- packet says nothing, and an end that closes keeps its moment (3.1.2.10).
+pub record HearsAt (now : ℕ) (b : List ℕ) (closed : Option CloseReason) (old new : EndState) : Type 0 where
+  pub waits : Pending old.limit b → new.moment ≡ old.moment
+  pub closes : IsSome closed → new.moment ≡ old.moment
+  pub hears : closed ≡ None → ¬ Pending old.limit b → new.moment ≡ now
+
+-- the moment of an end of this role, where a whole packet came now or none did (3.1.2.10)
+abbrev pub heard_as : Role → Bool → ℕ → ℕ → ℕ
+heard_as Client came now last = last
+heard_as Server came now last = if came then now else last
+
+-- the moment of an end of this role after bytes that came now: the client's is not that of what it hears (3.1.2.10)
+abbrev pub HeardAs : Role → ℕ → List ℕ → Option CloseReason → EndState → EndState → Type 0
+HeardAs Client now b closed old new = new.moment ≡ old.moment
+HeardAs Server now b closed old new = HearsAt now b closed old new
+
 -- ---- packets that are taken in, where memory may run out
 
 -- what a closed end holds of a packet that is not whole: nothing
@@ -108,13 +125,14 @@ abbrev pub IsBreak : Role → DecodeFault → End → Reply → Type 0
 IsBreak role fault e r = (r ≡ faulted_as role fault e) ⊎ (r ≡ closes reasons.Memory e)
 
 -- Bytes came to an end with a connection, and this is what it did with them.
-pub record Hears (role : Role) (piece : List ℕ) (old new : EndState) (told now : Told) (closed : Option CloseReason) : Type 0 where
+pub record Hears (role : Role) (now : ℕ) (piece : List ℕ) (old new : EndState) (told after : Told) (closed : Option CloseReason) : Type 0 where
   pub reply : Reply
   pub receives : Receives old.limit (gets_as role) (faulted_as role) (old.held ++ piece) old.end reply new.held
   pub out : PutsOut reply.out old.output new.output
-  pub state : new ≡ record old { end = reply.end; output = new.output; held = new.held }
-  pub happenings : now.happenings.items ≡ told.happenings.items ++ reply.happenings
-  pub acknowledged : now.acknowledged.items ≡ told.acknowledged.items ++ reply.freed
+  pub state : new ≡ record old { end = reply.end; output = new.output; held = new.held; moment = new.moment }
+  pub heard : HeardAs role now (old.held ++ piece) closed old new
+  pub happenings : after.happenings.items ≡ told.happenings.items ++ reply.happenings
+  pub acknowledged : after.acknowledged.items ≡ told.acknowledged.items ++ reply.freed
   pub close : closed ≡ reply.close
 
 -- an end of this role receives bytes

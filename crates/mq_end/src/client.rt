@@ -1,14 +1,16 @@
 //! The client end.
 
-ghost use Rattle.std.specs.Prelude.{◌≡◌, ◌<◌, ◌≤◌, ◌∷◌, ℕ, [], true, false, length, drop, IfOk, IfErr, IfSome, IfNone, IsSome, OnOk, OnErr, Err, None, Some};
+ghost use Rattle.std.specs.Prelude.{◌≡◌, ◌<◌, ◌≤◌, ◌↔◌, ◌∷◌, ℕ, [], true, false, length, drop, IfOk, IfErr, IfSome, IfNone, IsSome, OnOk, OnErr, Err, None, Some};
 ghost use Rattle.mq_packet.specs.declared.packet.Packet.TheVariants as packets;
-ghost use Rattle.mq_end.specs.End.{blank_end, is_live, over};
+ghost use Rattle.mq_end.specs.End.{blank_end, is_live, over, resumed};
 ghost use Rattle.mq_end.specs.Both.{publish_refusal};
 ghost use Rattle.mq_end.specs.Client.{connects, subscribes, subscribe_refusal, unsubscribes, unsubscribe_refusal, leaves, leave_refusal};
 ghost use Rattle.mq_end.specs.State.{PutsOut};
 ghost use Rattle.mq_end.specs.Receiving.{Acts, ClientReceives};
 ghost use Rattle.mq_end.specs.Publishing.{Accepts, connect_of};
+ghost use Rattle.mq_end.specs.KeepAlive.{pings};
 ghost use Rattle.mq_end.specs.Requests.{Requests, Ticks};
+ghost use Rattle.mq_end.specs.Resuming.{FitsWithin};
 
 use crate::config::ClientConfig;
 use crate::link::Link;
@@ -16,6 +18,7 @@ use crate::progress::Progress;
 use crate::queue::ByteQueue;
 use crate::reason::CloseReason;
 use crate::refusal::PublishRefusal;
+use crate::resuming::fits_within;
 use crate::role::Role;
 use crate::state::State;
 use mq_flow::Session;
@@ -61,6 +64,26 @@ impl ClientEnd {
         ClientEnd { config, link }
     }
 
+    /// A client without a connection that goes on with a session of before, its claimed identifiers freed (3.1.2.4, 4.1).
+    /// It counts as never established, so the server may have no session present. The session keeps its capacity, which
+    /// stands in place of the configured one. `None` where a message of the session is over the limit. It takes no memory.
+    pub fn with_session(alloc: Global, config: ClientConfig, session: Session) -> Option<ClientEnd>
+        ensures there { IsSome result ↔ FitsWithin config.limits session }
+        ensures end { IfSome result (λ client. client.link.end
+            ≡ resumed false session.sender.book session.receiver session.sender.last) }
+        ensures capacity { IfSome result (λ client. client.link.capacity ≡ session.sender.capacity) }
+        ensures limit { IfSome result (λ client. client.link.limit ≡ config.limits) }
+        ensures output { IfSome result (λ client. client.link.output ≡ []) }
+        ensures held { IfSome result (λ client. client.link.held ≡ []) }
+        ensures config { IfSome result (λ client. client.config ≡ config) }
+    {
+        if !fits_within(config.limits, &session) {
+            return None;
+        }
+        let link = Link::with_session(alloc, config.limits, session, false);
+        Some(ClientEnd { config, link })
+    }
+
     // The CONNECT that it begins a connection with.
     fn connect_packet(&self, clean: bool) -> Result<Connect, AllocError>
         ensures { IfOk result (λ connect. connect ≡ connect_of self.now.config clean) }
@@ -97,7 +120,7 @@ impl ClientEnd {
 
     /// Bytes come from the server, at this moment. Without a connection they are ignored. The whole packets among them
     /// come one after another, up to one at which the end closes; where memory runs out it closes.
-    pub fn receive(&mut self, _now: u64, piece: &[u8]) -> Progress
+    pub fn receive(&mut self, now: u64, piece: &[u8]) -> Progress
         ensures open { is_live self.old.link.end.state ≡ true → ClientReceives piece.now self.old.link self.new.link
             result.happenings result.acknowledged result.closed }
         ensures closed { is_live self.old.link.end.state ≡ false → self.new ≡ self.old }
@@ -108,7 +131,7 @@ impl ClientEnd {
         ensures moment { self.new.link.moment ≡ self.old.link.moment }
         ensures config { self.new.config ≡ self.old.config }
     {
-        self.link.receive(Role::Client, piece)
+        self.link.receive(Role::Client, now, piece)
     }
 
     /// Publishes a message, and answers its packet identifier, where it has one (2.3.1). While the end is not up, one of
@@ -171,10 +194,11 @@ impl ClientEnd {
     }
 
     /// It is this moment: where the end is up, and a keep-alive has gone by since its CONNECT or its last PINGREQ, it puts
-    /// out PINGREQ (3.1.2.10, 3.12). It never closes, so that the answer is `None`. Errs where memory runs out, and then
-    /// nothing changes.
+    /// out PINGREQ (3.1.2.10, 3.12). It never closes, so that the answer is `None`. Errs where memory runs out for that, and
+    /// then nothing changes.
     pub fn tick(&mut self, now: u64) -> Result<Option<CloseReason>, AllocError>
         ensures ok { OnOk result (Ticks now self.old.link self.new.link) }
+        ensures memory { OnErr result (pings self.old.link.moment now self.old.link.end ≡ true) }
         ensures closed { IfOk result (λ closed. closed ≡ None) }
         ensures config { self.new.config ≡ self.old.config }
         ensures err { OnErr result (self.new ≡ self.old) }

@@ -18,6 +18,7 @@ mod reason;
 mod receiving;
 mod refusal;
 mod requesting;
+mod resuming;
 mod role;
 mod server;
 mod state;

@@ -3,7 +3,7 @@
 ghost use Rattle.std.specs.Prelude.{◌≡◌, ◌++◌, [], true, false, IfErr, OnOk, None, Some};
 ghost use Rattle.mq_decode.specs.Grammar.{Goes, Stops};
 ghost use Rattle.mq_end.specs.End.{Reply, is_live};
-ghost use Rattle.mq_end.specs.Receiving.{Hears, IsBreak, Makes, ReceivesAs, is_answered};
+ghost use Rattle.mq_end.specs.Receiving.{HeardAs, Hears, IsBreak, Makes, ReceivesAs, heard_as, is_answered};
 
 use crate::link::Link;
 use crate::progress::Progress;
@@ -56,25 +56,44 @@ impl Link {
         }
     }
 
-    /// Bytes come to an end with a connection.
-    fn take_bytes(&mut self, role: Role, piece: &[u8], told: &mut Told) -> Option<CloseReason>
-        ensures { Hears role piece.now self.old self.new told.old told.new result }
+    /// A whole packet came at this moment, or none did: the server's keep-alive goes by it (3.1.2.10).
+    fn hear(&mut self, role: Role, now: u64, came: bool)
+        ensures { self.new ≡ record self.old { moment = heard_as role came now self.old.moment } }
+    {
+        if came && role == Role::Server {
+            self.moment = now;
+        }
+    }
+
+    /// Bytes come to an end with a connection, at this moment.
+    fn take_bytes(
+        &mut self,
+        role: Role,
+        now: u64,
+        piece: &[u8],
+        told: &mut Told,
+    ) -> Option<CloseReason>
+        ensures { Hears role now piece.now self.old self.new told.old told.new result }
     {
         reads_again();
         let mut packets = Vec::new(self.alloc);
         let decoded = self.decode(piece, &mut packets);
+        let came = !packets.is_empty();
         match self.take_all(role, packets, told) {
             Some(reason) => Some(reason),
             None => match decoded {
-                Ok(()) => None,
+                Ok(()) => {
+                    self.hear(role, now, came);
+                    None
+                }
                 Err(DecodeError::Memory) => Some(self.close(CloseReason::Memory)),
                 Err(DecodeError::Fault(fault)) => Some(self.break_off(role, fault, told)),
             },
         }
     }
 
-    /// Bytes come to the end. Without a connection they are ignored.
-    pub(crate) fn receive(&mut self, role: Role, piece: &[u8]) -> Progress
+    /// Bytes come to the end, at this moment. Without a connection they are ignored.
+    pub(crate) fn receive(&mut self, role: Role, now: u64, piece: &[u8]) -> Progress
         ensures open { is_live self.old.end.state ≡ true → ReceivesAs role piece.now self.old self.new
             result.happenings result.acknowledged result.closed }
         ensures closed { is_live self.old.end.state ≡ false → self.new ≡ self.old }
@@ -82,13 +101,13 @@ impl Link {
             → (result.happenings ≡ []) × (result.acknowledged ≡ []) × (result.closed ≡ None) }
         ensures limit { self.new.limit ≡ self.old.limit }
         ensures capacity { self.new.capacity ≡ self.old.capacity }
-        ensures moment { self.new.moment ≡ self.old.moment }
+        ensures heard { is_live self.old.end.state ≡ true → HeardAs role now (self.old.held ++ piece.now) result.closed self.old self.new }
     {
         let mut told = Told::new(self.alloc);
         if self.state == State::Closed {
             return told.into_progress(None);
         }
-        let closed = self.take_bytes(role, piece, &mut told);
+        let closed = self.take_bytes(role, now, piece, &mut told);
         told.into_progress(closed)
     }
 }

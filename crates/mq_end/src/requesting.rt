@@ -1,17 +1,18 @@
 //! What an end's user asks of the other end, and answers it (3.8 to 3.12, 3.14).
 
-ghost use Rattle.std.specs.Prelude.{◌≡◌, ◌∷◌, [], false, not, if◌then◌else◌, nat_lt, IfOk, IfErr, IfSome, IfNone, OnOk, OnErr, Err, None, Some};
+ghost use Rattle.std.specs.Prelude.{◌≡◌, ◌∷◌, [], true, false, not, if◌then◌else◌, nat_lt, IfOk, IfErr, IfSome, IfNone, OnOk, OnErr, Err, None, Some};
 ghost use Rattle.mq_flow.specs.Sender.{is_full, claim, IsFree};
 ghost use Rattle.mq_end.specs.declared.refusal.PublishRefusal.TheVariants as refusals;
 ghost use Rattle.mq_end.specs.End.{is_up, puts_out};
 ghost use Rattle.mq_end.specs.Sizes.{subscribe_size, unsubscribe_size};
 ghost use Rattle.mq_end.specs.Client.{subscribe_refusal, unsubscribe_refusal, leave_refusal, subscribes, unsubscribes, leaves};
 ghost use Rattle.mq_end.specs.Server.{answer_refusal, suback_refusal, unsuback_refusal, subacks, unsubacks};
-ghost use Rattle.mq_end.specs.KeepAlive.{is_due};
+ghost use Rattle.mq_end.specs.KeepAlive.{is_due, is_late, pings, server_ticks};
 ghost use Rattle.mq_end.specs.Receiving.{Acts};
 ghost use Rattle.mq_end.specs.Requests.{Requests, Ticks};
 
 use crate::link::Link;
+use crate::reason::CloseReason;
 use crate::refusal::PublishRefusal;
 use crate::state::State;
 use mq_flow::Claim;
@@ -203,6 +204,7 @@ impl Link {
     /// A client is told the time: it puts out PINGREQ where one is due (3.12).
     pub(crate) fn tick_client(&mut self, now: u64) -> Result<(), AllocError>
         ensures ok { OnOk result (Ticks now self.old self.new) }
+        ensures memory { OnErr result (pings self.old.moment now self.old.end ≡ true) }
         ensures err { OnErr result (self.new ≡ self.old) }
     {
         if self.state == State::Up && self.is_due(now) {
@@ -210,6 +212,25 @@ impl Link {
             self.moment = now;
         }
         Ok(())
+    }
+
+    /// Whether more than one and a half times the keep-alive has gone by (3.1.2.10).
+    fn is_late(&self, now: u64) -> bool
+        ensures { result ≡ is_late self.now.moment self.now.end.keep_alive now }
+    {
+        let wait = 1_500 * u64::from(self.keep_alive);
+        wait > 0 && now > self.moment && now - self.moment > wait
+    }
+
+    /// A server is told the time: it closes where it is late (3.1.2.10).
+    pub(crate) fn tick_server(&mut self, now: u64) -> Option<CloseReason>
+        ensures closed { result ≡ (server_ticks self.old.moment now self.old.end).close }
+        ensures state { Acts (server_ticks self.old.moment now self.old.end) self.old self.new }
+    {
+        if self.state == State::Up && self.is_late(now) {
+            return Some(self.close(CloseReason::KeepAlive));
+        }
+        None
     }
 
     /// Puts out a packet of this remaining length (2.2.3), which answers the other end.

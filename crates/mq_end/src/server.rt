@@ -1,16 +1,20 @@
 //! The server end.
 
-ghost use Rattle.std.specs.Prelude.{◌≡◌, ◌<◌, ◌≤◌, ◌↔◌, ℕ, [], true, false, length, drop, IfOk, IfErr, IfSome, IfNone, IsSome, OnOk, OnErr, Err, None, Some};
-ghost use Rattle.mq_end.specs.End.{blank_end, is_live, over};
+ghost use Rattle.std.specs.Prelude.{◌≡◌, ◌<◌, ◌≤◌, ◌++◌, ◌↔◌, ℕ, [], true, false, length, drop, IfOk, IfErr, IfSome, IfNone, IsSome, OnOk, OnErr, Err, None, Some};
+ghost use Rattle.mq_end.specs.End.{blank_end, is_live, over, resumed};
 ghost use Rattle.mq_end.specs.Server.{opens, server_publish_refusal, subacks, suback_refusal, unsubacks, unsuback_refusal};
-ghost use Rattle.mq_end.specs.Receiving.{Acts, ServerReceives};
+ghost use Rattle.mq_end.specs.Receiving.{Acts, HearsAt, ServerReceives};
 ghost use Rattle.mq_end.specs.Publishing.{Accepts};
+ghost use Rattle.mq_end.specs.KeepAlive.{server_ticks};
+ghost use Rattle.mq_end.specs.Resuming.{FitsWithin};
 
 use crate::config::ServerConfig;
 use crate::link::Link;
 use crate::progress::Progress;
 use crate::queue::ByteQueue;
+use crate::reason::CloseReason;
 use crate::refusal::PublishRefusal;
+use crate::resuming::fits_within;
 use crate::role::Role;
 use crate::state::State;
 use mq_flow::Session;
@@ -53,6 +57,25 @@ impl ServerEnd {
         }
     }
 
+    /// A server end without a connection that goes on with a session of before, its claimed identifiers freed (3.1.2.4,
+    /// 4.1). The session keeps its capacity, which stands in place of the configured one. `None` where a message of the
+    /// session is over the limit. It takes no memory.
+    pub fn with_session(alloc: Global, config: ServerConfig, session: Session) -> Option<ServerEnd>
+        ensures there { IsSome result ↔ FitsWithin config.limits session }
+        ensures end { IfSome result (λ server. server.end
+            ≡ resumed true session.sender.book session.receiver session.sender.last) }
+        ensures capacity { IfSome result (λ server. server.capacity ≡ session.sender.capacity) }
+        ensures limit { IfSome result (λ server. server.limit ≡ config.limits) }
+        ensures output { IfSome result (λ server. server.output ≡ []) }
+        ensures held { IfSome result (λ server. server.held ≡ []) }
+    {
+        if !fits_within(config.limits, &session) {
+            return None;
+        }
+        let link = Link::with_session(alloc, config.limits, session, true);
+        Some(ServerEnd { link })
+    }
+
     /// A connection is opened, at this moment; its CONNECT is waited for (3.1). One that is open is dropped first, and
     /// what waits to be written of an earlier one is gone. It takes no memory.
     pub fn opened(&mut self, now: u64)
@@ -70,16 +93,17 @@ impl ServerEnd {
 
     /// Bytes come from the client, at this moment. Without a connection they are ignored. The whole packets among them
     /// come one after another, up to one at which the end closes; where memory runs out it closes.
-    pub fn receive(&mut self, _now: u64, piece: &[u8]) -> Progress
+    pub fn receive(&mut self, now: u64, piece: &[u8]) -> Progress
         ensures open { is_live self.old.end.state ≡ true → ServerReceives piece.now self.old self.new
             result.happenings result.acknowledged result.closed }
         ensures closed { is_live self.old.end.state ≡ false → self.new ≡ self.old }
         ensures nothing { is_live self.old.end.state ≡ false
             → (result.happenings ≡ []) × (result.acknowledged ≡ []) × (result.closed ≡ None) }
+        ensures heard { is_live self.old.end.state ≡ true → HearsAt now (self.old.held ++ piece.now) result.closed self.old self.new }
         ensures limit { self.new.limit ≡ self.old.limit }
         ensures capacity { self.new.capacity ≡ self.old.capacity }
     {
-        self.link.receive(Role::Server, piece)
+        self.link.receive(Role::Server, now, piece)
     }
 
     /// Publishes a message to the client, and answers its packet identifier, where it has one (2.3.1). While the end is
@@ -125,6 +149,15 @@ impl ServerEnd {
         ensures err { OnErr result (self.new ≡ self.old) }
     {
         self.link.unsuback(id)
+    }
+
+    /// It is this moment: where the end is up, and more than one and a half times its keep-alive has gone by since the last
+    /// whole packet, it closes, and the answer says why (3.1.2.10). It takes no memory.
+    pub fn tick(&mut self, now: u64) -> Option<CloseReason>
+        ensures closed { result ≡ (server_ticks self.old.moment now self.old.end).close }
+        ensures state { Acts (server_ticks self.old.moment now self.old.end) self.old self.new }
+    {
+        self.link.tick_server(now)
     }
 
     /// The connection is lost (4.2): what waits to be written is gone. It takes no memory.

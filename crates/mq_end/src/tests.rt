@@ -1,7 +1,9 @@
 mod brief;
 mod client;
+mod late;
 mod queue;
 mod requests;
+mod resumed;
 mod server;
 
 use crate::{ClientConfig, ClientEnd, PublishRefusal, ServerConfig, ServerEnd, State};
@@ -32,31 +34,42 @@ enum Step {
     Lose,
 }
 
-// A client end of `w`, with limits 64 and so much room.
-fn new_client(alloc: Global, capacity: u16) -> Result<ClientEnd, Fail> {
+// What the user of a client `w` says of it: limits 64 and so much room.
+fn client_config(alloc: Global, capacity: u16) -> Result<ClientConfig, Fail> {
     let id = Text::new(alloc, "w")?;
     let limits = Limits::new(64).ok_or("no limits")?;
-    if capacity == 0 {
-        return Err(Fail::new("no room"));
-    }
-    let config = ClientConfig {
+    Ok(ClientConfig {
         id,
         keep_alive: 60,
         will: None,
         login: None,
         limits,
         capacity,
-    };
+    })
+}
+
+// A client end of that.
+fn new_client(alloc: Global, capacity: u16) -> Result<ClientEnd, Fail> {
+    let config = client_config(alloc, capacity)?;
+    if config.capacity == 0 {
+        return Err(Fail::new("no room"));
+    }
     Ok(ClientEnd::new(alloc, config))
 }
 
-// A server end with limits 64 and so much room.
-fn new_server(alloc: Global, capacity: u16) -> Result<ServerEnd, Fail> {
+// What the user of a server says of it: limits 64 and so much room.
+fn server_config(capacity: u16) -> Result<ServerConfig, Fail> {
     let limits = Limits::new(64).ok_or("no limits")?;
-    if capacity == 0 {
+    Ok(ServerConfig { limits, capacity })
+}
+
+// A server end of that.
+fn new_server(alloc: Global, capacity: u16) -> Result<ServerEnd, Fail> {
+    let config = server_config(capacity)?;
+    if config.capacity == 0 {
         return Err(Fail::new("no room"));
     }
-    Ok(ServerEnd::new(alloc, ServerConfig { limits, capacity }))
+    Ok(ServerEnd::new(alloc, config))
 }
 
 // A message to the topic `t`.

@@ -50,7 +50,7 @@ pub(crate) fn put_out(alloc: Global, client: &mut ClientEnd) -> Result<String, A
 }
 
 // The client takes these steps: each tells this, and puts these bytes out.
-fn expect(
+pub(crate) fn expect(
     rt: &impl Abort,
     alloc: Global,
     client: &mut ClientEnd,

@@ -3,9 +3,14 @@ use Rattle.mq_end.specs.End.{is_live}
 use Rattle.mq_end.specs.State.{EndState}
 use Rattle.mq_end.specs.Publishing.{ClientState}
 use Rattle.mq_end.specs.Receiving.{ClientReceives}
+use Rattle.mq_end.proofs.Hearing.{kept_moment}
 use Rattle.mq_end.proofs.client.ClientEnd.receive.Goals as goal
 
 pub returns-clause-open : goal.returns-clause-open
 returns-clause-open c =
     subst (λ (l : EndState). is_live l.end.state ≡ true → ClientReceives c.args.piece.now l c.receive.new.self c.receive.result.happenings c.receive.result.acknowledged c.receive.result.closed) (ap (λ (s : ClientState). s.link) c.self.view_is)
     c.receive.ensures.open
+
+pub returns-clause-moment : goal.returns-clause-moment
+returns-clause-moment c =
+    subst (λ (l : EndState). c.receive.new.self.moment ≡ l.moment) (ap (λ (s : ClientState). s.link) c.self.view_is) (kept_moment _ c.receive.new.self c.receive.ensures.heard c.receive.ensures.closed)

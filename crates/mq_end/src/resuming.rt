@@ -1,0 +1,57 @@
+//! Ends that go on with a session of before (3.1.2.4, 4.1).
+
+ghost use Rattle.std.specs.Prelude.{◌≡◌, ◌↔◌, [], IsTrue};
+ghost use Rattle.mq_end.specs.End.{resumed};
+ghost use Rattle.mq_end.specs.Resuming.{FitsWithin};
+
+use crate::link::Link;
+use crate::publishing::publish_size;
+use crate::queue::ByteQueue;
+use crate::state::State;
+use mq_decode::{Decoder, Limits};
+use mq_flow::Session;
+use std::alloc::Global;
+
+/// Whether each message that a session holds fits within the limits (2.2.3).
+pub(crate) fn fits_within(limits: Limits, session: &Session) -> bool
+    ensures { IsTrue result ↔ FitsWithin limits session.now }
+{
+    let most = limits.max_packet() as usize;
+    let mut entries = session.sender.entries();
+    entries.all(|entry| publish_size(&entry.message) <= most)
+}
+
+impl Link {
+    /// An end without a connection that goes on with a session, its claimed identifiers freed; `known` is its mark.
+    pub(crate) fn with_session(
+        alloc: Global,
+        limits: Limits,
+        mut session: Session,
+        known: bool,
+    ) -> Link
+        ensures { result ≡ record {
+          end = resumed known session.sender.book session.receiver session.sender.last;
+          capacity = session.sender.capacity;
+          limit = limits;
+          held = [];
+          output = [];
+          moment = 0;
+        } }
+    {
+        session.sender.free_claims();
+        let capacity = session.sender.capacity();
+        Link {
+            alloc,
+            session,
+            known,
+            state: State::Closed,
+            clean: false,
+            keep_alive: 0,
+            capacity,
+            limits,
+            moment: 0,
+            decoder: Decoder::new(alloc, limits),
+            output: ByteQueue::new(alloc),
+        }
+    }
+}
