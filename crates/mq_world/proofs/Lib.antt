@@ -23,5 +23,6 @@ pub mod Delivering
 pub mod Exchanging
 pub mod Events
 pub mod Worlds
+pub mod Clocks
 pub mod Settled
 pub mod Accounts

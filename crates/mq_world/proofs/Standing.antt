@@ -121,8 +121,8 @@ alike limit capacity w v m k a b = record {
   reached = k.reached;
 }
 
-same_side : (x : WiredSide) → Alike x x
-same_side x = record { end = refl; bytes = λ live. refl; output = refl; bounds = (refl, refl); accepted = refl; handed = refl; freed = refl }
+pub alike_itself : (x : WiredSide) → Alike x x
+alike_itself x = record { end = refl; bytes = λ live. refl; output = refl; bounds = (refl, refl); accepted = refl; handed = refl; freed = refl }
 
 unheard_side : (x : WiredSide) (left : List ℕ) → is_live x.state.end.state ≡ false → Alike x (record x { wire = left })
 unheard_side x left off = record { end = refl; bytes = λ live. absurd (true_not (sym live ∙ off)); output = refl; bounds = (refl, refl); accepted = refl; handed = refl; freed = refl }
@@ -131,8 +131,8 @@ unheard_side x left off = record { end = refl; bytes = λ live. absurd (true_not
     true_not e = cc
 
 pub unheard : (limit capacity : ℕ) (side : Side) (w : Wired) (m : Machine) (left : List ℕ) → Stands limit capacity w m → is_live (near side w).state.end.state ≡ false → Stands limit capacity (facing side (record (near side w) { wire = left }) (far side w)) m
-unheard limit capacity Client w m left k off = alike limit capacity w (record w { client = record w.client { wire = left } }) m k (unheard_side w.client left off) (same_side w.server)
-unheard limit capacity Server w m left k off = alike limit capacity w (record w { server = record w.server { wire = left } }) m k (same_side w.client) (unheard_side w.server left off)
+unheard limit capacity Client w m left k off = alike limit capacity w (record w { client = record w.client { wire = left } }) m k (unheard_side w.client left off) (alike_itself w.server)
+unheard limit capacity Server w m left k off = alike limit capacity w (record w { server = record w.server { wire = left } }) m k (alike_itself w.client) (unheard_side w.server left off)
 
 -- ---- what every run keeps
 

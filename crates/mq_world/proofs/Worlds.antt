@@ -4,6 +4,7 @@ use Rattle.std.specs.Result.{is_err}
 use Rattle.std.proofs.Math.Seq.{take-suc}
 use Rattle.std.proofs.lemmas.List.{take-append-drop}
 use Rattle.mq_packet.specs.declared.message.Message.{Message}
+use Rattle.mq_end.specs.declared.reason.CloseReason.{CloseReason}
 use Rattle.mq_end.specs.declared.refusal.PublishRefusal.{PublishRefusal}
 use Rattle.mq_end.specs.declared.refusal.PublishRefusal.TheVariants as refusals
 use Rattle.mq_packet.specs.declared.packet.Packet.TheVariants as packets
@@ -14,6 +15,7 @@ use Rattle.mq_end.specs.Both.{has_identifier, answered_identifier}
 use Rattle.mq_end.specs.Laws.{MayHave}
 use Rattle.mq_end.specs.State.{EndState, PutsOut}
 use Rattle.mq_end.specs.Publishing.{Accepts}
+use Rattle.mq_end.specs.Receiving.{HearsAt}
 use Rattle.mq_flow.specs.Sender.{IsFirstFree}
 use Rattle.mq_world.specs.declared.side.Side.{Side}
 use Rattle.mq_world.specs.declared.side.Side.TheVariants.{Client, Server}
@@ -24,12 +26,13 @@ use Rattle.mq_world.specs.declared.answer.Answer.TheVariants as answers
 use Rattle.mq_world.specs.declared.answer.Delivery.{Delivery}
 use Rattle.mq_world.specs.declared.answer.Opening.{Opening}
 use Rattle.mq_world.specs.declared.answer.Settling.{Settling}
-use Rattle.mq_world.specs.Half.{Publishes, Drops, refusal, freed_with, accepted_with}
+use Rattle.mq_world.specs.Half.{Publishes, Drops, Leaves, refusal, freed_with, accepted_with}
 use Rattle.mq_world.specs.Machine.{Machine, Move, By, Opens, first_packet, blank_machine}
 use Rattle.mq_world.specs.Carries.{WiredSide, Wired}
-use Rattle.mq_world.specs.OverBytes.{OverBytes, Stands, Follows, Delivers, ReceivesAt, SameBounds, near, far, facing, written, with_more, accepting, hearing, handed_with, left_on, cut_off, blank_side}
+use Rattle.mq_world.specs.OverBytes.{OverBytes, Stands, Follows, Alike, Delivers, ReceivesAt, SameBounds, near, far, facing, written, with_more, accepting, hearing, handed_with, left_on, cut_off, blank_side}
 use Rattle.mq_world.specs.World.{Moves, IsAccepted, IsRefused, reason_or_memory, Ignores, IsDelivered, IsLost, IsOpened, IsSettled, Does, Leads, InTurn, exchanges}
-use Rattle.mq_world.proofs.Standing.{side_near, no_more_bytes}
+use Rattle.mq_world.specs.Time.{SameTime, SameTimes, HearsIn, BeginsNow, later, time_moves}
+use Rattle.mq_world.proofs.Standing.{side_near, no_more_bytes, alike_itself}
 
 -- ---- sides
 
@@ -38,8 +41,8 @@ near_facing Client x y = refl
 near_facing Server x y = refl
 
 -- a side is made of its parts
-pub same_side : (x y : WiredSide) → x.state ≡ y.state → x.wire ≡ y.wire → x.accepted ≡ y.accepted → x.handed ≡ y.handed → x.freed ≡ y.freed → x ≡ y
-same_side x y a b c d e = λ i. record { state = a i; wire = b i; accepted = c i; handed = d i; freed = e i }
+pub same_side : (x y : WiredSide) → x.state ≡ y.state → x.clock ≡ y.clock → x.wire ≡ y.wire → x.accepted ≡ y.accepted → x.handed ≡ y.handed → x.freed ≡ y.freed → x ≡ y
+same_side x y a t b c d e = λ i. record { state = a i; clock = t i; wire = b i; accepted = c i; handed = d i; freed = e i }
 
 pub same_wired : (v w : Wired) → v.client ≡ w.client → v.server ≡ w.server → v ≡ w
 same_wired v w a b = λ i. record { client = a i; server = b i }
@@ -47,6 +50,20 @@ same_wired v w a b = λ i. record { client = a i; server = b i }
 -- an end whose output is empty is one whose output is on the wire
 pub written_same : (s : EndState) → s.output ≡ [] → written s ≡ s
 written_same s e = λ i. record s { output = sym e i }
+
+-- ---- time
+
+-- no time goes by for a side that only gets bytes on their way to it
+no_time : (x : WiredSide) → SameTime x x
+no_time x = record { clock = refl; moment = refl }
+
+same_times : (side : Side) (w : Wired) (x y : WiredSide) → SameTime (near side w) x → SameTime (far side w) y → SameTimes w (facing side x y)
+same_times Client w x y a b = record { client = a; server = b }
+same_times Server w x y a b = record { client = b; server = a }
+
+-- the server hears what its end does
+pub heard_written : (now : ℕ) (b : List ℕ) (closed : Option CloseReason) (old new : EndState) → HearsAt now b closed old new → HearsAt now b closed old (written new)
+heard_written now b closed old new h = record { waits = h.waits; closes = h.closes; hears = h.hears }
 
 -- ---- publishing
 
@@ -67,15 +84,17 @@ accepted_at law limit capacity side w v m message answer new s free a e =
     record {
       id = a.id;
       answered = a.answered;
+      times = subst (λ (u : Wired). SameTimes w u) (sym (e a.id a.answered)) (same_times side w (accepting a.id message new (near side w)) (with_more new.output (far side w))
+          (record { clock = refl; moment = ap (λ (z : EndState). z.moment) a.state }) (record { clock = refl; moment = refl }));
       moves = λ n t. subst (λ (u : Wired). Follows limit capacity n (By side (Publishes a.id message) ∷ []) u) (sym (e a.id a.answered))
           (law.publish limit capacity side w n a.id message new t bounded (may_have (has_identifier message.qos) (near side w).state.end a.id a.first)
           (ap (λ (z : EndState). z.end) a.state) a.out (ap (λ (z : EndState). z.held) a.state) (ap (λ (z : EndState). z.limit) a.state, ap (λ (z : EndState). z.capacity) a.state));
     }
 
-reason_is : (o : Option PublishRefusal) (why : PublishRefusal) (result : Result (Option ℕ) PublishRefusal) → result ≡ Err why → IfSome o (λ y. result ≡ Err y) → IfNone o (IfErr result (λ y. y ≡ refusals.Memory)) → why ≡ reason_or_memory o
-reason_is None why result e a b = memory result e b
+pub reason_is : {A : Type 0} (o : Option PublishRefusal) (why : PublishRefusal) (result : Result A PublishRefusal) → result ≡ Err why → IfSome o (λ y. result ≡ Err y) → IfNone o (IfErr result (λ y. y ≡ refusals.Memory)) → why ≡ reason_or_memory o
+reason_is {A} None why result e a b = memory result e b
   where
-    memory : (r : Result (Option ℕ) PublishRefusal) → r ≡ Err why → IfErr r (λ y. y ≡ refusals.Memory) → why ≡ refusals.Memory
+    memory : (r : Result A PublishRefusal) → r ≡ Err why → IfErr r (λ y. y ≡ refusals.Memory) → why ≡ refusals.Memory
     memory (Ok x) e b = cc
     memory (Err y) e b = cc
 reason_is (Some y) why result e a b = cc
@@ -97,7 +116,7 @@ split : (side : Side) (v : Wired) → v ≡ facing side (near side v) (far side 
 split Client v = refl
 split Server v = refl
 
-no_reason : (o : Option PublishRefusal) (answer : Option ℕ) (result : Result (Option ℕ) PublishRefusal) → result ≡ Ok answer → IfSome o (λ y. result ≡ Err y) → o ≡ None
+pub no_reason : {A : Type 0} (o : Option PublishRefusal) (answer : A) (result : Result A PublishRefusal) → result ≡ Ok answer → IfSome o (λ y. result ≡ Err y) → o ≡ None
 no_reason None answer result e h = refl
 no_reason (Some y) answer result e h = let f : Ok answer ≡ Err y = sym e ∙ h in cc
 
@@ -106,12 +125,12 @@ pub published_at : OverBytes → (limit capacity : ℕ) (side : Side) (w v : Wir
     → copy ≡ message → twin ≡ message
     → IfSome (refusal side (near side w).state.limit (near side w).state.capacity copy (near side w).state.end) (λ y. let r : Result (Option ℕ) PublishRefusal = Ok answer in r ≡ Err y)
     → Accepts answer copy (near side w).state new
-    → (near side v).state ≡ written new → (near side v).wire ≡ (near side w).wire
+    → (near side v).state ≡ written new → (near side v).clock ≡ (near side w).clock → (near side v).wire ≡ (near side w).wire
     → ((i : ℕ) → answer ≡ answered_identifier twin.qos i → (near side v).accepted ≡ accepted_with twin.qos i twin (near side w).accepted)
     → (near side v).handed ≡ (near side w).handed → (near side v).freed ≡ (near side w).freed
     → out ≡ new.output → (far side v).wire ≡ (far side w).wire ++ out → far side v ≡ record (far side w) { wire = (far side v).wire }
     → IsAccepted limit capacity side message answer w v
-published_at law limit capacity side w v m message copy twin answer new out s one two free accepts state wire accepted handed freed is more rest =
+published_at law limit capacity side w v m message copy twin answer new out s one two free accepts state clock wire accepted handed freed is more rest =
     let own = (near side w).state in
     let none = no_reason (refusal side own.limit own.capacity copy own.end) answer (Ok answer) refl free in
     let none_ = subst (λ (z : Message). refusal side own.limit own.capacity z own.end ≡ None) one none in
@@ -119,7 +138,7 @@ published_at law limit capacity side w v m message copy twin answer new out s on
     let accepted_ = subst (λ (z : Message). (i : ℕ) → answer ≡ answered_identifier z.qos i → (near side v).accepted ≡ accepted_with z.qos i z (near side w).accepted) two accepted in
     let other : far side v ≡ with_more new.output (far side w) = rest ∙ ap (λ (b : List ℕ). record (far side w) { wire = b }) (more ∙ ap (λ (b : List ℕ). (far side w).wire ++ b) is) in
     accepted_at law limit capacity side w v m message answer new s none_ accepts_
-    (λ i e. split side v ∙ (λ j. facing side (same_side (near side v) (accepting i message new (near side w)) state wire (accepted_ i e) handed freed j) (other j)))
+    (λ i e. split side v ∙ (λ j. facing side (same_side (near side v) (accepting i message new (near side w)) state clock wire (accepted_ i e) handed freed j) (other j)))
 
 -- ---- bytes that come
 
@@ -132,6 +151,7 @@ ignored limit capacity side w v m left d new s same none e =
     let quiet : new.output ≡ [] = ap (λ (z : EndState). z.output) same ∙ x.output in
     let one : hearing left new d.progress.happenings d.progress.acknowledged d.progress.closed (near side w) ≡ record (near side w) { wire = left } = (λ i. record {
       state = (written_same new quiet ∙ same) i;
+      clock = (near side w).clock;
       wire = left_on (none.2 i) left;
       accepted = (near side w).accepted;
       handed = handed_with (none.0 i) (near side w).handed;
@@ -146,10 +166,12 @@ pub delivered_at : OverBytes → (limit capacity : ℕ) (side : Side) (w v : Wir
     → (is_live (near side w).state.end.state ≡ true → ReceivesAt side d.bytes (near side w).state new d.progress.happenings d.progress.acknowledged d.progress.closed)
     → (is_live (near side w).state.end.state ≡ false → new ≡ (near side w).state)
     → (is_live (near side w).state.end.state ≡ false → (d.progress.happenings ≡ []) × (d.progress.acknowledged ≡ []) × (d.progress.closed ≡ None))
+    → (is_live (near side w).state.end.state ≡ true → HearsIn side ((near side w).state.held ++ d.bytes) d.progress.closed (near side w)
+    (hearing (drop count (near side w).wire) new d.progress.happenings d.progress.acknowledged d.progress.closed (near side w)))
     → SameBounds (near side w).state new
     → v ≡ facing side (hearing (drop count (near side w).wire) new d.progress.happenings d.progress.acknowledged d.progress.closed (near side w)) (with_more new.output (far side w))
     → IsDelivered limit capacity side count d w v
-delivered_at law limit capacity side w v m count d new s to bytes lost live dead none bounds e =
+delivered_at law limit capacity side w v m count d new s to bytes lost live dead none heard bounds e =
     let left = drop count (near side w).wire in
     let x = hearing left new d.progress.happenings d.progress.acknowledged d.progress.closed (near side w) in
     let at : near side v ≡ x = ap (near side) e ∙ near_facing side x (with_more new.output (far side w)) in
@@ -163,7 +185,13 @@ delivered_at law limit capacity side w v m count d new s to bytes lost live dead
       lost = lost;
       arrive = λ on n t. subst (λ (u : Wired). Delivers limit capacity side n ((near side w).state.held ++ d.bytes) d.progress.closed u) (sym e)
           (law.deliver limit capacity side w n d.bytes left new d.progress.happenings d.progress.acknowledged d.progress.closed t on parts (live on) bounds);
-      hears = λ on. record { state = new; receives = live on; bounds = bounds; world = e };
+      hears = λ on. record {
+        state = new;
+        receives = live on;
+        bounds = bounds;
+        world = e;
+        heard = subst (λ (z : WiredSide). HearsIn side ((near side w).state.held ++ d.bytes) d.progress.closed (near side w) z) (sym at) (heard on);
+      };
       ignores = λ off. ignored limit capacity side w v m left d new s (dead off) (none off) e;
     }
 
@@ -174,18 +202,21 @@ pub heard_at : OverBytes → (limit capacity : ℕ) (side : Side) (w v : Wired) 
     → (is_live (near side w).state.end.state ≡ true → ReceivesAt side piece (near side w).state new d.progress.happenings d.progress.acknowledged d.progress.closed)
     → (is_live (near side w).state.end.state ≡ false → new ≡ (near side w).state)
     → (is_live (near side w).state.end.state ≡ false → (d.progress.happenings ≡ []) × (d.progress.acknowledged ≡ []) × (d.progress.closed ≡ None))
+    → (is_live (near side w).state.end.state ≡ true → HearsIn side ((near side w).state.held ++ piece) d.progress.closed (near side w)
+    (hearing (drop count (near side w).wire) new d.progress.happenings d.progress.acknowledged d.progress.closed (near side w)))
     → SameBounds (near side w).state new
-    → (near side v).state ≡ written new → (near side v).wire ≡ left_on d.progress.closed (drop count (near side w).wire)
+    → (near side v).state ≡ written new → (near side v).clock ≡ (near side w).clock → (near side v).wire ≡ left_on d.progress.closed (drop count (near side w).wire)
     → (near side v).accepted ≡ (near side w).accepted → (near side v).handed ≡ handed_with d.progress.happenings (near side w).handed
     → (near side v).freed ≡ freed_with (near side w).accepted.at_least_once d.progress.acknowledged (near side w).freed
     → out ≡ new.output → (far side v).wire ≡ (far side w).wire ++ out → far side v ≡ record (far side w) { wire = (far side v).wire }
     → IsDelivered limit capacity side count d w v
-heard_at law limit capacity side w v m count d piece new out s to bytes whole lost live dead none bounds state wire accepted handed freed is more rest =
+heard_at law limit capacity side w v m count d piece new out s to bytes whole lost live dead none heard bounds state clock wire accepted handed freed is more rest =
     let x = hearing (drop count (near side w).wire) new d.progress.happenings d.progress.acknowledged d.progress.closed (near side w) in
     let other : far side v ≡ with_more new.output (far side w) = rest ∙ ap (λ (b : List ℕ). record (far side w) { wire = b }) (more ∙ ap (λ (b : List ℕ). (far side w).wire ++ b) is) in
     delivered_at law limit capacity side w v m count d new s to bytes lost
     (λ on. subst (λ (b : List ℕ). ReceivesAt side b (near side w).state new d.progress.happenings d.progress.acknowledged d.progress.closed) whole (live on))
-    dead none bounds (split side v ∙ (λ j. facing side (same_side (near side v) x state wire accepted handed freed j) (other j)))
+    dead none (λ on. subst (λ (b : List ℕ). HearsIn side ((near side w).state.held ++ b) d.progress.closed (near side w) x) whole (heard on))
+    bounds (split side v ∙ (λ j. facing side (same_side (near side v) x state clock wire accepted handed freed j) (other j)))
 
 -- ---- a connection is lost, and opened
 
@@ -207,10 +238,12 @@ on_err (Ok a) P e h = absurd (true_false e)
     true_false e = cc
 
 pub lost_at : OverBytes → (limit capacity : ℕ) (side : Side) (w v : Wired) (was_open : Bool) (new : EndState) → was_open ≡ is_live (near side w).state.end.state
-    → new.end ≡ over (near side w).state.end → SameBounds (near side w).state new → v ≡ facing side (cut_off new (near side w)) (far side w) → IsLost limit capacity side was_open w v
-lost_at law limit capacity side w v was_open new is after bounds e = record {
+    → new.end ≡ over (near side w).state.end → SameBounds (near side w).state new → new.moment ≡ (near side w).state.moment
+    → v ≡ facing side (cut_off new (near side w)) (far side w) → IsLost limit capacity side was_open w v
+lost_at law limit capacity side w v was_open new is after bounds still e = record {
   said = is;
   wire = ap (λ (z : Wired). (near side z).wire) e ∙ ap (λ (z : WiredSide). z.wire) (near_facing side (cut_off new (near side w)) (far side w));
+  times = subst (λ (u : Wired). SameTimes w u) (sym e) (same_times side w (cut_off new (near side w)) (far side w) (record { clock = refl; moment = still }) (no_time (far side w)));
   moves = λ n t. subst (λ (u : Wired). Follows limit capacity n (By side Drops ∷ []) u) (sym e) (law.drop limit capacity side w n new t after bounds);
 }
 
@@ -220,26 +253,32 @@ true_not b e f = let g : true ≡ false = sym e ∙ f in cc
 pub opened_at : OverBytes → (limit capacity : ℕ) (w v : Wired) (o : Opening) (c s : EndState)
     → o.client_dropped ≡ is_live w.client.state.end.state → o.server_dropped ≡ is_live w.server.state.end.state → o.refused ≡ false
     → c.end ≡ (connects first_packet w.client.state.end).end → PutsOut (packets.Connect first_packet ∷ []) [] c.output → c.held ≡ [] → SameBounds w.client.state c
-    → s.end ≡ (opens w.server.state.end).end → s.held ≡ [] → SameBounds w.server.state s
+    → s.end ≡ (opens w.server.state.end).end → s.held ≡ [] → SameBounds w.server.state s → c.moment ≡ w.client.clock → s.moment ≡ w.server.clock
     → v ≡ record { client = cut_off c w.client; server = with_more c.output (cut_off s w.server) } → IsOpened limit capacity o w v
-opened_at law limit capacity w v o c s cd sd fine ce co ch cb se sh sb e = record {
+opened_at law limit capacity w v o c s cd sd fine ce co ch cb se sh sb cm sm e = record {
   client_dropped = cd;
   server_dropped = sd;
   to_client = ap (λ (u : Wired). u.client.wire) e;
+  begins = λ said. subst (λ (u : Wired). BeginsNow w u) (sym e) (record { client_clock = refl; server_clock = refl; client_moment = cm; server_moment = sm });
   opens = λ said n t. subst (λ (u : Wired). Follows limit capacity n (Opens ∷ []) u) (sym e) (law.opened limit capacity w n c s t ce co ch cb se sh sb);
   refused = λ said. absurd (true_not o.refused said fine);
 }
 
 pub refused_open : OverBytes → (limit capacity : ℕ) (w v : Wired) (o : Opening) (c s : EndState)
     → o.client_dropped ≡ is_live w.client.state.end.state → o.server_dropped ≡ is_live w.server.state.end.state → o.refused ≡ true
-    → c.end ≡ over w.client.state.end → SameBounds w.client.state c → s.end ≡ over w.server.state.end → SameBounds w.server.state s
+    → c.end ≡ over w.client.state.end → SameBounds w.client.state c → s.end ≡ over w.server.state.end → SameBounds w.server.state s → c.moment ≡ w.client.state.moment → s.moment ≡ w.server.state.moment
     → v ≡ record { client = cut_off c w.client; server = cut_off s w.server } → IsOpened limit capacity o w v
-refused_open law limit capacity w v o c s cd sd failed ce cb se sb e = record {
+refused_open law limit capacity w v o c s cd sd failed ce cb se sb cm sm e = record {
   client_dropped = cd;
   server_dropped = sd;
   to_client = ap (λ (u : Wired). u.client.wire) e;
+  begins = λ said. absurd (true_not o.refused failed said);
   opens = λ said. absurd (true_not o.refused failed said);
-  refused = λ _. (ap (λ (u : Wired). u.server.wire) e, λ n t. subst (λ (u : Wired). Follows limit capacity n (By Client Drops ∷ By Server Drops ∷ []) u) (sym e) (law.drop_both limit capacity w n c s t ce cb se sb));
+  refused = λ _. (
+    ap (λ (u : Wired). u.server.wire) e,
+    subst (λ (u : Wired). SameTimes w u) (sym e) (record { client = record { clock = refl; moment = cm }; server = record { clock = refl; moment = sm } }),
+    λ n t. subst (λ (u : Wired). Follows limit capacity n (By Client Drops ∷ By Server Drops ∷ []) u) (sym e) (law.drop_both limit capacity w n c s t ce cb se sb),
+  );
 }
 
 -- a new world
@@ -263,7 +302,7 @@ stands_delivered law limit capacity side w v m count d s h = live_or_not (is_liv
 
 pub stands_opened : (limit capacity : ℕ) (w v : Wired) (m : Machine) (o : Opening) → Stands limit capacity w m → IsOpened limit capacity o w v → (n : Machine) × Stands limit capacity v n
 stands_opened limit capacity w v m o s h = live_or_not o.refused ((n : Machine) × Stands limit capacity v n)
-    (λ said. stands_moved limit capacity w v m (By Client Drops ∷ By Server Drops ∷ []) s (h.refused said).1)
+    (λ said. stands_moved limit capacity w v m (By Client Drops ∷ By Server Drops ∷ []) s (h.refused said).2)
     (λ said. stands_moved limit capacity w v m (Opens ∷ []) s (h.opens said))
 
 pub stands_done : OverBytes → (limit capacity : ℕ) (event : Event) (answer : Answer) (w v : Wired) (m : Machine) → Stands limit capacity w m → Does limit capacity event answer w v → (n : Machine) × Stands limit capacity v n
@@ -272,22 +311,49 @@ stands_done law limit capacity (events.Publish side message) (answers.Published 
 stands_done law limit capacity (events.Publish side message) (answers.Delivered d) w v m s h = absurd h
 stands_done law limit capacity (events.Publish side message) (answers.Dropped at b) w v m s h = absurd h
 stands_done law limit capacity (events.Publish side message) (answers.Opened o) w v m s h = absurd h
+stands_done law limit capacity (events.Publish side message) (answers.Left o) w v m s h = absurd h
+stands_done law limit capacity (events.Publish side message) (answers.Ticked at o) w v m s h = absurd h
 stands_done law limit capacity (events.Publish side message) (answers.Settled o) w v m s h = absurd h
 stands_done law limit capacity (events.Deliver side count) (answers.Delivered d) w v m s h = stands_delivered law limit capacity side w v m count d s h
 stands_done law limit capacity (events.Deliver side count) (answers.Published at id) w v m s h = absurd h
 stands_done law limit capacity (events.Deliver side count) (answers.Dropped at b) w v m s h = absurd h
 stands_done law limit capacity (events.Deliver side count) (answers.Opened o) w v m s h = absurd h
+stands_done law limit capacity (events.Deliver side count) (answers.Left o) w v m s h = absurd h
+stands_done law limit capacity (events.Deliver side count) (answers.Ticked at o) w v m s h = absurd h
 stands_done law limit capacity (events.Deliver side count) (answers.Settled o) w v m s h = absurd h
 stands_done law limit capacity (events.Drop side) (answers.Dropped at was_open) w v m s h = stands_moved limit capacity w v m (By side Drops ∷ []) s h.1.moves
 stands_done law limit capacity (events.Drop side) (answers.Published at id) w v m s h = absurd h
 stands_done law limit capacity (events.Drop side) (answers.Delivered d) w v m s h = absurd h
 stands_done law limit capacity (events.Drop side) (answers.Opened o) w v m s h = absurd h
+stands_done law limit capacity (events.Drop side) (answers.Left o) w v m s h = absurd h
+stands_done law limit capacity (events.Drop side) (answers.Ticked at o) w v m s h = absurd h
 stands_done law limit capacity (events.Drop side) (answers.Settled o) w v m s h = absurd h
+stands_done law limit capacity events.Leave (answers.Left (Ok done)) w v m s h = stands_moved limit capacity w v m (By Client Leaves ∷ []) s h.moves
+stands_done law limit capacity events.Leave (answers.Left (Err why)) w v m s h = (m, subst (λ (u : Wired). Stands limit capacity u m) (sym h.same) s)
+stands_done law limit capacity events.Leave (answers.Published at id) w v m s h = absurd h
+stands_done law limit capacity events.Leave (answers.Delivered d) w v m s h = absurd h
+stands_done law limit capacity events.Leave (answers.Dropped at b) w v m s h = absurd h
+stands_done law limit capacity events.Leave (answers.Opened o) w v m s h = absurd h
+stands_done law limit capacity events.Leave (answers.Ticked at o) w v m s h = absurd h
+stands_done law limit capacity events.Leave (answers.Settled o) w v m s h = absurd h
 stands_done law limit capacity events.Open (answers.Opened o) w v m s h = stands_opened limit capacity w v m o s h
 stands_done law limit capacity events.Open (answers.Published at id) w v m s h = absurd h
 stands_done law limit capacity events.Open (answers.Delivered d) w v m s h = absurd h
 stands_done law limit capacity events.Open (answers.Dropped at b) w v m s h = absurd h
+stands_done law limit capacity events.Open (answers.Left o) w v m s h = absurd h
+stands_done law limit capacity events.Open (answers.Ticked at o) w v m s h = absurd h
 stands_done law limit capacity events.Open (answers.Settled o) w v m s h = absurd h
+stands_done law limit capacity (events.Tick side more) (answers.Ticked at (Ok closed)) w v m s h = stands_moved limit capacity w v m (time_moves side (later (near side w).clock more) (near side w).state) s h.1.moves
+stands_done law limit capacity (events.Tick side more) (answers.Ticked at (Err why)) w v m s h =
+    let u : Wired = record w { client = record w.client { clock = later w.client.clock more } } in
+    let a : Alike w.client u.client = record { end = refl; bytes = λ live. refl; output = refl; bounds = (refl, refl); accepted = refl; handed = refl; freed = refl } in
+    (m, subst (λ (z : Wired). Stands limit capacity z m) (sym h.1.world) (law.alike limit capacity w u m s a (alike_itself w.server)))
+stands_done law limit capacity (events.Tick side more) (answers.Published at id) w v m s h = absurd h
+stands_done law limit capacity (events.Tick side more) (answers.Delivered d) w v m s h = absurd h
+stands_done law limit capacity (events.Tick side more) (answers.Dropped at b) w v m s h = absurd h
+stands_done law limit capacity (events.Tick side more) (answers.Left o) w v m s h = absurd h
+stands_done law limit capacity (events.Tick side more) (answers.Opened o) w v m s h = absurd h
+stands_done law limit capacity (events.Tick side more) (answers.Settled o) w v m s h = absurd h
 
 -- an event more at the end
 pub leads_more : (limit capacity : ℕ) (es : List Event) (rest : List Answer) (e : Event) (a : Answer) (u v w : Wired) → Leads limit capacity es rest u v → Does limit capacity e a v w → Leads limit capacity (es ++ e ∷ []) (rest ++ a ∷ []) u w

@@ -11,7 +11,9 @@ pub mod Sessions
 pub mod Carried
 pub mod Carries
 pub mod OverBytes
+pub mod Time
 pub mod SettlesOver
 pub mod Listed
 pub mod Pairs
 pub mod World
+pub mod MadeUp

@@ -71,7 +71,7 @@ cut_off new x = record x { state = written new; wire = [] }
 
 -- a side without a session, without a connection and without bytes
 abbrev pub blank_side : EndState → WiredSide
-blank_side new = record { state = written new; wire = []; accepted = blank_half.accepted; handed = blank_half.handed; freed = [] }
+blank_side new = record { state = written new; clock = 0; wire = []; accepted = blank_half.accepted; handed = blank_half.handed; freed = [] }
 
 -- it accepted a message, with this identifier where it has one
 abbrev pub accepting : ℕ → Message → EndState → WiredSide → WiredSide

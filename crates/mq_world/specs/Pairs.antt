@@ -8,6 +8,7 @@ abbrev pub wired_of : Pair → Wired
 wired_of p = record {
   client = record {
     state = p.client.link;
+    clock = p.client_clock;
     wire = p.to_client;
     accepted = accepted_in p.trace.client;
     handed = handed_in p.trace.client;
@@ -15,6 +16,7 @@ wired_of p = record {
   };
   server = record {
     state = p.server;
+    clock = p.server_clock;
     wire = p.to_server;
     accepted = accepted_in p.trace.server;
     handed = handed_in p.trace.server;

@@ -1,12 +1,15 @@
 -- A world: two ends over bytes, what came of each event, and what it leads to.
 use Rattle.std.specs.Prelude.{ℕ, ◌≡◌, ◌≢◌, ◌↔◌, Bool, true, false, not, ◌&&◌, Option, None, Some, Ok, Err, List, [], ◌∷◌, ◌++◌, length, take, drop, nat_lt, All, IsTrue}
 use Rattle.mq_packet.specs.declared.message.Message.{Message}
+use Rattle.mq_end.specs.declared.reason.CloseReason.{CloseReason}
 use Rattle.mq_end.specs.declared.reason.CloseReason.TheVariants as reasons
 use Rattle.mq_end.specs.declared.refusal.PublishRefusal.{PublishRefusal}
 use Rattle.mq_end.specs.declared.refusal.PublishRefusal.TheVariants as refusals
 use Rattle.mq_end.specs.End.{End, is_live}
 use Rattle.mq_end.specs.State.{EndState}
 use Rattle.mq_end.specs.Both.{answered_identifier}
+use Rattle.mq_end.specs.Client.{leave_refusal}
+use Rattle.mq_end.specs.KeepAlive.{pings}
 use Rattle.mq_world.specs.declared.side.Side.{Side}
 use Rattle.mq_world.specs.declared.side.Side.TheVariants.{Client, Server}
 use Rattle.mq_world.specs.declared.event.Event.{Event}
@@ -16,11 +19,12 @@ use Rattle.mq_world.specs.declared.answer.Answer.TheVariants as answers
 use Rattle.mq_world.specs.declared.answer.Delivery.{Delivery}
 use Rattle.mq_world.specs.declared.answer.Opening.{Opening}
 use Rattle.mq_world.specs.declared.answer.Settling.{Settling}
-use Rattle.mq_world.specs.Half.{Publishes, Drops, refusal, freed_with}
+use Rattle.mq_world.specs.Half.{Publishes, Drops, Leaves, refusal, freed_with}
 use Rattle.mq_world.specs.Machine.{Machine, Move, By, Opens, blank_machine}
 use Rattle.mq_world.specs.Carries.{Wired}
 use Rattle.mq_world.specs.OverBytes.{Stands, Follows, Delivers, ReceivesAt, SameBounds, near, far, facing, with_more, hearing, handed_with, left_on}
 use Rattle.mq_world.specs.SettlesOver.{HoldsNothing}
+use Rattle.mq_world.specs.Time.{SameTime, SameTimes, HearsIn, BeginsNow, later, time_closes, time_moves, time_moment}
 
 -- What contracts see of a world: its sides, the bound on the remaining length (2.2.3), the most packet identifiers in use at a side
 -- (2.3.1), whether memory ran out, and what came of the events so far, the oldest first.
@@ -34,6 +38,8 @@ pub record WorldState : Type 0 where
 -- a new world: no session, no connection, no byte on its way, nothing accepted or handed on
 pub record IsNew (limit capacity : ℕ) (w : Wired) : Type 0 where
   pub stands : Stands limit capacity w blank_machine
+  pub client_clock : w.client.clock ≡ 0
+  pub server_clock : w.server.clock ≡ 0
   pub to_client : w.client.wire ≡ []
   pub to_server : w.server.wire ≡ []
 
@@ -47,6 +53,7 @@ Moves limit capacity old moves new = (m : Machine) → Stands limit capacity old
 pub record IsAccepted (limit capacity : ℕ) (side : Side) (m : Message) (answer : Option ℕ) (old new : Wired) : Type 0 where
   pub id : ℕ
   pub answered : answer ≡ answered_identifier m.qos id
+  pub times : SameTimes old new
   pub moves : Moves limit capacity old (By side (Publishes id m) ∷ []) new
 
 -- the first reason that stands against a message, else that memory ran out
@@ -65,6 +72,8 @@ pub record Hears (side : Side) (left : List ℕ) (d : Delivery) (old new : Wired
   pub receives : ReceivesAt side d.bytes (near side old).state state d.progress.happenings d.progress.acknowledged d.progress.closed
   pub bounds : SameBounds (near side old).state state
   pub world : new ≡ facing side (hearing left state d.progress.happenings d.progress.acknowledged d.progress.closed (near side old)) (with_more state.output (far side old))
+  -- the server's keep-alive counts from now where a whole packet came (3.1.2.10)
+  pub heard : HearsIn side ((near side old).state.held ++ d.bytes) d.progress.closed (near side old) (near side new)
 
 -- The end of a side without a connection lets the bytes go.
 pub record Ignores (side : Side) (left : List ℕ) (d : Delivery) (old new : Wired) : Type 0 where
@@ -93,6 +102,7 @@ pub record IsDelivered (limit capacity : ℕ) (side : Side) (count : ℕ) (d : D
 pub record IsLost (limit capacity : ℕ) (side : Side) (was_open : Bool) (old new : Wired) : Type 0 where
   pub said : was_open ≡ is_live (near side old).state.end.state
   pub wire : (near side new).wire ≡ []
+  pub times : SameTimes old new
   pub moves : Moves limit capacity old (By side Drops ∷ []) new
 
 -- A connection is opened (3.1), earlier ones are lost; where memory runs out for CONNECT, both ends are closed.
@@ -100,8 +110,37 @@ pub record IsOpened (limit capacity : ℕ) (o : Opening) (old new : Wired) : Typ
   pub client_dropped : o.client_dropped ≡ is_live old.client.state.end.state
   pub server_dropped : o.server_dropped ≡ is_live old.server.state.end.state
   pub to_client : new.client.wire ≡ []
+  pub begins : o.refused ≡ false → BeginsNow old new
   pub opens : o.refused ≡ false → Moves limit capacity old (Opens ∷ []) new
-  pub refused : o.refused ≡ true → (new.server.wire ≡ []) × Moves limit capacity old (By Client Drops ∷ By Server Drops ∷ []) new
+  pub refused : o.refused ≡ true → (new.server.wire ≡ []) × SameTimes old new × Moves limit capacity old (By Client Drops ∷ By Server Drops ∷ []) new
+
+-- The user of the client leaves: DISCONNECT goes on its way, and what was on its way to the client is lost (3.14, 4.2).
+pub record IsLeft (limit capacity : ℕ) (old new : Wired) : Type 0 where
+  pub allowed : leave_refusal old.client.state.end ≡ None
+  pub wire : new.client.wire ≡ []
+  pub times : SameTimes old new
+  pub moves : Moves limit capacity old (By Client Leaves ∷ []) new
+
+-- It can't leave, and nothing changes.
+pub record IsNotLeft (why : PublishRefusal) (old new : Wired) : Type 0 where
+  pub reason : why ≡ reason_or_memory (leave_refusal old.client.state.end)
+  pub same : new ≡ old
+
+-- The clock of a side goes on, and its end is told the time: it closes, or puts out PINGREQ, or does nothing (3.1.2.10).
+pub record IsTold (limit capacity : ℕ) (side : Side) (more : ℕ) (closed : Option CloseReason) (old new : Wired) : Type 0 where
+  pub clock : (near side new).clock ≡ later (near side old).clock more
+  pub closes : closed ≡ time_closes side (later (near side old).clock more) (near side old).state
+  pub moment : (near side new).state.moment ≡ time_moment side (later (near side old).clock more) (near side old).state
+  pub other : SameTime (far side old) (far side new)
+  pub left : (near side new).wire ≡ left_on closed (near side old).wire
+  pub moves : Moves limit capacity old (time_moves side (later (near side old).clock more) (near side old).state) new
+
+-- The clock of the client goes on, but memory runs out for the PINGREQ that is due (3.12).
+pub record IsNotTold (side : Side) (more : ℕ) (why : PublishRefusal) (old new : Wired) : Type 0 where
+  pub client : side ≡ Client
+  pub reason : why ≡ refusals.Memory
+  pub due : pings old.client.state.moment (later old.client.clock more) old.client.state.end ≡ true
+  pub world : new ≡ record old { client = record old.client { clock = later old.client.clock more } }
 
 -- What comes of an event, by the event and its answer.
 abbrev pub Does : ℕ → ℕ → Event → Answer → Wired → Wired → Type 0
@@ -109,7 +148,11 @@ Does limit capacity (events.Publish side m) (answers.Published at (Ok id)) old n
 Does limit capacity (events.Publish side m) (answers.Published at (Err why)) old new = (at ≡ side) × IsRefused limit capacity side m why old new
 Does limit capacity (events.Deliver side count) (answers.Delivered d) old new = IsDelivered limit capacity side count d old new
 Does limit capacity (events.Drop side) (answers.Dropped at was_open) old new = (at ≡ side) × IsLost limit capacity side was_open old new
+Does limit capacity events.Leave (answers.Left (Ok done)) old new = IsLeft limit capacity old new
+Does limit capacity events.Leave (answers.Left (Err why)) old new = IsNotLeft why old new
 Does limit capacity events.Open (answers.Opened o) old new = IsOpened limit capacity o old new
+Does limit capacity (events.Tick side more) (answers.Ticked at (Ok closed)) old new = (at ≡ side) × IsTold limit capacity side more closed old new
+Does limit capacity (events.Tick side more) (answers.Ticked at (Err why)) old new = (at ≡ side) × IsNotTold side more why old new
 Does limit capacity event answer old new = ⊥
 
 -- Events come one after another, each with its answer.

@@ -3,7 +3,7 @@
 ghost use Rattle.std.specs.Prelude.{◌≡◌};
 
 use crate::side::Side;
-use mq_end::{Items, Progress, PublishRefusal};
+use mq_end::{CloseReason, Items, Progress, PublishRefusal};
 use mq_packet::PacketId;
 use std::alloc::AllocError;
 
@@ -51,8 +51,12 @@ pub enum Answer {
     Delivered(Delivery),
     /// The connection of a side is lost, where it was open.
     Dropped(Side, bool),
+    /// The client left, or it could not.
+    Left(Result<(), PublishRefusal>),
     /// A connection was opened.
     Opened(Opening),
+    /// A side was told the time, and why it closed, where it did; or memory ran out for what it had to put out.
+    Ticked(Side, Result<Option<CloseReason>, PublishRefusal>),
     /// A connection was opened, and all that was on its way came, three times.
     Settled(Settling),
 }
@@ -93,7 +97,9 @@ impl Clone for Answer {
             Answer::Published(side, outcome) => Answer::Published(*side, *outcome),
             Answer::Delivered(delivery) => Answer::Delivered(delivery.clone()?),
             Answer::Dropped(side, was_open) => Answer::Dropped(*side, *was_open),
+            Answer::Left(outcome) => Answer::Left(*outcome),
             Answer::Opened(opening) => Answer::Opened(*opening),
+            Answer::Ticked(side, outcome) => Answer::Ticked(*side, *outcome),
             Answer::Settled(settling) => Answer::Settled(settling.clone()?),
         })
     }

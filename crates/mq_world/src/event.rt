@@ -13,6 +13,10 @@ pub enum Event {
     Deliver(Side, usize),
     /// The connection of a side is lost, and what is on its way to it (4.2).
     Drop(Side),
+    /// The user of the client leaves: DISCONNECT, and the client closes (3.14).
+    Leave,
     /// The client opens a new connection (3.1); earlier ones are lost at both sides.
     Open,
+    /// The clock of a side goes on by so many milliseconds, and its end is told the time (3.1.2.10).
+    Tick(Side, u64),
 }

@@ -8,6 +8,7 @@ mod account;
 mod answer;
 mod event;
 mod laws;
+mod making;
 mod pair;
 mod side;
 #[cfg(test)]
@@ -22,6 +23,7 @@ pub use crate::laws::{
     arrivals_at_once, carried, examples, headline, identifiers, over_bytes, runs, sessions,
     settles_over_bytes, settling,
 };
+pub use crate::making::made_up;
 pub use crate::side::Side;
 pub use crate::trace::Trace;
 pub use crate::world::World;

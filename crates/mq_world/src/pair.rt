@@ -14,7 +14,7 @@ use crate::event::Event;
 use crate::laws::{over_bytes, settles_over_bytes};
 use crate::side::Side;
 use crate::trace::Trace;
-use mq_end::{ByteQueue, ClientEnd, CloseReason, Items, ServerEnd, State};
+use mq_end::{ByteQueue, ClientEnd, CloseReason, Items, PublishRefusal, ServerEnd, State};
 use mq_packet::Message;
 use std::alloc::{AllocError, Global};
 
@@ -34,6 +34,8 @@ pub(crate) struct Pair {
     pub(crate) alloc: Global,
     pub(crate) client: ClientEnd,
     pub(crate) server: ServerEnd,
+    pub(crate) client_clock: u64,
+    pub(crate) server_clock: u64,
     pub(crate) to_client: ByteQueue,
     pub(crate) to_server: ByteQueue,
     pub(crate) trace: Trace,
@@ -88,7 +90,7 @@ impl Pair {
         over_bytes();
         let live = is_live(self.client.state());
         let bytes = take_first(self.alloc, &mut self.to_client, count)?;
-        let progress = self.client.receive(0, bytes.as_slice());
+        let progress = self.client.receive(self.client_clock, bytes.as_slice());
         cut_off(&mut self.to_client, progress.closed);
         let output = self.client.take_all_output();
         carry(&mut self.to_server, output)?;
@@ -112,7 +114,7 @@ impl Pair {
         over_bytes();
         let live = is_live(self.server.state());
         let bytes = take_first(self.alloc, &mut self.to_server, count)?;
-        let progress = self.server.receive(0, bytes.as_slice());
+        let progress = self.server.receive(self.server_clock, bytes.as_slice());
         cut_off(&mut self.to_server, progress.closed);
         let output = self.server.take_all_output();
         carry(&mut self.to_client, output)?;
@@ -182,6 +184,54 @@ impl Pair {
         }
     }
 
+    // The user of the client leaves.
+    fn leave(&mut self) -> Result<Answer, AllocError>
+        ensures does { IfOk result (λ answer. (limit capacity : ℕ) (m : Machine) → Stands limit capacity (wired_of self.old) m
+            → Does limit capacity Event.Leave answer (wired_of self.old) (wired_of self.new)) }
+        ensures config { self.new.client.config ≡ self.old.client.config }
+        ensures answers { self.new.trace.answers ≡ self.old.trace.answers }
+    {
+        over_bytes();
+        if let Err(why) = self.client.disconnect() {
+            return Ok(Answer::Left(Err(why)));
+        }
+        cut_off(&mut self.to_client, Some(CloseReason::Left));
+        let output = self.client.take_all_output();
+        carry(&mut self.to_server, output)?;
+        Ok(Answer::Left(Ok(())))
+    }
+
+    // The clock of the client goes on.
+    fn tick_client(&mut self, more: u64) -> Result<Answer, AllocError>
+        ensures does { IfOk result (λ answer. (limit capacity : ℕ) (m : Machine) → Stands limit capacity (wired_of self.old) m
+            → Does limit capacity (Event.Tick Side.Client more) answer (wired_of self.old) (wired_of self.new)) }
+        ensures config { self.new.client.config ≡ self.old.client.config }
+        ensures answers { self.new.trace.answers ≡ self.old.trace.answers }
+    {
+        over_bytes();
+        self.client_clock = self.client_clock.saturating_add(more);
+        let Ok(closed) = self.client.tick(self.client_clock) else {
+            return Ok(Answer::Ticked(Side::Client, Err(PublishRefusal::Memory)));
+        };
+        let output = self.client.take_all_output();
+        carry(&mut self.to_server, output)?;
+        Ok(Answer::Ticked(Side::Client, Ok(closed)))
+    }
+
+    // The clock of the server goes on.
+    fn tick_server(&mut self, more: u64) -> Answer
+        ensures does { (limit capacity : ℕ) (m : Machine) → Stands limit capacity (wired_of self.old) m
+            → Does limit capacity (Event.Tick Side.Server more) result (wired_of self.old) (wired_of self.new) }
+        ensures config { self.new.client.config ≡ self.old.client.config }
+        ensures answers { self.new.trace.answers ≡ self.old.trace.answers }
+    {
+        over_bytes();
+        self.server_clock = self.server_clock.saturating_add(more);
+        let closed = self.server.tick(self.server_clock);
+        cut_off(&mut self.to_server, closed);
+        Answer::Ticked(Side::Server, Ok(closed))
+    }
+
     // The client opens a new connection.
     fn open(&mut self) -> Opening
         requires config { connect_of self.old.client.config false ≡ first_packet }
@@ -194,7 +244,7 @@ impl Pair {
         let client_dropped = is_live(self.client.state());
         let server_dropped = is_live(self.server.state());
         self.to_client.clear();
-        if self.client.connect(0, false).is_err() {
+        if self.client.connect(self.client_clock, false).is_err() {
             self.client.dropped();
             self.server.dropped();
             self.to_server.clear();
@@ -204,7 +254,7 @@ impl Pair {
                 refused: true,
             };
         }
-        self.server.opened(0);
+        self.server.opened(self.server_clock);
         self.to_server = self.client.take_all_output();
         Opening {
             client_dropped,
@@ -226,7 +276,10 @@ impl Pair {
             Event::Publish(Side::Server, message) => self.publish_at_server(message),
             Event::Deliver(side, count) => Ok(Answer::Delivered(self.deliver(*side, *count)?)),
             Event::Drop(side) => Ok(self.lose(*side)),
+            Event::Leave => self.leave(),
             Event::Open => Ok(Answer::Opened(self.open())),
+            Event::Tick(Side::Client, more) => self.tick_client(*more),
+            Event::Tick(Side::Server, more) => Ok(self.tick_server(*more)),
         }
     }
 

@@ -1,6 +1,9 @@
 mod ask;
 mod brief;
+mod clocks;
+mod leaving;
 mod loss;
+mod making;
 mod publish;
 mod run;
 
@@ -24,6 +27,10 @@ enum Step {
     Deliver(Side, usize),
     // The connection of a side is lost.
     Lose(Side),
+    // The user of the client leaves.
+    Leave,
+    // The clock of a side goes on by so many milliseconds.
+    Tick(Side, u64),
     // A side publishes a message to this topic.
     Publish(Side, Qos, &'static str, &'static [u8]),
 }
@@ -57,6 +64,8 @@ fn event_of(alloc: Global, step: Step) -> Result<Event, Fail> {
         Step::Open => Event::Open,
         Step::Deliver(side, count) => Event::Deliver(side, count),
         Step::Lose(side) => Event::Drop(side),
+        Step::Leave => Event::Leave,
+        Step::Tick(side, more) => Event::Tick(side, more),
         Step::Publish(side, qos, topic, payload) => {
             Event::Publish(side, message(alloc, qos, topic, payload)?)
         }

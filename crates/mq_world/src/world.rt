@@ -94,6 +94,8 @@ impl World {
             alloc,
             client: ClientEnd::new(alloc, config),
             server: ServerEnd::new(alloc, ServerConfig { limits, capacity }),
+            client_clock: 0,
+            server_clock: 0,
             to_client: ByteQueue::new(alloc),
             to_server: ByteQueue::new(alloc),
             trace,

@@ -25,6 +25,7 @@ fn add_happening(text: &mut String, happening: &Happening) -> Result<(), AllocEr
     match happening {
         Happening::Up { session_present } => write!(text, ", up {session_present}"),
         Happening::Handed(message) => add_message(text, message),
+        Happening::Pong => text.push_str(", pong"),
         _ => text.push_str(", other"),
     }
 }
@@ -94,7 +95,12 @@ pub(crate) fn told(alloc: Global, answer: &Answer) -> Result<String, AllocError>
         Answer::Published(_, Err(why)) => write!(text, "refused {why:?}")?,
         Answer::Delivered(delivery) => add_delivery(&mut text, delivery)?,
         Answer::Dropped(_, was_open) => write!(text, "dropped {was_open}")?,
+        Answer::Left(Ok(())) => text.push_str("left")?,
+        Answer::Left(Err(why)) => write!(text, "refused {why:?}")?,
         Answer::Opened(opening) => add_opening(&mut text, *opening)?,
+        Answer::Ticked(_, Ok(Some(closed))) => write!(text, "ticked, closed {closed:?}")?,
+        Answer::Ticked(_, Ok(None)) => text.push_str("ticked")?,
+        Answer::Ticked(_, Err(why)) => write!(text, "refused {why:?}")?,
         Answer::Settled(settling) => add_settling(&mut text, settling)?,
     }
     Ok(text)

@@ -1,6 +1,6 @@
 use crate::Side::{Client, Server};
-use crate::tests::Act::Look;
-use crate::tests::Step::{Deliver, Lose, Open, Publish};
+use crate::tests::Act::{Look, Settle};
+use crate::tests::Step::{Deliver, Leave, Lose, Open, Publish, Tick};
 use crate::tests::ask::Ask::{Answer, Counts, HasFailed, HasSession, Held, Wire};
 use crate::tests::{Act, Step, event_of, expect};
 use crate::{Event, World};
@@ -19,6 +19,17 @@ const CUT: [Step; 6] = [
     Publish(Client, Qos::Q2, "t", b"x"),
     Deliver(Server, 7),
     Lose(Client),
+];
+
+// A connection comes up, the client publishes, asks and leaves, and before any of it comes to the server, that is late.
+const LATE: [Step; 7] = [
+    Open,
+    Deliver(Server, 15),
+    Deliver(Client, 4),
+    Publish(Client, Qos::Q2, "t", b"x"),
+    Tick(Client, 60_000),
+    Leave,
+    Tick(Server, 90_001),
 ];
 
 fn events_of(alloc: Global, steps: &[Step]) -> Result<Vec<Event>, Fail> {
@@ -73,4 +84,20 @@ fn a_run_counts(rt: HostRuntime) -> Result<(), Fail> {
         (Look(Wire(Server)), "78"),
     ];
     expect_of_run(&rt, rt.alloc(), &CUT, &rows)
+}
+
+#[test]
+fn a_run_settles_after_leaving(rt: HostRuntime) -> Result<(), Fail> {
+    let rows = [
+        (Look(Answer(4)), "ticked"),
+        (Look(Answer(5)), "left"),
+        (Look(Answer(6)), "ticked, closed KeepAlive"),
+        (Look(Wire(Server)), ""),
+        (
+            Settle,
+            "opened; 100d00044d5154540400003c000177, up true; 20020100, up true; \
+             3c06000174000178, handed t 2 78; 50020001; 62020001; 70020001; idle true",
+        ),
+    ];
+    expect_of_run(&rt, rt.alloc(), &LATE, &rows)
 }
