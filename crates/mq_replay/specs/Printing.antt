@@ -1,5 +1,5 @@
 -- What is printed of the answers of a world: lines, each with its end.
-use Rattle.std.specs.Prelude.{ℕ, Bool, true, false, Option, None, Some, Result, Ok, Err, List, [], ◌++◌, codes, decimal}
+use Rattle.std.specs.Prelude.{⊤, ℕ, Bool, true, false, Option, None, Some, Result, Ok, Err, List, [], ◌++◌, codes, decimal}
 use Rattle.std.specs.List.{flat_map}
 use Rattle.mq_topic.specs.Qos.{qos_number}
 use Rattle.mq_packet.specs.declared.message.Message.{Message}
@@ -73,6 +73,16 @@ abbrev pub dropped_line : Side → Bool → List ℕ
 dropped_line side false = []
 dropped_line side true = line_of side (codes "dropped")
 
+-- the client left, or it could not
+abbrev pub left_line : Result ⊤ PublishRefusal → List ℕ
+left_line (Ok done) = closed_line Client (Some closes.Left)
+left_line (Err why) = line_of Client (codes "refused " ++ refusal_code why)
+
+-- a side was told the time: why it closed, where it did, or that it had no memory
+abbrev pub ticked_line : Side → Result (Option CloseReason) PublishRefusal → List ℕ
+ticked_line side (Ok closed) = closed_line side closed
+ticked_line side (Err why) = line_of side (codes "refused " ++ refusal_code why)
+
 -- ---- deliveries, openings, settling
 
 abbrev pub lost_line : Bool → List ℕ
@@ -107,5 +117,7 @@ abbrev pub answer_lines : Answer → List ℕ
 answer_lines (answers.Published side outcome) = published_line side outcome
 answer_lines (answers.Delivered d) = delivery_lines d
 answer_lines (answers.Dropped side was_open) = dropped_line side was_open
+answer_lines (answers.Left outcome) = left_line outcome
 answer_lines (answers.Opened o) = opening_lines o
+answer_lines (answers.Ticked side outcome) = ticked_line side outcome
 answer_lines (answers.Settled s) = settling_lines s

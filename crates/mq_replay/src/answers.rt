@@ -3,11 +3,12 @@
 ghost use Rattle.std.specs.Prelude.{◌++◌, OnOk};
 ghost use Rattle.std.specs.List.{flat_map};
 ghost use Rattle.std.specs.Io.KnownBytes.{Appends};
-ghost use Rattle.mq_replay.specs.Printing.{answer_lines, bytes_line, closed_line, delivery_lines, dropped_line, happening_line, idle_line, lost_line, opening_lines, published_line, refused_line, settling_lines};
+ghost use Rattle.mq_replay.specs.Printing.{answer_lines, bytes_line, closed_line, delivery_lines, dropped_line, happening_line, idle_line, left_line, lost_line, opening_lines, published_line, refused_line, settling_lines, ticked_line};
 
-use crate::words::{BytesWord, HandedText, IdWord, SideWord, close_code, refusal_code};
+use crate::words::{HandedText, IdWord, close_code, refusal_code};
 use mq_end::{CloseReason, Happening, PublishRefusal};
 use mq_packet::PacketId;
+use mq_schedule::{BytesWord, SideWord};
 use mq_world::{Answer, Delivery, Opening, Settling, Side};
 use std::io;
 use std::io::Write;
@@ -148,6 +149,33 @@ fn write_opening<W: Write>(output: &mut W, opening: Opening) -> io::Result<()>
     write_refused(output, opening.refused)
 }
 
+// That the client left, or why it could not.
+fn write_left<W: Write>(output: &mut W, outcome: Result<(), PublishRefusal>) -> io::Result<()>
+    ensures { OnOk result
+        (Appends (W.contents output.old) (W.contents output.new) (left_line outcome)) }
+{
+    let client = SideWord(Side::Client);
+    match outcome {
+        Ok(()) => write_closed(output, Side::Client, Some(CloseReason::Left)),
+        Err(why) => writeln!(output, "{client} refused {}", refusal_code(why)),
+    }
+}
+
+// Why a side closed its connection when it was told the time, where it did; or that memory ran out.
+fn write_ticked<W: Write>(
+    output: &mut W,
+    side: Side,
+    outcome: Result<Option<CloseReason>, PublishRefusal>,
+) -> io::Result<()>
+    ensures { OnOk result
+        (Appends (W.contents output.old) (W.contents output.new) (ticked_line side outcome)) }
+{
+    match outcome {
+        Ok(closed) => write_closed(output, side, closed),
+        Err(why) => writeln!(output, "{} refused {}", SideWord(side), refusal_code(why)),
+    }
+}
+
 // Whether nothing waits any more.
 fn write_idle<W: Write>(output: &mut W, idle: bool) -> io::Result<()>
     ensures { OnOk result
@@ -178,7 +206,9 @@ pub(crate) fn write_answer<W: Write>(output: &mut W, answer: &Answer) -> io::Res
         Answer::Published(side, outcome) => write_published(output, *side, *outcome),
         Answer::Delivered(delivery) => write_delivery(output, delivery),
         Answer::Dropped(side, was_open) => write_dropped(output, *side, *was_open),
+        Answer::Left(outcome) => write_left(output, *outcome),
         Answer::Opened(opening) => write_opening(output, *opening),
+        Answer::Ticked(side, outcome) => write_ticked(output, *side, *outcome),
         Answer::Settled(settling) => write_settling(output, settling),
     }
 }

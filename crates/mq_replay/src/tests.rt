@@ -30,6 +30,10 @@ fn lose(side: Side) -> Step {
     Step::Event(Event::Drop(side))
 }
 
+fn tick(side: Side, more: u64) -> Step {
+    Step::Event(Event::Tick(side, more))
+}
+
 fn open() -> Step {
     Step::Event(Event::Open)
 }
@@ -282,6 +286,89 @@ fn bytes_that_are_lost(rt: HostRuntime) -> Result<(), Fail> {
     let alloc = rt.alloc();
     let output = printed(alloc, &lost(alloc)?)?;
     assert_eq!(rt; output.as_slice(), LOST.as_bytes());
+    Ok(())
+}
+
+// A client is due after 60 seconds without a packet, and a server waits 90 for one; the server does not close at 90 seconds, but
+// after them (3.1.2.10).
+fn ticked(alloc: Global) -> Result<Schedule, Fail> {
+    let steps = vec![in alloc;
+        open(),
+        deliver(Side::Server, 15),
+        deliver(Side::Client, 4),
+        tick(Side::Client, 60_000),
+        deliver(Side::Server, 2),
+        deliver(Side::Client, 2),
+        tick(Side::Server, 90_000),
+        tick(Side::Server, 1),
+    ]?;
+    schedule(65_536, 4, steps)
+}
+
+const TICKED: &str = "to s 100d00044d5154540400003c000177
+s up 0
+to c 20020000
+c up 0
+to s c000
+to c d000
+c pong
+s closed C5
+c>s qos1 accepted 0 handed 0 held 0
+c>s qos2 accepted 0 handed 0 held 0
+s>c qos1 accepted 0 handed 0 held 0
+s>c qos2 accepted 0 handed 0 held 0
+";
+
+#[test]
+fn ticks(rt: HostRuntime) -> Result<(), Fail> {
+    let alloc = rt.alloc();
+    let output = printed(alloc, &ticked(alloc)?)?;
+    assert_eq!(rt; output.as_slice(), TICKED.as_bytes());
+    Ok(())
+}
+
+// A client leaves with DISCONNECT (3.14), and not before it has a connection; both sides keep their sessions (3.1.2.4).
+fn left(alloc: Global) -> Result<Schedule, Fail> {
+    let steps = vec![in alloc;
+        Step::Event(Event::Leave),
+        open(),
+        deliver(Side::Server, 15),
+        deliver(Side::Client, 4),
+        Step::Event(Event::Leave),
+        deliver(Side::Server, 2),
+        Step::Settle,
+    ]?;
+    schedule(65_536, 4, steps)
+}
+
+const LEFT: &str = "c refused P1
+to s 100d00044d5154540400003c000177
+s up 0
+to c 20020000
+c up 0
+c closed C7
+to s e000
+s closed C7
+to s 100d00044d5154540400003c000177
+s up 1
+to c 20020100
+c up 1
+to s -
+to c -
+to s -
+to c -
+idle yes
+c>s qos1 accepted 0 handed 0 held 0
+c>s qos2 accepted 0 handed 0 held 0
+s>c qos1 accepted 0 handed 0 held 0
+s>c qos2 accepted 0 handed 0 held 0
+";
+
+#[test]
+fn a_client_that_leaves(rt: HostRuntime) -> Result<(), Fail> {
+    let alloc = rt.alloc();
+    let output = printed(alloc, &left(alloc)?)?;
+    assert_eq!(rt; output.as_slice(), LEFT.as_bytes());
     Ok(())
 }
 

@@ -6,7 +6,7 @@ ghost use Rattle.mq_world.specs.Listed.{accepted_in, handed_in};
 ghost use Rattle.mq_world.specs.OverBytes.{near};
 ghost use Rattle.mq_replay.specs.Replay.{held_count, last_lines, total_line};
 
-use crate::words::SideWord;
+use mq_schedule::SideWord;
 use mq_topic::Qos;
 use mq_world::{Account, Side, World};
 use std::io;

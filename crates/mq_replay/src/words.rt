@@ -1,44 +1,13 @@
 //! Words of lines.
 
 ghost use Rattle.std.specs.Prelude.{◌≡◌, Some};
-ghost use Rattle.mq_schedule.specs.Schedule.{bytes_word, side_word};
 ghost use Rattle.mq_replay.specs.Printing.{close_code, handed_text, id_word, refusal_code};
 
 use mq_end::{CloseReason, PublishRefusal};
-use mq_line::{Escaped, Hex};
+use mq_line::Escaped;
 use mq_packet::{Message, PacketId};
-use mq_world::Side;
+use mq_schedule::BytesWord;
 use std::fmt;
-
-/// A side: `c` is the client, `s` the server.
-#[derive(Clone, Copy)]
-pub(crate) struct SideWord(pub(crate) Side);
-
-impl fmt::Display for SideWord {
-    ghost output = { λ word. Some (side_word word.0) };
-
-    fn fmt<W: fmt::Write>(&self, f: &mut fmt::Formatter<W>) -> fmt::Result {
-        match self.0 {
-            Side::Client => f.write_str("c"),
-            Side::Server => f.write_str("s"),
-        }
-    }
-}
-
-/// Bytes: two hexadecimal digits each, or `-` where there are none.
-#[derive(Clone, Copy)]
-pub(crate) struct BytesWord<'a>(pub(crate) &'a [u8]);
-
-impl fmt::Display for BytesWord<'_> {
-    ghost output = { λ word. Some (bytes_word word.0.now) };
-
-    fn fmt<W: fmt::Write>(&self, f: &mut fmt::Formatter<W>) -> fmt::Result {
-        if self.0.is_empty() {
-            return f.write_str("-");
-        }
-        write!(f, "{}", Hex(self.0))
-    }
-}
 
 /// A packet identifier, or `-` where a message has none (2.3.1).
 #[derive(Clone, Copy)]

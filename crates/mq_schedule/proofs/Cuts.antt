@@ -22,7 +22,7 @@ none_is_empty by (Some t) false e = (λ h. absurd (cc h), λ h. absurd (omega (a
 -- ---- the end of a text
 
 -- a line feed at the end goes
-strip_feed : (front : List ℕ) → strip_last 10 (front ++ 10 ∷ []) ≡ front
+pub strip_feed : (front : List ℕ) → strip_last 10 (front ++ 10 ∷ []) ≡ front
 strip_feed front =
     let size : length (front ++ 10 ∷ []) ≡ length front + 1 = length-append front (10 ∷ []) in
     let place : length (front ++ 10 ∷ []) - 1 ≡ length front = omega (arith, size) in

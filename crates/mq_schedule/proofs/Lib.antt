@@ -1,5 +1,6 @@
 pub mod Codes
 pub mod Cuts
+pub mod Laying
 pub mod Octets
 pub mod Reading
 pub mod Values

@@ -1,9 +1,13 @@
 -- Parts of a text, and what is found in them.
-use Rattle.std.specs.Prelude.{◌≡◌, ℕ, ◌+◌, ◌≤◌, Bool, ◌==◌, ◌&&◌, not, nat_le, List, ◌∷◌, ◌++◌, [], length, Option, Some, None, Vec}
+use Rattle.std.specs.Prelude.{◌≡◌, ⊤, ℕ, ◌+◌, ◌^◌, ◌≤◌, ◌<◌, Bool, ◌==◌, ◌&&◌, not, nat_le, List, ◌∷◌, ◌++◌, [], length, Option, Some, None, Vec}
 use Rattle.std.specs.List.{AllZip, slice_split}
 use Rattle.std.specs.Borrow.{Bor}
 use Rattle.std.specs.declared.alloc.Global.{Global}
+use Rattle.hex.specs.Hex.{IsBytes}
+use Rattle.mq_topic.specs.Topic.{IsTopicName}
+use Rattle.mq_world.specs.declared.event.Event.TheVariants as events
 use Rattle.mq_schedule.specs.declared.schedule.Step.{Step}
+use Rattle.mq_schedule.specs.declared.schedule.Step.TheVariants.{Event, Settle}
 use Rattle.mq_schedule.specs.Schedule.{IsNumber, Writes, words_of}
 
 -- the parts of a text between bytes of a kind
@@ -40,6 +44,16 @@ pub record IsCapacity (n : ℕ) (word : List ℕ) : Type 0 where
   pub number : IsNumber n word
   pub least : 1 ≤ n
   pub most : n ≤ 65535
+
+-- what the parts of a step keep to (2.2.3, 4.7)
+abbrev pub KeepsBounds : Step → Type 0
+KeepsBounds (Event (events.Publish side m)) = IsTopicName m.topic × IsBytes m.payload × (length m.payload < 2 ^ 28)
+KeepsBounds (Event (events.Deliver side n)) = n < 2 ^ 64
+KeepsBounds (Event (events.Drop side)) = ⊤
+KeepsBounds (Event events.Leave) = ⊤
+KeepsBounds (Event events.Open) = ⊤
+KeepsBounds (Event (events.Tick side n)) = n < 2 ^ 64
+KeepsBounds Settle = ⊤
 
 -- each line is a step
 abbrev pub AreSteps : List Step → List (List ℕ) → Type 0

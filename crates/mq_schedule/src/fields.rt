@@ -30,7 +30,7 @@ pub(crate) fn side(word: &str) -> Option<Side>
 }
 
 // Decimal digits, without a sign.
-fn number(word: &str) -> Option<u64>
+pub(crate) fn number(word: &str) -> Option<u64>
     ensures { Finds (λ n. IsNumber n word.now) result }
 {
     if word.starts_with('+') {

@@ -1,5 +1,5 @@
 //! Schedules of what happens between two ends, as texts: each is read from its lines, or the first line that is of no kind is
-//! named.
+//! named; and each is written.
 #![tactic(auto)]
 
 mod fields;
@@ -10,6 +10,8 @@ mod steps;
 #[cfg(test)]
 mod tests;
 mod words;
+mod writing;
 
 pub use crate::read::{ScheduleFault, read_schedule};
 pub use crate::schedule::{Schedule, Step};
+pub use crate::writing::{BytesWord, SideWord, write_schedule};

@@ -5,7 +5,7 @@ ghost use Rattle.std.specs.Int.NonZero.{non_zero_u16_get};
 ghost use Rattle.mq_schedule.specs.Schedule.{IsWorldLine, Writes, publish_word, words_of};
 ghost use Rattle.mq_schedule.specs.Parts.{Finds};
 
-use crate::fields::{amount, capacity, limits, payload, qos, side, topic};
+use crate::fields::{amount, capacity, limits, number, payload, qos, side, topic};
 use crate::schedule::Step;
 use crate::words::{Words, first_word};
 use mq_decode::Limits;
@@ -68,6 +68,14 @@ fn loss(words: Words<'_>) -> Option<Step>
     Some(Step::Event(Event::Drop(side(words.one()?)?)))
 }
 
+// The tick of the words after `tick`.
+fn tick(words: Words<'_>) -> Option<Step>
+    ensures { Finds (λ step. Writes step (codes "tick" ∷ words.entry)) result }
+{
+    let (of, more) = words.two()?;
+    Some(Step::Event(Event::Tick(side(of)?, number(more)?)))
+}
+
 // The step of a line.
 pub(crate) fn step(alloc: Global, line: &str) -> Result<Option<Step>, AllocError>
     ensures { IfOk result (Finds (λ step. Writes step (words_of line.now))) }
@@ -78,6 +86,8 @@ pub(crate) fn step(alloc: Global, line: &str) -> Result<Option<Step>, AllocError
         "pubr" => publication(alloc, words, true),
         "to" => Ok(delivery(words)),
         "drop" => Ok(loss(words)),
+        "tick" => Ok(tick(words)),
+        "leave" if words.is_empty() => Ok(Some(Step::Event(Event::Leave))),
         "open" if words.is_empty() => Ok(Some(Step::Event(Event::Open))),
         "settle" if words.is_empty() => Ok(Some(Step::Settle)),
         _ => Ok(None),

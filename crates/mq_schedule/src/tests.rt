@@ -1,4 +1,4 @@
-use crate::{Schedule, ScheduleFault, Step, read_schedule};
+use crate::{Schedule, ScheduleFault, Step, read_schedule, write_schedule};
 use mq_packet::Message;
 use mq_world::{Event, Side};
 use std::alloc::{AllocError, Global};
@@ -33,7 +33,7 @@ static TEXTS: [(&str, usize); 24] = [
 ];
 
 // Lines that are steps.
-static GOOD: [&str; 16] = [
+static GOOD: [&str; 21] = [
     "pub c 2 t 78",
     "pub s 0 t -",
     "pubr s 0 a/%25%20b -",
@@ -48,12 +48,17 @@ static GOOD: [&str; 16] = [
     "to s 18446744073709551615",
     "drop c",
     "drop s",
+    "tick c 0",
+    "tick s 060000",
+    "tick s 90000",
+    "tick c 18446744073709551615",
+    "leave",
     "open",
     "settle",
 ];
 
 // Lines that are none.
-static BAD: [&str; 46] = [
+static BAD: [&str; 61] = [
     "",
     " ",
     "open ",
@@ -77,6 +82,21 @@ static BAD: [&str; 46] = [
     "to s ALL",
     "to s  7",
     "to s 18446744073709551616",
+    "leave c",
+    "leave ",
+    "Leave",
+    "tick",
+    "tick c",
+    "tick c ",
+    "tick c -1",
+    "tick c +1",
+    "tick c all",
+    "tick c 18446744073709551616",
+    "tick x 1",
+    "tick c 1 ",
+    "tick c 1 1",
+    "tick  c 1",
+    "tick 1 c",
     "pub",
     "pub c 3 t 78",
     "pub c +1 t 78",
@@ -162,6 +182,8 @@ fn shown_step(alloc: Global, step: &Step) -> Result<String, AllocError> {
             format!(in alloc; "deliver {side:?} {count}\n")
         }
         Step::Event(Event::Drop(side)) => format!(in alloc; "drop {side:?}\n"),
+        Step::Event(Event::Leave) => format!(in alloc; "leave\n"),
+        Step::Event(Event::Tick(side, more)) => format!(in alloc; "tick {side:?} {more}\n"),
         Step::Event(Event::Open) => format!(in alloc; "open\n"),
         Step::Settle => format!(in alloc; "settle\n"),
     }
@@ -182,12 +204,58 @@ fn shown(alloc: Global, schedule: &Schedule) -> Result<String, AllocError> {
 fn reads_what_is_written(rt: HostRuntime) -> Result<(), Fail> {
     let alloc = rt.alloc();
     let text = "world 65536 4\npub c 2 t 78\npubr s 0 a/%25%20b -\npub s 1 %c3%a9 00ff\nto s 7\n\
-                to c all\ndrop c\nopen\nsettle";
+                to c all\ndrop c\nleave\ntick s 090000\nopen\nsettle";
     let schedule = read_schedule(alloc, text).map_err(|_| "no schedule")?;
     let want = "65536 4\npublish Client \"t\" [120] 2 false\npublish Server \"a/% b\" [] 0 true\n\
                 publish Server \"é\" [0, 255] 1 false\ndeliver Server 7\n\
-                deliver Client 18446744073709551615\ndrop Client\nopen\nsettle\n";
+                deliver Client 18446744073709551615\ndrop Client\nleave\ntick Server 90000\nopen\nsettle\n";
     assert_eq!(rt; shown(alloc, &schedule)?.as_str(), want);
+    Ok(())
+}
+
+// Schedules, and how they are written.
+static WRITTEN: [(&str, &str); 9] = [
+    ("world 64 1", "world 64 1\n"),
+    ("world 0065536 04\n", "world 65536 4\n"),
+    (
+        "world 268435455 65535\nopen\nsettle\nleave",
+        "world 268435455 65535\nopen\nsettle\nleave\n",
+    ),
+    (
+        "world 64 1\npub c 02 t 78\npubr s 0 a/%25%20b -\n",
+        "world 64 1\npub c 2 t 78\npubr s 0 a/%25%20b -\n",
+    ),
+    (
+        "world 64 1\npubr c 1 %c3%a9 00ff",
+        "world 64 1\npubr c 1 %c3%a9 00ff\n",
+    ),
+    (
+        "world 64 1\nto s 007\nto c all",
+        "world 64 1\nto s 7\nto c 18446744073709551615\n",
+    ),
+    ("world 64 1\ndrop c\ndrop s", "world 64 1\ndrop c\ndrop s\n"),
+    (
+        "world 64 1\ntick c 060000\ntick s 0",
+        "world 64 1\ntick c 60000\ntick s 0\n",
+    ),
+    ("world 64 1\ntick s", "no schedule"),
+];
+
+// How the schedule of a text is written.
+fn rewritten(alloc: Global, text: &str) -> Result<String, AllocError> {
+    match read_schedule(alloc, text) {
+        Ok(schedule) => write_schedule(alloc, &schedule),
+        Err(_) => format!(in alloc; "no schedule"),
+    }
+}
+
+#[test]
+fn writes_schedules(rt: HostRuntime) -> Result<(), Fail> {
+    let alloc = rt.alloc();
+    for (text, written) in WRITTEN {
+        assert_eq!(rt; rewritten(alloc, text)?.as_str(), written);
+        assert_eq!(rt; rewritten(alloc, written)?.as_str(), written);
+    }
     Ok(())
 }
 

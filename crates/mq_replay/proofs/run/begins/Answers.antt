@@ -11,5 +11,5 @@ returns c =
     let n = c.args.capacity in
     let e : EndState = record { end = blank_end; capacity = n; limit = l; held = []; output = []; moment = 0 } in (
       record { client = blank_side e; server = blank_side e },
-      record { stands = c.over_bytes.ensures.blank l n e e c.max_packet-least.ensures.least refl refl refl refl refl refl; to_client = refl; to_server = refl },
+      record { stands = c.over_bytes.ensures.blank l n e e c.max_packet-least.ensures.least refl refl refl refl refl refl; client_clock = refl; server_clock = refl; to_client = refl; to_server = refl },
     )

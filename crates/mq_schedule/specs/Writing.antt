@@ -1,0 +1,36 @@
+-- Schedules as they are put out: of the ways to write each step one, and each line with its end.
+use Rattle.std.specs.Prelude.{ℕ, List, [], ◌∷◌, ◌++◌, codes, decimal}
+use Rattle.std.specs.List.{flat_map}
+use Rattle.std.specs.Int.NonZero.{non_zero_u16_get}
+use Rattle.mq_topic.specs.Qos.{qos_number}
+use Rattle.mq_world.specs.declared.event.Event.TheVariants as events
+use Rattle.mq_line.specs.Lines.{escaped}
+use Rattle.mq_schedule.specs.declared.schedule.Step.{Step}
+use Rattle.mq_schedule.specs.declared.schedule.Step.TheVariants.{Event, Settle}
+use Rattle.mq_schedule.specs.declared.schedule.Schedule.{Schedule}
+use Rattle.mq_schedule.specs.Schedule.{bytes_word, publish_word, side_word}
+
+-- words, one space between each two, and the end of the line
+abbrev pub line_with : List (List ℕ) → List ℕ
+line_with [] = codes "\n"
+line_with (word ∷ []) = word ++ codes "\n"
+line_with (word ∷ next ∷ words) = word ++ (codes " " ++ line_with (next ∷ words))
+
+abbrev pub world_words : Schedule → List (List ℕ)
+world_words s = codes "world" ∷ decimal s.limits ∷ decimal (non_zero_u16_get s.capacity) ∷ []
+
+-- numbers have no zeros in front, and a delivery always has one
+abbrev pub step_words : Step → List (List ℕ)
+step_words (Event (events.Publish side m)) = publish_word m.retain ∷ side_word side ∷ decimal (qos_number m.qos) ∷ escaped m.topic ∷ bytes_word m.payload ∷ []
+step_words (Event (events.Deliver side n)) = codes "to" ∷ side_word side ∷ decimal n ∷ []
+step_words (Event (events.Drop side)) = codes "drop" ∷ side_word side ∷ []
+step_words (Event events.Leave) = codes "leave" ∷ []
+step_words (Event events.Open) = codes "open" ∷ []
+step_words (Event (events.Tick side n)) = codes "tick" ∷ side_word side ∷ decimal n ∷ []
+step_words Settle = codes "settle" ∷ []
+
+abbrev pub step_line : Step → List ℕ
+step_line step = line_with (step_words step)
+
+abbrev pub schedule_text : Schedule → List ℕ
+schedule_text s = line_with (world_words s) ++ flat_map step_line s.steps.items
