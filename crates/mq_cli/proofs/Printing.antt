@@ -6,9 +6,10 @@ use Rattle.mq_cli.specs.declared.stream.Shown.{Shown}
 use Rattle.mq_cli.specs.Show.{Shows}
 use Rattle.mq_line.specs.Lines.{Prints}
 use Rattle.mq_cli.specs.Printed.{no_memory, shown_lines}
-use Rattle.mq_cli.specs.Status.{IsShowDone, IsTextReplayed, end_status}
+use Rattle.mq_cli.specs.Status.{IsMadeUp, IsRandomText, IsShowDone, IsTextReplayed, end_status}
 use Rattle.mq_schedule.specs.declared.schedule.Schedule.{Schedule}
 use Rattle.mq_schedule.specs.Schedule.{IsSchedule, lines_of}
+use Rattle.mq_schedule.specs.Writing.{schedule_text}
 use Rattle.mq_replay.specs.Replay.{IsCutReplay, IsReplay}
 
 -- one text after another
@@ -45,3 +46,9 @@ cut_off text schedule (Err e) a b c reads p status k = tt
 -- a replay to its end
 pub replayed : (text : List ℕ) (schedule : Schedule) (a b : Option (List ℕ)) → IsSchedule (lines_of text) schedule → Prints a b (IsReplay schedule) → Prints a b (IsTextReplayed text 0)
 replayed text schedule a b reads p = (p.0, p.1, inl (schedule, reads, p.2, refl))
+
+-- a text that a schedule was written as
+pub made_text : {S E : Type 0} (bytes : S → List ℕ) (start count : ℕ) (schedule : Schedule) (r : Result S E) → IsMadeUp start count schedule
+    → IfOk r (λ text. bytes text ≡ schedule_text schedule) → IfOk r (λ text. IsSchedule (lines_of (bytes text)) schedule) → IfOk r (λ text. IsRandomText start count (bytes text))
+made_text bytes start count schedule (Ok text) made is reads = (schedule, made, is, reads)
+made_text bytes start count schedule (Err e) made is reads = tt

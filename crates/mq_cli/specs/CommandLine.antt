@@ -1,36 +1,55 @@
 -- What the words of a command line ask for.
-use Rattle.std.specs.Prelude.{◌≡◌, true, List, Option, Some, codes}
+use Rattle.std.specs.Prelude.{◌≡◌, ℕ, pos, true, List, Option, Some, codes}
+use Rattle.std.specs.Str.Parse.{IsNumeral, digits_value, without_leading_plus}
 use Rattle.clap.specs.Simple.{on_top}
-use Rattle.clap.specs.Words.{App, Row, Text, first_of, new_app, new_rule, with_rule, with_subcommand}
+use Rattle.clap.specs.Words.{App, Row, Rule, Text, first_of, new_app, new_rule, one_of, with_rule, with_subcommand}
+use Rattle.clap.specs.declared.builder.value_parser.ValueParser.{ValueParser}
+use Rattle.clap.specs.declared.builder.value_parser.ValueParser.TheVariants.{Signed, Unsigned}
 use Rattle.mq_cli.specs.declared.jobs.Job.{Job}
-use Rattle.mq_cli.specs.declared.jobs.Job.TheVariants.{Show, Check, Match, Replay}
+use Rattle.mq_cli.specs.declared.jobs.Job.TheVariants.{Show, Check, Match, Replay, Random}
 
--- `show HEX`
-abbrev pub show_words : App
-show_words = with_rule (new_app (codes "show")) (record (new_rule (codes "HEX")) { required = true })
+-- ---- the commands
 
--- `check FILE`
-abbrev pub check_words : App
-check_words = with_rule (new_app (codes "check")) (record (new_rule (codes "FILE")) { required = true })
+-- a command with one word, which has to be there
+abbrev pub word_words : Text → Text → App
+word_words name word = with_rule (new_app name) (record (new_rule word) { required = true })
 
 -- `match FILTER NAME`
 abbrev pub match_words : App
-match_words = with_rule (with_rule (new_app (codes "match")) (record (new_rule (codes "FILTER")) { required = true })) (record (new_rule (codes "NAME")) { required = true })
+match_words = with_rule (word_words (codes "match") (codes "FILTER")) (record (new_rule (codes "NAME")) { required = true })
 
--- `replay FILE`
-abbrev pub replay_words : App
-replay_words = with_rule (new_app (codes "replay")) (record (new_rule (codes "FILE")) { required = true })
+-- an option with a number of this kind, which has to be there
+abbrev pub number_rule : Text → Text → ValueParser → Rule
+number_rule word name kind = record (new_rule word) { long = Some name; parser = Some kind; required = true }
 
--- the program's name, and one of its commands
+-- `random --start START --steps STEPS`: a number of 64 bits, and one of 32
+abbrev pub random_words : App
+random_words = with_rule (with_rule (new_app (codes "random")) (number_rule (codes "START") (codes "start") (Unsigned 0 18446744073709551615))) (number_rule (codes "STEPS") (codes "steps") (Signed (pos 0) (pos 4294967295)))
+
+-- the program's name, and one of its commands: `show HEX`, `check FILE`
 abbrev pub stream_words : App
-stream_words = with_subcommand (with_subcommand (on_top (λ s. record s { has_version = true; subcommand_required = true; arg_required_else_help = true }) (new_app (codes "mqtt"))) show_words.top) check_words.top
+stream_words = with_subcommand (with_subcommand (on_top (λ s. record s { has_version = true; subcommand_required = true; arg_required_else_help = true }) (new_app (codes "mqtt")))
+    (word_words (codes "show") (codes "HEX")).top) (word_words (codes "check") (codes "FILE")).top
 
+-- `match`, `replay FILE`, `random`
 abbrev pub program_words : App
-program_words = with_subcommand (with_subcommand stream_words match_words.top) replay_words.top
+program_words = with_subcommand (with_subcommand (with_subcommand stream_words match_words.top) (word_words (codes "replay") (codes "FILE")).top) random_words.top
+
+-- ---- the jobs
+
+-- the command of this name was met, and the value that it has for a word
+abbrev pub GivesWord : Option (Text × List Row) → Text → Text → Text → Type 0
+GivesWord command name word value = (rows : List Row) × (command ≡ Some (name, rows)) × (first_of word rows ≡ Some value)
+
+-- the same, where the value is a number in decimal digits, which a `+` may stand before
+abbrev pub GivesNumber : Option (Text × List Row) → Text → Text → ℕ → Type 0
+GivesNumber command name word n =
+    (rows : List Row) × (digits : Text) × (command ≡ Some (name, rows)) × (one_of word rows ≡ Some digits) × IsNumeral 10 (without_leading_plus digits) × (digits_value 10 (without_leading_plus digits) ≡ n)
 
 -- the job is that of the command that was met and of its values
 abbrev pub IsJobOf : Option (Text × List Row) → Job → Type 0
-IsJobOf command (Show hex) = (rows : List Row) × (command ≡ Some (codes "show", rows)) × (first_of (codes "HEX") rows ≡ Some hex.now)
-IsJobOf command (Check file) = (rows : List Row) × (command ≡ Some (codes "check", rows)) × (first_of (codes "FILE") rows ≡ Some file.now)
-IsJobOf command (Match filter name) = (rows : List Row) × (command ≡ Some (codes "match", rows)) × (first_of (codes "FILTER") rows ≡ Some filter.now) × (first_of (codes "NAME") rows ≡ Some name.now)
-IsJobOf command (Replay file) = (rows : List Row) × (command ≡ Some (codes "replay", rows)) × (first_of (codes "FILE") rows ≡ Some file.now)
+IsJobOf command (Show hex) = GivesWord command (codes "show") (codes "HEX") hex.now
+IsJobOf command (Check file) = GivesWord command (codes "check") (codes "FILE") file.now
+IsJobOf command (Match filter name) = GivesWord command (codes "match") (codes "FILTER") filter.now × GivesWord command (codes "match") (codes "NAME") name.now
+IsJobOf command (Replay file) = GivesWord command (codes "replay") (codes "FILE") file.now
+IsJobOf command (Random start steps) = GivesNumber command (codes "random") (codes "START") start × GivesNumber command (codes "random") (codes "STEPS") steps

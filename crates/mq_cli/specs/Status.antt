@@ -1,5 +1,6 @@
 -- What the statuses of the program mean, and what it prints with each.
-use Rattle.std.specs.Prelude.{◌≡◌, ◌⊎◌, ℕ, Bool, true, false, List, [], ◌++◌, Option, Some, None, IfSome, codes}
+use Rattle.std.specs.Prelude.{◌≡◌, ◌⊎◌, ℕ, Bool, true, false, List, [], ◌∷◌, ◌++◌, map, Option, Some, None, IfSome, codes}
+use Rattle.std.specs.Int.NonZero.{non_zero_u16_get}
 use Rattle.mq_topic.specs.Fault.{filter_fault, name_fault}
 use Rattle.mq_topic.specs.Matching.{is_match}
 use Rattle.mq_topic.specs.declared.fault.TopicFault.{TopicFault}
@@ -15,8 +16,11 @@ use Rattle.mq_cli.specs.Count.{Counts}
 use Rattle.mq_cli.specs.Hexadecimal.{IsHexadecimal}
 use Rattle.mq_cli.specs.Printed.{bad_hex, bad_line, count_lines, file_not_read, match_line, no_memory, shown_lines, topic_line}
 use Rattle.mq_cli.specs.Show.{Shows}
+use Rattle.mq_world.specs.MadeUp.{made_up}
 use Rattle.mq_schedule.specs.declared.schedule.Schedule.{Schedule}
+use Rattle.mq_schedule.specs.declared.schedule.Step.TheVariants.{Event, Settle}
 use Rattle.mq_schedule.specs.Schedule.{IsBadLine, IsSchedule, lines_of}
+use Rattle.mq_schedule.specs.Writing.{schedule_text}
 use Rattle.mq_replay.specs.Replay.{IsCutReplay, IsReplay}
 
 -- 0 where all bytes are packets
@@ -75,9 +79,25 @@ abbrev pub IsReplayDone : Option (List ℕ) → ℕ → List ℕ → Type 0
 IsReplayDone left status printed =
     ((text : List ℕ) × IfSome left (λ bytes. bytes ≡ text) × IsTextReplayed text status printed) ⊎ ((status ≡ 2) × (printed ≡ file_not_read)) ⊎ ((status ≡ 3) × (printed ≡ no_memory))
 
+-- so many events that are made up from a start, and then all settles: the remaining length of packets is 65,536 at most (2.2.3), and
+-- 4 packet identifiers may be in use at a side (2.3.1)
+pub record IsMadeUp (start count : ℕ) (schedule : Schedule) : Type 0 where
+  pub limit : schedule.limits ≡ 65536
+  pub capacity : non_zero_u16_get schedule.capacity ≡ 4
+  pub all : schedule.steps.items ≡ map (λ event. Event event) (made_up start count) ++ Settle ∷ []
+
+-- a text is such a schedule, as it is written, and its lines are read as that
+abbrev pub IsRandomText : ℕ → ℕ → List ℕ → Type 0
+IsRandomText start count text = (schedule : Schedule) × IsMadeUp start count schedule × (text ≡ schedule_text schedule) × IsSchedule (lines_of text) schedule
+
+-- the status and the lines of `random`: those of a schedule that is made up, or 3 for want of memory
+abbrev pub IsRandomDone : ℕ → ℕ → ℕ → List ℕ → Type 0
+IsRandomDone start count status text = ((status ≡ 0) × IsRandomText start count text) ⊎ ((status ≡ 3) × (text ≡ no_memory))
+
 -- the status that a job ends with and the lines that it prints, over a file with these bytes
 abbrev pub IsDone : Job → Option (List ℕ) → ℕ → List ℕ → Type 0
 IsDone (jobs.Show hex) left status text = IsShowDone hex.now status text
 IsDone (jobs.Check file) left status text = IsCheckDone left status text
 IsDone (jobs.Match filter name) left status text = IsMatchDone filter.now name.now status text
 IsDone (jobs.Replay file) left status text = IsReplayDone left status text
+IsDone (jobs.Random start steps) left status text = IsRandomDone start steps status text

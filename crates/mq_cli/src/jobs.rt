@@ -25,4 +25,11 @@ pub enum Job<'a> {
         /// The file's name.
         file: &'a str,
     },
+    /// To print a schedule that is made up.
+    Random {
+        /// What it is made up from: the same start, the same schedule.
+        start: u64,
+        /// How many events it has.
+        steps: u32,
+    },
 }

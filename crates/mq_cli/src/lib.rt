@@ -5,6 +5,7 @@
 mod count;
 mod jobs;
 mod output;
+mod random;
 mod replaying;
 mod show;
 mod stream;

@@ -9,6 +9,7 @@ ghost use Rattle.mq_cli.specs.Status.{IsCheckDone, IsDone, IsMatchDone, IsShowDo
 
 use crate::count::{CountEnd, CountFault, PacketCount, count_packets};
 use crate::jobs::Job;
+use crate::random::write_random;
 use crate::replaying::replay_file;
 use crate::show::{ShowFault, shown};
 use crate::stream::{Shown, StreamEnd};
@@ -231,5 +232,6 @@ pub fn perform<R: Read, W: Write>(
         Job::Check { .. } => check(alloc, input, output),
         Job::Match { filter, name } => match_texts(alloc, filter, name, output),
         Job::Replay { .. } => replay_file(alloc, input, output),
+        Job::Random { start, steps } => write_random(alloc, *start, *steps, output),
     }
 }

@@ -1,3 +1,4 @@
+mod randoms;
 mod replays;
 
 use crate::{CountEnd, Job, ShowFault, StreamEnd, WordsFault, count_packets, job, perform, shown};
@@ -354,6 +355,12 @@ fn reads_words(rt: HostRuntime) -> Result<(), Fail> {
     }
     let words: &[&str] = &["mqtt", "replay", "a.txt"];
     assert!(rt; matches!(job(alloc, words), Ok(Job::Replay { file }) if file == "a.txt"));
+    let words: &[&str] = &["mqtt", "random", "--steps", "300", "--start=7"];
+    let random = Job::Random {
+        start: 7,
+        steps: 300,
+    };
+    assert!(rt; matches!(job(alloc, words), Ok(job) if job == random));
     let words: &[&str] = &["mqtt", "match", "a/#", "a"];
     assert!(rt;
         matches!(job(alloc, words), Ok(Job::Match { filter, name }) if filter == "a/#" && name == "a")
@@ -381,10 +388,34 @@ fn refuses_words(rt: HostRuntime) -> Result<(), Fail> {
         (&["mqtt", "check", "-h"], ErrorKind::DisplayHelp),
         (&["mqtt", "match", "a"], ErrorKind::MissingRequiredArgument),
         (&["mqtt", "replay"], ErrorKind::MissingRequiredArgument),
+        (&["mqtt", "random"], ErrorKind::MissingRequiredArgument),
+        (
+            &["mqtt", "random", "--start", "1"],
+            ErrorKind::MissingRequiredArgument,
+        ),
     ] {
         assert_eq!(rt; error_of(alloc, words), Some(kind), "{words:?}");
     }
     Ok(())
+}
+
+#[test]
+fn refuses_numbers(rt: HostRuntime) {
+    for (start, steps, kind) in [
+        ("--start=1", "--start=1", ErrorKind::ArgumentConflict),
+        ("--start=1", "1", ErrorKind::UnknownArgument),
+        ("--start=1", "--steps=", ErrorKind::ValueValidation),
+        ("--start=x", "--steps=1", ErrorKind::ValueValidation),
+        ("--start=-1", "--steps=1", ErrorKind::ValueValidation),
+        (
+            "--start=1",
+            "--steps=4294967296",
+            ErrorKind::ValueValidation,
+        ),
+    ] {
+        let words = ["mqtt", "random", start, steps];
+        assert_eq!(rt; error_of(rt.alloc(), &words), Some(kind), "{start} {steps}");
+    }
 }
 
 #[test]

@@ -1,13 +1,14 @@
 //! The words of the command line.
 
 ghost use Rattle.std.specs.Prelude.{◌≡◌, false, map, IfOk, IfSome};
-ghost use Rattle.clap.specs.Words.{app_of, subcommand_of, subcommand_rows_of};
+ghost use Rattle.clap.specs.Words.{app_of, rule_of, subcommand_of, subcommand_rows_of};
 ghost use Rattle.clap.specs.declared.builder.command.Command.TheViews.{out-Command};
-ghost use Rattle.mq_cli.specs.CommandLine.{IsJobOf, check_words, match_words, program_words, replay_words, show_words, stream_words};
+ghost use Rattle.mq_cli.specs.CommandLine.{GivesNumber, GivesWord, IsJobOf, match_words, number_rule, program_words, random_words, stream_words, word_words};
 
 use crate::jobs::Job;
+use clap::builder::ValueParser;
 use clap::error::ErrorKind;
-use clap::{Arg, ArgMatches, Command, Error};
+use clap::{Arg, ArgMatches, Command, Error, value_parser};
 use std::alloc::{AllocError, Global};
 
 /// Why words are no job.
@@ -35,30 +36,19 @@ impl From<Error> for WordsFault {
     }
 }
 
-// `show HEX`.
-fn show_command<'a>(alloc: Global) -> Result<Command<'a>, AllocError>
-    ensures words { IfOk result (λ command. app_of command ≡ show_words) }
+// A command with one word, which has to be there.
+fn word_command<'a>(
+    alloc: Global,
+    name: &'a str,
+    about: &'a str,
+    word: &'a str,
+    help: &'a str,
+) -> Result<Command<'a>, AllocError>
+    ensures words { IfOk result (λ command. app_of command ≡ word_words name.now word.now) }
     ensures local { IfOk result (λ command. (out-Command command).has_globals ≡ false) }
 {
-    let hex = Arg::new(alloc, "HEX")
-        .help("The bytes, two hexadecimal digits each")
-        .required(true);
-    Command::new(alloc, "show")
-        .about("Prints each packet of a stream of bytes on a line, and how the stream ends")
-        .arg(hex)
-}
-
-// `check FILE`.
-fn check_command<'a>(alloc: Global) -> Result<Command<'a>, AllocError>
-    ensures words { IfOk result (λ command. app_of command ≡ check_words) }
-    ensures local { IfOk result (λ command. (out-Command command).has_globals ≡ false) }
-{
-    let file = Arg::new(alloc, "FILE")
-        .help("The file that has the bytes")
-        .required(true);
-    Command::new(alloc, "check")
-        .about("Counts the packets of a file, and says how it ends")
-        .arg(file)
+    let word = Arg::new(alloc, word).help(help).required(true);
+    Command::new(alloc, name).about(about).arg(word)
 }
 
 // `match FILTER NAME`.
@@ -66,37 +56,56 @@ fn match_command<'a>(alloc: Global) -> Result<Command<'a>, AllocError>
     ensures words { IfOk result (λ command. app_of command ≡ match_words) }
     ensures local { IfOk result (λ command. (out-Command command).has_globals ≡ false) }
 {
-    let filter = Arg::new(alloc, "FILTER")
-        .help("The topic filter")
-        .required(true);
+    let about = "Says whether a topic filter matches a topic name";
     let name = Arg::new(alloc, "NAME")
         .help("The topic name")
         .required(true);
-    Command::new(alloc, "match")
-        .about("Says whether a topic filter matches a topic name")
-        .arg(filter)?
-        .arg(name)
+    word_command(alloc, "match", about, "FILTER", "The topic filter")?.arg(name)
 }
 
-// `replay FILE`.
-fn replay_command<'a>(alloc: Global) -> Result<Command<'a>, AllocError>
-    ensures words { IfOk result (λ command. app_of command ≡ replay_words) }
+// An option with a number of this kind, which has to be there.
+fn number_option<'a>(
+    alloc: Global,
+    word: &'a str,
+    name: &'a str,
+    help: &'a str,
+    kind: ValueParser<'a>,
+) -> Arg<'a>
+    ensures rule { rule_of result ≡ number_rule word.now name.now kind.entry }
+    ensures local { result.global ≡ false }
+{
+    Arg::new(alloc, word)
+        .long(name)
+        .help(help)
+        .value_parser(kind)
+        .required(true)
+}
+
+// `random --start START --steps STEPS`.
+fn random_command<'a>(alloc: Global) -> Result<Command<'a>, AllocError>
+    ensures words { IfOk result (λ command. app_of command ≡ random_words) }
     ensures local { IfOk result (λ command. (out-Command command).has_globals ≡ false) }
 {
-    let file = Arg::new(alloc, "FILE")
-        .help("The file that has the schedule")
-        .required(true);
-    Command::new(alloc, "replay")
-        .about("Makes the events of a schedule between two ends, and prints what comes of each")
-        .arg(file)
+    let seeds = "What it is made up from: the same start, the same schedule";
+    let start = number_option(alloc, "START", "start", seeds, value_parser!(u64));
+    let counts = "How many events it has";
+    let steps = number_option(alloc, "STEPS", "steps", counts, value_parser!(u32));
+    Command::new(alloc, "random")
+        .about("Prints a schedule that is made up, for `replay`")
+        .arg(start)?
+        .arg(steps)
 }
 
 // The command line with the commands on streams of packets.
 fn stream_commands<'a>(alloc: Global) -> Result<Command<'a>, AllocError>
     ensures { IfOk result (λ command. app_of command ≡ stream_words) }
 {
-    let show = show_command(alloc)?;
-    let check = check_command(alloc)?;
+    let shows = "Prints each packet of a stream of bytes on a line, and how the stream ends";
+    let digits = "The bytes, two hexadecimal digits each";
+    let show = word_command(alloc, "show", shows, "HEX", digits)?;
+    let checks = "Counts the packets of a file, and says how it ends";
+    let bytes = "The file that has the bytes";
+    let check = word_command(alloc, "check", checks, "FILE", bytes)?;
     Command::new(alloc, "mqtt")
         .version("0.1.0")
         .about("Reads and writes MQTT 3.1.1")
@@ -111,18 +120,39 @@ fn command<'a>(alloc: Global) -> Result<Command<'a>, AllocError>
     ensures { IfOk result (λ command. app_of command ≡ program_words) }
 {
     let matching = match_command(alloc)?;
-    let replaying = replay_command(alloc)?;
+    let replays = "Makes the events of a schedule between two ends, and prints what comes of each";
+    let schedule = "The file that has the schedule";
+    let replaying = word_command(alloc, "replay", replays, "FILE", schedule)?;
+    let random = random_command(alloc)?;
     stream_commands(alloc)?
         .subcommand(matching)?
-        .subcommand(replaying)
+        .subcommand(replaying)?
+        .subcommand(random)
+}
+
+// The value of a word of this command, where that was met.
+fn word_of<'a>(matches: &ArgMatches<'a>, command: &str, word: &str) -> Option<&'a str>
+    ensures { IfSome result (λ value.
+        GivesWord (subcommand_rows_of matches.now) command.now word.now value.now) }
+{
+    let met = matches.subcommand_matches(command)?;
+    met.get_str(word)
+}
+
+// The number that an option of this command has, where that was met.
+fn number_of(matches: &ArgMatches<'_>, command: &str, word: &str) -> Option<u64>
+    ensures { IfSome result
+        (GivesNumber (subcommand_rows_of matches.now) command.now word.now) }
+{
+    let met = matches.subcommand_matches(command)?;
+    met.get_one(word)
 }
 
 // The job of `show`, where that was met.
 fn show_job<'a>(matches: &ArgMatches<'a>) -> Option<Job<'a>>
     ensures { IfSome result (IsJobOf (subcommand_rows_of matches.now)) }
 {
-    let show = matches.subcommand_matches("show")?;
-    let hex = show.get_str("HEX")?;
+    let hex = word_of(matches, "show", "HEX")?;
     Some(Job::Show { hex })
 }
 
@@ -130,8 +160,7 @@ fn show_job<'a>(matches: &ArgMatches<'a>) -> Option<Job<'a>>
 fn check_job<'a>(matches: &ArgMatches<'a>) -> Option<Job<'a>>
     ensures { IfSome result (IsJobOf (subcommand_rows_of matches.now)) }
 {
-    let check = matches.subcommand_matches("check")?;
-    let file = check.get_str("FILE")?;
+    let file = word_of(matches, "check", "FILE")?;
     Some(Job::Check { file })
 }
 
@@ -139,9 +168,8 @@ fn check_job<'a>(matches: &ArgMatches<'a>) -> Option<Job<'a>>
 fn match_job<'a>(matches: &ArgMatches<'a>) -> Option<Job<'a>>
     ensures { IfSome result (IsJobOf (subcommand_rows_of matches.now)) }
 {
-    let words = matches.subcommand_matches("match")?;
-    let filter = words.get_str("FILTER")?;
-    let name = words.get_str("NAME")?;
+    let filter = word_of(matches, "match", "FILTER")?;
+    let name = word_of(matches, "match", "NAME")?;
     Some(Job::Match { filter, name })
 }
 
@@ -149,9 +177,17 @@ fn match_job<'a>(matches: &ArgMatches<'a>) -> Option<Job<'a>>
 fn replay_job<'a>(matches: &ArgMatches<'a>) -> Option<Job<'a>>
     ensures { IfSome result (IsJobOf (subcommand_rows_of matches.now)) }
 {
-    let replay = matches.subcommand_matches("replay")?;
-    let file = replay.get_str("FILE")?;
+    let file = word_of(matches, "replay", "FILE")?;
     Some(Job::Replay { file })
+}
+
+// The job of `random`, where that was met.
+fn random_job<'a>(matches: &ArgMatches<'a>) -> Option<Job<'a>>
+    ensures { IfSome result (IsJobOf (subcommand_rows_of matches.now)) }
+{
+    let start = number_of(matches, "random", "START")?;
+    let steps = u32::try_from(number_of(matches, "random", "STEPS")?).ok()?;
+    Some(Job::Random { start, steps })
 }
 
 // The job of the command that was met.
@@ -164,9 +200,12 @@ fn job_of<'a>(matches: &ArgMatches<'a>) -> Option<Job<'a>>
     if let Some(job) = check_job(matches) {
         return Some(job);
     }
-    match match_job(matches) {
+    if let Some(job) = match_job(matches) {
+        return Some(job);
+    }
+    match replay_job(matches) {
         Some(job) => Some(job),
-        None => replay_job(matches),
+        None => random_job(matches),
     }
 }
 

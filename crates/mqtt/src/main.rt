@@ -24,7 +24,9 @@ fn perform_into<W: Write>(rt: &HostRuntime, job: &Job<'_>, output: &mut W) -> io
             Ok(file) => perform(alloc, job, &mut BufReader::new(alloc, file)?, output),
             Err(_) => file_not_read(output),
         },
-        Job::Show { .. } | Job::Match { .. } => perform(alloc, job, &mut io::empty(), output),
+        Job::Show { .. } | Job::Match { .. } | Job::Random { .. } => {
+            perform(alloc, job, &mut io::empty(), output)
+        }
     }
 }
 

@@ -1,5 +1,4 @@
 use Rattle.std.proofs.Common.{refl, ap, Err, inl, inr}
-use Rattle.mq_replay.specs.Fault.{OnMemory}
 use Rattle.mq_cli.specs.Printed.{bad_line}
 use Rattle.mq_cli.specs.Status.{IsTextReplayed}
 use Rattle.mq_cli.proofs.Printing.{cut_off, printed_one, replayed}

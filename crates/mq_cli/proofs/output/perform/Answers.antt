@@ -1,0 +1,4 @@
+use Rattle.mq_cli.proofs.output.perform.Goals as goal
+
+pub returns-in-Random : goal.returns-in-Random
+returns-in-Random g c = rw c.in-Random.is c.write_random.ensures
