@@ -38,9 +38,7 @@ impl Figures {
 
     /// How fast it is as against another.
     pub(crate) fn ratio_to(self, other: Figures) -> Ratio {
-        let thousandths = self.bytes_per_second().saturating_mul(1000)
-            / other.bytes_per_second().max(1);
-        Ratio { thousandths }
+        Ratio::new(self.bytes_per_second(), other.bytes_per_second())
     }
 }
 
@@ -48,6 +46,15 @@ impl Figures {
 #[derive(Clone, Copy, Debug, PartialEq, Eq)]
 pub(crate) struct Ratio {
     thousandths: u64,
+}
+
+impl Ratio {
+    /// A number to another.
+    pub(crate) fn new(number: u64, other: u64) -> Ratio {
+        Ratio {
+            thousandths: number.saturating_mul(1000) / other.max(1),
+        }
+    }
 }
 
 impl fmt::Display for Ratio {

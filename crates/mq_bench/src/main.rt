@@ -1,9 +1,10 @@
 //! Measures how fast packets are decoded and encoded, beside a plain scan and a plain copy of the same
-//! bytes in the same run, how fast topic filters are matched, and how long schedules take to replay. With no words it lists
-//! what it can measure.
+//! bytes in the same run, how fast topic filters are matched, how long schedules take to replay, and what a message costs
+//! while others are in flight. With no words it lists what it can measure.
 #![tactic(auto)]
 
 mod figures;
+mod in_flight;
 mod measure;
 mod plain;
 mod replays;
@@ -25,13 +26,14 @@ fn list(rt: &impl Print) -> anyhow::Result<()> {
     }
     println!(rt; "{:<14} {}", topics::NAME, topics::EXPLANATION)?;
     println!(rt; "{:<14} {}", replays::NAME, replays::EXPLANATION)?;
+    println!(rt; "{:<14} {}", in_flight::NAME, in_flight::EXPLANATION)?;
     Ok(())
 }
 
 /// Whether a word names what can be measured.
 fn is_known(word: &String) -> bool {
     Subject::named(word.as_str()).is_some()
-        || [topics::NAME, replays::NAME].contains(&word.as_str())
+        || [topics::NAME, replays::NAME, in_flight::NAME].contains(&word.as_str())
 }
 
 /// Says that the words cannot be read.
@@ -56,7 +58,8 @@ fn main(rt: HostRuntime) -> anyhow::Result<ExitCode> {
         match Subject::named(word.as_str()) {
             Some(subject) => measure::measure(&rt, alloc, subject)?,
             None if word.as_str() == topics::NAME => topics::measure(&rt, alloc)?,
-            None => replays::measure(&rt, alloc)?,
+            None if word.as_str() == replays::NAME => replays::measure(&rt, alloc)?,
+            None => in_flight::measure(&rt, alloc)?,
         }
     }
     Ok(ExitCode::SUCCESS)
