@@ -38,11 +38,8 @@ fn write_bytes<W: Write>(bytes: &[u8], writer: &mut W) -> io::Result<()>
         match writer.write(rest) {
             Ok(0) => return Err(io::Error::from(ErrorKind::WriteZero)),
             Ok(count) => rest = &rest[count..],
-            Err(error) => {
-                if error.kind() != ErrorKind::Interrupted {
-                    return Err(error);
-                }
-            }
+            Err(error) if error.kind() != ErrorKind::Interrupted => return Err(error),
+            Err(_) => {}
         }
     }
     Err(io::Error::from(ErrorKind::Interrupted))
