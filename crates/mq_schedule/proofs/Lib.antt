@@ -3,5 +3,6 @@ pub mod Cuts
 pub mod Laying
 pub mod Octets
 pub mod Reading
+pub mod Unique
 pub mod Values
 pub mod Written

@@ -3,6 +3,7 @@
 #![tactic(auto)]
 
 mod fields;
+mod laws;
 mod printed;
 mod read;
 mod schedule;
@@ -12,6 +13,7 @@ mod tests;
 mod words;
 mod writing;
 
+pub use crate::laws::schedule_laws;
 pub use crate::read::{ScheduleFault, read_schedule};
 pub use crate::schedule::{Schedule, Step};
 pub use crate::writing::{BytesWord, SideWord, write_schedule};
