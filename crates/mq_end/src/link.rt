@@ -72,19 +72,7 @@ impl Link {
         requires { 0 < capacity }
         ensures { result ≡ record { end = blank_end; capacity = capacity; limit = limits; held = []; output = []; moment = 0 } }
     {
-        Link {
-            alloc,
-            session: Session::new(alloc, capacity),
-            known: false,
-            state: State::Closed,
-            clean: false,
-            keep_alive: 0,
-            capacity,
-            limits,
-            moment: 0,
-            decoder: Decoder::new(alloc, limits),
-            output: ByteQueue::new(alloc),
-        }
+        Link::with_session(alloc, limits, Session::new(alloc, capacity), false)
     }
 
     /// The session is as new, and not known.
