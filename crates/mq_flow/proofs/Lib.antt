@@ -10,6 +10,7 @@ pub mod Kept
 pub mod Claims
 pub mod Round
 pub mod Restoring
+pub mod Moves
 pub mod Fields
 pub mod EntryForms
 pub mod SessionForms

@@ -1,13 +1,8 @@
-use Rattle.std.proofs.Common.{◌≡◌, ℕ, ◌∙◌, false, List, refl, sym, ap, subst}
-use Rattle.mq_flow.specs.declared.table.Held.{Held}
-use Rattle.mq_flow.specs.declared.table.Held.TheVariants.{Released}
-use Rattle.mq_flow.specs.Sender.{SenderBook, uses, times, IsFree, is_full}
-use Rattle.mq_flow.specs.Held.{book_of, AreUnder}
-use Rattle.mq_flow.specs.Sending.{Sending, Keeps}
-use Rattle.mq_flow.specs.Loading.{with_released}
-use Rattle.mq_flow.proofs.Holding.{under_append}
-use Rattle.mq_flow.proofs.Kept.{few_pairs, free_absent, table_released}
-use Rattle.mq_flow.proofs.Restoring.{keeps_released}
+use Rattle.std.proofs.Common.{◌≡◌, sym, subst}
+use Rattle.mq_flow.specs.Sender.{uses, times}
+use Rattle.mq_flow.specs.Sending.{Sending}
+use Rattle.mq_flow.proofs.Kept.{few_pairs, free_absent}
+use Rattle.mq_flow.proofs.Moves.{released_moves}
 use Rattle.mq_flow.proofs.sender.Sender.release_as.Goals as goal
 
 pub add-requires-clause-other : goal.add-requires-clause-other
@@ -18,15 +13,5 @@ add-requires-clause-few c = few_pairs c.self.inside.capacity c.self.inside.last 
 
 pub invariant_of-self-2 : goal.invariant_of-self-2
 invariant_of-self-2 c =
-    let ps = c.self.inside.table in
-    let cs = c.self.inside.claimed.items in
-    let s : Sending = record { book = book_of ps cs; capacity = c.self.inside.capacity; last = c.self.inside.last } in
-    let i = c.args.id in
-    let free = subst (λ (v : Sending). IsFree v.book i) (sym c.self.view_is) c.requires.free in
-    let room = subst (λ (v : Sending). is_full v.capacity v.book ≡ false) (sym c.self.view_is) c.requires.room in
-    let more = c.in_ok-add.ensures.ok in
-    let after : book_of c.add.new.self cs ≡ with_released i (book_of ps cs) = ap (λ (ts : List (ℕ × Held)). book_of ts cs) more ∙ table_released i ps cs in (
-      subst (λ (b : SenderBook). Keeps (record s { book = b })) (sym after) (keeps_released s i c.self.invariant.0 room free),
-      subst AreUnder (sym more) (under_append ps i (Released i) refl c.self.invariant.1),
-      c.self.invariant.2,
-    )
+    let move = released_moves c.self.inside.table c.add.new.self c.self.inside.claimed.items c.self.inside.capacity c.self.inside.last c.args.id c.args.self.now c.self.invariant.0 c.self.invariant.1 c.self.view_is c.requires.free c.requires.room c.in_ok-add.ensures.ok in
+    (move.keeps, move.under, c.self.invariant.2)
