@@ -12,21 +12,23 @@ all: bin/mqtt
 
 # The program lies at bin/mqtt only once it is proved.
 bin/mqtt:
+	@echo 'Proves the program and all below it, and builds it. The first time that takes some 30 minutes of processors; after that, what changed.' >&2
 	cd crates/mqtt && $(RT) run -- show c000
 	mkdir -p bin
 	cp crates/mqtt/out/mqtt bin/mqtt
 
-# Every proof from nothing, every test, and each program.
+# The merge gate: every proof from nothing, every test, every edit that must be refused, and each program.
 test:
-	$(RT) ci
+	@echo 'Proves every crate from nothing and tries each edit: three quarters of an hour on four processors, twice that on two.' >&2
+	bash .ci/run
 
 install: bin/mqtt
 	mkdir -p $(DESTDIR)$(PREFIX)/bin
 	install -m 755 bin/mqtt $(DESTDIR)$(PREFIX)/bin/mqtt
 
-# Runs the program before any proof, in seconds: make try ARGS='show c000'
+# Runs the program before any proof, in a minute or two: make try ARGS='show c000'
 try:
-	@echo 'This proves nothing: the program runs as it is written.' >&2
+	@echo 'This proves nothing: the program is built as it is written, which takes a minute or two, and runs.' >&2
 	cd crates/mqtt && $(RT) try -- $(ARGS)
 
 clean:

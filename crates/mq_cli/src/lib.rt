@@ -9,8 +9,6 @@ mod random;
 mod replaying;
 mod show;
 mod stream;
-#[cfg(test)]
-mod tests;
 mod words;
 
 pub use crate::count::{CountEnd, CountFault, PacketCount, count_packets};

@@ -16,8 +16,6 @@ mod lists;
 mod publish;
 mod read;
 mod take;
-#[cfg(test)]
-mod tests;
 
 pub use crate::decoder::{Decoder, decode_pieces};
 pub use crate::fault::{DecodeError, DecodeFault, FaultKind};

@@ -23,8 +23,6 @@ mod role;
 mod server;
 mod state;
 mod taking;
-#[cfg(test)]
-mod tests;
 mod told;
 
 pub use crate::client::ClientEnd;

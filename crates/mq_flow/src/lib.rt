@@ -17,8 +17,6 @@ mod saving;
 mod sender;
 mod session;
 mod table;
-#[cfg(test)]
-mod tests;
 
 pub use crate::claim::{Claim, Claimed};
 pub use crate::entry::Entry;

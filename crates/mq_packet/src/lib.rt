@@ -14,8 +14,6 @@ mod message;
 mod packet;
 mod publish;
 mod spelled;
-#[cfg(test)]
-mod tests;
 mod write;
 
 pub use crate::binary::{Binary, Payload};

@@ -3,8 +3,6 @@
 
 mod answers;
 mod run;
-#[cfg(test)]
-mod tests;
 mod totals;
 mod words;
 

@@ -8,8 +8,6 @@ mod printed;
 mod read;
 mod schedule;
 mod steps;
-#[cfg(test)]
-mod tests;
 mod words;
 mod writing;
 

@@ -11,8 +11,6 @@ mod matching;
 mod name;
 mod qos;
 mod store;
-#[cfg(test)]
-mod tests;
 
 pub use crate::client::ClientKey;
 pub use crate::fault::{TopicFault, topic_laws};

@@ -5,8 +5,6 @@
 mod length;
 mod number;
 mod reading;
-#[cfg(test)]
-mod tests;
 mod text;
 
 pub use crate::length::{VarFault, VarStep, VarlenReader, put_varlen, varlen_len};

@@ -11,8 +11,6 @@ mod laws;
 mod making;
 mod pair;
 mod side;
-#[cfg(test)]
-mod tests;
 mod trace;
 mod world;
 

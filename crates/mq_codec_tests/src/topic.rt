@@ -1,0 +1,277 @@
+ghost use Rattle.std.specs.Prelude.{◌≡◌, IfOk};
+ghost use Rattle.mq_topic.specs.Rows.{matched};
+
+use mq_topic::{
+    ClientKey, FilterStore, ListStore, Qos, TopicFault, TopicFilter, TopicName, is_topic_filter,
+    is_topic_name, matches,
+};
+use mq_wire::Text;
+use std::alloc::{AllocError, Global};
+use std::test::Fail;
+
+fn name_fault(alloc: Global, text: &str) -> Option<TopicFault> {
+    TopicName::parse(alloc, text).err()
+}
+
+fn filter_fault(alloc: Global, text: &str) -> Option<TopicFault> {
+    TopicFilter::parse(alloc, text).err()
+}
+
+// What a name shows, by way of its clone, or its fault.
+fn name_in_short(alloc: Global, text: &str) -> Result<String, Fail> {
+    match TopicName::parse(alloc, text) {
+        Ok(name) => Ok(name.clone()?.as_str().to_string(alloc)?),
+        Err(fault) => Ok(format!(in alloc; "{fault:?}")?),
+    }
+}
+
+// Texts, and what each shows as a name: itself, or its fault.
+static NAMES: [(&str, &str); 13] = [
+    ("a", "a"),
+    ("/", "/"),
+    ("/finance", "/finance"),
+    ("a//b", "a//b"),
+    ("$SYS/x", "$SYS/x"),
+    ("sport/", "sport/"),
+    ("ä/€", "ä/€"),
+    ("", "Empty"),
+    ("a\0b", "Nul"),
+    ("+\0", "Nul"),
+    ("a/+", "Wildcard"),
+    ("#", "Wildcard"),
+    ("a#b", "Wildcard"),
+];
+
+#[test]
+fn names_are_taken_or_refused(rt: HostRuntime) -> Result<(), Fail> {
+    for (text, told) in &NAMES {
+        let name = name_in_short(rt.alloc(), *text)?;
+        assert_eq!(rt; name.as_str(), *told);
+    }
+    Ok(())
+}
+
+// What a filter shows, by way of its clone, or its fault.
+fn filter_in_short(alloc: Global, text: &str) -> Result<String, Fail> {
+    match TopicFilter::parse(alloc, text) {
+        Ok(filter) => Ok(filter.clone()?.as_str().to_string(alloc)?),
+        Err(fault) => Ok(format!(in alloc; "{fault:?}")?),
+    }
+}
+
+// Texts, and what each shows as a filter: itself, or its fault.
+static FILTERS: [(&str, &str); 24] = [
+    ("a", "a"),
+    ("/", "/"),
+    ("+", "+"),
+    ("#", "#"),
+    ("+/+", "+/+"),
+    ("a/+", "a/+"),
+    ("/#", "/#"),
+    ("sport/#", "sport/#"),
+    ("+//#", "+//#"),
+    ("$SYS/#", "$SYS/#"),
+    ("a/+/b", "a/+/b"),
+    ("ä/+", "ä/+"),
+    ("", "Empty"),
+    ("a\0+", "Nul"),
+    ("a+", "Plus"),
+    ("a+/#/b", "Plus"),
+    ("+#", "Plus"),
+    ("a#+", "Plus"),
+    ("++", "Plus"),
+    ("a/#/b", "Hash"),
+    ("#/a+", "Hash"),
+    ("#/", "Hash"),
+    ("sport#", "Hash"),
+    ("##", "Hash"),
+];
+
+#[test]
+fn filters_are_taken_or_refused(rt: HostRuntime) -> Result<(), Fail> {
+    for (text, told) in &FILTERS {
+        let filter = filter_in_short(rt.alloc(), *text)?;
+        assert_eq!(rt; filter.as_str(), *told);
+    }
+    Ok(())
+}
+
+#[test]
+fn texts_are_tested_without_memory(rt: HostRuntime) {
+    assert!(rt; is_topic_name("a/b") && is_topic_name("a\0b"));
+    assert!(rt; !is_topic_name("") && !is_topic_name("a/+") && !is_topic_name("#"));
+    assert!(rt; is_topic_filter("a/+/#") && is_topic_filter("a\0"));
+    assert!(rt; !is_topic_filter("") && !is_topic_filter("a+") && !is_topic_filter("#/"));
+}
+
+#[test]
+fn names_and_filters_have_at_most_65535_bytes(rt: HostRuntime) -> Result<(), Fail> {
+    let longest = "a".repeat(rt.alloc(), 65_535)?;
+    assert_eq!(rt; name_fault(rt.alloc(), longest.as_str()), None);
+    assert_eq!(rt; filter_fault(rt.alloc(), longest.as_str()), None);
+    let mut longer = longest;
+    longer.push('+')?;
+    assert_eq!(rt;
+        name_fault(rt.alloc(), longer.as_str()),
+        Some(TopicFault::TooLong)
+    );
+    assert_eq!(rt;
+        filter_fault(rt.alloc(), longer.as_str()),
+        Some(TopicFault::TooLong)
+    );
+    longer.push('\0')?;
+    assert_eq!(rt;
+        name_fault(rt.alloc(), longer.as_str()),
+        Some(TopicFault::Nul)
+    );
+    assert_eq!(rt;
+        filter_fault(rt.alloc(), longer.as_str()),
+        Some(TopicFault::Nul)
+    );
+    Ok(())
+}
+
+#[test]
+fn texts_that_pass_become_names_and_filters(rt: HostRuntime) -> Result<(), Fail> {
+    let text = Text::new(rt.alloc(), "a/b")?;
+    assert!(rt; is_topic_name(text.as_str()) && is_topic_filter(text.as_str()));
+    let name = TopicName::from_text(text.clone()?);
+    let filter = TopicFilter::from_text(text);
+    assert!(rt; name.as_str() == "a/b" && filter.as_str() == "a/b");
+    Ok(())
+}
+
+#[test]
+fn faults_display_as_their_codes(rt: HostRuntime) -> Result<(), Fail> {
+    for (fault, code) in [
+        (TopicFault::Empty, "N1"),
+        (TopicFault::Nul, "N2"),
+        (TopicFault::TooLong, "N3"),
+        (TopicFault::Wildcard, "N4"),
+        (TopicFault::Plus, "N5"),
+        (TopicFault::Hash, "N6"),
+        (TopicFault::Memory, "N7"),
+    ] {
+        let text = format!(in rt.alloc(); "{fault}")?;
+        assert!(rt; text.as_str() == code, "{code}");
+    }
+    Ok(())
+}
+
+#[test]
+fn qualities_of_service_have_numbers(rt: HostRuntime) {
+    assert_eq!(rt; Qos::from_number(1), Some(Qos::Q1));
+    assert_eq!(rt; Qos::from_number(3), None);
+    assert_eq!(rt; Qos::Q2.number(), 2);
+    assert_eq!(rt; Qos::Q1.greater(Qos::Q2), Qos::Q2);
+    assert_eq!(rt; Qos::Q1.greater(Qos::Q0), Qos::Q1);
+}
+
+#[test]
+fn filters_match_names(rt: HostRuntime) -> Result<(), Fail> {
+    for (filter, name, wanted) in [
+        ("sport/#", "sport", true),
+        ("sport/+", "sport", false),
+        ("sport/+", "sport/", true),
+        ("+/+", "/finance", true),
+        ("+", "/finance", false),
+        ("#", "$SYS/x", false),
+        ("$SYS/#", "$SYS/x", true),
+        ("a/+", "a/$x", true),
+    ] {
+        let topic_filter = TopicFilter::parse(rt.alloc(), filter)?;
+        let topic_name = TopicName::parse(rt.alloc(), name)?;
+        assert_eq!(rt;
+            matches(&topic_filter, &topic_name),
+            wanted,
+            "{filter} {name}"
+        );
+    }
+    for (filter, fault) in [
+        ("a+", TopicFault::Plus),
+        ("a/#/b", TopicFault::Hash),
+        ("", TopicFault::Empty),
+    ] {
+        assert_eq!(rt; filter_fault(rt.alloc(), filter), Some(fault), "{filter}");
+    }
+    assert_eq!(rt; name_fault(rt.alloc(), "a/+"), Some(TopicFault::Wildcard));
+    Ok(())
+}
+
+// What a name finds in any store.
+fn found<S: FilterStore>(store: &S, name: &TopicName) -> Result<Vec<(ClientKey, Qos)>, AllocError>
+    ensures { IfOk result (λ found. found.items ≡ matched name.now (S.rows store.now)) }
+{
+    store.matching(name)
+}
+
+// What a name finds in the plain store, with each client's number.
+fn found_numbers(alloc: Global, store: &ListStore, name: &str) -> Result<Vec<(u32, Qos)>, Fail> {
+    let name = TopicName::parse(alloc, name)?;
+    let mut numbers = Vec::new(alloc);
+    for (client, qos) in &found(store, &name)? {
+        numbers.push((client.get(), *qos))?;
+    }
+    Ok(numbers)
+}
+
+// The rows that the tests set, in this order.
+static ROWS: [(u32, &str, Qos); 5] = [
+    (0, "a/+", Qos::Q1),
+    (0, "a/#", Qos::Q2),
+    (1, "+/b", Qos::Q0),
+    (2, "a/", Qos::Q1),
+    (3, "#", Qos::Q0),
+];
+
+fn store_of_rows(alloc: Global) -> Result<ListStore, Fail> {
+    let mut store = ListStore::new(alloc);
+    for (client, filter, qos) in &ROWS {
+        let filter = TopicFilter::parse(alloc, *filter)?;
+        store.set(ClientKey::new(*client), filter, *qos)?;
+    }
+    Ok(store)
+}
+
+#[test]
+fn names_find_clients(rt: HostRuntime) -> Result<(), Fail> {
+    let alloc = rt.alloc();
+    let mut store = store_of_rows(alloc)?;
+    for (name, wanted) in [
+        ("a/b", [(0, Qos::Q2), (1, Qos::Q0), (3, Qos::Q0)].as_slice()),
+        ("a/", &[(0, Qos::Q2), (2, Qos::Q1), (3, Qos::Q0)]),
+        ("a", &[(0, Qos::Q2), (3, Qos::Q0)]),
+        ("$SYS/x", &[]),
+    ] {
+        let numbers = found_numbers(alloc, &store, name)?;
+        assert_eq!(rt; numbers.as_slice(), wanted, "{name}");
+    }
+    let filter = TopicFilter::parse(alloc, "a/#")?;
+    assert!(rt; store.remove(ClientKey::new(0), &filter));
+    assert!(rt; !store.remove(ClientKey::new(0), &filter));
+    for (name, wanted) in [
+        ("a/b", [(0, Qos::Q1), (1, Qos::Q0), (3, Qos::Q0)].as_slice()),
+        ("a", &[(3, Qos::Q0)]),
+    ] {
+        let numbers = found_numbers(alloc, &store, name)?;
+        assert_eq!(rt; numbers.as_slice(), wanted, "{name}");
+    }
+    Ok(())
+}
+
+#[test]
+fn rows_are_set_and_taken_away(rt: HostRuntime) -> Result<(), Fail> {
+    let alloc = rt.alloc();
+    let mut store = store_of_rows(alloc)?;
+    let filter = TopicFilter::parse(alloc, "a/+")?;
+    let client = ClientKey::new(0);
+    assert_eq!(rt; store.get(client, &filter), Some(Qos::Q1));
+    assert_eq!(rt; store.get(ClientKey::new(1), &filter), None);
+    store.set(client, filter.clone()?, Qos::Q0)?;
+    assert_eq!(rt; store.get(client, &filter), Some(Qos::Q0));
+    store.remove_client(client);
+    assert_eq!(rt; store.get(client, &filter), None);
+    let numbers = found_numbers(alloc, &store, "a/b")?;
+    assert_eq!(rt; numbers.as_slice(), [(1, Qos::Q0), (3, Qos::Q0)].as_slice());
+    Ok(())
+}

@@ -1,0 +1,11 @@
+//! Tests of what stands on both ends: worlds, schedules, replays, and the jobs of the program.
+#![tactic(auto)]
+
+#[cfg(test)]
+mod program;
+#[cfg(test)]
+mod replay;
+#[cfg(test)]
+mod schedule;
+#[cfg(test)]
+mod world;

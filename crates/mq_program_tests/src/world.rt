@@ -1,0 +1,127 @@
+mod ask;
+mod brief;
+mod clocks;
+mod leaving;
+mod loss;
+mod making;
+mod publish;
+mod run;
+
+use crate::world::ask::Ask;
+use crate::world::brief::told_of_copy;
+use bytes::Bytes;
+use mq_decode::Limits;
+use mq_packet::{Message, Payload};
+use mq_topic::{Qos, TopicName};
+use mq_world::{Event, Side, World};
+use std::alloc::{AllocError, Global};
+use std::process::Abort;
+use std::test::Fail;
+
+// An event of a world, as a row of a test has it.
+#[derive(Clone, Copy)]
+enum Step {
+    // The client opens a connection.
+    Open,
+    // So many bytes come to a side.
+    Deliver(Side, usize),
+    // The connection of a side is lost.
+    Lose(Side),
+    // The user of the client leaves.
+    Leave,
+    // The clock of a side goes on by so many milliseconds.
+    Tick(Side, u64),
+    // A side publishes a message to this topic.
+    Publish(Side, Qos, &'static str, &'static [u8]),
+}
+
+// What a row of a test does with a world.
+#[derive(Clone, Copy)]
+enum Act {
+    // Makes an event.
+    Make(Step),
+    // Settles.
+    Settle,
+    // Asks what there is.
+    Look(Ask),
+}
+
+// A message to this topic.
+fn message(alloc: Global, qos: Qos, topic: &str, payload: &[u8]) -> Result<Message, Fail> {
+    let bytes = Bytes::copy_from_slice(alloc, payload)?;
+    let payload = Payload::new(bytes).ok_or("no payload")?;
+    Ok(Message {
+        topic: TopicName::parse(alloc, topic)?,
+        payload,
+        qos,
+        retain: false,
+    })
+}
+
+// The event of a step.
+fn event_of(alloc: Global, step: Step) -> Result<Event, Fail> {
+    Ok(match step {
+        Step::Open => Event::Open,
+        Step::Deliver(side, count) => Event::Deliver(side, count),
+        Step::Lose(side) => Event::Drop(side),
+        Step::Leave => Event::Leave,
+        Step::Tick(side, more) => Event::Tick(side, more),
+        Step::Publish(side, qos, topic, payload) => {
+            Event::Publish(side, message(alloc, qos, topic, payload)?)
+        }
+    })
+}
+
+// A world with packets up to this length, and so much room at each side.
+fn new_world(alloc: Global, max_packet: u32, capacity: u16) -> Result<World, Fail> {
+    let limits = Limits::new(max_packet).ok_or("no limits")?;
+    if capacity == 0 {
+        return Err(Fail::new("no room"));
+    }
+    Ok(World::new(alloc, limits, capacity)?)
+}
+
+// What comes of an event.
+fn make(alloc: Global, world: &mut World, event: &Event) -> Result<String, AllocError> {
+    told_of_copy(alloc, world.step(event)?)
+}
+
+// What comes of settling.
+fn settle(alloc: Global, world: &mut World) -> Result<String, AllocError> {
+    told_of_copy(alloc, world.settle()?)
+}
+
+// What an act tells.
+fn told(alloc: Global, world: &mut World, act: Act) -> Result<String, Fail> {
+    Ok(match act {
+        Act::Make(step) => make(alloc, world, &event_of(alloc, step)?)?,
+        Act::Settle => settle(alloc, world)?,
+        Act::Look(ask) => ask::told(alloc, world, ask)?,
+    })
+}
+
+// These acts, one after another, tell this.
+fn expect(
+    rt: &impl Abort,
+    alloc: Global,
+    world: &mut World,
+    rows: &[(Act, &str)],
+) -> Result<(), Fail> {
+    for (act, wanted) in rows {
+        let told = told(alloc, world, *act)?;
+        assert_eq!(rt; told.as_str(), *wanted);
+    }
+    Ok(())
+}
+
+// The same of a new world with packets up to this length, and so much room at each side.
+fn expect_of_new(
+    rt: &impl Abort,
+    alloc: Global,
+    max_packet: u32,
+    capacity: u16,
+    rows: &[(Act, &str)],
+) -> Result<(), Fail> {
+    let mut world = new_world(alloc, max_packet, capacity)?;
+    expect(rt, alloc, &mut world, rows)
+}

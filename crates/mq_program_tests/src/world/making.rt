@@ -1,0 +1,106 @@
+use crate::world::brief::add_hex;
+use mq_packet::Message;
+use mq_world::{Event, made_up};
+use std::alloc::{AllocError, Global};
+use std::process::Abort;
+use std::test::Fail;
+
+// Adds the quality of service, the topic and the payload of a message.
+fn add_message(text: &mut String, message: &Message) -> Result<(), AllocError> {
+    let topic = message.topic.as_str();
+    let qos = message.qos.number();
+    let retain = if message.retain { " retain" } else { "" };
+    write!(text, " {qos}{retain} {topic} ")?;
+    add_hex(text, message.payload.as_slice())
+}
+
+fn add_event(text: &mut String, event: &Event) -> Result<(), AllocError> {
+    match event {
+        Event::Publish(side, message) => {
+            write!(text, "publish {side:?}")?;
+            add_message(text, message)
+        }
+        Event::Deliver(side, count) => write!(text, "deliver {side:?} {count}"),
+        Event::Drop(side) => write!(text, "drop {side:?}"),
+        Event::Leave => text.push_str("leave"),
+        Event::Open => text.push_str("open"),
+        Event::Tick(side, more) => write!(text, "tick {side:?} {more}"),
+    }
+}
+
+// So many events of a start, with semicolons between them.
+fn told(alloc: Global, start: u64, steps: u32) -> Result<String, AllocError> {
+    let mut text = String::new(alloc);
+    for event in made_up(alloc, start, steps)? {
+        if !text.is_empty() {
+            text.push_str("; ")?;
+        }
+        add_event(&mut text, &event)?;
+    }
+    Ok(text)
+}
+
+// So many events of a start are these.
+fn expect(
+    rt: &impl Abort,
+    alloc: Global,
+    start: u64,
+    steps: u32,
+    wanted: &str,
+) -> Result<(), Fail> {
+    let told = told(alloc, start, steps)?;
+    assert_eq!(rt; told.as_str(), wanted);
+    Ok(())
+}
+
+// The words are those of the reference generator.
+#[test]
+fn the_first_events(rt: HostRuntime) -> Result<(), Fail> {
+    let rows = [
+        (
+            0,
+            25,
+            "publish Server 2 t 00000000; drop Server; deliver Client 31; \
+             publish Client 1 t 00000003; publish Server 0 t 00000004; \
+             deliver Client 0; deliver Server 23; deliver Server 25; drop Server; open; \
+             deliver Client 26; drop Server; tick Server 37; deliver Client 2; \
+             deliver Server 19; publish Server 2 t 0000000f; drop Client; \
+             publish Server 1 t 00000011; leave; deliver Server 5; deliver Client 22; \
+             tick Client 332; deliver Server 5; deliver Server 15; open",
+        ),
+        (
+            1,
+            25,
+            "publish Client 0 t 00000000; deliver Client 7; tick Client 853; \
+             deliver Client 13; open; publish Server 0 t 00000005; open; \
+             deliver Client 3; deliver Client 20; deliver Server 10; \
+             publish Server 1 t 0000000a; deliver Server 10; drop Server; \
+             publish Client 0 t 0000000d; deliver Client 30; \
+             publish Server 1 t 0000000f; deliver Server 30; \
+             publish Server 1 t 00000011; open; deliver Client 26; tick Client 733; \
+             deliver Client 24; drop Server; publish Client 2 t 00000017; leave",
+        ),
+        (
+            u64::MAX,
+            6,
+            "publish Client 0 t 00000000; open; drop Server; deliver Server 19; drop Client; leave",
+        ),
+        (0, 0, ""),
+    ];
+    for (start, steps, wanted) in rows {
+        expect(&rt, rt.alloc(), start, steps, wanted)?;
+    }
+    Ok(())
+}
+
+// The same start gives the same events again, and a longer list begins with the shorter one.
+#[test]
+fn a_longer_list_is_the_shorter_one_and_more(rt: HostRuntime) -> Result<(), Fail> {
+    let rows = [(0, 0, 1), (0, 7, 7), (1, 20, 300), (u64::MAX, 1, 64)];
+    for (start, steps, more) in rows {
+        let shorter = told(rt.alloc(), start, steps)?;
+        let longer = told(rt.alloc(), start, more)?;
+        assert!(rt; longer.starts_with(shorter.as_str()));
+    }
+    Ok(())
+}

@@ -1,0 +1,7 @@
+//! Tests of sessions: the books of messages in flight, and both ends.
+#![tactic(auto)]
+
+#[cfg(test)]
+mod end;
+#[cfg(test)]
+mod flow;
