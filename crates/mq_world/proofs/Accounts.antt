@@ -1,8 +1,8 @@
 -- The lists of a side: what is told of, and what is acknowledged, one after another.
-use Rattle.std.proofs.Common.{◌≡◌, ℕ, suc, zero, ◌+◌, ◌<◌, Bool, true, false, cond, eqb, ◌||◌, List, [], ◌∷◌, ◌++◌, length, drop, get_or, refl, sym, ap, ◌∙◌, add-one, arith}
+use Rattle.std.proofs.Common.{◌≡◌, ℕ, suc, ◌+◌, ◌<◌, Bool, true, false, cond, eqb, ◌||◌, List, [], ◌∷◌, ◌++◌, length, drop, get_or, Option, Some, refl, sym, ap, ◌∙◌, add-one}
+use Rattle.std.specs.Option.{unwrap_or}
 use Rattle.std.proofs.Math.Seq.{drop-cons}
 use Rattle.mq_packet.specs.declared.message.Message.{Message}
-use Rattle.mq_flow.proofs.Counting.{eqb_self}
 use Rattle.mq_end.specs.declared.happening.Happening.{Happening}
 use Rattle.mq_end.specs.declared.happening.Happening.TheVariants as happens
 use Rattle.mq_world.specs.Half.{HandedOn, is_given, last_place, freed_with}
@@ -30,34 +30,46 @@ freed_more given is k i x y below at before =
 
 -- ---- the last place
 
-or_false : (a b : Bool) → a || b ≡ false → (a ≡ false) × (b ≡ false)
-or_false true b e = absurd (elim_true e)
-  where
-    elim_true : true ≡ false → ⊥
-    elim_true e = cc
-or_false false b e = (refl, e)
-
-pub none_given : (i : ℕ) (ps : List (ℕ × Message)) → is_given i ps ≡ false → last_place i ps ≡ 0
-none_given i [] e = refl
-none_given i (p ∷ ps) e = ap (λ b. cond b (last_place i ps + 1) 0) (or_false (eqb p.0 i) (is_given i ps) e).1
-
 or_true : (b : Bool) → b || true ≡ true
 or_true true = refl
 or_true false = refl
 
-given_at : (i : ℕ) (ps : List (ℕ × Message)) (k : ℕ) (p : ℕ × Message) → k < length ps → p ≡ get_or ps k p → p.0 ≡ i → is_given i ps ≡ true
-given_at i [] k p below at same = absurd (omega arith)
-given_at i (q ∷ ps) zero p below at same = ap (λ b. b || is_given i ps) (ap (λ n. eqb n i) (sym (ap (λ (z : ℕ × Message). z.0) at) ∙ same) ∙ eqb_self i)
-given_at i (q ∷ ps) (suc k) p below at same = ap (λ b. eqb q.0 i || b) (given_at i ps k p (omega arith) at same) ∙ or_true (eqb q.0 i)
+or_false : (b : Bool) → b || false ≡ b
+or_false true = refl
+or_false false = refl
 
--- the place of a pair with an identifier behind which there is none
-pub last_given : (i : ℕ) (ps : List (ℕ × Message)) (k : ℕ) (p : ℕ × Message) → k < length ps → p ≡ get_or ps k p → p.0 ≡ i → is_given i (drop (suc k) ps) ≡ false → last_place i ps ≡ k
-last_given i [] k p below at same none = absurd (omega arith)
-last_given i (q ∷ ps) zero p below at same none = ap (λ b. cond b (last_place i ps + 1) 0) none
-last_given i (q ∷ ps) (suc k) p below at same none =
-    ap (λ b. cond b (last_place i ps + 1) 0) (given_at i ps k p (omega arith) at same) ∙ ap (λ n. n + 1) (last_given i ps k p (omega arith) at same none) ∙ add-one k
+-- an identifier stands in a list with a pair behind it where it stood before, and where the pair has it
+given_there : (i : ℕ) (ps : List (ℕ × Message)) (p : ℕ × Message) → eqb p.0 i ≡ true → is_given i (ps ++ p ∷ []) ≡ true
+given_there i [] p e = ap (λ b. b || false) e
+given_there i (q ∷ ps) p e = ap (λ b. eqb q.0 i || b) (given_there i ps p e) ∙ or_true (eqb q.0 i)
 
--- a pair without the identifier, in front of pairs without it
-pub none_more : (i : ℕ) (ps : List (ℕ × Message)) (k : ℕ) (p : ℕ × Message) → k < length ps → p ≡ get_or ps k p → eqb p.0 i ≡ false → is_given i (drop (suc k) ps) ≡ false → is_given i (drop k ps) ≡ false
-none_more i ps k p below at other none =
-    ap (is_given i) (drop-cons ps k p below ∙ ap (λ z. z ∷ drop (suc k) ps) (sym at)) ∙ ap (λ b. b || is_given i (drop (suc k) ps)) other ∙ none
+given_before : (i : ℕ) (ps : List (ℕ × Message)) (p : ℕ × Message) → eqb p.0 i ≡ false → is_given i (ps ++ p ∷ []) ≡ is_given i ps
+given_before i [] p e = ap (λ b. b || false) e
+given_before i (q ∷ ps) p e = ap (λ b. eqb q.0 i || b) (given_before i ps p e)
+
+-- the last place of an identifier, with a pair behind the others
+last_there : (i : ℕ) (ps : List (ℕ × Message)) (p : ℕ × Message) → eqb p.0 i ≡ true → last_place i (ps ++ p ∷ []) ≡ length ps
+last_there i [] p e = refl
+last_there i (q ∷ ps) p e =
+    ap (λ b. cond b (last_place i (ps ++ p ∷ []) + 1) 0) (given_there i ps p e) ∙ ap (λ n. n + 1) (last_there i ps p e) ∙ add-one (length ps)
+
+last_before : (i : ℕ) (ps : List (ℕ × Message)) (p : ℕ × Message) → eqb p.0 i ≡ false → last_place i (ps ++ p ∷ []) ≡ last_place i ps
+last_before i [] p e = refl
+last_before i (q ∷ ps) p e =
+    ap (λ b. cond b (last_place i (ps ++ p ∷ []) + 1) 0) (given_before i ps p e) ∙ ap (λ n. cond (is_given i ps) (n + 1) 0) (last_before i ps p e)
+
+last_by : (i : ℕ) (ps : List (ℕ × Message)) (p : ℕ × Message) (b : Bool) → eqb p.0 i ≡ b → last_place i (ps ++ p ∷ []) ≡ cond b (length ps) (last_place i ps)
+last_by i ps p true e = last_there i ps p e
+last_by i ps p false e = last_before i ps p e
+
+pub last_more : (i : ℕ) (ps : List (ℕ × Message)) (p : ℕ × Message) → last_place i (ps ++ p ∷ []) ≡ cond (eqb p.0 i) (length ps) (last_place i ps)
+last_more i ps p = last_by i ps p (eqb p.0 i) refl
+
+-- places that say the last place of each identifier say it with a pair behind the others and its place put in
+unwrap_cond : (b : Bool) (n : ℕ) (o : Option ℕ) → unwrap_or (cond b (Some n) o) 0 ≡ cond b n (unwrap_or o 0)
+unwrap_cond true n o = refl
+unwrap_cond false n o = refl
+
+pub places_more : (i : ℕ) (ps : List (ℕ × Message)) (p : ℕ × Message) (old new : Option ℕ) → unwrap_or old 0 ≡ last_place i ps → new ≡ cond (eqb p.0 i) (Some (length ps)) old → unwrap_or new 0 ≡ last_place i (ps ++ p ∷ [])
+places_more i ps p old new before updates =
+    ap (λ o. unwrap_or o 0) updates ∙ unwrap_cond (eqb p.0 i) (length ps) old ∙ ap (λ n. cond (eqb p.0 i) (length ps) n) before ∙ sym (last_more i ps p)

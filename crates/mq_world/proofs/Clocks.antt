@@ -1,5 +1,5 @@
 -- What comes of a client that leaves, and of clocks that go on, from what the ends do.
-use Rattle.std.proofs.Common.{◌≡◌, ℕ, Bool, true, false, ◌&&◌, if◌then◌else◌, Option, None, Result, Err, List, [], ◌∷◌, ◌++◌, refl, sym, ap, subst, ◌∙◌, IfSome, IfNone, IfErr}
+use Rattle.std.proofs.Common.{◌≡◌, ℕ, Bool, true, false, ◌&&◌, if◌then◌else◌, Option, None, Result, Err, List, [], ◌∷◌, ◌++◌, refl, sym, ap, subst, ◌∙◌, IfSome, IfNone, IfErr, append-nil}
 use Rattle.mq_packet.specs.declared.packet.Packet.TheVariants as packets
 use Rattle.mq_end.specs.declared.reason.CloseReason.{CloseReason}
 use Rattle.mq_end.specs.declared.reason.CloseReason.TheVariants as reasons
@@ -7,7 +7,7 @@ use Rattle.mq_end.specs.declared.refusal.PublishRefusal.{PublishRefusal}
 use Rattle.mq_end.specs.declared.refusal.PublishRefusal.TheVariants as refusals
 use Rattle.mq_end.specs.End.{is_up, closes, silent}
 use Rattle.mq_end.specs.Client.{leaves, leave_refusal}
-use Rattle.mq_end.specs.KeepAlive.{is_due, is_late, server_ticks}
+use Rattle.mq_end.specs.KeepAlive.{client_ticks, is_due, is_late, server_ticks}
 use Rattle.mq_end.specs.State.{EndState, PutsOut}
 use Rattle.mq_end.specs.Receiving.{Acts}
 use Rattle.mq_end.specs.Requests.{Ticks}
@@ -19,15 +19,16 @@ use Rattle.mq_world.specs.OverBytes.{OverBytes, Stands, Follows, Alike, SameBoun
 use Rattle.mq_world.specs.Time.{SameTimes, later}
 use Rattle.mq_world.specs.World.{IsLeft, IsNotLeft, IsTold}
 use Rattle.mq_world.proofs.Standing.{alike_itself, all_put_out, no_more_bytes}
-use Rattle.mq_world.proofs.Worlds.{reason_is}
+use Rattle.mq_world.proofs.Worlds.{on_wire, reason_is}
 
 -- ---- leaving
 
-pub left_at : OverBytes → (limit capacity : ℕ) (w v : Wired) (new : EndState) → leave_refusal w.client.state.end ≡ None → Acts (leaves w.client.state.end) w.client.state new
+pub left_at : OverBytes → (limit capacity : ℕ) (w v : Wired) (new : EndState) → w.client.state.output ≡ [] → leave_refusal w.client.state.end ≡ None → Acts (leaves w.client.state.end) w.client.state new
     → v ≡ record { client = cut_off new w.client; server = with_more new.output w.server } → IsLeft limit capacity w v
-left_at law limit capacity w v new free a e = record {
+left_at law limit capacity w v new quiet free a e = record {
   allowed = free;
   wire = ap (λ (u : Wired). u.client.wire) e;
+  out = subst (λ (u : Wired). PutsOut (leaves w.client.state.end).out w.server.wire u.server.wire) (sym e) (on_wire (leaves w.client.state.end).out w.client.state.output new.output w.server.wire quiet a.out);
   times = subst (λ (u : Wired). SameTimes w u) (sym e) (record { client = record { clock = refl; moment = ap (λ (z : EndState). z.moment) a.state }; server = record { clock = refl; moment = refl } });
   moves = λ n t. subst (λ (u : Wired). Follows limit capacity n (By Client Leaves ∷ []) u) (sym e)
       (law.leave limit capacity w n new t free (ap (λ (z : EndState). z.end) a.state) a.out (ap (λ (z : EndState). z.limit) a.state, ap (λ (z : EndState). z.capacity) a.state));
@@ -76,9 +77,9 @@ first_of_both : (a b : Bool) → (a && b) ≡ true → a ≡ true
 first_of_both true b e = refl
 first_of_both false b e = e
 
-pub asked_at : OverBytes → (limit capacity : ℕ) (w v : Wired) (more : ℕ) (new : EndState) → Ticks (later w.client.clock more) w.client.state new
+pub asked_at : OverBytes → (limit capacity : ℕ) (w v : Wired) (more : ℕ) (new : EndState) → w.client.state.output ≡ [] → Ticks (later w.client.clock more) w.client.state new
     → v ≡ record { client = record w.client { state = written new; clock = later w.client.clock more }; server = with_more new.output w.server } → IsTold limit capacity Client more None w v
-asked_at law limit capacity w v more new t e =
+asked_at law limit capacity w v more new quiet t e =
     let old = w.client.state in
     let now = later w.client.clock more in
     let due = is_due old.moment old.end.keep_alive now in
@@ -88,6 +89,7 @@ asked_at law limit capacity w v more new t e =
       moment = ap (λ (z : EndState). z.moment) t.state;
       other = record { clock = refl; moment = refl };
       left = refl;
+      out = on_wire (client_ticks old.moment now old.end).out old.output new.output w.server.wire quiet t.out;
       moves = λ n s. asks law limit capacity w n now (is_up old.end.state && due) new s (first_of_both (is_up old.end.state) due) t.out
           (ap (λ (z : EndState). z.end) t.state) (ap (λ (z : EndState). z.held) t.state) (ap (λ (z : EndState). z.limit) t.state, ap (λ (z : EndState). z.capacity) t.state);
     })
@@ -144,5 +146,6 @@ told_at law limit capacity w v more closed new is a e =
       moment = ap (λ (z : EndState). z.moment) a.state;
       other = record { clock = refl; moment = refl };
       left = refl;
+      out = ([], refl, sym (append-nil w.client.wire));
       moves = λ n s. drops_late law limit capacity w n now (is_up old.end.state && is_late old.moment old.end.keep_alive now) closed new s is a;
     })

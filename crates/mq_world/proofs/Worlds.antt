@@ -11,7 +11,8 @@ use Rattle.mq_packet.specs.declared.packet.Packet.TheVariants as packets
 use Rattle.mq_end.specs.End.{End, is_live, over, blank_end}
 use Rattle.mq_end.specs.Client.{connects}
 use Rattle.mq_end.specs.Server.{opens}
-use Rattle.mq_end.specs.Both.{has_identifier, answered_identifier}
+use Rattle.mq_packet.specs.declared.packet.Packet.{Packet}
+use Rattle.mq_end.specs.Both.{has_identifier, answered_identifier, publishes}
 use Rattle.mq_end.specs.Laws.{MayHave}
 use Rattle.mq_end.specs.State.{EndState, PutsOut}
 use Rattle.mq_end.specs.Publishing.{Accepts}
@@ -40,6 +41,10 @@ near_facing : (side : Side) (x y : WiredSide) → near side (facing side x y) �
 near_facing Client x y = refl
 near_facing Server x y = refl
 
+far_facing : (side : Side) (x y : WiredSide) → far side (facing side x y) ≡ y
+far_facing Client x y = refl
+far_facing Server x y = refl
+
 -- a side is made of its parts
 pub same_side : (x y : WiredSide) → x.state ≡ y.state → x.clock ≡ y.clock → x.wire ≡ y.wire → x.accepted ≡ y.accepted → x.handed ≡ y.handed → x.freed ≡ y.freed → x ≡ y
 same_side x y a t b c d e = λ i. record { state = a i; clock = t i; wire = b i; accepted = c i; handed = d i; freed = e i }
@@ -67,6 +72,10 @@ heard_written now b closed old new h = record { waits = h.waits; closes = h.clos
 
 -- ---- publishing
 
+-- what an end puts out goes on the wire behind what is there, where nothing waited to be written
+pub on_wire : (ps : List Packet) (old new wire : List ℕ) → old ≡ [] → PutsOut ps old new → PutsOut ps wire (wire ++ new)
+on_wire ps old new wire quiet (b, spelled, e) = (b, spelled, ap (λ (z : List ℕ). wire ++ z) (e ∙ ap (λ (z : List ℕ). z ++ b) quiet))
+
 may_have : (b : Bool) (e : End) (i : ℕ) → (b ≡ true → IsFirstFree e.last e.book i) → MayHave b e i
 may_have true e i h = (h refl).free
 may_have false e i h = tt
@@ -84,6 +93,11 @@ accepted_at law limit capacity side w v m message answer new s free a e =
     record {
       id = a.id;
       answered = a.answered;
+      first = a.first;
+      wire = ap (λ (u : Wired). (near side u).wire) (e a.id a.answered) ∙ ap (λ (z : WiredSide). z.wire) (near_facing side (accepting a.id message new (near side w)) (with_more new.output (far side w)));
+      out = subst (λ (u : Wired). PutsOut (publishes a.id message (near side w).state.end).out (far side w).wire (far side u).wire) (sym (e a.id a.answered))
+          (subst (λ (z : WiredSide). PutsOut (publishes a.id message (near side w).state.end).out (far side w).wire z.wire) (sym (far_facing side (accepting a.id message new (near side w)) (with_more new.output (far side w))))
+          (on_wire (publishes a.id message (near side w).state.end).out (near side w).state.output new.output (far side w).wire x.output a.out));
       times = subst (λ (u : Wired). SameTimes w u) (sym (e a.id a.answered)) (same_times side w (accepting a.id message new (near side w)) (with_more new.output (far side w))
           (record { clock = refl; moment = ap (λ (z : EndState). z.moment) a.state }) (record { clock = refl; moment = refl }));
       moves = λ n t. subst (λ (u : Wired). Follows limit capacity n (By side (Publishes a.id message) ∷ []) u) (sym (e a.id a.answered))
@@ -243,6 +257,7 @@ pub lost_at : OverBytes → (limit capacity : ℕ) (side : Side) (w v : Wired) (
 lost_at law limit capacity side w v was_open new is after bounds still e = record {
   said = is;
   wire = ap (λ (z : Wired). (near side z).wire) e ∙ ap (λ (z : WiredSide). z.wire) (near_facing side (cut_off new (near side w)) (far side w));
+  other = ap (λ (z : Wired). far side z) e ∙ far_facing side (cut_off new (near side w)) (far side w);
   times = subst (λ (u : Wired). SameTimes w u) (sym e) (same_times side w (cut_off new (near side w)) (far side w) (record { clock = refl; moment = still }) (no_time (far side w)));
   moves = λ n t. subst (λ (u : Wired). Follows limit capacity n (By side Drops ∷ []) u) (sym e) (law.drop limit capacity side w n new t after bounds);
 }

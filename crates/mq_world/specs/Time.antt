@@ -2,7 +2,8 @@
 use Rattle.std.specs.Prelude.{ℕ, ◌+◌, ◌-◌, ◌^◌, min, ◌≡◌, ◌&&◌, if◌then◌else◌, Option, None, List, [], ◌∷◌}
 use Rattle.mq_end.specs.declared.reason.CloseReason.{CloseReason}
 use Rattle.mq_end.specs.End.{is_up}
-use Rattle.mq_end.specs.KeepAlive.{client_since, is_late, pings, server_ticks}
+use Rattle.mq_packet.specs.declared.packet.Packet.{Packet}
+use Rattle.mq_end.specs.KeepAlive.{client_since, client_ticks, is_late, pings, server_ticks}
 use Rattle.mq_end.specs.Receiving.{HearsAt}
 use Rattle.mq_end.specs.State.{EndState}
 use Rattle.mq_world.specs.declared.side.Side.{Side}
@@ -46,6 +47,11 @@ time_closes Server now s = (server_ticks s.moment now s.end).close
 abbrev pub time_moves : Side → ℕ → EndState → List Move
 time_moves Client now s = if pings s.moment now s.end then By Client Pings ∷ [] else []
 time_moves Server now s = if is_up s.end.state && is_late s.moment s.end.keep_alive now then By Server Drops ∷ [] else []
+
+-- what it puts out: the client that is due asks, the server nothing
+abbrev pub time_out : Side → ℕ → EndState → List Packet
+time_out Client now s = (client_ticks s.moment now s.end).out
+time_out Server now s = []
 
 -- the moment from which its keep-alive then counts
 abbrev pub time_moment : Side → ℕ → EndState → ℕ

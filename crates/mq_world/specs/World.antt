@@ -3,12 +3,13 @@ use Rattle.std.specs.Prelude.{ℕ, ◌≡◌, ◌≢◌, ◌↔◌, Bool, true, 
 use Rattle.mq_packet.specs.declared.message.Message.{Message}
 use Rattle.mq_end.specs.declared.reason.CloseReason.{CloseReason}
 use Rattle.mq_end.specs.declared.reason.CloseReason.TheVariants as reasons
+use Rattle.mq_flow.specs.Sender.{IsFirstFree}
 use Rattle.mq_end.specs.declared.refusal.PublishRefusal.{PublishRefusal}
 use Rattle.mq_end.specs.declared.refusal.PublishRefusal.TheVariants as refusals
 use Rattle.mq_end.specs.End.{End, is_live}
-use Rattle.mq_end.specs.State.{EndState}
-use Rattle.mq_end.specs.Both.{answered_identifier}
-use Rattle.mq_end.specs.Client.{leave_refusal}
+use Rattle.mq_end.specs.State.{EndState, PutsOut}
+use Rattle.mq_end.specs.Both.{answered_identifier, has_identifier, publishes}
+use Rattle.mq_end.specs.Client.{leave_refusal, leaves}
 use Rattle.mq_end.specs.KeepAlive.{pings}
 use Rattle.mq_world.specs.declared.side.Side.{Side}
 use Rattle.mq_world.specs.declared.side.Side.TheVariants.{Client, Server}
@@ -24,7 +25,7 @@ use Rattle.mq_world.specs.Machine.{Machine, Move, By, Opens, blank_machine}
 use Rattle.mq_world.specs.Carries.{Wired}
 use Rattle.mq_world.specs.OverBytes.{Stands, Follows, Delivers, ReceivesAt, SameBounds, near, far, facing, with_more, hearing, handed_with, left_on}
 use Rattle.mq_world.specs.SettlesOver.{HoldsNothing}
-use Rattle.mq_world.specs.Time.{SameTime, SameTimes, HearsIn, BeginsNow, later, time_closes, time_moves, time_moment}
+use Rattle.mq_world.specs.Time.{SameTime, SameTimes, HearsIn, BeginsNow, later, time_closes, time_moves, time_moment, time_out}
 
 -- What contracts see of a world: its sides, the bound on the remaining length (2.2.3), the most packet identifiers in use at a side
 -- (2.3.1), whether memory ran out, and what came of the events so far, the oldest first.
@@ -49,10 +50,14 @@ Moves limit capacity old moves new = (m : Machine) → Stands limit capacity old
 
 -- ---- what comes of an event
 
--- A message is accepted, with this identifier where it has one (2.3.1, 4.3).
+-- A message is accepted, with the first identifier that is free after the last one given where it has one (2.3.1, 4.3). Its PUBLISH goes on
+-- its way where the side is up; nothing else changes on either wire.
 pub record IsAccepted (limit capacity : ℕ) (side : Side) (m : Message) (answer : Option ℕ) (old new : Wired) : Type 0 where
   pub id : ℕ
   pub answered : answer ≡ answered_identifier m.qos id
+  pub first : has_identifier m.qos ≡ true → IsFirstFree (near side old).state.end.last (near side old).state.end.book id
+  pub wire : (near side new).wire ≡ (near side old).wire
+  pub out : PutsOut (publishes id m (near side old).state.end).out (far side old).wire (far side new).wire
   pub times : SameTimes old new
   pub moves : Moves limit capacity old (By side (Publishes id m) ∷ []) new
 
@@ -98,10 +103,11 @@ pub record IsDelivered (limit capacity : ℕ) (side : Side) (count : ℕ) (d : D
   pub hears : is_live (near side old).state.end.state ≡ true → Hears side (drop count (near side old).wire) d old new
   pub ignores : is_live (near side old).state.end.state ≡ false → Ignores side (drop count (near side old).wire) d old new
 
--- The connection of a side is lost, and the bytes on their way to it (4.2).
+-- The connection of a side is lost, and the bytes on their way to it (4.2). The other side is as it was, also what is on its way to it.
 pub record IsLost (limit capacity : ℕ) (side : Side) (was_open : Bool) (old new : Wired) : Type 0 where
   pub said : was_open ≡ is_live (near side old).state.end.state
   pub wire : (near side new).wire ≡ []
+  pub other : far side new ≡ far side old
   pub times : SameTimes old new
   pub moves : Moves limit capacity old (By side Drops ∷ []) new
 
@@ -118,6 +124,7 @@ pub record IsOpened (limit capacity : ℕ) (o : Opening) (old new : Wired) : Typ
 pub record IsLeft (limit capacity : ℕ) (old new : Wired) : Type 0 where
   pub allowed : leave_refusal old.client.state.end ≡ None
   pub wire : new.client.wire ≡ []
+  pub out : PutsOut (leaves old.client.state.end).out old.server.wire new.server.wire
   pub times : SameTimes old new
   pub moves : Moves limit capacity old (By Client Leaves ∷ []) new
 
@@ -133,6 +140,7 @@ pub record IsTold (limit capacity : ℕ) (side : Side) (more : ℕ) (closed : Op
   pub moment : (near side new).state.moment ≡ time_moment side (later (near side old).clock more) (near side old).state
   pub other : SameTime (far side old) (far side new)
   pub left : (near side new).wire ≡ left_on closed (near side old).wire
+  pub out : PutsOut (time_out side (later (near side old).clock more) (near side old).state) (far side old).wire (far side new).wire
   pub moves : Moves limit capacity old (time_moves side (later (near side old).clock more) (near side old).state) new
 
 -- The clock of the client goes on, but memory runs out for the PINGREQ that is due (3.12).

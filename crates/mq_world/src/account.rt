@@ -1,15 +1,16 @@
 //! What a side accepted and handed on.
 
-ghost use Rattle.std.specs.Prelude.{◌≡◌, ◌∷◌, ℕ, [], OnOk};
+ghost use Rattle.std.specs.Prelude.{◌≡◌, ◌∷◌, ℕ, [], OnOk, nat_eq};
+ghost use Rattle.std.specs.HashMap.{get};
+ghost use Rattle.std.specs.Option.{unwrap_or};
 ghost use Rattle.mq_end.specs.Both.{answered_identifier};
 ghost use Rattle.mq_world.specs.Half.{accepted_with, freed_with, last_place, blank_half};
-ghost use Rattle.mq_world.specs.OverBytes.{handed_with};
-ghost use Rattle.mq_world.specs.Listed.{accepted_in, handed_in, accepted_count, handed_count};
 
 use mq_end::{Happening, Progress};
 use mq_packet::{Message, PacketId};
 use mq_topic::Qos;
 use std::alloc::{AllocError, Global};
+use std::collections::HashMap;
 
 /// What one side accepted from its user and handed on to it, in order, by quality of service (4.3).
 #[derive(Debug, Drop)]
@@ -28,9 +29,15 @@ pub struct Account {
     pub handed_exactly_once: Vec<Message>,
     /// The places, among the messages of quality of service 1 that it accepted, of those that were acknowledged to it.
     pub freed: Vec<usize>,
+    // The place of the last message of quality of service 1 that was given each identifier.
+    places: HashMap<u16, usize>,
+    ghost last_places: { (i : ℕ) → unwrap_or (get nat_eq places i) 0 ≡ last_place i accepted_at_least_once.items },
 }
 
 impl Account {
+    ghost use Rattle.mq_world.specs.OverBytes.{handed_with};
+    ghost use Rattle.mq_world.specs.Listed.{accepted_in, handed_in, accepted_count, handed_count};
+
     /// Nothing accepted, nothing handed on. It takes no memory.
     pub fn new(alloc: Global) -> Account
         ensures accepted { accepted_in result ≡ blank_half.accepted }
@@ -45,6 +52,7 @@ impl Account {
             handed_at_least_once: Vec::new(alloc),
             handed_exactly_once: Vec::new(alloc),
             freed: Vec::new(alloc),
+            places: HashMap::new(alloc),
         }
     }
 
@@ -83,7 +91,12 @@ impl Account {
     {
         match (message.qos, id) {
             (Qos::Q0, _) => self.accepted_at_most_once.push(message)?,
-            (Qos::Q1, Some(id)) => self.accepted_at_least_once.push((id, message))?,
+            (Qos::Q1, Some(id)) => {
+                let place = self.accepted_at_least_once.len();
+                self.accepted_at_least_once.reserve(1)?;
+                self.places.insert(id.get(), place)?;
+                self.accepted_at_least_once.push_reserved((id, message));
+            }
             (Qos::Q1, None) => (),
             (Qos::Q2, _) => self.accepted_exactly_once.push(message)?,
         }
@@ -126,7 +139,7 @@ impl Account {
         ensures handed { OnOk result (handed_in self.new ≡ handed_in self.old) }
     {
         for id in acknowledged {
-            let place = last_place(self.accepted_at_least_once.as_slice(), *id);
+            let place = self.places.get(&id.get()).copied().unwrap_or(0);
             self.freed.push(place)?;
         }
         Ok(())
@@ -142,19 +155,4 @@ impl Account {
         self.hand_all(progress.happenings.as_slice())?;
         self.free_all(progress.acknowledged.as_slice())
     }
-}
-
-// The place of the last message with this identifier: acknowledged messages are mostly young, so it is looked for from the
-// back.
-fn last_place(given: &[(PacketId, Message)], id: PacketId) -> usize
-    ensures { result ≡ last_place id given.now }
-{
-    let mut place = given.len();
-    while place > 0 {
-        place -= 1;
-        if given[place].0 == id {
-            return place;
-        }
-    }
-    0
 }

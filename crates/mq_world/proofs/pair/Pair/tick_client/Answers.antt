@@ -29,7 +29,7 @@ returns-clause-does c = λ limit capacity m s.
       client = record w.client { state = c.take_all_output-output.new.self.link; clock = c.saturating_add-self.result };
       server = record w.server { wire = c.carry.new.wire };
     } in
-    let told = asked_at c.over_bytes.ensures limit capacity w v c.args.more new (subst (λ (n : ℕ). Ticks n old new) now c.in-Ok.ensures.ok)
+    let told = asked_at c.over_bytes.ensures limit capacity w v c.args.more new s.carries.client.output (subst (λ (n : ℕ). Ticks n old new) now c.in-Ok.ensures.ok)
     (λ i. record {
       client = record w.client { state = ap (λ (z : ClientState). z.link) c.take_all_output-output.ensures.left i; clock = now i };
       server = record w.server { wire = (c.in_ok-carry.ensures.ok ∙ ap (λ (b : List ℕ). w.server.wire ++ b) c.take_all_output-output.ensures.bytes) i };
