@@ -9,6 +9,7 @@ pub mod Holding
 pub mod Kept
 pub mod Claims
 pub mod Round
+pub mod Next
 pub mod Restoring
 pub mod Moves
 pub mod Fields

@@ -3,6 +3,7 @@ pub mod Held
 pub mod Sending
 pub mod Receiver
 pub mod Laws
+pub mod Next
 pub mod Saved
 pub mod Loading
 pub mod SavedLaws

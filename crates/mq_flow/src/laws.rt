@@ -1,12 +1,19 @@
 //! The laws of the sender's book.
 
 ghost use Rattle.mq_flow.specs.Laws.{IdentifierLaws, ReceiverLaws, SendingLaws, StrayLaws};
+ghost use Rattle.mq_flow.specs.Next.{NextLaws};
 ghost use Rattle.mq_flow.specs.SavedLaws.{SavedLaws};
 
 /// The identifiers of a sender's book: from 1 to 65,535, each in use once, and at most as many as the
 /// capacity, whatever moves it makes; and one that is not full has an identifier to give (2.3.1).
 pub fn identifier_laws()
     ensures { IdentifierLaws }
+{}
+
+/// The identifier that the next packet gets: it is the first free one wherever the book isn't full, and it is the only
+/// first free one (2.3.1).
+pub fn next_laws()
+    ensures { NextLaws }
 {}
 
 /// An acknowledgement that nothing waits for changes nothing, one that something waits for takes exactly

@@ -21,7 +21,9 @@ mod table;
 pub use crate::claim::{Claim, Claimed};
 pub use crate::entry::Entry;
 pub use crate::iter::Entries;
-pub use crate::laws::{identifier_laws, receiver_laws, saved_laws, sending_laws, stray_laws};
+pub use crate::laws::{
+    identifier_laws, next_laws, receiver_laws, saved_laws, sending_laws, stray_laws,
+};
 pub use crate::loading::LoadError;
 pub use crate::reaction::{Reaction, Refusal};
 pub use crate::receiver::Receiver;

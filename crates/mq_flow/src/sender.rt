@@ -5,6 +5,8 @@ ghost use Rattle.std.specs.List.{list_any};
 ghost use Rattle.std.specs.Map.Iter.{ShowsInOrder, deref};
 ghost use Rattle.mq_flow.specs.declared.entry.Entry.{Entry};
 ghost use Rattle.mq_topic.specs.declared.qos.Qos.TheVariants.{Q0, Q1, Q2};
+ghost use Rattle.mq_flow.specs.Laws.{IsSound};
+ghost use Rattle.mq_flow.specs.Next.{next_identifier};
 ghost use Rattle.mq_flow.specs.Sender.{blank_book, uses, times, IsFree, IsFirstFree, is_full, is_awaited, same_qos, held, accept as accepted, claim, release, no_claims, awaits_suback, awaits_unsuback};
 
 use crate::claim::{Claim, Claimed};
@@ -65,6 +67,7 @@ impl Sender {
     pub fn capacity(&self) -> u16
         ensures capacity { result ≡ self.now.capacity }
         ensures able { 0 < result }
+        ensures sound { IsSound result self.now.book }
     {
         self.capacity
     }
@@ -138,10 +141,11 @@ impl Sender {
     /// Accepts a message of quality of service 1 or 2, to be sent later, with the next identifier (2.3.1, 4.3.2,
     /// 4.3.3). Errs where as many identifiers are in use as there is room for, or where memory runs out, and then
     /// nothing changes.
+    #[tactic(auto, using(crate::proofs::Next::is_next))]
     pub fn accept(&mut self, message: Message) -> Result<PacketId, Refusal>
         requires kept { message.qos ≡ Q0 → ⊥ }
         ensures full { IsErrOf result Refusal.Full ↔ (is_full self.old.capacity self.old.book ≡ true) }
-        ensures first { IfOk result (IsFirstFree self.old.last self.old.book) }
+        ensures next { IfOk result (λ id. id ≡ next_identifier self.old.last self.old.book) }
         ensures book { IfOk result (λ id. self.new.book ≡ accepted id message false self.old.book) }
         ensures last { IfOk result (λ id. self.new.last ≡ id) }
         ensures capacity { self.new.capacity ≡ self.old.capacity }

@@ -1,7 +1,8 @@
 //! The session of a client or a server (3.1.2.4, 4.1).
 
 ghost use Rattle.std.specs.Prelude.{◌≡◌, ◌↔◌, ◌<◌, true, IfOk, OnErr, IsErrOf};
-ghost use Rattle.mq_flow.specs.Sender.{blank_book, IsFirstFree, is_full, claim, release};
+ghost use Rattle.mq_flow.specs.Next.{next_identifier};
+ghost use Rattle.mq_flow.specs.Sender.{blank_book, is_full, claim, release};
 ghost use Rattle.mq_flow.specs.Receiver.{none_received};
 
 use crate::claim::{Claim, Claimed};
@@ -38,9 +39,10 @@ impl Session {
 
     /// Puts the next identifier in use by a SUBSCRIBE or an UNSUBSCRIBE with so many filters (2.3.1). Errs where as
     /// many identifiers are in use as there is room for, or where memory runs out, and then nothing changes.
+    #[tactic(auto, using(crate::proofs::Next::is_next))]
     pub fn claim_id(&mut self, kind: Claim, count: usize) -> Result<PacketId, Refusal>
         ensures full { IsErrOf result Refusal.Full ↔ (is_full self.old.sender.capacity self.old.sender.book ≡ true) }
-        ensures first { IfOk result (IsFirstFree self.old.sender.last self.old.sender.book) }
+        ensures next { IfOk result (λ id. id ≡ next_identifier self.old.sender.last self.old.sender.book) }
         ensures book { IfOk result (λ id. self.new.sender.book ≡ claim id kind count self.old.sender.book) }
         ensures last { IfOk result (λ id. self.new.sender.last ≡ id) }
         ensures capacity { self.new.sender.capacity ≡ self.old.sender.capacity }

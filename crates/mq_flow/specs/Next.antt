@@ -1,0 +1,22 @@
+-- The identifier that the next packet gets, as a function (2.3.1).
+use Rattle.std.specs.Prelude.{ℕ, zero, suc, ◌+◌, ◌≤◌, ◌≡◌, false, if◌then◌else◌, List, ◌==◌, nat_lt}
+use Rattle.std.specs.List.{list_any}
+use Rattle.mq_flow.specs.Sender.{SenderBook, IsFirstFree, is_full, uses}
+
+-- the identifier after this one, counted round from 65,535 to 1
+abbrev pub following : ℕ → ℕ
+following i = if nat_lt i 65535 then i + 1 else 1
+
+-- the first one that is not in use, of so many and one more after this one
+abbrev pub free_after : ℕ → ℕ → List ℕ → ℕ
+free_after zero i used = following i
+free_after (suc more) i used = if list_any (λ j. j == following i) used then free_after more (following i) used else following i
+
+-- the first one after the identifier that was given last that is not in use (2.3.1)
+unfoldable pub next_identifier : ℕ → SenderBook → ℕ
+next_identifier last b = free_after 65535 last (uses b)
+
+-- The next identifier is the first free one, wherever the book is not full, and there is no other first free one.
+pub record NextLaws : Type 0 where
+  pub first : (capacity last : ℕ) (b : SenderBook) → capacity ≤ 65535 → is_full capacity b ≡ false → IsFirstFree last b (next_identifier last b)
+  pub only : (last i : ℕ) (b : SenderBook) → IsFirstFree last b i → i ≡ next_identifier last b
