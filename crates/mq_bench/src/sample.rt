@@ -4,8 +4,8 @@ use crate::subject::Subject;
 use anyhow::Context;
 use bytes::Bytes;
 use mq_packet::{
-    Binary, ConnAck, Connect, Delivery, Login, Message, NonEmpty, Packet, PacketId, Payload,
-    Publish, Request, SubAckCode, Will,
+    Binary, BoxedConnect, ConnAck, Connect, Delivery, Login, Message, NonEmpty, Packet, PacketId,
+    Payload, Publish, Request, SubAckCode, Will,
 };
 use mq_topic::{Qos, TopicFilter, TopicName};
 use mq_wire::Text;
@@ -41,13 +41,14 @@ fn connect(alloc: Global) -> anyhow::Result<Packet> {
         name: Text::new(alloc, "greenhouse")?,
         password: Some(binary(alloc, 24)?),
     };
-    Ok(Packet::Connect(Connect {
+    let connect = Connect {
         client_id: Text::new(alloc, "greenhouse-4-north")?,
         clean_session: true,
         keep_alive: 60,
         will: Some(will),
         login: Some(login),
-    }))
+    };
+    Ok(Packet::Connect(BoxedConnect::new(alloc, connect)?))
 }
 
 /// A PUBLISH of quality of service 1 with a payload of this size.

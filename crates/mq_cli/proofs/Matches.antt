@@ -1,5 +1,5 @@
 -- From the parser's matches to a job.
-use Rattle.std.proofs.Common.{◌≡◌, ℕ, refl, sym, ◌∙◌, true, List, Bor, Option, Some, None, Result, Ok, option_map}
+use Rattle.std.proofs.Common.{◌≡◌, ℕ, refl, sym, ◌∙◌, Bool, true, false, codes, List, Bor, Option, Some, None, Result, Ok, option_map}
 use Rattle.std.specs.Prelude.{Box, IfSome}
 use Rattle.std.specs.Box.{box_value}
 use Rattle.std.specs.Str.Parse.{ParsesUnsigned}
@@ -10,7 +10,7 @@ use Rattle.clap.specs.declared.parser.matches.Found.{Found}
 use Rattle.clap.specs.declared.parser.matches.SubCommand.{SubCommand}
 use Rattle.clap.proofs.OnLiterals.{clap_on_literals}
 use Rattle.clap.proofs.WalkLemmas.{first_value-rows, one_text-rows}
-use Rattle.mq_cli.specs.CommandLine.{GivesNumber, GivesWord, program_words}
+use Rattle.mq_cli.specs.CommandLine.{GivesFlag, GivesNumber, GivesWord, program_words}
 
 pub program_is_simple : is_simple program_words ≡ true
 unfolding clap_on_literals
@@ -44,3 +44,10 @@ number_given {Z} {E} G o name word f (Some n) met only none read = go (one_text 
     go (Some t) e =
         let parsed : ParsesUnsigned {E = E} 64 10 t (Ok n) = only t n (read t e) in
         (rows_of f, t, command_met o name (rows_of f) met.named met.rows, sym (one_text-rows f word) ∙ e, parsed.0.0, sym parsed.1)
+
+-- whether a flag was given
+pub flag_given : {Z : Type 0} (o : Option (Box SubCommand Z)) (name word : Text) (f : Found) (flag : Bool) → Met o name f → (one_text f word ≡ Some (codes "true") → flag ≡ true)
+    → (one_text f word ≡ Some (codes "false") → flag ≡ false) → (one_text f word ≡ None → flag ≡ false) → GivesFlag (subcommand_rows o) name word flag
+flag_given o name word f flag met given default none =
+    let same = one_text-rows f word in
+    (rows_of f, command_met o name (rows_of f) met.named met.rows, record { given = λ e. given (same ∙ e); default = λ e. default (same ∙ e); none = λ e. none (same ∙ e) })

@@ -1,12 +1,13 @@
 -- What was written behind what a writer holds.
-use Rattle.std.proofs.Common.{◌≡◌, ℕ, List, ◌++◌, Option, Some, None, Result, Ok, Err, refl, sym, ap, subst, ◌∙◌, append_assoc, inl, inr}
+use Rattle.std.proofs.Common.{◌≡◌, ℕ, Bool, List, ◌++◌, Option, Some, None, Result, Ok, Err, refl, sym, ap, subst, ◌∙◌, append_assoc, inl, inr}
 use Rattle.std.specs.Prelude.{IfOk, OnOk}
 use Rattle.std.specs.Io.KnownBytes.{Appends}
+use Rattle.mq_decode.specs.Limits.{Bounds}
 use Rattle.mq_cli.specs.declared.stream.Shown.{Shown}
 use Rattle.mq_cli.specs.Show.{Shows}
 use Rattle.mq_line.specs.Lines.{Prints}
 use Rattle.mq_cli.specs.Printed.{no_memory, shown_lines}
-use Rattle.mq_cli.specs.Status.{IsMadeUp, IsRandomText, IsShowDone, IsTextReplayed, end_status}
+use Rattle.mq_cli.specs.Status.{IsMadeUp, IsRandomText, IsShowDone, IsTextReplayed, end_status, widest}
 use Rattle.mq_schedule.specs.declared.schedule.Schedule.{Schedule}
 use Rattle.mq_schedule.specs.Schedule.{IsSchedule, lines_of}
 use Rattle.mq_schedule.specs.Writing.{schedule_text}
@@ -26,11 +27,11 @@ printed_one (Ok x) n old new text P h k p = (text, k, subst (λ (m : ℕ). P m t
 printed_one (Err e) n old new text P h k p = tt
 
 -- what is shown is that of `show`
-pub shown_done : {E : Type 0} (limit : ℕ) (digits : List ℕ) (shown : Shown) (r : Result ℕ E) (old new : Option (List ℕ)) → limit ≡ 268435455 → Shows limit digits shown
-    → IfOk r (λ status. status ≡ end_status shown.end) → OnOk r (Appends old new (shown_lines shown)) → IfOk r (λ status. Prints old new (IsShowDone digits status))
-shown_done limit digits shown r old new most shows h k =
-    let widest : Shows 268435455 digits shown = subst (λ (n : ℕ). Shows n digits shown) most shows in
-    printed_one r (end_status shown.end) old new (shown_lines shown) (IsShowDone digits) h k (inl (shown, widest, refl, refl))
+pub shown_done : {E : Type 0} (lenient : Bool) (limits : Bounds) (digits : List ℕ) (shown : Shown) (r : Result ℕ E) (old new : Option (List ℕ)) → limits ≡ widest lenient → Shows limits digits shown
+    → IfOk r (λ status. status ≡ end_status shown.end) → OnOk r (Appends old new (shown_lines shown)) → IfOk r (λ status. Prints old new (IsShowDone lenient digits status))
+shown_done lenient limits digits shown r old new is shows h k =
+    let here : Shows (widest lenient) digits shown = subst (λ (l : Bounds). Shows l digits shown) is shows in
+    printed_one r (end_status shown.end) old new (shown_lines shown) (IsShowDone lenient digits) h k (inl (shown, here, refl, refl))
 
 -- a text, and then what a function wrote
 pub printed_then : {E : Type 0} (r : Result ℕ E) (a b c : Option (List ℕ)) (x y : List ℕ) → Appends a b x → OnOk r (Appends b c y) → OnOk r (Appends a c (x ++ y))

@@ -1,8 +1,9 @@
 -- What the words of a command line ask for.
-use Rattle.std.specs.Prelude.{◌≡◌, ℕ, pos, true, List, Option, Some, codes}
+use Rattle.std.specs.Prelude.{◌≡◌, ℕ, pos, Bool, true, false, List, Option, Some, None, codes}
 use Rattle.std.specs.Str.Parse.{IsNumeral, digits_value, without_leading_plus}
 use Rattle.clap.specs.Simple.{on_top}
 use Rattle.clap.specs.Words.{App, Row, Rule, Text, first_of, new_app, new_rule, one_of, with_rule, with_subcommand}
+use Rattle.clap.specs.declared.builder.action.ArgAction.TheVariants.{SetTrue}
 use Rattle.clap.specs.declared.builder.value_parser.ValueParser.{ValueParser}
 use Rattle.clap.specs.declared.builder.value_parser.ValueParser.TheVariants.{Signed, Unsigned}
 use Rattle.mq_cli.specs.declared.jobs.Job.{Job}
@@ -18,6 +19,10 @@ word_words name word = with_rule (new_app name) (record (new_rule word) { requir
 abbrev pub match_words : App
 match_words = with_rule (word_words (codes "match") (codes "FILTER")) (record (new_rule (codes "NAME")) { required = true })
 
+-- the same, with the flag `--lenient`
+abbrev pub lenient_words : Text → Text → App
+lenient_words name word = with_rule (word_words name word) (record (new_rule (codes "LENIENT")) { long = Some (codes "lenient"); action = Some SetTrue })
+
 -- an option with a number of this kind, which has to be there
 abbrev pub number_rule : Text → Text → ValueParser → Rule
 number_rule word name kind = record (new_rule word) { long = Some name; parser = Some kind; required = true }
@@ -26,10 +31,10 @@ number_rule word name kind = record (new_rule word) { long = Some name; parser =
 abbrev pub random_words : App
 random_words = with_rule (with_rule (new_app (codes "random")) (number_rule (codes "START") (codes "start") (Unsigned 0 18446744073709551615))) (number_rule (codes "STEPS") (codes "steps") (Signed (pos 0) (pos 4294967295)))
 
--- the program's name, and one of its commands: `show HEX`, `check FILE`
+-- the program's name, and one of its commands: `show [--lenient] HEX`, `check [--lenient] FILE`
 abbrev pub stream_words : App
 stream_words = with_subcommand (with_subcommand (on_top (λ s. record s { has_version = true; subcommand_required = true; arg_required_else_help = true }) (new_app (codes "mqtt")))
-    (word_words (codes "show") (codes "HEX")).top) (word_words (codes "check") (codes "FILE")).top
+    (lenient_words (codes "show") (codes "HEX")).top) (lenient_words (codes "check") (codes "FILE")).top
 
 -- `match`, `replay FILE`, `random`
 abbrev pub program_words : App
@@ -46,10 +51,20 @@ abbrev pub GivesNumber : Option (Text × List Row) → Text → Text → ℕ →
 GivesNumber command name word n =
     (rows : List Row) × (digits : Text) × (command ≡ Some (name, rows)) × (one_of word rows ≡ Some digits) × IsNumeral 10 (without_leading_plus digits) × (digits_value 10 (without_leading_plus digits) ≡ n)
 
+-- what the value of a flag says: that it was given, or that it wasn't
+pub record IsFlag (value : Option Text) (flag : Bool) : Type 0 where
+  pub given : value ≡ Some (codes "true") → flag ≡ true
+  pub default : value ≡ Some (codes "false") → flag ≡ false
+  pub none : value ≡ None → flag ≡ false
+
+-- the command of this name was met, and whether the flag was given
+abbrev pub GivesFlag : Option (Text × List Row) → Text → Text → Bool → Type 0
+GivesFlag command name word flag = (rows : List Row) × (command ≡ Some (name, rows)) × IsFlag (one_of word rows) flag
+
 -- the job is that of the command that was met and of its values
 abbrev pub IsJobOf : Option (Text × List Row) → Job → Type 0
-IsJobOf command (Show hex) = GivesWord command (codes "show") (codes "HEX") hex.now
-IsJobOf command (Check file) = GivesWord command (codes "check") (codes "FILE") file.now
+IsJobOf command (Show hex lenient) = GivesWord command (codes "show") (codes "HEX") hex.now × GivesFlag command (codes "show") (codes "LENIENT") lenient
+IsJobOf command (Check file lenient) = GivesWord command (codes "check") (codes "FILE") file.now × GivesFlag command (codes "check") (codes "LENIENT") lenient
 IsJobOf command (Match filter name) = GivesWord command (codes "match") (codes "FILTER") filter.now × GivesWord command (codes "match") (codes "NAME") name.now
 IsJobOf command (Replay file) = GivesWord command (codes "replay") (codes "FILE") file.now
 IsJobOf command (Random start steps) = GivesNumber command (codes "random") (codes "START") start × GivesNumber command (codes "random") (codes "STEPS") steps

@@ -4,6 +4,7 @@ use Rattle.std.specs.Int.NonZero.{non_zero_u16_get}
 use Rattle.mq_topic.specs.Fault.{filter_fault, name_fault}
 use Rattle.mq_topic.specs.Matching.{is_match}
 use Rattle.mq_topic.specs.declared.fault.TopicFault.{TopicFault}
+use Rattle.mq_decode.specs.Limits.{Bounds, strict}
 use Rattle.mq_cli.specs.declared.jobs.Job.{Job}
 use Rattle.mq_cli.specs.declared.jobs.Job.TheVariants as jobs
 use Rattle.mq_cli.specs.declared.stream.StreamEnd.{StreamEnd}
@@ -35,17 +36,21 @@ count_status ends.Whole = 0
 count_status ends.Cut = 1
 count_status (ends.Fault fault start) = 1
 
+-- the limit of the standard (2.2.3); a length may have more bytes than it needs, or not
+abbrev pub widest : Bool → Bounds
+widest lenient = record { most = 268435455; lenient = lenient }
+
 -- the status and the lines of `show`: those of what is shown within the limit of the standard, 2 for what is no hexadecimal, or 3
 -- for want of memory
-abbrev pub IsShowDone : List ℕ → ℕ → List ℕ → Type 0
-IsShowDone digits status text =
-    ((shown : Shown) × Shows 268435455 digits shown × (status ≡ end_status shown.end) × (text ≡ shown_lines shown)) ⊎ ((status ≡ 2) × (text ≡ bad_hex) × (¬ IsHexadecimal digits)) ⊎ ((status ≡ 3) × (text ≡ no_memory))
+abbrev pub IsShowDone : Bool → List ℕ → ℕ → List ℕ → Type 0
+IsShowDone lenient digits status text =
+    ((shown : Shown) × Shows (widest lenient) digits shown × (status ≡ end_status shown.end) × (text ≡ shown_lines shown)) ⊎ ((status ≡ 2) × (text ≡ bad_hex) × (¬ IsHexadecimal digits)) ⊎ ((status ≡ 3) × (text ≡ no_memory))
 
 -- the status and the lines of `check`: those of what a file has, where its bytes are known, or 2 where it can't be read, or 3 for
 -- want of memory
-abbrev pub IsCheckDone : Option (List ℕ) → ℕ → List ℕ → Type 0
-IsCheckDone left status text =
-    ((count : PacketCount) × IfSome left (Counts 268435455 count) × (status ≡ count_status count.end) × (text ≡ count_lines count)) ⊎ ((status ≡ 2) × (text ≡ file_not_read)) ⊎ ((status ≡ 3) × (text ≡ no_memory))
+abbrev pub IsCheckDone : Bool → Option (List ℕ) → ℕ → List ℕ → Type 0
+IsCheckDone lenient left status text =
+    ((count : PacketCount) × IfSome left (Counts (widest lenient) count) × (status ≡ count_status count.end) × (text ≡ count_lines count)) ⊎ ((status ≡ 2) × (text ≡ file_not_read)) ⊎ ((status ≡ 3) × (text ≡ no_memory))
 
 -- 0 where the filter matches
 abbrev pub match_status : Bool → ℕ
@@ -82,7 +87,7 @@ IsReplayDone left status printed =
 -- so many events that are made up from a start, and then all settles: the remaining length of packets is 65,536 at most (2.2.3), and
 -- 4 packet identifiers may be in use at a side (2.3.1)
 pub record IsMadeUp (start count : ℕ) (schedule : Schedule) : Type 0 where
-  pub limit : schedule.limits ≡ 65536
+  pub limit : schedule.limits ≡ strict 65536
   pub capacity : non_zero_u16_get schedule.capacity ≡ 4
   pub all : schedule.steps.items ≡ map (λ event. Event event) (made_up start count) ++ Settle ∷ []
 
@@ -96,8 +101,8 @@ IsRandomDone start count status text = ((status ≡ 0) × IsRandomText start cou
 
 -- the status that a job ends with and the lines that it prints, over a file with these bytes
 abbrev pub IsDone : Job → Option (List ℕ) → ℕ → List ℕ → Type 0
-IsDone (jobs.Show hex) left status text = IsShowDone hex.now status text
-IsDone (jobs.Check file) left status text = IsCheckDone left status text
+IsDone (jobs.Show hex lenient) left status text = IsShowDone lenient hex.now status text
+IsDone (jobs.Check file lenient) left status text = IsCheckDone lenient left status text
 IsDone (jobs.Match filter name) left status text = IsMatchDone filter.now name.now status text
 IsDone (jobs.Replay file) left status text = IsReplayDone left status text
 IsDone (jobs.Random start steps) left status text = IsRandomDone start steps status text

@@ -5,8 +5,7 @@ ghost use Rattle.std.specs.Io.KnownBytes.{IsAtEnd};
 ghost use Rattle.mq_decode.specs.Reader.{ReadStops};
 ghost use Rattle.mq_cli.specs.Count.{Counts, IsTaken, end_with};
 
-use mq_decode::{DecodeFault, Limits, ReadError, read_packet, reads_again};
-use mq_packet::encoded_len;
+use mq_decode::{DecodeFault, Limits, ReadError, read_sized, reads_again};
 use std::alloc::Global;
 use std::io;
 use std::io::Read;
@@ -64,14 +63,14 @@ fn read_size<R: Read>(
     alloc: Global,
     reader: &mut R,
     limits: Limits,
-) -> Result<Option<u32>, ReadError>
+) -> Result<Option<usize>, ReadError>
     ensures size { IfOk result (λ o. IfSome o
         (IsTaken limits (R.remaining reader.old) (R.remaining reader.new))) }
     ensures none { IfOk result (λ o. IfNone o (IsAtEnd (R.remaining reader.old))) }
     ensures err { IfErr result (ReadStops limits (R.remaining reader.old)) }
 {
-    match read_packet(alloc, reader, limits)? {
-        Some(packet) => Ok(Some(encoded_len(&packet).unwrap())),
+    match read_sized(alloc, reader, limits)? {
+        Some(found) => Ok(Some(found.1)),
         None => Ok(None),
     }
 }
@@ -99,9 +98,7 @@ pub fn count_packets<R: Read>(
                 return Ok(PacketCount { packets, end });
             }
         };
-        start = start
-            .checked_add(u64::from(size))
-            .ok_or(CountFault::TooLong)?;
+        start = start.checked_add(size as u64).ok_or(CountFault::TooLong)?;
         packets += 1;
     }
 }

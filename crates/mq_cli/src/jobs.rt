@@ -7,11 +7,15 @@ pub enum Job<'a> {
     Show {
         /// The bytes, as hexadecimal digits.
         hex: &'a str,
+        /// A remaining length may have more bytes than it needs (2.2.3).
+        lenient: bool,
     },
     /// To count the packets of a file.
     Check {
         /// The file's name.
         file: &'a str,
+        /// A remaining length may have more bytes than it needs (2.2.3).
+        lenient: bool,
     },
     /// To match a topic filter against a topic name.
     Match {

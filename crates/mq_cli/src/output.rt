@@ -5,7 +5,7 @@ ghost use Rattle.std.specs.Io.KnownBytes.{Appends};
 ghost use Rattle.mq_topic.specs.Matching.{is_match};
 ghost use Rattle.mq_line.specs.Lines.{Prints};
 ghost use Rattle.mq_cli.specs.Printed.{bad_hex, count_end_lines, count_lines, end_lines, fault_line, file_not_read, match_line, no_memory, packets_line, shown_lines, topic_code, topic_line};
-ghost use Rattle.mq_cli.specs.Status.{IsCheckDone, IsDone, IsMatchDone, IsShowDone, count_status, end_status, match_status};
+ghost use Rattle.mq_cli.specs.Status.{IsCheckDone, IsDone, IsMatchDone, IsShowDone, count_status, end_status, match_status, widest};
 
 use crate::count::{CountEnd, CountFault, PacketCount, count_packets};
 use crate::jobs::Job;
@@ -89,12 +89,21 @@ fn write_shown<W: Write>(output: &mut W, shown: &Shown) -> io::Result<u8>
     write_end(output, shown.end)
 }
 
-fn show<W: Write>(alloc: Global, hex: &str, output: &mut W) -> io::Result<u8>
-    ensures { IfOk result (λ status. Prints (W.contents output.old) (W.contents output.new)
-        (IsShowDone hex.now status)) }
+// The limit of the standard (2.2.3).
+fn widest(lenient: bool) -> Limits
+    ensures { result ≡ widest lenient }
 {
-    let limits = Limits::new(MAX_PACKET).unwrap();
-    match shown(alloc, hex, limits) {
+    if lenient {
+        return Limits::lenient(MAX_PACKET).unwrap();
+    }
+    Limits::new(MAX_PACKET).unwrap()
+}
+
+fn show<W: Write>(alloc: Global, hex: &str, lenient: bool, output: &mut W) -> io::Result<u8>
+    ensures { IfOk result (λ status. Prints (W.contents output.old) (W.contents output.new)
+        (IsShowDone lenient hex.now status)) }
+{
+    match shown(alloc, hex, widest(lenient)) {
         Ok(shown) => write_shown(output, &shown),
         Err(ShowFault::BadHex) => bad_hex(output),
         Err(ShowFault::Memory) => out_of_memory(output),
@@ -144,12 +153,16 @@ pub fn file_not_read<W: Write>(output: &mut W) -> io::Result<u8>
     Ok(BAD_INPUT)
 }
 
-fn check<R: Read, W: Write>(alloc: Global, input: &mut R, output: &mut W) -> io::Result<u8>
+fn check<R: Read, W: Write>(
+    alloc: Global,
+    input: &mut R,
+    lenient: bool,
+    output: &mut W,
+) -> io::Result<u8>
     ensures { IfOk result (λ status. Prints (W.contents output.old) (W.contents output.new)
-        (IsCheckDone (R.remaining input.old) status)) }
+        (IsCheckDone lenient (R.remaining input.old) status)) }
 {
-    let limits = Limits::new(MAX_PACKET).unwrap();
-    match count_packets(alloc, input, limits) {
+    match count_packets(alloc, input, widest(lenient)) {
         Ok(count) => write_count(output, count),
         Err(CountFault::Memory) => out_of_memory(output),
         Err(CountFault::Io(_) | CountFault::TooLong) => file_not_read(output),
@@ -228,8 +241,8 @@ pub fn perform<R: Read, W: Write>(
         (IsDone job.now (R.remaining input.old) status)) }
 {
     match job {
-        Job::Show { hex } => show(alloc, hex, output),
-        Job::Check { .. } => check(alloc, input, output),
+        Job::Show { hex, lenient } => show(alloc, hex, *lenient, output),
+        Job::Check { lenient, .. } => check(alloc, input, *lenient, output),
         Job::Match { filter, name } => match_texts(alloc, filter, name, output),
         Job::Replay { .. } => replay_file(alloc, input, output),
         Job::Random { start, steps } => write_random(alloc, *start, *steps, output),

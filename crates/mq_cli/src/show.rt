@@ -9,8 +9,8 @@ ghost use Rattle.mq_cli.specs.Hexadecimal.{IsHexadecimal};
 ghost use Rattle.mq_cli.specs.Show.{Shows};
 
 use crate::stream::{Shown, StreamEnd};
-use mq_decode::{DecodeError, Limits, decode_pieces};
-use mq_packet::{Packet, encoded_len};
+use mq_decode::{DecodeError, Limits, decode_pieces, packet_len};
+use mq_packet::Packet;
 use std::alloc::Global;
 use thiserror::Error;
 
@@ -57,8 +57,9 @@ fn size_of(limits: Limits, packets: &[Packet], bytes: &[u8]) -> usize
 {
     let _ = (bytes.len(), limits.max_packet());
     let mut size = 0;
-    for packet in packets {
-        size += encoded_len(packet).unwrap() as usize;
+    for _packet in packets {
+        let (_, rest) = bytes.split_at(size);
+        size += packet_len(limits, rest).unwrap();
     }
     size
 }

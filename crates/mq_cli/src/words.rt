@@ -3,12 +3,12 @@
 ghost use Rattle.std.specs.Prelude.{◌≡◌, false, map, IfOk, IfSome};
 ghost use Rattle.clap.specs.Words.{app_of, rule_of, subcommand_of, subcommand_rows_of};
 ghost use Rattle.clap.specs.declared.builder.command.Command.TheViews.{out-Command};
-ghost use Rattle.mq_cli.specs.CommandLine.{GivesNumber, GivesWord, IsJobOf, match_words, number_rule, program_words, random_words, stream_words, word_words};
+ghost use Rattle.mq_cli.specs.CommandLine.{GivesFlag, GivesNumber, GivesWord, IsJobOf, lenient_words, match_words, number_rule, program_words, random_words, stream_words, word_words};
 
 use crate::jobs::Job;
 use clap::builder::ValueParser;
 use clap::error::ErrorKind;
-use clap::{Arg, ArgMatches, Command, Error, value_parser};
+use clap::{Arg, ArgAction, ArgMatches, Command, Error, value_parser};
 use std::alloc::{AllocError, Global};
 
 /// Why words are no job.
@@ -49,6 +49,24 @@ fn word_command<'a>(
 {
     let word = Arg::new(alloc, word).help(help).required(true);
     Command::new(alloc, name).about(about).arg(word)
+}
+
+// The same, with the flag `--lenient`.
+fn lenient_command<'a>(
+    alloc: Global,
+    name: &'a str,
+    about: &'a str,
+    word: &'a str,
+    help: &'a str,
+) -> Result<Command<'a>, AllocError>
+    ensures words { IfOk result (λ command. app_of command ≡ lenient_words name.now word.now) }
+    ensures local { IfOk result (λ command. (out-Command command).has_globals ≡ false) }
+{
+    let lenient = Arg::new(alloc, "LENIENT")
+        .long("lenient")
+        .help("Takes a remaining length with more bytes than it needs")
+        .action(ArgAction::SetTrue);
+    word_command(alloc, name, about, word, help)?.arg(lenient)
 }
 
 // `match FILTER NAME`.
@@ -102,10 +120,10 @@ fn stream_commands<'a>(alloc: Global) -> Result<Command<'a>, AllocError>
 {
     let shows = "Prints each packet of a stream of bytes on a line, and how the stream ends";
     let digits = "The bytes, two hexadecimal digits each";
-    let show = word_command(alloc, "show", shows, "HEX", digits)?;
+    let show = lenient_command(alloc, "show", shows, "HEX", digits)?;
     let checks = "Counts the packets of a file, and says how it ends";
     let bytes = "The file that has the bytes";
-    let check = word_command(alloc, "check", checks, "FILE", bytes)?;
+    let check = lenient_command(alloc, "check", checks, "FILE", bytes)?;
     Command::new(alloc, "mqtt")
         .version("0.1.0")
         .about("Reads and writes MQTT 3.1.1")
@@ -139,6 +157,15 @@ fn word_of<'a>(matches: &ArgMatches<'a>, command: &str, word: &str) -> Option<&'
     met.get_str(word)
 }
 
+// Whether a flag of this command was given, where the command was met.
+fn flag_of(matches: &ArgMatches<'_>, command: &str, word: &str) -> Option<bool>
+    ensures { IfSome result
+        (GivesFlag (subcommand_rows_of matches.now) command.now word.now) }
+{
+    let met = matches.subcommand_matches(command)?;
+    Some(met.get_flag(word))
+}
+
 // The number that an option of this command has, where that was met.
 fn number_of(matches: &ArgMatches<'_>, command: &str, word: &str) -> Option<u64>
     ensures { IfSome result
@@ -153,7 +180,8 @@ fn show_job<'a>(matches: &ArgMatches<'a>) -> Option<Job<'a>>
     ensures { IfSome result (IsJobOf (subcommand_rows_of matches.now)) }
 {
     let hex = word_of(matches, "show", "HEX")?;
-    Some(Job::Show { hex })
+    let lenient = flag_of(matches, "show", "LENIENT")?;
+    Some(Job::Show { hex, lenient })
 }
 
 // The job of `check`, where that was met.
@@ -161,7 +189,8 @@ fn check_job<'a>(matches: &ArgMatches<'a>) -> Option<Job<'a>>
     ensures { IfSome result (IsJobOf (subcommand_rows_of matches.now)) }
 {
     let file = word_of(matches, "check", "FILE")?;
-    Some(Job::Check { file })
+    let lenient = flag_of(matches, "check", "LENIENT")?;
+    Some(Job::Check { file, lenient })
 }
 
 // The job of `match`, where that was met.

@@ -4,7 +4,13 @@
 #[cfg(test)]
 mod decode;
 #[cfg(test)]
+mod lenient;
+#[cfg(test)]
+mod loose_lengths;
+#[cfg(test)]
 mod packet;
+#[cfg(test)]
+mod parts;
 #[cfg(test)]
 mod topic;
 #[cfg(test)]

@@ -1,8 +1,8 @@
 use bytes::Bytes;
 use mq_packet::{
-    Binary, ConnAck, Connect, Delivery, EncodeError, Login, Message, NonEmpty, Packet, PacketId,
-    Payload, Publish, RefusalCode, Request, SubAckCode, Will, WriteError, encode_into, encoded_len,
-    write_packet,
+    Binary, BoxedConnect, ConnAck, Connect, Delivery, EncodeError, Login, Message, NonEmpty,
+    Packet, PacketId, Payload, Publish, RefusalCode, Request, SubAckCode, Will, WriteError,
+    encode_into, encoded_len, write_packet,
 };
 use mq_topic::{Qos, TopicFilter, TopicName};
 use mq_wire::Text;
@@ -87,24 +87,26 @@ fn whole_connect(alloc: Global) -> Result<Packet, Fail> {
         name: Text::new(alloc, "u")?,
         password: Some(binary(b"p")?),
     };
-    Ok(Packet::Connect(Connect {
+    let connect = Connect {
         client_id: Text::new(alloc, "a")?,
         clean_session: true,
         keep_alive: 10,
         will: Some(will),
         login: Some(login),
-    }))
+    };
+    Ok(Packet::Connect(BoxedConnect::new(alloc, connect)?))
 }
 
 // A CONNECT with the least.
 fn least_connect(alloc: Global) -> Result<Packet, Fail> {
-    Ok(Packet::Connect(Connect {
+    let connect = Connect {
         client_id: Text::new(alloc, "a")?,
         clean_session: true,
         keep_alive: 60,
         will: None,
         login: None,
-    }))
+    };
+    Ok(Packet::Connect(BoxedConnect::new(alloc, connect)?))
 }
 
 #[test]

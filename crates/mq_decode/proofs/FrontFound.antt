@@ -5,7 +5,7 @@ use Rattle.std.proofs.lemmas.List.{take_at, length-append, length-take, take-app
 use Rattle.mq_wire.specs.declared.reading.LengthReading.{LengthReading}
 use Rattle.mq_wire.specs.declared.reading.LengthReading.TheVariants.{Whole, Unfinished, TooLong, Overlong}
 use Rattle.mq_wire.specs.Bytes.{AreBytes}
-use Rattle.mq_wire.specs.Length.{Length}
+use Rattle.mq_wire.specs.Length.{LengthUnder}
 use Rattle.mq_wire.specs.Reading.{read_length}
 use Rattle.mq_packet.specs.declared.packet.Packet.{Packet}
 use Rattle.mq_packet.specs.Spelling.{fields, first_byte}
@@ -18,24 +18,25 @@ use Rattle.mq_decode.specs.declared.kind.Kind.{Kind}
 use Rattle.mq_decode.specs.Kind.{kind_at, fixed_size, wrong_size, size_fault}
 use Rattle.mq_decode.specs.Bodies.{body_at}
 use Rattle.mq_decode.specs.Front.{header_at, front_at, GivesFront}
-use Rattle.mq_decode.specs.Grammar.{SpellsWithin, Faulty, AtFirst, AtLength, AtSize, AtField, Pending, IsFront}
+use Rattle.mq_decode.specs.Limits.{Bounds}
+use Rattle.mq_decode.specs.Grammar.{ReadsWithin, Faulty, AtFirst, AtLength, AtSize, AtField, Pending, IsFront}
 use Rattle.mq_decode.proofs.FieldLaws.{Wire, AreBytes-rest}
 use Rattle.mq_decode.proofs.KindLaws.{kind_byte, byte_again, kind_found}
 use Rattle.mq_decode.proofs.BodyLaws.{body_found}
-use Rattle.mq_decode.proofs.FrontLaws.{Read, whole_again, faulty_again, pending_at}
+use Rattle.mq_decode.proofs.FrontLaws.{Read, reads_from, whole_again, faulty_again, pending_at}
 
-abbrev pub FrontFound : ℕ → List ℕ → Read → Type 0
+abbrev pub FrontFound : Bounds → List ℕ → Read → Type 0
 FrontFound limit b (Ok None) = Pending limit b
-FrontFound limit b (Ok (Some x)) = (x.1 ≤ length b) × SpellsWithin limit x.0 (take x.1 b)
+FrontFound limit b (Ok (Some x)) = (x.1 ≤ length b) × ReadsWithin limit x.0 (take x.1 b)
 FrontFound limit b (Err fault) = Faulty limit b fault.kind fault.place
 
-is_pending : (w : Wire) (limit : ℕ) (b : List ℕ) → front_at limit b ≡ Ok None → FrontFound limit b (front_at limit b)
+is_pending : (w : Wire) (limit : Bounds) (b : List ℕ) → front_at limit b ≡ Ok None → FrontFound limit b (front_at limit b)
 is_pending w limit b e = subst (FrontFound limit b) (sym e) (pending_at w limit b e)
 
-is_faulty : (w : Wire) (limit : ℕ) (b : List ℕ) (k : FaultKind) (place : ℕ) → Faulty limit b k place → FrontFound limit b (front_at limit b)
+is_faulty : (w : Wire) (limit : Bounds) (b : List ℕ) (k : FaultKind) (place : ℕ) → Faulty limit b k place → FrontFound limit b (front_at limit b)
 is_faulty w limit b k place h = subst (FrontFound limit b) (sym (faulty_again w limit b k place h)) h
 
-is_whole : (w : Wire) (limit : ℕ) (p : Packet) (s rest : List ℕ) → SpellsWithin limit p s → FrontFound limit (s ++ rest) (front_at limit (s ++ rest))
+is_whole : (w : Wire) (limit : Bounds) (p : Packet) (s rest : List ℕ) → ReadsWithin limit p s → FrontFound limit (s ++ rest) (front_at limit (s ++ rest))
 is_whole w limit p s rest h =
     let front : take (length s) (s ++ rest) ≡ s = take_at s rest (length s) refl in
     let fits : length s ≤ length (s ++ rest) = omega (arith, length-append s rest) in
@@ -56,7 +57,7 @@ within limit kind n e = go (ltb limit n) refl e
     go false is e = ltb-false _ _ is
 
 -- the header is right, and all bytes of the fields are there
-fields_found : (w : Wire) (limit first : ℕ) (kind : Kind) (len body rest : List ℕ) → kind_at first ≡ Ok kind → Length (length body) len → size_fault limit kind (length body) ≡ None
+fields_found : (w : Wire) (limit : Bounds) (first : ℕ) (kind : Kind) (len body rest : List ℕ) → kind_at first ≡ Ok kind → LengthUnder limit.lenient (length body) len → size_fault limit.most kind (length body) ≡ None
     → AreBytes body → FrontFound limit (first ∷ (len ++ (body ++ rest))) (front_at limit (first ∷ (len ++ (body ++ rest))))
 fields_found w limit first kind len body rest right formed size bytes = go (body_at kind body) refl
   where
@@ -65,27 +66,30 @@ fields_found w limit first kind len body rest right formed size bytes = go (body
         (AtField (record { first = first; len = len; body = body; rest = rest; bytes = refl; kind = kind; right = right; formed = formed; size = size; left = bad.left; fault = e; here = refl }))
     go (Ok p) e =
         let k = kind_found first kind right in
-        let small : length body < 2 ^ 28 = w.lengths.below (length body) len formed in
+        let small : length body < 2 ^ 28 = w.lengths.below limit.lenient (length body) len formed in
         let f = body_found w kind body p k.1 small bytes e in
         let first_is : first ≡ first_byte p = k.0 ∙ (ap kind_byte (sym f.kind_is) ∙ byte_again p f.packet) in
         let s : List ℕ = first ∷ (len ++ body) in
         let spelled : s ≡ first_byte p ∷ (len ++ fields p) = rw (first_is, f.parts) refl in
         let count : length body ≡ length (fields p) = ap length f.parts in
-        let whole : SpellsWithin limit p s = (record { packet = f.packet; len = len; formed = subst (λ (n : ℕ). Length n len) count formed; bytes = spelled }, subst (λ (n : ℕ). n ≤ limit) count (within limit kind (length body) size)) in
+        let whole : ReadsWithin limit p s = (
+          reads_from limit.lenient p s (record { packet = f.packet; len = len; formed = subst (λ (n : ℕ). LengthUnder limit.lenient n len) count formed; bytes = spelled }),
+          subst (λ (n : ℕ). n ≤ limit.most) count (within limit.most kind (length body) size),
+        ) in
         let regrouped : s ++ rest ≡ first ∷ (len ++ (body ++ rest)) = ap (λ (t : List ℕ). first ∷ t) (append_assoc len body rest) in
         subst (λ (b : List ℕ). FrontFound limit b (front_at limit b)) regrouped (is_whole w limit p s rest whole)
 
 -- fewer bytes than the remaining length says
-too_short : (w : Wire) (limit first n : ℕ) (kind : Kind) (len rest : List ℕ) → kind_at first ≡ Ok kind → Length n len → size_fault limit kind n ≡ None
+too_short : (w : Wire) (limit : Bounds) (first n : ℕ) (kind : Kind) (len rest : List ℕ) → kind_at first ≡ Ok kind → LengthUnder limit.lenient n len → size_fault limit.most kind n ≡ None
     → ltb (length (first ∷ (len ++ rest))) (1 + length len + n) ≡ true → front_at limit (first ∷ (len ++ rest)) ≡ Ok None
 unfolding front_at header_at
-too_short w limit first n kind len rest right formed size short = rw (right, w.lengths.again n len rest formed, size, short) refl
+too_short w limit first n kind len rest right formed size short = rw (right, w.lengths.again limit.lenient n len rest formed, size, short) refl
 
 -- the remaining length is whole
-length_found : (w : Wire) (limit first n : ℕ) (kind : Kind) (len rest : List ℕ) → kind_at first ≡ Ok kind → Length n len → AreBytes rest → FrontFound limit (first ∷ (len ++ rest)) (front_at limit (first ∷ (len ++ rest)))
-length_found w limit first n kind len rest right formed bytes = go (size_fault limit kind n) refl
+length_found : (w : Wire) (limit : Bounds) (first n : ℕ) (kind : Kind) (len rest : List ℕ) → kind_at first ≡ Ok kind → LengthUnder limit.lenient n len → AreBytes rest → FrontFound limit (first ∷ (len ++ rest)) (front_at limit (first ∷ (len ++ rest)))
+length_found w limit first n kind len rest right formed bytes = go (size_fault limit.most kind n) refl
   where
-    enough : (t : Bool) → ltb (length (first ∷ (len ++ rest))) (1 + length len + n) ≡ t → size_fault limit kind n ≡ None → FrontFound limit (first ∷ (len ++ rest)) (front_at limit (first ∷ (len ++ rest)))
+    enough : (t : Bool) → ltb (length (first ∷ (len ++ rest))) (1 + length len + n) ≡ t → size_fault limit.most kind n ≡ None → FrontFound limit (first ∷ (len ++ rest)) (front_at limit (first ∷ (len ++ rest)))
     enough true is size = is_pending w limit (first ∷ (len ++ rest)) (too_short w limit first n kind len rest right formed size is)
     enough false is size =
         let long : 1 + length len + n ≤ length (first ∷ (len ++ rest)) = ltb-false _ _ is in
@@ -93,35 +97,35 @@ length_found w limit first n kind len rest right formed bytes = go (size_fault l
         let split : take n rest ++ drop n rest ≡ rest = take-append-drop n rest in
         let body_bytes : AreBytes (take n rest) = AreBytes-front (take n rest) (drop n rest) (subst AreBytes (sym split) bytes) in
         subst (λ (r : List ℕ). FrontFound limit (first ∷ (len ++ r)) (front_at limit (first ∷ (len ++ r)))) split
-        (fields_found w limit first kind len (take n rest) (drop n rest) right (subst (λ (m : ℕ). Length m len) (sym count) formed) (rw count size) body_bytes)
+        (fields_found w limit first kind len (take n rest) (drop n rest) right (subst (λ (m : ℕ). LengthUnder limit.lenient m len) (sym count) formed) (rw count size) body_bytes)
 
-    go : (o : Option FaultKind) → size_fault limit kind n ≡ o → FrontFound limit (first ∷ (len ++ rest)) (front_at limit (first ∷ (len ++ rest)))
+    go : (o : Option FaultKind) → size_fault limit.most kind n ≡ o → FrontFound limit (first ∷ (len ++ rest)) (front_at limit (first ∷ (len ++ rest)))
     go (Some k) size = is_faulty w limit (first ∷ (len ++ rest)) k 1 (AtSize (record { first = first; n = n; len = len; rest = rest; bytes = refl; kind = kind; right = right; formed = formed; fault = size; here = refl }))
     go None size = enough (ltb (length (first ∷ (len ++ rest))) (1 + length len + n)) refl size
 
-unfinished_is : (limit first : ℕ) (kind : Kind) (rest : List ℕ) → kind_at first ≡ Ok kind → read_length rest ≡ Unfinished → front_at limit (first ∷ rest) ≡ Ok None
+unfinished_is : (limit : Bounds) (first : ℕ) (kind : Kind) (rest : List ℕ) → kind_at first ≡ Ok kind → read_length limit.lenient rest ≡ Unfinished → front_at limit (first ∷ rest) ≡ Ok None
 unfolding front_at header_at
 unfinished_is limit first kind rest right e = rw (right, e) refl
 
 -- the first byte is right
-first_found : (w : Wire) (limit first : ℕ) (kind : Kind) (rest : List ℕ) → kind_at first ≡ Ok kind → AreBytes rest → FrontFound limit (first ∷ rest) (front_at limit (first ∷ rest))
-first_found w limit first kind rest right bytes = go (read_length rest) refl
+first_found : (w : Wire) (limit : Bounds) (first : ℕ) (kind : Kind) (rest : List ℕ) → kind_at first ≡ Ok kind → AreBytes rest → FrontFound limit (first ∷ rest) (front_at limit (first ∷ rest))
+first_found w limit first kind rest right bytes = go (read_length limit.lenient rest) refl
   where
-    go : (l : LengthReading) → read_length rest ≡ l → FrontFound limit (first ∷ rest) (front_at limit (first ∷ rest))
+    go : (l : LengthReading) → read_length limit.lenient rest ≡ l → FrontFound limit (first ∷ rest) (front_at limit (first ∷ rest))
     go Unfinished e = is_pending w limit (first ∷ rest) (unfinished_is limit first kind rest right e)
-    go TooLong e = is_faulty w limit (first ∷ rest) LengthTooLong 4 (AtLength (record { first = first; rest = rest; bytes = refl; kind = kind; right = right; fault = (w.lengths.too_long_found rest bytes e, refl) }))
-    go (Overlong size) e = is_faulty w limit (first ∷ rest) LengthOverlong size (AtLength (record { first = first; rest = rest; bytes = refl; kind = kind; right = right; fault = w.lengths.overlong_found rest size bytes e }))
+    go TooLong e = is_faulty w limit (first ∷ rest) LengthTooLong 4 (AtLength (record { first = first; rest = rest; bytes = refl; kind = kind; right = right; fault = (w.lengths.too_long_found limit.lenient rest bytes e, refl) }))
+    go (Overlong size) e = is_faulty w limit (first ∷ rest) LengthOverlong size (AtLength (record { first = first; rest = rest; bytes = refl; kind = kind; right = right; fault = w.lengths.overlong_found limit.lenient rest size bytes e }))
     go (Whole n size) e =
-        let f = w.lengths.found rest n size bytes e in
+        let f = w.lengths.found limit.lenient rest n size bytes e in
         let split : take size rest ++ drop size rest ≡ rest = take-append-drop size rest in
         let rest_bytes : AreBytes (drop size rest) = AreBytes-rest (take size rest) (drop size rest) (subst AreBytes (sym split) bytes) in
         subst (λ (r : List ℕ). FrontFound limit (first ∷ r) (front_at limit (first ∷ r))) split (length_found w limit first n kind (take size rest) (drop size rest) right f.1 rest_bytes)
 
-nothing_is : (limit : ℕ) → front_at limit [] ≡ Ok None
+nothing_is : (limit : Bounds) → front_at limit [] ≡ Ok None
 unfolding front_at header_at
 nothing_is limit = refl
 
-pub front_found : (w : Wire) (limit : ℕ) (b : List ℕ) → AreBytes b → FrontFound limit b (front_at limit b)
+pub front_found : (w : Wire) (limit : Bounds) (b : List ℕ) → AreBytes b → FrontFound limit b (front_at limit b)
 front_found w limit [] bytes = is_pending w limit [] (nothing_is limit)
 front_found w limit (first ∷ rest) bytes = go (kind_at first) refl
   where
@@ -130,7 +134,7 @@ front_found w limit (first ∷ rest) bytes = go (kind_at first) refl
     go (Ok kind) e = first_found w limit first kind rest e (λ i. bytes (suc i))
 
 -- what a function returned, unless memory ran out
-pub front_is : (w : Wire) (limit : ℕ) (b : List ℕ) (r : Result (Option (Packet × ℕ)) DecodeError) → AreBytes b → GivesFront r (front_at limit b) → (r ≡ Err errors.Memory → 0 < length b) → IsFront limit b r
+pub front_is : (w : Wire) (limit : Bounds) (b : List ℕ) (r : Result (Option (Packet × ℕ)) DecodeError) → AreBytes b → GivesFront r (front_at limit b) → (r ≡ Err errors.Memory → 0 < length b) → IsFront limit b r
 front_is w limit b (Ok None) bytes e memory = subst (FrontFound limit b) e (front_found w limit b bytes)
 front_is w limit b (Ok (Some x)) bytes e memory = subst (FrontFound limit b) e (front_found w limit b bytes)
 front_is w limit b (Err errors.Memory) bytes e memory = memory refl

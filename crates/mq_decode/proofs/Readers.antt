@@ -8,33 +8,34 @@ use Rattle.mq_decode.specs.declared.fault.DecodeError.{DecodeError}
 use Rattle.mq_decode.specs.declared.fault.DecodeError.TheVariants as decodes
 use Rattle.mq_decode.specs.declared.read.ReadError.{ReadError}
 use Rattle.mq_decode.specs.declared.read.ReadError.TheVariants as errors
-use Rattle.mq_decode.specs.Grammar.{SpellsWithin, Faulty, Pending, Wants, IsFront}
+use Rattle.mq_decode.specs.Limits.{Bounds}
+use Rattle.mq_decode.specs.Grammar.{ReadsWithin, Faulty, Pending, Wants, IsFront}
 use Rattle.mq_decode.specs.Laws.{ReadsAgain}
-use Rattle.mq_decode.specs.Reader.{ReadStops, Answers, stop_of}
+use Rattle.mq_decode.specs.Reader.{ReadStops, Answers, TakesSized, stop_of, without_size}
 use Rattle.mq_decode.proofs.Streams.{faulty_more}
 
 -- the bytes that were taken are faulty, and so all that was left
-pub stops_at : (limit : ℕ) (left now : Option (List ℕ)) (b : List ℕ) (e : DecodeError) → IsFront limit b (Err e) → Consumes left now b → ReadStops limit left (stop_of e)
+pub stops_at : (limit : Bounds) (left now : Option (List ℕ)) (b : List ℕ) (e : DecodeError) → IsFront limit b (Err e) → Consumes left now b → ReadStops limit left (stop_of e)
 stops_at limit left now b decodes.Memory h c = tt
 stops_at limit None now b (decodes.Fault fault) h c = tt
 stops_at limit (Some xs) None b (decodes.Fault fault) h c = absurd c
 stops_at limit (Some xs) (Some ys) b (decodes.Fault fault) h c = subst (λ (t : List ℕ). Faulty limit t fault.kind fault.place) (sym c) (faulty_more limit b ys fault.kind fault.place h)
 
 -- the bytes that were taken are all of the packet
-pub whole_taken : (limit : ℕ) (old new more : List ℕ) (wanted n : ℕ) (p : Packet) → Wants limit old wanted → Pending limit old → length more ≤ wanted → new ≡ old ++ more
-    → (n ≤ length new) × SpellsWithin limit p (take n new) → SpellsWithin limit p new
+pub whole_taken : (limit : Bounds) (old new more : List ℕ) (wanted n : ℕ) (p : Packet) → Wants limit old wanted → Pending limit old → length more ≤ wanted → new ≡ old ++ more
+    → (n ≤ length new) × ReadsWithin limit p (take n new) → ReadsWithin limit p new
 whole_taken limit old new more wanted n p wants pending few e h =
     let parts : old ++ more ≡ take n new ++ drop n new = sym e ∙ sym (take-append-drop n new) in
     let none : drop n new ≡ [] = wants pending more few p (take n new) (drop n new) h.1 parts in
     let same : take n new ≡ new = sym (append-nil (take n new)) ∙ (ap (λ (t : List ℕ). take n new ++ t) (sym none) ∙ take-append-drop n new) in
-    subst (SpellsWithin limit p) same h.1
+    subst (ReadsWithin limit p) same h.1
 
 some_is : {a b : List ℕ} → Some a ≡ Some b → a ≡ b
 some_is e = cc
 
 -- what is spelled at the front is what was read
-pub answers : (laws : ReadsAgain) (limit : ℕ) (p : Packet) (s rest : List ℕ) (r : Result (Option Packet) ReadError) (left now : Option (List ℕ)) → SpellsWithin limit p s → left ≡ Some (s ++ rest)
-    → IfOk r (λ o. IfSome o (λ q. (t : List ℕ) × SpellsWithin limit q t × Consumes left now t)) → IfOk r (λ o. IfNone o (IsAtEnd left)) → IfErr r (ReadStops limit left) → Answers p rest r now
+pub answers : (laws : ReadsAgain) (limit : Bounds) (p : Packet) (s rest : List ℕ) (r : Result (Option Packet) ReadError) (left now : Option (List ℕ)) → ReadsWithin limit p s → left ≡ Some (s ++ rest)
+    → IfOk r (λ o. IfSome o (λ q. (t : List ℕ) × ReadsWithin limit q t × Consumes left now t)) → IfOk r (λ o. IfNone o (IsAtEnd left)) → IfErr r (ReadStops limit left) → Answers p rest r now
 answers laws limit p s rest r None now h e packet none err = absurd cc
 answers laws limit p s rest (Ok None) (Some xs) now h e packet none err =
     let all : s ++ rest ≡ [] = sym (some_is e) ∙ none in
@@ -55,3 +56,21 @@ consumes_then None mid now a b c e h k = tt
 consumes_then (Some xs) None now a b c e h k = absurd h
 consumes_then (Some xs) (Some ys) None a b c e h k = absurd k
 consumes_then (Some xs) (Some ys) (Some zs) a b c e h k = h ∙ (ap (λ (t : List ℕ). a ++ t) k ∙ (sym (append_assoc a b zs) ∙ ap (λ (t : List ℕ). t ++ zs) (sym e)))
+
+-- ---- the same without its size
+
+pub sized_packet : (limit : Bounds) (r : Result (Option (Packet × ℕ)) ReadError) (left now : Option (List ℕ)) → IfOk r (λ o. IfSome o (TakesSized limit left now))
+    → IfOk (without_size r) (λ o. IfSome o (λ p. (s : List ℕ) × ReadsWithin limit p s × Consumes left now s))
+sized_packet limit (Ok None) left now h = tt
+sized_packet limit (Ok (Some x)) left now h = (h.0, h.1, h.2)
+sized_packet limit (Err e) left now h = tt
+
+pub sized_none : (r : Result (Option (Packet × ℕ)) ReadError) (left : Option (List ℕ)) → IfOk r (λ o. IfNone o (IsAtEnd left)) → IfOk (without_size r) (λ o. IfNone o (IsAtEnd left))
+sized_none (Ok None) left h = h
+sized_none (Ok (Some x)) left h = tt
+sized_none (Err e) left h = tt
+
+pub sized_err : (limit : Bounds) (r : Result (Option (Packet × ℕ)) ReadError) (left : Option (List ℕ)) → IfErr r (ReadStops limit left) → IfErr (without_size r) (ReadStops limit left)
+sized_err limit (Ok None) left h = tt
+sized_err limit (Ok (Some x)) left h = tt
+sized_err limit (Err e) left h = h

@@ -10,29 +10,31 @@ use Rattle.mq_decode.specs.declared.fault.FaultKind.TheVariants.{LengthTooLong, 
 use Rattle.mq_decode.specs.declared.fault.DecodeFault.{DecodeFault}
 use Rattle.mq_decode.specs.declared.fault.DecodeError.{DecodeError}
 use Rattle.mq_decode.specs.declared.fault.DecodeError.TheVariants as errors
-use Rattle.mq_decode.specs.Grammar.{SpellsWithin, Stream, BadLength, Faulty, AtFirst, AtLength, AtSize, AtField, Pending, Reading, Goes, Stops, IsFront, IsAlone, Wants}
+use Rattle.mq_decode.specs.Limits.{Bounds}
+use Rattle.mq_decode.specs.Grammar.{ReadsWithin, Stream, BadLength, Faulty, AtFirst, AtLength, AtSize, AtField, Pending, Reading, Goes, Stops, IsFront, IsAlone, Wants}
+use Rattle.mq_decode.proofs.FrontLaws.{parts_of}
 
 -- ---- one stream after another
 
-pub stream_join : (limit : ℕ) (ps qs : List Packet) (a b : List ℕ) → Stream limit ps a → Stream limit qs b → Stream limit (ps ++ qs) (a ++ b)
+pub stream_join : (limit : Bounds) (ps qs : List Packet) (a b : List ℕ) → Stream limit ps a → Stream limit qs b → Stream limit (ps ++ qs) (a ++ b)
 stream_join limit [] qs a b h k = subst (Stream limit qs) (sym (ap (λ (t : List ℕ). t ++ b) h)) k
 stream_join limit (p ∷ ps) qs a b h k = (h.0, h.1 ++ b, h.2, stream_join limit ps qs h.1 b h.3 k, ap (λ (t : List ℕ). t ++ b) h.4 ∙ append_assoc h.0 h.1 b)
 
-pub stream_one : (limit : ℕ) (p : Packet) (s : List ℕ) → SpellsWithin limit p s → Stream limit (p ∷ []) s
+pub stream_one : (limit : Bounds) (p : Packet) (s : List ℕ) → ReadsWithin limit p s → Stream limit (p ∷ []) s
 stream_one limit p s h = (s, [], h, refl, sym (append-nil s))
 
 -- ---- what follows a fault doesn't matter
 
-bad_length_more : (rest more : List ℕ) (k : FaultKind) (place : ℕ) → BadLength rest k place → BadLength (rest ++ more) k place
-bad_length_more rest more LengthTooLong place h =
+bad_length_more : (limit : Bounds) (rest more : List ℕ) (k : FaultKind) (place : ℕ) → BadLength limit rest k place → BadLength limit (rest ++ more) k place
+bad_length_more limit rest more LengthTooLong place h =
     (record { digits = h.0.digits; rest = h.0.rest ++ more; parts = ap (λ (t : List ℕ). t ++ more) h.0.parts ∙ append_assoc h.0.digits h.0.rest more; following = h.0.following; four = h.0.four }, h.1)
-bad_length_more rest more LengthOverlong place h =
-    record { digits = h.digits; rest = h.rest ++ more; parts = ap (λ (t : List ℕ). t ++ more) h.parts ∙ append_assoc h.digits (0 ∷ h.rest) more; following = h.following; some = h.some; three = h.three; counted = h.counted }
-bad_length_more rest more k place h = absurd h
+bad_length_more limit rest more LengthOverlong place h =
+    (h.0, record { digits = h.1.digits; rest = h.1.rest ++ more; parts = ap (λ (t : List ℕ). t ++ more) h.1.parts ∙ append_assoc h.1.digits (0 ∷ h.1.rest) more; following = h.1.following; some = h.1.some; three = h.1.three; counted = h.1.counted })
+bad_length_more limit rest more k place h = absurd h
 
-pub faulty_more : (limit : ℕ) (b more : List ℕ) (k : FaultKind) (place : ℕ) → Faulty limit b k place → Faulty limit (b ++ more) k place
+pub faulty_more : (limit : Bounds) (b more : List ℕ) (k : FaultKind) (place : ℕ) → Faulty limit b k place → Faulty limit (b ++ more) k place
 faulty_more limit b more k place (AtFirst h) = AtFirst (record { first = h.first; rest = h.rest ++ more; bytes = ap (λ (t : List ℕ). t ++ more) h.bytes; fault = h.fault; here = h.here })
-faulty_more limit b more k place (AtLength h) = AtLength (record { first = h.first; rest = h.rest ++ more; bytes = ap (λ (t : List ℕ). t ++ more) h.bytes; kind = h.kind; right = h.right; fault = bad_length_more h.rest more k place h.fault })
+faulty_more limit b more k place (AtLength h) = AtLength (record { first = h.first; rest = h.rest ++ more; bytes = ap (λ (t : List ℕ). t ++ more) h.bytes; kind = h.kind; right = h.right; fault = bad_length_more limit h.rest more k place h.fault })
 faulty_more limit b more k place (AtSize h) =
     AtSize (record { first = h.first; n = h.n; len = h.len; rest = h.rest ++ more; bytes = ap (λ (t : List ℕ). t ++ more) h.bytes ∙ ap (λ (t : List ℕ). h.first ∷ t) (append_assoc h.len h.rest more); kind = h.kind; right = h.right; formed = h.formed; fault = h.fault; here = h.here })
 faulty_more limit b more k place (AtField h) =
@@ -51,7 +53,7 @@ faulty_more limit b more k place (AtField h) =
       here = h.here;
     })
 
-pub stops_more : (limit : ℕ) (b more : List ℕ) (old new : List Packet) (e : DecodeError) → Stops limit b old new e → Stops limit (b ++ more) old new e
+pub stops_more : (limit : Bounds) (b more : List ℕ) (old new : List Packet) (e : DecodeError) → Stops limit b old new e → Stops limit (b ++ more) old new e
 stops_more limit b more old new (errors.Fault fault) h = (
   h.0,
   h.1 ++ more,
@@ -78,7 +80,7 @@ stops_more limit b more old new errors.Memory h = (
 -- ---- one piece after another
 
 -- what was read, and then what follows the rest
-reading_then : (limit : ℕ) (b more : List ℕ) (ps qs : List Packet) (rest last : List ℕ) (end : Option DecodeFault)
+reading_then : (limit : Bounds) (b more : List ℕ) (ps qs : List Packet) (rest last : List ℕ) (end : Option DecodeFault)
     → Reading limit b ps rest None → Reading limit (rest ++ more) qs last end → Reading limit (b ++ more) (ps ++ qs) last end
 reading_then limit b more ps qs rest last end h k = record {
   front = h.front ++ k.front;
@@ -87,11 +89,11 @@ reading_then limit b more ps qs rest last end h k = record {
   ends = k.ends;
 }
 
-pub goes_then : (limit : ℕ) (b more : List ℕ) (old mid new : List Packet) (rest last : List ℕ) → Goes limit b old mid rest → Goes limit (rest ++ more) mid new last → Goes limit (b ++ more) old new last
+pub goes_then : (limit : Bounds) (b more : List ℕ) (old mid new : List Packet) (rest last : List ℕ) → Goes limit b old mid rest → Goes limit (rest ++ more) mid new last → Goes limit (b ++ more) old new last
 goes_then limit b more old mid new rest last h k =
     (h.0 ++ k.0, k.1 ∙ (ap (λ (t : List Packet). t ++ k.0) h.1 ∙ append_assoc old h.0 k.0), reading_then limit b more h.0 k.0 rest last None h.2 k.2)
 
-pub stops_then : (limit : ℕ) (b more : List ℕ) (old mid new : List Packet) (rest : List ℕ) (e : DecodeError) → Goes limit b old mid rest → Stops limit (rest ++ more) mid new e → Stops limit (b ++ more) old new e
+pub stops_then : (limit : Bounds) (b more : List ℕ) (old mid new : List Packet) (rest : List ℕ) (e : DecodeError) → Goes limit b old mid rest → Stops limit (rest ++ more) mid new e → Stops limit (b ++ more) old new e
 stops_then limit b more old mid new rest (errors.Fault fault) h k =
     (h.0 ++ k.0, k.1, k.2 ∙ (ap (λ (t : List Packet). t ++ k.0) h.1 ∙ append_assoc old h.0 k.0), reading_then limit b more h.0 k.0 rest k.1 (Some fault) h.2 k.3)
 stops_then limit b more old mid new rest errors.Memory h k = (
@@ -107,34 +109,34 @@ stops_then limit b more old mid new rest errors.Memory h k = (
 )
 
 -- nothing read yet: what is held is pending
-pub goes_none : (limit : ℕ) (held : List ℕ) (old : List Packet) → Pending limit held → Goes limit (held ++ []) old old held
+pub goes_none : (limit : Bounds) (held : List ℕ) (old : List Packet) → Pending limit held → Goes limit (held ++ []) old old held
 goes_none limit held old h = ([], sym (append-nil old), record { front = []; stream = refl; parts = append-nil held; ends = h })
 
 -- memory ran out before anything of the rest was read
-pub stops_memory : (limit : ℕ) (b more : List ℕ) (old mid : List Packet) (rest : List ℕ) → Goes limit b old mid rest → 0 < length rest + length more → Stops limit (b ++ more) old mid errors.Memory
+pub stops_memory : (limit : Bounds) (b more : List ℕ) (old mid : List Packet) (rest : List ℕ) → Goes limit b old mid rest → 0 < length rest + length more → Stops limit (b ++ more) old mid errors.Memory
 stops_memory limit b more old mid rest h left =
     (h.0, h.1, record { front = h.2.front; stream = h.2.stream; rest = rest ++ more; parts = ap (λ (t : List ℕ). t ++ more) h.2.parts ∙ append_assoc h.2.front rest more; left = omega (arith, length-append rest more) })
 
 -- what is read of a rest is pending
-pub goes_pending : (limit : ℕ) (b : List ℕ) (old new : List Packet) (rest : List ℕ) → Goes limit b old new rest → Pending limit rest
+pub goes_pending : (limit : Bounds) (b : List ℕ) (old new : List Packet) (rest : List ℕ) → Goes limit b old new rest → Pending limit rest
 goes_pending limit b old new rest h = h.2.ends
 
 -- ---- packets from the front of bytes
 
 -- the packets taken so far, from so many bytes
-pub record Taken (limit : ℕ) (bytes : List ℕ) (taken : ℕ) (old new : List Packet) : Type 0 where
+pub record Taken (limit : Bounds) (bytes : List ℕ) (taken : ℕ) (old new : List Packet) : Type 0 where
   pub within : taken ≤ length bytes
   pub packets : List Packet
   pub appended : new ≡ old ++ packets
   pub stream : Stream limit packets (take taken bytes)
 
-pub taken_none : (limit : ℕ) (bytes : List ℕ) (old : List Packet) → Taken limit bytes 0 old old
+pub taken_none : (limit : Bounds) (bytes : List ℕ) (old : List Packet) → Taken limit bytes 0 old old
 taken_none limit bytes old = record { within = omega arith; packets = []; appended = sym (append-nil old); stream = refl }
 
 take-more : (n m : ℕ) (bytes : List ℕ) → take (n + m) bytes ≡ take n bytes ++ take m (drop n bytes)
 take-more n m bytes = sym (take-append-drop n (take (n + m) bytes)) ∙ rw (take-take n (n + m) bytes (omega arith), drop-take n m bytes) refl
 
-pub taken_more : (limit : ℕ) (bytes : List ℕ) (taken size : ℕ) (p : Packet) (old new newer : List Packet) → Taken limit bytes taken old new → newer ≡ new ++ p ∷ []
+pub taken_more : (limit : Bounds) (bytes : List ℕ) (taken size : ℕ) (p : Packet) (old new newer : List Packet) → Taken limit bytes taken old new → newer ≡ new ++ p ∷ []
     → IsFront limit (drop taken bytes) (Ok (Some (p, size))) → Taken limit bytes (taken + size) old newer
 taken_more limit bytes taken size p old new newer h e front = record {
   within = omega (arith, h.within, front.0, length-drop taken bytes);
@@ -143,10 +145,10 @@ taken_more limit bytes taken size p old new newer h e front = record {
   stream = subst (Stream limit (h.packets ++ p ∷ [])) (sym (take-more taken size bytes)) (stream_join limit h.packets (p ∷ []) (take taken bytes) (take size (drop taken bytes)) h.stream (stream_one limit p (take size (drop taken bytes)) front.1));
 }
 
-pub taken_goes : (limit : ℕ) (bytes : List ℕ) (taken : ℕ) (old new : List Packet) → Taken limit bytes taken old new → Pending limit (drop taken bytes) → Goes limit bytes old new (drop taken bytes)
+pub taken_goes : (limit : Bounds) (bytes : List ℕ) (taken : ℕ) (old new : List Packet) → Taken limit bytes taken old new → Pending limit (drop taken bytes) → Goes limit bytes old new (drop taken bytes)
 taken_goes limit bytes taken old new h pending = (h.packets, h.appended, record { front = take taken bytes; stream = h.stream; parts = sym (take-append-drop taken bytes); ends = pending })
 
-pub taken_stops : (limit : ℕ) (bytes : List ℕ) (taken : ℕ) (old new : List Packet) (e : DecodeError) → Taken limit bytes taken old new → IsFront limit (drop taken bytes) (Err e) → Stops limit bytes old new e
+pub taken_stops : (limit : Bounds) (bytes : List ℕ) (taken : ℕ) (old new : List Packet) (e : DecodeError) → Taken limit bytes taken old new → IsFront limit (drop taken bytes) (Err e) → Stops limit bytes old new e
 taken_stops limit bytes taken old new (errors.Fault fault) h front = (h.packets, drop taken bytes, h.appended, record { front = take taken bytes; stream = h.stream; parts = sym (take-append-drop taken bytes); ends = front })
 taken_stops limit bytes taken old new errors.Memory h front = (h.packets, h.appended, record { front = take taken bytes; stream = h.stream; rest = drop taken bytes; parts = sym (take-append-drop taken bytes); left = front })
 
@@ -159,20 +161,20 @@ next_bytes held piece used n = append_assoc held (take used piece) (take n (drop
 all_bytes : (held piece : List ℕ) (used : ℕ) → (held ++ take used piece) ++ drop used piece ≡ held ++ piece
 all_bytes held piece used = append_assoc held (take used piece) (drop used piece) ∙ ap (λ (t : List ℕ). held ++ t) (take-append-drop used piece)
 
-pub filled_more : (limit : ℕ) (held piece now next : List ℕ) (used n : ℕ) (old mid new : List Packet) (rest : List ℕ) → next ≡ now ++ take n (drop used piece)
+pub filled_more : (limit : Bounds) (held piece now next : List ℕ) (used n : ℕ) (old mid new : List Packet) (rest : List ℕ) → next ≡ now ++ take n (drop used piece)
     → Goes limit (held ++ take used piece) old mid now → Goes limit next mid new rest → Goes limit (held ++ take (used + n) piece) old new rest
 filled_more limit held piece now next used n old mid new rest e h k =
     subst (λ (b : List ℕ). Goes limit b old new rest) (next_bytes held piece used n)
     (goes_then limit (held ++ take used piece) (take n (drop used piece)) old mid new now rest h (subst (λ (b : List ℕ). Goes limit b mid new rest) e k))
 
-pub filled_all : (limit : ℕ) (held piece now : List ℕ) (used : ℕ) (old mid new : List Packet) (rest : List ℕ) → now ≡ []
+pub filled_all : (limit : Bounds) (held piece now : List ℕ) (used : ℕ) (old mid new : List Packet) (rest : List ℕ) → now ≡ []
     → Goes limit (held ++ take used piece) old mid now → Goes limit (drop used piece) mid new rest → Goes limit (held ++ piece) old new rest
 filled_all limit held piece now used old mid new rest e h k =
     subst (λ (b : List ℕ). Goes limit b old new rest) (all_bytes held piece used)
     (goes_then limit (held ++ take used piece) (drop used piece) old mid new now rest h (subst (λ (t : List ℕ). Goes limit (t ++ drop used piece) mid new rest) (sym e) k))
 
 -- a stop within the piece
-pub filled_stops : (limit : ℕ) (held piece now next : List ℕ) (used n : ℕ) (old mid new : List Packet) (e : DecodeError) → next ≡ now ++ take n (drop used piece)
+pub filled_stops : (limit : Bounds) (held piece now next : List ℕ) (used n : ℕ) (old mid new : List Packet) (e : DecodeError) → next ≡ now ++ take n (drop used piece)
     → Goes limit (held ++ take used piece) old mid now → Stops limit next mid new e → Stops limit (held ++ piece) old new e
 filled_stops limit held piece now next used n old mid new e next_is h k =
     let stopped = stops_then limit (held ++ take used piece) (take n (drop used piece)) old mid new now e h (subst (λ (b : List ℕ). Stops limit b mid new e) next_is k) in
@@ -181,21 +183,21 @@ filled_stops limit held piece now next used n old mid new e next_is h k =
     (append_assoc (held ++ take used piece) (take n (drop used piece)) (drop n (drop used piece)) ∙ (ap (λ (t : List ℕ). (held ++ take used piece) ++ t) (take-append-drop n (drop used piece)) ∙ all_bytes held piece used))
     more
 
-pub filled_stops_all : (limit : ℕ) (held piece now : List ℕ) (used : ℕ) (old mid new : List Packet) (e : DecodeError) → now ≡ []
+pub filled_stops_all : (limit : Bounds) (held piece now : List ℕ) (used : ℕ) (old mid new : List Packet) (e : DecodeError) → now ≡ []
     → Goes limit (held ++ take used piece) old mid now → Stops limit (drop used piece) mid new e → Stops limit (held ++ piece) old new e
 filled_stops_all limit held piece now used old mid new e now_is h k =
     subst (λ (b : List ℕ). Stops limit b old new e) (all_bytes held piece used)
     (stops_then limit (held ++ take used piece) (drop used piece) old mid new now e h (subst (λ (t : List ℕ). Stops limit (t ++ drop used piece) mid new e) (sym now_is) k))
 
 -- memory ran out before the rest of the piece was held
-pub filled_memory : (limit : ℕ) (held piece now : List ℕ) (used : ℕ) (old mid : List Packet) (e : DecodeError) → e ≡ errors.Memory → used < length piece
+pub filled_memory : (limit : Bounds) (held piece now : List ℕ) (used : ℕ) (old mid : List Packet) (e : DecodeError) → e ≡ errors.Memory → used < length piece
     → Goes limit (held ++ take used piece) old mid now → Stops limit (held ++ piece) old mid e
 filled_memory limit held piece now used old mid e is left h =
     rw is (subst (λ (b : List ℕ). Stops limit b old mid errors.Memory) (all_bytes held piece used)
     (stops_memory limit (held ++ take used piece) (drop used piece) old mid now h (omega (arith, length-drop used piece))))
 
 -- memory ran out before what is left was held
-pub left_memory : (limit : ℕ) (bytes : List ℕ) (n : ℕ) (old mid : List Packet) (left : List ℕ) (e : DecodeError) → e ≡ errors.Memory → 0 < length left → Goes limit bytes old mid left → Stops limit bytes old mid e
+pub left_memory : (limit : Bounds) (bytes : List ℕ) (n : ℕ) (old mid : List Packet) (left : List ℕ) (e : DecodeError) → e ≡ errors.Memory → 0 < length left → Goes limit bytes old mid left → Stops limit bytes old mid e
 left_memory limit bytes n old mid left e is some h =
     rw is (h.0, h.1, record { front = h.2.front; stream = h.2.stream; rest = left; parts = h.2.parts; left = some })
 
@@ -203,7 +205,7 @@ pub nil_left : (b : Bool) (xs : List ℕ) → b ≡ eqb (length xs) 0 → b ≡ 
 nil_left b xs e t = nil_from_length xs (eqb-true (length xs) 0 (sym e ∙ t))
 
 -- the same, of the same bytes with the same rest
-pub rest_goes : (limit : ℕ) (a b : List ℕ) (old new : List Packet) (rest last : List ℕ) → a ≡ b → rest ≡ last → Goes limit a old new rest → Goes limit b old new last
+pub rest_goes : (limit : Bounds) (a b : List ℕ) (old new : List Packet) (rest last : List ℕ) → a ≡ b → rest ≡ last → Goes limit a old new rest → Goes limit b old new last
 rest_goes limit a b old new rest last e f h = subst (λ (t : List ℕ). Goes limit t old new last) e (subst (λ (t : List ℕ). Goes limit a old new t) f h)
 
 -- ---- pieces
@@ -212,17 +214,17 @@ parts : {X : Type 0} (f : X → List ℕ) (xs : List X) (i : ℕ) (d : X) → i 
 parts f xs i d lt =
     ap (flat_map f) (take_more xs i d lt) ∙ (flat_map-append f (take i xs) (get_or xs i d ∷ []) ∙ ap (λ (t : List ℕ). flat_map f (take i xs) ++ t) (append-nil (f (get_or xs i d))))
 
-pub pieces_more : {X : Type 0} (f : X → List ℕ) (xs : List X) (i : ℕ) (d : X) (limit limits : ℕ) (old mid new : List Packet) (held last : List ℕ) → i < length xs → limit ≡ limits
+pub pieces_more : {X : Type 0} (f : X → List ℕ) (xs : List X) (i : ℕ) (d : X) (limit limits : Bounds) (old mid new : List Packet) (held last : List ℕ) → i < length xs → limit ≡ limits
     → Goes limits (flat_map f (take i xs)) old mid held → Goes limit (held ++ f (get_or xs i d)) mid new last → Goes limits (flat_map f (take (i + 1) xs)) old new last
 pieces_more f xs i d limit limits old mid new held last lt same h k =
     subst (λ (b : List ℕ). Goes limits b old new last) (sym (parts f xs i d lt))
-    (goes_then limits (flat_map f (take i xs)) (f (get_or xs i d)) old mid new held last h (subst (λ (l : ℕ). Goes l (held ++ f (get_or xs i d)) mid new last) same k))
+    (goes_then limits (flat_map f (take i xs)) (f (get_or xs i d)) old mid new held last h (subst (λ (l : Bounds). Goes l (held ++ f (get_or xs i d)) mid new last) same k))
 
-pub pieces_stop : {X : Type 0} (f : X → List ℕ) (xs : List X) (i : ℕ) (d : X) (limit limits : ℕ) (old mid new : List Packet) (held : List ℕ) (e : DecodeError) → i < length xs → limit ≡ limits
+pub pieces_stop : {X : Type 0} (f : X → List ℕ) (xs : List X) (i : ℕ) (d : X) (limit limits : Bounds) (old mid new : List Packet) (held : List ℕ) (e : DecodeError) → i < length xs → limit ≡ limits
     → Goes limits (flat_map f (take i xs)) old mid held → Stops limit (held ++ f (get_or xs i d)) mid new e → Stops limits (flat_map f xs) old new e
 pieces_stop f xs i d limit limits old mid new held e lt same h k =
     let x = f (get_or xs i d) in
-    let stopped = stops_then limits (flat_map f (take i xs)) x old mid new held e h (subst (λ (l : ℕ). Stops l (held ++ x) mid new e) same k) in
+    let stopped = stops_then limits (flat_map f (take i xs)) x old mid new held e h (subst (λ (l : Bounds). Stops l (held ++ x) mid new e) same k) in
     let more = stops_more limits (flat_map f (take i xs) ++ x) (flat_map f (drop (i + 1) xs)) old new e stopped in
     let whole : (flat_map f (take i xs) ++ x) ++ flat_map f (drop (i + 1) xs) ≡ flat_map f xs =
     ap (λ (t : List ℕ). t ++ flat_map f (drop (i + 1) xs)) (sym (parts f xs i d lt)) ∙ (sym (flat_map-append f (take (i + 1) xs) (drop (i + 1) xs)) ∙ ap (flat_map f) (take-append-drop (i + 1) xs)) in
@@ -230,11 +232,11 @@ pieces_stop f xs i d limit limits old mid new held e lt same h k =
 
 -- ---- the packet that is held alone
 
-pending_nil : (limit : ℕ) → Pending limit []
+pending_nil : (limit : Bounds) → Pending limit []
 pending_nil limit = record { not_whole = λ p first rest h e. no_bytes p first rest h e; not_faulty = no_fault }
   where
-    no_bytes : (p : Packet) (first rest : List ℕ) → SpellsWithin limit p first → [] ≡ first ++ rest → ⊥
-    no_bytes p first rest h e = absurd (omega (arith, ap length h.0.bytes, ap length e, length-append first rest))
+    no_bytes : (p : Packet) (first rest : List ℕ) → ReadsWithin limit p first → [] ≡ first ++ rest → ⊥
+    no_bytes p first rest h e = absurd (omega (arith, ap length (parts_of limit.lenient p first h.0).bytes, ap length e, length-append first rest))
 
     no_fault : (k : FaultKind) (place : ℕ) → Faulty limit [] k place → ⊥
     no_fault k place (AtFirst h) = let e : [] ≡ h.first ∷ h.rest = h.bytes in absurd cc
@@ -242,15 +244,15 @@ pending_nil limit = record { not_whole = λ p first rest h e. no_bytes p first r
     no_fault k place (AtSize h) = let e : [] ≡ h.first ∷ (h.len ++ h.rest) = h.bytes in absurd cc
     no_fault k place (AtField h) = let e : [] ≡ h.first ∷ (h.len ++ (h.body ++ h.rest)) = h.bytes in absurd cc
 
-pub alone_goes : (limit : ℕ) (b : List ℕ) (p : Packet) (n : ℕ) (old new : List Packet) (rest : List ℕ) → IsAlone limit b → (n ≤ length b) × SpellsWithin limit p (take n b) → new ≡ old ++ p ∷ [] → rest ≡ [] → Goes limit b old new rest
+pub alone_goes : (limit : Bounds) (b : List ℕ) (p : Packet) (n : ℕ) (old new : List Packet) (rest : List ℕ) → IsAlone limit b → (n ≤ length b) × ReadsWithin limit p (take n b) → new ≡ old ++ p ∷ [] → rest ≡ [] → Goes limit b old new rest
 alone_goes limit b p n old new rest alone h e none =
     let parts : b ≡ take n b ++ drop n b = sym (take-append-drop n b) in
     let ended : drop n b ≡ [] = alone p (take n b) (drop n b) h.1 parts in
     rw none (p ∷ [], e, record { front = take n b; stream = stream_one limit p (take n b) h.1; parts = parts ∙ ap (λ (t : List ℕ). take n b ++ t) ended; ends = pending_nil limit })
 
-pub front_stops : (limit : ℕ) (b : List ℕ) (old : List Packet) (e : DecodeError) → IsFront limit b (Err e) → Stops limit b old old e
+pub front_stops : (limit : Bounds) (b : List ℕ) (old : List Packet) (e : DecodeError) → IsFront limit b (Err e) → Stops limit b old old e
 front_stops limit b old e h = taken_stops limit b 0 old old e (taken_none limit b old) h
 
-pub held_alone : (limit : ℕ) (now piece next : List ℕ) (used n wanted : ℕ) → next ≡ now ++ take n (drop used piece) → n ≤ wanted → Wants limit now wanted → Pending limit now → IsAlone limit next
+pub held_alone : (limit : Bounds) (now piece next : List ℕ) (used n wanted : ℕ) → next ≡ now ++ take n (drop used piece) → n ≤ wanted → Wants limit now wanted → Pending limit now → IsAlone limit next
 held_alone limit now piece next used n wanted e few wants pending =
     subst (IsAlone limit) (sym e) (wants pending (take n (drop used piece)) (omega (arith, length-take n (drop used piece), few)))

@@ -1,11 +1,12 @@
 -- Every list of bytes has one reading, and what is pending is short.
-use Rattle.std.proofs.Common.{◌≡◌, ℕ, suc, ◌+◌, ◌<◌, ◌≤◌, Bool, true, false, cond, ltb, List, [], ◌∷◌, ◌++◌, length, take, drop, Option, Some, None, Result, Ok, Err, refl, sym, ap, subst, ◌∙◌, append_assoc, arith, ◌⊎◌, inl, inr}
+use Rattle.std.proofs.Common.{◌≡◌, ℕ, zero, suc, ◌+◌, ◌<◌, ◌≤◌, Bool, true, false, cond, ltb, List, [], ◌∷◌, ◌++◌, length, take, drop, Option, Some, None, Result, Ok, Err, refl, sym, ap, subst, ◌∙◌, append_assoc, arith, ◌⊎◌, inl, inr}
 use Rattle.std.specs.Prelude.{IfOk, IfNone}
 use Rattle.std.proofs.lemmas.Bool.{ltb-true, ltb-false}
-use Rattle.std.proofs.lemmas.List.{length-take, take-append-drop, drop_at, take_at}
+use Rattle.std.proofs.lemmas.List.{length-take, length-drop, take-append-drop, drop_at, take_at}
 use Rattle.mq_wire.specs.declared.reading.LengthReading.{LengthReading}
 use Rattle.mq_wire.specs.declared.reading.LengthReading.TheVariants.{Whole, Unfinished, TooLong, Overlong}
 use Rattle.mq_wire.specs.Bytes.{AreBytes}
+use Rattle.mq_wire.specs.Length.{LengthUnder}
 use Rattle.mq_wire.specs.Reading.{read_length}
 use Rattle.mq_packet.specs.declared.packet.Packet.{Packet}
 use Rattle.mq_decode.specs.declared.fault.FaultKind.{FaultKind}
@@ -18,11 +19,12 @@ use Rattle.mq_decode.specs.declared.kind.Kind.{Kind}
 use Rattle.mq_decode.specs.Kind.{kind_at, fixed_size, wrong_size, size_fault}
 use Rattle.mq_decode.specs.Bodies.{body_at}
 use Rattle.mq_decode.specs.Front.{fault_at, sized, header_of, header_after, header_at, packet_or_fault, front_after, front_at}
-use Rattle.mq_decode.specs.Grammar.{SpellsWithin, Stream, Faulty, Ends, IsFront}
-use Rattle.mq_decode.specs.Laws.{OneReading, PendingIsShort, ReadsAgain}
-use Rattle.mq_decode.proofs.FieldLaws.{Wire}
+use Rattle.mq_decode.specs.Limits.{Bounds}
+use Rattle.mq_decode.specs.Grammar.{ReadsWithin, Stream, Faulty, Ends, Reading, IsFront}
+use Rattle.mq_decode.specs.Laws.{EachReads, OneReading, PendingIsShort, ReadsAgain}
+use Rattle.mq_decode.proofs.FieldLaws.{Wire, AreBytes-drop}
 use Rattle.mq_decode.proofs.ListLaws.{chosen}
-use Rattle.mq_decode.proofs.FrontLaws.{Read, whole_again, faulty_again}
+use Rattle.mq_decode.proofs.FrontLaws.{Read, parts_of, spelled_reads, whole_again, faulty_again}
 use Rattle.mq_decode.proofs.FrontFound.{FrontFound, front_found}
 
 -- ---- what is pending is short
@@ -61,34 +63,39 @@ sized_some limit kind len n h small e = go (ltb limit n) refl e
     go true is e = absurd cc
     go false is e = fixed (wrong_size (fixed_size kind) n) (ltb-false _ _ is) e
 
+-- a length has at most four bytes
+short_length : (lenient : Bool) (n : ℕ) (b : List ℕ) → LengthUnder lenient n b → length b ≤ 4
+short_length false n b h = h.1
+short_length true n b h = h.1
+
 -- what the header tells
-header_small : (w : Wire) (limit : ℕ) (rest : List ℕ) (r : Result Kind FaultKind) (h : Header) → AreBytes rest → header_after limit r rest ≡ Ok (Some h) → Sized limit h
+header_small : (w : Wire) (limit : Bounds) (rest : List ℕ) (r : Result Kind FaultKind) (h : Header) → AreBytes rest → header_after limit r rest ≡ Ok (Some h) → Sized limit.most h
 header_small w limit rest (Err k) h bytes e = absurd cc
-header_small w limit rest (Ok kind) h bytes e = go (read_length rest) refl e
+header_small w limit rest (Ok kind) h bytes e = go (read_length limit.lenient rest) refl e
   where
-    go : (l : LengthReading) → read_length rest ≡ l → header_of limit kind l ≡ Ok (Some h) → Sized limit h
+    go : (l : LengthReading) → read_length limit.lenient rest ≡ l → header_of limit kind l ≡ Ok (Some h) → Sized limit.most h
     go Unfinished is e = absurd cc
     go TooLong is e = absurd cc
     go (Overlong size) is e = absurd cc
     go (Whole n len) is e =
-        let f = w.lengths.found rest n len bytes is in
-        sized_some limit kind len n h (omega (arith, f.1.1, length-take len rest)) e
+        let f = w.lengths.found limit.lenient rest n len bytes is in
+        sized_some limit.most kind len n h (omega (arith, short_length limit.lenient n (take len rest) f.1, length-take len rest, f.0)) e
 
-header_none : (w : Wire) (limit : ℕ) (rest : List ℕ) (r : Result Kind FaultKind) → AreBytes rest → header_after limit r rest ≡ Ok None → length rest < 4
+header_none : (w : Wire) (limit : Bounds) (rest : List ℕ) (r : Result Kind FaultKind) → AreBytes rest → header_after limit r rest ≡ Ok None → length rest < 4
 header_none w limit rest (Err k) bytes e = absurd cc
-header_none w limit rest (Ok kind) bytes e = go (read_length rest) refl e
+header_none w limit rest (Ok kind) bytes e = go (read_length limit.lenient rest) refl e
   where
     sized_not : (o : Option FaultKind) (len n : ℕ) → sized o kind len n ≡ Ok None → ⊥
     sized_not None len n e = absurd cc
     sized_not (Some k) len n e = absurd cc
 
-    go : (l : LengthReading) → read_length rest ≡ l → header_of limit kind l ≡ Ok None → length rest < 4
-    go Unfinished is e = w.lengths.unfinished rest bytes is
+    go : (l : LengthReading) → read_length limit.lenient rest ≡ l → header_of limit kind l ≡ Ok None → length rest < 4
+    go Unfinished is e = w.lengths.unfinished limit.lenient rest bytes is
     go TooLong is e = absurd cc
     go (Overlong size) is e = absurd cc
-    go (Whole n len) is e = absurd (sized_not (size_fault limit kind n) len n e)
+    go (Whole n len) is e = absurd (sized_not (size_fault limit.most kind n) len n e)
 
-none_short : (w : Wire) (limit : ℕ) (b : List ℕ) → AreBytes b → front_at limit b ≡ Ok None → length b ≤ 5 + limit
+none_short : (w : Wire) (limit : Bounds) (b : List ℕ) → AreBytes b → front_at limit b ≡ Ok None → length b ≤ 5 + limit.most
 unfolding front_at header_at
 none_short w limit [] bytes e = omega arith
 none_short w limit (first ∷ rest) bytes e =
@@ -103,7 +110,7 @@ none_short w limit (first ∷ rest) bytes e =
 pub pending_short : (w : Wire) → PendingIsShort
 pending_short w limit b bytes pending = go (front_at limit b) refl (front_found w limit b bytes)
   where
-    go : (r : Read) → front_at limit b ≡ r → FrontFound limit b r → length b ≤ 5 + limit
+    go : (r : Read) → front_at limit b ≡ r → FrontFound limit b r → length b ≤ 5 + limit.most
     go (Ok None) e f = none_short w limit b bytes e
     go (Ok (Some x)) e f = absurd (pending.not_whole x.0 (take x.1 b) (drop x.1 b) f.1 (sym (take-append-drop x.1 b)))
     go (Err fault) e f = absurd (pending.not_faulty fault.kind fault.place f)
@@ -124,14 +131,14 @@ same_fault : (f g : DecodeFault) → faulted f ≡ faulted g → f ≡ g
 same_fault f g e = cc
 
 -- where a packet is spelled, nothing ends
-not_ended : (w : Wire) (limit : ℕ) (p : Packet) (s more b : List ℕ) (end : Option DecodeFault) → SpellsWithin limit p s → b ≡ s ++ more → Ends limit b end → ⊥
+not_ended : (w : Wire) (limit : Bounds) (p : Packet) (s more b : List ℕ) (end : Option DecodeFault) → ReadsWithin limit p s → b ≡ s ++ more → Ends limit b end → ⊥
 not_ended w limit p s more b None h e pending = pending.not_whole p s more h e
 not_ended w limit p s more b (Some fault) h e bad =
     let both : packet_at (p, length s) ≡ faulted (fault_at fault.kind fault.place) = sym (whole_again w limit p s more h) ∙ (ap (front_at limit) (sym e) ∙ faulty_again w limit b fault.kind fault.place bad) in
     absurd cc
 
 -- bytes end in one way
-one_end : (w : Wire) (limit : ℕ) (b : List ℕ) (end stop : Option DecodeFault) → Ends limit b end → Ends limit b stop → end ≡ stop
+one_end : (w : Wire) (limit : Bounds) (b : List ℕ) (end stop : Option DecodeFault) → Ends limit b end → Ends limit b stop → end ≡ stop
 one_end w limit b None None h k = refl
 one_end w limit b None (Some g) h k = absurd (h.not_faulty g.kind g.place k)
 one_end w limit b (Some f) None h k = absurd (k.not_faulty f.kind f.place h)
@@ -146,7 +153,7 @@ same_front a b x y len e = sym (take_at a x (length a) refl) ∙ (ap (take (leng
 same_back : (a b x y : List ℕ) → length a ≡ length b → a ++ x ≡ b ++ y → x ≡ y
 same_back a b x y len e = sym (drop_at a x (length a) refl) ∙ (ap (drop (length a)) e ∙ drop_at b y (length a) (sym len))
 
-one_stream : (w : Wire) (limit : ℕ) (ps qs : List Packet) (f g rest last : List ℕ) (end stop : Option DecodeFault) → Stream limit ps f → Stream limit qs g → f ++ rest ≡ g ++ last
+one_stream : (w : Wire) (limit : Bounds) (ps qs : List Packet) (f g rest last : List ℕ) (end stop : Option DecodeFault) → Stream limit ps f → Stream limit qs g → f ++ rest ≡ g ++ last
     → Ends limit rest end → Ends limit last stop → (ps ≡ qs) × (rest ≡ last) × (end ≡ stop)
 one_stream w limit [] [] f g rest last end stop sf sg e ef eg =
     let same : rest ≡ last = sym (ap (λ (t : List ℕ). t ++ rest) sf) ∙ (e ∙ ap (λ (t : List ℕ). t ++ last) sg) in
@@ -174,24 +181,59 @@ one_way w limit b ps qs rest last end stop h k = one_stream w limit ps qs h.fron
 
 -- ---- what is spelled
 
-one_front : (w : Wire) (limit : ℕ) (p q : Packet) (s t rest more : List ℕ) → SpellsWithin limit p s → SpellsWithin limit q t → s ++ rest ≡ t ++ more → (p ≡ q) × (rest ≡ more)
+one_front : (w : Wire) (limit : Bounds) (p q : Packet) (s t rest more : List ℕ) → ReadsWithin limit p s → ReadsWithin limit q t → s ++ rest ≡ t ++ more → (p ≡ q) × (rest ≡ more)
 one_front w limit p q s t rest more h k e =
     let both : packet_at (p, length s) ≡ packet_at (q, length t) = sym (whole_again w limit p s rest h) ∙ (ap (front_at limit) e ∙ whole_again w limit q t more k) in
     let same = same_packet (p, length s) (q, length t) both in
     let len : length s ≡ length t = ap (λ (x : Packet × ℕ). x.1) same in
     (ap (λ (x : Packet × ℕ). x.0) same, same_back s t rest more len e)
 
-some_bytes : (limit : ℕ) (p : Packet) (s : List ℕ) → SpellsWithin limit p s → 0 < length s
-some_bytes limit p s h = omega (arith, ap length h.0.bytes)
+some_bytes : (limit : Bounds) (p : Packet) (s : List ℕ) → ReadsWithin limit p s → 0 < length s
+some_bytes limit p s h = omega (arith, ap length (parts_of limit.lenient p s h.0).bytes)
 
-not_faulty_front : (w : Wire) (limit : ℕ) (p : Packet) (s rest : List ℕ) (k : FaultKind) (place : ℕ) → SpellsWithin limit p s → Faulty limit (s ++ rest) k place → ⊥
+not_faulty_front : (w : Wire) (limit : Bounds) (p : Packet) (s rest : List ℕ) (k : FaultKind) (place : ℕ) → ReadsWithin limit p s → Faulty limit (s ++ rest) k place → ⊥
 not_faulty_front w limit p s rest k place h bad = not_ended w limit p s rest (s ++ rest) (Some (fault_at k place)) h refl bad
 
 pub again_laws : (w : Wire) → ReadsAgain
-again_laws w = record { one = one_front w; some = some_bytes; right = not_faulty_front w }
+again_laws w = record { one = one_front w; some = some_bytes; right = not_faulty_front w; spelled = λ limits p s h le. (spelled_reads w limits.lenient p s h, le) }
 
 -- what a function found to be pending is short
-pub found_short : (w : Wire) (limit : ℕ) (b : List ℕ) (r : Result (Option (Packet × ℕ)) DecodeError) → AreBytes b → IsFront limit b r → IfOk r (λ o. IfNone o (length b ≤ 5 + limit))
+pub found_short : (w : Wire) (limit : Bounds) (b : List ℕ) (r : Result (Option (Packet × ℕ)) DecodeError) → AreBytes b → IsFront limit b r → IfOk r (λ o. IfNone o (length b ≤ 5 + limit.most))
 found_short w limit b (Err e) bytes h = tt
 found_short w limit b (Ok (Some x)) bytes h = tt
 found_short w limit b (Ok None) bytes h = pending_short w limit b bytes h
+
+-- ---- each list of bytes has a reading
+
+abbrev HasReading : Bounds → List ℕ → Type 0
+HasReading limit b = (ps : List Packet) × (rest : List ℕ) × (end : Option DecodeFault) × Reading limit b ps rest end
+
+-- a packet, and then the rest
+reading_more : (limit : Bounds) (p : Packet) (n : ℕ) (b : List ℕ) → ReadsWithin limit p (take n b) → HasReading limit (drop n b) → HasReading limit b
+reading_more limit p n b h k = (
+  p ∷ k.0,
+  k.1,
+  k.2,
+  record {
+    front = take n b ++ k.3.front;
+    stream = (take n b, k.3.front, h, k.3.stream, refl);
+    parts = sym (take-append-drop n b) ∙ (ap (λ (t : List ℕ). take n b ++ t) k.3.parts ∙ sym (append_assoc (take n b) k.3.front k.1));
+    ends = k.3.ends;
+  },
+)
+
+reading_step : (limit : Bounds) (b : List ℕ) (r : Read) → FrontFound limit b r → ((n : ℕ) → 0 < n → n ≤ length b → HasReading limit (drop n b)) → HasReading limit b
+reading_step limit b (Ok None) f more = ([], b, None, record { front = []; stream = refl; parts = refl; ends = f })
+reading_step limit b (Err fault) f more = ([], b, Some fault, record { front = []; stream = refl; parts = refl; ends = f })
+reading_step limit b (Ok (Some x)) f more =
+    let some : 0 < length (take x.1 b) = some_bytes limit x.0 (take x.1 b) f.1 in
+    reading_more limit x.0 x.1 b f.1 (more x.1 (omega (arith, some, length-take x.1 b)) f.0)
+
+reading_of : (w : Wire) (limit : Bounds) (fuel : ℕ) (b : List ℕ) → AreBytes b → length b ≤ fuel → HasReading limit b
+reading_of w limit zero b bytes le = reading_step limit b (front_at limit b) (front_found w limit b bytes) (λ n some few. absurd (omega arith))
+reading_of w limit (suc fuel) b bytes le =
+    reading_step limit b (front_at limit b) (front_found w limit b bytes)
+    (λ n some few. reading_of w limit fuel (drop n b) (AreBytes-drop n b bytes) (omega (arith, length-drop n b)))
+
+pub each_reads : (w : Wire) → EachReads
+each_reads w limit b bytes = reading_of w limit (length b) b bytes (omega arith)

@@ -16,6 +16,7 @@ use Rattle.mq_decode.specs.declared.kind.Kind.{Kind}
 use Rattle.mq_decode.specs.Kind.{kind_at}
 use Rattle.mq_decode.specs.Bodies.{body_at}
 use Rattle.mq_decode.specs.Front.{header_of, header_after, header_at, packet_or_fault, front_after, front_at}
+use Rattle.mq_decode.specs.Limits.{Bounds}
 use Rattle.mq_decode.specs.Grammar.{Pending, Wants}
 use Rattle.mq_decode.proofs.FieldLaws.{Wire}
 use Rattle.mq_decode.proofs.FrontLaws.{Read, whole_again}
@@ -31,7 +32,7 @@ empty : (rest : List ℕ) → length rest ≤ 0 → rest ≡ []
 empty rest le = nil_from_length rest (omega arith)
 
 -- what is pending with at most one byte more ends with the packet that it makes
-pub wants_one : (limit : ℕ) (b : List ℕ) → Wants limit b 1
+pub wants_one : (limit : Bounds) (b : List ℕ) → Wants limit b 1
 wants_one limit b pending more few p first rest h e =
     elim (cases_lt (length b) (length first)) [
       | inl longer ↦ empty rest (omega (arith, ap length e, length-append b more, length-append first rest))
@@ -39,25 +40,25 @@ wants_one limit b pending more few p first rest h e =
     ]
 
 -- a header that is whole stays, whatever follows
-header_more : (w : Wire) (limit : ℕ) (b more : List ℕ) (h : Header) → AreBytes b → header_at limit b ≡ Ok (Some h) → header_at limit (b ++ more) ≡ Ok (Some h)
+header_more : (w : Wire) (limit : Bounds) (b more : List ℕ) (h : Header) → AreBytes b → header_at limit b ≡ Ok (Some h) → header_at limit (b ++ more) ≡ Ok (Some h)
 unfolding header_at
 header_more w limit [] more h bytes e = absurd cc
 header_more w limit (first ∷ rest) more h bytes e = kinds (kind_at first) refl e
   where
-    lengths : (kind : Kind) (l : LengthReading) → read_length rest ≡ l → header_of limit kind l ≡ Ok (Some h) → header_of limit kind (read_length (rest ++ more)) ≡ Ok (Some h)
+    lengths : (kind : Kind) (l : LengthReading) → read_length limit.lenient rest ≡ l → header_of limit kind l ≡ Ok (Some h) → header_of limit kind (read_length limit.lenient (rest ++ more)) ≡ Ok (Some h)
     lengths kind Unfinished is e = absurd cc
     lengths kind TooLong is e = absurd cc
     lengths kind (Overlong size) is e = absurd cc
     lengths kind (Whole n size) is e =
-        let f = w.lengths.found rest n size (λ i. bytes (suc i)) is in
+        let f = w.lengths.found limit.lenient rest n size (λ i. bytes (suc i)) is in
         let split : rest ++ more ≡ take size rest ++ (drop size rest ++ more) = ap (λ (t : List ℕ). t ++ more) (sym (take-append-drop size rest)) ∙ append_assoc (take size rest) (drop size rest) more in
         let size_is : length (take size rest) ≡ size = omega (arith, length-take size rest, f.0) in
-        let again : read_length (rest ++ more) ≡ Whole n size = ap read_length split ∙ (w.lengths.again n (take size rest) (drop size rest ++ more) f.1 ∙ ap (λ (k : ℕ). Whole n k) size_is) in
+        let again : read_length limit.lenient (rest ++ more) ≡ Whole n size = ap (read_length limit.lenient) split ∙ (w.lengths.again limit.lenient n (take size rest) (drop size rest ++ more) f.1 ∙ ap (λ (k : ℕ). Whole n k) size_is) in
         rw again e
 
     kinds : (r : Result Kind FaultKind) → kind_at first ≡ r → header_after limit r rest ≡ Ok (Some h) → header_after limit (kind_at first) (rest ++ more) ≡ Ok (Some h)
     kinds (Err k) is e = absurd cc
-    kinds (Ok kind) is e = rw is (lengths kind (read_length rest) refl e)
+    kinds (Ok kind) is e = rw is (lengths kind (read_length limit.lenient rest) refl e)
 
 -- where the header is whole, the packet ends where it says
 packet_end : (end n : ℕ) (p : Packet) (r : Result Packet BadField) → packet_or_fault end r ≡ Ok (Some (p, n)) → n ≡ end
@@ -74,7 +75,7 @@ header_end h b p n e = go (ltb (length b) (h.start + h.size)) e
     go false e = packet_end (h.start + h.size) n p _ e
 
 -- with the header it wants what the header says, and at least one byte
-pub wants_rest : (w : Wire) (limit : ℕ) (b : List ℕ) (h : Header) (n : ℕ) → AreBytes b → header_at limit b ≡ Ok (Some h) → length b + n ≤ h.start + h.size → Wants limit b n
+pub wants_rest : (w : Wire) (limit : Bounds) (b : List ℕ) (h : Header) (n : ℕ) → AreBytes b → header_at limit b ≡ Ok (Some h) → length b + n ≤ h.start + h.size → Wants limit b n
 unfolding front_at
 wants_rest w limit b h n bytes e within pending more few p first rest spelled parts =
     let read : front_at limit (b ++ more) ≡ Ok (Some (p, length first)) = ap (front_at limit) parts ∙ whole_again w limit p first rest spelled in
@@ -82,7 +83,7 @@ wants_rest w limit b h n bytes e within pending more few p first rest spelled pa
     empty rest (omega (arith, ap length parts, length-append b more, length-append first rest))
 
 -- the greater of one and what the header says
-pub wants_most : (w : Wire) (limit : ℕ) (b : List ℕ) (h : Header) (n : ℕ) → AreBytes b → header_at limit b ≡ Ok (Some h) → (length b < h.start + h.size → length b + n ≤ h.start + h.size) → (h.start + h.size ≤ length b → n ≤ 1) → Wants limit b n
+pub wants_most : (w : Wire) (limit : Bounds) (b : List ℕ) (h : Header) (n : ℕ) → AreBytes b → header_at limit b ≡ Ok (Some h) → (length b < h.start + h.size → length b + n ≤ h.start + h.size) → (h.start + h.size ≤ length b → n ≤ 1) → Wants limit b n
 wants_most w limit b h n bytes e more one =
     elim (cases_lt (length b) (h.start + h.size)) [
       | inl lt ↦ wants_rest w limit b h n bytes e (more lt)
@@ -90,7 +91,7 @@ wants_most w limit b h n bytes e more one =
     ]
 
 -- with the header and as many bytes as it says nothing is pending
-pending_none : (w : Wire) (limit : ℕ) (b : List ℕ) → AreBytes b → Pending limit b → front_at limit b ≡ Ok None
+pending_none : (w : Wire) (limit : Bounds) (b : List ℕ) → AreBytes b → Pending limit b → front_at limit b ≡ Ok None
 pending_none w limit b bytes pending = go (front_at limit b) refl (front_found w limit b bytes)
   where
     go : (r : Read) → front_at limit b ≡ r → FrontFound limit b r → front_at limit b ≡ Ok None
@@ -102,7 +103,7 @@ never_none : (end : ℕ) (r : Result Packet BadField) → packet_or_fault end r 
 never_none end (Ok p) e = absurd cc
 never_none end (Err bad) e = absurd cc
 
-pub complete_not : (w : Wire) (limit : ℕ) (b : List ℕ) (h : Header) → AreBytes b → header_at limit b ≡ Ok (Some h) → h.start + h.size ≤ length b → Pending limit b → ⊥
+pub complete_not : (w : Wire) (limit : Bounds) (b : List ℕ) (h : Header) → AreBytes b → header_at limit b ≡ Ok (Some h) → h.start + h.size ≤ length b → Pending limit b → ⊥
 unfolding front_at
 complete_not w limit b h bytes e long pending =
     let read : front_after (Ok (Some h)) b ≡ Ok None = ap (λ (r : Result (Option Header) DecodeFault). front_after r b) (sym e) ∙ pending_none w limit b bytes pending in

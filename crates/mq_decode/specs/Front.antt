@@ -13,6 +13,7 @@ use Rattle.mq_decode.specs.declared.fault.BadField.{BadField}
 use Rattle.mq_decode.specs.declared.header.Header.{Header}
 use Rattle.mq_decode.specs.declared.kind.Kind.{Kind}
 use Rattle.mq_decode.specs.Kind.{kind_at, size_fault}
+use Rattle.mq_decode.specs.Limits.{Bounds}
 use Rattle.mq_decode.specs.Bodies.{body_at}
 
 abbrev pub fault_at : FaultKind → ℕ → DecodeFault
@@ -23,20 +24,26 @@ abbrev pub sized : Option FaultKind → Kind → ℕ → ℕ → Result (Option 
 sized None kind len size = Ok (Some (record { kind = kind; start = 1 + len; size = size }))
 sized (Some fault) kind len size = Err (fault_at fault 1)
 
-abbrev pub header_of : ℕ → Kind → LengthReading → Result (Option Header) DecodeFault
-header_of limit kind (Whole n len) = sized (size_fault limit kind n) kind len n
-header_of limit kind Unfinished = Ok None
-header_of limit kind TooLong = Err (fault_at LengthTooLong 4)
-header_of limit kind (Overlong len) = Err (fault_at LengthOverlong len)
+abbrev pub header_of : Bounds → Kind → LengthReading → Result (Option Header) DecodeFault
+header_of limits kind (Whole n len) = sized (size_fault limits.most kind n) kind len n
+header_of limits kind Unfinished = Ok None
+header_of limits kind TooLong = Err (fault_at LengthTooLong 4)
+header_of limits kind (Overlong len) = Err (fault_at LengthOverlong len)
 
-abbrev pub header_after : ℕ → Result Kind FaultKind → List ℕ → Result (Option Header) DecodeFault
-header_after limit (Err fault) rest = Err (fault_at fault 0)
-header_after limit (Ok kind) rest = header_of limit kind (read_length rest)
+abbrev pub header_after : Bounds → Result Kind FaultKind → List ℕ → Result (Option Header) DecodeFault
+header_after limits (Err fault) rest = Err (fault_at fault 0)
+header_after limits (Ok kind) rest = header_of limits kind (read_length limits.lenient rest)
 
 -- the first byte and the remaining length
-unfoldable pub header_at : ℕ → List ℕ → Result (Option Header) DecodeFault
-header_at limit [] = Ok None
-header_at limit (first ∷ rest) = header_after limit (kind_at first) rest
+unfoldable pub header_at : Bounds → List ℕ → Result (Option Header) DecodeFault
+header_at limits [] = Ok None
+header_at limits (first ∷ rest) = header_after limits (kind_at first) rest
+
+-- how many bytes the packet takes, as the header says
+abbrev pub len_told : Result (Option Header) DecodeFault → Option ℕ
+len_told (Ok (Some h)) = Some (h.start + h.size)
+len_told (Ok None) = None
+len_told (Err fault) = None
 
 -- the packet and where it ends, or the place of its first bad field
 abbrev pub packet_or_fault : ℕ → Result Packet BadField → Result (Option (Packet × ℕ)) DecodeFault
@@ -49,8 +56,8 @@ front_after (Ok None) bytes = Ok None
 front_after (Ok (Some h)) bytes = if nat_lt (length bytes) (h.start + h.size) then Ok None else packet_or_fault (h.start + h.size) (body_at h.kind (take h.size (drop h.start bytes)))
 
 -- the packet at the front and how many bytes it takes, nothing where it isn't whole, or its first fault
-unfoldable pub front_at : ℕ → List ℕ → Result (Option (Packet × ℕ)) DecodeFault
-front_at limit bytes = front_after (header_at limit bytes) bytes
+unfoldable pub front_at : Bounds → List ℕ → Result (Option (Packet × ℕ)) DecodeFault
+front_at limits bytes = front_after (header_at limits bytes) bytes
 
 -- what a function returned is what is read, unless memory ran out
 abbrev pub GivesFront : Result (Option (Packet × ℕ)) DecodeError → Result (Option (Packet × ℕ)) DecodeFault → Type 0

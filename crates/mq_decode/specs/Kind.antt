@@ -71,4 +71,4 @@ wrong_size None n = None
 wrong_size (Some size) n = if n == size then None else Some WrongSize
 
 abbrev pub size_fault : ℕ → Kind → ℕ → Option FaultKind
-size_fault limit kind n = if nat_lt limit n then Some OverLimit else wrong_size (fixed_size kind) n
+size_fault most kind n = if nat_lt most n then Some OverLimit else wrong_size (fixed_size kind) n

@@ -2,24 +2,32 @@
 use Rattle.std.specs.Prelude.{◌≡◌, ℕ, ◌+◌, ◌<◌, ◌≤◌, List, ◌++◌, length, Option}
 use Rattle.mq_wire.specs.Bytes.{AreBytes}
 use Rattle.mq_packet.specs.declared.packet.Packet.{Packet}
+use Rattle.mq_packet.specs.Spelling.{Spells, fields}
 use Rattle.mq_decode.specs.declared.fault.FaultKind.{FaultKind}
 use Rattle.mq_decode.specs.declared.fault.DecodeFault.{DecodeFault}
-use Rattle.mq_decode.specs.Grammar.{SpellsWithin, Faulty, Pending, Reading}
+use Rattle.mq_decode.specs.Limits.{Bounds}
+use Rattle.mq_decode.specs.Grammar.{ReadsWithin, Faulty, Pending, Reading}
 
 -- two readings of the same bytes are one
 abbrev pub OneReading : Type 0
-OneReading = (limit : ℕ) (b : List ℕ) (ps qs : List Packet) (rest last : List ℕ) (end stop : Option DecodeFault)
-    → Reading limit b ps rest end → Reading limit b qs last stop → (ps ≡ qs) × (rest ≡ last) × (end ≡ stop)
+OneReading = (limits : Bounds) (b : List ℕ) (ps qs : List Packet) (rest last : List ℕ) (end stop : Option DecodeFault)
+    → Reading limits b ps rest end → Reading limits b qs last stop → (ps ≡ qs) × (rest ≡ last) × (end ≡ stop)
+
+-- every list of bytes has a reading
+abbrev pub EachReads : Type 0
+EachReads = (limits : Bounds) (b : List ℕ) → AreBytes b → (ps : List Packet) × (rest : List ℕ) × (end : Option DecodeFault) × Reading limits b ps rest end
 
 -- what is pending has at most five bytes more than the limit
 abbrev pub PendingIsShort : Type 0
-PendingIsShort = (limit : ℕ) (b : List ℕ) → AreBytes b → Pending limit b → length b ≤ 5 + limit
+PendingIsShort = (limits : Bounds) (b : List ℕ) → AreBytes b → Pending limits b → length b ≤ 5 + limits.most
 
--- a packet spelled at the front
+-- a packet that is read at the front
 pub record ReadsAgain : Type 0 where
+  -- each that is spelled is one, under all limits within which it is
+  pub spelled : (limits : Bounds) (p : Packet) (s : List ℕ) → Spells p s → length (fields p) ≤ limits.most → ReadsWithin limits p s
   -- is the only one
-  pub one : (limit : ℕ) (p q : Packet) (s t rest more : List ℕ) → SpellsWithin limit p s → SpellsWithin limit q t → s ++ rest ≡ t ++ more → (p ≡ q) × (rest ≡ more)
+  pub one : (limits : Bounds) (p q : Packet) (s t rest more : List ℕ) → ReadsWithin limits p s → ReadsWithin limits q t → s ++ rest ≡ t ++ more → (p ≡ q) × (rest ≡ more)
   -- takes at least a byte
-  pub some : (limit : ℕ) (p : Packet) (s : List ℕ) → SpellsWithin limit p s → 0 < length s
+  pub some : (limits : Bounds) (p : Packet) (s : List ℕ) → ReadsWithin limits p s → 0 < length s
   -- and is no fault
-  pub right : (limit : ℕ) (p : Packet) (s rest : List ℕ) (k : FaultKind) (place : ℕ) → SpellsWithin limit p s → Faulty limit (s ++ rest) k place → ⊥
+  pub right : (limits : Bounds) (p : Packet) (s rest : List ℕ) (k : FaultKind) (place : ℕ) → ReadsWithin limits p s → Faulty limits (s ++ rest) k place → ⊥

@@ -7,6 +7,7 @@ pub mod Gives
 pub mod Grammar
 pub mod Kind
 pub mod Laws
+pub mod Limits
 pub mod Lists
 pub mod Reader
 pub mod State

@@ -1,18 +1,20 @@
 -- What reading a packet from a reader says of the bytes that it had left, where these are known.
-use Rattle.std.specs.Prelude.{◌≡◌, ℕ, ◌<◌, List, length, Option, Some, IfSome, Result, Ok, Err}
+use Rattle.std.specs.Prelude.{◌≡◌, ℕ, ◌<◌, List, length, Option, Some, None, IfSome, Result, Ok, Err}
+use Rattle.std.specs.Io.KnownBytes.{Consumes}
 use Rattle.mq_packet.specs.declared.packet.Packet.{Packet}
 use Rattle.mq_decode.specs.declared.fault.DecodeError.{DecodeError}
 use Rattle.mq_decode.specs.declared.fault.DecodeError.TheVariants as decodes
 use Rattle.mq_decode.specs.declared.read.ReadError.{ReadError}
 use Rattle.mq_decode.specs.declared.read.ReadError.TheVariants as errors
-use Rattle.mq_decode.specs.Grammar.{Faulty, Pending}
+use Rattle.mq_decode.specs.Limits.{Bounds}
+use Rattle.mq_decode.specs.Grammar.{ReadsWithin, Faulty, Pending}
 
 -- why no packet was read: less than a whole one was left, or something else than a packet
-abbrev pub ReadStops : ℕ → Option (List ℕ) → ReadError → Type 0
-ReadStops limit left errors.Cut = IfSome left (λ b. Pending limit b × (0 < length b))
-ReadStops limit left (errors.Io error) = Unit {0}
-ReadStops limit left (errors.Fault fault) = IfSome left (λ b. Faulty limit b fault.kind fault.place)
-ReadStops limit left errors.Memory = Unit {0}
+abbrev pub ReadStops : Bounds → Option (List ℕ) → ReadError → Type 0
+ReadStops limits left errors.Cut = IfSome left (λ b. Pending limits b × (0 < length b))
+ReadStops limits left (errors.Io error) = Unit {0}
+ReadStops limits left (errors.Fault fault) = IfSome left (λ b. Faulty limits b fault.kind fault.place)
+ReadStops limits left errors.Memory = Unit {0}
 
 -- where a packet was left, it was read, unless the reader failed or memory ran out
 abbrev pub Answers : Packet → List ℕ → Result (Option Packet) ReadError → Option (List ℕ) → Type 0
@@ -21,6 +23,16 @@ Answers p rest (Err errors.Cut) left = ⊥
 Answers p rest (Err (errors.Io error)) left = Unit {0}
 Answers p rest (Err (errors.Fault fault)) left = ⊥
 Answers p rest (Err errors.Memory) left = Unit {0}
+
+-- a packet of so many bytes was taken, and it is read so
+abbrev pub TakesSized : Bounds → Option (List ℕ) → Option (List ℕ) → Packet × ℕ → Type 0
+TakesSized limits old new x = (s : List ℕ) × ReadsWithin limits x.0 s × Consumes old new s × (x.1 ≡ length s)
+
+-- what was read, without its size
+abbrev pub without_size : Result (Option (Packet × ℕ)) ReadError → Result (Option Packet) ReadError
+without_size (Ok (Some x)) = Ok (Some x.0)
+without_size (Ok None) = Ok None
+without_size (Err error) = Err error
 
 -- the decoder's error, for a reader
 abbrev pub stop_of : DecodeError → ReadError

@@ -5,7 +5,7 @@ ghost use Rattle.mq_decode.specs.Gives.{EndsWith, Gives, Same};
 ghost use Rattle.mq_decode.specs.Lists.{list_with};
 ghost use Rattle.mq_decode.specs.Bodies.{present_at, answer_at, connack_at, only_identifier_at, body_at};
 
-use crate::connect::connect;
+use crate::connect::boxed_connect;
 use crate::fault::{BadField, FaultKind, FieldsError};
 use crate::fields::{bad_at, end, identifier};
 use crate::kind::Kind;
@@ -82,7 +82,7 @@ fn identified<T: Item + Drop>(
     Ok((id, items))
 }
 
-/// All fields of a packet of this kind. Where `whole` is the packet that they end, a payload shares its
+/// All fields of a packet of this kind. Where `whole` is the packet that they end, a message shares its
 /// bytes.
 pub(crate) fn body(
     alloc: Global,
@@ -95,7 +95,7 @@ pub(crate) fn body(
     ensures { Gives (λ p. p) result (body_at kind bytes.now) }
 {
     match kind {
-        Kind::Connect => Ok(Packet::Connect(connect(alloc, bytes)?)),
+        Kind::Connect => Ok(Packet::Connect(boxed_connect(alloc, bytes)?)),
         Kind::ConnAck => Ok(Packet::ConnAck(connack(bytes)?)),
         Kind::Publish(flags) => Ok(Packet::Publish(publish(alloc, flags, whole, bytes)?)),
         Kind::PubAck => Ok(Packet::PubAck(only_identifier(bytes)?)),

@@ -8,7 +8,7 @@ use crate::fault::{BadField, FaultKind, FieldsError};
 use crate::fields::{bad_at, binary, end, name, number, text};
 use crate::flags::{ConnectFlags, WillFlags, flags_from};
 use bytes::Bytes;
-use mq_packet::{Binary, Connect, Login, Will};
+use mq_packet::{Binary, BoxedConnect, Connect, Login, Will};
 use mq_topic::TopicName;
 use std::alloc::{AllocError, Global};
 
@@ -131,9 +131,19 @@ fn login(
     }
 }
 
-/// All fields of a CONNECT.
+/// All fields of a CONNECT, behind a box.
+pub(crate) fn boxed_connect(alloc: Global, bytes: &[u8]) -> Result<BoxedConnect, FieldsError>
+    ensures { Gives (λ x. x) result (connect_at bytes.now) }
+{
+    match connect(alloc, bytes) {
+        Ok(connect) => Ok(BoxedConnect::new(alloc, connect)?),
+        Err(e) => Err(e),
+    }
+}
+
+// All fields of a CONNECT.
 #[tactic(auto, unfolding(crate::specs::Connects::connect_at))]
-pub(crate) fn connect(alloc: Global, bytes: &[u8]) -> Result<Connect, FieldsError>
+fn connect(alloc: Global, bytes: &[u8]) -> Result<Connect, FieldsError>
     ensures { Gives (λ x. x) result (connect_at bytes.now) }
 {
     let rest = protocol(bytes)?;

@@ -81,7 +81,7 @@ impl Decoder {
     /// How many bytes of the packet that is not whole are held. It takes no memory.
     pub fn held(&self) -> usize
         ensures value { result ≡ length self.now.held }
-        ensures most { self.now.failed ≡ None → result ≤ 5 + self.now.limit }
+        ensures most { self.now.failed ≡ None → result ≤ 5 + self.now.limit.most }
     {
         len_of(self.limits, &self.held)
     }
@@ -100,7 +100,7 @@ impl Decoder {
 // How many bytes are held, which are few where they are less than a packet.
 fn len_of(limits: Limits, held: &[u8]) -> usize
     ensures value { result ≡ length held.now }
-    ensures most { Pending limits held.now → result ≤ 5 + limits }
+    ensures most { Pending limits held.now → result ≤ 5 + limits.most }
 {
     pending_is_short();
     held.len()

@@ -20,7 +20,7 @@ pub enum FaultKind {
     DupWithoutDelivery,
     /// The fourth byte of the remaining length says that a fifth follows (2.2.3).
     LengthTooLong,
-    /// The last byte of the remaining length is 0 and not the only one.
+    /// The last byte of the remaining length is 0 and not the only one. Lenient limits take it.
     LengthOverlong,
     /// The remaining length is over the limit.
     OverLimit,

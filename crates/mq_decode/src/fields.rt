@@ -1,7 +1,7 @@
 //! Single fields at the front of the bytes of a packet (1.5). Each reader gives the value and the
 //! bytes after it, and takes no memory.
 
-ghost use Rattle.std.specs.Prelude.{◌≡◌, ◌<◌, ℕ, Option, true, length, IfOk, Ok};
+ghost use Rattle.std.specs.Prelude.{◌≡◌, ◌+◌, ◌-◌, ◌<◌, ◌≤◌, slice_range, ℕ, Option, true, length, IfOk, Ok};
 ghost use Rattle.mq_topic.specs.Topic.{is_topic_name, is_topic_filter};
 ghost use Rattle.mq_decode.specs.Gives.{EndsWith, Same};
 ghost use Rattle.mq_decode.specs.Fields.{number_at, identifier_at, text_at, name_at, filter_at, binary_at, end_at, text_fault};
@@ -60,8 +60,11 @@ fn text_fault(fault: FieldFault) -> FaultKind
 #[tactic(auto, unfolding(crate::specs::Fields::text_at))]
 pub(crate) fn text(bytes: &[u8]) -> Result<(TextRef<'_>, &[u8]), BadField>
     ensures read { Same (λ x. (x.0, x.1.now)) result (text_at bytes.now) }
+    ensures stands { IfOk result
+        (λ x. slice_range bytes.now 2 (length bytes.now - length x.1.now) ≡ x.0) }
     ensures shorter { IfOk result (λ x. length x.1.now < length bytes.now) }
     ensures end { IfOk result (λ x. EndsWith bytes.now x.1.now) }
+    ensures place { IfOk result (λ x. 2 + length x.1.now ≤ length bytes.now) }
 {
     let (text, end) = match mq_wire::text_at(bytes, 0) {
         Ok(field) => field,
@@ -75,6 +78,9 @@ pub(crate) fn text(bytes: &[u8]) -> Result<(TextRef<'_>, &[u8]), BadField>
 pub(crate) fn name(bytes: &[u8]) -> Result<(TextRef<'_>, &[u8]), BadField>
     ensures read { Same (λ x. (x.0, x.1.now)) result (name_at bytes.now) }
     ensures name { IfOk result (λ x. is_topic_name x.0 ≡ true) }
+    ensures stands { IfOk result
+        (λ x. slice_range bytes.now 2 (length bytes.now - length x.1.now) ≡ x.0) }
+    ensures place { IfOk result (λ x. 2 + length x.1.now ≤ length bytes.now) }
     ensures shorter { IfOk result (λ x. length x.1.now < length bytes.now) }
     ensures end { IfOk result (λ x. EndsWith bytes.now x.1.now) }
 {

@@ -60,7 +60,7 @@ pub(crate) fn front(
 ) -> Result<Option<(Packet, usize)>, DecodeError>
     requires { IfSome whole (λ all. all.now ≡ bytes.now) }
     ensures front { IsFront limits bytes.now result }
-    ensures short { IfOk result (λ o. IfNone o (length bytes.now ≤ 5 + limits)) }
+    ensures short { IfOk result (λ o. IfNone o (length bytes.now ≤ 5 + limits.most)) }
     ensures some { IfOk result (λ o. IfSome o (λ x. 0 < x.1)) }
 {
     number_laws();

@@ -1,13 +1,14 @@
 //! The fixed header of a packet (2.2): the first byte and the remaining length.
 
 ghost use Rattle.std.specs.Prelude.{◌≡◌, ◌+◌, ◌<◌, ◌≤◌, ◌^◌, length, IfOk, IfSome, OnSome};
+ghost use Rattle.mq_wire.specs.Reading.{IsSmall, read_length};
 ghost use Rattle.mq_decode.specs.Kind.{size_fault};
 ghost use Rattle.mq_decode.specs.Front.{header_at};
 
 use crate::fault::{DecodeFault, FaultKind};
 use crate::kind::{Kind, fixed_size, kind_at};
 use crate::limits::Limits;
-use mq_wire::{LengthReading, length_at};
+use mq_wire::{LengthReading, length_at, loose_length_at};
 
 /// The kind of a packet, where its fields start, and how many bytes they take.
 #[derive(Clone, Copy, Debug, PartialEq, Eq)]
@@ -18,7 +19,7 @@ pub(crate) struct Header {
 }
 
 fn size_fault(limits: Limits, kind: Kind, size: u32) -> Option<FaultKind>
-    ensures { result ≡ size_fault limits kind size }
+    ensures { result ≡ size_fault limits.most kind size }
 {
     if size > limits.max_packet() {
         return Some(FaultKind::OverLimit);
@@ -27,6 +28,17 @@ fn size_fault(limits: Limits, kind: Kind, size: u32) -> Option<FaultKind>
         Some(fixed) if size != fixed => Some(FaultKind::WrongSize),
         _ => None,
     }
+}
+
+// The remaining length at the front.
+fn length_under(limits: Limits, bytes: &[u8]) -> LengthReading
+    ensures read { result ≡ read_length limits.lenient bytes.now }
+    ensures small { IsSmall result }
+{
+    if limits.is_lenient() {
+        return loose_length_at(bytes);
+    }
+    length_at(bytes)
 }
 
 /// The header at the front of `bytes`, `None` where it is not whole, or its fault.
@@ -43,7 +55,7 @@ pub(crate) fn header_at(limits: Limits, bytes: &[u8]) -> Result<Option<Header>, 
         Ok(kind) => kind,
         Err(kind) => return Err(DecodeFault { kind, place: 0 }),
     };
-    match length_at(rest) {
+    match length_under(limits, rest) {
         LengthReading::Unfinished => Ok(None),
         LengthReading::TooLong => Err(DecodeFault {
             kind: FaultKind::LengthTooLong,

@@ -1,12 +1,21 @@
 //! Laws of the grammar.
 
-ghost use Rattle.mq_decode.specs.Laws.{OneReading, PendingIsShort, ReadsAgain};
+ghost use Rattle.mq_decode.specs.Laws.{EachReads, OneReading, PendingIsShort, ReadsAgain};
 
 use mq_wire::{length_laws, number_laws, text_laws};
 
-/// Every list of bytes has one reading: the packets, the rest and how it ends are determined.
+/// No list of bytes has two readings: the packets, the rest and how it ends are determined.
 pub fn one_reading()
     ensures { OneReading }
+{
+    number_laws();
+    text_laws();
+    length_laws();
+}
+
+/// Every list of bytes has a reading: packets, a rest and how it ends.
+pub fn each_reads()
+    ensures { EachReads }
 {
     number_laws();
     text_laws();
@@ -22,7 +31,8 @@ pub fn pending_is_short()
     length_laws();
 }
 
-/// Where a packet is spelled at the front, no other one is, nothing is pending, and there is no fault.
+/// A packet that is spelled is read. Where one is read at the front, no other one is, nothing is pending,
+/// and there is no fault.
 pub fn reads_again()
     ensures { ReadsAgain }
 {

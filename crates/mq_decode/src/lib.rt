@@ -15,10 +15,12 @@ mod limits;
 mod lists;
 mod publish;
 mod read;
+mod size;
 mod take;
 
 pub use crate::decoder::{Decoder, decode_pieces};
 pub use crate::fault::{DecodeError, DecodeFault, FaultKind};
-pub use crate::laws::{one_reading, pending_is_short, reads_again};
+pub use crate::laws::{each_reads, one_reading, pending_is_short, reads_again};
 pub use crate::limits::Limits;
-pub use crate::read::{ReadError, read_packet};
+pub use crate::read::{ReadError, read_packet, read_sized};
+pub use crate::size::packet_len;

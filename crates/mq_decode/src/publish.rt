@@ -1,6 +1,7 @@
 //! PUBLISH (3.3).
 
-ghost use Rattle.std.specs.Prelude.{◌≡◌, ◌<◌, ◌≤◌, ◌^◌, true, length, IfOk, IfSome, IsSome};
+ghost use Rattle.std.specs.Prelude.{◌≡◌, ◌+◌, ◌-◌, ◌<◌, ◌≤◌, ◌^◌, true, length, drop, slice_range, IfOk, IfSome, IsSome};
+ghost use Rattle.mq_topic.specs.Topic.{is_topic_name};
 ghost use Rattle.mq_packet.specs.Publication.{fits_delivery};
 ghost use Rattle.mq_decode.specs.Gives.{EndsWith, Gives, Same};
 ghost use Rattle.mq_decode.specs.Bodies.{identified_at, delivery_at, publish_at};
@@ -11,6 +12,7 @@ use crate::kind::PublishFlags;
 use bytes::Bytes;
 use mq_packet::{Delivery, Message, Payload, Publish};
 use mq_topic::{Qos, TopicName};
+use mq_wire::TextRef;
 use std::alloc::{AllocError, Global};
 
 // The identifier of a quality of service over 0.
@@ -38,20 +40,51 @@ fn delivery(flags: PublishFlags, bytes: &[u8]) -> Result<(Option<Delivery>, &[u8
     }
 }
 
-// The payload of its own: it shares the packet where that is whole in a buffer, and else is a copy.
-fn payload_of(alloc: Global, whole: Option<&Bytes>, payload: &[u8]) -> Result<Payload, AllocError>
-    requires shared { IfSome whole (λ packet. EndsWith packet.now payload.now) }
-    requires small { length payload.now < 2 ^ 28 }
-    ensures { IfOk result (λ p. p ≡ payload.now) }
+// The fields of its own: they are part of the packet where that is whole in a buffer, and else a copy.
+fn shared_fields(alloc: Global, whole: Option<&Bytes>, fields: &[u8]) -> Result<Bytes, AllocError>
+    requires { IfSome whole (λ packet. EndsWith packet.now fields.now) }
+    ensures { IfOk result (λ b. b ≡ fields.now) }
 {
-    let bytes = match whole {
-        Some(packet) => packet.slice(packet.len() - payload.len()..)?,
-        None => Bytes::copy_from_slice(alloc, payload)?,
-    };
-    Ok(Payload::new(bytes).unwrap())
+    match whole {
+        Some(packet) => packet.slice(packet.len() - fields.len()..),
+        None => Bytes::copy_from_slice(alloc, fields),
+    }
 }
 
-/// All fields of a PUBLISH. Where `whole` is the packet that they end, the payload shares its bytes.
+// The message whose topic name stands at the front of the fields, before `rest`, and whose payload
+// ends them. Both share one block of bytes.
+fn message_of(
+    flags: PublishFlags,
+    fields: &Bytes,
+    topic: &TextRef<'_>,
+    rest: usize,
+    payload: usize,
+) -> Result<Message, AllocError>
+    requires topic_in { 2 + rest ≤ length fields.now }
+    requires topic { slice_range fields.now 2 (length fields.now - rest) ≡ topic.now }
+    requires name { is_topic_name topic.now ≡ true }
+    requires payload_in { payload ≤ length fields.now }
+    requires small { length fields.now < 2 ^ 28 }
+    ensures { IfOk result (λ m. m ≡ record {
+      topic = topic.now;
+      payload = drop (length fields.now - payload) fields.now;
+      qos = flags.qos;
+      retain = flags.retain;
+    }) }
+{
+    let size = fields.len();
+    let topic = topic.shared(fields.slice(2..size - rest)?);
+    let payload = fields.slice(size - payload..)?;
+    Ok(Message {
+        topic: TopicName::from_text(topic),
+        payload: Payload::new(payload).unwrap(),
+        qos: flags.qos,
+        retain: flags.retain,
+    })
+}
+
+/// All fields of a PUBLISH. Topic name and payload share one block: where `whole` is the packet that
+/// they end, its bytes, and else a copy of the fields.
 #[tactic(auto, unfolding(crate::specs::Bodies::publish_at))]
 pub(crate) fn publish(
     alloc: Global,
@@ -71,13 +104,7 @@ pub(crate) fn publish(
         Ok(field) => field,
         Err(bad) => return Err(FieldsError::Bad(bad)),
     };
-    let topic = TopicName::from_text(topic.to_text(alloc)?);
-    let payload = payload_of(alloc, whole, payload)?;
-    let message = Message {
-        topic,
-        payload,
-        qos: flags.qos,
-        retain: flags.retain,
-    };
+    let fields = shared_fields(alloc, whole, bytes)?;
+    let message = message_of(flags, &fields, &topic, rest.len(), payload.len())?;
     Ok(Publish::new(message, delivery))
 }

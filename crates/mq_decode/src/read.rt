@@ -3,8 +3,9 @@
 ghost use Rattle.std.specs.Prelude.{◌≡◌, ◌+◌, ◌<◌, ◌≤◌, ◌++◌, ℕ, List, Option, Some, None, [], length, take, IfOk, IfErr, IfSome, IfNone, OnErr, OnOk};
 ghost use Rattle.std.specs.Io.KnownBytes.{Consumes, IsAtEnd, Keeps, ReadConsumes};
 ghost use Rattle.mq_packet.specs.declared.packet.Packet.{Packet};
-ghost use Rattle.mq_decode.specs.Grammar.{SpellsWithin, Pending};
-ghost use Rattle.mq_decode.specs.Reader.{ReadStops, Answers, stop_of};
+ghost use Rattle.mq_decode.specs.Grammar.{ReadsWithin, Pending};
+ghost use Rattle.mq_decode.specs.Limits.{Bounds};
+ghost use Rattle.mq_decode.specs.Reader.{ReadStops, Answers, TakesSized, stop_of, without_size};
 
 use crate::fault::{DecodeError, DecodeFault};
 use crate::laws::reads_again;
@@ -55,7 +56,7 @@ fn fill<R: Read>(reader: &mut R, buffer: &mut Vec<u8>, most: usize) -> Result<us
         × (buffer.new.items ≡ buffer.old.items ++ more)
         × Consumes (R.remaining reader.old) (R.remaining reader.new) more) }
     ensures end { IfOk result (λ n. n ≡ 0 → IsAtEnd (R.remaining reader.new)) }
-    ensures err { (limit : ℕ) (left : Option (List ℕ)) → IfErr result (ReadStops limit left) }
+    ensures err { (limit : Bounds) (left : Option (List ℕ)) → IfErr result (ReadStops limit left) }
 {
     let start = buffer.len();
     if buffer.resize(start + most, 0).is_err() {
@@ -79,16 +80,30 @@ pub fn read_packet<R: Read>(
     limits: Limits,
 ) -> Result<Option<Packet>, ReadError>
     // A packet that was read is spelled by the bytes that were taken.
-    ensures packet { IfOk result (λ o. IfSome o (λ p. (s : List ℕ) × SpellsWithin limits p s
+    ensures packet { IfOk result (λ o. IfSome o (λ p. (s : List ℕ) × ReadsWithin limits p s
         × Consumes (R.remaining reader.old) (R.remaining reader.new) s)) }
     ensures none { IfOk result (λ o. IfNone o (IsAtEnd (R.remaining reader.old))) }
     ensures err { IfErr result (ReadStops limits (R.remaining reader.old)) }
     // A packet that stands there is read, and what follows is left.
-    ensures again { (p : Packet) (s rest : List ℕ) → SpellsWithin limits p s
+    ensures again { (p : Packet) (s rest : List ℕ) → ReadsWithin limits p s
         → R.remaining reader.old ≡ Some (s ++ rest) → Answers p rest result (R.remaining reader.new) }
 {
     reads_again();
-    read_one(alloc, reader, limits)
+    let read = read_sized(alloc, reader, limits);
+    without_size(read)
+}
+
+// What was read, without its size.
+fn without_size(
+    read: Result<Option<(Packet, usize)>, ReadError>,
+) -> Result<Option<Packet>, ReadError>
+    ensures { result ≡ without_size read }
+{
+    match read {
+        Ok(Some(found)) => Ok(Some(found.0)),
+        Ok(None) => Ok(None),
+        Err(error) => Err(error),
+    }
 }
 
 // The decoder's error, for a reader.
@@ -101,14 +116,14 @@ fn stop_of(error: DecodeError) -> ReadError
     }
 }
 
-// The same, without what follows from the grammar.
-fn read_one<R: Read>(
+/// Reads the next packet as `read_packet` does, and says how many bytes it had.
+pub fn read_sized<R: Read>(
     alloc: Global,
     reader: &mut R,
     limits: Limits,
-) -> Result<Option<Packet>, ReadError>
-    ensures packet { IfOk result (λ o. IfSome o (λ p. (s : List ℕ) × SpellsWithin limits p s
-        × Consumes (R.remaining reader.old) (R.remaining reader.new) s)) }
+) -> Result<Option<(Packet, usize)>, ReadError>
+    ensures packet { IfOk result (λ o. IfSome o
+        (TakesSized limits (R.remaining reader.old) (R.remaining reader.new))) }
     ensures none { IfOk result (λ o. IfNone o (IsAtEnd (R.remaining reader.old))) }
     ensures err { IfErr result (ReadStops limits (R.remaining reader.old)) }
 {
@@ -123,9 +138,10 @@ fn read_one<R: Read>(
                 Err(ReadError::Cut)
             };
         }
+        let size = buffer.len();
         match take_held(alloc, limits, &mut buffer) {
             Ok(None) => {}
-            Ok(Some(found)) => return Ok(Some(found.0)),
+            Ok(Some(found)) => return Ok(Some((found.0, size))),
             Err(error) => return Err(stop_of(error)),
         }
     }

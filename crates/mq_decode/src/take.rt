@@ -90,7 +90,7 @@ pub(crate) fn take_held(
 ) -> Result<Option<(Packet, usize)>, DecodeError>
     ensures front { IsFront limits held.old.items result }
     ensures some { IfOk result (λ o. IfSome o (λ x. 0 < x.1)) }
-    ensures short { IfOk result (λ o. IfNone o (length held.new.items ≤ 5 + limits)) }
+    ensures short { IfOk result (λ o. IfNone o (length held.new.items ≤ 5 + limits.most)) }
     ensures kept { IfOk result (λ o. IfNone o (held.new.items ≡ held.old.items)) }
 {
     if !is_complete(limits, held) {

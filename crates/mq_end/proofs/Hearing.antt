@@ -5,6 +5,7 @@ use Rattle.mq_packet.specs.declared.packet.Packet.{Packet}
 use Rattle.mq_decode.specs.declared.fault.DecodeFault.{DecodeFault}
 use Rattle.mq_decode.specs.declared.fault.DecodeError.{DecodeError}
 use Rattle.mq_decode.specs.declared.fault.DecodeError.TheVariants as errors
+use Rattle.mq_decode.specs.Limits.{Bounds}
 use Rattle.mq_decode.specs.Grammar.{Stream, Pending, Reading, Begins, Goes, Stops}
 use Rattle.mq_decode.specs.Laws.{ReadsAgain}
 use Rattle.mq_end.specs.declared.reason.CloseReason.{CloseReason}
@@ -63,13 +64,13 @@ heard_shut Client now b reason old new same = same
 heard_shut Server now b reason old new same = record { waits = λ p. same; closes = λ s. same; hears = λ none. cc }
 
 -- no packet is whole in bytes that are pending
-pending_none : (limit : ℕ) (ps : List Packet) (b front rest : List ℕ) → Stream limit ps front → b ≡ front ++ rest → Pending limit b → ps ≡ []
+pending_none : (limit : Bounds) (ps : List Packet) (b front rest : List ℕ) → Stream limit ps front → b ≡ front ++ rest → Pending limit b → ps ≡ []
 pending_none limit [] b front rest stream parts pending = refl
 pending_none limit (p ∷ ps) b front rest h parts pending =
     absurd (pending.not_whole p h.0 (h.1 ++ rest) h.2 (parts ∙ ap (λ (t : List ℕ). t ++ rest) h.4 ∙ append_assoc h.0 h.1 rest))
 
 -- bytes without a whole packet are the rest behind none
-none_pending : (limit : ℕ) (b front rest : List ℕ) → front ≡ [] → b ≡ front ++ rest → Pending limit rest → Pending limit b
+none_pending : (limit : Bounds) (b front rest : List ℕ) → front ≡ [] → b ≡ front ++ rest → Pending limit rest → Pending limit b
 none_pending limit b front rest none parts pending = subst (λ (t : List ℕ). Pending limit t) (sym (parts ∙ ap (λ (t : List ℕ). t ++ rest) none)) pending
 
 -- the server's moment, by whether a whole packet came
@@ -155,20 +156,20 @@ hears_fault role now piece old mid new h t u v r x ps rest fault reason reading 
 
 -- ---- from what the decoder says
 
-pub record FrontOf (limit : ℕ) (b : List ℕ) (ps : List Packet) : Type 0 where
+pub record FrontOf (limit : Bounds) (b : List ℕ) (ps : List Packet) : Type 0 where
   pub front : List ℕ
   pub rest : List ℕ
   pub stream : Stream limit ps front
   pub parts : b ≡ front ++ rest
 
-front_ok : (limit : ℕ) (b : List ℕ) (ps : List Packet) (rest : List ℕ) → Goes limit b [] ps rest → FrontOf limit b ps
+front_ok : (limit : Bounds) (b : List ℕ) (ps : List Packet) (rest : List ℕ) → Goes limit b [] ps rest → FrontOf limit b ps
 front_ok limit b ps rest h = subst (λ (qs : List Packet). FrontOf limit b qs) (sym h.1) (record { front = h.2.front; rest = rest; stream = h.2.stream; parts = h.2.parts })
 
-front_err : (limit : ℕ) (b : List ℕ) (ps : List Packet) (e : DecodeError) → Stops limit b [] ps e → FrontOf limit b ps
+front_err : (limit : Bounds) (b : List ℕ) (ps : List Packet) (e : DecodeError) → Stops limit b [] ps e → FrontOf limit b ps
 front_err limit b ps (errors.Fault fault) h = subst (λ (qs : List Packet). FrontOf limit b qs) (sym h.2) (record { front = h.3.front; rest = h.1; stream = h.3.stream; parts = h.3.parts })
 front_err limit b ps errors.Memory h = subst (λ (qs : List Packet). FrontOf limit b qs) (sym h.1) (record { front = h.2.front; rest = h.2.rest; stream = h.2.stream; parts = h.2.parts })
 
-pub front_of : {A : Type 0} (limit : ℕ) (b held : List ℕ) (none ps : List Packet) (res : Result A DecodeError) → none ≡ [] → OnOk res (Goes limit b none ps held) → IfErr res (Stops limit b none ps) → FrontOf limit b ps
+pub front_of : {A : Type 0} (limit : Bounds) (b held : List ℕ) (none ps : List Packet) (res : Result A DecodeError) → none ≡ [] → OnOk res (Goes limit b none ps held) → IfErr res (Stops limit b none ps) → FrontOf limit b ps
 front_of limit b held none ps (Ok u) h ok err = front_ok limit b ps held (subst (λ (qs : List Packet). Goes limit b qs ps held) h ok)
 front_of limit b held none ps (Err e) h ok err = front_err limit b ps e (subst (λ (qs : List Packet). Stops limit b qs ps e) h err)
 
@@ -183,21 +184,21 @@ bring gets ps old mid new t u r state taken makes = record {
 }
 
 -- the packets that the decoder gave
-pub goes_from : (limit : ℕ) (b : List ℕ) (none ps : List Packet) (rest : List ℕ) → none ≡ [] → Goes limit b none ps rest → Reading limit b ps rest None
+pub goes_from : (limit : Bounds) (b : List ℕ) (none ps : List Packet) (rest : List ℕ) → none ≡ [] → Goes limit b none ps rest → Reading limit b ps rest None
 goes_from limit b none ps rest h g =
     let k = subst (λ (qs : List Packet). Goes limit b qs ps rest) h g in
     subst (λ (qs : List Packet). Reading limit b qs rest None) (sym k.1) k.2
 
-pub begins_from : (limit : ℕ) (b : List ℕ) (none ps : List Packet) → none ≡ [] → Stops limit b none ps errors.Memory → Begins limit b ps
+pub begins_from : (limit : Bounds) (b : List ℕ) (none ps : List Packet) → none ≡ [] → Stops limit b none ps errors.Memory → Begins limit b ps
 begins_from limit b none ps h g =
     let k = subst (λ (qs : List Packet). Stops limit b qs ps errors.Memory) h g in
     subst (λ (qs : List Packet). Begins limit b qs) (sym k.1) k.2
 
-pub record Broken (limit : ℕ) (b : List ℕ) (ps : List Packet) (fault : DecodeFault) : Type 0 where
+pub record Broken (limit : Bounds) (b : List ℕ) (ps : List Packet) (fault : DecodeFault) : Type 0 where
   pub rest : List ℕ
   pub reading : Reading limit b ps rest (Some fault)
 
-pub broken_from : (limit : ℕ) (b : List ℕ) (none ps : List Packet) (fault : DecodeFault) → none ≡ [] → Stops limit b none ps (errors.Fault fault) → Broken limit b ps fault
+pub broken_from : (limit : Bounds) (b : List ℕ) (none ps : List Packet) (fault : DecodeFault) → none ≡ [] → Stops limit b none ps (errors.Fault fault) → Broken limit b ps fault
 broken_from limit b none ps fault h g =
     let k = subst (λ (qs : List Packet). Stops limit b qs ps (errors.Fault fault)) h g in
     record { rest = k.1; reading = subst (λ (qs : List Packet). Reading limit b qs k.1 (Some fault)) (sym k.2) k.3 }

@@ -4,6 +4,7 @@ use Rattle.std.proofs.lemmas.List.{length-append}
 use Rattle.mq_packet.specs.declared.packet.Packet.{Packet}
 use Rattle.mq_decode.specs.declared.fault.FaultKind.{FaultKind}
 use Rattle.mq_decode.specs.declared.fault.DecodeFault.{DecodeFault}
+use Rattle.mq_decode.specs.Limits.{Bounds}
 use Rattle.mq_decode.specs.Grammar.{Stream, Faulty, AtFirst, AtLength, AtSize, AtField, Reading, Begins}
 use Rattle.mq_decode.specs.Laws.{ReadsAgain}
 use Rattle.mq_end.specs.declared.reason.CloseReason.{CloseReason}
@@ -13,28 +14,28 @@ use Rattle.mq_end.specs.Receiving.{Receives, Waits, Closes, Breaks, Starves, Tak
 
 -- ---- streams and their rests
 
-pub record Split (limit : ℕ) (ps qs : List Packet) (b : List ℕ) : Type 0 where
+pub record Split (limit : Bounds) (ps qs : List Packet) (b : List ℕ) : Type 0 where
   pub front : List ℕ
   pub rest : List ℕ
   pub first : Stream limit ps front
   pub second : Stream limit qs rest
   pub parts : b ≡ front ++ rest
 
-pub split : (limit : ℕ) (ps qs : List Packet) (b : List ℕ) → Stream limit (ps ++ qs) b → Split limit ps qs b
+pub split : (limit : Bounds) (ps qs : List Packet) (b : List ℕ) → Stream limit (ps ++ qs) b → Split limit ps qs b
 split limit [] qs b h = record { front = []; rest = b; first = refl; second = h; parts = refl }
 split limit (p ∷ ps) qs b h =
     let s = split limit ps qs h.1 h.3 in
     record { front = h.0 ++ s.front; rest = s.rest; first = (h.0, s.front, h.2, s.first, refl); second = s.second; parts = h.4 ∙ ap (λ (t : List ℕ). h.0 ++ t) s.parts ∙ sym (append_assoc h.0 s.front s.rest) }
 
 -- a fault stands in a byte
-pub faulty_some : (limit : ℕ) (b : List ℕ) (k : FaultKind) (place : ℕ) → Faulty limit b k place → 0 < length b
+pub faulty_some : (limit : Bounds) (b : List ℕ) (k : FaultKind) (place : ℕ) → Faulty limit b k place → 0 < length b
 faulty_some limit b k place (AtFirst h) = subst (λ (t : List ℕ). 0 < length t) (sym h.bytes) (omega arith)
 faulty_some limit b k place (AtLength h) = subst (λ (t : List ℕ). 0 < length t) (sym h.bytes) (omega arith)
 faulty_some limit b k place (AtSize h) = subst (λ (t : List ℕ). 0 < length t) (sym h.bytes) (omega arith)
 faulty_some limit b k place (AtField h) = subst (λ (t : List ℕ). 0 < length t) (sym h.bytes) (omega arith)
 
 -- a packet takes a byte
-stream_some : (limit : ℕ) (p : Packet) (ps : List Packet) (b more : List ℕ) → ReadsAgain → Stream limit (p ∷ ps) b → 0 < length (b ++ more)
+stream_some : (limit : Bounds) (p : Packet) (ps : List Packet) (b more : List ℕ) → ReadsAgain → Stream limit (p ∷ ps) b → 0 < length (b ++ more)
 stream_some limit p ps b more again h =
     let a = again.some limit p h.0 h.2 in
     let e : length (b ++ more) ≡ (length h.0 + length h.1) + length more = length-append b more ∙ ap (λ (n : ℕ). n + length more) (ap length h.4 ∙ length-append h.0 h.1) in
@@ -59,7 +60,7 @@ taken_all gets ps e r (Starved first rest p parts going all) none =
     absurd (not_both r.close reasons.Memory none (ap (λ (s : Reply). s.close) all ∙ ap (λ (c : Option CloseReason). first_reason c (Some reasons.Memory)) going))
 
 -- where it closed among the packets of a stream
-pub received_shut : (limit : ℕ) (gets : Packet → End → Reply) (faulted : DecodeFault → End → Reply) (ps : List Packet) (b front rest : List ℕ) (e : End) (r : Reply) (reason : CloseReason) (held : List ℕ)
+pub received_shut : (limit : Bounds) (gets : Packet → End → Reply) (faulted : DecodeFault → End → Reply) (ps : List Packet) (b front rest : List ℕ) (e : End) (r : Reply) (reason : CloseReason) (held : List ℕ)
     → ReadsAgain → Stream limit ps front → b ≡ front ++ rest → Taken gets ps e r → r.close ≡ Some reason → held ≡ [] → Receives limit gets faulted b e r held
 received_shut limit gets faulted ps b front rest e r reason held again stream parts (TakesAll going all) shut none =
     absurd (not_both r.close reason (ap (λ (s : Reply). s.close) all ∙ going) shut)
@@ -85,21 +86,21 @@ received_shut limit gets faulted ps b front rest e r reason held again stream pa
     }
 
 -- where all came, and less than a packet is held
-pub received_all : (limit : ℕ) (gets : Packet → End → Reply) (faulted : DecodeFault → End → Reply) (ps : List Packet) (b rest : List ℕ) (e : End) (r : Reply) (held : List ℕ)
+pub received_all : (limit : Bounds) (gets : Packet → End → Reply) (faulted : DecodeFault → End → Reply) (ps : List Packet) (b rest : List ℕ) (e : End) (r : Reply) (held : List ℕ)
     → Reading limit b ps rest None → Taken gets ps e r → r.close ≡ None → held ≡ rest → Receives limit gets faulted b e r held
 received_all limit gets faulted ps b rest e r held reading taken none same =
     let t = taken_all gets ps e r taken none in
     record { packets = ps; front = reading.front; rest = rest; stream = reading.stream; parts = reading.parts; ending = Waits reading.ends t.going t.all same }
 
 -- where a fault follows them
-pub received_fault : (limit : ℕ) (gets : Packet → End → Reply) (faulted : DecodeFault → End → Reply) (ps : List Packet) (b rest : List ℕ) (fault : DecodeFault) (e : End) (r : Reply)
+pub received_fault : (limit : Bounds) (gets : Packet → End → Reply) (faulted : DecodeFault → End → Reply) (ps : List Packet) (b rest : List ℕ) (fault : DecodeFault) (e : End) (r : Reply)
     → Reading limit b ps rest (Some fault) → Taken gets ps e r → r.close ≡ None → Receives limit gets faulted b e (followed r (faulted fault r.end)) []
 received_fault limit gets faulted ps b rest fault e r reading taken none =
     let t = taken_all gets ps e r taken none in
     record { packets = ps; front = reading.front; rest = rest; stream = reading.stream; parts = reading.parts; ending = Breaks fault reading.ends t.going (ap (λ (s : Reply). followed s (faulted fault s.end)) t.all) refl }
 
 -- where a fault follows them, and memory runs out for its answer
-pub received_fault_starved : (limit : ℕ) (gets : Packet → End → Reply) (faulted : DecodeFault → End → Reply) (ps : List Packet) (b rest : List ℕ) (fault : DecodeFault) (e : End) (r : Reply)
+pub received_fault_starved : (limit : Bounds) (gets : Packet → End → Reply) (faulted : DecodeFault → End → Reply) (ps : List Packet) (b rest : List ℕ) (fault : DecodeFault) (e : End) (r : Reply)
     → Reading limit b ps rest (Some fault) → Taken gets ps e r → r.close ≡ None → Receives limit gets faulted b e (followed r (closes reasons.Memory r.end)) []
 received_fault_starved limit gets faulted ps b rest fault e r reading taken none =
     let t = taken_all gets ps e r taken none in
@@ -113,7 +114,7 @@ received_fault_starved limit gets faulted ps b rest fault e r reading taken none
     }
 
 -- where memory ran out for a packet behind them
-pub received_starved : (limit : ℕ) (gets : Packet → End → Reply) (faulted : DecodeFault → End → Reply) (ps : List Packet) (b : List ℕ) (e : End) (r : Reply)
+pub received_starved : (limit : Bounds) (gets : Packet → End → Reply) (faulted : DecodeFault → End → Reply) (ps : List Packet) (b : List ℕ) (e : End) (r : Reply)
     → Begins limit b ps → Taken gets ps e r → r.close ≡ None → Receives limit gets faulted b e (followed r (closes reasons.Memory r.end)) []
 received_starved limit gets faulted ps b e r begins taken none =
     let t = taken_all gets ps e r taken none in

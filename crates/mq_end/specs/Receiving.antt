@@ -2,6 +2,7 @@
 use Rattle.std.specs.Prelude.{◌≡◌, ◌⊎◌, ℕ, Bool, false, not, ◌&&◌, if◌then◌else◌, ◌<◌, List, [], ◌∷◌, ◌++◌, length, Option, Some, None, IsSome}
 use Rattle.mq_packet.specs.declared.packet.Packet.{Packet}
 use Rattle.mq_decode.specs.declared.fault.DecodeFault.{DecodeFault}
+use Rattle.mq_decode.specs.Limits.{Bounds}
 use Rattle.mq_decode.specs.Grammar.{Stream, Pending, Faulty}
 use Rattle.mq_end.specs.declared.happening.Happening.{Happening}
 use Rattle.mq_end.specs.declared.reason.CloseReason.{CloseReason}
@@ -16,7 +17,7 @@ use Rattle.mq_end.specs.State.{EndState, PutsOut, is_level, client_faulted, serv
 
 -- How it ends, where s is what came of the whole packets, rest the bytes behind them, r all that comes of it, and held what the
 -- end then holds.
-pub data Ending (limit : ℕ) (faulted : DecodeFault → End → Reply) (s : Reply) (rest : List ℕ) (r : Reply) (held : List ℕ) : Type 0 where
+pub data Ending (limit : Bounds) (faulted : DecodeFault → End → Reply) (s : Reply) (rest : List ℕ) (r : Reply) (held : List ℕ) : Type 0 where
   -- the rest is less than a whole packet, and is held
   Waits : Pending limit rest → s.close ≡ None → r ≡ s → held ≡ rest → Ending limit faulted s rest r held
   -- the end closed at the last of these packets
@@ -28,7 +29,7 @@ pub data Ending (limit : ℕ) (faulted : DecodeFault → End → Reply) (s : Rep
 
 -- The bytes held before and the new ones are whole packets, which come one after another, up to the first at which the end closes,
 -- and a rest.
-pub record Receives (limit : ℕ) (gets : Packet → End → Reply) (faulted : DecodeFault → End → Reply) (b : List ℕ) (e : End) (r : Reply) (held : List ℕ) : Type 0 where
+pub record Receives (limit : Bounds) (gets : Packet → End → Reply) (faulted : DecodeFault → End → Reply) (b : List ℕ) (e : End) (r : Reply) (held : List ℕ) : Type 0 where
   pub packets : List Packet
   pub front : List ℕ
   pub rest : List ℕ

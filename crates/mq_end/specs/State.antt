@@ -2,6 +2,7 @@
 use Rattle.std.specs.Prelude.{◌≡◌, ℕ, Bool, true, false, not, ◌&&◌, if◌then◌else◌, List, [], ◌∷◌, ◌++◌}
 use Rattle.mq_packet.specs.declared.packet.Packet.{Packet}
 use Rattle.mq_packet.specs.Spelling.{Spells}
+use Rattle.mq_decode.specs.Limits.{Bounds}
 use Rattle.mq_decode.specs.declared.fault.FaultKind.{FaultKind}
 use Rattle.mq_decode.specs.declared.fault.FaultKind.TheVariants.{ProtocolLevel}
 use Rattle.mq_decode.specs.declared.fault.DecodeFault.{DecodeFault}
@@ -10,14 +11,14 @@ use Rattle.mq_end.specs.End.{End, Reply, closes, is_up}
 use Rattle.mq_end.specs.Server.{level_refused}
 
 -- end: what it sends and receives, and how far its connection is.
--- capacity: the most packet identifiers in use (2.3.1). limit: the bound on the remaining length (2.2.3).
+-- capacity: the most packet identifiers in use (2.3.1). limit: the bounds on what is read and published (2.2.3).
 -- held: the bytes of the packet that is not whole. output: the bytes that wait to be written.
 -- moment: in milliseconds, at the client that of its CONNECT or of its last PINGREQ, at the server that of the last whole
 --   packet (3.1.2.10).
 pub record EndState : Type 0 where
   pub end : End
   pub capacity : ℕ
-  pub limit : ℕ
+  pub limit : Bounds
   pub held : List ℕ
   pub output : List ℕ
   pub moment : ℕ

@@ -22,7 +22,7 @@ use crate::resuming::fits_within;
 use crate::role::Role;
 use crate::state::State;
 use mq_flow::Session;
-use mq_packet::{Connect, Message, NonEmpty, Packet, PacketId, Request};
+use mq_packet::{BoxedConnect, Connect, Message, NonEmpty, Packet, PacketId, Request};
 use mq_topic::TopicFilter;
 use std::alloc::{AllocError, Global};
 use std::marker::Model;
@@ -68,7 +68,7 @@ impl ClientEnd {
     /// It counts as never established, so the server may have no session present. The session keeps its capacity, which
     /// stands in place of the configured one. `None` where a message of the session is over the limit. It takes no memory.
     pub fn with_session(alloc: Global, config: ClientConfig, session: Session) -> Option<ClientEnd>
-        ensures there { IsSome result ↔ FitsWithin config.limits session }
+        ensures there { IsSome result ↔ FitsWithin config.limits.most session }
         ensures end { IfSome result (λ client. client.link.end
             ≡ resumed false session.sender.book session.receiver session.sender.last) }
         ensures capacity { IfSome result (λ client. client.link.capacity ≡ session.sender.capacity) }
@@ -110,7 +110,8 @@ impl ClientEnd {
         ensures config { self.new.config ≡ self.old.config }
         ensures err { OnErr result (self.new ≡ self.old) }
     {
-        let packet = Packet::Connect(self.connect_packet(clean)?);
+        let connect = self.connect_packet(clean)?;
+        let packet = Packet::Connect(BoxedConnect::new(self.link.alloc, connect)?);
         let mut output = ByteQueue::new(self.link.alloc);
         output.append_packet(&packet)?;
         self.link.output = output;
@@ -138,9 +139,9 @@ impl ClientEnd {
     /// quality of service 1 or 2 is kept, and goes out when the end comes up. Errs with the first refusal that stands, and
     /// then nothing changes.
     pub fn publish(&mut self, message: Message) -> Result<Option<PacketId>, PublishRefusal>
-        ensures refused { IfSome (publish_refusal self.old.link.limit self.old.link.capacity message self.old.link.end)
+        ensures refused { IfSome (publish_refusal self.old.link.limit.most self.old.link.capacity message self.old.link.end)
             (λ why. result ≡ Err why) }
-        ensures memory { IfNone (publish_refusal self.old.link.limit self.old.link.capacity message self.old.link.end)
+        ensures memory { IfNone (publish_refusal self.old.link.limit.most self.old.link.capacity message self.old.link.end)
             (IfErr result (λ why. why ≡ PublishRefusal.Memory)) }
         ensures ok { IfOk result (λ answer. Accepts answer message self.old.link self.new.link) }
         ensures config { self.new.config ≡ self.old.config }
@@ -152,9 +153,9 @@ impl ClientEnd {
     /// Subscribes, and answers the packet identifier of the SUBSCRIBE, which is in use until its SUBACK (3.8). Errs with
     /// the first refusal that stands, and then nothing changes.
     pub fn subscribe(&mut self, requests: NonEmpty<Request>) -> Result<PacketId, PublishRefusal>
-        ensures refused { IfSome (subscribe_refusal self.old.link.limit self.old.link.capacity requests self.old.link.end)
+        ensures refused { IfSome (subscribe_refusal self.old.link.limit.most self.old.link.capacity requests self.old.link.end)
             (λ why. result ≡ Err why) }
-        ensures memory { IfNone (subscribe_refusal self.old.link.limit self.old.link.capacity requests self.old.link.end)
+        ensures memory { IfNone (subscribe_refusal self.old.link.limit.most self.old.link.capacity requests self.old.link.end)
             (IfErr result (λ why. why ≡ PublishRefusal.Memory)) }
         ensures ok { IfOk result (λ id. Requests id (subscribes id requests self.old.link.end) self.old.link self.new.link) }
         ensures config { self.new.config ≡ self.old.config }
@@ -169,9 +170,9 @@ impl ClientEnd {
         &mut self,
         filters: NonEmpty<TopicFilter>,
     ) -> Result<PacketId, PublishRefusal>
-        ensures refused { IfSome (unsubscribe_refusal self.old.link.limit self.old.link.capacity filters self.old.link.end)
+        ensures refused { IfSome (unsubscribe_refusal self.old.link.limit.most self.old.link.capacity filters self.old.link.end)
             (λ why. result ≡ Err why) }
-        ensures memory { IfNone (unsubscribe_refusal self.old.link.limit self.old.link.capacity filters self.old.link.end)
+        ensures memory { IfNone (unsubscribe_refusal self.old.link.limit.most self.old.link.capacity filters self.old.link.end)
             (IfErr result (λ why. why ≡ PublishRefusal.Memory)) }
         ensures ok { IfOk result (λ id. Requests id (unsubscribes id filters self.old.link.end) self.old.link self.new.link) }
         ensures config { self.new.config ≡ self.old.config }

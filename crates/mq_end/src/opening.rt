@@ -41,7 +41,7 @@ fn terms_in(packet: Packet) -> Option<Terms>
     ensures { result ≡ terms_in packet }
 {
     match packet {
-        Packet::Connect(connect) => Some(terms_of(&connect)),
+        Packet::Connect(connect) => Some(terms_of(connect.as_connect())),
         _ => None,
     }
 }

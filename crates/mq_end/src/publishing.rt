@@ -28,7 +28,7 @@ pub(crate) fn publish_size(message: &Message) -> usize
 impl Link {
     /// Why a message is refused, memory aside.
     pub(crate) fn publish_refusal(&self, message: &Message) -> Option<PublishRefusal>
-        ensures { result ≡ publish_refusal self.now.limit self.now.capacity message.now self.now.end }
+        ensures { result ≡ publish_refusal self.now.limit.most self.now.capacity message.now self.now.end }
     {
         let kept = message.qos != Qos::Q0;
         if !kept && self.state != State::Up {
@@ -89,7 +89,7 @@ impl Link {
 
     /// Publishes a message that is not refused, and answers its identifier, where it has one.
     fn accept(&mut self, message: Message) -> Result<Option<PacketId>, AllocError>
-        requires { publish_refusal self.old.limit self.old.capacity message self.old.end ≡ None }
+        requires { publish_refusal self.old.limit.most self.old.capacity message self.old.end ≡ None }
         ensures ok { IfOk result (λ answer. Accepts answer message self.old self.new) }
         ensures err { OnErr result (self.new ≡ self.old) }
     {
@@ -103,9 +103,9 @@ impl Link {
 
     /// Publishes a message, and answers its identifier, where it has one (2.3.1).
     pub(crate) fn publish(&mut self, message: Message) -> Result<Option<PacketId>, PublishRefusal>
-        ensures refused { IfSome (publish_refusal self.old.limit self.old.capacity message self.old.end)
+        ensures refused { IfSome (publish_refusal self.old.limit.most self.old.capacity message self.old.end)
             (λ why. result ≡ Err why) }
-        ensures memory { IfNone (publish_refusal self.old.limit self.old.capacity message self.old.end)
+        ensures memory { IfNone (publish_refusal self.old.limit.most self.old.capacity message self.old.end)
             (IfErr result (λ why. why ≡ PublishRefusal.Memory)) }
         ensures ok { IfOk result (λ answer. Accepts answer message self.old self.new) }
         ensures err { OnErr result (self.new ≡ self.old) }

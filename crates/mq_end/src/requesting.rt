@@ -71,7 +71,7 @@ impl Link {
 
     /// Why a SUBSCRIBE is refused, memory aside (3.8).
     fn subscribe_refusal(&self, requests: &[Request]) -> Option<PublishRefusal>
-        ensures { result ≡ subscribe_refusal self.now.limit self.now.capacity requests.now self.now.end }
+        ensures { result ≡ subscribe_refusal self.now.limit.most self.now.capacity requests.now self.now.end }
     {
         let too_large = is_subscribe_over(self.limits.max_packet(), requests);
         self.request_refusal(too_large)
@@ -79,7 +79,7 @@ impl Link {
 
     /// Why an UNSUBSCRIBE is refused, memory aside (3.10).
     fn unsubscribe_refusal(&self, filters: &[TopicFilter]) -> Option<PublishRefusal>
-        ensures { result ≡ unsubscribe_refusal self.now.limit self.now.capacity filters.now self.now.end }
+        ensures { result ≡ unsubscribe_refusal self.now.limit.most self.now.capacity filters.now self.now.end }
     {
         let too_large = is_unsubscribe_over(self.limits.max_packet(), filters);
         self.request_refusal(too_large)
@@ -139,9 +139,9 @@ impl Link {
         &mut self,
         requests: NonEmpty<Request>,
     ) -> Result<PacketId, PublishRefusal>
-        ensures refused { IfSome (subscribe_refusal self.old.limit self.old.capacity requests self.old.end)
+        ensures refused { IfSome (subscribe_refusal self.old.limit.most self.old.capacity requests self.old.end)
             (λ why. result ≡ Err why) }
-        ensures memory { IfNone (subscribe_refusal self.old.limit self.old.capacity requests self.old.end)
+        ensures memory { IfNone (subscribe_refusal self.old.limit.most self.old.capacity requests self.old.end)
             (IfErr result (λ why. why ≡ PublishRefusal.Memory)) }
         ensures ok { IfOk result (λ id. Requests id (subscribes id requests self.old.end) self.old self.new) }
         ensures err { OnErr result (self.new ≡ self.old) }
@@ -160,9 +160,9 @@ impl Link {
         &mut self,
         filters: NonEmpty<TopicFilter>,
     ) -> Result<PacketId, PublishRefusal>
-        ensures refused { IfSome (unsubscribe_refusal self.old.limit self.old.capacity filters self.old.end)
+        ensures refused { IfSome (unsubscribe_refusal self.old.limit.most self.old.capacity filters self.old.end)
             (λ why. result ≡ Err why) }
-        ensures memory { IfNone (unsubscribe_refusal self.old.limit self.old.capacity filters self.old.end)
+        ensures memory { IfNone (unsubscribe_refusal self.old.limit.most self.old.capacity filters self.old.end)
             (IfErr result (λ why. why ≡ PublishRefusal.Memory)) }
         ensures ok { IfOk result (λ id. Requests id (unsubscribes id filters self.old.end) self.old self.new) }
         ensures err { OnErr result (self.new ≡ self.old) }
@@ -235,8 +235,8 @@ impl Link {
 
     /// Puts out a packet of this remaining length (2.2.3), which answers the other end.
     fn answer(&mut self, size: usize, packet: &Packet) -> Result<(), PublishRefusal>
-        ensures refused { IfSome (answer_refusal self.old.limit size self.old.end) (λ why. result ≡ Err why) }
-        ensures memory { IfNone (answer_refusal self.old.limit size self.old.end)
+        ensures refused { IfSome (answer_refusal self.old.limit.most size self.old.end) (λ why. result ≡ Err why) }
+        ensures memory { IfNone (answer_refusal self.old.limit.most size self.old.end)
             (IfErr result (λ why. why ≡ PublishRefusal.Memory)) }
         ensures ok { OnOk result (Acts (puts_out (packet.now ∷ []) self.old.end) self.old self.new) }
         ensures err { OnErr result (self.new ≡ self.old) }
@@ -259,8 +259,8 @@ impl Link {
         id: PacketId,
         codes: NonEmpty<SubAckCode>,
     ) -> Result<(), PublishRefusal>
-        ensures refused { IfSome (suback_refusal self.old.limit codes self.old.end) (λ why. result ≡ Err why) }
-        ensures memory { IfNone (suback_refusal self.old.limit codes self.old.end)
+        ensures refused { IfSome (suback_refusal self.old.limit.most codes self.old.end) (λ why. result ≡ Err why) }
+        ensures memory { IfNone (suback_refusal self.old.limit.most codes self.old.end)
             (IfErr result (λ why. why ≡ PublishRefusal.Memory)) }
         ensures ok { OnOk result (Acts (subacks id codes self.old.end) self.old self.new) }
         ensures err { OnErr result (self.new ≡ self.old) }
@@ -271,8 +271,8 @@ impl Link {
 
     /// Answers an UNSUBSCRIBE (3.11).
     pub(crate) fn unsuback(&mut self, id: PacketId) -> Result<(), PublishRefusal>
-        ensures refused { IfSome (unsuback_refusal self.old.limit self.old.end) (λ why. result ≡ Err why) }
-        ensures memory { IfNone (unsuback_refusal self.old.limit self.old.end)
+        ensures refused { IfSome (unsuback_refusal self.old.limit.most self.old.end) (λ why. result ≡ Err why) }
+        ensures memory { IfNone (unsuback_refusal self.old.limit.most self.old.end)
             (IfErr result (λ why. why ≡ PublishRefusal.Memory)) }
         ensures ok { OnOk result (Acts (unsubacks id self.old.end) self.old self.new) }
         ensures err { OnErr result (self.new ≡ self.old) }

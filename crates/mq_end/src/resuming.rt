@@ -14,7 +14,7 @@ use std::alloc::Global;
 
 /// Whether each message that a session holds fits within the limits (2.2.3).
 pub(crate) fn fits_within(limits: Limits, session: &Session) -> bool
-    ensures { IsTrue result ↔ FitsWithin limits session.now }
+    ensures { IsTrue result ↔ FitsWithin limits.most session.now }
 {
     let most = limits.max_packet() as usize;
     let mut entries = session.sender.entries();

@@ -61,7 +61,7 @@ impl ServerEnd {
     /// 4.1). The session keeps its capacity, which stands in place of the configured one. `None` where a message of the
     /// session is over the limit. It takes no memory.
     pub fn with_session(alloc: Global, config: ServerConfig, session: Session) -> Option<ServerEnd>
-        ensures there { IsSome result ↔ FitsWithin config.limits session }
+        ensures there { IsSome result ↔ FitsWithin config.limits.most session }
         ensures end { IfSome result (λ server. server.end
             ≡ resumed true session.sender.book session.receiver session.sender.last) }
         ensures capacity { IfSome result (λ server. server.capacity ≡ session.sender.capacity) }
@@ -110,9 +110,9 @@ impl ServerEnd {
     /// not up, one of quality of service 1 or 2 is kept, and goes out when the end comes up. Errs with the first refusal
     /// that stands, and then nothing changes.
     pub fn publish(&mut self, message: Message) -> Result<Option<PacketId>, PublishRefusal>
-        ensures refused { IfSome (server_publish_refusal self.old.limit self.old.capacity message self.old.end)
+        ensures refused { IfSome (server_publish_refusal self.old.limit.most self.old.capacity message self.old.end)
             (λ why. result ≡ Err why) }
-        ensures memory { IfNone (server_publish_refusal self.old.limit self.old.capacity message self.old.end)
+        ensures memory { IfNone (server_publish_refusal self.old.limit.most self.old.capacity message self.old.end)
             (IfErr result (λ why. why ≡ PublishRefusal.Memory)) }
         ensures ok { IfOk result (λ answer. Accepts answer message self.old self.new) }
         ensures err { OnErr result (self.new ≡ self.old) }
@@ -130,8 +130,8 @@ impl ServerEnd {
         id: PacketId,
         codes: NonEmpty<SubAckCode>,
     ) -> Result<(), PublishRefusal>
-        ensures refused { IfSome (suback_refusal self.old.limit codes self.old.end) (λ why. result ≡ Err why) }
-        ensures memory { IfNone (suback_refusal self.old.limit codes self.old.end)
+        ensures refused { IfSome (suback_refusal self.old.limit.most codes self.old.end) (λ why. result ≡ Err why) }
+        ensures memory { IfNone (suback_refusal self.old.limit.most codes self.old.end)
             (IfErr result (λ why. why ≡ PublishRefusal.Memory)) }
         ensures ok { OnOk result (Acts (subacks id codes self.old.end) self.old self.new) }
         ensures err { OnErr result (self.new ≡ self.old) }
@@ -142,8 +142,8 @@ impl ServerEnd {
     /// Answers an UNSUBSCRIBE of the client: UNSUBACK is put out, with this packet identifier (3.11). Errs with the first
     /// refusal that stands, and then nothing changes.
     pub fn unsuback(&mut self, id: PacketId) -> Result<(), PublishRefusal>
-        ensures refused { IfSome (unsuback_refusal self.old.limit self.old.end) (λ why. result ≡ Err why) }
-        ensures memory { IfNone (unsuback_refusal self.old.limit self.old.end)
+        ensures refused { IfSome (unsuback_refusal self.old.limit.most self.old.end) (λ why. result ≡ Err why) }
+        ensures memory { IfNone (unsuback_refusal self.old.limit.most self.old.end)
             (IfErr result (λ why. why ≡ PublishRefusal.Memory)) }
         ensures ok { OnOk result (Acts (unsubacks id self.old.end) self.old self.new) }
         ensures err { OnErr result (self.new ≡ self.old) }

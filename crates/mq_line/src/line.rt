@@ -21,7 +21,7 @@ impl fmt::Display for Line<'_> {
 
     fn fmt<W: fmt::Write>(&self, f: &mut fmt::Formatter<W>) -> fmt::Result {
         match self.0 {
-            Packet::Connect(connect) => write_connect(f, connect),
+            Packet::Connect(connect) => write_connect(f, connect.as_connect()),
             Packet::ConnAck(answer) => write_connack(f, *answer),
             Packet::Publish(publish) => write_publish(f, publish),
             Packet::PubAck(id) => write_identified(f, "PUBACK", *id),

@@ -1,7 +1,7 @@
 -- How control packets are spelled (chapter 3).
-use Rattle.std.specs.Prelude.{◌≡◌, ℕ, ◌+◌, ◌*◌, Bool, true, false, List, [], ◌∷◌, ◌++◌, length, Option, Some, None, codes}
+use Rattle.std.specs.Prelude.{◌≡◌, ℕ, ◌+◌, ◌*◌, ◌^◌, ◌<◌, Bool, true, false, List, [], ◌∷◌, ◌++◌, length, Option, Some, None, codes}
 use Rattle.std.specs.List.{flat_map}
-use Rattle.mq_wire.specs.Length.{Length}
+use Rattle.mq_wire.specs.Length.{Length, length_bytes}
 use Rattle.mq_wire.specs.Number.{number}
 use Rattle.mq_wire.specs.Text.{counted}
 use Rattle.mq_topic.specs.Qos.{qos_number}
@@ -138,3 +138,24 @@ pub record Spells (p : Packet) (b : List ℕ) : Type 0 where
   pub len : List ℕ
   pub formed : Length (length (fields p)) len
   pub bytes : b ≡ first_byte p ∷ len ++ fields p
+
+-- the bytes of a packet: its one spelling
+unfoldable pub spelling : Packet → List ℕ
+spelling p = first_byte p ∷ length_bytes (length (fields p)) ++ fields p
+
+-- the bytes of packets, one after another
+abbrev pub spellings : List Packet → List ℕ
+spellings ps = flat_map spelling ps
+
+-- bytes that spell packets, one after another
+abbrev pub Spelled : List Packet → List ℕ → Type 0
+Spelled [] b = b ≡ []
+Spelled (p ∷ ps) b = (first : List ℕ) × (rest : List ℕ) × Spells p first × Spelled ps rest × (b ≡ first ++ rest)
+
+-- What a user of spellings may rely on.
+pub record SpellingLaws : Type 0 where
+  -- a packet has one spelling, unless its remaining length is none
+  pub exists : (p : Packet) → IsPacket p → length (fields p) < 2 ^ 28 → Spells p (spelling p)
+  pub one : (p : Packet) (b : List ℕ) → Spells p b → b ≡ spelling p
+  -- and so have packets one after another
+  pub all : (ps : List Packet) (b : List ℕ) → Spelled ps b → b ≡ spellings ps

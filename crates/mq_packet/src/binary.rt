@@ -42,6 +42,22 @@ impl Binary {
     {
         self.bytes.as_slice()
     }
+
+    /// The bytes as they are shared: a clone or a part of them copies none.
+    pub fn as_bytes(&self) -> &Bytes
+        ensures value { result.now ≡ self.now }
+        ensures short { length self.now < 65536 }
+    {
+        &self.bytes
+    }
+
+    /// The shared bytes, which it gives away.
+    pub fn into_bytes(self) -> Bytes
+        ensures { result ≡ self }
+    {
+        let Binary { bytes } = self;
+        bytes
+    }
 }
 
 impl Clone for Binary {
@@ -89,6 +105,22 @@ impl Payload {
         ensures short { length self.now < 2 ^ 28 }
     {
         self.bytes.as_slice()
+    }
+
+    /// The bytes as they are shared: a clone or a part of them copies none.
+    pub fn as_bytes(&self) -> &Bytes
+        ensures value { result.now ≡ self.now }
+        ensures short { length self.now < 2 ^ 28 }
+    {
+        &self.bytes
+    }
+
+    /// The shared bytes, which it gives away.
+    pub fn into_bytes(self) -> Bytes
+        ensures { result ≡ self }
+    {
+        let Payload { bytes } = self;
+        bytes
     }
 }
 

@@ -1,11 +1,13 @@
 //! CONNECT (3.1).
 
-ghost use Rattle.std.specs.Prelude.{◌≡◌};
+ghost use Rattle.std.specs.Prelude.{◌≡◌, IfOk};
 
-use crate::binary::Binary;
+use crate::binary::{Binary, Payload};
+use crate::message::Message;
 use mq_topic::{Qos, TopicName};
 use mq_wire::Text;
-use std::alloc::AllocError;
+use std::alloc::{AllocError, Global};
+use std::marker::Model;
 
 /// CONNECT (3.1): the first packet of a client.
 #[derive(Debug, Drop)]
@@ -35,6 +37,28 @@ pub struct Will {
     pub retain: bool,
 }
 
+impl Will {
+    /// The message that it publishes (3.1.2.5). It shares the bytes; none is copied.
+    pub fn message(&self) -> Result<Message, AllocError>
+        ensures { IfOk result (λ m. m ≡ record {
+          topic = self.now.topic;
+          payload = self.now.message;
+          qos = self.now.qos;
+          retain = self.now.retain;
+        }) }
+    {
+        let topic = self.topic.clone()?;
+        let payload = self.message.as_bytes().clone()?;
+        let (qos, retain) = (self.qos, self.retain);
+        Ok(Message {
+            topic,
+            payload: Payload::new(payload).unwrap(),
+            qos,
+            retain,
+        })
+    }
+}
+
 /// A user name, and a password where there is one (3.1.3.4, 3.1.3.5).
 #[derive(Debug, Drop)]
 pub struct Login {
@@ -42,6 +66,55 @@ pub struct Login {
     pub name: Text,
     /// The password, any bytes.
     pub password: Option<Binary>,
+}
+
+/// A CONNECT behind a box, so that a packet is small. Contracts see the CONNECT.
+#[derive(Debug, Drop)]
+pub struct BoxedConnect {
+    connect: Box<Connect>,
+}
+
+impl Model for BoxedConnect {
+    ghost use Rattle.mq_packet.specs.declared.connect.Connect.{Connect};
+
+    ghost Value = { Connect };
+
+    ghost view = { λ b. b.connect.value };
+}
+
+impl BoxedConnect {
+    /// Puts a CONNECT behind a box.
+    pub fn new(alloc: Global, connect: Connect) -> Result<BoxedConnect, AllocError>
+        ensures { IfOk result (λ b. b ≡ connect) }
+    {
+        let connect = Box::new(alloc, connect)?;
+        Ok(BoxedConnect { connect })
+    }
+
+    /// The CONNECT.
+    pub fn as_connect(&self) -> &Connect
+        ensures { result.now ≡ self.now }
+    {
+        &self.connect
+    }
+
+    /// The CONNECT, which it gives away.
+    pub fn into_connect(self) -> Connect
+        ensures { result ≡ self }
+    {
+        let BoxedConnect { connect } = self;
+        Box::into_inner(connect)
+    }
+}
+
+impl Clone for BoxedConnect {
+    ghost is_clone = { λ boxed copy. copy ≡ boxed };
+
+    /// Another owner of the same bytes, behind a box of its own.
+    fn clone(&self) -> Result<BoxedConnect, AllocError> {
+        let connect = self.connect.clone()?;
+        Ok(BoxedConnect { connect })
+    }
 }
 
 impl Clone for Connect {

@@ -83,7 +83,7 @@ pub(crate) fn fields_len(packet: &Packet) -> Option<u32>
     ensures len { IfSome result (λ n. n ≡ length (fields packet.now)) }
 {
     match packet {
-        Packet::Connect(connect) => Some(connect_len(connect)),
+        Packet::Connect(connect) => Some(connect_len(connect.as_connect())),
         Packet::ConnAck(_) => Some(2),
         Packet::Publish(publish) => publish_len(publish),
         Packet::PubAck(_)
@@ -237,7 +237,7 @@ pub(crate) fn put_fields(out: &mut Vec<u8>, packet: &Packet) -> Result<(), Alloc
     ensures packet { OnOk result (IsPacket packet.now) }
 {
     match packet {
-        Packet::Connect(connect) => put_connect(out, connect),
+        Packet::Connect(connect) => put_connect(out, connect.as_connect()),
         Packet::ConnAck(connack) => put_connack(out, *connack),
         Packet::Publish(publish) => put_publish(out, publish),
         Packet::PubAck(id)

@@ -4,18 +4,22 @@ ghost use Rattle.std.specs.Prelude.{◌≡◌};
 ghost use Rattle.mq_packet.specs.Codes.{code_number, code_from};
 
 use crate::connack::ConnAck;
-use crate::connect::Connect;
+use crate::connect::BoxedConnect;
 use crate::id::PacketId;
 use crate::list::NonEmpty;
 use crate::publish::Publish;
 use mq_topic::{Qos, TopicFilter};
 use std::alloc::AllocError;
+use std::mem::size_of;
+
+// A list of packets moves each of them.
+const _: () = prove!(size_of::<Packet>() <= 96);
 
 /// A control packet (chapter 3).
 #[derive(Debug, Drop)]
 pub enum Packet {
     /// A client asks for a connection (3.1).
-    Connect(Connect),
+    Connect(BoxedConnect),
     /// The server's answer (3.2).
     ConnAck(ConnAck),
     /// A message (3.3).

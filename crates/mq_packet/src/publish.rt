@@ -3,8 +3,10 @@
 ghost use Rattle.std.specs.Prelude.{◌≡◌, true};
 ghost use Rattle.mq_packet.specs.Publication.{fits_delivery};
 
+use crate::binary::Payload;
 use crate::id::PacketId;
 use crate::message::Message;
+use mq_topic::{Qos, TopicName};
 use std::alloc::AllocError;
 use std::marker::Model;
 
@@ -21,7 +23,11 @@ pub struct Delivery {
 /// Contracts see both.
 #[derive(Debug, Drop)]
 pub struct Publish {
-    message: Message,
+    // The parts of the message stand by themselves, so that a packet is small.
+    topic: TopicName,
+    payload: Payload,
+    qos: Qos,
+    retain: bool,
     delivery: Option<Delivery>,
 }
 
@@ -31,9 +37,25 @@ impl Model for Publish {
 
     ghost Value = { Publication };
 
-    ghost view = { λ p. record { message = p.message; delivery = p.delivery } };
+    ghost view = { λ p. record {
+      message = record { topic = p.topic; payload = p.payload; qos = p.qos; retain = p.retain };
+      delivery = p.delivery;
+    } };
 
-    ghost invariant = { λ p. fits_delivery p.message.qos p.delivery ≡ true };
+    ghost invariant = { λ p. fits_delivery p.qos p.delivery ≡ true };
+}
+
+/// The message of a PUBLISH, as it lies there.
+#[derive(Clone, Copy, Debug)]
+pub struct MessageRef<'a> {
+    /// What it is published to.
+    pub topic: &'a TopicName,
+    /// What it says.
+    pub payload: &'a Payload,
+    /// How often it is handed on.
+    pub qos: Qos,
+    /// RETAIN: the server keeps it for later subscribers.
+    pub retain: bool,
 }
 
 impl Publish {
@@ -43,15 +65,35 @@ impl Publish {
         ensures message { result.message ≡ message }
         ensures delivery { result.delivery ≡ delivery }
     {
-        Publish { message, delivery }
+        let Message {
+            topic,
+            payload,
+            qos,
+            retain,
+        } = message;
+        Publish {
+            topic,
+            payload,
+            qos,
+            retain,
+            delivery,
+        }
     }
 
     /// The message.
-    pub fn message(&self) -> &Message
-        ensures value { result.now ≡ self.now.message }
+    pub fn message(&self) -> MessageRef<'_>
+        ensures topic { result.topic.now ≡ self.now.message.topic }
+        ensures payload { result.payload.now ≡ self.now.message.payload }
+        ensures qos { result.qos ≡ self.now.message.qos }
+        ensures retain { result.retain ≡ self.now.message.retain }
         ensures fits { fits_delivery self.now.message.qos self.now.delivery ≡ true }
     {
-        &self.message
+        MessageRef {
+            topic: &self.topic,
+            payload: &self.payload,
+            qos: self.qos,
+            retain: self.retain,
+        }
     }
 
     /// The packet identifier and DUP, `None` exactly with quality of service 0.
@@ -67,10 +109,18 @@ impl Publish {
         ensures { result ≡ self.message }
     {
         let Publish {
-            message,
+            topic,
+            payload,
+            qos,
+            retain,
             delivery: _,
         } = self;
-        message
+        Message {
+            topic,
+            payload,
+            qos,
+            retain,
+        }
     }
 }
 
@@ -79,9 +129,11 @@ impl Clone for Publish {
 
     /// Another owner of the same bytes; none is copied.
     fn clone(&self) -> Result<Publish, AllocError> {
-        let message = self.message.clone()?;
         Ok(Publish {
-            message,
+            topic: self.topic.clone()?,
+            payload: self.payload.clone()?,
+            qos: self.qos,
+            retain: self.retain,
             delivery: self.delivery,
         })
     }

@@ -1,3 +1,4 @@
+mod lenient;
 mod randoms;
 mod replays;
 
@@ -8,6 +9,21 @@ use std::alloc::Global;
 use std::io;
 use std::io::{Read, Write};
 use std::test::Fail;
+
+// The jobs of `show` and `check`, where a length has no more bytes than it needs.
+fn shows(hex: &str) -> Job<'_> {
+    Job::Show {
+        hex,
+        lenient: false,
+    }
+}
+
+fn checks(file: &str) -> Job<'_> {
+    Job::Check {
+        file,
+        lenient: false,
+    }
+}
 
 // What `show` prints of bytes, and its status. The bytes are spelled by hand from chapters 2 and 3 of the
 // standard.
@@ -144,7 +160,7 @@ fn shows_packets(rt: HostRuntime) -> Result<(), Fail> {
     let alloc = rt.alloc();
     for (hex, status, printed) in &ROWS {
         let mut output = Vec::new(alloc);
-        let answer = perform(alloc, &Job::Show { hex }, &mut io::empty(), &mut output)?;
+        let answer = perform(alloc, &shows(hex), &mut io::empty(), &mut output)?;
         assert_eq!(rt; output.as_slice(), printed.as_bytes(), "show {hex}");
         assert_eq!(rt; answer, *status, "show {hex}");
     }
@@ -227,10 +243,10 @@ fn tells_of_failed_writes(rt: HostRuntime) {
     let alloc = rt.alloc();
     for (hex, size) in [("c000", 8), ("c0", 7), ("f000", 29), ("zz", 8)] {
         for room in 0..size {
-            let answer = perform(alloc, &Job::Show { hex }, &mut io::empty(), &mut Full(room));
+            let answer = perform(alloc, &shows(hex), &mut io::empty(), &mut Full(room));
             assert!(rt; answer.is_err(), "show {hex} with room for {room}");
         }
-        let answer = perform(alloc, &Job::Show { hex }, &mut io::empty(), &mut Full(size));
+        let answer = perform(alloc, &shows(hex), &mut io::empty(), &mut Full(size));
         assert!(rt; answer.is_ok(), "show {hex} with room");
     }
 }
@@ -287,7 +303,7 @@ impl Read for Broken<'_> {
 #[test]
 fn checks_files(rt: HostRuntime) -> Result<(), Fail> {
     let alloc = rt.alloc();
-    let job = Job::Check { file: "a file" };
+    let job = checks("a file");
     for (bytes, status, printed) in FILES {
         let mut output = Vec::new(alloc);
         let mut input = bytes;
@@ -318,7 +334,7 @@ fn counts_packets_within_a_limit(rt: HostRuntime) -> Result<(), Fail> {
 #[test]
 fn tells_of_failed_reads(rt: HostRuntime) -> Result<(), Fail> {
     let alloc = rt.alloc();
-    let job = Job::Check { file: "a file" };
+    let job = checks("a file");
     for at_once in 1..4 {
         let mut output = Vec::new(alloc);
         let bytes: &[u8] = &[0xc0, 0x00, 0x40, 0x02, 0x00, 0x01, 0xc0];
@@ -345,13 +361,17 @@ fn reads_words(rt: HostRuntime) -> Result<(), Fail> {
         (&["mqtt", "show", ""], ""),
         (&["mqtt", "show", "--", "-a"], "-a"),
     ] {
-        assert!(rt; matches!(job(alloc, words), Ok(Job::Show { hex: read }) if read == hex));
+        assert!(rt;
+            matches!(job(alloc, words), Ok(Job::Show { hex: read, lenient: false }) if read == hex)
+        );
     }
     for (words, file) in [
         (["mqtt", "check", "a.bin"].as_slice(), "a.bin"),
         (&["mqtt", "check", "a b"], "a b"),
     ] {
-        assert!(rt; matches!(job(alloc, words), Ok(Job::Check { file: read }) if read == file));
+        assert!(rt;
+            matches!(job(alloc, words), Ok(Job::Check { file: read, lenient: false }) if read == file)
+        );
     }
     let words: &[&str] = &["mqtt", "replay", "a.txt"];
     assert!(rt; matches!(job(alloc, words), Ok(Job::Replay { file }) if file == "a.txt"));
@@ -426,13 +446,14 @@ fn prints_help(rt: HostRuntime) -> Result<(), Fail> {
     let text = format!(in rt.alloc(); "{error}")?;
     let help = "Prints each packet of a stream of bytes on a line, and how the stream ends
 
-Usage: mqtt show <HEX>
+Usage: mqtt show [OPTIONS] <HEX>
 
 Arguments:
   <HEX>  The bytes, two hexadecimal digits each
 
 Options:
-  -h, --help  Print help
+      --lenient  Takes a remaining length with more bytes than it needs
+  -h, --help     Print help
 ";
     assert_eq!(rt; text.as_str(), help);
     Ok(())

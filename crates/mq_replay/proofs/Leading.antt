@@ -6,6 +6,7 @@ use Rattle.std.specs.List.{flat_map}
 use Rattle.std.specs.Int.NonZero.{non_zero_u16_get}
 use Rattle.std.specs.Io.KnownBytes.{Appends}
 use Rattle.mq_line.specs.Lines.{Prints}
+use Rattle.mq_decode.specs.Limits.{Bounds}
 use Rattle.mq_world.specs.declared.answer.Answer.{Answer}
 use Rattle.mq_world.specs.Carries.{Wired}
 use Rattle.mq_world.specs.World.{IsNew}
@@ -18,7 +19,7 @@ use Rattle.mq_replay.specs.Printing.{answer_lines}
 use Rattle.mq_replay.specs.Replay.{IsCutReplay, IsReplay, StepDoes, StepsLead, last_lines}
 
 -- a step more at the end
-pub steps_more : (limit capacity : ℕ) (steps : List Step) (answers : List Answer) (s : Step) (a : Answer) (u v w : Wired) → StepsLead limit capacity steps answers u v → StepDoes limit capacity s a v w
+pub steps_more : (limit : Bounds) (capacity : ℕ) (steps : List Step) (answers : List Answer) (s : Step) (a : Answer) (u v w : Wired) → StepsLead limit capacity steps answers u v → StepDoes limit capacity s a v w
     → StepsLead limit capacity (steps ++ s ∷ []) (answers ++ a ∷ []) u w
 steps_more limit capacity [] [] s a u v w h does = (w, subst (λ (x : Wired). StepDoes limit capacity s a x w) h does, refl)
 steps_more limit capacity (t ∷ steps) (b ∷ answers) s a u v w h does = (h.0, h.1, steps_more limit capacity steps answers s a h.0 v w h.2 does)
@@ -26,17 +27,17 @@ steps_more limit capacity [] (b ∷ answers) s a u v w h does = absurd h
 steps_more limit capacity (t ∷ steps) [] s a u v w h does = absurd h
 
 -- Steps lead from one world to another, and what came of each was printed.
-pub record IsMade (limit capacity : ℕ) (steps : List Step) (start end : Wired) (old new : Option (List ℕ)) : Type 0 where
+pub record IsMade (limit : Bounds) (capacity : ℕ) (steps : List Step) (start end : Wired) (old new : Option (List ℕ)) : Type 0 where
   pub answers : List Answer
   pub leads : StepsLead limit capacity steps answers start end
   pub printed : Appends old new (flat_map answer_lines answers)
 
 -- no step yet
-pub none_made : (limit capacity : ℕ) (start : Wired) (text : Option (List ℕ)) → IsMade limit capacity [] start start text text
+pub none_made : (limit : Bounds) (capacity : ℕ) (start : Wired) (text : Option (List ℕ)) → IsMade limit capacity [] start start text text
 none_made limit capacity start text = record { answers = []; leads = refl; printed = Appends-nil text }
 
 -- a step more
-pub one_made : (limit capacity : ℕ) (steps : List Step) (s : Step) (a : Answer) (u v w : Wired) (old mid new : Option (List ℕ)) → IsMade limit capacity steps u v old mid → StepDoes limit capacity s a v w
+pub one_made : (limit : Bounds) (capacity : ℕ) (steps : List Step) (s : Step) (a : Answer) (u v w : Wired) (old mid new : Option (List ℕ)) → IsMade limit capacity steps u v old mid → StepDoes limit capacity s a v w
     → Appends mid new (answer_lines a) → IsMade limit capacity (steps ++ s ∷ []) u w old new
 one_made limit capacity steps s a u v w old mid new h does prints = record {
   answers = h.answers ++ a ∷ [];
@@ -45,7 +46,7 @@ one_made limit capacity steps s a u v w old mid new h does prints = record {
 }
 
 -- the next of all steps
-pub next_made : (limit capacity : ℕ) (steps : List Step) (k : ℕ) (s : Step) (a : Answer) (u v w : Wired) (old mid new : Option (List ℕ)) → k < length steps → s ≡ get_or steps k s
+pub next_made : (limit : Bounds) (capacity : ℕ) (steps : List Step) (k : ℕ) (s : Step) (a : Answer) (u v w : Wired) (old mid new : Option (List ℕ)) → k < length steps → s ≡ get_or steps k s
     → IsMade limit capacity (take k steps) u v old mid → StepDoes limit capacity s a v w → Appends mid new (answer_lines a) → IsMade limit capacity (take (k + 1) steps) u w old new
 next_made limit capacity steps k s a u v w old mid new below at h does prints =
     let more : take k steps ++ s ∷ [] ≡ take (k + 1) steps = sym (take_more steps k s below ∙ ap (λ (t : Step). take k steps ++ t ∷ []) (sym at)) in

@@ -6,6 +6,7 @@ use Rattle.mq_topic.specs.declared.qos.Qos.{Qos}
 use Rattle.mq_topic.specs.declared.qos.Qos.TheVariants.{Q1, Q2}
 use Rattle.mq_topic.specs.Qos.{qos_number}
 use Rattle.mq_flow.specs.Sender.{held}
+use Rattle.mq_decode.specs.Limits.{Bounds}
 use Rattle.mq_world.specs.declared.side.Side.{Side}
 use Rattle.mq_world.specs.declared.side.Side.TheVariants.{Client, Server}
 use Rattle.mq_world.specs.declared.answer.Answer.{Answer}
@@ -22,19 +23,19 @@ use Rattle.mq_replay.specs.Printing.{answer_lines}
 -- ---- what the steps come to
 
 -- what comes of a step, by the step and its answer
-abbrev pub StepDoes : ℕ → ℕ → Step → Answer → Wired → Wired → Type 0
+abbrev pub StepDoes : Bounds → ℕ → Step → Answer → Wired → Wired → Type 0
 StepDoes limit capacity (Event event) answer old new = Does limit capacity event answer old new
 StepDoes limit capacity Settle answer old new = Settles limit capacity answer old new
 
 -- steps come one after another, each with its answer
-abbrev pub StepsLead : ℕ → ℕ → List Step → List Answer → Wired → Wired → Type 0
+abbrev pub StepsLead : Bounds → ℕ → List Step → List Answer → Wired → Wired → Type 0
 StepsLead limit capacity [] [] old new = new ≡ old
 StepsLead limit capacity (s ∷ ss) (a ∷ rest) old new = (mid : Wired) × StepDoes limit capacity s a old mid × StepsLead limit capacity ss rest mid new
 StepsLead limit capacity [] (a ∷ rest) old new = ⊥
 StepsLead limit capacity (s ∷ ss) [] old new = ⊥
 
 -- from a new world
-pub record Comes (limit capacity : ℕ) (steps : List Step) (answers : List Answer) (end : Wired) : Type 0 where
+pub record Comes (limit : Bounds) (capacity : ℕ) (steps : List Step) (answers : List Answer) (end : Wired) : Type 0 where
   pub start : Wired
   pub new : IsNew limit capacity start
   pub leads : StepsLead limit capacity steps answers start end

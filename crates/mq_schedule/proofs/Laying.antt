@@ -208,11 +208,11 @@ steps_lack (step ∷ steps) h = (lacks_feed (step_words step) (step_solid step (
 -- ---- schedules
 
 -- the words of a world
-pub world_is : (s : Schedule) → (64 ≤ s.limits) → s.limits < 2 ^ 28 → (1 ≤ non_zero_u16_get s.capacity) → non_zero_u16_get s.capacity < 2 ^ 16 → IsWorldLine s.limits (non_zero_u16_get s.capacity) (world_words s)
+pub world_is : (s : Schedule) → (64 ≤ s.limits.most) → s.limits.most < 2 ^ 28 → (1 ≤ non_zero_u16_get s.capacity) → non_zero_u16_get s.capacity < 2 ^ 16 → IsWorldLine s.limits.most (non_zero_u16_get s.capacity) (world_words s)
 world_is s least most one room = record {
-  most = decimal s.limits;
+  most = decimal s.limits.most;
   room = decimal (non_zero_u16_get s.capacity);
-  limit_is = number s.limits (omega (arith, most));
+  limit_is = number s.limits.most (omega (arith, most));
   capacity_is = number (non_zero_u16_get s.capacity) (omega (arith, room));
   least_limit = least;
   most_limit = omega (arith, most);
@@ -221,8 +221,8 @@ world_is s least most one room = record {
   words_are = refl;
 }
 
-world_solid : (s : Schedule) → IsWorldLine s.limits (non_zero_u16_get s.capacity) (world_words s) → AllSolid (world_words s)
-world_solid s h = (refl, (solid_number s.limits h.limit_is.bound, (solid_number (non_zero_u16_get s.capacity) h.capacity_is.bound, tt)))
+world_solid : (s : Schedule) → IsWorldLine s.limits.most (non_zero_u16_get s.capacity) (world_words s) → AllSolid (world_words s)
+world_solid s h = (refl, (solid_number s.limits.most h.limit_is.bound, (solid_number (non_zero_u16_get s.capacity) h.capacity_is.bound, tt)))
 
 -- lines, each with its end, are lines that line feeds join, and one at the end
 joined : (words : List (List ℕ)) (steps : List Step) → line_with words ++ flat_map step_line steps ≡ join_with_byte 10 (join_with_byte 32 words ∷ map bare_line steps) ++ 10 ∷ []
@@ -240,7 +240,7 @@ line_more words steps k step old new below at before e =
     e ∙ ap (λ (t : List ℕ). t ++ step_line step) before ∙ flat_map_more step_line (line_with words) (take k steps) step ∙ ap (λ (ss : List Step). line_with words ++ flat_map step_line ss) more
 
 -- what is put out is read as the schedule
-pub schedule_back : (s : Schedule) (text : List ℕ) → text ≡ schedule_text s → IsWorldLine s.limits (non_zero_u16_get s.capacity) (world_words s) → All KeepsBounds s.steps.items → IsSchedule (lines_of text) s
+pub schedule_back : (s : Schedule) (text : List ℕ) → text ≡ schedule_text s → IsWorldLine s.limits.most (non_zero_u16_get s.capacity) (world_words s) → All KeepsBounds s.steps.items → IsSchedule (lines_of text) s
 schedule_back s text e world bounds =
     let first = join_with_byte 32 (world_words s) in
     let others = map bare_line s.steps.items in
@@ -250,6 +250,6 @@ schedule_back s text e world bounds =
       first = first;
       others = others;
       lines_are = ap (slice_split (λ b. b == 10)) stripped ∙ parted 10 first others (lacks_feed (world_words s) solid, steps_lack s.steps.items bounds);
-      world = subst (IsWorldLine s.limits (non_zero_u16_get s.capacity)) (sym (line_words _ _ solid)) world;
+      world = subst (IsWorldLine s.limits.most (non_zero_u16_get s.capacity)) (sym (line_words _ _ solid)) world;
       steps = steps_back s.steps.items bounds;
     }

@@ -1,5 +1,5 @@
 -- Lines that are read as steps.
-use Rattle.std.proofs.Common.{◌≡◌, ℕ, suc, ◌+◌, ◌<◌, List, [], ◌∷◌, ◌++◌, length, take, drop, get_or, map, Option, None, Result, Ok, Err, Bor, Vec, refl, sym, ap, ◌∙◌, inr, arith}
+use Rattle.std.proofs.Common.{◌≡◌, ℕ, false, suc, ◌+◌, ◌<◌, List, [], ◌∷◌, ◌++◌, length, take, drop, get_or, map, Option, None, Result, Ok, Err, Bor, Vec, refl, sym, ap, ◌∙◌, inr, arith}
 use Rattle.std.specs.Prelude.{IsErrAnd, IsErrOf}
 use Rattle.std.specs.Option.{ok_or}
 use Rattle.std.specs.declared.alloc.Global.{Global}
@@ -7,6 +7,7 @@ use Rattle.std.specs.Int.NonZero.{non_zero_u16_get}
 use Rattle.std.specs.declared.num.NonZeroU16.{NonZeroU16}
 use Rattle.std.proofs.Math.Seq.{split_at}
 use Rattle.std.proofs.lemmas.List.{map-append}
+use Rattle.mq_decode.specs.Limits.{Bounds}
 use Rattle.mq_schedule.specs.Schedule.{IsBadLine, IsWorldLine, Writes, words_of}
 use Rattle.mq_schedule.specs.Parts.{AreSteps, StopsAt}
 use Rattle.mq_schedule.specs.declared.read.ScheduleFault.{ScheduleFault}
@@ -57,9 +58,9 @@ stops all steps yielded line count n read front here size number none = record {
 }
 
 -- the same behind the line for a world
-pub stops_after : (all others : List (List ℕ)) (first : List ℕ) (limits : ℕ) (capacity : NonZeroU16) (n : ℕ) → all ≡ first ∷ others → IsWorldLine limits (non_zero_u16_get capacity) (words_of first) → StopsAt others n → IsBadLine all n
-stops_after all others first limits capacity n e world stop = inr (record {
-  schedule = record { limits = limits; capacity = capacity; steps = stop.steps };
+pub stops_after : (all others : List (List ℕ)) (first : List ℕ) (limits : Bounds) (capacity : NonZeroU16) (n : ℕ) → all ≡ first ∷ others → limits.lenient ≡ false → IsWorldLine limits.most (non_zero_u16_get capacity) (words_of first) → StopsAt others n → IsBadLine all n
+stops_after all others first limits capacity n e strict world stop = inr (record {
+  schedule = record { limits = limits; capacity = capacity; steps = stop.steps; strict = strict };
   front = first ∷ stop.front;
   line = stop.line;
   others = stop.others;

@@ -8,6 +8,7 @@ use Rattle.mq_topic.specs.declared.qos.Qos.{Qos}
 use Rattle.mq_topic.specs.declared.qos.Qos.TheVariants.{Q0, Q1, Q2}
 use Rattle.mq_topic.specs.Qos.{qos_number}
 use Rattle.mq_packet.specs.declared.message.Message.{Message}
+use Rattle.mq_decode.specs.Limits.{Bounds}
 use Rattle.mq_world.specs.declared.side.Side.{Side}
 use Rattle.mq_world.specs.declared.side.Side.TheVariants.{Client, Server}
 use Rattle.mq_world.specs.declared.event.Event.{Event as WorldEvent}
@@ -176,6 +177,12 @@ same_steps (s ∷ a) (t ∷ b) (line ∷ lines) h k =
 
 -- ---- schedules
 
+-- the same bounds
+same_bounds : (a b : Bounds) → a.most ≡ b.most → a.lenient ≡ false → b.lenient ≡ false → a ≡ b
+same_bounds a b most one two =
+    let lenient : a.lenient ≡ b.lenient = one ∙ sym two in
+    λ i. record { most = most i; lenient = lenient i }
+
 -- lines are at most one schedule
 one_schedule : (lines : List (List ℕ)) (s t : Schedule) → IsSchedule lines s → IsSchedule lines t → SameSchedule s t
 one_schedule lines s t h k =
@@ -186,7 +193,7 @@ one_schedule lines s t h k =
     let most : h.world.most ≡ k.world.most = cc words in
     let room : h.world.room ≡ k.world.room = cc words in
     record {
-      limits = same_number s.limits t.limits h.world.most k.world.most most h.world.limit_is k.world.limit_is;
+      limits = same_bounds s.limits t.limits (same_number s.limits.most t.limits.most h.world.most k.world.most most h.world.limit_is k.world.limit_is) s.strict t.strict;
       capacity = same_number (non_zero_u16_get s.capacity) (non_zero_u16_get t.capacity) h.world.room k.world.room room h.world.capacity_is k.world.capacity_is;
       steps = same_steps s.steps.items t.steps.items k.others (subst (AreSteps s.steps.items) others h.steps) k.steps;
     }
@@ -203,7 +210,7 @@ no_world : (lines : List (List ℕ)) (s : Schedule) → IsSchedule lines s → �
 no_world lines s h bad =
     let same = sym h.lines_are ∙ bad.lines_are in
     let firsts : h.first ≡ bad.first = cc same in
-    bad.no_world s.limits (non_zero_u16_get s.capacity) (subst (λ (line : List ℕ). IsWorldLine s.limits (non_zero_u16_get s.capacity) (words_of line)) firsts h.world)
+    bad.no_world s.limits.most (non_zero_u16_get s.capacity) (subst (λ (line : List ℕ). IsWorldLine s.limits.most (non_zero_u16_get s.capacity) (words_of line)) firsts h.world)
 
 -- the others are steps
 no_bad_step : (lines : List (List ℕ)) (s : Schedule) (n : ℕ) → IsSchedule lines s → ¬ HasNoStep lines n

@@ -90,7 +90,7 @@ pub record IsSchedule (lines : List (List ℕ)) (s : Schedule) : Type 0 where
   pub first : List ℕ
   pub others : List (List ℕ)
   pub lines_are : lines ≡ first ∷ others
-  pub world : IsWorldLine s.limits (non_zero_u16_get s.capacity) (words_of first)
+  pub world : IsWorldLine s.limits.most (non_zero_u16_get s.capacity) (words_of first)
   pub steps : AllZip (λ step line. Writes step (words_of line)) s.steps.items others
 
 -- the first line is none for a world

@@ -17,7 +17,7 @@ line_with (word ∷ []) = word ++ codes "\n"
 line_with (word ∷ next ∷ words) = word ++ (codes " " ++ line_with (next ∷ words))
 
 abbrev pub world_words : Schedule → List (List ℕ)
-world_words s = codes "world" ∷ decimal s.limits ∷ decimal (non_zero_u16_get s.capacity) ∷ []
+world_words s = codes "world" ∷ decimal s.limits.most ∷ decimal (non_zero_u16_get s.capacity) ∷ []
 
 -- numbers have no zeros in front, and a delivery always has one
 abbrev pub step_words : Step → List (List ℕ)

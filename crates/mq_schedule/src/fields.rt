@@ -1,6 +1,6 @@
 //! What single words stand for.
 
-ghost use Rattle.std.specs.Prelude.{◌≡◌, ◌<◌, ◌^◌, ℕ, length, IfOk, IsErr, MatchOption};
+ghost use Rattle.std.specs.Prelude.{◌≡◌, ◌<◌, ◌^◌, ℕ, false, length, IfOk, IfSome, IsErr, MatchOption};
 ghost use Rattle.std.specs.Int.NonZero.{non_zero_u16_get};
 ghost use Rattle.hex.specs.Hex.{IsBytes};
 ghost use Rattle.mq_topic.specs.Qos.{qos_number};
@@ -58,7 +58,9 @@ pub(crate) fn qos(word: &str) -> Option<Qos>
 
 // A bound on the remaining length (2.2.3).
 pub(crate) fn limits(word: &str) -> Option<Limits>
-    ensures { Finds (λ n. IsLimit n word.now) result }
+    ensures limit { MatchOption result ((n : ℕ) → ¬ IsLimit n word.now)
+        (λ limits. IsLimit limits.most word.now) }
+    ensures strict { IfSome result (λ limits. limits.lenient ≡ false) }
 {
     Limits::new(u32::try_from(number(word)?).ok()?)
 }

@@ -1,5 +1,7 @@
 //! Schedules: what is to happen between two ends, step by step.
 
+ghost use Rattle.std.specs.Prelude.{◌≡◌, false};
+
 use mq_decode::Limits;
 use mq_world::Event;
 use std::num::NonZeroU16;
@@ -16,10 +18,11 @@ pub enum Step {
 /// A world, and what is to happen in it.
 #[derive(Debug, Drop)]
 pub struct Schedule {
-    /// The bound on the remaining length of packets (2.2.3).
+    /// The bound on the remaining length of packets (2.2.3). It is not lenient.
     pub limits: Limits,
     /// How many packet identifiers may be in use at a side (2.3.1).
     pub capacity: NonZeroU16,
     /// The steps, in order.
     pub steps: Vec<Step>,
+    pub ghost strict: { limits.lenient ≡ false },
 }

@@ -1,6 +1,6 @@
 //! What single lines stand for.
 
-ghost use Rattle.std.specs.Prelude.{◌∷◌, ℕ, IfOk, MatchOption, codes};
+ghost use Rattle.std.specs.Prelude.{◌≡◌, ◌∷◌, ℕ, false, IfOk, IfSome, MatchOption, codes};
 ghost use Rattle.std.specs.Int.NonZero.{non_zero_u16_get};
 ghost use Rattle.mq_schedule.specs.Schedule.{IsWorldLine, Writes, publish_word, words_of};
 ghost use Rattle.mq_schedule.specs.Parts.{Finds};
@@ -16,9 +16,10 @@ use std::num::NonZeroU16;
 
 // The world of a line.
 pub(crate) fn world(line: &str) -> Option<(Limits, NonZeroU16)>
-    ensures { MatchOption result
+    ensures world { MatchOption result
         ((limit capacity : ℕ) → ¬ IsWorldLine limit capacity (words_of line.now))
-        (λ world. IsWorldLine world.0 (non_zero_u16_get world.1) (words_of line.now)) }
+        (λ world. IsWorldLine world.0.most (non_zero_u16_get world.1) (words_of line.now)) }
+    ensures strict { IfSome result (λ world. world.0.lenient ≡ false) }
 {
     let (command, words) = first_word(line);
     if command != "world" {

@@ -50,7 +50,7 @@ impl fmt::Display for BytesWord<'_> {
 // The line for a world.
 fn write_world(text: &mut String, schedule: &Schedule) -> Result<(), AllocError>
     ensures text { OnOk result (string_bytes text.new ≡ string_bytes text.old ++ line_with (world_words schedule.now)) }
-    ensures world { IsWorldLine schedule.now.limits (non_zero_u16_get schedule.now.capacity)
+    ensures world { IsWorldLine schedule.now.limits.most (non_zero_u16_get schedule.now.capacity)
         (world_words schedule.now) }
 {
     let most = schedule.limits.max_packet();

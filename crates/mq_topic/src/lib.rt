@@ -3,6 +3,7 @@
 #![tactic(auto)]
 
 mod client;
+mod comparing;
 mod fault;
 mod filter;
 mod level;

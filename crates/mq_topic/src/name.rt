@@ -28,7 +28,8 @@ impl Model for TopicName {
     ghost invariant = { λ n. IsTopicName n.text };
 }
 
-/// Whether a text is a topic name (4.7): it has at least one character, and none of `+` and `#`.
+/// Whether a text of MQTT (1.5.3) is a topic name (4.7): it has at least one character, and none of `+`
+/// and `#`. That it has at most 65,535 bytes and no U+0000 is not tested: `Text` has that.
 pub fn is_topic_name(text: &str) -> bool
     ensures { result ≡ is_topic_name text.now }
 {

@@ -1,8 +1,8 @@
 -- Texts: the laws of reading.
-use Rattle.std.proofs.Common.{◌≡◌, ℕ, ◌+◌, ◌*◌, ◌/◌, ◌%◌, ◌<◌, ◌≤◌, Bool, true, false, cond, ltb, List, [], ◌∷◌, ◌++◌, length, drop, get_or, Result, Ok, Err, refl, sym, ap, subst, ◌∙◌, add-zero, arith, inl, inr}
+use Rattle.std.proofs.Common.{◌≡◌, ℕ, ◌+◌, ◌-◌, ◌*◌, ◌/◌, ◌%◌, ◌<◌, ◌≤◌, Bool, true, false, cond, ltb, List, [], ◌∷◌, ◌++◌, length, take, drop, slice_range, get_or, Result, Ok, Err, refl, sym, ap, subst, ◌∙◌, add-zero, arith, inl, inr}
 use Rattle.std.specs.Str.{IsUtf8, is_utf8}
 use Rattle.std.proofs.lemmas.Bool.{cases_Bool, le-ltb, ltb-false}
-use Rattle.std.proofs.lemmas.List.{take_at, length-append, length-take, length-drop, take-append-drop, get_or-drop, drop-drop}
+use Rattle.std.proofs.lemmas.List.{take_at, length-append, length-take, length-drop, take-append-drop, take-take, get_or-drop, drop-drop}
 use Rattle.std.proofs.Math.Seq.{drop-append_seam}
 use Rattle.std.proofs.lemmas.Str.{IsUtf8-from_is_utf8, is_utf8-from_IsUtf8}
 use Rattle.mq_wire.specs.declared.text.FieldFault.{FieldFault}
@@ -111,3 +111,19 @@ laws = record { again = again; found = found }
 
 pub number_laws : NumberLaws
 number_laws = record { again = number_in-number; found = number_of_two; below = number_in-lt }
+
+-- what is a text is all of its bytes
+pub checked_is : (t u : List ℕ) → Ok u ≡ checked_text t → u ≡ t
+unfolding checked_text
+checked_is t u e = go (is_utf8 t) (has_nul t) e
+  where
+    go : (a b : Bool) → Ok u ≡ (cond a (cond b (Err Nul) (Ok t)) (Err NotUtf8)) → u ≡ t
+    go true true e = absurd cc
+    go true false e = cc
+    go false b e = absurd cc
+
+-- where the bytes of a text stand
+pub stands_is : (xs text : List ℕ) (a n m : ℕ) → text ≡ take n (take m (drop a xs)) → n ≤ m → slice_range xs a (a + n) ≡ text
+stands_is xs text a n m e le =
+    let same : a + n - a ≡ n = omega arith in
+    ap (λ (k : ℕ). take k (drop a xs)) same ∙ (sym (take-take n m (drop a xs) le) ∙ sym e)

@@ -1,7 +1,8 @@
 //! The remaining length (2.2.3): one to four bytes of seven bits each, least first, where bit 7 says
-//! that another byte follows. A length with more bytes than it needs is refused.
+//! that another byte follows. A length with more bytes than it needs is refused, but by a lenient
+//! reader.
 
-ghost use Rattle.std.specs.Prelude.{◌≡◌, ℕ, ◌+◌, ◌<◌, ◌≤◌, ◌^◌, ◌↔◌, List, [], ◌∷◌, ◌++◌, length, take, IsSome, IfSome, IfNone};
+ghost use Rattle.std.specs.Prelude.{◌≡◌, ℕ, ◌+◌, ◌<◌, ◌≤◌, ◌^◌, ◌↔◌, true, false, List, [], ◌∷◌, ◌++◌, length, take, IsSome, IfSome, IfNone};
 ghost use Rattle.mq_wire.specs.Length.{Length};
 ghost use Rattle.mq_wire.specs.Value.{value_of};
 
@@ -12,7 +13,8 @@ use std::marker::Model;
 pub enum VarFault {
     /// The fourth byte says that a fifth follows.
     TooLong,
-    /// The last byte is 0 and not the only one, so that fewer bytes would do.
+    /// The last byte is 0 and not the only one, so that fewer bytes would do. A lenient reader takes
+    /// it.
     Overlong,
 }
 
@@ -27,19 +29,22 @@ pub enum VarStep {
     Bad(VarFault),
 }
 
-/// Reads a remaining length byte by byte (2.2.3). Contracts see it as the bytes that came.
+/// Reads a remaining length byte by byte (2.2.3). Contracts see the bytes that came, and whether it is
+/// lenient.
 #[derive(Debug, Drop)]
 pub struct VarlenReader {
     bytes: [u8; 4],
     count: usize,
+    lenient: bool,
 }
 
 impl Model for VarlenReader {
-    ghost use Rattle.std.specs.Prelude.{◌≤◌, ℕ, List, take};
+    ghost use Rattle.std.specs.Prelude.{◌≤◌, take};
+    ghost use Rattle.mq_wire.specs.Steps.{Coming};
 
-    ghost Value = { List ℕ };
+    ghost Value = { Coming };
 
-    ghost view = { λ r. take r.count r.bytes };
+    ghost view = { λ r. record { bytes = take r.count r.bytes; lenient = r.lenient } };
 
     ghost invariant = { λ r. r.count ≤ 4 };
 }
@@ -49,21 +54,40 @@ impl VarlenReader {
 
     /// A reader that no byte has come to.
     pub fn new() -> VarlenReader
-        ensures { result ≡ [] }
+        ensures bytes { result.bytes ≡ [] }
+        ensures lenient { result.lenient ≡ false }
+    {
+        VarlenReader::of(false)
+    }
+
+    /// A reader that no byte has come to, and that takes a length with more bytes than it needs: it
+    /// never answers `Overlong`.
+    pub fn lenient() -> VarlenReader
+        ensures bytes { result.bytes ≡ [] }
+        ensures lenient { result.lenient ≡ true }
+    {
+        VarlenReader::of(true)
+    }
+
+    fn of(lenient: bool) -> VarlenReader
+        ensures bytes { result.bytes ≡ [] }
+        ensures lenient { result.lenient ≡ lenient }
     {
         VarlenReader {
             bytes: [0; 4],
             count: 0,
+            lenient,
         }
     }
 
     /// Takes the next byte, and says what the bytes so far are. It is not to be called again once it
     /// has answered `Done` or `Bad`.
     pub fn push(&mut self, byte: u8) -> VarStep
-        requires short { length self.old < 4 }
-        requires open { Continue self.old }
-        ensures bytes { self.new ≡ self.old ++ byte ∷ [] }
-        ensures step { IsStep self.old byte result }
+        requires short { length self.old.bytes < 4 }
+        requires open { Continue self.old.bytes }
+        ensures bytes { self.new.bytes ≡ self.old.bytes ++ byte ∷ [] }
+        ensures lenient { self.new.lenient ≡ self.old.lenient }
+        ensures step { IsStep self.old.lenient self.old.bytes byte result }
     {
         let number = number_of(&self.bytes[..self.count], byte);
         self.bytes[self.count] = byte;
@@ -74,7 +98,7 @@ impl VarlenReader {
             }
             return VarStep::More;
         }
-        if byte == 0 && self.count > 1 {
+        if byte == 0 && self.count > 1 && !self.lenient {
             return VarStep::Bad(VarFault::Overlong);
         }
         VarStep::Done(number)

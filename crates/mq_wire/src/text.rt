@@ -1,12 +1,12 @@
 //! Texts (1.5.3): UTF-8 of at most 65,535 bytes, without surrogates and without U+0000. In a packet
 //! a count of two bytes stands before the bytes.
 
-ghost use Rattle.std.specs.Prelude.{◌≡◌, ◌+◌, ◌<◌, ◌↔◌, ◌≤◌, true, length, IfOk, IfErr, IsErrOf};
+ghost use Rattle.std.specs.Prelude.{◌≡◌, ◌+◌, ◌<◌, ◌↔◌, ◌≤◌, true, length, slice_range, IfOk, IfErr, IsErrOf};
 ghost use Rattle.mq_wire.specs.Text.{IsText, has_nul};
 ghost use Rattle.mq_wire.specs.TextReading.{TextLaws, checked_text, read_text};
 
 use crate::number::number_at;
-use bytes::ByteStr;
+use bytes::{ByteStr, Bytes};
 use std::alloc::{AllocError, Global};
 use std::marker::Model;
 use thiserror::Error;
@@ -137,6 +137,17 @@ impl<'a> TextRef<'a> {
         let text = ByteStr::copy_from_str(alloc, self.text)?;
         Ok(Text { text })
     }
+
+    /// The text of these bytes, which are its own. None is copied.
+    pub fn shared(&self, bytes: Bytes) -> Text
+        requires { bytes ≡ self.now }
+        ensures { result ≡ self.now }
+    {
+        let _ = self.text.as_bytes();
+        Text {
+            text: ByteStr::from_known_utf8(bytes),
+        }
+    }
 }
 
 // The text that these bytes are.
@@ -159,6 +170,7 @@ fn checked_text(bytes: &[u8]) -> Result<TextRef<'_>, FieldFault>
 pub fn text_at(bytes: &[u8], at: usize) -> Result<(TextRef<'_>, usize), FieldFault>
     ensures reads { result ≡ read_text bytes.now at }
     ensures place { IfOk result (λ x. (at + 2 ≤ x.1) × (x.1 ≤ length bytes.now)) }
+    ensures stands { IfOk result (λ x. slice_range bytes.now (at + 2) x.1 ≡ x.0) }
 {
     if at > bytes.len() || bytes.len() - at < 2 {
         return Err(FieldFault::Past);

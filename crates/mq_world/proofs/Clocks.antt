@@ -1,6 +1,7 @@
 -- What comes of a client that leaves, and of clocks that go on, from what the ends do.
 use Rattle.std.proofs.Common.{◌≡◌, ℕ, Bool, true, false, ◌&&◌, if◌then◌else◌, Option, None, Result, Err, List, [], ◌∷◌, ◌++◌, refl, sym, ap, subst, ◌∙◌, IfSome, IfNone, IfErr, append-nil}
 use Rattle.mq_packet.specs.declared.packet.Packet.TheVariants as packets
+use Rattle.mq_decode.specs.Limits.{Bounds}
 use Rattle.mq_end.specs.declared.reason.CloseReason.{CloseReason}
 use Rattle.mq_end.specs.declared.reason.CloseReason.TheVariants as reasons
 use Rattle.mq_end.specs.declared.refusal.PublishRefusal.{PublishRefusal}
@@ -23,7 +24,7 @@ use Rattle.mq_world.proofs.Worlds.{on_wire, reason_is}
 
 -- ---- leaving
 
-pub left_at : OverBytes → (limit capacity : ℕ) (w v : Wired) (new : EndState) → w.client.state.output ≡ [] → leave_refusal w.client.state.end ≡ None → Acts (leaves w.client.state.end) w.client.state new
+pub left_at : OverBytes → (limit : Bounds) (capacity : ℕ) (w v : Wired) (new : EndState) → w.client.state.output ≡ [] → leave_refusal w.client.state.end ≡ None → Acts (leaves w.client.state.end) w.client.state new
     → v ≡ record { client = cut_off new w.client; server = with_more new.output w.server } → IsLeft limit capacity w v
 left_at law limit capacity w v new quiet free a e = record {
   allowed = free;
@@ -40,7 +41,7 @@ not_left_at w v why result e a b same = record { reason = reason_is (leave_refus
 
 -- ---- the client is told the time
 
-follows_alike : OverBytes → (limit capacity : ℕ) (m : Machine) (moves : List Move) (w v : Wired) → Follows limit capacity m moves w → Alike w.client v.client → Alike w.server v.server → Follows limit capacity m moves v
+follows_alike : OverBytes → (limit : Bounds) (capacity : ℕ) (m : Machine) (moves : List Move) (w v : Wired) → Follows limit capacity m moves w → Alike w.client v.client → Alike w.server v.server → Follows limit capacity m moves v
 follows_alike law limit capacity m moves w v f a b = record { machine = f.machine; run = f.run; stands = law.alike limit capacity w v f.machine f.stands a b }
 
 -- a clock shows nothing
@@ -52,7 +53,7 @@ abbrev asked : Wired → ℕ → EndState → Wired
 asked w now new = record { client = record w.client { state = written new; clock = now }; server = with_more new.output w.server }
 
 -- the client asks where it is due
-asks : OverBytes → (limit capacity : ℕ) (w : Wired) (m : Machine) (now : ℕ) (due : Bool) (new : EndState) → Stands limit capacity w m → (due ≡ true → is_up w.client.state.end.state ≡ true)
+asks : OverBytes → (limit : Bounds) (capacity : ℕ) (w : Wired) (m : Machine) (now : ℕ) (due : Bool) (new : EndState) → Stands limit capacity w m → (due ≡ true → is_up w.client.state.end.state ≡ true)
     → PutsOut (if due then packets.PingReq ∷ [] else []) w.client.state.output new.output → new.end ≡ w.client.state.end → new.held ≡ w.client.state.held → SameBounds w.client.state new
     → Follows limit capacity m (if due then By Client Pings ∷ [] else []) (asked w now new)
 asks law limit capacity w m now true new s up out end held bounds =
@@ -77,7 +78,7 @@ first_of_both : (a b : Bool) → (a && b) ≡ true → a ≡ true
 first_of_both true b e = refl
 first_of_both false b e = e
 
-pub asked_at : OverBytes → (limit capacity : ℕ) (w v : Wired) (more : ℕ) (new : EndState) → w.client.state.output ≡ [] → Ticks (later w.client.clock more) w.client.state new
+pub asked_at : OverBytes → (limit : Bounds) (capacity : ℕ) (w v : Wired) (more : ℕ) (new : EndState) → w.client.state.output ≡ [] → Ticks (later w.client.clock more) w.client.state new
     → v ≡ record { client = record w.client { state = written new; clock = later w.client.clock more }; server = with_more new.output w.server } → IsTold limit capacity Client more None w v
 asked_at law limit capacity w v more new quiet t e =
     let old = w.client.state in
@@ -101,7 +102,7 @@ abbrev told : Wired → ℕ → Option CloseReason → EndState → Wired
 told w now closed new = record { client = w.client; server = record w.server { state = new; clock = now; wire = left_on closed w.server.wire } }
 
 -- the server closes where it is late
-drops_late : OverBytes → (limit capacity : ℕ) (w : Wired) (m : Machine) (now : ℕ) (late : Bool) (closed : Option CloseReason) (new : EndState) → Stands limit capacity w m
+drops_late : OverBytes → (limit : Bounds) (capacity : ℕ) (w : Wired) (m : Machine) (now : ℕ) (late : Bool) (closed : Option CloseReason) (new : EndState) → Stands limit capacity w m
     → closed ≡ (if late then closes reasons.KeepAlive w.server.state.end else silent w.server.state.end).close
     → Acts (if late then closes reasons.KeepAlive w.server.state.end else silent w.server.state.end) w.server.state new
     → Follows limit capacity m (if late then By Server Drops ∷ [] else []) (told w now closed new)
@@ -133,7 +134,7 @@ drops_late law limit capacity w m now false closed new s is a =
     } in
     record { machine = m; run = refl; stands = law.alike limit capacity w (told w now closed new) m s (alike_itself w.client) b }
 
-pub told_at : OverBytes → (limit capacity : ℕ) (w v : Wired) (more : ℕ) (closed : Option CloseReason) (new : EndState)
+pub told_at : OverBytes → (limit : Bounds) (capacity : ℕ) (w v : Wired) (more : ℕ) (closed : Option CloseReason) (new : EndState)
     → closed ≡ (server_ticks w.server.state.moment (later w.server.clock more) w.server.state.end).close
     → Acts (server_ticks w.server.state.moment (later w.server.clock more) w.server.state.end) w.server.state new
     → v ≡ record { client = w.client; server = record w.server { state = new; clock = later w.server.clock more; wire = left_on closed w.server.wire } } → IsTold limit capacity Server more closed w v

@@ -2,6 +2,7 @@
 use Rattle.std.proofs.Common.{◌≡◌, ℕ, true, false, Option, Some, None, List, [], ◌∷◌, ◌++◌, length, replicate, refl, sym, ap, subst, ◌∙◌, append_assoc, inl, inr}
 use Rattle.std.proofs.lemmas.List.{append-nil}
 use Rattle.mq_packet.specs.declared.packet.Packet.{Packet}
+use Rattle.mq_decode.specs.Limits.{Bounds}
 use Rattle.mq_decode.specs.Grammar.{Stream, Pending}
 use Rattle.mq_decode.specs.Laws.{ReadsAgain}
 use Rattle.mq_end.specs.declared.state.State.{State}
@@ -57,7 +58,7 @@ kept_live Closed q live = cc
 kept_live Open q live = refl
 kept_live Up q live = refl
 
-kept_stream : (limit : ℕ) (st : State) (q : List Packet) (b : List ℕ) → Stream limit q b → is_live st ≡ true → Stream limit (kept st q) b
+kept_stream : (limit : Bounds) (st : State) (q : List Packet) (b : List ℕ) → Stream limit q b → is_live st ≡ true → Stream limit (kept st q) b
 kept_stream limit st q b s live = subst (λ (x : List Packet). Stream limit x b) (kept_live st q live) s
 
 not_live : (st : State) → st ≡ Closed → is_live st ≡ true → ⊥
@@ -67,7 +68,7 @@ not_live st closed live = true_not (sym live ∙ ap is_live closed)
     true_not e = cc
 
 -- it shows what comes of a reply
-heard_side : (limit capacity : ℕ) (x : WiredSide) (h : Half) (left : List ℕ) (new : EndState) (happenings : List Happening) (acknowledged : List ℕ) (closed : Option CloseReason) (rest : List Packet) (r : Reply)
+heard_side : (limit : Bounds) (capacity : ℕ) (x : WiredSide) (h : Half) (left : List ℕ) (new : EndState) (happenings : List Happening) (acknowledged : List ℕ) (closed : Option CloseReason) (rest : List Packet) (r : Reply)
     → CarriesSide limit capacity x h → SameBounds x.state new → new.end ≡ r.end → happenings ≡ r.happenings → acknowledged ≡ r.freed → (is_live r.end.state ≡ true → Stream limit rest (new.held ++ left_on closed left))
     → CarriesSide limit capacity (hearing left new happenings acknowledged closed x) (took h rest r).half
 heard_side limit capacity x h left new happenings acknowledged closed rest r k bounds after told freed bytes = record {
@@ -104,7 +105,7 @@ lost limit capacity Server m moves h y run =
 -- ---- bytes come
 
 -- what is known where bytes came: the whole packets, the queue behind them, and what is shown
-record Came (limit capacity : ℕ) (side : Side) (w : Wired) (m : Machine) (b left : List ℕ) (new : EndState) (happenings : List Happening) (acknowledged : List ℕ) (closed : Option CloseReason) (ps : List Packet) (front rest : List ℕ) (r : Reply) : Type 0 where
+record Came (limit : Bounds) (capacity : ℕ) (side : Side) (w : Wired) (m : Machine) (b left : List ℕ) (new : EndState) (happenings : List Happening) (acknowledged : List ℕ) (closed : Option CloseReason) (ps : List Packet) (front rest : List ℕ) (r : Reply) : Type 0 where
   stands : Stands limit capacity w m
   live : is_live (half_of side m).end.state ≡ true
   stream : Stream limit ps front
@@ -115,7 +116,7 @@ record Came (limit capacity : ℕ) (side : Side) (w : Wired) (m : Machine) (b le
   bounds : SameBounds (near side w).state new
   shows : Shows r (near side w).state new happenings acknowledged closed
 
-module _ (limit capacity : ℕ) (side : Side) (w : Wired) (m : Machine) (b left : List ℕ) (new : EndState) (happenings : List Happening) (acknowledged : List ℕ) (closed : Option CloseReason) (ps : List Packet) (front rest : List ℕ) (r : Reply) where
+module _ (limit : Bounds) (capacity : ℕ) (side : Side) (w : Wired) (m : Machine) (b left : List ℕ) (new : EndState) (happenings : List Happening) (acknowledged : List ℕ) (closed : Option CloseReason) (ps : List Packet) (front rest : List ℕ) (r : Reply) where
   -- what comes of the packets
   abbrev all : Reply
   all = one_by_one (gets side) ps (half_of side m).end
@@ -134,7 +135,7 @@ module _ (limit capacity : ℕ) (side : Side) (w : Wired) (m : Machine) (b left 
   came c same pending bytes =
       let x = side_near limit capacity side w m c.stands.carries in
       let moves : List Move = replicate (length ps) (By side Arrives) in
-      let run = arrived limit capacity side ps c.later m c.queue c.live in
+      let run = arrived limit.most capacity side ps c.later m c.queue c.live in
       let near_side = heard_side limit capacity (near side w) (half_of side m) left new happenings acknowledged closed c.later all x c.bounds (c.shows.after ∙ ap (λ (r : Reply). r.end) same) (c.shows.told ∙ ap (λ (r : Reply). r.happenings) same) (c.shows.freed ∙ ap (λ (r : Reply). r.freed) same) bytes in
       record {
         packets = ps;
@@ -153,7 +154,7 @@ module _ (limit capacity : ℕ) (side : Side) (w : Wired) (m : Machine) (b left 
       let moves : List Move = replicate (length ps) (By side Arrives) ++ By side Drops ∷ [] in
       let last : Reply = record all { end = over all.end } in
       let h : Half = (took (half_of side m) c.later all).half in
-      let run = lost limit capacity side m (replicate (length ps) (By side Arrives)) h (put all.out (other side m)) (arrived limit capacity side ps c.later m c.queue c.live) in
+      let run = lost limit.most capacity side m (replicate (length ps) (By side Arrives)) h (put all.out (other side m)) (arrived limit.most capacity side ps c.later m c.queue c.live) in
       let why : closed ≡ Some reasons.Memory = c.shows.close ∙ (ap (λ (r : Reply). r.close) same ∙ ap (λ (o : Option CloseReason). first_reason o (Some reasons.Memory)) none) in
       let out : Spelled all.out new.output = subst (λ (ps : List Packet). Spelled ps new.output) (ap (λ (r : Reply). r.out) same ∙ append-nil all.out) (put_out c) in
       let near_side = heard_side limit capacity (near side w) (half_of side m) left new happenings acknowledged closed [] last x c.bounds (c.shows.after ∙ ap (λ (r : Reply). r.end) same) (c.shows.told ∙ (ap (λ (r : Reply). r.happenings) same ∙ append-nil all.happenings)) (c.shows.freed ∙ (ap (λ (r : Reply). r.freed) same ∙ append-nil all.freed)) (λ live. cc) in
@@ -178,14 +179,14 @@ module _ (limit capacity : ℕ) (side : Side) (w : Wired) (m : Machine) (b left 
   ended reads laws c (Breaks fault bad none same held) = absurd (no_fault reads limit c.later rest left fault.kind fault.place c.behind bad)
   ended reads laws c (Starves some none same held) = starved c none same
 
-pub deliver : ReadsAgain → ClosingLaws → (limit capacity : ℕ) (side : Side) (w : Wired) (m : Machine) (piece left : List ℕ) (new : EndState) (happenings : List Happening) (acknowledged : List ℕ) (closed : Option CloseReason) → Stands limit capacity w m
+pub deliver : ReadsAgain → ClosingLaws → (limit : Bounds) (capacity : ℕ) (side : Side) (w : Wired) (m : Machine) (piece left : List ℕ) (new : EndState) (happenings : List Happening) (acknowledged : List ℕ) (closed : Option CloseReason) → Stands limit capacity w m
     → is_live (near side w).state.end.state ≡ true → (near side w).wire ≡ piece ++ left → ReceivesAt side piece (near side w).state new happenings acknowledged closed → SameBounds (near side w).state new
     → Delivers limit capacity side m ((near side w).state.held ++ piece) closed (facing side (hearing left new happenings acknowledged closed (near side w)) (with_more new.output (far side w)))
 deliver reads laws limit capacity side w m piece left new happenings acknowledged closed k live wire receives bounds =
     let x = side_near limit capacity side w m k.carries in
     let b : List ℕ = (near side w).state.held ++ piece in
     let r : Reply = receives.0 in
-    let P : ℕ × End → Type 0 = λ z. Receives z.0 (gets side) (faulted side) b z.1 r new.held in
+    let P : Bounds × End → Type 0 = λ z. Receives z.0 (gets side) (faulted side) b z.1 r new.held in
     let got = subst P (λ i. (x.limits i, x.end i)) receives.1 in
     let here : is_live (half_of side m).end.state ≡ true = ap (λ (e : End). is_live e.state) (sym x.end) ∙ live in
     let parts : (near side w).state.held ++ (near side w).wire ≡ got.front ++ (got.rest ++ left) =

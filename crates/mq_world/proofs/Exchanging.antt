@@ -3,6 +3,7 @@ use Rattle.std.proofs.Common.{◌≡◌, ℕ, zero, suc, ◌<◌, true, false, n
 use Rattle.std.proofs.lemmas.Bool.{cond_both}
 use Rattle.std.proofs.lemmas.List.{append-nil}
 use Rattle.mq_packet.specs.declared.packet.Packet.{Packet}
+use Rattle.mq_decode.specs.Limits.{Bounds}
 use Rattle.mq_decode.specs.Grammar.{Stream, Pending}
 use Rattle.mq_decode.specs.Laws.{ReadsAgain}
 use Rattle.mq_decode.specs.declared.fault.DecodeFault.{DecodeFault}
@@ -99,11 +100,11 @@ run_arrives limit capacity (suc n) side m v run = run_arrives limit capacity n s
 
 -- ---- all the bytes
 
-pub lose_all : (limit capacity : ℕ) (side : Side) (w : Wired) (m : Machine) → Stands limit capacity w m → is_live (near side w).state.end.state ≡ false → Stands limit capacity (facing side (record (near side w) { wire = [] }) (far side w)) (delivered side m)
+pub lose_all : (limit : Bounds) (capacity : ℕ) (side : Side) (w : Wired) (m : Machine) → Stands limit capacity w m → is_live (near side w).state.end.state ≡ false → Stands limit capacity (facing side (record (near side w) { wire = [] }) (far side w)) (delivered side m)
 lose_all limit capacity side w m k off =
     let x = side_near limit capacity side w m k.carries in
     let closed : (half_of side m).end.state ≡ Closed = dead (half_of side m).end.state (ap (λ (e : End). is_live e.state) (sym x.end) ∙ off) in
-    let none : delivered side m ≡ m = ap (λ (q : List Packet). arrivals (length q) side m) (queue_is side m ∙ reached_quiet limit capacity side m k.reached closed) in
+    let none : delivered side m ≡ m = ap (λ (q : List Packet). arrivals (length q) side m) (queue_is side m ∙ reached_quiet limit.most capacity side m k.reached closed) in
     subst (λ (v : Machine). Stands limit capacity (facing side (record (near side w) { wire = [] }) (far side w)) v) (sym none) (unheard limit capacity side w m [] k off)
   where
     dead : (st : State) → is_live st ≡ false → st ≡ Closed
@@ -116,7 +117,7 @@ faulted_closed Client fault e = refl
 faulted_closed Server fault e = cond_both (not (is_up e.state) && is_level fault.kind) (level_refused e) (closes (reasons.Fault fault) e) (λ r. r.end.state ≡ Closed) (λ t. refl) (λ f. refl)
 
 -- an end that closes is closed
-ending_closed : ClosingLaws → (limit : ℕ) (side : Side) (ps : List Packet) (e : End) (rest : List ℕ) (r : Reply) (held : List ℕ) (reason : CloseReason) → r.close ≡ Some reason → Ending limit (faulted side) (one_by_one (gets side) ps e) rest r held → r.end.state ≡ Closed
+ending_closed : ClosingLaws → (limit : Bounds) (side : Side) (ps : List Packet) (e : End) (rest : List ℕ) (r : Reply) (held : List ℕ) (reason : CloseReason) → r.close ≡ Some reason → Ending limit (faulted side) (one_by_one (gets side) ps e) rest r held → r.end.state ≡ Closed
 ending_closed laws limit side ps e rest r held reason some (Waits pending none same is_held) = absurd (none_some (sym none ∙ (ap (λ (r : Reply). r.close) (sym same) ∙ some)))
   where
     none_some : None ≡ Some reason → ⊥
@@ -126,11 +127,11 @@ ending_closed laws limit side ps e rest r held reason some (Breaks fault bad non
 ending_closed laws limit side ps e rest r held reason some (Starves more none same is_held) = ap (λ (r : Reply). r.end.state) same
 
 -- what is pending has no packet in front
-none_pending : (limit : ℕ) (q : List Packet) (rest : List ℕ) → Stream limit q rest → Pending limit rest → q ≡ []
+none_pending : (limit : Bounds) (q : List Packet) (rest : List ℕ) → Stream limit q rest → Pending limit rest → q ≡ []
 none_pending limit [] rest s p = refl
 none_pending limit (x ∷ q) rest s p = absurd (p.not_whole x s.0 s.1 s.2 s.4)
 
-module _ (reads : ReadsAgain) (laws : ClosingLaws) (limit capacity : ℕ) (side : Side) (w : Wired) (m : Machine) (new : EndState) (happenings : List Happening) (acknowledged : List ℕ) where
+module _ (reads : ReadsAgain) (laws : ClosingLaws) (limit : Bounds) (capacity : ℕ) (side : Side) (w : Wired) (m : Machine) (new : EndState) (happenings : List Happening) (acknowledged : List ℕ) where
   abbrev next : Option CloseReason → Wired
   next closed = facing side (hearing [] new happenings acknowledged closed (near side w)) (with_more new.output (far side w))
 
@@ -148,7 +149,7 @@ module _ (reads : ReadsAgain) (laws : ClosingLaws) (limit capacity : ℕ) (side 
   no_more_came reason closed d is =
       let v : Machine = d.follows.machine in
       let shut : (half_of side v).end.state ≡ Closed = ap (λ (e : End). e.state) (sym (near_end side d.follows.stands)) ∙ closed in
-      let quiet : (half_of side v).coming ≡ [] = reached_quiet limit capacity side v d.follows.stands.reached shut in
+      let quiet : (half_of side v).coming ≡ [] = reached_quiet limit.most capacity side v d.follows.stands.reached shut in
       ap (λ (q : List Packet). arrivals (length q) side m) (queue_is side m ∙ d.first) ∙ (arrivals_both d.packets d.later side m ∙ (ap (arrivals (length d.later) side) (sym is) ∙ arrivals_none (length d.later) side v quiet))
     where
       near_end : (side : Side) → Stands limit capacity (facing side (hearing [] new happenings acknowledged (Some reason) (near side w)) (with_more new.output (far side w))) d.follows.machine → new.end ≡ (half_of side d.follows.machine).end
@@ -159,7 +160,7 @@ module _ (reads : ReadsAgain) (laws : ClosingLaws) (limit capacity : ℕ) (side 
   made : (closed : Option CloseReason) → (closed ≡ Some reasons.Memory → ⊥) → (d : Delivers limit capacity side m ((near side w).state.held ++ (near side w).wire) closed (next closed)) → d.follows.machine ≡ arrivals (length d.packets) side m
   made closed fed d =
       elim d.arrivals [
-        | inl plain ↦ run_arrives limit capacity (length d.packets) side m d.follows.machine (subst (λ (ms : List Move). Run limit capacity m ms d.follows.machine) plain d.follows.run)
+        | inl plain ↦ run_arrives limit.most capacity (length d.packets) side m d.follows.machine (subst (λ (ms : List Move). Run limit.most capacity m ms d.follows.machine) plain d.follows.run)
         | inr starved ↦ absurd (fed starved.0)
       ]
 
@@ -190,12 +191,12 @@ handed_as x y u v a b h = record {
   each = λ p below. h.each p (subst (λ (l : Accepted). p < length l.at_least_once) a below);
 }
 
-no_bytes_left : (limit capacity : ℕ) (x : WiredSide) (h : Half) → CarriesSide limit capacity x h → h.end.state ≡ Up → h.coming ≡ [] → x.state.held ++ x.wire ≡ []
+no_bytes_left : (limit : Bounds) (capacity : ℕ) (x : WiredSide) (h : Half) → CarriesSide limit capacity x h → h.end.state ≡ Up → h.coming ≡ [] → x.state.held ++ x.wire ≡ []
 no_bytes_left limit capacity x h k up none = subst (λ (q : List Packet). Stream limit q (x.state.held ++ x.wire)) none (k.bytes (ap is_live up))
 
-pub settles : (limit capacity : ℕ) (w v : Wired) (m : Machine) → Stands limit capacity w m → Stands limit capacity v (settled m) → SettledFrom w v
+pub settles : (limit : Bounds) (capacity : ℕ) (w v : Wired) (m : Machine) → Stands limit capacity w m → Stands limit capacity v (settled m) → SettledFrom w v
 settles limit capacity w v m k s =
-    let h = settling limit capacity k.reached.0 m k.reached.1 in
+    let h = settling limit.most capacity k.reached.0 m k.reached.1 in
     let c = s.carries.client in
     let d = s.carries.server in
     record {
@@ -211,9 +212,9 @@ settles limit capacity w v m k s =
       server_bytes = no_bytes_left limit capacity v.server (settled m).server d h.server_up h.server_queue;
     }
 
-pub second : (limit capacity : ℕ) (w v : Wired) (m : Machine) → Stands limit capacity w m → Stands limit capacity v (exchange (exchange (after m Opens))) → HoldsNothing v
+pub second : (limit : Bounds) (capacity : ℕ) (w v : Wired) (m : Machine) → Stands limit capacity w m → Stands limit capacity v (exchange (exchange (after m Opens))) → HoldsNothing v
 second limit capacity w v m k s =
-    let h = settling limit capacity k.reached.0 m k.reached.1 in
+    let h = settling limit.most capacity k.reached.0 m k.reached.1 in
     record {
       client = ap (λ (e : End). e.book.entries) s.carries.client.end ∙ h.client_second;
       server = ap (λ (e : End). e.book.entries) s.carries.server.end ∙ h.server_second;

@@ -5,14 +5,15 @@ use Rattle.std.proofs.lemmas.List.{length-append}
 use Rattle.mq_topic.specs.declared.qos.Qos.{Qos}
 use Rattle.mq_topic.specs.declared.qos.Qos.TheVariants.{Q0, Q1, Q2}
 use Rattle.mq_packet.specs.Publication.{fits_delivery}
-use Rattle.mq_packet.specs.Spelling.{fields, publish_fields, delivery_fields}
+use Rattle.mq_packet.specs.Spelling.{Spells, fields, publish_fields, delivery_fields}
 use Rattle.mq_packet.specs.declared.message.Message.{Message}
 use Rattle.mq_packet.specs.declared.connect.Connect.{Connect}
 use Rattle.mq_packet.specs.declared.connack.ConnAck.TheVariants as connacks
 use Rattle.mq_packet.specs.declared.publish.Delivery.{Delivery}
 use Rattle.mq_packet.specs.declared.packet.Packet.{Packet}
 use Rattle.mq_packet.specs.declared.packet.Packet.TheVariants as packets
-use Rattle.mq_decode.specs.Grammar.{Stream}
+use Rattle.mq_decode.specs.Limits.{Bounds}
+use Rattle.mq_decode.specs.Grammar.{Reads, Stream}
 use Rattle.mq_end.specs.declared.refusal.PublishRefusal.{PublishRefusal}
 use Rattle.mq_end.specs.declared.refusal.PublishRefusal.TheVariants as refusals
 use Rattle.mq_end.specs.declared.state.State.{State}
@@ -70,9 +71,14 @@ size_within limit packets.PingResp large h = omega arith
 size_within limit packets.Disconnect large h = omega arith
 size_within limit p large h = absurd h
 
-pub spelled_within : (limit : ℕ) → 64 ≤ limit → (ps : List Packet) (c : List ℕ) → Each (IsCarried (fits limit)) ps → Spelled ps c → Stream limit ps c
+-- what is spelled is read under all limits
+reads : (lenient : Bool) (p : Packet) (b : List ℕ) → Spells p b → Reads lenient p b
+reads false p b h = h
+reads true p b h = record { packet = h.packet; len = h.len; formed = (h.formed.0, h.formed.1); bytes = h.bytes }
+
+pub spelled_within : (limit : Bounds) → 64 ≤ limit.most → (ps : List Packet) (c : List ℕ) → Each (IsCarried (fits limit.most)) ps → Spelled ps c → Stream limit ps c
 spelled_within limit large [] c h s = s
-spelled_within limit large (p ∷ ps) c h s = (s.0, s.1, (s.2, size_within limit p large h.0), spelled_within limit large ps s.1 h.1 s.3, s.4)
+spelled_within limit large (p ∷ ps) c h s = (s.0, s.1, (reads limit.lenient p s.0 s.2, size_within limit.most p large h.0), spelled_within limit large ps s.1 h.1 s.3, s.4)
 
 -- ---- runs
 
@@ -104,12 +110,12 @@ each_last : {A : Type 0} (P : A → Type 0) (xs ys : List A) → Each P (xs ++ y
 each_last P [] ys h = h
 each_last P (x ∷ xs) ys h = each_last P xs ys h.1
 
-joins_stream : (limit : ℕ) (st : State) (q ps : List Packet) (b c : List ℕ) → 64 ≤ limit → Each (IsCarried (fits limit)) (joined st q ps) → Spelled ps c → (is_live st ≡ true → Stream limit q b) → is_live st ≡ true → Stream limit (joined st q ps) (b ++ c)
+joins_stream : (limit : Bounds) (st : State) (q ps : List Packet) (b c : List ℕ) → 64 ≤ limit.most → Each (IsCarried (fits limit.most)) (joined st q ps) → Spelled ps c → (is_live st ≡ true → Stream limit q b) → is_live st ≡ true → Stream limit (joined st q ps) (b ++ c)
 joins_stream limit Closed q ps b c large h s old live = cc
-joins_stream limit Open q ps b c large h s old live = stream_joins limit q ps b c (old live) (spelled_within limit large ps c (each_last (IsCarried (fits limit)) q ps h) s)
-joins_stream limit Up q ps b c large h s old live = stream_joins limit q ps b c (old live) (spelled_within limit large ps c (each_last (IsCarried (fits limit)) q ps h) s)
+joins_stream limit Open q ps b c large h s old live = stream_joins limit q ps b c (old live) (spelled_within limit large ps c (each_last (IsCarried (fits limit.most)) q ps h) s)
+joins_stream limit Up q ps b c large h s old live = stream_joins limit q ps b c (old live) (spelled_within limit large ps c (each_last (IsCarried (fits limit.most)) q ps h) s)
 
-pub grown : (limit capacity : ℕ) (y : WiredSide) (h : Half) (ps : List Packet) (c : List ℕ) → 64 ≤ limit → Each (IsCarried (fits limit)) (put ps h).coming → Spelled ps c → CarriesSide limit capacity y h → CarriesSide limit capacity (record y { wire = y.wire ++ c }) (put ps h)
+pub grown : (limit : Bounds) (capacity : ℕ) (y : WiredSide) (h : Half) (ps : List Packet) (c : List ℕ) → 64 ≤ limit.most → Each (IsCarried (fits limit.most)) (put ps h).coming → Spelled ps c → CarriesSide limit capacity y h → CarriesSide limit capacity (record y { wire = y.wire ++ c }) (put ps h)
 grown limit capacity y h ps c large fit s k = record {
   end = k.end;
   bytes = λ live. subst (Stream limit (joined h.end.state h.coming ps)) (append_assoc y.state.held y.wire c) (joins_stream limit h.end.state h.coming ps (y.state.held ++ y.wire) c large fit s k.bytes live);

@@ -4,6 +4,7 @@ use Rattle.std.specs.Result.{is_err}
 use Rattle.std.proofs.Math.Seq.{take-suc}
 use Rattle.std.proofs.lemmas.List.{take-append-drop}
 use Rattle.mq_packet.specs.declared.message.Message.{Message}
+use Rattle.mq_decode.specs.Limits.{Bounds}
 use Rattle.mq_end.specs.declared.reason.CloseReason.{CloseReason}
 use Rattle.mq_end.specs.declared.refusal.PublishRefusal.{PublishRefusal}
 use Rattle.mq_end.specs.declared.refusal.PublishRefusal.TheVariants as refusals
@@ -80,16 +81,16 @@ may_have : (b : Bool) (e : End) (i : ℕ) → (b ≡ true → IsFirstFree e.last
 may_have true e i h = (h refl).free
 may_have false e i h = tt
 
-pub accepted_at : OverBytes → (limit capacity : ℕ) (side : Side) (w v : Wired) (m : Machine) (message : Message) (answer : Option ℕ) (new : EndState) → Stands limit capacity w m
-    → refusal side (near side w).state.limit (near side w).state.capacity message (near side w).state.end ≡ None
+pub accepted_at : OverBytes → (limit : Bounds) (capacity : ℕ) (side : Side) (w v : Wired) (m : Machine) (message : Message) (answer : Option ℕ) (new : EndState) → Stands limit capacity w m
+    → refusal side (near side w).state.limit.most (near side w).state.capacity message (near side w).state.end ≡ None
     → Accepts answer message (near side w).state new
     → ((i : ℕ) → answer ≡ answered_identifier message.qos i → v ≡ facing side (accepting i message new (near side w)) (with_more new.output (far side w)))
     → IsAccepted limit capacity side message answer w v
 accepted_at law limit capacity side w v m message answer new s free a e =
     let x = (side_near limit capacity side w m s.carries) in
-    let bounded : refusal side limit capacity message (near side w).state.end ≡ None =
-    subst (λ (n : ℕ). refusal side n capacity message (near side w).state.end ≡ None) x.limits
-    (subst (λ (n : ℕ). refusal side (near side w).state.limit n message (near side w).state.end ≡ None) x.room free) in
+    let bounded : refusal side limit.most capacity message (near side w).state.end ≡ None =
+    subst (λ (n : Bounds). refusal side n.most capacity message (near side w).state.end ≡ None) x.limits
+    (subst (λ (n : ℕ). refusal side (near side w).state.limit.most n message (near side w).state.end ≡ None) x.room free) in
     record {
       id = a.id;
       answered = a.answered;
@@ -113,16 +114,16 @@ reason_is {A} None why result e a b = memory result e b
     memory (Err y) e b = cc
 reason_is (Some y) why result e a b = cc
 
-pub refused_at : (limit capacity : ℕ) (side : Side) (w v : Wired) (m : Machine) (message : Message) (why : PublishRefusal) (result : Result (Option ℕ) PublishRefusal) → Stands limit capacity w m → result ≡ Err why
-    → IfSome (refusal side (near side w).state.limit (near side w).state.capacity message (near side w).state.end) (λ y. result ≡ Err y)
-    → IfNone (refusal side (near side w).state.limit (near side w).state.capacity message (near side w).state.end) (IfErr result (λ y. y ≡ refusals.Memory))
+pub refused_at : (limit : Bounds) (capacity : ℕ) (side : Side) (w v : Wired) (m : Machine) (message : Message) (why : PublishRefusal) (result : Result (Option ℕ) PublishRefusal) → Stands limit capacity w m → result ≡ Err why
+    → IfSome (refusal side (near side w).state.limit.most (near side w).state.capacity message (near side w).state.end) (λ y. result ≡ Err y)
+    → IfNone (refusal side (near side w).state.limit.most (near side w).state.capacity message (near side w).state.end) (IfErr result (λ y. y ≡ refusals.Memory))
     → v ≡ w → IsRefused limit capacity side message why w v
 refused_at limit capacity side w v m message why result s e a b same =
     let x = (side_near limit capacity side w m s.carries) in
-    let own = reason_is (refusal side (near side w).state.limit (near side w).state.capacity message (near side w).state.end) why result e a b in
+    let own = reason_is (refusal side (near side w).state.limit.most (near side w).state.capacity message (near side w).state.end) why result e a b in
     record {
-      reason = own ∙ ap (λ (n : ℕ). reason_or_memory (refusal side n (near side w).state.capacity message (near side w).state.end)) x.limits
-          ∙ ap (λ (n : ℕ). reason_or_memory (refusal side limit n message (near side w).state.end)) x.room;
+      reason = own ∙ ap (λ (n : Bounds). reason_or_memory (refusal side n.most (near side w).state.capacity message (near side w).state.end)) x.limits
+          ∙ ap (λ (n : ℕ). reason_or_memory (refusal side limit.most n message (near side w).state.end)) x.room;
       same = same;
     }
 
@@ -135,9 +136,9 @@ no_reason None answer result e h = refl
 no_reason (Some y) answer result e h = let f : Ok answer ≡ Err y = sym e ∙ h in cc
 
 -- a message is accepted, where the end and the lists get clones of it
-pub published_at : OverBytes → (limit capacity : ℕ) (side : Side) (w v : Wired) (m : Machine) (message copy twin : Message) (answer : Option ℕ) (new : EndState) (out : List ℕ) → Stands limit capacity w m
+pub published_at : OverBytes → (limit : Bounds) (capacity : ℕ) (side : Side) (w v : Wired) (m : Machine) (message copy twin : Message) (answer : Option ℕ) (new : EndState) (out : List ℕ) → Stands limit capacity w m
     → copy ≡ message → twin ≡ message
-    → IfSome (refusal side (near side w).state.limit (near side w).state.capacity copy (near side w).state.end) (λ y. let r : Result (Option ℕ) PublishRefusal = Ok answer in r ≡ Err y)
+    → IfSome (refusal side (near side w).state.limit.most (near side w).state.capacity copy (near side w).state.end) (λ y. let r : Result (Option ℕ) PublishRefusal = Ok answer in r ≡ Err y)
     → Accepts answer copy (near side w).state new
     → (near side v).state ≡ written new → (near side v).clock ≡ (near side w).clock → (near side v).wire ≡ (near side w).wire
     → ((i : ℕ) → answer ≡ answered_identifier twin.qos i → (near side v).accepted ≡ accepted_with twin.qos i twin (near side w).accepted)
@@ -146,8 +147,8 @@ pub published_at : OverBytes → (limit capacity : ℕ) (side : Side) (w v : Wir
     → IsAccepted limit capacity side message answer w v
 published_at law limit capacity side w v m message copy twin answer new out s one two free accepts state clock wire accepted handed freed is more rest =
     let own = (near side w).state in
-    let none = no_reason (refusal side own.limit own.capacity copy own.end) answer (Ok answer) refl free in
-    let none_ = subst (λ (z : Message). refusal side own.limit own.capacity z own.end ≡ None) one none in
+    let none = no_reason (refusal side own.limit.most own.capacity copy own.end) answer (Ok answer) refl free in
+    let none_ = subst (λ (z : Message). refusal side own.limit.most own.capacity z own.end ≡ None) one none in
     let accepts_ = subst (λ (z : Message). Accepts answer z own new) one accepts in
     let accepted_ = subst (λ (z : Message). (i : ℕ) → answer ≡ answered_identifier z.qos i → (near side v).accepted ≡ accepted_with z.qos i z (near side w).accepted) two accepted in
     let other : far side v ≡ with_more new.output (far side w) = rest ∙ ap (λ (b : List ℕ). record (far side w) { wire = b }) (more ∙ ap (λ (b : List ℕ). (far side w).wire ++ b) is) in
@@ -156,7 +157,7 @@ published_at law limit capacity side w v m message copy twin answer new out s on
 
 -- ---- bytes that come
 
-ignored : (limit capacity : ℕ) (side : Side) (w v : Wired) (m : Machine) (left : List ℕ) (d : Delivery) (new : EndState) → Stands limit capacity w m
+ignored : (limit : Bounds) (capacity : ℕ) (side : Side) (w v : Wired) (m : Machine) (left : List ℕ) (d : Delivery) (new : EndState) → Stands limit capacity w m
     → new ≡ (near side w).state → (d.progress.happenings ≡ []) × (d.progress.acknowledged ≡ []) × (d.progress.closed ≡ None)
     → v ≡ facing side (hearing left new d.progress.happenings d.progress.acknowledged d.progress.closed (near side w)) (with_more new.output (far side w))
     → Ignores side left d w v
@@ -174,7 +175,7 @@ ignored limit capacity side w v m left d new s same none e =
     let two : with_more new.output (far side w) ≡ far side w = ap (λ (b : List ℕ). with_more b (far side w)) quiet ∙ no_more_bytes (far side w) in
     record { happenings = none.0; acknowledged = none.1; closed = none.2; world = e ∙ (λ i. facing side (one i) (two i)) }
 
-pub delivered_at : OverBytes → (limit capacity : ℕ) (side : Side) (w v : Wired) (m : Machine) (count : ℕ) (d : Delivery) (new : EndState) → Stands limit capacity w m
+pub delivered_at : OverBytes → (limit : Bounds) (capacity : ℕ) (side : Side) (w v : Wired) (m : Machine) (count : ℕ) (d : Delivery) (new : EndState) → Stands limit capacity w m
     → d.side ≡ side → d.bytes ≡ take count (near side w).wire
     → d.lost ≡ (not (is_live (near side w).state.end.state) && nat_lt 0 (length d.bytes))
     → (is_live (near side w).state.end.state ≡ true → ReceivesAt side d.bytes (near side w).state new d.progress.happenings d.progress.acknowledged d.progress.closed)
@@ -210,7 +211,7 @@ delivered_at law limit capacity side w v m count d new s to bytes lost live dead
     }
 
 -- bytes come, and each part of the world is as it says
-pub heard_at : OverBytes → (limit capacity : ℕ) (side : Side) (w v : Wired) (m : Machine) (count : ℕ) (d : Delivery) (piece : List ℕ) (new : EndState) (out : List ℕ) → Stands limit capacity w m
+pub heard_at : OverBytes → (limit : Bounds) (capacity : ℕ) (side : Side) (w v : Wired) (m : Machine) (count : ℕ) (d : Delivery) (piece : List ℕ) (new : EndState) (out : List ℕ) → Stands limit capacity w m
     → d.side ≡ side → d.bytes ≡ take count (near side w).wire → piece ≡ d.bytes
     → d.lost ≡ (not (is_live (near side w).state.end.state) && nat_lt 0 (length d.bytes))
     → (is_live (near side w).state.end.state ≡ true → ReceivesAt side piece (near side w).state new d.progress.happenings d.progress.acknowledged d.progress.closed)
@@ -251,7 +252,7 @@ on_err (Ok a) P e h = absurd (true_false e)
     true_false : true ≡ false → ⊥
     true_false e = cc
 
-pub lost_at : OverBytes → (limit capacity : ℕ) (side : Side) (w v : Wired) (was_open : Bool) (new : EndState) → was_open ≡ is_live (near side w).state.end.state
+pub lost_at : OverBytes → (limit : Bounds) (capacity : ℕ) (side : Side) (w v : Wired) (was_open : Bool) (new : EndState) → was_open ≡ is_live (near side w).state.end.state
     → new.end ≡ over (near side w).state.end → SameBounds (near side w).state new → new.moment ≡ (near side w).state.moment
     → v ≡ facing side (cut_off new (near side w)) (far side w) → IsLost limit capacity side was_open w v
 lost_at law limit capacity side w v was_open new is after bounds still e = record {
@@ -265,7 +266,7 @@ lost_at law limit capacity side w v was_open new is after bounds still e = recor
 true_not : (b : Bool) → b ≡ true → b ≡ false → ⊥
 true_not b e f = let g : true ≡ false = sym e ∙ f in cc
 
-pub opened_at : OverBytes → (limit capacity : ℕ) (w v : Wired) (o : Opening) (c s : EndState)
+pub opened_at : OverBytes → (limit : Bounds) (capacity : ℕ) (w v : Wired) (o : Opening) (c s : EndState)
     → o.client_dropped ≡ is_live w.client.state.end.state → o.server_dropped ≡ is_live w.server.state.end.state → o.refused ≡ false
     → c.end ≡ (connects first_packet w.client.state.end).end → PutsOut (packets.Connect first_packet ∷ []) [] c.output → c.held ≡ [] → SameBounds w.client.state c
     → s.end ≡ (opens w.server.state.end).end → s.held ≡ [] → SameBounds w.server.state s → c.moment ≡ w.client.clock → s.moment ≡ w.server.clock
@@ -279,7 +280,7 @@ opened_at law limit capacity w v o c s cd sd fine ce co ch cb se sh sb cm sm e =
   refused = λ said. absurd (true_not o.refused said fine);
 }
 
-pub refused_open : OverBytes → (limit capacity : ℕ) (w v : Wired) (o : Opening) (c s : EndState)
+pub refused_open : OverBytes → (limit : Bounds) (capacity : ℕ) (w v : Wired) (o : Opening) (c s : EndState)
     → o.client_dropped ≡ is_live w.client.state.end.state → o.server_dropped ≡ is_live w.server.state.end.state → o.refused ≡ true
     → c.end ≡ over w.client.state.end → SameBounds w.client.state c → s.end ≡ over w.server.state.end → SameBounds w.server.state s → c.moment ≡ w.client.state.moment → s.moment ≡ w.server.state.moment
     → v ≡ record { client = cut_off c w.client; server = cut_off s w.server } → IsOpened limit capacity o w v
@@ -297,30 +298,30 @@ refused_open law limit capacity w v o c s cd sd failed ce cb se sb cm sm e = rec
 }
 
 -- a new world
-pub new_at : OverBytes → (limit capacity : ℕ) (w : Wired) (c s : EndState) → 64 ≤ limit → c.end ≡ blank_end → c.limit ≡ limit → c.capacity ≡ capacity → s.end ≡ blank_end → s.limit ≡ limit → s.capacity ≡ capacity
+pub new_at : OverBytes → (limit : Bounds) (capacity : ℕ) (w : Wired) (c s : EndState) → 64 ≤ limit.most → c.end ≡ blank_end → c.limit ≡ limit → c.capacity ≡ capacity → s.end ≡ blank_end → s.limit ≡ limit → s.capacity ≡ capacity
     → w ≡ record { client = blank_side c; server = blank_side s } → Stands limit capacity w blank_machine
 new_at law limit capacity w c s large ce cl cc_ se sl sc e = subst (λ (u : Wired). Stands limit capacity u blank_machine) (sym e) (law.blank limit capacity c s large ce cl cc_ se sl sc)
 
 -- ---- one event after another
 
-stands_moved : (limit capacity : ℕ) (w v : Wired) (m : Machine) (moves : List Move) → Stands limit capacity w m → Moves limit capacity w moves v → (n : Machine) × Stands limit capacity v n
+stands_moved : (limit : Bounds) (capacity : ℕ) (w v : Wired) (m : Machine) (moves : List Move) → Stands limit capacity w m → Moves limit capacity w moves v → (n : Machine) × Stands limit capacity v n
 stands_moved limit capacity w v m moves s f = let g = f m s in (g.machine, g.stands)
 
 pub live_or_not : (b : Bool) (A : Type 0) → (b ≡ true → A) → (b ≡ false → A) → A
 live_or_not true A f g = f refl
 live_or_not false A f g = g refl
 
-pub stands_delivered : OverBytes → (limit capacity : ℕ) (side : Side) (w v : Wired) (m : Machine) (count : ℕ) (d : Delivery) → Stands limit capacity w m → IsDelivered limit capacity side count d w v → (n : Machine) × Stands limit capacity v n
+pub stands_delivered : OverBytes → (limit : Bounds) (capacity : ℕ) (side : Side) (w v : Wired) (m : Machine) (count : ℕ) (d : Delivery) → Stands limit capacity w m → IsDelivered limit capacity side count d w v → (n : Machine) × Stands limit capacity v n
 stands_delivered law limit capacity side w v m count d s h = live_or_not (is_live (near side w).state.end.state) ((n : Machine) × Stands limit capacity v n)
     (λ on. let g = (h.arrive on m s).follows in (g.machine, g.stands))
     (λ off. (m, subst (λ (u : Wired). Stands limit capacity u m) (sym (h.ignores off).world) (law.unheard limit capacity side w m (drop count (near side w).wire) s off)))
 
-pub stands_opened : (limit capacity : ℕ) (w v : Wired) (m : Machine) (o : Opening) → Stands limit capacity w m → IsOpened limit capacity o w v → (n : Machine) × Stands limit capacity v n
+pub stands_opened : (limit : Bounds) (capacity : ℕ) (w v : Wired) (m : Machine) (o : Opening) → Stands limit capacity w m → IsOpened limit capacity o w v → (n : Machine) × Stands limit capacity v n
 stands_opened limit capacity w v m o s h = live_or_not o.refused ((n : Machine) × Stands limit capacity v n)
     (λ said. stands_moved limit capacity w v m (By Client Drops ∷ By Server Drops ∷ []) s (h.refused said).2)
     (λ said. stands_moved limit capacity w v m (Opens ∷ []) s (h.opens said))
 
-pub stands_done : OverBytes → (limit capacity : ℕ) (event : Event) (answer : Answer) (w v : Wired) (m : Machine) → Stands limit capacity w m → Does limit capacity event answer w v → (n : Machine) × Stands limit capacity v n
+pub stands_done : OverBytes → (limit : Bounds) (capacity : ℕ) (event : Event) (answer : Answer) (w v : Wired) (m : Machine) → Stands limit capacity w m → Does limit capacity event answer w v → (n : Machine) × Stands limit capacity v n
 stands_done law limit capacity (events.Publish side message) (answers.Published at (Ok id)) w v m s h = stands_moved limit capacity w v m (By side (Publishes h.1.id message) ∷ []) s h.1.moves
 stands_done law limit capacity (events.Publish side message) (answers.Published at (Err why)) w v m s h = (m, subst (λ (u : Wired). Stands limit capacity u m) (sym h.1.same) s)
 stands_done law limit capacity (events.Publish side message) (answers.Delivered d) w v m s h = absurd h
@@ -371,20 +372,20 @@ stands_done law limit capacity (events.Tick side more) (answers.Opened o) w v m 
 stands_done law limit capacity (events.Tick side more) (answers.Settled o) w v m s h = absurd h
 
 -- an event more at the end
-pub leads_more : (limit capacity : ℕ) (es : List Event) (rest : List Answer) (e : Event) (a : Answer) (u v w : Wired) → Leads limit capacity es rest u v → Does limit capacity e a v w → Leads limit capacity (es ++ e ∷ []) (rest ++ a ∷ []) u w
+pub leads_more : (limit : Bounds) (capacity : ℕ) (es : List Event) (rest : List Answer) (e : Event) (a : Answer) (u v w : Wired) → Leads limit capacity es rest u v → Does limit capacity e a v w → Leads limit capacity (es ++ e ∷ []) (rest ++ a ∷ []) u w
 leads_more limit capacity [] [] e a u v w h d = (w, subst (λ (x : Wired). Does limit capacity e a x w) h d, refl)
 leads_more limit capacity (f ∷ es) (b ∷ rest) e a u v w h d = (h.0, h.1, leads_more limit capacity es rest e a h.0 v w h.2 d)
 leads_more limit capacity [] (b ∷ rest) e a u v w h d = absurd h
 leads_more limit capacity (f ∷ es) [] e a u v w h d = absurd h
 
 -- a side more at the end
-pub turn_more : (limit capacity : ℕ) (sides : List Side) (ds : List Delivery) (side : Side) (d : Delivery) (u v w : Wired) → InTurn limit capacity sides ds u v → IsDelivered limit capacity side (length (near side v).wire) d v w → InTurn limit capacity (sides ++ side ∷ []) (ds ++ d ∷ []) u w
+pub turn_more : (limit : Bounds) (capacity : ℕ) (sides : List Side) (ds : List Delivery) (side : Side) (d : Delivery) (u v w : Wired) → InTurn limit capacity sides ds u v → IsDelivered limit capacity side (length (near side v).wire) d v w → InTurn limit capacity (sides ++ side ∷ []) (ds ++ d ∷ []) u w
 turn_more limit capacity [] [] side d u v w h k = (w, subst (λ (x : Wired). IsDelivered limit capacity side (length (near side x).wire) d x w) h k, refl)
 turn_more limit capacity (s ∷ sides) (b ∷ ds) side d u v w h k = (h.0, h.1, turn_more limit capacity sides ds side d h.0 v w h.2 k)
 turn_more limit capacity [] (b ∷ ds) side d u v w h k = absurd h
 turn_more limit capacity (s ∷ sides) [] side d u v w h k = absurd h
 
-pub stands_turned : OverBytes → (limit capacity : ℕ) (sides : List Side) (ds : List Delivery) (u v : Wired) (m : Machine) → Stands limit capacity u m → InTurn limit capacity sides ds u v → (n : Machine) × Stands limit capacity v n
+pub stands_turned : OverBytes → (limit : Bounds) (capacity : ℕ) (sides : List Side) (ds : List Delivery) (u v : Wired) (m : Machine) → Stands limit capacity u m → InTurn limit capacity sides ds u v → (n : Machine) × Stands limit capacity v n
 stands_turned law limit capacity [] [] u v m s h = (m, subst (λ (x : Wired). Stands limit capacity x m) (sym h) s)
 stands_turned law limit capacity (side ∷ sides) (d ∷ ds) u v m s h =
     let g = stands_delivered law limit capacity side u h.0 m (length (near side u).wire) d s h.1 in
@@ -392,19 +393,19 @@ stands_turned law limit capacity (side ∷ sides) (d ∷ ds) u v m s h =
 stands_turned law limit capacity [] (d ∷ ds) u v m s h = absurd h
 stands_turned law limit capacity (side ∷ sides) [] u v m s h = absurd h
 
-pub turn_next : (limit capacity : ℕ) (sides : List Side) (k : ℕ) (ds : List Delivery) (side other : Side) (d : Delivery) (u v w : Wired) → k < length sides → side ≡ get_or sides k other
+pub turn_next : (limit : Bounds) (capacity : ℕ) (sides : List Side) (k : ℕ) (ds : List Delivery) (side other : Side) (d : Delivery) (u v w : Wired) → k < length sides → side ≡ get_or sides k other
     → InTurn limit capacity (take k sides) ds u v → IsDelivered limit capacity side (length (near side v).wire) d v w → InTurn limit capacity (take (k + 1) sides) (ds ++ d ∷ []) u w
 turn_next limit capacity sides k ds side other d u v w below at h come =
     let e : take (k + 1) sides ≡ take k sides ++ side ∷ [] = ap (λ n. take n sides) (add-one k) ∙ take-suc sides k other below ∙ ap (λ z. take k sides ++ z ∷ []) (sym at) in
     subst (λ (ss : List Side). InTurn limit capacity ss (ds ++ d ∷ []) u w) (sym e) (turn_more limit capacity (take k sides) ds side d u v w h come)
 
-pub leads_next : (limit capacity : ℕ) (es : List Event) (k : ℕ) (rest : List Answer) (e : Event) (a : Answer) (u v w : Wired) → k < length es → e ≡ get_or es k e
+pub leads_next : (limit : Bounds) (capacity : ℕ) (es : List Event) (k : ℕ) (rest : List Answer) (e : Event) (a : Answer) (u v w : Wired) → k < length es → e ≡ get_or es k e
     → Leads limit capacity (take k es) rest u v → Does limit capacity e a v w → Leads limit capacity (take (k + 1) es) (rest ++ a ∷ []) u w
 leads_next limit capacity es k rest e a u v w below at h come =
     let f : take (k + 1) es ≡ take k es ++ e ∷ [] = ap (λ n. take n es) (add-one k) ∙ take-suc es k e below ∙ ap (λ z. take k es ++ z ∷ []) (sym at) in
     subst (λ (ss : List Event). Leads limit capacity ss (rest ++ a ∷ []) u w) (sym f) (leads_more limit capacity (take k es) rest e a u v w h come)
 
-pub stands_settled : OverBytes → (limit capacity : ℕ) (w v : Wired) (m : Machine) (s : Settling) → Stands limit capacity w m → IsSettled limit capacity s w v → (n : Machine) × Stands limit capacity v n
+pub stands_settled : OverBytes → (limit : Bounds) (capacity : ℕ) (w v : Wired) (m : Machine) (s : Settling) → Stands limit capacity w m → IsSettled limit capacity s w v → (n : Machine) × Stands limit capacity v n
 stands_settled law limit capacity w v m s t h =
     let g = stands_opened limit capacity w h.between m s.opening t h.opened in
     let k = stands_turned law limit capacity (take 4 exchanges) (take 4 s.deliveries) h.between h.second g.0 g.1 h.exchanged_twice in

@@ -2,6 +2,7 @@
 use Rattle.std.specs.Prelude.{ℕ, ◌≡◌, ◌⊎◌, Bool, true, Option, None, Some, List, [], ◌∷◌, ◌++◌, replicate, nat_le}
 use Rattle.mq_packet.specs.declared.message.Message.{Message}
 use Rattle.mq_packet.specs.declared.packet.Packet.{Packet}
+use Rattle.mq_decode.specs.Limits.{Bounds}
 use Rattle.mq_decode.specs.Grammar.{Stream, Pending}
 use Rattle.mq_end.specs.declared.reason.CloseReason.{CloseReason}
 use Rattle.mq_end.specs.declared.reason.CloseReason.TheVariants as reasons
@@ -29,7 +30,7 @@ pub record Wired : Type 0 where
 
 -- A side carries that of the machine: the ends and the lists are the same, no byte waits to be written, and where there is a
 -- connection, the bytes held followed by those on their way spell the packets of the queue.
-pub record CarriesSide (limit capacity : ℕ) (x : WiredSide) (h : Half) : Type 0 where
+pub record CarriesSide (limit : Bounds) (capacity : ℕ) (x : WiredSide) (h : Half) : Type 0 where
   pub end : x.state.end ≡ h.end
   pub bytes : is_live h.end.state ≡ true → Stream limit h.coming (x.state.held ++ x.wire)
   pub output : x.state.output ≡ []
@@ -39,7 +40,7 @@ pub record CarriesSide (limit capacity : ℕ) (x : WiredSide) (h : Half) : Type 
   pub handed : x.handed ≡ h.handed
   pub freed : x.freed ≡ h.freed
 
-pub record Carries (limit capacity : ℕ) (w : Wired) (m : Machine) : Type 0 where
+pub record Carries (limit : Bounds) (capacity : ℕ) (w : Wired) (m : Machine) : Type 0 where
   pub client : CarriesSide limit capacity w.client m.client
   pub server : CarriesSide limit capacity w.server m.server
 
@@ -63,7 +64,7 @@ seen w = record { client = seen_side w.client; server = seen_side w.server }
 
 -- The packets that come with bytes: those that are whole now, all of them where the end does not close, else up to one at which it
 -- closes (4.6).
-pub record Comes (limit : ℕ) (b : List ℕ) (closed : Option CloseReason) (ps : List Packet) : Type 0 where
+pub record Comes (limit : Bounds) (b : List ℕ) (closed : Option CloseReason) (ps : List Packet) : Type 0 where
   pub front : List ℕ
   pub rest : List ℕ
   pub stream : Stream limit ps front

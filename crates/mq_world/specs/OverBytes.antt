@@ -4,6 +4,7 @@ use Rattle.mq_topic.specs.declared.qos.Qos.TheVariants.{Q0, Q1, Q2}
 use Rattle.mq_packet.specs.declared.message.Message.{Message}
 use Rattle.mq_packet.specs.declared.packet.Packet.{Packet}
 use Rattle.mq_packet.specs.declared.packet.Packet.TheVariants as packets
+use Rattle.mq_decode.specs.Limits.{Bounds}
 use Rattle.mq_decode.specs.declared.fault.DecodeFault.{DecodeFault}
 use Rattle.mq_end.specs.declared.happening.Happening.{Happening}
 use Rattle.mq_end.specs.declared.reason.CloseReason.{CloseReason}
@@ -25,15 +26,15 @@ use Rattle.mq_world.specs.Carries.{WiredSide, Wired, Carries, Reached, Comes, Ar
 -- ---- the world
 
 -- Ends with room for a new connection's CONNECT carry a machine that a run reaches.
-pub record Stands (limit capacity : ℕ) (w : Wired) (m : Machine) : Type 0 where
-  pub large : 64 ≤ limit
+pub record Stands (limit : Bounds) (capacity : ℕ) (w : Wired) (m : Machine) : Type 0 where
+  pub large : 64 ≤ limit.most
   pub carries : Carries limit capacity w m
-  pub reached : Reached limit capacity m
+  pub reached : Reached limit.most capacity m
 
 -- These moves lead to a machine that the world carries.
-pub record Follows (limit capacity : ℕ) (m : Machine) (moves : List Move) (w : Wired) : Type 0 where
+pub record Follows (limit : Bounds) (capacity : ℕ) (m : Machine) (moves : List Move) (w : Wired) : Type 0 where
   pub machine : Machine
-  pub run : Run limit capacity m moves machine
+  pub run : Run limit.most capacity m moves machine
   pub stands : Stands limit capacity w machine
 
 -- a side of the world
@@ -111,7 +112,7 @@ ReceivesAt side piece old new happenings acknowledged closed = (r : Reply)
     × Shows r old new happenings acknowledged closed
 
 -- Bytes came to a side: with them the first packets of the queue toward it, and the machine made as many arrivals.
-pub record Delivers (limit capacity : ℕ) (side : Side) (m : Machine) (b : List ℕ) (closed : Option CloseReason) (w : Wired) : Type 0 where
+pub record Delivers (limit : Bounds) (capacity : ℕ) (side : Side) (m : Machine) (b : List ℕ) (closed : Option CloseReason) (w : Wired) : Type 0 where
   pub packets : List Packet
   pub moves : List Move
   pub comes : Comes limit b closed packets
@@ -135,51 +136,51 @@ pub record Alike (x y : WiredSide) : Type 0 where
 -- The bytes of a world, cut anywhere, are a run of the machine.
 pub record OverBytes : Type 0 where
   -- a new world
-  pub blank : (limit capacity : ℕ) (c s : EndState) → 64 ≤ limit
+  pub blank : (limit : Bounds) (capacity : ℕ) (c s : EndState) → 64 ≤ limit.most
       → c.end ≡ blank_end → c.limit ≡ limit → c.capacity ≡ capacity
       → s.end ≡ blank_end → s.limit ≡ limit → s.capacity ≡ capacity
       → Stands limit capacity (record { client = blank_side c; server = blank_side s }) blank_machine
   -- worlds whose sides are alike
-  pub alike : (limit capacity : ℕ) (w v : Wired) (m : Machine) → Stands limit capacity w m
+  pub alike : (limit : Bounds) (capacity : ℕ) (w v : Wired) (m : Machine) → Stands limit capacity w m
       → Alike w.client v.client → Alike w.server v.server → Stands limit capacity v m
   -- what is on its way to a side without a connection doesn't matter
-  pub unheard : (limit capacity : ℕ) (side : Side) (w : Wired) (m : Machine) (left : List ℕ) → Stands limit capacity w m
+  pub unheard : (limit : Bounds) (capacity : ℕ) (side : Side) (w : Wired) (m : Machine) (left : List ℕ) → Stands limit capacity w m
       → is_live (near side w).state.end.state ≡ false
       → Stands limit capacity (facing side (record (near side w) { wire = left }) (far side w)) m
   -- bytes come to a side that has a connection
-  pub deliver : (limit capacity : ℕ) (side : Side) (w : Wired) (m : Machine) (piece left : List ℕ) (new : EndState) (happenings : List Happening) (acknowledged : List ℕ) (closed : Option CloseReason)
+  pub deliver : (limit : Bounds) (capacity : ℕ) (side : Side) (w : Wired) (m : Machine) (piece left : List ℕ) (new : EndState) (happenings : List Happening) (acknowledged : List ℕ) (closed : Option CloseReason)
       → Stands limit capacity w m → is_live (near side w).state.end.state ≡ true → (near side w).wire ≡ piece ++ left
       → ReceivesAt side piece (near side w).state new happenings acknowledged closed → SameBounds (near side w).state new
       → Delivers limit capacity side m ((near side w).state.held ++ piece) closed
       (facing side (hearing left new happenings acknowledged closed (near side w)) (with_more new.output (far side w)))
   -- the user of a side publishes a message, which is given this identifier where it has one
-  pub publish : (limit capacity : ℕ) (side : Side) (w : Wired) (m : Machine) (i : ℕ) (message : Message) (new : EndState)
-      → Stands limit capacity w m → refusal side limit capacity message (near side w).state.end ≡ None → MayHave (has_identifier message.qos) (near side w).state.end i
+  pub publish : (limit : Bounds) (capacity : ℕ) (side : Side) (w : Wired) (m : Machine) (i : ℕ) (message : Message) (new : EndState)
+      → Stands limit capacity w m → refusal side limit.most capacity message (near side w).state.end ≡ None → MayHave (has_identifier message.qos) (near side w).state.end i
       → new.end ≡ (publishes i message (near side w).state.end).end
       → PutsOut (publishes i message (near side w).state.end).out (near side w).state.output new.output
       → new.held ≡ (near side w).state.held → SameBounds (near side w).state new
       → Follows limit capacity m (By side (Publishes i message) ∷ []) (facing side (accepting i message new (near side w)) (with_more new.output (far side w)))
   -- the connection of a side is lost
-  pub drop : (limit capacity : ℕ) (side : Side) (w : Wired) (m : Machine) (new : EndState) → Stands limit capacity w m
+  pub drop : (limit : Bounds) (capacity : ℕ) (side : Side) (w : Wired) (m : Machine) (new : EndState) → Stands limit capacity w m
       → new.end ≡ over (near side w).state.end → SameBounds (near side w).state new
       → Follows limit capacity m (By side Drops ∷ []) (facing side (cut_off new (near side w)) (far side w))
   -- and that of both
-  pub drop_both : (limit capacity : ℕ) (w : Wired) (m : Machine) (c s : EndState) → Stands limit capacity w m
+  pub drop_both : (limit : Bounds) (capacity : ℕ) (w : Wired) (m : Machine) (c s : EndState) → Stands limit capacity w m
       → c.end ≡ over w.client.state.end → SameBounds w.client.state c
       → s.end ≡ over w.server.state.end → SameBounds w.server.state s
       → Follows limit capacity m (By Client Drops ∷ By Server Drops ∷ []) (record { client = cut_off c w.client; server = cut_off s w.server })
   -- a new connection is opened
-  pub opened : (limit capacity : ℕ) (w : Wired) (m : Machine) (c s : EndState) → Stands limit capacity w m
+  pub opened : (limit : Bounds) (capacity : ℕ) (w : Wired) (m : Machine) (c s : EndState) → Stands limit capacity w m
       → c.end ≡ (connects first_packet w.client.state.end).end → PutsOut (packets.Connect first_packet ∷ []) [] c.output → c.held ≡ [] → SameBounds w.client.state c
       → s.end ≡ (opens w.server.state.end).end → s.held ≡ [] → SameBounds w.server.state s
       → Follows limit capacity m (Opens ∷ []) (record { client = cut_off c w.client; server = with_more c.output (cut_off s w.server) })
   -- the client leaves
-  pub leave : (limit capacity : ℕ) (w : Wired) (m : Machine) (new : EndState) → Stands limit capacity w m → leave_refusal w.client.state.end ≡ None
+  pub leave : (limit : Bounds) (capacity : ℕ) (w : Wired) (m : Machine) (new : EndState) → Stands limit capacity w m → leave_refusal w.client.state.end ≡ None
       → new.end ≡ (leaves w.client.state.end).end → PutsOut (packets.Disconnect ∷ []) w.client.state.output new.output → SameBounds w.client.state new
       → Follows limit capacity m (By Client Leaves ∷ []) (record { client = cut_off new w.client; server = with_more new.output w.server })
   -- the client asks whether the server is there
-  pub ping : (limit capacity : ℕ) (w : Wired) (m : Machine) (new : EndState) → Stands limit capacity w m → is_up w.client.state.end.state ≡ true
+  pub ping : (limit : Bounds) (capacity : ℕ) (w : Wired) (m : Machine) (new : EndState) → Stands limit capacity w m → is_up w.client.state.end.state ≡ true
       → new.end ≡ w.client.state.end → PutsOut (packets.PingReq ∷ []) w.client.state.output new.output → new.held ≡ w.client.state.held → SameBounds w.client.state new
       → Follows limit capacity m (By Client Pings ∷ []) (record { client = record w.client { state = written new }; server = with_more new.output w.server })
   -- what every run keeps (4.3)
-  pub headline : (limit capacity : ℕ) (w : Wired) (m : Machine) → Stands limit capacity w m → Headline (seen w)
+  pub headline : (limit : Bounds) (capacity : ℕ) (w : Wired) (m : Machine) → Stands limit capacity w m → Headline (seen w)

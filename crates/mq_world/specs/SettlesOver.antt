@@ -1,5 +1,6 @@
 -- A new connection and three exchanges settle a world over bytes (4.4).
 use Rattle.std.specs.Prelude.{ℕ, ◌≡◌, ◌≢◌, true, false, Option, Some, List, [], ◌++◌}
+use Rattle.mq_decode.specs.Limits.{Bounds}
 use Rattle.mq_end.specs.declared.happening.Happening.{Happening}
 use Rattle.mq_end.specs.declared.reason.CloseReason.{CloseReason}
 use Rattle.mq_end.specs.declared.reason.CloseReason.TheVariants as reasons
@@ -37,15 +38,15 @@ pub record HoldsNothing (v : Wired) : Type 0 where
 -- The exchanges of a world over bytes are those of the machine.
 pub record SettlesOver : Type 0 where
   -- all the bytes on their way to a side that has a connection come to it, and its memory does not run out
-  pub deliver_all : (limit capacity : ℕ) (side : Side) (w : Wired) (m : Machine) (new : EndState) (happenings : List Happening) (acknowledged : List ℕ) (closed : Option CloseReason)
+  pub deliver_all : (limit : Bounds) (capacity : ℕ) (side : Side) (w : Wired) (m : Machine) (new : EndState) (happenings : List Happening) (acknowledged : List ℕ) (closed : Option CloseReason)
       → Stands limit capacity w m → is_live (near side w).state.end.state ≡ true
       → ReceivesAt side (near side w).wire (near side w).state new happenings acknowledged closed → SameBounds (near side w).state new
       → closed ≢ Some reasons.Memory
       → Stands limit capacity (facing side (hearing [] new happenings acknowledged closed (near side w)) (with_more new.output (far side w))) (delivered side m)
   -- all the bytes on their way to a side without a connection are lost
-  pub lose_all : (limit capacity : ℕ) (side : Side) (w : Wired) (m : Machine) → Stands limit capacity w m
+  pub lose_all : (limit : Bounds) (capacity : ℕ) (side : Side) (w : Wired) (m : Machine) → Stands limit capacity w m
       → is_live (near side w).state.end.state ≡ false
       → Stands limit capacity (facing side (record (near side w) { wire = [] }) (far side w)) (delivered side m)
   -- what the third exchange after a new connection leaves, and what the second
-  pub settles : (limit capacity : ℕ) (w v : Wired) (m : Machine) → Stands limit capacity w m → Stands limit capacity v (settled m) → SettledFrom w v
-  pub second : (limit capacity : ℕ) (w v : Wired) (m : Machine) → Stands limit capacity w m → Stands limit capacity v (exchange (exchange (after m Opens))) → HoldsNothing v
+  pub settles : (limit : Bounds) (capacity : ℕ) (w v : Wired) (m : Machine) → Stands limit capacity w m → Stands limit capacity v (settled m) → SettledFrom w v
+  pub second : (limit : Bounds) (capacity : ℕ) (w v : Wired) (m : Machine) → Stands limit capacity w m → Stands limit capacity v (exchange (exchange (after m Opens))) → HoldsNothing v

@@ -1,6 +1,7 @@
 -- A world: two ends over bytes, what came of each event, and what it leads to.
 use Rattle.std.specs.Prelude.{ℕ, ◌≡◌, ◌≢◌, ◌↔◌, Bool, true, false, not, ◌&&◌, Option, None, Some, Ok, Err, List, [], ◌∷◌, ◌++◌, length, take, drop, nat_lt, All, IsTrue}
 use Rattle.mq_packet.specs.declared.message.Message.{Message}
+use Rattle.mq_decode.specs.Limits.{Bounds}
 use Rattle.mq_end.specs.declared.reason.CloseReason.{CloseReason}
 use Rattle.mq_end.specs.declared.reason.CloseReason.TheVariants as reasons
 use Rattle.mq_flow.specs.Sender.{IsFirstFree}
@@ -27,17 +28,17 @@ use Rattle.mq_world.specs.OverBytes.{Stands, Follows, Delivers, ReceivesAt, Same
 use Rattle.mq_world.specs.SettlesOver.{HoldsNothing}
 use Rattle.mq_world.specs.Time.{SameTime, SameTimes, HearsIn, BeginsNow, later, time_closes, time_moves, time_moment, time_out}
 
--- What contracts see of a world: its sides, the bound on the remaining length (2.2.3), the most packet identifiers in use at a side
+-- What contracts see of a world: its sides, the bounds on what is read and published (2.2.3), the most packet identifiers in use at a side
 -- (2.3.1), whether memory ran out, and what came of the events so far, the oldest first.
 pub record WorldState : Type 0 where
   pub wired : Wired
-  pub limit : ℕ
+  pub limit : Bounds
   pub capacity : ℕ
   pub failed : Bool
   pub answers : List Answer
 
 -- a new world: no session, no connection, no byte on its way, nothing accepted or handed on
-pub record IsNew (limit capacity : ℕ) (w : Wired) : Type 0 where
+pub record IsNew (limit : Bounds) (capacity : ℕ) (w : Wired) : Type 0 where
   pub stands : Stands limit capacity w blank_machine
   pub client_clock : w.client.clock ≡ 0
   pub server_clock : w.server.clock ≡ 0
@@ -45,14 +46,14 @@ pub record IsNew (limit capacity : ℕ) (w : Wired) : Type 0 where
   pub to_server : w.server.wire ≡ []
 
 -- whatever machine a world carries, these moves of it lead to one that another world carries
-abbrev pub Moves : ℕ → ℕ → Wired → List Move → Wired → Type 0
+abbrev pub Moves : Bounds → ℕ → Wired → List Move → Wired → Type 0
 Moves limit capacity old moves new = (m : Machine) → Stands limit capacity old m → Follows limit capacity m moves new
 
 -- ---- what comes of an event
 
 -- A message is accepted, with the first identifier that is free after the last one given where it has one (2.3.1, 4.3). Its PUBLISH goes on
 -- its way where the side is up; nothing else changes on either wire.
-pub record IsAccepted (limit capacity : ℕ) (side : Side) (m : Message) (answer : Option ℕ) (old new : Wired) : Type 0 where
+pub record IsAccepted (limit : Bounds) (capacity : ℕ) (side : Side) (m : Message) (answer : Option ℕ) (old new : Wired) : Type 0 where
   pub id : ℕ
   pub answered : answer ≡ answered_identifier m.qos id
   pub first : has_identifier m.qos ≡ true → IsFirstFree (near side old).state.end.last (near side old).state.end.book id
@@ -67,8 +68,8 @@ reason_or_memory None = refusals.Memory
 reason_or_memory (Some why) = why
 
 -- It is refused, and nothing changes.
-pub record IsRefused (limit capacity : ℕ) (side : Side) (m : Message) (why : PublishRefusal) (old new : Wired) : Type 0 where
-  pub reason : why ≡ reason_or_memory (refusal side limit capacity m (near side old).state.end)
+pub record IsRefused (limit : Bounds) (capacity : ℕ) (side : Side) (m : Message) (why : PublishRefusal) (old new : Wired) : Type 0 where
+  pub reason : why ≡ reason_or_memory (refusal side limit.most capacity m (near side old).state.end)
   pub same : new ≡ old
 
 -- The end of a side that has a connection receives the bytes: the world after it.
@@ -88,7 +89,7 @@ pub record Ignores (side : Side) (left : List ℕ) (d : Delivery) (old new : Wir
   pub world : new ≡ facing side (record (near side old) { wire = left }) (far side old)
 
 -- So many bytes come to a side, or all that are on their way to it where they are fewer (4.2, 4.6).
-pub record IsDelivered (limit capacity : ℕ) (side : Side) (count : ℕ) (d : Delivery) (old new : Wired) : Type 0 where
+pub record IsDelivered (limit : Bounds) (capacity : ℕ) (side : Side) (count : ℕ) (d : Delivery) (old new : Wired) : Type 0 where
   pub to : d.side ≡ side
   pub bytes : d.bytes ≡ take count (near side old).wire
   -- they are no longer on their way, and an end that closes leaves nothing there
@@ -104,7 +105,7 @@ pub record IsDelivered (limit capacity : ℕ) (side : Side) (count : ℕ) (d : D
   pub ignores : is_live (near side old).state.end.state ≡ false → Ignores side (drop count (near side old).wire) d old new
 
 -- The connection of a side is lost, and the bytes on their way to it (4.2). The other side is as it was, also what is on its way to it.
-pub record IsLost (limit capacity : ℕ) (side : Side) (was_open : Bool) (old new : Wired) : Type 0 where
+pub record IsLost (limit : Bounds) (capacity : ℕ) (side : Side) (was_open : Bool) (old new : Wired) : Type 0 where
   pub said : was_open ≡ is_live (near side old).state.end.state
   pub wire : (near side new).wire ≡ []
   pub other : far side new ≡ far side old
@@ -112,7 +113,7 @@ pub record IsLost (limit capacity : ℕ) (side : Side) (was_open : Bool) (old ne
   pub moves : Moves limit capacity old (By side Drops ∷ []) new
 
 -- A connection is opened (3.1), earlier ones are lost; where memory runs out for CONNECT, both ends are closed.
-pub record IsOpened (limit capacity : ℕ) (o : Opening) (old new : Wired) : Type 0 where
+pub record IsOpened (limit : Bounds) (capacity : ℕ) (o : Opening) (old new : Wired) : Type 0 where
   pub client_dropped : o.client_dropped ≡ is_live old.client.state.end.state
   pub server_dropped : o.server_dropped ≡ is_live old.server.state.end.state
   pub to_client : new.client.wire ≡ []
@@ -121,7 +122,7 @@ pub record IsOpened (limit capacity : ℕ) (o : Opening) (old new : Wired) : Typ
   pub refused : o.refused ≡ true → (new.server.wire ≡ []) × SameTimes old new × Moves limit capacity old (By Client Drops ∷ By Server Drops ∷ []) new
 
 -- The user of the client leaves: DISCONNECT goes on its way, and what was on its way to the client is lost (3.14, 4.2).
-pub record IsLeft (limit capacity : ℕ) (old new : Wired) : Type 0 where
+pub record IsLeft (limit : Bounds) (capacity : ℕ) (old new : Wired) : Type 0 where
   pub allowed : leave_refusal old.client.state.end ≡ None
   pub wire : new.client.wire ≡ []
   pub out : PutsOut (leaves old.client.state.end).out old.server.wire new.server.wire
@@ -134,7 +135,7 @@ pub record IsNotLeft (why : PublishRefusal) (old new : Wired) : Type 0 where
   pub same : new ≡ old
 
 -- The clock of a side goes on, and its end is told the time: it closes, or puts out PINGREQ, or does nothing (3.1.2.10).
-pub record IsTold (limit capacity : ℕ) (side : Side) (more : ℕ) (closed : Option CloseReason) (old new : Wired) : Type 0 where
+pub record IsTold (limit : Bounds) (capacity : ℕ) (side : Side) (more : ℕ) (closed : Option CloseReason) (old new : Wired) : Type 0 where
   pub clock : (near side new).clock ≡ later (near side old).clock more
   pub closes : closed ≡ time_closes side (later (near side old).clock more) (near side old).state
   pub moment : (near side new).state.moment ≡ time_moment side (later (near side old).clock more) (near side old).state
@@ -151,7 +152,7 @@ pub record IsNotTold (side : Side) (more : ℕ) (why : PublishRefusal) (old new 
   pub world : new ≡ record old { client = record old.client { clock = later old.client.clock more } }
 
 -- What comes of an event, by the event and its answer.
-abbrev pub Does : ℕ → ℕ → Event → Answer → Wired → Wired → Type 0
+abbrev pub Does : Bounds → ℕ → Event → Answer → Wired → Wired → Type 0
 Does limit capacity (events.Publish side m) (answers.Published at (Ok id)) old new = (at ≡ side) × IsAccepted limit capacity side m id old new
 Does limit capacity (events.Publish side m) (answers.Published at (Err why)) old new = (at ≡ side) × IsRefused limit capacity side m why old new
 Does limit capacity (events.Deliver side count) (answers.Delivered d) old new = IsDelivered limit capacity side count d old new
@@ -164,7 +165,7 @@ Does limit capacity (events.Tick side more) (answers.Ticked at (Err why)) old ne
 Does limit capacity event answer old new = ⊥
 
 -- Events come one after another, each with its answer.
-abbrev pub Leads : ℕ → ℕ → List Event → List Answer → Wired → Wired → Type 0
+abbrev pub Leads : Bounds → ℕ → List Event → List Answer → Wired → Wired → Type 0
 Leads limit capacity [] [] old new = new ≡ old
 Leads limit capacity (e ∷ es) (a ∷ rest) old new = (mid : Wired) × Does limit capacity e a old mid × Leads limit capacity es rest mid new
 Leads limit capacity [] (a ∷ rest) old new = ⊥
@@ -173,7 +174,7 @@ Leads limit capacity (e ∷ es) [] old new = ⊥
 -- ---- settling
 
 -- All bytes that are on their way to each of these sides come, one side after another.
-abbrev pub InTurn : ℕ → ℕ → List Side → List Delivery → Wired → Wired → Type 0
+abbrev pub InTurn : Bounds → ℕ → List Side → List Delivery → Wired → Wired → Type 0
 InTurn limit capacity [] [] old new = new ≡ old
 InTurn limit capacity (side ∷ sides) (d ∷ rest) old new = (mid : Wired) × IsDelivered limit capacity side (length (near side old).wire) d old mid × InTurn limit capacity sides rest mid new
 InTurn limit capacity [] (d ∷ rest) old new = ⊥
@@ -193,7 +194,7 @@ MetNoWant (answers.Settled s) = (s.opening.refused ≡ false) × All (λ d. d.pr
 MetNoWant answer = ⊥
 
 -- A connection is opened, and three exchanges follow (4.4).
-pub record IsSettled (limit capacity : ℕ) (s : Settling) (old new : Wired) : Type 0 where
+pub record IsSettled (limit : Bounds) (capacity : ℕ) (s : Settling) (old new : Wired) : Type 0 where
   -- the worlds after the opening and after the second exchange
   pub between : Wired
   pub second : Wired
@@ -206,6 +207,6 @@ pub record IsSettled (limit capacity : ℕ) (s : Settling) (old new : Wired) : T
   pub idle : IsTrue s.idle ↔ (IsIdle new.client.state.end × (new.server.state.end.known ≡ true → IsIdle new.server.state.end))
 
 -- what comes of settling, by its answer
-abbrev pub Settles : ℕ → ℕ → Answer → Wired → Wired → Type 0
+abbrev pub Settles : Bounds → ℕ → Answer → Wired → Wired → Type 0
 Settles limit capacity (answers.Settled s) old new = IsSettled limit capacity s old new
 Settles limit capacity answer old new = ⊥

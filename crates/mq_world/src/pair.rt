@@ -1,6 +1,7 @@
 //! Two ends that are joined by two wires of bytes, and what they do at each event.
 
 ghost use Rattle.std.specs.Prelude.{◌≡◌, ◌++◌, ◌↔◌, ◌&&◌, ℕ, true, false, not, nat_lt, take, drop, length, OnOk, OnErr, IfOk, IsTrue};
+ghost use Rattle.mq_decode.specs.Limits.{Bounds};
 ghost use Rattle.mq_end.specs.End.{is_live};
 ghost use Rattle.mq_end.specs.Publishing.{connect_of};
 ghost use Rattle.mq_world.specs.Machine.{Machine, first_packet};
@@ -44,7 +45,7 @@ pub(crate) struct Pair {
 impl Pair {
     // The user of the client publishes a message.
     fn publish_at_client(&mut self, message: &Message) -> Result<Answer, AllocError>
-        ensures does { IfOk result (λ answer. (limit capacity : ℕ) (m : Machine) → Stands limit capacity (wired_of self.old) m
+        ensures does { IfOk result (λ answer. (limit : Bounds) (capacity : ℕ) (m : Machine) → Stands limit capacity (wired_of self.old) m
             → Does limit capacity (Event.Publish Side.Client message.now) answer (wired_of self.old) (wired_of self.new)) }
         ensures config { self.new.client.config ≡ self.old.client.config }
         ensures answers { self.new.trace.answers ≡ self.old.trace.answers }
@@ -63,7 +64,7 @@ impl Pair {
 
     // The user of the server publishes a message.
     fn publish_at_server(&mut self, message: &Message) -> Result<Answer, AllocError>
-        ensures does { IfOk result (λ answer. (limit capacity : ℕ) (m : Machine) → Stands limit capacity (wired_of self.old) m
+        ensures does { IfOk result (λ answer. (limit : Bounds) (capacity : ℕ) (m : Machine) → Stands limit capacity (wired_of self.old) m
             → Does limit capacity (Event.Publish Side.Server message.now) answer (wired_of self.old) (wired_of self.new)) }
         ensures config { self.new.client.config ≡ self.old.client.config }
         ensures answers { self.new.trace.answers ≡ self.old.trace.answers }
@@ -82,7 +83,7 @@ impl Pair {
 
     // So many bytes come to the client, or all that are on their way to it where they are fewer.
     fn deliver_to_client(&mut self, count: usize) -> Result<Delivery, AllocError>
-        ensures delivered { IfOk result (λ delivery. (limit capacity : ℕ) (m : Machine) → Stands limit capacity (wired_of self.old) m
+        ensures delivered { IfOk result (λ delivery. (limit : Bounds) (capacity : ℕ) (m : Machine) → Stands limit capacity (wired_of self.old) m
             → IsDelivered limit capacity Side.Client count delivery (wired_of self.old) (wired_of self.new)) }
         ensures config { self.new.client.config ≡ self.old.client.config }
         ensures answers { self.new.trace.answers ≡ self.old.trace.answers }
@@ -106,7 +107,7 @@ impl Pair {
 
     // So many bytes come to the server, or all that are on their way to it where they are fewer.
     fn deliver_to_server(&mut self, count: usize) -> Result<Delivery, AllocError>
-        ensures delivered { IfOk result (λ delivery. (limit capacity : ℕ) (m : Machine) → Stands limit capacity (wired_of self.old) m
+        ensures delivered { IfOk result (λ delivery. (limit : Bounds) (capacity : ℕ) (m : Machine) → Stands limit capacity (wired_of self.old) m
             → IsDelivered limit capacity Side.Server count delivery (wired_of self.old) (wired_of self.new)) }
         ensures config { self.new.client.config ≡ self.old.client.config }
         ensures answers { self.new.trace.answers ≡ self.old.trace.answers }
@@ -130,7 +131,7 @@ impl Pair {
 
     // So many bytes come to a side, or all that are on their way to it where they are fewer.
     fn deliver(&mut self, side: Side, count: usize) -> Result<Delivery, AllocError>
-        ensures delivered { IfOk result (λ delivery. (limit capacity : ℕ) (m : Machine) → Stands limit capacity (wired_of self.old) m
+        ensures delivered { IfOk result (λ delivery. (limit : Bounds) (capacity : ℕ) (m : Machine) → Stands limit capacity (wired_of self.old) m
             → IsDelivered limit capacity side count delivery (wired_of self.old) (wired_of self.new)) }
         ensures config { self.new.client.config ≡ self.old.client.config }
         ensures answers { self.new.trace.answers ≡ self.old.trace.answers }
@@ -143,7 +144,7 @@ impl Pair {
 
     // All bytes that are on their way to a side come to it.
     fn deliver_all(&mut self, side: Side) -> Result<Delivery, AllocError>
-        ensures delivered { IfOk result (λ delivery. (limit capacity : ℕ) (m : Machine) → Stands limit capacity (wired_of self.old) m
+        ensures delivered { IfOk result (λ delivery. (limit : Bounds) (capacity : ℕ) (m : Machine) → Stands limit capacity (wired_of self.old) m
             → IsDelivered limit capacity side (length (near side (wired_of self.old)).wire) delivery (wired_of self.old) (wired_of self.new)) }
         ensures config { self.new.client.config ≡ self.old.client.config }
         ensures answers { self.new.trace.answers ≡ self.old.trace.answers }
@@ -162,7 +163,7 @@ impl Pair {
 
     // The connection of a side is lost, and what is on its way to it.
     fn lose(&mut self, side: Side) -> Answer
-        ensures does { (limit capacity : ℕ) (m : Machine) → Stands limit capacity (wired_of self.old) m
+        ensures does { (limit : Bounds) (capacity : ℕ) (m : Machine) → Stands limit capacity (wired_of self.old) m
             → Does limit capacity (Event.Drop side) result (wired_of self.old) (wired_of self.new) }
         ensures config { self.new.client.config ≡ self.old.client.config }
         ensures answers { self.new.trace.answers ≡ self.old.trace.answers }
@@ -186,7 +187,7 @@ impl Pair {
 
     // The user of the client leaves.
     fn leave(&mut self) -> Result<Answer, AllocError>
-        ensures does { IfOk result (λ answer. (limit capacity : ℕ) (m : Machine) → Stands limit capacity (wired_of self.old) m
+        ensures does { IfOk result (λ answer. (limit : Bounds) (capacity : ℕ) (m : Machine) → Stands limit capacity (wired_of self.old) m
             → Does limit capacity Event.Leave answer (wired_of self.old) (wired_of self.new)) }
         ensures config { self.new.client.config ≡ self.old.client.config }
         ensures answers { self.new.trace.answers ≡ self.old.trace.answers }
@@ -203,7 +204,7 @@ impl Pair {
 
     // The clock of the client goes on.
     fn tick_client(&mut self, more: u64) -> Result<Answer, AllocError>
-        ensures does { IfOk result (λ answer. (limit capacity : ℕ) (m : Machine) → Stands limit capacity (wired_of self.old) m
+        ensures does { IfOk result (λ answer. (limit : Bounds) (capacity : ℕ) (m : Machine) → Stands limit capacity (wired_of self.old) m
             → Does limit capacity (Event.Tick Side.Client more) answer (wired_of self.old) (wired_of self.new)) }
         ensures config { self.new.client.config ≡ self.old.client.config }
         ensures answers { self.new.trace.answers ≡ self.old.trace.answers }
@@ -220,7 +221,7 @@ impl Pair {
 
     // The clock of the server goes on.
     fn tick_server(&mut self, more: u64) -> Answer
-        ensures does { (limit capacity : ℕ) (m : Machine) → Stands limit capacity (wired_of self.old) m
+        ensures does { (limit : Bounds) (capacity : ℕ) (m : Machine) → Stands limit capacity (wired_of self.old) m
             → Does limit capacity (Event.Tick Side.Server more) result (wired_of self.old) (wired_of self.new) }
         ensures config { self.new.client.config ≡ self.old.client.config }
         ensures answers { self.new.trace.answers ≡ self.old.trace.answers }
@@ -235,7 +236,7 @@ impl Pair {
     // The client opens a new connection.
     fn open(&mut self) -> Opening
         requires config { connect_of self.old.client.config false ≡ first_packet }
-        ensures opened { (limit capacity : ℕ) (m : Machine) → Stands limit capacity (wired_of self.old) m
+        ensures opened { (limit : Bounds) (capacity : ℕ) (m : Machine) → Stands limit capacity (wired_of self.old) m
             → IsOpened limit capacity result (wired_of self.old) (wired_of self.new) }
         ensures config { self.new.client.config ≡ self.old.client.config }
         ensures answers { self.new.trace.answers ≡ self.old.trace.answers }
@@ -266,7 +267,7 @@ impl Pair {
     /// Makes an event.
     pub(crate) fn make(&mut self, event: &Event) -> Result<Answer, AllocError>
         requires config { connect_of self.old.client.config false ≡ first_packet }
-        ensures does { IfOk result (λ answer. (limit capacity : ℕ) (m : Machine) → Stands limit capacity (wired_of self.old) m
+        ensures does { IfOk result (λ answer. (limit : Bounds) (capacity : ℕ) (m : Machine) → Stands limit capacity (wired_of self.old) m
             → Does limit capacity event.now answer (wired_of self.old) (wired_of self.new)) }
         ensures config { self.new.client.config ≡ self.old.client.config }
         ensures answers { self.new.trace.answers ≡ self.old.trace.answers }
@@ -287,9 +288,9 @@ impl Pair {
     /// way to the client.
     pub(crate) fn settle(&mut self) -> Result<Settling, AllocError>
         requires config { connect_of self.old.client.config false ≡ first_packet }
-        ensures settled { IfOk result (λ s. (limit capacity : ℕ) (m : Machine) → Stands limit capacity (wired_of self.old) m
+        ensures settled { IfOk result (λ s. (limit : Bounds) (capacity : ℕ) (m : Machine) → Stands limit capacity (wired_of self.old) m
             → IsSettled limit capacity s (wired_of self.old) (wired_of self.new)) }
-        ensures left { IfOk result (λ s. (limit capacity : ℕ) (m : Machine) → Stands limit capacity (wired_of self.old) m
+        ensures left { IfOk result (λ s. (limit : Bounds) (capacity : ℕ) (m : Machine) → Stands limit capacity (wired_of self.old) m
             → MetNoWant (Answer.Settled s) → SettledFrom (wired_of self.old) (wired_of self.new)) }
         ensures config { self.new.client.config ≡ self.old.client.config }
         ensures answers { self.new.trace.answers ≡ self.old.trace.answers }

@@ -20,7 +20,7 @@ fn perform_over_file(rt: &HostRuntime, job: &Job<'_>) -> io::Result<u8> {
 fn perform_into<W: Write>(rt: &HostRuntime, job: &Job<'_>, output: &mut W) -> io::Result<u8> {
     let alloc = rt.alloc();
     match job {
-        Job::Check { file } | Job::Replay { file } => match File::open(rt, *file) {
+        Job::Check { file, .. } | Job::Replay { file } => match File::open(rt, *file) {
             Ok(file) => perform(alloc, job, &mut BufReader::new(alloc, file)?, output),
             Err(_) => file_not_read(output),
         },

@@ -13,7 +13,7 @@ pub loop-size-preserved : goal.loop-size-preserved
 loop-size-preserved g c =
     let taken = rw c.in-Ok-Some.field-0-is at c.in-Ok-Some.ensures.size in
     let added = rw c.in_ok-start.ensures.ok_part at c.checked_add.ensures in
-    let sum : c.in_ok-start.start ≡ c.loop-size.start + c.in-Ok-Some.size = added.1 ∙ ap (λ n. c.loop-size.start + n) c.from.ensures in
+    let sum : c.in_ok-start.start ≡ c.loop-size.start + c.in-Ok-Some.size = added.1 in
     let some : 0 < length taken.1 = c.reads_again.ensures.some c.args.limits taken.0 taken.1 taken.2 in
     record {
       counted = one_more c.args.limits (g.R.Read.remaining c.args.reader.now) (g.R.Read.remaining c.loop-size.reader) (g.R.Read.remaining c.read_size.new.reader) c.loop-size.packets c.loop-size.start c.in-Ok-Some.size c.in_ok-start.start c.loop-size.invariant.counted taken sum;

@@ -7,11 +7,10 @@ use Rattle.mq_cli.proofs.output.show.Goals as goal
 
 pub returns-in-Ok : goal.returns-in-Ok
 returns-in-Ok g c =
-    let limit = rw c.unwrap-limits.ensures at c.new.ensures.value in
-    shown_done c.unwrap-limits.result c.args.hex.now c.in-Ok.shown c.write_shown.result (g.W.Write.contents c.args.output.now) (g.W.Write.contents c.write_shown.new.output) limit c.in-Ok.ensures.shows c.write_shown.ensures.status
+    shown_done c.args.lenient c.widest.result c.args.hex.now c.in-Ok.shown c.write_shown.result (g.W.Write.contents c.args.output.now) (g.W.Write.contents c.write_shown.new.output) c.widest.ensures c.in-Ok.ensures.shows c.write_shown.ensures.status
     c.write_shown.ensures.printed
 
 pub returns-in-Err-BadHex : goal.returns-in-Err-BadHex
 returns-in-Err-BadHex g c =
     let bad : ¬ IsHexadecimal c.args.hex.now = search rules in
-    printed_one c.bad_hex.result 2 (g.W.Write.contents c.args.output.now) (g.W.Write.contents c.bad_hex.new.output) bad_hex (IsShowDone c.args.hex.now) c.bad_hex.ensures.status c.bad_hex.ensures.printed (inr (inl (refl, refl, bad)))
+    printed_one c.bad_hex.result 2 (g.W.Write.contents c.args.output.now) (g.W.Write.contents c.bad_hex.new.output) bad_hex (IsShowDone c.args.lenient c.args.hex.now) c.bad_hex.ensures.status c.bad_hex.ensures.printed (inr (inl (refl, refl, bad)))

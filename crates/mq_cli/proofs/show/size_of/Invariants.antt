@@ -1,6 +1,7 @@
-use Rattle.std.proofs.Common.{◌≡◌, ℕ, List, length, take}
+use Rattle.std.proofs.Common.{◌≡◌, ℕ, List, ◌++◌, length, take}
 use Rattle.mq_decode.specs.Grammar.{Stream}
 use Rattle.mq_cli.proofs.show.size_of.Given as goal
 
+-- the bytes that the packets so far are read of
 abbrev pub invariant-loop-packet : goal.invariant-loop-packet
-invariant-loop-packet l = (front : List ℕ) → Stream l.fn.limits (take l.packet-index l.packets) front → length front ≡ l.size
+invariant-loop-packet l = (front rest : List ℕ) → Stream l.fn.limits (take l._packet-index l.packets) front → l.bytes ≡ front ++ rest → length front ≡ l.size

@@ -2,6 +2,7 @@ use Rattle.std.proofs.Common.{ℕ, List, subst, ◌∙◌, arith}
 use Rattle.std.proofs.lemmas.List.{take_all}
 use Rattle.std.proofs.lemmas.Result.{err_from_is_err_and}
 use Rattle.std.specs.Int.NonZero.{non_zero_u16_get}
+use Rattle.mq_decode.specs.Limits.{Bounds}
 use Rattle.mq_schedule.specs.declared.schedule.Step.{Step}
 use Rattle.mq_replay.specs.Replay.{StepDoes}
 use Rattle.mq_replay.proofs.Leading.{IsMade, all_made, cut_made, next_made}
@@ -17,7 +18,7 @@ loop-step-preserved g c =
     let e = c.step-item.result in
     let d = c.in_ok-advance.ensures.does in
     let at = rw c.deref-step-items.ensures.value at c.step-item.is in
-    let does = subst (λ (z : ℕ). StepDoes z n e d.0 v.wired c.advance.new.world.wired) i.limit_is (subst (λ (z : ℕ). StepDoes v.limit z e d.0 v.wired c.advance.new.world.wired) i.capacity_is d.1) in
+    let does = subst (λ (z : Bounds). StepDoes z n e d.0 v.wired c.advance.new.world.wired) i.limit_is (subst (λ (z : ℕ). StepDoes v.limit z e d.0 v.wired c.advance.new.world.wired) i.capacity_is d.1) in
     record {
       made = next_made s.limits n s.steps.items c.loop-step.step-index e d.0 c.args.world.now.wired v.wired c.advance.new.world.wired (w c.args.output.now) (w c.loop-step.output) (w c.advance.new.output)
           (omega arith) at i.made does d.2;

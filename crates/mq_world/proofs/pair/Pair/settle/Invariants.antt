@@ -1,4 +1,5 @@
 use Rattle.std.proofs.Common.{◌≡◌, ℕ, take}
+use Rattle.mq_decode.specs.Limits.{Bounds}
 use Rattle.mq_world.specs.Machine.{Machine}
 use Rattle.mq_world.specs.OverBytes.{Stands}
 use Rattle.mq_world.specs.Pairs.{wired_of}
@@ -7,7 +8,7 @@ use Rattle.mq_world.proofs.pair.Pair.settle.Given as goal
 
 abbrev pub invariant-loop-side : goal.invariant-loop-side
 invariant-loop-side l = record {
-  turns : (limit capacity : ℕ) (m : Machine) → Stands limit capacity (wired_of l.initial.self) m
+  turns : (limit : Bounds) (capacity : ℕ) (m : Machine) → Stands limit capacity (wired_of l.initial.self) m
       → InTurn limit capacity (take l.side-index exchanges) l.deliveries.items (wired_of l.initial.self) (wired_of l.self);
   config : l.self.client.config ≡ l.initial.self.client.config;
   answers : l.self.trace.answers ≡ l.initial.self.trace.answers;

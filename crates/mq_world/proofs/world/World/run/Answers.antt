@@ -1,5 +1,6 @@
 use Rattle.std.proofs.Common.{ℕ, ◌+◌, List, take, sym, subst, ◌∙◌, arith}
 use Rattle.std.proofs.lemmas.List.{take_all}
+use Rattle.mq_decode.specs.Limits.{Bounds}
 use Rattle.mq_world.specs.declared.event.Event.{Event}
 use Rattle.mq_world.specs.declared.answer.Answer.{Answer}
 use Rattle.mq_world.specs.World.{Does, Leads}
@@ -13,7 +14,7 @@ loop-event-preserved c =
     let v = c.step.new.self in
     let a = c.in_ok-step.field-0 in
     let e = c.event-item.result in
-    let d = subst (λ (n : ℕ). Does n c.args.capacity e a w.wired v.wired) i.limit (subst (λ (n : ℕ). Does w.limit n e a w.wired v.wired) i.capacity c.in_ok-step.ensures.does) in
+    let d = subst (λ (n : Bounds). Does n c.args.capacity e a w.wired v.wired) i.limit (subst (λ (n : ℕ). Does w.limit n e a w.wired v.wired) i.capacity c.in_ok-step.ensures.does) in
     record {
       leads = subst (λ (rest : List Answer). Leads c.args.limits c.args.capacity (take (c.loop-event.event-index + 1) c.args.events.now) rest c.in_ok-world.world.wired v.wired) (sym c.in_ok-step.ensures.answers)
           (leads_next c.args.limits c.args.capacity c.args.events.now c.loop-event.event-index w.answers e a c.in_ok-world.world.wired w.wired v.wired (omega arith) c.event-item.is i.leads d);

@@ -2,7 +2,7 @@ use Rattle.std.proofs.Common.{ℕ, List, ◌≤◌, length, subst, arith}
 use Rattle.std.proofs.lemmas.Result.{err_from_is_err_and}
 use Rattle.mq_decode.specs.Grammar.{Wants}
 use Rattle.mq_decode.proofs.Readers.{stops_at, whole_taken, consumes_then}
-use Rattle.mq_decode.proofs.read.read_one.Goals as goal
+use Rattle.mq_decode.proofs.read.read_sized.Goals as goal
 
 pub returns-in_err-count-clause-err : goal.returns-in_err-count-clause-err
 returns-in_err-count-clause-err g c =
@@ -16,7 +16,7 @@ returns-in-Ok-Some-clause-packet g c =
     let found = rw c.in-Ok-Some.field-0-is at c.in-Ok-Some.ensures.front in
     let wants : Wants c.args.limits c.loop-buffer.buffer.items c.wanted.result = subst (λ (b : List ℕ). Wants c.args.limits b c.wanted.result) c.deref.ensures.value c.wanted.ensures.exact in
     let few : length read.0 ≤ c.wanted.result = omega (arith, read.1, c.in_ok-count.ensures.most, c.min-most.ensures) in
-    (c.fill.new.buffer.items, whole_taken c.args.limits c.loop-buffer.buffer.items c.fill.new.buffer.items read.0 c.wanted.result c.in-Ok-Some.found.1 c.in-Ok-Some.found.0 wants c.loop-buffer.invariant.pending few read.2 found, taken)
+    (c.fill.new.buffer.items, whole_taken c.args.limits c.loop-buffer.buffer.items c.fill.new.buffer.items read.0 c.wanted.result c.in-Ok-Some.found.1 c.in-Ok-Some.found.0 wants c.loop-buffer.invariant.pending few read.2 found, taken, omega (arith, c.len-size.ensures, c.fill.new.buffer.ok.0))
 
 pub returns-in-Err-clause-err : goal.returns-in-Err-clause-err
 returns-in-Err-clause-err g c =

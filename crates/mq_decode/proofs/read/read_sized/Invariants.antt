@@ -1,7 +1,7 @@
 use Rattle.std.proofs.Common.{◌+◌, ◌-◌, length}
 use Rattle.std.specs.Io.KnownBytes.{Consumes}
 use Rattle.mq_decode.specs.Grammar.{Pending}
-use Rattle.mq_decode.proofs.read.read_one.Given as goal
+use Rattle.mq_decode.proofs.read.read_sized.Given as goal
 
 abbrev pub invariant-loop-buffer : goal.invariant-loop-buffer
 invariant-loop-buffer g l = record {
@@ -10,4 +10,4 @@ invariant-loop-buffer g l = record {
 }
 
 abbrev pub decreases-loop-buffer : goal.decreases-loop-buffer
-decreases-loop-buffer g l = 6 + l.limits - length l.buffer.items
+decreases-loop-buffer g l = 6 + l.limits.most - length l.buffer.items

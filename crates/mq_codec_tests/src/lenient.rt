@@ -1,0 +1,80 @@
+//! Remaining lengths with more bytes than they need.
+
+use mq_decode::FaultKind::{LengthOverlong, LengthTooLong};
+use mq_decode::{
+    DecodeError, DecodeFault, FaultKind, Limits, decode_pieces, packet_len, read_sized,
+};
+use std::alloc::Global;
+use std::process::Abort;
+use std::test::Fail;
+
+// How many packets pieces have, or their fault.
+fn outcome(alloc: Global, limits: Limits, pieces: &[&[u8]]) -> Result<usize, Option<DecodeFault>> {
+    let mut out = Vec::new(alloc);
+    match decode_pieces(alloc, limits, pieces, &mut out) {
+        Ok(_) => Ok(out.len()),
+        Err(DecodeError::Fault(fault)) => Err(Some(fault)),
+        Err(DecodeError::Memory) => Err(None),
+    }
+}
+
+// The same comes of the bytes as a whole and in two pieces.
+fn expect(
+    rt: &impl Abort,
+    alloc: Global,
+    limits: Limits,
+    bytes: &[u8],
+    expected: Result<usize, (FaultKind, usize)>,
+) {
+    let expected = expected.map_err(|(kind, place)| Some(DecodeFault { kind, place }));
+    let answer = outcome(alloc, limits, &[bytes]);
+    assert!(rt; answer == expected, "{bytes:?} {answer:?}");
+    for at in 0..bytes.len() {
+        let (front, back) = bytes.split_at(at);
+        let answer = outcome(alloc, limits, &[front, back]);
+        assert!(rt; answer == expected, "{bytes:?} at {at} {answer:?}");
+    }
+}
+
+#[test]
+fn lenient_limits_take_a_last_byte_of_0(rt: HostRuntime) -> Result<(), Fail> {
+    let strict = Limits::new(64).ok_or("no limits")?;
+    let lenient = Limits::lenient(64).ok_or("no limits")?;
+    for (bytes, without, with) in [
+        (b"\xc0\x80\x00".as_slice(), Err((LengthOverlong, 2)), Ok(1)),
+        (b"\xc0\x80\x80\x80\x00", Err((LengthOverlong, 4)), Ok(1)),
+        (b"\x62\x82\x00\x00\x01", Err((LengthOverlong, 2)), Ok(1)),
+        (b"\xc0\x00\xc0\x80\x00\xc0", Err((LengthOverlong, 2)), Ok(2)),
+        (b"\xc0\x00", Ok(1), Ok(1)),
+        (
+            b"\xc0\x80\x80\x80\x80\x00",
+            Err((LengthTooLong, 4)),
+            Err((LengthTooLong, 4)),
+        ),
+    ] {
+        expect(&rt, rt.alloc(), strict, bytes, without);
+        expect(&rt, rt.alloc(), lenient, bytes, with);
+    }
+    Ok(())
+}
+
+#[test]
+fn bytes_are_counted_as_they_are_read(rt: HostRuntime) -> Result<(), Fail> {
+    let strict = Limits::new(64).ok_or("no limits")?;
+    let lenient = Limits::lenient(64).ok_or("no limits")?;
+    let bytes = b"\x62\x82\x00\x00\x01\xc0\x00".as_slice();
+    assert_eq!(rt; packet_len(lenient, bytes), Some(5));
+    assert_eq!(rt; packet_len(strict, bytes), None);
+    assert_eq!(rt; packet_len(strict, b"\x30\x05"), Some(7));
+    let mut reader = bytes;
+    for size in [5, 2] {
+        match read_sized(rt.alloc(), &mut reader, lenient) {
+            Ok(Some((_, read))) => assert_eq!(rt; read, size),
+            _ => return Err("no packet".into()),
+        }
+    }
+    assert!(rt; reader.is_empty());
+    assert_eq!(rt; Limits::lenient(63), None);
+    assert_eq!(rt; Limits::lenient(268_435_456), None);
+    Ok(())
+}

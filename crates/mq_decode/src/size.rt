@@ -1,0 +1,31 @@
+//! How many bytes a packet takes, as its header says.
+
+ghost use Rattle.std.specs.Prelude.{◌≡◌, ◌++◌, ℕ, List, Some, length};
+ghost use Rattle.mq_packet.specs.declared.packet.Packet.{Packet};
+ghost use Rattle.mq_decode.specs.Front.{header_at, len_told};
+ghost use Rattle.mq_decode.specs.Grammar.{ReadsWithin};
+
+use crate::header::header_at;
+use crate::limits::Limits;
+use mq_wire::{length_laws, number_laws, text_laws};
+
+fn len_told(limits: Limits, bytes: &[u8]) -> Option<usize>
+    ensures { result ≡ len_told (header_at limits bytes.now) }
+{
+    match header_at(limits, bytes) {
+        Ok(Some(header)) => Some(header.start + header.size),
+        _ => None,
+    }
+}
+
+/// How many bytes the packet at the front takes (2.2), `None` where no header stands there. Its fields
+/// are not looked at. It takes no memory.
+pub fn packet_len(limits: Limits, bytes: &[u8]) -> Option<usize>
+    ensures { (p : Packet) (s rest : List ℕ) → ReadsWithin limits p s → bytes.now ≡ s ++ rest
+        → result ≡ Some (length s) }
+{
+    number_laws();
+    text_laws();
+    length_laws();
+    len_told(limits, bytes)
+}

@@ -1,0 +1,74 @@
+//! `show` and `check` with `--lenient`.
+
+use mq_cli::{Job, job, perform};
+use std::io;
+use std::test::Fail;
+
+#[test]
+fn shows_lengths_with_more_bytes_than_they_need(rt: HostRuntime) -> Result<(), Fail> {
+    let alloc = rt.alloc();
+    for (hex, status, printed) in [
+        ("c08000", 0, "PINGREQ\n"),
+        ("c080808000", 0, "PINGREQ\n"),
+        ("c08080808000", 1, "fault F5 at 4 in packet at 0\n"),
+        ("6282000001", 0, "PUBREL id=1\n"),
+        (
+            "c080006281000000",
+            1,
+            "PINGREQ\nfault F8 at 1 in packet at 3\n",
+        ),
+    ] {
+        let mut output = Vec::new(alloc);
+        let job = Job::Show { hex, lenient: true };
+        let answer = perform(alloc, &job, &mut io::empty(), &mut output)?;
+        assert_eq!(rt;
+            output.as_slice(),
+            printed.as_bytes(),
+            "show --lenient {hex}"
+        );
+        assert_eq!(rt; answer, status, "show --lenient {hex}");
+    }
+    Ok(())
+}
+
+#[test]
+fn checks_lengths_with_more_bytes_than_they_need(rt: HostRuntime) -> Result<(), Fail> {
+    let alloc = rt.alloc();
+    for (bytes, status, printed) in [
+        (b"\xc0\x80\x00".as_slice(), 0, "packets 1\n"),
+        (
+            b"\xc0\x80\x00\xc0\x01",
+            1,
+            "packets 1\nfault F8 at 1 in packet at 3\n",
+        ),
+    ] {
+        let mut output = Vec::new(alloc);
+        let mut input = bytes;
+        let job = Job::Check {
+            file: "a file",
+            lenient: true,
+        };
+        let answer = perform(alloc, &job, &mut input, &mut output)?;
+        assert_eq!(rt;
+            output.as_slice(),
+            printed.as_bytes(),
+            "check --lenient {bytes:?}"
+        );
+        assert_eq!(rt; answer, status, "check --lenient {bytes:?}");
+    }
+    Ok(())
+}
+
+#[test]
+fn reads_the_flag(rt: HostRuntime) {
+    for words in [
+        ["mqtt", "show", "--lenient", "c000"],
+        ["mqtt", "show", "c000", "--lenient"],
+    ] {
+        let read = job(rt.alloc(), &words);
+        assert!(rt; matches!(read, Ok(Job::Show { hex, lenient: true }) if hex == "c000"));
+    }
+    let words = ["mqtt", "check", "--lenient", "a.bin"];
+    let read = job(rt.alloc(), &words);
+    assert!(rt; matches!(read, Ok(Job::Check { file, lenient: true }) if file == "a.bin"));
+}
