@@ -37,7 +37,7 @@ impl Link {
         if publish_size(message) > self.limits.max_packet() as usize {
             return Some(PublishRefusal::TooLarge);
         }
-        if kept && self.session.sender.room() == 0 {
+        if kept && self.session.sender.left() == 0 {
             return Some(PublishRefusal::Full);
         }
         None

@@ -63,7 +63,7 @@ impl Link {
         if too_large {
             return Some(PublishRefusal::TooLarge);
         }
-        if self.session.sender.room() == 0 {
+        if self.session.sender.left() == 0 {
             return Some(PublishRefusal::Full);
         }
         None

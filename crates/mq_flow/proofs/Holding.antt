@@ -204,7 +204,7 @@ pub under_append : (ps : List (ℕ × Held)) (i : ℕ) (h : Held) → id_in h �
 under_append [] i h e u = (e, tt)
 under_append (p ∷ ps) i h e u = (u.0, under_append ps i h e u.1)
 
-id_gone : (h : Held) → id_in (gone_out h) ≡ id_in h
+pub id_gone : (h : Held) → id_in (gone_out h) ≡ id_in h
 id_gone (Waiting e) = refl
 id_gone (Released r) = refl
 

@@ -49,10 +49,6 @@ uses_keys ps cs u i = let t = times_uses i (book_of ps cs) in let k = times_keys
 pub length_used : (ps : List (ℕ × Held)) (cs : List Claimed) → length (uses (book_of ps cs)) ≡ length ps + length cs
 length_used ps cs = let u = length_uses (book_of ps cs) in let p = both_kinds ps in omega arith
 
--- they are few
-pub few_pairs : (capacity last : ℕ) (ps : List (ℕ × Held)) (cs : List Claimed) → Keeps (record { book = book_of ps cs; capacity = capacity; last = last }) → length ps < 65536
-few_pairs capacity last ps cs k = let w = k.sound.within in let m = k.most in let u = length_used ps cs in omega arith
-
 -- an identifier that is free is not in the table
 pub free_absent : (i : ℕ) (ps : List (ℕ × Held)) (cs : List Claimed) → AreUnder ps → times i (uses (book_of ps cs)) ≡ 0 → lookup (eqb i) ps ≡ None
 free_absent i ps cs u z = let t = uses_keys ps cs u i in nothing (lookup (eqb i) ps) (found_keys i ps ∙ le-ltb 0 (times i (keys_of ps)) (omega arith))
@@ -122,7 +118,7 @@ table_sent ps cs = λ t. record { entries = messages_gone ps t; released = relea
 -- ---- the moves
 
 -- a message is accepted
-pub keeps_accept : (s : Sending) (i : ℕ) (message : Message) (sent : Bool) → Keeps s → is_full s.capacity s.book ≡ false → IsFree s.book i → (message.qos ≡ Q0 → ⊥) → Keeps (record { book = accept i message sent s.book; capacity = s.capacity; last = i })
+pub keeps_accept : (s : Sending) (i : ℕ) (message : Message) (sent : Bool) → Keeps s → is_full s.capacity s.book ≡ false → IsFree s.book i → (message.qos ≡ Q0 → ⊥) → Keeps (record s { book = accept i message sent s.book; last = i })
 keeps_accept s i message sent k room free acknowledged = record {
   sound = laws.accepts s.capacity i message sent s.book room free k.sound;
   able = k.able;
@@ -133,7 +129,7 @@ keeps_accept s i message sent k room free acknowledged = record {
     not_zero : (message : Message) → (message.qos ≡ Q0 → ⊥) → same_qos Q0 message.qos ≡ false
     not_zero message n = elim message.qos as (λ q. (q ≡ Q0 → ⊥) → same_qos Q0 q ≡ false) [ Q0 ↦ λ h. absurd (h refl) | Q1 ↦ λ h. refl | Q2 ↦ λ h. refl ] n
 
-pub keeps_claim : (s : Sending) (i : ℕ) (kind : Claim) (count : ℕ) → Keeps s → is_full s.capacity s.book ≡ false → IsFree s.book i → Keeps (record { book = claim i kind count s.book; capacity = s.capacity; last = i })
+pub keeps_claim : (s : Sending) (i : ℕ) (kind : Claim) (count : ℕ) → Keeps s → is_full s.capacity s.book ≡ false → IsFree s.book i → Keeps (record s { book = claim i kind count s.book; last = i })
 keeps_claim s i kind count k room free = record {
   sound = laws.claims s.capacity i kind count s.book room free k.sound;
   able = k.able;

@@ -1,4 +1,5 @@
 pub mod Tables
+pub mod Slots
 pub mod Counting
 pub mod Ascending
 pub mod Books

@@ -110,6 +110,7 @@ receiver_again r rest each =
 pub record SenderTaken (limit : ℕ) (bytes : List ℕ) (s : Sending) (rest : List ℕ) : Type 0 where
   pub takes : Takes bytes (saved_sender s) rest
   pub unclaimed : s.book.claimed ≡ []
+  pub unreserved : s.room ≡ 0
   pub sound : IsSound s.capacity s.book
   pub able : 0 < s.capacity
   pub most : s.capacity ≤ 65535
@@ -176,18 +177,19 @@ book_found limit capacity bytes x h e =
 pub sender_found : (limit : ℕ) → (bytes : List ℕ) (x : Sending × List ℕ) → AreBytes bytes → sender_at limit bytes ≡ Ok x → SenderTaken limit bytes x.0 x.1
 unfolding sender_at
 sender_found limit bytes x h e =
-    let c = bind_ok (capacity_at bytes) (λ capacity. number_at capacity.1 >>= λ last. book_at limit capacity.0 last.1 >>= λ book. Ok (record { book = book.0; capacity = capacity.0; last = last.0 }, book.1)) x e in
+    let c = bind_ok (capacity_at bytes) (λ capacity. number_at capacity.1 >>= λ last. book_at limit capacity.0 last.1 >>= λ book. Ok (record { book = book.0; capacity = capacity.0; last = last.0; room = 0 }, book.1)) x e in
     let first = capacity_found bytes c.0 h c.1 in
     after_capacity c.0.0 c.0.1 first.0 first.1 first.2 c.2
   where
     whole : (capacity last : ℕ) (front behind : List ℕ) (b : SenderBook) (rest : List ℕ) → Takes bytes (number capacity) front → 0 < capacity → capacity < 65536 → Takes front (number last) behind → last < 65536
-        → BookPart limit capacity behind b rest → SenderTaken limit bytes (record { book = b; capacity = capacity; last = last }) rest
+        → BookPart limit capacity behind b rest → SenderTaken limit bytes (record { book = b; capacity = capacity; last = last; room = 0 }) rest
     whole capacity last front behind b rest first able most second small part =
         let body : SenderBook → List ℕ = λ k. number (length k.entries) ++ (flat_map saved_entry k.entries ++ saved_ids k.released) in
         let text : Takes behind (body b) rest = subst (λ (k : SenderBook). Takes behind (body k) rest) (sym part.book) part.takes in
         record {
           takes = Takes-then (number capacity) (number last ++ body b) first (Takes-then (number last) (body b) second text);
           unclaimed = ap (λ (k : SenderBook). k.claimed) part.book;
+          unreserved = refl;
           sound = part.sound;
           able = able;
           most = omega arith;
@@ -196,17 +198,17 @@ sender_found limit bytes x h e =
         }
 
     after_last : (capacity last : ℕ) (front behind : List ℕ) → Takes bytes (number capacity) front → 0 < capacity → capacity < 65536 → Takes front (number last) behind → last < 65536
-        → (book_at limit capacity behind >>= λ book. Ok (record { book = book.0; capacity = capacity; last = last }, book.1)) ≡ Ok x → SenderTaken limit bytes x.0 x.1
+        → (book_at limit capacity behind >>= λ book. Ok (record { book = book.0; capacity = capacity; last = last; room = 0 }, book.1)) ≡ Ok x → SenderTaken limit bytes x.0 x.1
     after_last capacity last front behind first able most second small read =
-        let b = bind_ok (book_at limit capacity behind) (λ book. Ok (record { book = book.0; capacity = capacity; last = last }, book.1)) x read in
-        let made : Sending × List ℕ = (record { book = b.0.0; capacity = capacity; last = last }, b.0.1) in
+        let b = bind_ok (book_at limit capacity behind) (λ book. Ok (record { book = book.0; capacity = capacity; last = last; room = 0 }, book.1)) x read in
+        let made : Sending × List ℕ = (record { book = b.0.0; capacity = capacity; last = last; room = 0 }, b.0.1) in
         subst (λ (y : Sending × List ℕ). SenderTaken limit bytes y.0 y.1) (ok_is made x b.2)
         (whole capacity last front behind b.0.0 b.0.1 first able most second small (book_found limit capacity behind b.0 second.rest_bytes b.1))
 
     after_capacity : (capacity : ℕ) (front : List ℕ) → Takes bytes (number capacity) front → 0 < capacity → capacity < 65536
-        → (number_at front >>= λ last. book_at limit capacity last.1 >>= λ book. Ok (record { book = book.0; capacity = capacity; last = last.0 }, book.1)) ≡ Ok x → SenderTaken limit bytes x.0 x.1
+        → (number_at front >>= λ last. book_at limit capacity last.1 >>= λ book. Ok (record { book = book.0; capacity = capacity; last = last.0; room = 0 }, book.1)) ≡ Ok x → SenderTaken limit bytes x.0 x.1
     after_capacity capacity front first able most read =
-        let l = bind_ok (number_at front) (λ last. book_at limit capacity last.1 >>= λ book. Ok (record { book = book.0; capacity = capacity; last = last.0 }, book.1)) x read in
+        let l = bind_ok (number_at front) (λ last. book_at limit capacity last.1 >>= λ book. Ok (record { book = book.0; capacity = capacity; last = last.0; room = 0 }, book.1)) x read in
         let second = number_found front l.0 first.rest_bytes l.1 in
         after_last capacity l.0.0 front l.0.1 first able most second.0 second.1 l.2
 
@@ -234,16 +236,16 @@ book_again limit c es ids rest s each =
     ) refl
 
 made_again : (limit : ℕ) → (capacity last : ℕ) (es : List Entry) (ids rest : List ℕ) → 0 < capacity → IsSound capacity (made_book es ids) → AllByRecursion (IsKept limit) es
-    → sender_at limit (saved_sender (record { book = made_book es ids; capacity = capacity; last = last }) ++ rest) ≡ Ok (record { book = made_book es ids; capacity = capacity; last = last }, rest)
+    → sender_at limit (saved_sender (record { book = made_book es ids; capacity = capacity; last = last; room = 0 }) ++ rest) ≡ Ok (record { book = made_book es ids; capacity = capacity; last = last; room = 0 }, rest)
 unfolding sender_at
 made_again limit capacity last es ids rest able s each =
     let text = number (length es) ++ (flat_map saved_entry es ++ (number (length ids) ++ (flat_map number ids ++ rest))) in
-    let regrouped : saved_sender (record { book = made_book es ids; capacity = capacity; last = last }) ++ rest ≡ number capacity ++ (number last ++ text) =
+    let regrouped : saved_sender (record { book = made_book es ids; capacity = capacity; last = last; room = 0 }) ++ rest ≡ number capacity ++ (number last ++ text) =
     ap (λ (t : List ℕ). number capacity ++ (number last ++ (number (length es) ++ t))) (append_assoc (flat_map saved_entry es) (saved_ids ids) rest) in
     rw (regrouped, capacity_again capacity (number last ++ text) able, number_again last text, book_again limit capacity es ids rest s each) refl
 
-pub sender_again : (limit : ℕ) → (s : Sending) (rest : List ℕ) → s.book.claimed ≡ [] → 0 < s.capacity → IsSound s.capacity s.book → AllByRecursion (IsKept limit) s.book.entries → sender_at limit (saved_sender s ++ rest) ≡ Ok (s, rest)
-sender_again limit s rest unclaimed able sound each =
+pub sender_again : (limit : ℕ) → (s : Sending) (rest : List ℕ) → s.book.claimed ≡ [] → s.room ≡ 0 → 0 < s.capacity → IsSound s.capacity s.book → AllByRecursion (IsKept limit) s.book.entries → sender_at limit (saved_sender s ++ rest) ≡ Ok (s, rest)
+sender_again limit s rest unclaimed unreserved able sound each =
     let same : s.book ≡ made_book s.book.entries s.book.released = ap (λ (cs : List Claimed). record s.book { claimed = cs }) unclaimed in
-    let P : SenderBook → Type 0 = λ b. sender_at limit (saved_sender (record s { book = b }) ++ rest) ≡ Ok (record s { book = b }, rest) in
-    subst P (sym same) (made_again limit s.capacity s.last s.book.entries s.book.released rest able (subst (IsSound s.capacity) same sound) each)
+    let P : SenderBook → ℕ → Type 0 = λ b n. sender_at limit (saved_sender (record s { book = b }) ++ rest) ≡ Ok (record s { book = b; room = n }, rest) in
+    subst (λ (n : ℕ). P s.book n) (sym unreserved) (subst (λ (b : SenderBook). P b 0) (sym same) (made_again limit s.capacity s.last s.book.entries s.book.released rest able (subst (IsSound s.capacity) same sound) each))

@@ -24,6 +24,7 @@ end_found (b ∷ bytes) u e = absurd cc
 record SessionTaken (limit : ℕ) (bytes : List ℕ) (s : Session) : Type 0 where
   pub text : bytes ≡ saved_sender s.sender ++ saved_receiver s.receiver
   pub unclaimed : s.sender.book.claimed ≡ []
+  pub unreserved : s.sender.room ≡ 0
   pub is : IsSessionWithin limit s
 
 session_found : (limit : ℕ) → (bytes : List ℕ) (s : Session) → AreBytes bytes → session_at limit bytes ≡ Ok s → SessionTaken limit bytes s
@@ -42,13 +43,14 @@ session_found limit bytes s h e =
     whole t behind r rest first second received none = record {
       text = first.takes.parts ∙ ap (λ (b : List ℕ). saved_sender t ++ b) (second.parts ∙ ap (λ (b : List ℕ). saved_receiver r ++ b) none ∙ append-nil (saved_receiver r));
       unclaimed = first.unclaimed;
+      unreserved = first.unreserved;
       is = record { sound = first.sound; able = first.able; most = first.most; last = first.last; entries = first.entries; received = received };
     }
 
-session_again : (limit : ℕ) → (s : Session) → IsSessionWithin limit s → s.sender.book.claimed ≡ [] → session_at limit (saved_sender s.sender ++ saved_receiver s.receiver) ≡ Ok s
+session_again : (limit : ℕ) → (s : Session) → IsSessionWithin limit s → s.sender.book.claimed ≡ [] → s.sender.room ≡ 0 → session_at limit (saved_sender s.sender ++ saved_receiver s.receiver) ≡ Ok s
 unfolding session_at
-session_again limit s is unclaimed =
-    let first = sender_again limit s.sender (saved_receiver s.receiver) unclaimed is.able is.sound is.entries in
+session_again limit s is unclaimed unreserved =
+    let first = sender_again limit s.sender (saved_receiver s.receiver) unclaimed unreserved is.able is.sound is.entries in
     let second : receiver_at (saved_receiver s.receiver) ≡ Ok (s.receiver, []) = ap receiver_at (sym (append-nil (saved_receiver s.receiver))) ∙ receiver_again s.receiver [] is.received in
     rw (first, second) refl
 
@@ -95,20 +97,20 @@ found b s h e =
       | true ↦ λ version e.
           let text = version_found b version in
           let taken = session_found 268435455 (drop 4 b) s (AreBytes-rest signature (drop 4 b) (subst AreBytes text h)) (placed_ok (length b) (session_at 268435455 (drop 4 b)) s e) in
-          (record { unclaimed = taken.unclaimed; form = text ∙ ap (λ (t : List ℕ). signature ++ t) taken.text }, taken.is)
+          (record { unclaimed = taken.unclaimed; unreserved = taken.unreserved; form = text ∙ ap (λ (t : List ℕ). signature ++ t) taken.text }, taken.is)
       | false ↦ λ _ e. absurd cc
     ] refl e
 
-again : (s : Session) → IsSession s → s.sender.book.claimed ≡ [] → read_session (saved_form s) ≡ Ok s
+again : (s : Session) → IsSession s → s.sender.book.claimed ≡ [] → s.sender.room ≡ 0 → read_session (saved_form s) ≡ Ok s
 unfolding read_session
-again s is unclaimed = ap (placed (length (saved_form s))) (session_again 268435455 s is unclaimed)
+again s is unclaimed unreserved = ap (placed (length (saved_form s))) (session_again 268435455 s is unclaimed unreserved)
 
 pub laws : SavedLaws
 laws = record {
   again = again;
   found = found;
   one = λ limit b s t is it p q. same s t
-      (sym (session_again limit s is p.unclaimed) ∙ ap (session_at limit) (ap (drop 4) (sym p.form ∙ q.form)) ∙ session_again limit t it q.unclaimed);
+      (sym (session_again limit s is p.unclaimed p.unreserved) ∙ ap (session_at limit) (ap (drop 4) (sym p.form ∙ q.form)) ∙ session_again limit t it q.unclaimed q.unreserved);
 }
   where
     same : (s t : Session) → ◌≡◌ {A = Result Session ℕ} (Ok s) (Ok t) → s ≡ t
@@ -121,7 +123,7 @@ loads_saved (Ok s) bytes h e = found bytes s h e
 loads_saved (Err e) bytes h l = tt
 
 pub loads_session : (r : Result Session LoadError) (bytes : List ℕ) → Loads r (read_session bytes) → (s : Session) → IsSession s → Saved s bytes → MatchResult r (λ t. t ≡ s) (λ e. e ≡ Memory)
-loads_session r bytes l s is saved = given r (subst (Loads r) (ap read_session saved.form ∙ again s is saved.unclaimed) l)
+loads_session r bytes l s is saved = given r (subst (Loads r) (ap read_session saved.form ∙ again s is saved.unclaimed saved.unreserved) l)
   where
     given : (r : Result Session LoadError) → Loads r (Ok s) → MatchResult r (λ t. t ≡ s) (λ e. e ≡ Memory)
     given (Ok t) l = sym (ok l)

@@ -1,7 +1,8 @@
 -- What a sender keeps under the identifiers of messages, so that each is found at once (2.3.1, 4.3.2, 4.3.3).
-use Rattle.std.specs.Prelude.{ℕ, ◌≡◌, true, List, [], ◌∷◌}
+use Rattle.std.specs.Prelude.{ℕ, ◌+◌, ◌≤◌, ◌≡◌, Bool, true, false, if◌then◌else◌, List, [], ◌∷◌, length, nat_eq, Option, Some, None}
 use Rattle.std.specs.List.{flat_map, AllByRecursion}
-use Rattle.mq_flow.specs.Sender.{SenderBook}
+use Rattle.std.specs.Map.{keys_of}
+use Rattle.mq_flow.specs.Sender.{SenderBook, times}
 use Rattle.mq_flow.specs.declared.claim.Claimed.{Claimed}
 use Rattle.mq_flow.specs.declared.entry.Entry.{Entry}
 use Rattle.mq_flow.specs.declared.table.Held.{Held}
@@ -42,3 +43,40 @@ AreUnder = AllByRecursion (λ p. id_in p.1 ≡ p.0)
 abbrev pub gone_out : Held → Held
 gone_out (Waiting e) = Waiting (record { id = e.id; message = e.message; sent = true })
 gone_out (Released i) = Released i
+
+-- ---- places, some of which are empty
+
+-- What a table keeps, in its order; and how many more it can keep without more memory.
+pub record Kept : Type 0 where
+  pub pairs : List (ℕ × Held)
+  pub spare : ℕ
+
+-- the pair in a place
+abbrev pub pair_in : Option Held → List (ℕ × Held)
+pair_in (Some h) = (id_in h, h) ∷ []
+pair_in None = []
+
+-- the pairs in places, in their order
+abbrev pub pairs_in : List (Option Held) → List (ℕ × Held)
+pairs_in = flat_map pair_in
+
+-- whether an identifier's pair is in a place
+abbrev pub is_under : ℕ → Option Held → Bool
+is_under i (Some h) = nat_eq (id_in h) i
+is_under i None = false
+
+-- the first, or else the second
+abbrev pub later : Option ℕ → Option ℕ → Option ℕ
+later (Some i) o = Some i
+later None o = o
+
+-- where an identifier's pair is, where the places are numbered from this number on
+abbrev pub place_from : ℕ → ℕ → List (Option Held) → Option ℕ
+place_from at i [] = None
+place_from at i (x ∷ xs) = later (place_from (at + 1) i xs) (if is_under i x then Some at else None)
+
+-- Each identifier is in one place at most, a look-up says in which, and so many places are not empty.
+pub record IsPlaced (xs : List (Option Held)) (place : ℕ → Option ℕ) (count : ℕ) : Type 0 where
+  pub at : (i : ℕ) → place i ≡ place_from 0 i xs
+  pub once : (i : ℕ) → times i (keys_of (pairs_in xs)) ≤ 1
+  pub many : count ≡ length (pairs_in xs)

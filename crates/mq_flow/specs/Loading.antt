@@ -125,7 +125,7 @@ book_at limit capacity bytes = number_within capacity bytes >>= λ n. entries_at
 -- what a sender keeps: the capacity, the identifier given last, its book
 unfoldable pub sender_at : (limit : ℕ) → List ℕ → Result (Sending × List ℕ) ℕ
 sender_at limit bytes = capacity_at bytes >>= λ capacity. number_at capacity.1 >>= λ last. book_at limit capacity.0 last.1 >>= λ book.
-    Ok (record { book = book.0; capacity = capacity.0; last = last.0 }, book.1)
+    Ok (record { book = book.0; capacity = capacity.0; last = last.0; room = 0 }, book.1)
 
 -- an identifier after this one
 unfoldable pub next_at : ℕ → List ℕ → Result (ℕ × List ℕ) ℕ

@@ -63,13 +63,14 @@ saved_receiver r = saved_ids (ascending r)
 abbrev pub saved_form : Session → List ℕ
 saved_form s = signature ++ (saved_sender s.sender ++ saved_receiver s.receiver)
 
--- the session, and no SUBSCRIBE or UNSUBSCRIBE waits
+-- the session, no SUBSCRIBE or UNSUBSCRIBE waits, and no room is reserved
 abbrev pub without_claims : Session → Session
-without_claims s = record s { sender = record s.sender { book = no_claims s.sender.book } }
+without_claims s = record s { sender = record s.sender { book = no_claims s.sender.book; room = 0 } }
 
--- nothing is claimed, and b is the saved form
+-- nothing is claimed, no room is reserved, and b is the saved form
 pub record Saved (s : Session) (b : List ℕ) : Type 0 where
   pub unclaimed : s.sender.book.claimed ≡ []
+  pub unreserved : s.sender.room ≡ 0
   pub form : b ≡ saved_form s
 
 -- the PUBLISH of a message with an identifier has a remaining length within a limit (2.2.3, 3.3)

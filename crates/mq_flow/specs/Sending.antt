@@ -6,11 +6,13 @@ use Rattle.mq_flow.specs.Sender.{SenderBook, times, same_qos}
 use Rattle.mq_flow.specs.Laws.{IsSound}
 use Rattle.mq_flow.specs.declared.claim.Claimed.{Claimed}
 
--- A sender's book; the most identifiers that may be in use; and the identifier that was given last, 0 where none was (2.3.1).
+-- A sender's book; the most identifiers that may be in use; the identifier that was given last, 0 where none was (2.3.1);
+-- and how many messages it can accept without more memory, as reserved.
 pub record Sending : Type 0 where
   pub book : SenderBook
   pub capacity : ℕ
   pub last : ℕ
+  pub room : ℕ
 
 -- What a sender keeps true: its identifiers in use are sound (2.3.1), 1 to 65,535 may be in use, and no message has quality
 -- of service 0 (4.3.1).

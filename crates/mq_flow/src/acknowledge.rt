@@ -17,6 +17,7 @@ impl Sender {
         ensures result { result ≡ puback_reaction id self.old.book }
         ensures capacity { self.new.capacity ≡ self.old.capacity }
         ensures last { self.new.last ≡ self.old.last }
+        ensures room { self.new.room ≡ self.old.room }
     {
         if !self.awaits(Qos::Q1, id) {
             return Reaction::Stray;
@@ -32,11 +33,12 @@ impl Sender {
         ensures result { result ≡ pubrec_reaction id self.old.book }
         ensures capacity { self.new.capacity ≡ self.old.capacity }
         ensures last { self.new.last ≡ self.old.last }
+        ensures room { self.new.room ≡ self.old.room }
     {
         if !self.awaits(Qos::Q2, id) {
             return Reaction::Stray;
         }
-        self.table.turn(id, Held::Released(id));
+        self.table.turn(Held::Released(id));
         Reaction::Release(id)
     }
 
@@ -46,6 +48,7 @@ impl Sender {
         ensures result { result ≡ pubcomp_reaction id self.old.book }
         ensures capacity { self.new.capacity ≡ self.old.capacity }
         ensures last { self.new.last ≡ self.old.last }
+        ensures room { self.new.room ≡ self.old.room }
     {
         if !self.is_released(id) {
             return Reaction::Stray;

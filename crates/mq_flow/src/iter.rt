@@ -1,8 +1,9 @@
 //! Going through what a sender keeps.
 
-ghost use Rattle.std.specs.Prelude.{length};
+ghost use Rattle.std.specs.Prelude.{◌≡◌, [], ◌∷◌, length, MatchOption};
 ghost use Rattle.std.specs.Iterator.{at_most};
 ghost use Rattle.std.specs.Map.Iter.{TakesFirst, deref};
+ghost use Rattle.mq_flow.specs.Held.{messages, releases, pairs_in};
 
 use crate::entry::Entry;
 use crate::table::Held;
@@ -13,18 +14,17 @@ use std::marker::Model;
 /// 4.3.3).
 #[derive(Drop)]
 pub struct Entries<'a> {
-    pub(crate) pairs: Option<lru::Iter<'a, u16, Held>>,
+    pub(crate) slots: &'a [Option<Held>],
 }
 
 impl<'a> Model for Entries<'a> {
-    ghost use Rattle.std.specs.Prelude.{List, []};
-    ghost use Rattle.std.specs.Option.{option_map_or};
+    ghost use Rattle.std.specs.Prelude.{List};
     ghost use Rattle.mq_flow.specs.declared.entry.Entry.{Entry};
-    ghost use Rattle.mq_flow.specs.Held.{messages};
+    ghost use Rattle.mq_flow.specs.Held.{messages, pairs_in};
 
     ghost Value = { List Entry };
 
-    ghost view = { λ s. option_map_or messages s.pairs [] };
+    ghost view = { λ s. messages (pairs_in s.slots.now) };
 }
 
 impl<'a> Iterator for Entries<'a> {
@@ -35,30 +35,25 @@ impl<'a> Iterator for Entries<'a> {
     ghost remaining = { λ s. at_most (length s) };
 
     fn next(&mut self) -> Option<&'a Entry> {
-        let pairs = self.pairs.as_mut()?;
-        while let Some((_, held)) = pairs.next() {
-            if let Held::Waiting(entry) = held {
-                return Some(entry);
-            }
-        }
-        None
+        let (entry, rest) = first_waiting(self.slots)?;
+        self.slots = rest;
+        Some(entry)
     }
 }
 
 /// An iterator over the identifiers that are released, in the order of the PUBRECs (4.3.3).
 #[derive(Drop)]
 pub(crate) struct Releases<'a> {
-    pub(crate) pairs: Option<lru::Iter<'a, u16, Held>>,
+    pub(crate) slots: &'a [Option<Held>],
 }
 
 impl<'a> Model for Releases<'a> {
-    ghost use Rattle.std.specs.Prelude.{ℕ, List, []};
-    ghost use Rattle.std.specs.Option.{option_map_or};
-    ghost use Rattle.mq_flow.specs.Held.{releases};
+    ghost use Rattle.std.specs.Prelude.{ℕ, List};
+    ghost use Rattle.mq_flow.specs.Held.{releases, pairs_in};
 
     ghost Value = { List ℕ };
 
-    ghost view = { λ s. option_map_or releases s.pairs [] };
+    ghost view = { λ s. releases (pairs_in s.slots.now) };
 }
 
 impl<'a> Iterator for Releases<'a> {
@@ -69,12 +64,36 @@ impl<'a> Iterator for Releases<'a> {
     ghost remaining = { λ s. at_most (length s) };
 
     fn next(&mut self) -> Option<PacketId> {
-        let pairs = self.pairs.as_mut()?;
-        while let Some((_, held)) = pairs.next() {
-            if let Held::Released(id) = held {
-                return Some(*id);
-            }
-        }
-        None
+        let (id, rest) = first_released(self.slots)?;
+        self.slots = rest;
+        Some(*id)
     }
+}
+
+/// The first message that is not acknowledged, and the places after it.
+fn first_waiting(slots: &[Option<Held>]) -> Option<(&Entry, &[Option<Held>])>
+    ensures { MatchOption result (messages (pairs_in slots.now) ≡ []) (λ r. messages (pairs_in slots.now) ≡ r.0.now ∷ messages (pairs_in r.1.now)) }
+{
+    let mut rest = slots;
+    while let Some((slot, others)) = rest.split_first() {
+        rest = others;
+        if let Some(Held::Waiting(entry)) = slot {
+            return Some((entry, rest));
+        }
+    }
+    None
+}
+
+/// The first identifier that is released, and the places after it.
+fn first_released(slots: &[Option<Held>]) -> Option<(&PacketId, &[Option<Held>])>
+    ensures { MatchOption result (releases (pairs_in slots.now) ≡ []) (λ r. releases (pairs_in slots.now) ≡ r.0.now ∷ releases (pairs_in r.1.now)) }
+{
+    let mut rest = slots;
+    while let Some((slot, others)) = rest.split_first() {
+        rest = others;
+        if let Some(Held::Released(id)) = slot {
+            return Some((id, rest));
+        }
+    }
+    None
 }

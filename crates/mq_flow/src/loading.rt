@@ -151,6 +151,7 @@ fn entries<'a>(
     ensures read { Gives (λ rest. (sender.new.book, rest.now)) result (entries_at 268435455 count sender.old.book bytes.now) }
     ensures uses { OnOk result (length (uses sender.new.book) ≡ length (uses sender.old.book) + count) }
     ensures capacity { sender.new.capacity ≡ sender.old.capacity }
+    ensures room { sender.new.room ≤ sender.old.room }
 {
     let mut rest = bytes;
     for _ in 0..count {
@@ -166,6 +167,7 @@ fn with_entry<'a>(alloc: Global, sender: &mut Sender, bytes: &'a [u8]) -> Result
     ensures read { Gives (λ rest. (sender.new.book, rest.now)) result (with_entry_at 268435455 sender.old.book bytes.now) }
     ensures uses { OnOk result (length (uses sender.new.book) ≡ length (uses sender.old.book) + 1) }
     ensures capacity { sender.new.capacity ≡ sender.old.capacity }
+    ensures room { sender.new.room ≤ sender.old.room }
 {
     let (entry, rest) = entry(alloc, sender, bytes)?;
     sender.accept_as(entry.id, entry.message, entry.sent)?;
@@ -296,6 +298,7 @@ fn with_released<'a>(sender: &mut Sender, bytes: &'a [u8]) -> Result<&'a [u8], U
     ensures read { Gives (λ rest. (sender.new.book, rest.now)) result (with_released_at sender.old.book bytes.now) }
     ensures uses { OnOk result (length (uses sender.new.book) ≡ length (uses sender.old.book) + 1) }
     ensures capacity { sender.new.capacity ≡ sender.old.capacity }
+    ensures room { sender.new.room ≤ sender.old.room }
 {
     let (id, rest) = match free(sender, bytes) {
         Ok(field) => field,
@@ -310,6 +313,7 @@ fn released<'a>(sender: &mut Sender, count: u16, bytes: &'a [u8]) -> Result<&'a 
     requires room { length (uses sender.old.book) + count ≤ sender.old.capacity }
     ensures read { Gives (λ rest. (sender.new.book, rest.now)) result (released_at count sender.old.book bytes.now) }
     ensures capacity { sender.new.capacity ≡ sender.old.capacity }
+    ensures room { sender.new.room ≤ sender.old.room }
 {
     let mut rest = bytes;
     for _ in 0..count {
@@ -325,8 +329,10 @@ impl Sender {
         requires room { is_full self.old.capacity self.old.book ≡ false }
         ensures book { OnOk result (self.new.book ≡ with_released id self.old.book) }
         ensures capacity { self.new.capacity ≡ self.old.capacity }
+        ensures room { self.new.room ≤ self.old.room }
     {
-        self.table.add(id, Held::Released(id))?;
+        self.table.add(Held::Released(id))?;
+        self.room = self.room.saturating_sub(1);
         Ok(())
     }
 }

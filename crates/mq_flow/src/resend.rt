@@ -41,6 +41,7 @@ impl Sender {
         ensures book { self.new.book ≡ all_sent self.old.book }
         ensures capacity { self.new.capacity ≡ self.old.capacity }
         ensures last { self.new.last ≡ self.old.last }
+        ensures room { self.new.room ≡ self.old.room }
     {
         self.table.mark_all();
     }
@@ -52,6 +53,7 @@ impl Sender {
         ensures book { OnOk result (self.new.book ≡ all_sent self.old.book) }
         ensures capacity { self.new.capacity ≡ self.old.capacity }
         ensures last { self.new.last ≡ self.old.last }
+        ensures room { self.new.room ≡ self.old.room }
         ensures err_out { OnErr result (out.new.items ≡ out.old.items) }
         ensures err { OnErr result (self.new ≡ self.old) }
     {

@@ -94,9 +94,9 @@ fn put_stored(out: &mut Vec<u8>, stored: &BTreeSet<u16>) -> Result<(), AllocErro
 
 // Appends how many entries there are, and they.
 fn put_entries(out: &mut Vec<u8>, table: &Table) -> Result<(), AllocError>
-    requires { length (messages table.now) < 65_536 }
-    ensures ok { OnOk result (out.new.items ≡ out.old.items ++ (number (length (messages table.now)) ++ flat_map saved_entry (messages table.now))) }
-    ensures topics { OnOk result (HaveTopics (messages table.now)) }
+    requires { length (messages table.now.pairs) < 65_536 }
+    ensures ok { OnOk result (out.new.items ≡ out.old.items ++ (number (length (messages table.now.pairs)) ++ flat_map saved_entry (messages table.now.pairs))) }
+    ensures topics { OnOk result (HaveTopics (messages table.now.pairs)) }
     ensures err { OnErr result (take (length out.old.items) out.new.items ≡ out.old.items) }
 {
     put_number(out, table.waiting() as u16)?;
@@ -108,8 +108,8 @@ fn put_entries(out: &mut Vec<u8>, table: &Table) -> Result<(), AllocError>
 
 // Appends how many identifiers there are, and they.
 fn put_released(out: &mut Vec<u8>, table: &Table) -> Result<(), AllocError>
-    requires { length (releases table.now) < 65_536 }
-    ensures ok { OnOk result (out.new.items ≡ out.old.items ++ saved_ids (releases table.now)) }
+    requires { length (releases table.now.pairs) < 65_536 }
+    ensures ok { OnOk result (out.new.items ≡ out.old.items ++ saved_ids (releases table.now.pairs)) }
     ensures err { OnErr result (take (length out.old.items) out.new.items ≡ out.old.items) }
 {
     put_number(out, table.released() as u16)?;

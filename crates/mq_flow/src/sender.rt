@@ -1,6 +1,6 @@
 //! What a sender of messages keeps (2.3.1, 4.3.2, 4.3.3, 4.4).
 
-ghost use Rattle.std.specs.Prelude.{◌≡◌, ◌↔◌, ◌<◌, ◌+◌, ◌-◌, ◌==◌, ◌&&◌, if◌then◌else◌, true, false, nat_lt, length, [], IsSome, IfSome, IsTrue, IfOk, OnOk, OnErr, IsErrOf};
+ghost use Rattle.std.specs.Prelude.{◌≡◌, ◌↔◌, ◌<◌, ◌≤◌, ◌+◌, ◌-◌, ◌==◌, ◌&&◌, if◌then◌else◌, true, false, nat_lt, length, [], IsSome, IfSome, IsTrue, IsOk, IfOk, IfErr, OnOk, OnErr, IsErrOf};
 ghost use Rattle.std.specs.List.{list_any};
 ghost use Rattle.std.specs.Map.Iter.{ShowsInOrder, deref};
 ghost use Rattle.mq_flow.specs.declared.entry.Entry.{Entry};
@@ -32,17 +32,21 @@ pub struct Sender {
     pub(crate) claimed_ids: HashSet<u16>,
     pub(crate) capacity: u16,
     pub(crate) last: u16,
+    /// How many messages it can still accept without more memory, as reserved.
+    pub(crate) room: usize,
 }
 
 impl Model for Sender {
+    ghost use Rattle.std.specs.Prelude.{◌≤◌};
     ghost use Rattle.mq_flow.specs.Held.{book_of, AreUnder};
     ghost use Rattle.mq_flow.specs.Sending.{Sending, Keeps, AreClaimed};
 
     ghost Value = { Sending };
 
-    ghost view = { λ s. record { book = book_of s.table s.claimed.items; capacity = s.capacity; last = s.last } };
+    ghost view = { λ s. record { book = book_of s.table.pairs s.claimed.items; capacity = s.capacity; last = s.last; room = s.room } };
 
-    ghost invariant = { λ s. Keeps (record { book = book_of s.table s.claimed.items; capacity = s.capacity; last = s.last }) × AreUnder s.table × AreClaimed s.claimed_ids.keys s.claimed.items };
+    ghost invariant = { λ s. Keeps (record { book = book_of s.table.pairs s.claimed.items; capacity = s.capacity; last = s.last; room = s.room }) × AreUnder s.table.pairs × AreClaimed s.claimed_ids.keys s.claimed.items
+        × (s.room ≤ s.table.spare) };
 }
 
 impl Sender {
@@ -53,6 +57,7 @@ impl Sender {
         ensures book { result.book ≡ blank_book }
         ensures capacity { result.capacity ≡ capacity }
         ensures last { result.last ≡ 0 }
+        ensures room { result.room ≡ 0 }
     {
         Sender {
             table: Table::new(alloc),
@@ -60,6 +65,7 @@ impl Sender {
             claimed_ids: HashSet::new(alloc),
             capacity,
             last: 0,
+            room: 0,
         }
     }
 
@@ -81,7 +87,7 @@ impl Sender {
     }
 
     /// How many more identifiers may be in use (2.3.1).
-    pub fn room(&self) -> usize
+    pub fn left(&self) -> usize
         ensures { result ≡ self.now.capacity - length (uses self.now.book) }
     {
         let used = self.table.len() + self.claimed.len();
@@ -94,7 +100,7 @@ impl Sender {
         ensures some { IsSome result ↔ (is_full self.now.capacity self.now.book ≡ false) }
         ensures first { IfSome result (IsFirstFree self.now.last self.now.book) }
     {
-        if self.room() == 0 {
+        if self.left() == 0 {
             return None;
         }
         let mut number = self.last;
@@ -115,9 +121,22 @@ impl Sender {
         self.table.get(id).is_some() || self.claimed_ids.contains(&id.get())
     }
 
+    /// Makes room for so many messages: as many can be accepted without more memory. Errs where memory runs out, and then
+    /// nothing changes.
+    pub fn reserve(&mut self, count: usize) -> Result<(), AllocError>
+        ensures ok { OnOk result (count ≤ self.new.room) }
+        ensures more { self.old.room ≤ self.new.room }
+        ensures rest { self.new ≡ record self.old { room = self.new.room } }
+        ensures err { OnErr result (self.new ≡ self.old) }
+    {
+        self.table.reserve(count)?;
+        self.room = self.room.max(count);
+        Ok(())
+    }
+
     /// Accepts a message with an identifier that is free, while there is room; `sent` says that its PUBLISH goes
     /// out at once (4.3.2, 4.3.3). All the memory that its acknowledgements need is taken here. Errs where memory
-    /// runs out, and then nothing changes.
+    /// runs out, which it doesn't where room is reserved, and then nothing changes.
     pub fn accept_as(
         &mut self,
         id: PacketId,
@@ -130,17 +149,20 @@ impl Sender {
         ensures book { OnOk result (self.new.book ≡ accepted id message sent self.old.book) }
         ensures last { OnOk result (self.new.last ≡ id) }
         ensures capacity { self.new.capacity ≡ self.old.capacity }
+        ensures room { OnOk result (self.new.room ≡ self.old.room - 1) }
+        ensures reserved { 0 < self.old.room → IsOk result }
         ensures err { OnErr result (self.new ≡ self.old) }
     {
         let entry = Entry { id, message, sent };
-        self.table.add(id, Held::Waiting(entry))?;
+        self.table.add(Held::Waiting(entry))?;
         self.last = id.get();
+        self.room = self.room.saturating_sub(1);
         Ok(())
     }
 
     /// Accepts a message of quality of service 1 or 2, to be sent later, with the next identifier (2.3.1, 4.3.2,
-    /// 4.3.3). Errs where as many identifiers are in use as there is room for, or where memory runs out, and then
-    /// nothing changes.
+    /// 4.3.3). Errs where as many identifiers are in use as there is room for, or where memory runs out, which it
+    /// doesn't where room is reserved; then nothing changes.
     #[tactic(auto, using(crate::proofs::Next::is_next))]
     pub fn accept(&mut self, message: Message) -> Result<PacketId, Refusal>
         requires kept { message.qos ≡ Q0 → ⊥ }
@@ -149,6 +171,8 @@ impl Sender {
         ensures book { IfOk result (λ id. self.new.book ≡ accepted id message false self.old.book) }
         ensures last { IfOk result (λ id. self.new.last ≡ id) }
         ensures capacity { self.new.capacity ≡ self.old.capacity }
+        ensures room { OnOk result (self.new.room ≡ self.old.room - 1) }
+        ensures reserved { 0 < self.old.room → IfErr result (λ why. why ≡ Refusal.Full) }
         ensures err { OnErr result (self.new ≡ self.old) }
     {
         let Some(id) = self.next_id() else {
@@ -168,6 +192,7 @@ impl Sender {
         ensures book { OnOk result (self.new.book ≡ claim id kind count self.old.book) }
         ensures last { OnOk result (self.new.last ≡ id) }
         ensures capacity { self.new.capacity ≡ self.old.capacity }
+        ensures room { self.new.room ≡ self.old.room }
         ensures err { OnErr result (self.new ≡ self.old) }
     {
         self.claimed.reserve(1)?;
@@ -183,6 +208,7 @@ impl Sender {
         ensures book { self.new.book ≡ release id self.old.book }
         ensures capacity { self.new.capacity ≡ self.old.capacity }
         ensures last { self.new.last ≡ self.old.last }
+        ensures room { self.new.room ≡ self.old.room }
     {
         if let Some(at) = claim_at(&self.claimed, id) {
             let _ = self.claimed.remove(at);
@@ -195,6 +221,7 @@ impl Sender {
         ensures book { self.new.book ≡ no_claims self.old.book }
         ensures capacity { self.new.capacity ≡ self.old.capacity }
         ensures last { self.new.last ≡ self.old.last }
+        ensures room { self.new.room ≡ self.old.room }
     {
         self.claimed_ids.clear();
         self.claimed.clear();

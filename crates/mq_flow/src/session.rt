@@ -29,6 +29,7 @@ impl Session {
         ensures book { result.sender.book ≡ blank_book }
         ensures capacity { result.sender.capacity ≡ capacity }
         ensures last { result.sender.last ≡ 0 }
+        ensures room { result.sender.room ≡ 0 }
         ensures received { result.receiver ≡ none_received }
     {
         Session {
@@ -46,6 +47,7 @@ impl Session {
         ensures book { IfOk result (λ id. self.new.sender.book ≡ claim id kind count self.old.sender.book) }
         ensures last { IfOk result (λ id. self.new.sender.last ≡ id) }
         ensures capacity { self.new.sender.capacity ≡ self.old.sender.capacity }
+        ensures room { self.new.sender.room ≡ self.old.sender.room }
         ensures received { self.new.receiver ≡ self.old.receiver }
         ensures err { OnErr result (self.new ≡ self.old) }
     {
@@ -63,6 +65,7 @@ impl Session {
     pub fn release_id(&mut self, id: PacketId)
         ensures book { self.new.sender.book ≡ release id self.old.sender.book }
         ensures capacity { self.new.sender.capacity ≡ self.old.sender.capacity }
+        ensures room { self.new.sender.room ≡ self.old.sender.room }
         ensures last { self.new.sender.last ≡ self.old.sender.last }
         ensures received { self.new.receiver ≡ self.old.receiver }
     {

@@ -1,18 +1,20 @@
 //! The identifiers of messages, each found at once, and in an order (2.3.1, 4.3.2, 4.3.3).
 
-ghost use Rattle.std.specs.Prelude.{ℕ, ◌≡◌, ◌<◌, [], ◌∷◌, ◌++◌, None, List, nat_eq, length, map, OnOk, OnErr, IsSome};
-ghost use Rattle.std.specs.Option.{option_copied};
-ghost use Rattle.std.specs.Map.{lookup, remove_entry};
+ghost use Rattle.std.specs.Prelude.{ℕ, ◌≡◌, ◌+◌, ◌<◌, ◌≤◌, [], ◌∷◌, ◌++◌, None, List, nat_eq, length, map, is_some, filter, vec_capacity, slice_set, slice_index_or, Some, if◌then◌else◌, OnOk, OnErr, IsOk, IsSome, IfSome};
+ghost use Rattle.std.specs.Option.{option_copied, option_map};
+ghost use Rattle.std.specs.HashMap.{get, hash_map_len, spare};
+ghost use Rattle.std.specs.Map.{keys_of, lookup, remove_entry};
 ghost use Rattle.std.specs.Map.Iter.{ShowsInOrder, GivesInOrder, deref};
 ghost use Rattle.mq_flow.specs.declared.entry.Entry.{Entry};
-ghost use Rattle.mq_flow.specs.Held.{messages, releases, gone_out};
+ghost use Rattle.mq_flow.specs.Held.{messages, releases, gone_out, id_in, pairs_in, IsPlaced};
+ghost use Rattle.mq_flow.specs.Sender.{times};
 ghost use Rattle.mq_flow.specs.declared.table.Held.{Held};
 
 use crate::entry::Entry;
 use crate::iter::{Entries, Releases};
-use lru::LruCache;
 use mq_packet::PacketId;
 use std::alloc::{AllocError, Global};
+use std::collections::HashMap;
 use std::marker::Model;
 
 /// What is kept under the identifier of a message.
@@ -24,54 +26,68 @@ pub(crate) enum Held {
     Released(PacketId),
 }
 
-/// What is kept under identifiers, the oldest first. To look one up, to add one and to take one out is no walk.
+impl Held {
+    /// The identifier that it is kept under.
+    pub(crate) fn id(&self) -> PacketId
+        ensures { result ≡ id_in self.now }
+    {
+        match self {
+            Held::Waiting(entry) => entry.id,
+            Held::Released(id) => *id,
+        }
+    }
+}
+
+/// What is kept under identifiers, the oldest first. To look one up, to add one and to take one out is no walk: what is
+/// taken out leaves an empty place, and once all places are used those that are not empty move up.
 #[derive(Debug, Drop)]
 pub(crate) struct Table {
-    /// Made where the first one comes.
-    cache: Option<LruCache<u16, Held>>,
-    alloc: Global,
+    /// What is kept, the oldest first, and empty places between.
+    pub(crate) slots: Vec<Option<Held>>,
+    /// In which place each identifier is.
+    pub(crate) places: HashMap<u16, usize>,
 }
 
 impl Model for Table {
-    ghost use Rattle.std.specs.Prelude.{ℕ, ◌≡◌, ◌-◌, ◌^◌, List, [], IfSome};
-    ghost use Rattle.std.specs.Option.{option_map_or};
-    ghost use Rattle.mq_flow.specs.declared.table.Held.{Held};
+    ghost use Rattle.std.specs.Prelude.{◌≡◌, ◌-◌, ◌≤◌, min, length, nat_eq, vec_capacity};
+    ghost use Rattle.std.specs.HashMap.{get, hash_map_len, spare};
+    ghost use Rattle.mq_flow.specs.Held.{Kept, pairs_in, place_from, IsPlaced};
 
-    ghost Value = { List (ℕ × Held) };
+    ghost Value = { Kept };
 
-    ghost view = { λ t. option_map_or (λ c. c.entries) t.cache [] };
+    ghost view = { λ t. record { pairs = pairs_in t.slots.items; spare = min (vec_capacity t.slots - 1 - length (pairs_in t.slots.items)) (spare t.places) } };
 
-    ghost invariant = { λ t. IfSome t.cache (λ c. c.cap ≡ 2 ^ 64 - 1) };
+    ghost invariant = { λ t. IsPlaced t.slots.items (get nat_eq t.places) (hash_map_len t.places) × (length (pairs_in t.slots.items) ≤ vec_capacity t.slots - 1) };
 }
 
 impl Table {
     /// One in which nothing is kept. It takes no memory.
     pub(crate) fn new(alloc: Global) -> Table
-        ensures { result ≡ [] }
+        ensures { result.pairs ≡ [] }
     {
-        Table { cache: None, alloc }
+        Table {
+            slots: Vec::new(alloc),
+            places: HashMap::new(alloc),
+        }
     }
 
     /// How many identifiers there are.
     pub(crate) fn len(&self) -> usize
-        ensures { result ≡ length self.now }
+        ensures { result ≡ length self.now.pairs }
     {
-        match &self.cache {
-            Some(cache) => cache.len(),
-            None => 0,
-        }
+        self.places.len()
     }
 
     /// How many identifiers are released.
     pub(crate) fn released(&self) -> usize
-        ensures { result ≡ length (releases self.now) }
+        ensures { result ≡ length (releases self.now.pairs) }
     {
         self.len() - self.waiting()
     }
 
     /// How many messages are not acknowledged.
     pub(crate) fn waiting(&self) -> usize
-        ensures { result ≡ length (messages self.now) }
+        ensures { result ≡ length (messages self.now.pairs) }
     {
         let mut count = self.len();
         for _ in self.releases() {
@@ -80,123 +96,276 @@ impl Table {
         count
     }
 
+    /// How many more it can keep without more memory.
+    pub(crate) fn spare(&self) -> usize
+        ensures { result ≡ self.now.spare }
+    {
+        let used = self.places.len();
+        let spare = self.places.capacity() - used;
+        (self.slots.capacity().saturating_sub(1) - used).min(spare)
+    }
+
     /// What is kept under an identifier.
     pub(crate) fn get(&self, id: PacketId) -> Option<&Held>
-        ensures { option_copied result ≡ lookup (nat_eq id) self.now }
+        ensures { option_copied result ≡ lookup (nat_eq id) self.now.pairs }
     {
-        match &self.cache {
-            Some(cache) => cache.peek(&id.get()),
+        match self.places.get(&id.get()) {
+            Some(at) => held_at(self.slots.as_slice(), *at),
             None => None,
         }
     }
 
     /// The messages that are not acknowledged, in their order.
     pub(crate) fn entries(&self) -> Entries<'_>
-        ensures rest { result ≡ messages self.now }
+        ensures rest { result ≡ messages self.now.pairs }
         ensures runs { ShowsInOrder (deref {X = Entry}) }
     {
-        match &self.cache {
-            Some(cache) => Entries {
-                pairs: Some(cache.iter()),
-            },
-            None => Entries { pairs: None },
+        Entries {
+            slots: self.slots.as_slice(),
         }
     }
 
     /// The identifiers that are released, in their order.
     pub(crate) fn releases(&self) -> Releases<'_>
-        ensures rest { result ≡ releases self.now }
+        ensures rest { result ≡ releases self.now.pairs }
         ensures runs { GivesInOrder ℕ }
     {
-        match &self.cache {
-            Some(cache) => Releases {
-                pairs: Some(cache.iter()),
-            },
-            None => Releases { pairs: None },
+        Releases {
+            slots: self.slots.as_slice(),
         }
     }
 
-    /// Keeps something under another identifier, the last one. Errs where memory runs out, and then nothing changes.
-    pub(crate) fn add(&mut self, id: PacketId, held: Held) -> Result<(), AllocError>
-        requires other { lookup (nat_eq id) self.old ≡ None }
-        requires few { length self.old < 65_536 }
-        ensures ok { OnOk result (self.new ≡ self.old ++ (id, held) ∷ []) }
-        ensures err { OnErr result (self.new ≡ self.old) }
+    /// Makes room for so many more. Errs where memory runs out, and then nothing that is kept changes.
+    pub(crate) fn reserve(&mut self, count: usize) -> Result<(), AllocError>
+        ensures ok { OnOk result (count ≤ self.new.spare) }
+        ensures pairs { self.new.pairs ≡ self.old.pairs }
+        ensures spare { self.old.spare ≤ self.new.spare }
+        ensures succeeds { count ≤ self.old.spare → IsOk result }
     {
-        let Some(cache) = &mut self.cache else {
-            let mut cache = LruCache::unbounded(self.alloc)?;
-            append(&mut cache, id, held)?;
-            self.cache = Some(cache);
+        if count <= self.spare() {
             return Ok(());
+        }
+        self.grow(count)
+    }
+
+    /// Makes room for so many more, the empty places aside.
+    fn grow(&mut self, count: usize) -> Result<(), AllocError>
+        ensures ok { OnOk result (count ≤ self.new.spare) }
+        ensures pairs { self.new.pairs ≡ self.old.pairs }
+        ensures spare { self.old.spare ≤ self.new.spare }
+    {
+        let Some(more) = count.checked_add(1) else {
+            return Err(AllocError);
         };
-        append(cache, id, held)
+        self.places.reserve(count)?;
+        compact(&mut self.slots, &mut self.places);
+        self.slots.reserve_exact(more)
+    }
+
+    /// Whether so many places are used that the others would soon have to move up again.
+    fn is_crowded(&self) -> bool {
+        let used = self.places.len();
+        self.slots.capacity() < (used + used / 8).saturating_add(2)
+    }
+
+    /// Keeps something under another identifier, the last one. Errs where memory runs out, and then nothing that is kept
+    /// changes.
+    pub(crate) fn add(&mut self, held: Held) -> Result<(), AllocError>
+        requires { lookup (nat_eq (id_in held)) self.old.pairs ≡ None }
+        ensures ok { OnOk result (self.new.pairs ≡ self.old.pairs ++ (id_in held, held) ∷ []) }
+        ensures err { OnErr result (self.new.pairs ≡ self.old.pairs) }
+        ensures succeeds { 0 < self.old.spare → IsOk result }
+        ensures spare { self.old.spare ≤ self.new.spare + 1 }
+        ensures err_spare { OnErr result (self.old.spare ≤ self.new.spare) }
+    {
+        if self.is_crowded() {
+            // Where there is no memory for more, one place may still be free.
+            let _ = self.grow(self.len() / 4 + 4);
+        }
+        self.reserve(1)?;
+        push(&mut self.slots, &mut self.places, held);
+        Ok(())
     }
 
     /// Keeps something else under an identifier, which is the last one then. It takes no memory.
-    pub(crate) fn turn(&mut self, id: PacketId, held: Held)
-        requires { IsSome (lookup (nat_eq id) self.old) }
-        ensures { self.new ≡ remove_entry (nat_eq id) self.old ++ (id, held) ∷ [] }
+    pub(crate) fn turn(&mut self, held: Held)
+        requires { IsSome (lookup (nat_eq (id_in held)) self.old.pairs) }
+        ensures pairs { self.new.pairs ≡ remove_entry (nat_eq (id_in held)) self.old.pairs ++ (id_in held, held) ∷ [] }
+        ensures spare { self.old.spare ≤ self.new.spare }
     {
-        if let Some(cache) = &mut self.cache {
-            let _ = cache.put(id.get(), held);
-            let _ = cache.demote(&id.get());
-        }
+        turn_last(&mut self.slots, &mut self.places, held);
     }
 
     /// Keeps nothing under an identifier. It takes no memory.
     pub(crate) fn take(&mut self, id: PacketId)
-        ensures { self.new ≡ remove_entry (nat_eq id) self.old }
+        ensures pairs { self.new.pairs ≡ remove_entry (nat_eq id) self.old.pairs }
+        ensures spare { self.old.spare ≤ self.new.spare }
     {
-        if let Some(cache) = &mut self.cache {
-            let _ = cache.pop(&id.get());
-        }
+        take_out(&mut self.slots, &mut self.places, id);
     }
 
     /// Marks each message as sent.
     pub(crate) fn mark_all(&mut self)
-        ensures { self.new ≡ map (λ p. (p.0, gone_out p.1)) self.old }
+        ensures pairs { self.new.pairs ≡ map (λ p. (p.0, gone_out p.1)) self.old.pairs }
+        ensures spare { self.old.spare ≤ self.new.spare }
     {
-        if let Some(cache) = &mut self.cache {
-            for _ in 0..cache.len() {
-                mark_first(cache);
-            }
+        mark_slots(&mut self.slots);
+    }
+}
+
+/// What is kept in a place.
+fn held_at(slots: &[Option<Held>], at: usize) -> Option<&Held>
+    requires { at < length slots.now }
+    ensures { option_copied result ≡ slice_index_or slots.now at None }
+{
+    slots[at].as_ref()
+}
+
+/// Keeps something else under an identifier, which is the last one then.
+fn turn_last(slots: &mut Vec<Option<Held>>, places: &mut HashMap<u16, usize>, held: Held)
+    requires placed { IsPlaced slots.old.items (get nat_eq places.old) (hash_map_len places.old) }
+    requires there { IsSome (lookup (nat_eq (id_in held)) (pairs_in slots.old.items)) }
+    requires room { length (pairs_in slots.old.items) < vec_capacity slots.old }
+    ensures placed { IsPlaced slots.new.items (get nat_eq places.new) (hash_map_len places.new) }
+    ensures pairs { pairs_in slots.new.items ≡ remove_entry (nat_eq (id_in held)) (pairs_in slots.old.items) ++ (id_in held, held) ∷ [] }
+    ensures capacity { vec_capacity slots.new ≡ vec_capacity slots.old }
+    ensures spare { spare places.old ≤ spare places.new }
+{
+    move_up(slots, places);
+    if let Some(at) = move_place(places, held.id(), slots.len()) {
+        empty(slots, at);
+        slots.push_reserved(Some(held));
+    }
+}
+
+/// Writes down that an identifier is in another place, and says where it was.
+fn move_place(places: &mut HashMap<u16, usize>, id: PacketId, to: usize) -> Option<usize>
+    ensures old { result ≡ get nat_eq places.old id }
+    ensures moved { IfSome result (λ _. (i : ℕ) → get nat_eq places.new i ≡ (if nat_eq id i then Some to else get nat_eq places.old i)) }
+    ensures len { hash_map_len places.new ≡ hash_map_len places.old }
+    ensures spare { spare places.new ≡ spare places.old }
+{
+    let place = places.get_mut(&id.get())?;
+    let at = *place;
+    *place = to;
+    Some(at)
+}
+
+/// Keeps nothing under an identifier.
+fn take_out(slots: &mut Vec<Option<Held>>, places: &mut HashMap<u16, usize>, id: PacketId)
+    requires { IsPlaced slots.old.items (get nat_eq places.old) (hash_map_len places.old) }
+    ensures placed { IsPlaced slots.new.items (get nat_eq places.new) (hash_map_len places.new) }
+    ensures pairs { pairs_in slots.new.items ≡ remove_entry (nat_eq id) (pairs_in slots.old.items) }
+    ensures capacity { vec_capacity slots.new ≡ vec_capacity slots.old }
+    ensures spare { spare places.old ≤ spare places.new }
+{
+    if let Some(at) = places.remove(&id.get()) {
+        empty(slots, at);
+    }
+}
+
+/// Empties a place.
+fn empty(slots: &mut Vec<Option<Held>>, at: usize)
+    requires { at < length slots.old.items }
+    ensures items { slots.new.items ≡ slice_set slots.old.items at None }
+    ensures capacity { vec_capacity slots.new ≡ vec_capacity slots.old }
+{
+    slots[at] = None;
+}
+
+/// Puts a new pair last.
+fn push(slots: &mut Vec<Option<Held>>, places: &mut HashMap<u16, usize>, held: Held)
+    requires placed { IsPlaced slots.old.items (get nat_eq places.old) (hash_map_len places.old) }
+    requires other { lookup (nat_eq (id_in held)) (pairs_in slots.old.items) ≡ None }
+    requires room { length (pairs_in slots.old.items) < vec_capacity slots.old }
+    requires spare { 0 < spare places.old }
+    ensures placed { IsPlaced slots.new.items (get nat_eq places.new) (hash_map_len places.new) }
+    ensures pairs { pairs_in slots.new.items ≡ pairs_in slots.old.items ++ (id_in held, held) ∷ [] }
+    ensures capacity { vec_capacity slots.new ≡ vec_capacity slots.old }
+    ensures spare { spare places.old ≤ spare places.new + 1 }
+{
+    move_up(slots, places);
+    write_place(places, held.id(), slots.len());
+    slots.push_reserved(Some(held));
+}
+
+/// Writes down in which place another identifier is, where there is memory for one more.
+fn write_place(places: &mut HashMap<u16, usize>, id: PacketId, at: usize)
+    requires other { get nat_eq places.old id ≡ None }
+    requires spare { 0 < spare places.old }
+    ensures placed { (i : ℕ) → get nat_eq places.new i ≡ (if nat_eq id i then Some at else get nat_eq places.old i) }
+    ensures len { hash_map_len places.new ≡ hash_map_len places.old + 1 }
+    ensures spare { spare places.old ≤ spare places.new + 1 }
+{
+    let _ = places.insert(id.get(), at);
+}
+
+/// Makes a place free at the end, where all are used.
+fn move_up(slots: &mut Vec<Option<Held>>, places: &mut HashMap<u16, usize>)
+    requires placed { IsPlaced slots.old.items (get nat_eq places.old) (hash_map_len places.old) }
+    requires room { length (pairs_in slots.old.items) < vec_capacity slots.old }
+    ensures placed { IsPlaced slots.new.items (get nat_eq places.new) (hash_map_len places.new) }
+    ensures pairs { pairs_in slots.new.items ≡ pairs_in slots.old.items }
+    ensures free { length slots.new.items < vec_capacity slots.new }
+    ensures capacity { vec_capacity slots.new ≡ vec_capacity slots.old }
+    ensures spare { spare places.old ≤ spare places.new }
+{
+    if slots.len() == slots.capacity() {
+        compact(slots, places);
+    }
+}
+
+/// Drops the empty places: the others move up.
+fn compact(slots: &mut Vec<Option<Held>>, places: &mut HashMap<u16, usize>)
+    requires { IsPlaced slots.old.items (get nat_eq places.old) (hash_map_len places.old) }
+    ensures placed { IsPlaced slots.new.items (get nat_eq places.new) (hash_map_len places.new) }
+    ensures pairs { pairs_in slots.new.items ≡ pairs_in slots.old.items }
+    ensures full { length slots.new.items ≡ length (pairs_in slots.old.items) }
+    ensures capacity { vec_capacity slots.new ≡ vec_capacity slots.old }
+    ensures spare { spare places.old ≤ spare places.new }
+{
+    drop_empty(slots);
+    renumber(slots.as_slice(), places);
+}
+
+/// Drops the empty places.
+fn drop_empty(slots: &mut Vec<Option<Held>>)
+    ensures items { slots.new.items ≡ filter is_some slots.old.items }
+    ensures capacity { vec_capacity slots.new ≡ vec_capacity slots.old }
+{
+    slots.retain(|slot| slot.is_some());
+}
+
+/// Writes down anew in which place each identifier is. As many were there before.
+fn renumber(slots: &[Option<Held>], places: &mut HashMap<u16, usize>)
+    requires once { (i : ℕ) → times i (keys_of (pairs_in slots.now)) ≤ 1 }
+    requires many { length (pairs_in slots.now) ≤ hash_map_len places.old }
+    ensures placed { IsPlaced slots.now (get nat_eq places.new) (hash_map_len places.new) }
+    ensures spare { spare places.old ≤ spare places.new }
+{
+    places.clear();
+    for (at, slot) in slots.iter().enumerate() {
+        if let Some(held) = slot {
+            write_place(places, held.id(), at);
         }
     }
 }
 
-/// Puts a new pair last.
-fn append(cache: &mut LruCache<u16, Held>, id: PacketId, held: Held) -> Result<(), AllocError>
-    requires other { lookup (nat_eq id) cache.old.entries ≡ None }
-    requires few { length cache.old.entries < cache.old.cap }
-    ensures ok { OnOk result (cache.new.entries ≡ cache.old.entries ++ (id, held) ∷ []) }
-    ensures err { OnErr result (cache.new.entries ≡ cache.old.entries) }
-    ensures cap { cache.new.cap ≡ cache.old.cap }
+/// Marks each message as sent.
+fn mark_slots(slots: &mut Vec<Option<Held>>)
+    ensures items { slots.new.items ≡ map (option_map gone_out) slots.old.items }
+    ensures capacity { vec_capacity slots.new ≡ vec_capacity slots.old }
 {
-    let _ = cache.put(id.get(), held)?;
-    let _ = cache.demote(&id.get());
-    Ok(())
-}
-
-/// Marks the first message as sent, and puts it last.
-fn mark_first(cache: &mut LruCache<u16, Held>)
-    ensures entries { (p : ℕ × Held) → (ps : List (ℕ × Held)) → cache.old.entries ≡ p ∷ ps → cache.new.entries ≡ ps ++ (p.0, gone_out p.1) ∷ [] }
-    ensures cap { cache.new.cap ≡ cache.old.cap }
-{
-    let Some((first, _)) = cache.peek_mru() else {
-        return;
-    };
-    let id = *first;
-    if let Some(held) = cache.peek_mut(&id) {
-        mark(held);
+    for slot in slots.iter_mut() {
+        mark(slot);
     }
-    let _ = cache.demote(&id);
 }
 
 /// Marks a message as sent.
-fn mark(held: &mut Held)
-    ensures { held.new ≡ gone_out held.old }
+fn mark(slot: &mut Option<Held>)
+    ensures { slot.new ≡ option_map gone_out slot.old }
 {
-    if let Held::Waiting(entry) = held {
+    if let Some(Held::Waiting(entry)) = slot {
         entry.sent = true;
     }
 }

@@ -1,5 +1,7 @@
 //! The books of a session: what each call answers, and what the book is then.
 
+mod room;
+
 use bytes::Bytes;
 use mq_flow::{Claim, LoadError, Session};
 use mq_line::Line;
@@ -143,7 +145,7 @@ fn book_in_short(alloc: Global, session: &Session) -> Result<String, Fail> {
     }
     let sender = &session.sender;
     let (released, claims) = (sender.released(), session.pending().len());
-    let rest = format!(in alloc; "{released} {claims} {}", sender.room())?;
+    let rest = format!(in alloc; "{released} {claims} {}", sender.left())?;
     text.push_str(rest.as_str())?;
     Ok(text)
 }

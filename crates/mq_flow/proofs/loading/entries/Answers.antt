@@ -10,4 +10,5 @@ loop-preserved c = record {
   used = omega (arith, c.loop.invariant.used, c.in_ok-rest.ensures.uses);
   within = omega (arith, c.loop-test.true);
   capacity = c.in_ok-rest.ensures.capacity ∙ c.loop.invariant.capacity;
+  reserved = omega (arith, c.loop.invariant.reserved, c.in_ok-rest.ensures.room);
 }

@@ -9,4 +9,5 @@ invariant-loop l = record {
   used : length (uses l.sender.book) ≡ length (uses l.fn.sender.book) + l.counter;
   within : l.counter ≤ l.count;
   capacity : l.sender.capacity ≡ l.fn.sender.capacity;
+  reserved : l.sender.room ≤ l.fn.sender.room;
 }

@@ -6,7 +6,7 @@ use Rattle.mq_flow.proofs.saving.put_entries.Given as goal
 
 abbrev pub invariant-loop-entry : goal.invariant-loop-entry
 invariant-loop-entry l = record {
-  rest : l.out.items ++ flat_map saved_entry l.entry-iterator ≡ l.fn.out.items ++ (number (length (messages l.table)) ++ flat_map saved_entry (messages l.table));
-  topics : HaveTopics l.entry-iterator → HaveTopics (messages l.table);
+  rest : l.out.items ++ flat_map saved_entry l.entry-iterator ≡ l.fn.out.items ++ (number (length (messages l.table.pairs)) ++ flat_map saved_entry (messages l.table.pairs));
+  topics : HaveTopics l.entry-iterator → HaveTopics (messages l.table.pairs);
   kept : take (length l.fn.out.items) l.out.items ≡ l.fn.out.items;
 }

@@ -6,6 +6,6 @@ use Rattle.mq_flow.proofs.saving.put_released.Given as goal
 
 abbrev pub invariant-loop-id : goal.invariant-loop-id
 invariant-loop-id l = record {
-  rest : l.out.items ++ flat_map number l.id-iterator ≡ l.fn.out.items ++ saved_ids (releases l.table);
+  rest : l.out.items ++ flat_map number l.id-iterator ≡ l.fn.out.items ++ saved_ids (releases l.table.pairs);
   kept : take (length l.fn.out.items) l.out.items ≡ l.fn.out.items;
 }

@@ -8,9 +8,9 @@ use Rattle.mq_flow.proofs.sender.Sender.claim_as.Goals as goal
 
 pub invariant_of-self-2 : goal.invariant_of-self-2
 invariant_of-self-2 c =
-    let ps = c.self.inside.table in
+    let ps = c.self.inside.table.pairs in
     let cs = c.self.inside.claimed.items in
-    let s : Sending = record { book = book_of ps cs; capacity = c.self.inside.capacity; last = c.self.inside.last } in
+    let s : Sending = record { book = book_of ps cs; capacity = c.self.inside.capacity; last = c.self.inside.last; room = c.self.inside.room } in
     let i = c.args.id in
     let free = subst (λ (v : Sending). IsFree v.book i) (sym c.self.view_is) c.requires.free in
     let room = subst (λ (v : Sending). is_full v.capacity v.book ≡ false) (sym c.self.view_is) c.requires.room in
@@ -19,4 +19,5 @@ invariant_of-self-2 c =
       keeps_claim s i c.args.kind c.args.count c.self.invariant.0 room free,
       c.self.invariant.1,
       claimed_more c.self.inside.claimed_ids.keys c.insert.new.self.keys cs (record { id = i; kind = c.args.kind; count = c.args.count }) put c.self.invariant.2,
+      c.self.invariant.3,
     )

@@ -8,21 +8,21 @@ use Rattle.mq_flow.proofs.sender.Sender.has.Goals as goal
 
 pub returns-in-Some-Waiting : goal.returns-in-Some-Waiting
 returns-in-Some-Waiting c =
-    let ps = c.self.inside.table in
+    let ps = c.self.inside.table.pairs in
     let once = once_keys c.self.inside.capacity ps c.self.inside.claimed.items c.self.invariant.1 c.self.invariant.0.sound in
     let found = sym c.get.ensures ∙ ap option_copied c.in-Some-Waiting.is ∙ ap Some c.in-Some-Waiting.field-0-is in
     sym (waiting_found c.args.id ps c.self.invariant.1 once ∙ ap (waiting_in) found) ∙ ap (λ (v : Sending). list_any (λ e. eqb e.id c.args.id) v.book.entries) c.self.view_is
 
 pub returns-in-Some-Released : goal.returns-in-Some-Released
 returns-in-Some-Released c =
-    let ps = c.self.inside.table in
+    let ps = c.self.inside.table.pairs in
     let once = once_keys c.self.inside.capacity ps c.self.inside.claimed.items c.self.invariant.1 c.self.invariant.0.sound in
     let found = sym c.get.ensures ∙ ap option_copied c.in-Some-Released.is ∙ ap Some c.in-Some-Released.field-0-is in
     sym (waiting_found c.args.id ps c.self.invariant.1 once ∙ ap (waiting_in) found) ∙ ap (λ (v : Sending). list_any (λ e. eqb e.id c.args.id) v.book.entries) c.self.view_is
 
 pub returns-in-None : goal.returns-in-None
 returns-in-None c =
-    let ps = c.self.inside.table in
+    let ps = c.self.inside.table.pairs in
     let once = once_keys c.self.inside.capacity ps c.self.inside.claimed.items c.self.invariant.1 c.self.invariant.0.sound in
     let found = sym c.get.ensures ∙ ap option_copied c.in-None.is in
     sym (waiting_found c.args.id ps c.self.invariant.1 once ∙ ap (waiting_in) found) ∙ ap (λ (v : Sending). list_any (λ e. eqb e.id c.args.id) v.book.entries) c.self.view_is

@@ -8,7 +8,7 @@ use Rattle.mq_flow.proofs.sender.Sender.is_idle.Goals as goal
 
 pub returns : goal.returns
 returns c =
-    let ps = c.self.inside.table in
+    let ps = c.self.inside.table.pairs in
     let parts = both_kinds ps in
     let view = c.self.view_is in (
       λ t. let z : length ps ≡ 0 = sym c.len.ensures ∙ zero_is c.len.result t in

@@ -12,7 +12,7 @@ use Rattle.mq_flow.proofs.sender.Sender.is_in_use.Goals as goal
 
 pub returns-then-is_some : goal.returns-then-is_some
 returns-then-is_some c =
-    let ps = c.self.inside.table in
+    let ps = c.self.inside.table.pairs in
     let cs = c.self.inside.claimed.items in
     let there : ltb 0 (times c.args.id (keys_of ps)) ≡ true = sym (found_keys c.args.id ps) ∙ ap is_some (sym c.get.ensures) ∙ copied_some c.get.result ∙ sym c.is_some.ensures ∙ c.if-is_some.true in
     let used : ltb 0 (times c.args.id (uses (book_of ps cs))) ≡ true = more_times _ _ _ (uses_keys ps cs c.self.invariant.1 c.args.id) there in
@@ -23,7 +23,7 @@ returns-then-is_some c =
 
 pub returns-else-is_some : goal.returns-else-is_some
 returns-else-is_some c =
-    let ps = c.self.inside.table in
+    let ps = c.self.inside.table.pairs in
     let cs = c.self.inside.claimed.items in
     let absent : ltb 0 (times c.args.id (keys_of ps)) ≡ false = sym (found_keys c.args.id ps) ∙ ap is_some (sym c.get.ensures) ∙ copied_some c.get.result ∙ sym c.is_some.ensures ∙ c.if-is_some.false in
     let claimed = c.contains.ensures ∙ ap (λ (i : ℕ). list_any (eqb i) c.self.inside.claimed_ids.keys) c.get-else-is_some.ensures.value ∙ c.self.invariant.2 c.args.id in

@@ -7,8 +7,8 @@ use Rattle.mq_flow.proofs.sender.Sender.next_id.Goals as goal
 
 pub loop-init : goal.loop-init
 loop-init c =
-    let s : Sending = record { book = book_of c.self.inside.table c.self.inside.claimed.items; capacity = c.self.inside.capacity; last = c.self.inside.last } in
-    let room = room_left c.args.self.now c.room.result c.room.ensures c.if-room-eq0.false in
+    let s : Sending = record { book = book_of c.self.inside.table.pairs c.self.inside.claimed.items; capacity = c.self.inside.capacity; last = c.self.inside.last; room = c.self.inside.room } in
+    let room = room_left c.args.self.now c.left.result c.left.ensures c.if-left-eq0.false in
     let left = subst (λ (v : Sending). is_full v.capacity v.book ≡ false) (sym c.self.view_is) room in
     let last : c.self.inside.last ≤ 65535 = omega arith in
     subst (λ (v : Sending). Passed v 0 c.self.inside.last) c.self.view_is (passed_none s last c.self.invariant.0.most left)

@@ -1,4 +1,4 @@
-use Rattle.std.proofs.Common.{◌≡◌, ℕ, ◌∙◌, false, eqb, List, sym, ap}
+use Rattle.std.proofs.Common.{◌≡◌, ℕ, ◌∙◌, false, eqb, List, sym, ap, ◌≤◌, arith}
 use Rattle.std.specs.List.{list_any}
 use Rattle.mq_flow.proofs.Kept.{absent_released}
 use Rattle.mq_flow.proofs.Moves.{pubcomp_moves}
@@ -12,10 +12,10 @@ returns-then-not-is_released-clause-book c =
 
 pub invariant_of-self : goal.invariant_of-self
 invariant_of-self c =
-    let move = pubcomp_moves c.self.inside.table c.take.new.self c.self.inside.claimed.items c.self.inside.capacity c.self.inside.last c.args.id c.args.self.now c.self.invariant.0 c.self.invariant.1 c.self.view_is c.is_released.result c.is_released.ensures c.if-not-is_released.false c.take.ensures in
-    (move.keeps, move.under, c.self.invariant.2)
+    let move = pubcomp_moves c.self.inside.table.pairs c.take.new.self.pairs c.self.inside.claimed.items c.self.inside.capacity c.self.inside.last c.self.inside.room c.args.id c.args.self.now c.self.invariant.0 c.self.invariant.1 c.self.view_is c.is_released.result c.is_released.ensures c.if-not-is_released.false c.take.ensures.pairs in
+    (move.keeps c.self.inside.room, move.under, c.self.invariant.2, (let spare = c.take.ensures.spare in let room = c.self.invariant.3 in omega arith))
 
 pub returns-clause-book : goal.returns-clause-book
 returns-clause-book c =
-    let move = pubcomp_moves c.self.inside.table c.take.new.self c.self.inside.claimed.items c.self.inside.capacity c.self.inside.last c.args.id c.args.self.now c.self.invariant.0 c.self.invariant.1 c.self.view_is c.is_released.result c.is_released.ensures c.if-not-is_released.false c.take.ensures in
+    let move = pubcomp_moves c.self.inside.table.pairs c.take.new.self.pairs c.self.inside.claimed.items c.self.inside.capacity c.self.inside.last c.self.inside.room c.args.id c.args.self.now c.self.invariant.0 c.self.invariant.1 c.self.view_is c.is_released.result c.is_released.ensures c.if-not-is_released.false c.take.ensures.pairs in
     move.after

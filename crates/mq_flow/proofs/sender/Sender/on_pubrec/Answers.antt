@@ -1,4 +1,4 @@
-use Rattle.std.proofs.Common.{◌∙◌, sym, ap}
+use Rattle.std.proofs.Common.{◌∙◌, sym, ap, ◌≤◌, arith}
 use Rattle.mq_topic.specs.declared.qos.Qos.TheVariants.{Q2}
 use Rattle.mq_flow.specs.Sender.{is_awaited}
 use Rattle.mq_flow.specs.Sending.{Sending}
@@ -7,14 +7,14 @@ use Rattle.mq_flow.proofs.Moves.{pubrec_moves}
 use Rattle.mq_flow.proofs.sender.Sender.on_pubrec.Goals as goal
 
 pub turn-requires : goal.turn-requires
-turn-requires c = awaited_kept Q2 c.args.id c.self.inside.table c.self.invariant.1 (ap (λ (v : Sending). is_awaited Q2 c.args.id v.book.entries) c.self.view_is ∙ sym c.awaits.ensures ∙ c.if-not-awaits.false)
+turn-requires c = awaited_kept Q2 c.args.id c.self.inside.table.pairs c.self.invariant.1 (ap (λ (v : Sending). is_awaited Q2 c.args.id v.book.entries) c.self.view_is ∙ sym c.awaits.ensures ∙ c.if-not-awaits.false)
 
 pub invariant_of-self : goal.invariant_of-self
 invariant_of-self c =
-    let move = pubrec_moves c.self.inside.table c.turn.new.self c.self.inside.claimed.items c.self.inside.capacity c.self.inside.last c.args.id c.args.self.now c.self.invariant.0 c.self.invariant.1 c.self.view_is c.awaits.result c.awaits.ensures c.if-not-awaits.false c.turn.ensures in
-    (move.keeps, move.under, c.self.invariant.2)
+    let move = pubrec_moves c.self.inside.table.pairs c.turn.new.self.pairs c.self.inside.claimed.items c.self.inside.capacity c.self.inside.last c.self.inside.room c.args.id c.args.self.now c.self.invariant.0 c.self.invariant.1 c.self.view_is c.awaits.result c.awaits.ensures c.if-not-awaits.false c.turn.ensures.pairs in
+    (move.keeps c.self.inside.room, move.under, c.self.invariant.2, (let spare = c.turn.ensures.spare in let room = c.self.invariant.3 in omega arith))
 
 pub returns-clause-book : goal.returns-clause-book
 returns-clause-book c =
-    let move = pubrec_moves c.self.inside.table c.turn.new.self c.self.inside.claimed.items c.self.inside.capacity c.self.inside.last c.args.id c.args.self.now c.self.invariant.0 c.self.invariant.1 c.self.view_is c.awaits.result c.awaits.ensures c.if-not-awaits.false c.turn.ensures in
+    let move = pubrec_moves c.self.inside.table.pairs c.turn.new.self.pairs c.self.inside.claimed.items c.self.inside.capacity c.self.inside.last c.self.inside.room c.args.id c.args.self.now c.self.invariant.0 c.self.invariant.1 c.self.view_is c.awaits.result c.awaits.ensures c.if-not-awaits.false c.turn.ensures.pairs in
     move.after

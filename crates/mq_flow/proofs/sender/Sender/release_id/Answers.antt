@@ -10,9 +10,9 @@ use Rattle.mq_flow.proofs.sender.Sender.release_id.Goals as goal
 
 pub invariant_of-self : goal.invariant_of-self
 invariant_of-self c =
-    let ps = c.self.inside.table in
+    let ps = c.self.inside.table.pairs in
     let cs = c.self.inside.claimed.items in
-    let s : Sending = record { book = book_of ps cs; capacity = c.self.inside.capacity; last = c.self.inside.last } in
+    let s : Sending = record { book = book_of ps cs; capacity = c.self.inside.capacity; last = c.self.inside.last; room = c.self.inside.room } in
     let i = c.args.id in
     let place = subst (λ (xs : List Claimed). c.in-Some.at < length xs) c.deref.ensures.value c.in-Some.ensures.place in
     let found = subst (λ (xs : List Claimed). HoldsAt (λ e. e.id ≡ i) xs c.in-Some.at) c.deref.ensures.value c.in-Some.ensures.claim in
@@ -21,13 +21,14 @@ invariant_of-self c =
       rw out (keeps_release s i c.self.invariant.0),
       c.self.invariant.1,
       rw c.remove.ensures.items (claimed_fewer c.self.inside.claimed_ids.keys c.remove-in-Some.new.self.keys cs i c.in-Some.at taken (once_claimed s.capacity i s.book c.self.invariant.0.sound) place found c.self.invariant.2),
+      c.self.invariant.3,
     )
 
 pub returns-in-Some-clause-book : goal.returns-in-Some-clause-book
 returns-in-Some-clause-book c =
-    let ps = c.self.inside.table in
+    let ps = c.self.inside.table.pairs in
     let cs = c.self.inside.claimed.items in
-    let s : Sending = record { book = book_of ps cs; capacity = c.self.inside.capacity; last = c.self.inside.last } in
+    let s : Sending = record { book = book_of ps cs; capacity = c.self.inside.capacity; last = c.self.inside.last; room = c.self.inside.room } in
     let i = c.args.id in
     let place = subst (λ (xs : List Claimed). c.in-Some.at < length xs) c.deref.ensures.value c.in-Some.ensures.place in
     let found = subst (λ (xs : List Claimed). HoldsAt (λ e. e.id ≡ i) xs c.in-Some.at) c.deref.ensures.value c.in-Some.ensures.claim in
@@ -36,6 +37,6 @@ returns-in-Some-clause-book c =
 
 pub returns-in_default-clause-book : goal.returns-in_default-clause-book
 returns-in_default-clause-book c =
-    let b : SenderBook = book_of c.self.inside.table c.self.inside.claimed.items in
+    let b : SenderBook = book_of c.self.inside.table.pairs c.self.inside.claimed.items in
     let none = subst (λ (xs : List Claimed). list_any (λ e. eqb e.id c.args.id) xs ≡ false) c.deref.ensures.value (sym c.in_default.ensures.there) in
     subst (λ (v : Sending). v.book ≡ release c.args.id v.book) c.self.view_is (sym (ap (λ (xs : List Claimed). record b { claimed = xs }) (absent_claimed c.args.id b none)))
