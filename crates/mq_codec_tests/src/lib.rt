@@ -14,4 +14,6 @@ mod parts;
 #[cfg(test)]
 mod topic;
 #[cfg(test)]
+mod trie;
+#[cfg(test)]
 mod wire;

@@ -2,11 +2,12 @@ ghost use Rattle.std.specs.Prelude.{◌≡◌, IfOk};
 ghost use Rattle.mq_topic.specs.Rows.{matched};
 
 use mq_topic::{
-    ClientKey, FilterStore, ListStore, Qos, TopicFault, TopicFilter, TopicName, is_topic_filter,
-    is_topic_name, matches,
+    ClientKey, FilterStore, ListStore, Qos, TopicFault, TopicFilter, TopicName, TrieStore,
+    is_topic_filter, is_topic_name, matches,
 };
 use mq_wire::Text;
 use std::alloc::{AllocError, Global};
+use std::process::Abort;
 use std::test::Fail;
 
 fn name_fault(alloc: Global, text: &str) -> Option<TopicFault> {
@@ -205,8 +206,12 @@ fn found<S: FilterStore>(store: &S, name: &TopicName) -> Result<Vec<(ClientKey, 
     store.matching(name)
 }
 
-// What a name finds in the plain store, with each client's number.
-fn found_numbers(alloc: Global, store: &ListStore, name: &str) -> Result<Vec<(u32, Qos)>, Fail> {
+// What a name finds in a store, with each client's number.
+pub(crate) fn found_numbers<S: FilterStore>(
+    alloc: Global,
+    store: &S,
+    name: &str,
+) -> Result<Vec<(u32, Qos)>, Fail> {
     let name = TopicName::parse(alloc, name)?;
     let mut numbers = Vec::new(alloc);
     for (client, qos) in &found(store, &name)? {
@@ -224,28 +229,30 @@ static ROWS: [(u32, &str, Qos); 5] = [
     (3, "#", Qos::Q0),
 ];
 
-fn store_of_rows(alloc: Global) -> Result<ListStore, Fail> {
-    let mut store = ListStore::new(alloc);
+pub(crate) fn set_rows<S: FilterStore>(alloc: Global, store: &mut S) -> Result<(), Fail> {
     for (client, filter, qos) in &ROWS {
         let filter = TopicFilter::parse(alloc, *filter)?;
         store.set(ClientKey::new(*client), filter, *qos)?;
     }
-    Ok(store)
+    Ok(())
 }
 
-#[test]
-fn names_find_clients(rt: HostRuntime) -> Result<(), Fail> {
-    let alloc = rt.alloc();
-    let mut store = store_of_rows(alloc)?;
+// What names find in a store with the rows.
+fn finds_clients<S: FilterStore>(rt: &impl Abort, alloc: Global, store: &S) -> Result<(), Fail> {
     for (name, wanted) in [
         ("a/b", [(0, Qos::Q2), (1, Qos::Q0), (3, Qos::Q0)].as_slice()),
         ("a/", &[(0, Qos::Q2), (2, Qos::Q1), (3, Qos::Q0)]),
         ("a", &[(0, Qos::Q2), (3, Qos::Q0)]),
         ("$SYS/x", &[]),
     ] {
-        let numbers = found_numbers(alloc, &store, name)?;
+        let numbers = found_numbers(alloc, store, name)?;
         assert_eq!(rt; numbers.as_slice(), wanted, "{name}");
     }
+    Ok(())
+}
+
+// What they find after one row is taken away.
+fn loses_a_row<S: FilterStore>(rt: &impl Abort, alloc: Global, store: &mut S) -> Result<(), Fail> {
     let filter = TopicFilter::parse(alloc, "a/#")?;
     assert!(rt; store.remove(ClientKey::new(0), &filter));
     assert!(rt; !store.remove(ClientKey::new(0), &filter));
@@ -253,16 +260,18 @@ fn names_find_clients(rt: HostRuntime) -> Result<(), Fail> {
         ("a/b", [(0, Qos::Q1), (1, Qos::Q0), (3, Qos::Q0)].as_slice()),
         ("a", &[(3, Qos::Q0)]),
     ] {
-        let numbers = found_numbers(alloc, &store, name)?;
+        let numbers = found_numbers(alloc, store, name)?;
         assert_eq!(rt; numbers.as_slice(), wanted, "{name}");
     }
     Ok(())
 }
 
-#[test]
-fn rows_are_set_and_taken_away(rt: HostRuntime) -> Result<(), Fail> {
-    let alloc = rt.alloc();
-    let mut store = store_of_rows(alloc)?;
+// What a store answers for a row that is set again, and after its client's rows are taken away.
+fn sets_and_takes<S: FilterStore>(
+    rt: &impl Abort,
+    alloc: Global,
+    store: &mut S,
+) -> Result<(), Fail> {
     let filter = TopicFilter::parse(alloc, "a/+")?;
     let client = ClientKey::new(0);
     assert_eq!(rt; store.get(client, &filter), Some(Qos::Q1));
@@ -271,7 +280,66 @@ fn rows_are_set_and_taken_away(rt: HostRuntime) -> Result<(), Fail> {
     assert_eq!(rt; store.get(client, &filter), Some(Qos::Q0));
     store.remove_client(client);
     assert_eq!(rt; store.get(client, &filter), None);
-    let numbers = found_numbers(alloc, &store, "a/b")?;
+    let numbers = found_numbers(alloc, store, "a/b")?;
     assert_eq!(rt; numbers.as_slice(), [(1, Qos::Q0), (3, Qos::Q0)].as_slice());
+    Ok(())
+}
+
+#[test]
+fn names_find_clients_in_a_list(rt: HostRuntime) -> Result<(), Fail> {
+    let alloc = rt.alloc();
+    let mut store = ListStore::new(alloc);
+    set_rows(alloc, &mut store)?;
+    finds_clients(&rt, alloc, &store)?;
+    loses_a_row(&rt, alloc, &mut store)
+}
+
+#[test]
+fn names_find_clients_in_a_trie(rt: HostRuntime) -> Result<(), Fail> {
+    let alloc = rt.alloc();
+    let mut store = TrieStore::new(alloc);
+    set_rows(alloc, &mut store)?;
+    finds_clients(&rt, alloc, &store)?;
+    loses_a_row(&rt, alloc, &mut store)
+}
+
+#[test]
+fn rows_are_set_and_taken_away(rt: HostRuntime) -> Result<(), Fail> {
+    let alloc = rt.alloc();
+    let mut list = ListStore::new(alloc);
+    set_rows(alloc, &mut list)?;
+    sets_and_takes(&rt, alloc, &mut list)?;
+    let mut trie = TrieStore::new(alloc);
+    set_rows(alloc, &mut trie)?;
+    sets_and_takes(&rt, alloc, &mut trie)
+}
+
+#[test]
+fn a_trie_has_the_nodes_of_its_rows(rt: HostRuntime) -> Result<(), Fail> {
+    let alloc = rt.alloc();
+    let mut store = TrieStore::new(alloc);
+    assert_eq!(rt; store.nodes(), 1);
+    set_rows(alloc, &mut store)?;
+    assert!(rt; store.nodes() <= 10);
+    for client in 0..4 {
+        store.remove_client(ClientKey::new(client));
+    }
+    assert_eq!(rt; store.nodes(), 1);
+    Ok(())
+}
+
+#[test]
+fn a_filter_has_65536_levels(rt: HostRuntime) -> Result<(), Fail> {
+    let alloc = rt.alloc();
+    let longest = "/".repeat(alloc, 65_535)?;
+    let filter = TopicFilter::parse(alloc, longest.as_str())?;
+    let client = ClientKey::new(7);
+    let mut store = TrieStore::new(alloc);
+    store.set(client, filter.clone()?, Qos::Q1)?;
+    assert_eq!(rt; store.nodes(), 65_537);
+    let numbers = found_numbers(alloc, &store, longest.as_str())?;
+    assert_eq!(rt; numbers.as_slice(), [(7, Qos::Q1)].as_slice());
+    assert!(rt; store.remove(client, &filter));
+    assert_eq!(rt; store.nodes(), 1);
     Ok(())
 }

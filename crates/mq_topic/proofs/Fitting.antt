@@ -17,12 +17,12 @@ hash_alone-first l [] h = absurd (omega arith)
 hash_alone-first l (m ∷ ls) h = refl
 
 -- a text has a level
-levels-some : (t : List ℕ) → 0 < length (levels t)
-levels-some t = omega (arith, length-slice_split is_slash t)
+pub levels_some : (t : List ℕ) → 0 < length (levels t)
+levels_some t = omega (arith, length-slice_split is_slash t)
 
 pub hash_alone-left : (l : List ℕ) (after : Option (Bor (List ℕ))) → is_hash_alone (l ∷ levels_left after) ≡ (is_hash_level l && is_none after)
 hash_alone-left l None = sym (and-true (is_hash_level l))
-hash_alone-left l (Some t) = hash_alone-first l (levels t.now) (levels-some t.now) ∙ sym (and-false (is_hash_level l))
+hash_alone-left l (Some t) = hash_alone-first l (levels t.now) (levels_some t.now) ∙ sym (and-false (is_hash_level l))
 
 fits-none_some : (ns : List (List ℕ)) → 0 < length ns → fits [] ns ≡ false
 fits-none_some [] h = absurd (omega arith)
@@ -31,7 +31,7 @@ fits-none_some (n ∷ ns) h = refl
 -- a filter's last level is behind
 pub fits-none : (left : Option (Bor (List ℕ))) → fits [] (levels_left left) ≡ is_none left
 fits-none None = refl
-fits-none (Some t) = fits-none_some (levels t.now) (levels-some t.now)
+fits-none (Some t) = fits-none_some (levels t.now) (levels_some t.now)
 
 pub fits-hash : (l : List ℕ) (ls ns : List (List ℕ)) → is_hash_alone (l ∷ ls) ≡ true → fits (l ∷ ls) ns ≡ true
 fits-hash l ls [] e = e

@@ -15,7 +15,7 @@ use Rattle.mq_topic.specs.declared.qos.Qos.TheVariants.{Q0, Q1, Q2}
 use Rattle.mq_topic.proofs.Keys.{nat_ties}
 use Rattle.mq_topic.proofs.Placing.{T-true, true-T, first, second, less}
 
-greater-swap : (p q : Qos) → greater p q ≡ greater q p
+pub greater-swap : (p q : Qos) → greater p q ≡ greater q p
 greater-swap Q0 Q0 = refl
 greater-swap Q0 Q1 = refl
 greater-swap Q0 Q2 = refl

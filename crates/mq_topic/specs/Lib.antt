@@ -1,4 +1,6 @@
+pub mod ClientRows
 pub mod Fault
+pub mod Found
 pub mod Laws
 pub mod Match
 pub mod Matching
@@ -6,3 +8,5 @@ pub mod Qos
 pub mod Rows
 pub mod StoreLaws
 pub mod Topic
+pub mod Tree
+pub mod TrieView

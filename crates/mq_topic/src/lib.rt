@@ -3,6 +3,7 @@
 #![tactic(auto)]
 
 mod client;
+mod client_rows;
 mod comparing;
 mod fault;
 mod filter;
@@ -12,6 +13,9 @@ mod matching;
 mod name;
 mod qos;
 mod store;
+mod trie_nodes;
+mod trie_store;
+mod trie_walk;
 
 pub use crate::client::ClientKey;
 pub use crate::fault::{TopicFault, topic_laws};
@@ -21,3 +25,4 @@ pub use crate::matching::matches;
 pub use crate::name::{TopicName, is_topic_name};
 pub use crate::qos::Qos;
 pub use crate::store::{FilterStore, store_laws};
+pub use crate::trie_store::TrieStore;

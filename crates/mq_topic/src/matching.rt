@@ -8,8 +8,8 @@ ghost use Rattle.mq_topic.specs.Matching.{fits, fits_level, is_hash_alone, is_hi
 use crate::filter::TopicFilter;
 use crate::name::TopicName;
 
-// The first level of a text, and the text after it, which a last level has not.
-fn first_level(text: &str) -> (&str, Option<&str>)
+/// The first level of a text, and the text after it, which a last level has not.
+pub(crate) fn first_level(text: &str) -> (&str, Option<&str>)
     ensures levels { levels text.now ≡ result.0.now ∷ levels_left result.1 }
     ensures shorter { IfSome result.1 (λ after. length after.now < length text.now) }
 {

@@ -1,0 +1,267 @@
+-- What can be asked of the nodes after one of them was changed.
+use Rattle.std.proofs.Common.{◌≡◌, ◌⊎◌, inl, inr, ℕ, Bool, true, false, cond, List, [], ◌∷◌, length, Option, Some, None, IsSome, Global, IsTrue, ◌↔◌, refl, sym, ap, subst, ◌∙◌, arith}
+use Rattle.std.specs.Bool.{MatchBool}
+use Rattle.std.specs.Map.{AreApart, IsKeyTest, KeepsOthers, lookup}
+use Rattle.std.specs.Option.{option_map, option_map_or}
+use Rattle.std.specs.Ordering.{is_eq, nat_cmp}
+use Rattle.std.specs.Rc.{rc_str_bytes}
+use Rattle.std.specs.Str.{bytes_eq}
+use Rattle.std.specs.declared.rc.RcStr.{RcStr}
+use Rattle.std.proofs.lemmas.Bool.{ne_eqb}
+use Rattle.std.proofs.lemmas.Cmp.{nat_cmp_total, tied_itself}
+use Rattle.slab.specs.Slab.{Slab, Updates, get, with_value}
+use Rattle.slab.proofs.SlabLemmas.{Updates-with_value}
+use Rattle.mq_topic.specs.Tree.{ChildIs, ClientIs, Cut, Grown, IsBare, IsPlace, IsUsed, SameTree}
+use Rattle.mq_topic.specs.TrieView.{child_at, child_of, client_at, client_of, link_in, node_of, tree}
+use Rattle.mq_topic.specs.declared.qos.Qos.{Qos}
+use Rattle.mq_topic.specs.declared.trie_nodes.Node.{Node}
+use Rattle.mq_topic.specs.declared.trie_nodes.NodeId.{NodeId}
+use Rattle.mq_topic.specs.declared.trie_nodes.Trie.{Trie}
+use Rattle.mq_topic.proofs.Keys.{nat_ties}
+use Rattle.mq_topic.proofs.Paths.{same_number}
+use Rattle.mq_topic.proofs.Standard.{bytes_eq-itself, same_bytes}
+
+-- ---- maps with levels and clients as keys
+
+bytes_differ-by : (l m : List ℕ) (r : Bool) → bytes_eq l m ≡ r → (l ≡ m → ⊥) → r ≡ false
+bytes_differ-by l m true e ne = absurd (ne (same_bytes l m e))
+bytes_differ-by l m false e ne = refl
+
+bytes_differ : (l m : List ℕ) → (l ≡ m → ⊥) → bytes_eq l m ≡ false
+bytes_differ l m ne = bytes_differ-by l m (bytes_eq l m) refl ne
+
+-- the test of a key by its bytes
+abbrev pub has_bytes : {Z : Type 0} → List ℕ → RcStr Z → Bool
+has_bytes l k = bytes_eq l (rc_str_bytes k)
+
+abbrev pub same_text : {Z : Type 0} → RcStr Z → RcStr Z → Bool
+same_text x y = bytes_eq (rc_str_bytes x) (rc_str_bytes y)
+
+pub other_level : {Z X : Type 0} (level l : List ℕ) (old new : List (RcStr Z × X)) → KeepsOthers same_text (has_bytes level) old new → (l ≡ level → ⊥)
+    → lookup (has_bytes l) new ≡ lookup (has_bytes l) old
+unfolding KeepsOthers
+other_level level l old new keeps ne =
+    keeps (has_bytes l)
+    (λ x y e. ap (λ z. bytes_eq z (rc_str_bytes y)) (same_bytes l (rc_str_bytes x) e))
+    (λ k e. bytes_differ l (rc_str_bytes k) (λ same. ne (same ∙ sym (same_bytes level (rc_str_bytes k) e))))
+
+-- the test of a client
+abbrev pub is_client : ℕ → ℕ → Bool
+is_client c d = is_eq (nat_cmp c d)
+
+pub is_client-other : (c d : ℕ) → (c ≡ d → ⊥) → is_client c d ≡ false
+is_client-other c d ne = sym (nat_ties c d) ∙ ne_eqb c d ne
+
+pub is_client-itself : (c : ℕ) → is_client c c ≡ true
+is_client-itself c = ap is_eq (tied_itself nat_cmp_total c)
+
+-- ---- one node changes
+
+module _ (old new : Trie) (k : NodeId) (n m : Node) (was : node_of old k ≡ Some n) (u : Updates old.nodes new.nodes k.0 (Some m)) where
+  other_node : (j : NodeId) → (j ≡ k → ⊥) → node_of new j ≡ node_of old j
+  other_node j ne = u.others j.0 (λ e. ne (λ i. record { 0 = e i }))
+
+  -- what is read of the node as before is read of each node as before
+  read : {A : Type 0} (f : Option Node → A) → f (Some m) ≡ f (Some n) → (j : NodeId) → f (node_of new j) ≡ f (node_of old j)
+  read f e j =
+      elim (same_number j k) [
+        | inl s ↦ ap (λ x. f (node_of new x)) s ∙ ap f u.changed ∙ e ∙ sym (ap f was) ∙ sym (ap (λ x. f (node_of old x)) s)
+        | inr ne ↦ ap f (other_node j ne)
+      ]
+
+  pub child_is : (top : new.top.entries ≡ old.top.entries) → link_in m ≡ link_in n → m.clients.entries ≡ n.clients.entries
+      → (level : List ℕ) (x : Option NodeId) → child_at level m ≡ x → ((l : List ℕ) → (l ≡ level → ⊥) → child_at l m ≡ child_at l n)
+      → ChildIs (Some k) level x (tree old) (tree new)
+  child_is top link clients level x here there = record {
+    link = read (option_map link_in) (ap (λ y. Some y) link);
+    same = ap (λ (o : Option Node). option_map_or (child_at level) o None) u.changed ∙ here;
+    others = others;
+    client = λ j c. read (λ o. option_map_or (client_at c) o None) (ap (lookup (is_client c)) clients) j;
+  }
+    where
+      others : (a : Option NodeId) (l : List ℕ) → ((a ≡ Some k) × (l ≡ level) → ⊥) → child_of new a l ≡ child_of old a l
+      others None l ne = ap (lookup (has_bytes l)) top
+      others (Some j) l ne =
+          elim (same_number j k) [
+            | inl s ↦ read (λ o. option_map_or (child_at l) o None) (there l (λ e. ne (ap (λ (y : NodeId). Some y) s, e))) j
+            | inr differs ↦ ap (λ (o : Option Node). option_map_or (child_at l) o None) (other_node j differs)
+          ]
+
+  pub client_is : (top : new.top.entries ≡ old.top.entries) → link_in m ≡ link_in n → m.children.entries ≡ n.children.entries
+      → (c : ℕ) (x : Option Qos) → client_at c m ≡ x → ((d : ℕ) → (d ≡ c → ⊥) → client_at d m ≡ client_at d n)
+      → ClientIs k c x (tree old) (tree new)
+  client_is top link children c x here there = record {
+    link = read (option_map link_in) (ap (λ y. Some y) link);
+    child = child;
+    client = ap (λ (o : Option Node). option_map_or (client_at c) o None) u.changed ∙ here;
+    others = λ j d ne. elim (same_number j k) [
+      | inl s ↦ read (λ o. option_map_or (client_at d) o None) (there d (λ e. ne (s, e))) j
+      | inr differs ↦ ap (λ (o : Option Node). option_map_or (client_at d) o None) (other_node j differs)
+    ];
+  }
+    where
+      child : (a : Option NodeId) (l : List ℕ) → child_of new a l ≡ child_of old a l
+      child None l = ap (lookup (has_bytes l)) top
+      child (Some j) l = read (λ o. option_map_or (child_at l) o None) (ap (lookup (has_bytes l)) children) j
+
+  pub same_is : (top : new.top.entries ≡ old.top.entries) → link_in m ≡ link_in n → m.children.entries ≡ n.children.entries → m.clients.entries ≡ n.clients.entries
+      → SameTree (tree old) (tree new)
+  same_is top link children clients = record {
+    link = read (option_map link_in) (ap (λ y. Some y) link);
+    child = child;
+    client = λ j c. read (λ o. option_map_or (client_at c) o None) (ap (lookup (is_client c)) clients) j;
+  }
+    where
+      child : (a : Option NodeId) (l : List ℕ) → child_of new a l ≡ child_of old a l
+      child None l = ap (lookup (has_bytes l)) top
+      child (Some j) l = read (λ o. option_map_or (child_at l) o None) (ap (lookup (has_bytes l)) children) j
+
+pub some_is : (o : Option Node) (n : Node) → Some n ≡ o → IsSome o
+some_is None n e = absurd cc
+some_is (Some m) n e = refl
+
+pub written : (t : Trie) (k : NodeId) (n m : Node) → Some n ≡ node_of t k → Updates t.nodes (with_value t.nodes k.0 m) k.0 (Some m)
+written t k n m e = Updates-with_value t.nodes k.0 m (some_is (node_of t k) n e)
+
+-- the trie with a node in another's place
+abbrev pub put_node : Trie → NodeId → Node → Trie
+put_node t k m = record t { nodes = with_value t.nodes k.0 m }
+
+-- the root's children change
+pub top_is : (old new : Trie) → new.nodes ≡ old.nodes → (level : List ℕ) (x : Option NodeId) → child_of new None level ≡ x
+    → ((l : List ℕ) → (l ≡ level → ⊥) → child_of new None l ≡ child_of old None l) → ChildIs None level x (tree old) (tree new)
+top_is old new same level x here there = record {
+  link = λ k. ap (λ (s : Slab Node). option_map link_in (get s k.0)) same;
+  same = here;
+  others = others;
+  client = λ k c. ap (λ (s : Slab Node). option_map_or (client_at c) (get s k.0) None) same;
+}
+  where
+    others : (a : Option NodeId) (l : List ℕ) → ((a ≡ None) × (l ≡ level) → ⊥) → child_of new a l ≡ child_of old a l
+    others None l ne = there l (λ e. ne (refl, e))
+    others (Some j) l ne = ap (λ (s : Slab Node). option_map_or (child_at l) (get s j.0) None) same
+
+-- ---- a node more
+
+module _ (old mid : Trie) (k : NodeId) (n : Node) (top : mid.top.entries ≡ old.top.entries) (absent : node_of old k ≡ None) (u : Updates old.nodes mid.nodes k.0 (Some n))
+    (no_children : n.children.entries ≡ []) (no_clients : n.clients.entries ≡ []) where
+  beside : (j : NodeId) → (j ≡ k → ⊥) → node_of mid j ≡ node_of old j
+  beside j ne = u.others j.0 (λ e. ne (λ i. record { 0 = e i }))
+
+  -- what is read of the node as of none
+  read_new : {A : Type 0} (f : Option Node → A) → f (Some n) ≡ f None → (j : NodeId) → f (node_of mid j) ≡ f (node_of old j)
+  read_new f e j =
+      elim (same_number j k) [
+        | inl s ↦ ap (λ x. f (node_of mid x)) s ∙ ap f u.changed ∙ e ∙ sym (ap f absent) ∙ sym (ap (λ x. f (node_of old x)) s)
+        | inr ne ↦ ap f (beside j ne)
+      ]
+
+  mid_child : (a : Option NodeId) (l : List ℕ) → child_of mid a l ≡ child_of old a l
+  mid_child None l = ap (lookup (has_bytes l)) top
+  mid_child (Some j) l = read_new (λ o. option_map_or (child_at l) o None) (ap (lookup (has_bytes l)) no_children) j
+
+  mid_client : (j : NodeId) (c : ℕ) → client_of mid j c ≡ client_of old j c
+  mid_client j c = read_new (λ o. option_map_or (client_at c) o None) (ap (lookup (is_client c)) no_clients) j
+
+  pub grown_is : (new : Trie) (at : Option NodeId) (level : List ℕ) → link_in n ≡ (at, level) → ChildIs at level (Some k) (tree mid) (tree new) → Grown at level k (tree old) (tree new)
+  grown_is new at level link g = record {
+    fresh = ap (option_map link_in) absent;
+    link = g.link k ∙ ap (option_map link_in) u.changed ∙ ap (λ (x : Option NodeId × List ℕ). Some x) link;
+    links = λ j ne. g.link j ∙ ap (option_map link_in) (beside j ne);
+    same = g.same;
+    others = λ a l ne. g.others a l ne ∙ mid_child a l;
+    client = λ j c. g.client j c ∙ mid_client j c;
+  }
+
+  pub undone_is : (post new : Trie) → SameTree (tree mid) (tree post) → new.top.entries ≡ post.top.entries → Updates post.nodes new.nodes k.0 None → SameTree (tree old) (tree new)
+  undone_is post new same last v = record { link = link; child = child; client = client }
+    where
+      after : {A : Type 0} (f : Option Node → A) (j : NodeId) → f None ≡ f (node_of old k) → (f (node_of post j) ≡ f (node_of old j)) → f (node_of new j) ≡ f (node_of old j)
+      after f j none kept =
+          elim (same_number j k) [
+            | inl s ↦ ap (λ x. f (node_of new x)) s ∙ ap f v.changed ∙ none ∙ sym (ap (λ x. f (node_of old x)) s)
+            | inr ne ↦ ap f (v.others j.0 (λ e. ne (λ i. record { 0 = e i }))) ∙ kept
+          ]
+
+      at_mid : (j : NodeId) → (j ≡ k → ⊥) → option_map link_in (node_of mid j) ≡ option_map link_in (node_of old j)
+      at_mid j ne = ap (option_map link_in) (beside j ne)
+
+      link : (j : NodeId) → option_map link_in (node_of new j) ≡ option_map link_in (node_of old j)
+      link j =
+          elim (same_number j k) [
+            | inl s ↦ ap (λ x. option_map link_in (node_of new x)) s ∙ ap (option_map link_in) v.changed ∙ sym (ap (option_map link_in) absent) ∙ sym (ap (λ x. option_map link_in (node_of old x)) s)
+            | inr ne ↦ ap (option_map link_in) (v.others j.0 (λ e. ne (λ i. record { 0 = e i }))) ∙ same.link j ∙ at_mid j ne
+          ]
+
+      child : (a : Option NodeId) (l : List ℕ) → child_of new a l ≡ child_of old a l
+      child None l = ap (lookup (has_bytes l)) last ∙ same.child None l ∙ mid_child None l
+      child (Some j) l = after (λ o. option_map_or (child_at l) o None) j (sym (ap (λ (o : Option Node). option_map_or (child_at l) o None) absent)) (same.child (Some j) l ∙ mid_child (Some j) l)
+
+      client : (j : NodeId) (c : ℕ) → client_of new j c ≡ client_of old j c
+      client j c = after (λ o. option_map_or (client_at c) o None) j (sym (ap (λ (o : Option Node). option_map_or (client_at c) o None) absent)) (same.client j c ∙ mid_client j c)
+
+-- ---- a node less
+
+pub cut_is : (old mid new : Trie) (k : NodeId) (n : Node) → Some n ≡ node_of old k → mid.top.entries ≡ old.top.entries → Updates old.nodes mid.nodes k.0 None → IsBare (tree old) k
+    → ChildIs n.parent (rc_str_bytes n.level) None (tree mid) (tree new) → Cut n.parent (rc_str_bytes n.level) k (tree old) (tree new)
+cut_is old mid new k n was top u bare g = record {
+  link = g.link k ∙ ap (option_map link_in) u.changed;
+  links = λ j ne. g.link j ∙ ap (option_map link_in) (u.others j.0 (λ e. ne (λ i. record { 0 = e i })));
+  same = g.same;
+  others = λ a l ne. g.others a l ne ∙ mid_child a l;
+  client = λ j c. g.client j c ∙ gone (λ o. option_map_or (client_at c) o None) j (sym (bare.client c));
+}
+  where
+    gone : {A : Type 0} (f : Option Node → A) (j : NodeId) → f None ≡ f (node_of old k) → f (node_of mid j) ≡ f (node_of old j)
+    gone f j none =
+        elim (same_number j k) [
+          | inl s ↦ ap (λ x. f (node_of mid x)) s ∙ ap f u.changed ∙ none ∙ sym (ap (λ x. f (node_of old x)) s)
+          | inr ne ↦ ap f (u.others j.0 (λ e. ne (λ i. record { 0 = e i })))
+        ]
+
+    mid_child : (a : Option NodeId) (l : List ℕ) → child_of mid a l ≡ child_of old a l
+    mid_child None l = ap (lookup (has_bytes l)) top
+    mid_child (Some j) l = gone (λ o. option_map_or (child_at l) o None) j (sym (bare.child l))
+
+-- ---- a node with nothing
+
+empty : {A : Type 0} (xs : List A) → length xs ≡ 0 → xs ≡ []
+empty [] e = refl
+empty (x ∷ xs) e = absurd (omega arith)
+
+pub bare_is : (t : Trie) (k : NodeId) (n : Node) → Some n ≡ node_of t k → length n.children.entries ≡ 0 → length n.clients.entries ≡ 0 → IsBare (tree t) k × IsPlace (tree t) (Some k)
+bare_is t k n was children clients = (
+  record {
+    child = λ l. sym (ap (λ (o : Option Node). option_map_or (child_at l) o None) was) ∙ ap (lookup (has_bytes l)) (empty n.children.entries children);
+    client = λ c. sym (ap (λ (o : Option Node). option_map_or (client_at c) o None) was) ∙ ap (lookup (is_client c)) (empty n.clients.entries clients);
+  },
+  subst (λ (o : Option Node). IsSome (option_map link_in o)) was refl,
+)
+
+first_child : (es : List (RcStr Global × NodeId)) → (length es ≡ 0 → ⊥) → (l : List ℕ) × IsSome (lookup (has_bytes l) es)
+first_child [] ne = absurd (ne refl)
+first_child (e ∷ es) ne = (rc_str_bytes e.0, rw (bytes_eq-itself (rc_str_bytes e.0)) refl)
+
+first_client : (es : List (ℕ × Qos)) → (length es ≡ 0 → ⊥) → (c : ℕ) × IsSome (lookup (is_client c) es)
+first_client [] ne = absurd (ne refl)
+first_client (e ∷ es) ne = (e.0, rw (is_client-itself e.0) refl)
+
+pub used_by_child : (t : Trie) (k : NodeId) (n : Node) → Some n ≡ node_of t k → (length n.children.entries ≡ 0 → ⊥) → IsUsed (tree t) k
+used_by_child t k n was ne =
+    let w = first_child n.children.entries ne in
+    inl (w.0, subst (λ (o : Option Node). IsSome (option_map_or (child_at w.0) o None)) was w.1)
+
+pub used_by_client : (t : Trie) (k : NodeId) (n : Node) → Some n ≡ node_of t k → (length n.clients.entries ≡ 0 → ⊥) → IsUsed (tree t) k
+used_by_client t k n was ne =
+    let w = first_client n.clients.entries ne in
+    inr (w.0, subst (λ (o : Option Node). IsSome (option_map_or (client_at w.0) o None)) was w.1)
+
+pub bare-by : (t : Trie) (k : NodeId) (n : Node) (r : Bool) → Some n ≡ node_of t k → length n.children.entries ≡ 0 → IsTrue r ↔ (length n.clients.entries ≡ 0)
+    → MatchBool r (IsBare (tree t) k × IsPlace (tree t) (Some k)) (IsPlace (tree t) (Some k) → IsUsed (tree t) k)
+bare-by t k n true was children h = bare_is t k n was children (h.0 refl)
+bare-by t k n false was children h = λ _. used_by_client t k n was (λ e. let no : false ≡ true = h.1 e in cc)
+
+pub used-by : (t : Trie) (k : NodeId) (n : Node) (r : Bool) → Some n ≡ node_of t k → r ≡ false → IsTrue r ↔ (length n.children.entries ≡ 0)
+    → MatchBool r (IsBare (tree t) k × IsPlace (tree t) (Some k)) (IsPlace (tree t) (Some k) → IsUsed (tree t) k)
+used-by t k n true was e h = absurd cc
+used-by t k n false was e h = λ _. used_by_child t k n was (λ e. let no : false ≡ true = h.1 e in cc)

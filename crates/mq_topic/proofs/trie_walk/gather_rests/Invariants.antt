@@ -1,0 +1,7 @@
+use Rattle.std.proofs.Common.{take, ◌∷◌, []}
+use Rattle.mq_topic.specs.Found.{Among, Gathers, IsAt}
+use Rattle.mq_topic.specs.TrieView.{child_of, tree}
+use Rattle.mq_topic.proofs.trie_walk.gather_rests.Given as goal
+
+abbrev pub invariant-nodes : goal.invariant-nodes
+invariant-nodes l = Gathers (λ c q. Among (λ at. IsAt (tree l.trie) (child_of l.trie at (35 ∷ [])) c q) (take l.at-index l.nodes)) l.initial.found.entries l.found.entries

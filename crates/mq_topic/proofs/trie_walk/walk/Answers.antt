@@ -1,0 +1,50 @@
+use Rattle.std.proofs.Common.{◌≡◌, ◌∷◌, [], List, ℕ, Option, sym, refl, ap, subst, ◌∙◌, ◌↔◌}
+use Rattle.mq_topic.specs.Found.{Among, Finds, Gathers, IsAt, Steps}
+use Rattle.mq_topic.specs.Matching.{levels_left}
+use Rattle.mq_topic.specs.TrieView.{child_of, tree}
+use Rattle.mq_topic.specs.declared.trie_nodes.NodeId.{NodeId}
+use Rattle.mq_topic.proofs.Gathering.{Holds}
+use Rattle.mq_topic.proofs.Outcomes.{when_ok}
+use Rattle.mq_topic.proofs.Walking.{IsWalked, walk_begins, walk_ends, walk_level}
+use Rattle.mq_topic.proofs.trie_walk.walk.Goals as goal
+
+pub levels-init : goal.levels-init
+levels-init c =
+    let found = c.args.found.now.entries in
+    let name = levels_left c.args.name in
+    let t = tree c.args.trie.now in
+    rw (c.in_ok-push.ensures.items, c.new-nodes.ensures.items)
+    (walk_begins t (Finds t c.args.from name) found found found [] c.args.from name)
+
+pub levels-preserved : goal.levels-preserved
+levels-preserved c =
+    let trie = c.args.trie.now in
+    let t = tree trie in
+    let All = Finds t c.args.from (levels_left c.args.name) in
+    let begun = c.args.found.now.entries in
+    let found = c.levels.found.entries in
+    let later = c.gather_rests.new.found.entries in
+    let nodes = c.levels.nodes.items in
+    let next = c.in_ok-nodes.nodes.items in
+    let first = c.first_level.result in
+    let left = ap levels_left c.in-Some.is ∙ c.first_level.ensures.levels in
+    let walked = subst (λ ns. IsWalked t All begun found nodes ns) left c.levels.invariant in
+    let gathered = subst (λ ns. Gathers (λ d q. Among (λ at. IsAt t (child_of trie at (35 ∷ [])) d q) ns) found later) c.deref.ensures.value c.in_ok-gather_rests.ensures in
+    let stepped = λ (to : Option NodeId). subst (λ ns. Holds next to ↔ Among (Steps t first.0.now to) ns) c.deref-in-Some.ensures.value (c.in_ok-nodes.ensures to) in
+    walk_level t All begun found later nodes next first.0.now (levels_left first.1) walked gathered stepped
+
+pub returns : goal.returns
+returns c =
+    let trie = c.args.trie.now in
+    let t = tree trie in
+    let All = Finds t c.args.from (levels_left c.args.name) in
+    let begun = c.args.found.now.entries in
+    let found = c.levels.found.entries in
+    let later = c.gather_rests-2.new.found.entries in
+    let last = c.gather_ends.new.found.entries in
+    let nodes = c.levels.nodes.items in
+    let walked = subst (λ ns. IsWalked t All begun found nodes ns) (ap levels_left c.in_default.is) c.levels.invariant in
+    let gathered = subst (λ ns. Gathers (λ d q. Among (λ at. IsAt t (child_of trie at (35 ∷ [])) d q) ns) found later) c.deref-2.ensures.value c.in_ok-gather_rests-2.ensures in
+    when_ok c.gather_ends.result _ _
+    (λ g. walk_ends t All begun found later nodes last walked gathered (subst (λ ns. Gathers (λ d q. Among (λ at. IsAt t at d q) ns) later last) c.deref-3.ensures.value g))
+    c.gather_ends.ensures

@@ -1,0 +1,17 @@
+use Rattle.std.proofs.Common.{◌+◌, ℕ, List, Bor, Option, Some, None, length}
+use Rattle.mq_topic.specs.Found.{Finds}
+use Rattle.mq_topic.specs.Matching.{levels_left}
+use Rattle.mq_topic.specs.TrieView.{tree}
+use Rattle.mq_topic.proofs.Walking.{IsWalked}
+use Rattle.mq_topic.proofs.trie_walk.walk.Given as goal
+
+abbrev pub invariant-levels : goal.invariant-levels
+invariant-levels l = IsWalked (tree l.trie) (Finds (tree l.trie) l.fn.from (levels_left l.fn.name)) l.initial.found.entries l.found.entries l.nodes.items (levels_left l.left)
+
+-- one more than the bytes that are left
+abbrev pub count_left : Option (Bor (List ℕ)) → ℕ
+count_left None = 0
+count_left (Some t) = length t.now + 1
+
+abbrev pub decreases-levels : goal.decreases-levels
+decreases-levels l = count_left l.left

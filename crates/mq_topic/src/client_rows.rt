@@ -1,0 +1,103 @@
+//! The rows of a store, findable by their client.
+
+ghost use Rattle.std.specs.Prelude.{◌≡◌, [], ℕ, List, None, MatchOption, OnOk, OnErr};
+ghost use Rattle.std.specs.FinMap.{find};
+ghost use Rattle.std.specs.Ordering.{nat_cmp};
+ghost use Rattle.std.specs.Cmp.Lexicographic.{slice_cmp};
+ghost use Rattle.mq_topic.specs.Rows.{IsAscending, row_qos, with_row, without_client, without_row};
+
+use crate::client::ClientKey;
+use crate::filter::TopicFilter;
+use crate::qos::Qos;
+use std::alloc::{AllocError, Global};
+use std::collections::BTreeMap;
+use std::marker::Model;
+
+/// The rows of one client.
+pub(crate) type OwnRows = BTreeMap<TopicFilter, Qos>;
+
+/// The rows of a store, client by client. Contracts see them as the list of the rows in ascending
+/// order.
+#[derive(Drop)]
+pub(crate) struct ClientRows {
+    alloc: Global,
+    clients: BTreeMap<ClientKey, OwnRows>,
+}
+
+impl Model for ClientRows {
+    ghost use Rattle.std.specs.Prelude.{List};
+    ghost use Rattle.mq_topic.specs.ClientRows.{AreClientRows, rows_of};
+    ghost use Rattle.mq_topic.specs.Rows.{Row};
+
+    ghost Value = { List Row };
+
+    ghost view = { λ s. rows_of s.clients.entries };
+
+    ghost invariant = { λ s. AreClientRows s.clients.entries };
+}
+
+impl ClientRows {
+    /// No rows, which take no memory.
+    pub(crate) fn new(alloc: Global) -> ClientRows
+        ensures { result ≡ [] }
+    {
+        ClientRows {
+            alloc,
+            clients: BTreeMap::new(alloc),
+        }
+    }
+
+    /// Sets the row of a client and a filter.
+    pub(crate) fn set(
+        &mut self,
+        client: ClientKey,
+        filter: TopicFilter,
+        qos: Qos,
+    ) -> Result<(), AllocError>
+        ensures value { OnOk result (self.new ≡ with_row client filter qos self.old) }
+        ensures unchanged { OnErr result (self.new ≡ self.old) }
+        ensures refused { OnErr result (row_qos client filter self.old ≡ None) }
+    {
+        if let Some(own) = self.clients.get_mut(&client) {
+            own.insert(filter, qos)?;
+            return Ok(());
+        }
+        let mut own = BTreeMap::new(self.alloc);
+        own.insert(filter, qos)?;
+        self.clients.insert(client, own)?;
+        Ok(())
+    }
+
+    /// The QoS of the row of a client and a filter.
+    pub(crate) fn get(&self, client: ClientKey, filter: &TopicFilter) -> Option<Qos>
+        ensures value { result ≡ row_qos client filter.now self.now }
+        ensures ascending { IsAscending self.now }
+    {
+        match self.clients.get(&client) {
+            Some(own) => own.get(filter).copied(),
+            None => None,
+        }
+    }
+
+    /// Takes the row of a client and a filter away.
+    pub(crate) fn remove(&mut self, client: ClientKey, filter: &TopicFilter)
+        ensures { self.new ≡ without_row client filter.now self.old }
+    {
+        let Some(own) = self.clients.get_mut(&client) else {
+            return;
+        };
+        own.remove(filter);
+        if own.is_empty() {
+            self.clients.remove(&client);
+        }
+    }
+
+    /// Takes all rows of a client away, and gives them.
+    pub(crate) fn take_client(&mut self, client: ClientKey) -> Option<OwnRows>
+        ensures rest { self.new ≡ without_client client self.old }
+        ensures own { MatchOption result ((f : List ℕ) → row_qos client f self.old ≡ None)
+            (λ own. (f : List ℕ) → row_qos client f self.old ≡ find (slice_cmp nat_cmp) f own.entries) }
+    {
+        self.clients.remove(&client)
+    }
+}

@@ -1,0 +1,207 @@
+//! The nodes of a trie of levels, in one list, and the steps that change it.
+
+ghost use Rattle.std.specs.Prelude.{◌≡◌, ◌+◌, ℕ, Some, None, IsSome, IfOk, OnOk, OnErr, MatchOption, List};
+ghost use Rattle.std.specs.Bool.{MatchBool};
+ghost use Rattle.std.specs.Map.{lookup};
+ghost use Rattle.std.specs.Ordering.{is_eq, nat_cmp};
+ghost use Rattle.std.specs.Rc.{rc_str_bytes};
+ghost use Rattle.slab.specs.Slab.{slab_len};
+ghost use Rattle.mq_topic.specs.Tree.{ChildIs, ClientIs, Cut, Grown, IsBare, IsPlace, IsTrieOf, IsUsed, SameTree, client_from};
+ghost use Rattle.mq_topic.specs.TrieView.{child_of, client_of, tree};
+
+use crate::client::ClientKey;
+use crate::qos::Qos;
+use slab::Slab;
+use std::alloc::{AllocError, Global};
+use std::collections::{BTreeMap, HashMap};
+use std::rc::RcStr;
+
+/// The number of a node.
+#[derive(Clone, Copy, Debug, PartialEq, Eq)]
+pub(crate) struct NodeId(usize);
+
+// The children of a node, by their levels.
+type Children = HashMap<RcStr, NodeId>;
+
+// A node: the place where the filters that begin with the same levels go on. Its level's bytes are
+// shared with the key by which its parent finds it.
+#[derive(Drop)]
+pub(crate) struct Node {
+    parent: Option<NodeId>,
+    level: RcStr,
+    children: Children,
+    clients: BTreeMap<ClientKey, Qos>,
+}
+
+/// The nodes: below the root, which `None` stands for, each filter's levels lead to the node that has
+/// the filter's clients.
+#[derive(Drop)]
+pub(crate) struct Trie {
+    alloc: Global,
+    top: Children,
+    nodes: Slab<Node>,
+}
+
+impl Trie {
+    /// A trie of the root alone, which takes no memory.
+    pub(crate) fn new(alloc: Global) -> Trie
+        ensures { IsTrieOf (λ c f. None) (tree result) }
+    {
+        Trie {
+            alloc,
+            top: HashMap::new(alloc),
+            nodes: Slab::new(alloc),
+        }
+    }
+
+    /// How many nodes there are below the root.
+    pub(crate) fn len(&self) -> usize
+        ensures { result ≡ slab_len self.now.nodes }
+    {
+        self.nodes.len()
+    }
+
+    /// The child of a node at a level.
+    pub(crate) fn child(&self, at: Option<NodeId>, level: &str) -> Option<NodeId>
+        ensures { result ≡ child_of self.now at level.now }
+    {
+        match at {
+            None => self.top.get(level).copied(),
+            Some(id) => match self.nodes.get(id.0) {
+                Some(node) => node.children.get(level).copied(),
+                None => None,
+            },
+        }
+    }
+
+    // Notes a child of a node.
+    fn put_child(
+        &mut self,
+        at: Option<NodeId>,
+        level: RcStr,
+        child: NodeId,
+    ) -> Result<(), AllocError>
+        requires { IsPlace (tree self.old) at }
+        ensures put { OnOk result (ChildIs at (rc_str_bytes level) (Some child) (tree self.old) (tree self.new)) }
+        ensures unchanged { OnErr result (SameTree (tree self.old) (tree self.new)) }
+    {
+        match at {
+            None => {
+                self.top.insert(level, child)?;
+            }
+            Some(id) => {
+                if let Some(node) = self.nodes.get_mut(id.0) {
+                    node.children.insert(level, child)?;
+                }
+            }
+        }
+        Ok(())
+    }
+
+    // Forgets the child of a node at a level.
+    fn take_child(&mut self, at: Option<NodeId>, level: &str)
+        ensures taken { ChildIs at level.now None (tree self.old) (tree self.new) }
+        ensures count { slab_len self.new.nodes ≡ slab_len self.old.nodes }
+    {
+        match at {
+            None => {
+                self.top.remove(level);
+            }
+            Some(id) => {
+                if let Some(node) = self.nodes.get_mut(id.0) {
+                    node.children.remove(level);
+                }
+            }
+        }
+    }
+
+    /// Makes a child of a node at a level that has none. The trie stays where memory runs out.
+    pub(crate) fn grow(&mut self, at: Option<NodeId>, level: &str) -> Result<NodeId, AllocError>
+        requires { IsPlace (tree self.old) at }
+        ensures grown { IfOk result (λ k. Grown at level.now k (tree self.old) (tree self.new)) }
+        ensures unchanged { OnErr result (SameTree (tree self.old) (tree self.new)) }
+    {
+        let level = RcStr::from_str(self.alloc, level)?;
+        let key = level.clone()?;
+        let number = self.nodes.insert(Node {
+            parent: at,
+            level,
+            children: HashMap::new(self.alloc),
+            clients: BTreeMap::new(self.alloc),
+        })?;
+        let id = NodeId(number);
+        match self.put_child(at, key, id) {
+            Ok(()) => Ok(id),
+            Err(error) => {
+                self.nodes.try_remove(number);
+                Err(error)
+            }
+        }
+    }
+
+    /// Whether a node has no child and no client.
+    pub(crate) fn is_bare(&self, id: NodeId) -> bool
+        ensures { MatchBool result (IsBare (tree self.now) id × IsPlace (tree self.now) (Some id))
+            (IsPlace (tree self.now) (Some id) → IsUsed (tree self.now) id) }
+    {
+        match self.nodes.get(id.0) {
+            Some(node) => node.children.is_empty() && node.clients.is_empty(),
+            None => false,
+        }
+    }
+
+    /// Takes a node without children and clients away, and gives its parent.
+    pub(crate) fn cut(&mut self, id: NodeId) -> Option<NodeId>
+        requires bare { IsBare (tree self.old) id }
+        requires place { IsPlace (tree self.old) (Some id) }
+        ensures cut { (level : List ℕ) × (((tree self.old).link id ≡ Some (result, level))
+            × Cut result level id (tree self.old) (tree self.new)) }
+        ensures count { slab_len self.new.nodes + 1 ≡ slab_len self.old.nodes }
+    {
+        match self.nodes.try_remove(id.0) {
+            Some(node) => {
+                self.take_child(node.parent, node.level.as_str());
+                node.parent
+            }
+            None => None,
+        }
+    }
+
+    /// Sets the QoS of a client at a node. It takes no memory where the client is there.
+    pub(crate) fn set_client(
+        &mut self,
+        id: NodeId,
+        client: ClientKey,
+        qos: Qos,
+    ) -> Result<(), AllocError>
+        requires { IsPlace (tree self.old) (Some id) }
+        ensures set { OnOk result (ClientIs id client (Some qos) (tree self.old) (tree self.new)) }
+        ensures unchanged { OnErr result (SameTree (tree self.old) (tree self.new)) }
+        ensures refused { OnErr result (client_of self.old id client ≡ None) }
+    {
+        if let Some(node) = self.nodes.get_mut(id.0) {
+            node.clients.insert(client, qos)?;
+        }
+        Ok(())
+    }
+
+    /// Takes a client away from a node.
+    pub(crate) fn drop_client(&mut self, id: NodeId, client: ClientKey)
+        ensures { ClientIs id client None (tree self.old) (tree self.new) }
+    {
+        if let Some(node) = self.nodes.get_mut(id.0) {
+            node.clients.remove(&client);
+        }
+    }
+
+    /// The clients of a node, none of the root.
+    pub(crate) fn clients(&self, at: Option<NodeId>) -> Option<&BTreeMap<ClientKey, Qos>>
+        ensures { MatchOption result ((c : ℕ) → client_from (tree self.now) at c ≡ None)
+            (λ clients. (c : ℕ) → lookup (λ d. is_eq (nat_cmp c d)) clients.now.entries ≡ client_from (tree self.now) at c) }
+    {
+        match self.nodes.get(at?.0) {
+            Some(node) => Some(&node.clients),
+            None => None,
+        }
+    }
+}
