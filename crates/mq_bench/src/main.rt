@@ -9,6 +9,7 @@ mod measure;
 mod plain;
 mod replays;
 mod sample;
+mod stores;
 mod stream;
 mod subject;
 mod topics;
@@ -17,7 +18,21 @@ mod work;
 use anyhow::Context;
 use std::env;
 use std::process::ExitCode;
+use stores::Filters;
 use subject::Subject;
+
+/// The words for the memory of a store, by what its filters are like.
+const WEIGHED: [(&str, Filters); 3] = [
+    ("rows_plain", Filters::Plain),
+    ("rows_plus", Filters::Plus),
+    ("rows_shared", Filters::Shared),
+];
+
+/// What the filters are like of the store that a word names.
+fn weighed(word: &str) -> Option<Filters> {
+    let (_, filters) = WEIGHED.iter().find(|(name, _)| *name == word)?;
+    Some(*filters)
+}
 
 /// Names each subject and says what it is.
 fn list(rt: &impl Print) -> anyhow::Result<()> {
@@ -25,6 +40,9 @@ fn list(rt: &impl Print) -> anyhow::Result<()> {
         println!(rt; "{:<14} {}", subject.name(), subject.explanation())?;
     }
     println!(rt; "{:<14} {}", topics::NAME, topics::EXPLANATION)?;
+    for (name, filters) in WEIGHED {
+        println!(rt; "{name:<14} the memory of a store of 1,000,000 rows, {filters}")?;
+    }
     println!(rt; "{:<14} {}", replays::NAME, replays::EXPLANATION)?;
     println!(rt; "{:<14} {}", in_flight::NAME, in_flight::EXPLANATION)?;
     Ok(())
@@ -33,6 +51,7 @@ fn list(rt: &impl Print) -> anyhow::Result<()> {
 /// Whether a word names what can be measured.
 fn is_known(word: &String) -> bool {
     Subject::named(word.as_str()).is_some()
+        || weighed(word.as_str()).is_some()
         || [topics::NAME, replays::NAME, in_flight::NAME].contains(&word.as_str())
 }
 
@@ -59,7 +78,12 @@ fn main(rt: HostRuntime) -> anyhow::Result<ExitCode> {
             Some(subject) => measure::measure(&rt, alloc, subject)?,
             None if word.as_str() == topics::NAME => topics::measure(&rt, alloc)?,
             None if word.as_str() == replays::NAME => replays::measure(&rt, alloc)?,
-            None => in_flight::measure(&rt, alloc)?,
+            None if word.as_str() == in_flight::NAME => in_flight::measure(&rt, alloc)?,
+            None => {
+                if let Some(filters) = weighed(word.as_str()) {
+                    topics::weigh(&rt, filters)?;
+                }
+            }
         }
     }
     Ok(ExitCode::SUCCESS)

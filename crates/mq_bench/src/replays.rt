@@ -13,7 +13,8 @@ use std::time::Instant;
 pub(crate) const NAME: &str = "replays";
 
 /// What it is, on one line.
-pub(crate) const EXPLANATION: &str = "schedules of 10,000 and of 100,000 events";
+pub(crate) const EXPLANATION: &str =
+    "schedules of 10,000 and of 100,000 events, and of 6,000 and of 60,000 messages in flight";
 
 /// Ten events: a connection is opened, a message goes each way, one of them cut on its way.
 const EVENTS: &str =
@@ -24,6 +25,9 @@ const COUNT: u32 = 10;
 
 /// How many events the short schedule has, and the long one.
 const SIZES: [u32; 2] = [10_000, 100_000];
+
+/// How many messages are in flight before the first is acknowledged, few and many.
+const FLIGHTS: [u32; 2] = [6_000, 60_000];
 
 /// How often each schedule is replayed. The middle one of its times counts.
 const ROUNDS: usize = 5;
@@ -38,6 +42,18 @@ fn schedule(alloc: Global, events: u32) -> anyhow::Result<Schedule> {
     Ok(read_schedule(alloc, text.as_str())?)
 }
 
+/// A schedule of so many messages of quality of service 1 that are published one after another, and then delivered and
+/// acknowledged at once.
+fn flight(alloc: Global, messages: u32) -> anyhow::Result<Schedule> {
+    let mut text = String::new(alloc);
+    text.write_str("world 65536 65535\nopen\nto s all\nto c all\n")?;
+    for _ in 0..messages {
+        text.write_str("pub c 1 t 78\n")?;
+    }
+    text.write_str("to s all\nto c all\n")?;
+    Ok(read_schedule(alloc, text.as_str())?)
+}
+
 /// How long a replay takes.
 fn time_replay(rt: &impl Clock, alloc: Global, schedule: &Schedule) -> anyhow::Result<u64> {
     let start = Instant::now(rt)?;
@@ -48,17 +64,26 @@ fn time_replay(rt: &impl Clock, alloc: Global, schedule: &Schedule) -> anyhow::R
     Ok(u64::try_from(time.as_nanos()).unwrap_or(u64::MAX))
 }
 
-/// Measures the replay of a short and a long schedule, and prints how long each event takes.
+/// The middle one of some replays' times.
+fn middle_time(rt: &impl Clock, alloc: Global, schedule: &Schedule) -> anyhow::Result<u64> {
+    let mut times = [0u64; ROUNDS];
+    for time in &mut times {
+        *time = time_replay(rt, alloc, schedule)?;
+    }
+    times.sort_unstable();
+    Ok(times[ROUNDS / 2])
+}
+
+/// Measures the replay of a short and a long schedule, and with few and with many messages in flight, and prints how long each
+/// event or message takes.
 pub(crate) fn measure(rt: &(impl Print + Clock), alloc: Global) -> anyhow::Result<()> {
     for events in SIZES {
-        let schedule = schedule(alloc, events)?;
-        let mut times = [0u64; ROUNDS];
-        for time in &mut times {
-            *time = time_replay(rt, alloc, &schedule)?;
-        }
-        times.sort_unstable();
-        let each = times[ROUNDS / 2] / u64::from(events);
+        let each = middle_time(rt, alloc, &schedule(alloc, events)?)? / u64::from(events).max(1);
         println!(rt; "{NAME}: {events} events, {each} ns an event")?;
+    }
+    for messages in FLIGHTS {
+        let each = middle_time(rt, alloc, &flight(alloc, messages)?)? / u64::from(messages).max(1);
+        println!(rt; "{NAME}: {messages} messages in flight, {each} ns a message")?;
     }
     Ok(())
 }

@@ -1,16 +1,17 @@
 //! The matching of topic filters, timed and printed.
 
-use anyhow::{Context, bail};
-use mq_topic::{ClientKey, FilterStore, ListStore, Qos, TopicFilter, TopicName, matches};
+use crate::stores::{self, Filters};
+use anyhow::bail;
+use mq_topic::{ListStore, TopicFilter, TopicName, TrieStore, matches};
 use std::alloc::Global;
-use std::rt::Clock;
+use std::rt::{Clock, Files};
 use std::time::Instant;
 
 /// The word for it.
 pub(crate) const NAME: &str = "topics";
 
 /// What it is, on one line.
-pub(crate) const EXPLANATION: &str = "a filter of 8 levels, and a store of 10,000 rows";
+pub(crate) const EXPLANATION: &str = "a filter of 8 levels, and stores of 1,000 to 1,000,000 rows";
 
 /// How many names a filter is asked about, one after another.
 const NAMES: u32 = 1_000;
@@ -18,14 +19,19 @@ const NAMES: u32 = 1_000;
 /// How often all names are asked about.
 const PASSES: u32 = 1_000;
 
-/// How many clients the store has, each with as many rows.
-const CLIENTS: u32 = 1_000;
+/// How many rows a plain store has, and how many names it is asked about. It asks each of its rows about each name.
+const LIST_SIZES: [(u32, u32); 2] = [(1_000, 1_000), (10_000, 200)];
 
-/// How many rows each client has.
-const ROWS: u32 = 10;
+/// How many rows a trie has, and how many names it is asked about.
+const TRIE_SIZES: [(u32, u32); 4] = [
+    (1_000, 10_000),
+    (10_000, 10_000),
+    (100_000, 10_000),
+    (1_000_000, 10_000),
+];
 
-/// How often the store is asked.
-const QUESTIONS: u32 = 100;
+/// How many rows a store has whose memory is looked at.
+const WEIGHED: u32 = 1_000_000;
 
 /// How often each work is done. The middle one of its times counts.
 const ROUNDS: usize = 5;
@@ -70,36 +76,30 @@ fn time_matches(rt: &impl Clock, filter: &TopicFilter, names: &[TopicName]) -> a
     Ok(u64::try_from(time.as_nanos()).unwrap_or(u64::MAX))
 }
 
-/// A store of 10,000 rows: each client subscribes to ten floors.
-fn store(alloc: Global) -> anyhow::Result<ListStore> {
-    let mut store = ListStore::new(alloc);
-    for client in 0..CLIENTS {
-        for floor in 0..ROWS {
-            let text = format!(in alloc; "house/+/floor/{floor}/#")?;
-            let filter = TopicFilter::parse(alloc, text.as_str())?;
-            store
-                .set(ClientKey::new(client), filter, Qos::Q1)
-                .context("setting a row")?;
+/// Measures stores of so many rows of each kind, and prints how long each call takes.
+fn measure_stores(rt: &(impl Print + Clock), alloc: Global) -> anyhow::Result<()> {
+    for filters in Filters::ALL {
+        for (rows, asked) in LIST_SIZES {
+            let store = ListStore::new(alloc);
+            stores::measure(rt, alloc, "list", store, filters, rows, asked)?;
+        }
+        for (rows, asked) in TRIE_SIZES {
+            let store = TrieStore::new(alloc);
+            stores::measure(rt, alloc, "trie", store, filters, rows, asked)?;
         }
     }
-    Ok(store)
+    Ok(())
 }
 
-/// How long the store takes to say who gets a message, as often as it is asked.
-fn time_matching(rt: &impl Clock, store: &ListStore, names: &[TopicName]) -> anyhow::Result<u64> {
-    let start = Instant::now(rt)?;
-    let mut count = 0usize;
-    for name in names {
-        count = count.wrapping_add(store.matching(name)?.len());
-    }
-    let time = start.elapsed(rt)?;
-    if count != names.len().wrapping_mul(CLIENTS as usize) {
-        bail!("a client is not found");
-    }
-    Ok(u64::try_from(time.as_nanos()).unwrap_or(u64::MAX))
+/// Prints how many bytes a row of both stores takes. The program has to be a new one, which has freed nothing yet.
+pub(crate) fn weigh<R: Files + AllocGlobal + Print + Clock>(
+    rt: &R,
+    filters: Filters,
+) -> anyhow::Result<()> {
+    stores::weigh(rt, "trie", TrieStore::new(rt.alloc()), filters, WEIGHED)
 }
 
-/// Measures the matching of a filter and of a store, and prints how many a second.
+/// Measures the matching of a filter, and stores, and prints what each takes.
 pub(crate) fn measure(rt: &(impl Print + Clock), alloc: Global) -> anyhow::Result<()> {
     let names = names(alloc)?;
     let filter = TopicFilter::parse(alloc, "house/+/floor/+/room/+/sensor/+")?;
@@ -110,15 +110,5 @@ pub(crate) fn measure(rt: &(impl Print + Clock), alloc: Global) -> anyhow::Resul
     times.sort_unstable();
     let matches = per_second(NAMES * PASSES, times[ROUNDS / 2]);
     println!(rt; "{NAME}: a filter of 8 levels, {matches} matches/s")?;
-    let store = store(alloc)?;
-    let Some((asked, _)) = names.as_slice().split_at_checked(QUESTIONS as usize) else {
-        bail!("there are too few names");
-    };
-    for time in &mut times {
-        *time = time_matching(rt, &store, asked)?;
-    }
-    times.sort_unstable();
-    let questions = per_second(QUESTIONS, times[ROUNDS / 2]);
-    println!(rt; "{NAME}: a store of 10,000 rows, {questions} questions/s")?;
-    Ok(())
+    measure_stores(rt, alloc)
 }

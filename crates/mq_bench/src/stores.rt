@@ -1,0 +1,227 @@
+//! Stores of subscriptions with few rows and with many, timed and printed.
+
+use anyhow::{Context, ensure};
+use mq_topic::{ClientKey, FilterStore, Qos, TopicFilter, TopicName};
+use std::alloc::Global;
+use std::rt::{Clock, Files};
+use std::time::Instant;
+use std::{fmt, fs};
+
+/// How many filters are made before the time is taken, and then set.
+const BATCH: u32 = 1_000;
+
+/// How many filters the shared set has, whatever its rows are.
+const SHARED_FILTERS: u32 = 1_000;
+
+/// How many rows a client has where filters are not shared.
+const ROWS_OF_A_CLIENT: u32 = 10;
+
+/// How often each store is asked. The middle one of the times counts.
+const ROUNDS: usize = 5;
+
+/// How many clients are taken away.
+const LEAVING: u32 = 50;
+
+/// What the filters of a store are like.
+#[derive(Clone, Copy, Debug, PartialEq, Eq)]
+pub(crate) enum Filters {
+    /// Distinct filters without wildcards.
+    Plain,
+    /// Distinct filters with `+` at one level.
+    Plus,
+    /// A thousand filters, which all clients have.
+    Shared,
+}
+
+impl fmt::Display for Filters {
+    fn fmt<W: fmt::Write>(&self, f: &mut fmt::Formatter<W>) -> fmt::Result {
+        match self {
+            Filters::Plain => write!(f, "without wildcards"),
+            Filters::Plus => write!(f, "with + at one level"),
+            Filters::Shared => write!(f, "1,000 shared filters"),
+        }
+    }
+}
+
+impl Filters {
+    /// All of them.
+    pub(crate) const ALL: [Filters; 3] = [Filters::Plain, Filters::Plus, Filters::Shared];
+
+    /// The client of a row.
+    fn client(self, row: u32) -> ClientKey {
+        match self {
+            Filters::Plain | Filters::Plus => ClientKey::new(row / ROWS_OF_A_CLIENT),
+            Filters::Shared => ClientKey::new(row / SHARED_FILTERS),
+        }
+    }
+
+    /// How many clients a name finds among so many rows.
+    fn found(self, rows: u32) -> usize {
+        match self {
+            Filters::Plain | Filters::Plus => 1,
+            Filters::Shared => (rows / SHARED_FILTERS) as usize,
+        }
+    }
+
+    /// The filter of a row.
+    fn filter(self, alloc: Global, row: u32) -> anyhow::Result<TopicFilter> {
+        let (plant, sensor) = (row / 1_000, row % 1_000);
+        let text = match self {
+            Filters::Plain => format!(in alloc; "plant/{plant}/line/{sensor}/temperature")?,
+            Filters::Plus => format!(in alloc; "plant/{plant}/+/{sensor}/temperature")?,
+            Filters::Shared => format!(in alloc; "plant/0/line/{sensor}/temperature")?,
+        };
+        Ok(TopicFilter::parse(alloc, text.as_str())?)
+    }
+
+    /// A name that the filter of a row matches.
+    fn name(self, alloc: Global, row: u32) -> anyhow::Result<TopicName> {
+        let (plant, sensor) = match self {
+            Filters::Plain | Filters::Plus => (row / 1_000, row % 1_000),
+            Filters::Shared => (0, row % SHARED_FILTERS),
+        };
+        let text = format!(in alloc; "plant/{plant}/line/{sensor}/temperature")?;
+        Ok(TopicName::parse(alloc, text.as_str())?)
+    }
+
+    /// So many names, each of which a filter of the rows matches, spread over all rows.
+    fn names(self, alloc: Global, rows: u32, count: u32) -> anyhow::Result<Vec<TopicName>> {
+        let mut names = Vec::with_capacity(alloc, count as usize)?;
+        for number in 0..count {
+            let row = u64::from(number).wrapping_mul(611_953) % u64::from(rows).max(1);
+            names.push(self.name(alloc, u32::try_from(row)?)?)?;
+        }
+        Ok(names)
+    }
+}
+
+/// The nanoseconds since a moment.
+fn since(rt: &impl Clock, start: Instant) -> anyhow::Result<u64> {
+    Ok(u64::try_from(start.elapsed(rt)?.as_nanos()).unwrap_or(u64::MAX))
+}
+
+/// Sets a thousand rows from one on, and answers how long that took.
+fn set_batch<S: FilterStore>(
+    rt: &impl Clock,
+    alloc: Global,
+    store: &mut S,
+    filters: Filters,
+    first: u32,
+) -> anyhow::Result<u64> {
+    let mut batch = Vec::with_capacity(alloc, BATCH as usize)?;
+    for row in first..first.saturating_add(BATCH) {
+        batch.push((filters.client(row), filters.filter(alloc, row)?))?;
+    }
+    let start = Instant::now(rt)?;
+    for (client, filter) in batch {
+        store.set(client, filter, Qos::Q1).context("setting a row")?;
+    }
+    since(rt, start)
+}
+
+/// Sets so many rows, and answers how long that took.
+fn fill<S: FilterStore>(
+    rt: &impl Clock,
+    alloc: Global,
+    store: &mut S,
+    filters: Filters,
+    rows: u32,
+) -> anyhow::Result<u64> {
+    let mut time = 0u64;
+    for batch in 0..rows / BATCH {
+        let took = set_batch(rt, alloc, store, filters, batch.wrapping_mul(BATCH))?;
+        time = time.saturating_add(took);
+    }
+    Ok(time)
+}
+
+/// How long the store takes to say who gets a message to each of these names.
+fn time_matching<S: FilterStore>(
+    rt: &impl Clock,
+    store: &S,
+    names: &[TopicName],
+    found: usize,
+) -> anyhow::Result<u64> {
+    let start = Instant::now(rt)?;
+    for name in names {
+        ensure!(
+            store.matching(name)?.len() == found,
+            "a client is not found"
+        );
+    }
+    since(rt, start)
+}
+
+/// How long it takes to take clients away.
+fn time_removal<S: FilterStore>(
+    rt: &impl Clock,
+    store: &mut S,
+    clients: u32,
+) -> anyhow::Result<u64> {
+    let start = Instant::now(rt)?;
+    for client in 0..clients {
+        store.remove_client(ClientKey::new(client));
+    }
+    since(rt, start)
+}
+
+/// How many rows these clients have, of so many rows in all.
+fn rows_of(filters: Filters, clients: u32, rows: u32) -> u32 {
+    match filters {
+        Filters::Plain | Filters::Plus => clients.saturating_mul(ROWS_OF_A_CLIENT).min(rows),
+        Filters::Shared => clients.saturating_mul(SHARED_FILTERS).min(rows),
+    }
+}
+
+/// Measures a store without rows, `named` so, as it gets so many rows, is asked about so many names, and loses clients, and
+/// prints the nanoseconds of each.
+pub(crate) fn measure<S: FilterStore>(
+    rt: &(impl Print + Clock),
+    alloc: Global,
+    named: &str,
+    mut store: S,
+    filters: Filters,
+    rows: u32,
+    asked: u32,
+) -> anyhow::Result<()> {
+    let set = fill(rt, alloc, &mut store, filters, rows)? / u64::from(rows).max(1);
+    let names = filters.names(alloc, rows, asked)?;
+    let mut times = [0u64; ROUNDS];
+    for time in &mut times {
+        *time = time_matching(rt, &store, names.as_slice(), filters.found(rows))?;
+    }
+    times.sort_unstable();
+    let matching = times[ROUNDS / 2] / u64::from(asked).max(1);
+    let gone = u64::from(rows_of(filters, LEAVING, rows)).max(1);
+    let removal = time_removal(rt, &mut store, LEAVING)? / gone;
+    println!(rt;
+        "topics: {named}, {rows} rows, {filters}: set {set} ns, matching {matching} ns, removal {removal} ns a row"
+    )?;
+    Ok(())
+}
+
+/// The bytes of memory that the program keeps, by what the system says of it.
+fn resident<R: Files + Alloc>(rt: &R) -> anyhow::Result<u64> {
+    let text = fs::read_to_string(rt, "/proc/self/statm")?;
+    let pages = text
+        .as_str()
+        .split(' ')
+        .nth(1)
+        .context("no number of pages")?;
+    Ok(u64::from_str(pages)?.saturating_mul(4_096))
+}
+
+/// Fills a store, and prints how many bytes a row takes. The program has to be a new one, which has freed nothing yet.
+pub(crate) fn weigh<R: Files + AllocGlobal + Print + Clock, S: FilterStore>(
+    rt: &R,
+    named: &str,
+    mut store: S,
+    filters: Filters,
+    rows: u32,
+) -> anyhow::Result<()> {
+    let before = resident(rt)?;
+    fill(rt, rt.alloc(), &mut store, filters, rows)?;
+    let bytes = resident(rt)?.saturating_sub(before) / u64::from(rows).max(1);
+    println!(rt; "topics: {named}, {rows} rows, {filters}: {bytes} bytes a row")?;
+    Ok(())
+}
