@@ -10,8 +10,11 @@ use Rattle.mq_flow.specs.declared.entry.Entry.{Entry}
 use Rattle.mq_flow.specs.declared.loading.Flags.{Flags}
 use Rattle.mq_flow.specs.Sender.{SenderBook, uses, times, IsFree, accept}
 use Rattle.mq_flow.specs.Laws.{IsSound}
-use Rattle.mq_flow.specs.Saved.{number, counted, saved_payload, saved_flags, saved_entry, IsWithinLimit, IsKept}
-use Rattle.mq_flow.specs.Loading.{◌>>=◌, AreBytes, free_at, flags_at, topic_at, payload_at, message_at, entry_at, with_entry_at, entries_at, with_released, with_released_at, released_at}
+use Rattle.mq_wire.specs.Number.{number}
+use Rattle.mq_wire.specs.Text.{counted}
+use Rattle.mq_flow.specs.Saved.{saved_payload, saved_flags, saved_entry, IsWithinLimit, IsKept}
+use Rattle.mq_wire.specs.Bytes.{AreBytes}
+use Rattle.mq_flow.specs.Loading.{◌>>=◌, free_at, flags_at, topic_at, payload_at, message_at, entry_at, with_entry_at, entries_at, with_released, with_released_at, released_at}
 use Rattle.mq_flow.proofs.Counting.{times_append, times_same}
 use Rattle.mq_flow.proofs.Books.{times_uses, gives_sound, times_accept, length_accept}
 use Rattle.mq_flow.proofs.Restoring.{not_full, times_released, length_released}

@@ -16,8 +16,11 @@ use Rattle.mq_topic.specs.declared.fault.TopicFault.TheVariants.{Empty, Nul, Too
 use Rattle.mq_packet.specs.Spelling.{bit}
 use Rattle.mq_flow.specs.declared.loading.Flags.{Flags}
 use Rattle.mq_flow.specs.Sender.{SenderBook, uses, times, IsFree}
-use Rattle.mq_flow.specs.Saved.{number, count, counted, saved_payload}
-use Rattle.mq_flow.specs.Loading.{◌>>=◌, AreBytes, bad_at, number_at, count_at, capacity_at, number_within, free_at, qos_at, flag_at, flags_at, is_topic, topic_at, is_over_limit, payload_at, next_at}
+use Rattle.mq_wire.specs.Number.{number}
+use Rattle.mq_wire.specs.Text.{counted}
+use Rattle.mq_flow.specs.Saved.{count, saved_payload}
+use Rattle.mq_wire.specs.Bytes.{AreBytes}
+use Rattle.mq_flow.specs.Loading.{◌>>=◌, bad_at, number_at, count_at, capacity_at, number_within, free_at, qos_at, flag_at, flags_at, is_topic, topic_at, is_over_limit, payload_at, next_at}
 
 -- ---- steps
 

@@ -1,3 +1,4 @@
+pub mod Fronts
 pub mod Tables
 pub mod Slots
 pub mod Counting
@@ -17,4 +18,5 @@ pub mod Fields
 pub mod EntryForms
 pub mod SessionForms
 pub mod Whole
+pub mod WholeTwo
 pub mod Live

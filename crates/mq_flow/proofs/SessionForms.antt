@@ -11,8 +11,10 @@ use Rattle.mq_flow.specs.Sender.{SenderBook, blank_book, uses}
 use Rattle.mq_flow.specs.Sending.{Sending}
 use Rattle.mq_flow.specs.Receiver.{ReceiverBook, none_received, on_publish}
 use Rattle.mq_flow.specs.Laws.{IsSound}
-use Rattle.mq_flow.specs.Saved.{number, saved_entry, saved_ids, saved_sender, ascending, saved_receiver, IsKept}
-use Rattle.mq_flow.specs.Loading.{◌>>=◌, AreBytes, number_at, capacity_at, number_within, entries_at, released_at, released_within, book_at, sender_at, next_at, received_at, receiver_at}
+use Rattle.mq_wire.specs.Number.{number}
+use Rattle.mq_flow.specs.Saved.{saved_entry, saved_ids, saved_sender, ascending, saved_receiver, IsKept}
+use Rattle.mq_wire.specs.Bytes.{AreBytes}
+use Rattle.mq_flow.specs.Loading.{◌>>=◌, number_at, capacity_at, number_within, entries_at, released_at, released_within, book_at, sender_at, next_at, received_at, receiver_at}
 use Rattle.mq_flow.proofs.Books.{at_first, fewer, length_uses}
 use Rattle.mq_flow.proofs.Ascending.{Rising, sifted, tied_is, risen, ascending_rises, ascending_members}
 use Rattle.mq_flow.proofs.Fields.{bind_ok, ok_is, Takes, takes, Takes-then, number_found, number_again, capacity_found, capacity_again, within_found, within_again, next_found, next_again}

@@ -10,7 +10,8 @@ use Rattle.mq_flow.specs.declared.session.Session.{Session}
 use Rattle.mq_flow.specs.Sending.{Sending}
 use Rattle.mq_flow.specs.Receiver.{ReceiverBook}
 use Rattle.mq_flow.specs.Saved.{signature, saved_sender, saved_receiver, saved_form, Saved, IsSession, IsSessionWithin}
-use Rattle.mq_flow.specs.Loading.{◌>>=◌, AreBytes, end_at, sender_at, receiver_at, session_at, has_version, placed, read_session, Loads}
+use Rattle.mq_wire.specs.Bytes.{AreBytes}
+use Rattle.mq_flow.specs.Loading.{◌>>=◌, end_at, sender_at, receiver_at, session_at, has_version, placed, read_session, Loads}
 use Rattle.mq_flow.specs.SavedLaws.{SavedLaws}
 use Rattle.mq_flow.proofs.Fields.{bind_ok, ok_is, AreBytes-rest, Takes}
 use Rattle.mq_flow.proofs.SessionForms.{SenderTaken, sender_found, sender_again, receiver_found, receiver_again}
@@ -21,13 +22,13 @@ end_found : (bytes : List ℕ) (u : Unit {0}) → end_at bytes ≡ Ok u → byte
 end_found [] u e = refl
 end_found (b ∷ bytes) u e = absurd cc
 
-record SessionTaken (limit : ℕ) (bytes : List ℕ) (s : Session) : Type 0 where
+pub record SessionTaken (limit : ℕ) (bytes : List ℕ) (s : Session) : Type 0 where
   pub text : bytes ≡ saved_sender s.sender ++ saved_receiver s.receiver
   pub unclaimed : s.sender.book.claimed ≡ []
   pub unreserved : s.sender.room ≡ 0
   pub is : IsSessionWithin limit s
 
-session_found : (limit : ℕ) → (bytes : List ℕ) (s : Session) → AreBytes bytes → session_at limit bytes ≡ Ok s → SessionTaken limit bytes s
+pub session_found : (limit : ℕ) → (bytes : List ℕ) (s : Session) → AreBytes bytes → session_at limit bytes ≡ Ok s → SessionTaken limit bytes s
 unfolding session_at
 session_found limit bytes s h e =
     let x = bind_ok (sender_at limit bytes) (λ sender. receiver_at sender.1 >>= λ receiver. end_at receiver.1 >>= λ end. Ok (record { sender = sender.0; receiver = receiver.0 })) s e in
@@ -47,7 +48,7 @@ session_found limit bytes s h e =
       is = record { sound = first.sound; able = first.able; most = first.most; last = first.last; entries = first.entries; received = received };
     }
 
-session_again : (limit : ℕ) → (s : Session) → IsSessionWithin limit s → s.sender.book.claimed ≡ [] → s.sender.room ≡ 0 → session_at limit (saved_sender s.sender ++ saved_receiver s.receiver) ≡ Ok s
+pub session_again : (limit : ℕ) → (s : Session) → IsSessionWithin limit s → s.sender.book.claimed ≡ [] → s.sender.room ≡ 0 → session_at limit (saved_sender s.sender ++ saved_receiver s.receiver) ≡ Ok s
 unfolding session_at
 session_again limit s is unclaimed unreserved =
     let first = sender_again limit s.sender (saved_receiver s.receiver) unclaimed unreserved is.able is.sound is.entries in
@@ -56,7 +57,7 @@ session_again limit s is unclaimed unreserved =
 
 -- ---- the whole
 
-version_found : (bytes : List ℕ) → has_version bytes ≡ true → bytes ≡ signature ++ drop 4 bytes
+pub version_found : (bytes : List ℕ) → has_version bytes ≡ true → bytes ≡ signature ++ drop 4 bytes
 version_found [] e = absurd cc
 version_found (a ∷ []) e = absurd (short (eqb 0x4d a) e)
   where
@@ -83,11 +84,11 @@ version_found (a ∷ b ∷ c ∷ d ∷ rest) e =
     let s = and_parts (eqb 1 d) true r.1 in
     rw (eqb-true 0x4d a p.0, eqb-true 0x51 b q.0, eqb-true 0x53 c r.0, eqb-true 1 d s.0) refl
 
-placed_ok : (n : ℕ) (r : Result Session ℕ) (s : Session) → placed n r ≡ Ok s → r ≡ Ok s
-placed_ok n (Ok t) s e = ap (λ (x : Session). Ok x) (same t s e)
+pub placed_ok : {A : Type 0} (n : ℕ) (r : Result A ℕ) (x : A) → placed n r ≡ Ok x → r ≡ Ok x
+placed_ok {A = A} n (Ok y) x e = ap (λ (z : A). Ok z) (same y x e)
   where
-    same : (t s : Session) → ◌≡◌ {A = Result Session LoadError} (Ok t) (Ok s) → t ≡ s
-    same t s e = cc
+    same : (y x : A) → ◌≡◌ {A = Result A LoadError} (Ok y) (Ok x) → y ≡ x
+    same y x e = cc
 placed_ok n (Err left) s e = absurd cc
 
 found : (b : List ℕ) (s : Session) → AreBytes b → read_session b ≡ Ok s → Saved s b × IsSession s

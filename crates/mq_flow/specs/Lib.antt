@@ -6,4 +6,5 @@ pub mod Laws
 pub mod Next
 pub mod Saved
 pub mod Loading
+pub mod SavedTwo
 pub mod SavedLaws

@@ -156,17 +156,13 @@ abbrev pub has_version : List ℕ → Bool
 has_version bytes = starts_with nat_eq bytes signature
 
 -- the place of a bad field, from the beginning
-abbrev pub placed : ℕ → Result Session ℕ → Result Session LoadError
-placed total (Ok s) = Ok s
+abbrev pub placed : {A : Type 0} → ℕ → Result A ℕ → Result A LoadError
+placed total (Ok x) = Ok x
 placed total (Err left) = Err (errors.Malformed (total - left))
 
 -- the session of which these bytes are the saved form, or what is wrong with them
 unfoldable pub read_session : List ℕ → Result Session LoadError
 read_session bytes = if has_version bytes then placed (length bytes) (session_at 268435455 (drop 4 bytes)) else Err errors.Version
-
--- each item is a byte
-abbrev pub AreBytes : List ℕ → Type 0
-AreBytes b = (i : ℕ) → slice_index b i < 256
 
 -- ---- what a function returned is what is read
 
@@ -185,8 +181,7 @@ Gives view (Ok x) read = read ≡ Ok (view x)
 Gives view (Err e) read = Fails e read
 
 -- and of the whole
-abbrev pub Loads : Result Session LoadError → Result Session LoadError → Type 0
-Loads (Ok s) read = read ≡ Ok s
+abbrev pub Loads : {A : Type 0} → Result A LoadError → Result A LoadError → Type 0
+Loads (Ok x) read = read ≡ Ok x
 Loads (Err errors.Memory) read = Unit {0}
-Loads (Err errors.Version) read = read ≡ Err errors.Version
-Loads (Err (errors.Malformed place)) read = read ≡ Err (errors.Malformed place)
+Loads (Err why) read = read ≡ Err why

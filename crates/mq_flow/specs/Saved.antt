@@ -3,6 +3,8 @@
 use Rattle.std.specs.Prelude.{◌≡◌, ℕ, ◌+◌, ◌/◌, ◌%◌, ◌<◌, ◌≤◌, true, List, [], ◌∷◌, ◌++◌, length}
 use Rattle.std.specs.List.{flat_map, range_with_len, filter, AllByRecursion}
 use Rattle.std.specs.FinSet as set
+use Rattle.mq_wire.specs.Number.{number}
+use Rattle.mq_wire.specs.Text.{counted}
 use Rattle.mq_topic.specs.declared.qos.Qos.TheVariants.{Q0}
 use Rattle.mq_topic.specs.Qos.{qos_number}
 use Rattle.mq_topic.specs.Topic.{IsTopicName}
@@ -19,14 +21,6 @@ use Rattle.mq_flow.specs.Laws.{IsSound}
 -- `MQS`, and the version
 abbrev pub signature : List ℕ
 signature = 0x4d ∷ 0x51 ∷ 0x53 ∷ 1 ∷ []
-
--- a number of two bytes, the high byte first (1.5.2)
-abbrev pub number : ℕ → List ℕ
-number n = n / 256 ∷ n % 256 ∷ []
-
--- a text, behind a count of two bytes (1.5.3)
-abbrev pub counted : List ℕ → List ℕ
-counted t = number (length t) ++ t
 
 -- a number of four bytes, the high byte first
 abbrev pub count : ℕ → List ℕ

@@ -1,8 +1,12 @@
 -- What ties the saved form of a session to its reading (3.1.2.4, 4.1).
-use Rattle.std.specs.Prelude.{◌≡◌, ℕ, List, [], Ok}
+use Rattle.std.specs.Prelude.{◌≡◌, ℕ, Bool, false, List, [], Option, Some, None, Ok}
+use Rattle.mq_wire.specs.Text.{IsText}
+use Rattle.mq_flow.specs.declared.saved.Saved as value
 use Rattle.mq_flow.specs.declared.session.Session.{Session}
+use Rattle.mq_flow.specs.SavedTwo.{saved_form_two, IsSavedAs, read_saved}
 use Rattle.mq_flow.specs.Saved.{saved_form, Saved, IsSession, IsSessionWithin}
-use Rattle.mq_flow.specs.Loading.{AreBytes, read_session}
+use Rattle.mq_wire.specs.Bytes.{AreBytes}
+use Rattle.mq_flow.specs.Loading.{read_session}
 
 -- What a user of the saved form may rely on.
 pub record SavedLaws : Type 0 where
@@ -12,3 +16,12 @@ pub record SavedLaws : Type 0 where
   pub found : (b : List ℕ) (s : Session) → AreBytes b → read_session b ≡ Ok s → Saved s b × IsSession s
   -- bytes are the saved form of at most one session, whatever the limit
   pub one : (limit : ℕ) (b : List ℕ) (s t : Session) → IsSessionWithin limit s → IsSessionWithin limit t → Saved s b → Saved t b → s ≡ t
+
+-- What a user of version 2 may rely on.
+pub record SavedTwoLaws : Type 0 where
+  -- what is spelled is read back, of version 1 too
+  pub first : (s : Session) → IsSession s → s.sender.book.claimed ≡ [] → s.sender.room ≡ 0 → read_saved (saved_form s) ≡ Ok (record { client = None; established = false; session = s })
+  pub again : (client : List ℕ) (established : Bool) (s : Session) → IsText client → IsSession s → s.sender.book.claimed ≡ [] → s.sender.room ≡ 0
+      → read_saved (saved_form_two client established s) ≡ Ok (record { client = Some client; established = established; session = s })
+  -- what is read is spelled so
+  pub found : (b : List ℕ) (v : value.Saved) → AreBytes b → read_saved b ≡ Ok v → IsSavedAs v b × IsSession v.session

@@ -2,7 +2,9 @@
 
 ghost use Rattle.mq_flow.specs.Laws.{IdentifierLaws, ReceiverLaws, SendingLaws, StrayLaws};
 ghost use Rattle.mq_flow.specs.Next.{NextLaws};
-ghost use Rattle.mq_flow.specs.SavedLaws.{SavedLaws};
+ghost use Rattle.mq_flow.specs.SavedLaws.{SavedLaws, SavedTwoLaws};
+
+use mq_wire::text_laws;
 
 /// The identifiers of a sender's book: from 1 to 65,535, each in use once, and at most as many as the
 /// capacity, whatever moves it makes; and one that is not full has an identifier to give (2.3.1).
@@ -39,3 +41,11 @@ pub fn sending_laws()
 pub fn saved_laws()
     ensures { SavedLaws }
 {}
+
+/// The saved form of a client's session, version 2: what is spelled is read back, of version 1 too, and what is read is spelled so
+/// (3.1.3.1, 4.1).
+pub fn saved_two_laws()
+    ensures { SavedTwoLaws }
+{
+    text_laws();
+}

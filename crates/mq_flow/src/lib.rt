@@ -13,6 +13,7 @@ mod queue;
 mod reaction;
 mod receiver;
 mod resend;
+mod saved;
 mod saving;
 mod sender;
 mod session;
@@ -22,10 +23,11 @@ pub use crate::claim::{Claim, Claimed};
 pub use crate::entry::Entry;
 pub use crate::iter::Entries;
 pub use crate::laws::{
-    identifier_laws, next_laws, receiver_laws, saved_laws, sending_laws, stray_laws,
+    identifier_laws, next_laws, receiver_laws, saved_laws, saved_two_laws, sending_laws, stray_laws,
 };
 pub use crate::loading::LoadError;
 pub use crate::reaction::{Reaction, Refusal};
 pub use crate::receiver::Receiver;
+pub use crate::saved::Saved;
 pub use crate::sender::Sender;
 pub use crate::session::Session;

@@ -24,7 +24,7 @@ use thiserror::Error;
 /// Why a session was not loaded. It displays as its code.
 #[derive(Clone, Copy, Debug, PartialEq, Eq, Error)]
 pub enum LoadError {
-    /// The bytes don't begin with `MQS` and version 1.
+    /// The bytes don't begin with `MQS` and a version that is read.
     #[error("L1")]
     Version,
     /// They are not the saved form of a session.
@@ -115,7 +115,7 @@ fn read(alloc: Global, bytes: &[u8]) -> Result<Session, LoadError>
 
 // What follows the version.
 #[tactic(auto, unfolding(crate::specs::Loading::session_at))]
-fn session(alloc: Global, bytes: &[u8]) -> Result<Session, Unread>
+pub(crate) fn session(alloc: Global, bytes: &[u8]) -> Result<Session, Unread>
     ensures { Gives (λ s. s) result (session_at 268435455 bytes.now) }
 {
     let (sender, rest) = sender(alloc, bytes)?;
@@ -278,7 +278,7 @@ fn qos(bytes: &[u8]) -> Result<(Qos, &[u8]), BadField>
 
 // 0 or 1.
 #[tactic(auto, unfolding(crate::specs::Loading::flag_at))]
-fn flag(bytes: &[u8]) -> Result<(bool, &[u8]), BadField>
+pub(crate) fn flag(bytes: &[u8]) -> Result<(bool, &[u8]), BadField>
     ensures { Same (λ x. (x.0, x.1.now)) result (flag_at bytes.now) }
 {
     let Some((byte, rest)) = bytes.split_first() else {

@@ -9,7 +9,9 @@ ghost use Rattle.mq_topic.specs.Topic.{IsTopicName};
 ghost use Rattle.mq_packet.specs.Identifier.{IsIdentifier};
 ghost use Rattle.mq_flow.specs.Held.{messages, releases};
 ghost use Rattle.mq_flow.specs.Receiver.{AreIdentifiers};
-ghost use Rattle.mq_flow.specs.Saved.{number, counted, count, saved_payload, saved_flags, saved_entry, saved_ids, saved_sender, saved_receiver, saved_form, signature, without_claims, AreWithin, HaveTopics, IsSenderWithin, IsSession};
+ghost use Rattle.mq_wire.specs.Number.{number};
+ghost use Rattle.mq_wire.specs.Text.{counted};
+ghost use Rattle.mq_flow.specs.Saved.{count, saved_payload, saved_flags, saved_entry, saved_ids, saved_sender, saved_receiver, saved_form, signature, without_claims, AreWithin, HaveTopics, IsSenderWithin, IsSession};
 
 use crate::entry::Entry;
 use crate::receiver::Receiver;
@@ -49,6 +51,15 @@ fn put_session(out: &mut Vec<u8>, session: &Session) -> Result<(), AllocError>
     ensures err { OnErr result (take (length out.old.items) out.new.items ≡ out.old.items) }
 {
     out.extend_from_slice(&SIGNATURE)?;
+    put_state(out, session)
+}
+
+// Appends what is saved of a session behind the version; where memory runs out a beginning of it.
+pub(crate) fn put_state(out: &mut Vec<u8>, session: &Session) -> Result<(), AllocError>
+    ensures ok { OnOk result (out.new.items ≡ out.old.items ++ (saved_sender session.now.sender ++ saved_receiver session.now.receiver)) }
+    ensures session { OnOk result (AreWithin 268435455 session.now.sender.book.entries → IsSession (without_claims session.now)) }
+    ensures err { OnErr result (take (length out.old.items) out.new.items ≡ out.old.items) }
+{
     session.sender.put(out)?;
     session.receiver.put(out)
 }
@@ -158,9 +169,17 @@ fn put_topic(out: &mut Vec<u8>, topic: &TopicName) -> Result<(), AllocError>
     ensures topic { IsTopicName topic.now }
     ensures err { OnErr result (take (length out.old.items) out.new.items ≡ out.old.items) }
 {
-    let text = topic.as_str().as_bytes();
+    put_text(out, topic.as_str())
+}
+
+// Appends a text, behind a count of two bytes (1.5.3).
+pub(crate) fn put_text(out: &mut Vec<u8>, text: &str) -> Result<(), AllocError>
+    requires { length text.now < 65_536 }
+    ensures ok { OnOk result (out.new.items ≡ out.old.items ++ counted text.now) }
+    ensures err { OnErr result (take (length out.old.items) out.new.items ≡ out.old.items) }
+{
     put_number(out, text.len() as u16)?;
-    out.extend_from_slice(text)
+    out.extend_from_slice(text.as_bytes())
 }
 
 // Appends a payload, behind a count of four bytes.

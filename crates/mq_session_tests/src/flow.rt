@@ -1,6 +1,7 @@
 //! The books of a session: what each call answers, and what the book is then.
 
 mod room;
+mod saved;
 
 use bytes::Bytes;
 use mq_flow::{Claim, LoadError, Session};

@@ -1,0 +1,149 @@
+//! Sessions as they are saved, with the client that they belong to (3.1.2.4, 3.1.3.1, 4.1).
+
+ghost use Rattle.std.specs.Prelude.{◌≡◌, ◌↔◌, ◌++◌, ℕ, false, length, Result, take, IfOk, OnOk, OnErr, IsErrOf, MatchResult};
+ghost use Rattle.mq_flow.specs.Saved.{AreWithin, IsSession, without_claims};
+ghost use Rattle.mq_flow.specs.Loading.{Gives, Loads, has_version, placed};
+ghost use Rattle.mq_flow.specs.declared.saved.Saved as value;
+ghost use Rattle.mq_flow.specs.SavedTwo.{IsSavedAs, first_at, has_version_two, read_saved, saved_form_two, second_at, text_at};
+
+use crate::loading::{BadField, LoadError, Unread, flag, session};
+use crate::saving::{SIGNATURE, put_state, put_text};
+use crate::session::Session;
+use mq_wire::{Text, text_at, text_laws};
+use std::alloc::{AllocError, Global};
+
+/// `MQS`, and version 2 of the form.
+pub(crate) const SIGNATURE_TWO: [u8; 4] = [0x4d, 0x51, 0x53, 2];
+
+/// A session as it was saved.
+#[derive(Debug, Drop)]
+pub struct Saved {
+    /// The identifier of the client that it belongs to (3.1.3.1). Version 1 of the form names none.
+    pub client: Option<Text>,
+    /// Whether a CONNACK that accepts was read for it. Version 1 of the form doesn't say so of any.
+    pub established: bool,
+    /// The session.
+    pub session: Session,
+}
+
+impl Saved {
+    /// The session of which these bytes are the saved form, of version 1 or 2 (4.1). Returns `Version` where they begin with
+    /// neither version, `Malformed` at the first field that is bad, and `Memory` where memory runs out.
+    pub fn load(alloc: Global, bytes: &[u8]) -> Result<Saved, LoadError>
+        ensures loads { IfOk result (λ v. IsSavedAs v bytes.now × IsSession v.session) }
+        ensures saved { (v : Saved) → IsSession v.session → IsSavedAs v bytes.now → MatchResult result (λ t. t ≡ v) (λ e. e ≡ LoadError.Memory) }
+        ensures version { IsErrOf result LoadError.Version ↔ ((has_version bytes.now ≡ false) × (has_version_two bytes.now ≡ false)) }
+        ensures place { Loads result (read_saved bytes.now) }
+    {
+        text_laws();
+        read(alloc, bytes)
+    }
+}
+
+impl Session {
+    /// Appends the saved form of the session of a client (4.1), version 2: the client's identifier, whether a CONNACK that accepts was
+    /// read for the session, and what version 1 has. Returns an error where memory runs out, and then `out` is unchanged.
+    pub fn save_with_client(
+        &self,
+        client: &Text,
+        established: bool,
+        out: &mut Vec<u8>,
+    ) -> Result<(), AllocError>
+        ensures ok { OnOk result (out.new.items ≡ out.old.items ++ saved_form_two client.now established (without_claims self.now)) }
+        ensures session { OnOk result (AreWithin 268435455 self.now.sender.book.entries → IsSession (without_claims self.now)) }
+        ensures err { OnErr result (out.new.items ≡ out.old.items) }
+    {
+        let before = out.len();
+        let put = put_saved(out, client, established, self);
+        if put.is_err() {
+            out.truncate(before);
+        }
+        put
+    }
+}
+
+// Appends the saved form, version 2; where memory runs out a beginning of it.
+fn put_saved(
+    out: &mut Vec<u8>,
+    client: &Text,
+    established: bool,
+    session: &Session,
+) -> Result<(), AllocError>
+    ensures ok { OnOk result (out.new.items ≡ out.old.items ++ saved_form_two client.now established session.now) }
+    ensures session { OnOk result (AreWithin 268435455 session.now.sender.book.entries → IsSession (without_claims session.now)) }
+    ensures err { OnErr result (take (length out.old.items) out.new.items ≡ out.old.items) }
+{
+    out.extend_from_slice(&SIGNATURE_TWO)?;
+    put_text(out, client.as_str())?;
+    out.push(u8::from(established))?;
+    put_state(out, session)
+}
+
+// What was saved, or what is wrong with the bytes.
+#[tactic(auto, unfolding(crate::specs::SavedTwo::read_saved))]
+fn read(alloc: Global, bytes: &[u8]) -> Result<Saved, LoadError>
+    ensures version { IsErrOf result LoadError.Version ↔ ((has_version bytes.now ≡ false) × (has_version_two bytes.now ≡ false)) }
+    ensures reads { Loads result (read_saved bytes.now) }
+{
+    if bytes.starts_with(&SIGNATURE) {
+        return placed(bytes, first(alloc, &bytes[4..]));
+    }
+    if bytes.starts_with(&SIGNATURE_TWO) {
+        return placed(bytes, second(alloc, &bytes[4..]));
+    }
+    Err(LoadError::Version)
+}
+
+// What was read behind the version, with the place of a bad field counted from the first of all bytes.
+fn placed(bytes: &[u8], read: Result<Saved, Unread>) -> Result<Saved, LoadError>
+    ensures reads { (told : Result value.Saved ℕ) → Gives (λ s. s) read told → Loads result (placed (length bytes.now) told) }
+    ensures version { IsErrOf result LoadError.Version → ⊥ }
+{
+    match read {
+        Ok(saved) => Ok(saved),
+        Err(Unread::Bad(bad)) => Err(LoadError::Malformed {
+            place: bytes.len().saturating_sub(bad.left),
+        }),
+        Err(Unread::Memory) => Err(LoadError::Memory),
+    }
+}
+
+// What follows version 1.
+#[tactic(auto, unfolding(crate::specs::SavedTwo::first_at))]
+fn first(alloc: Global, bytes: &[u8]) -> Result<Saved, Unread>
+    ensures { Gives (λ s. s) result (first_at 268435455 bytes.now) }
+{
+    let session = session(alloc, bytes)?;
+    Ok(Saved {
+        client: None,
+        established: false,
+        session,
+    })
+}
+
+// What follows version 2.
+#[tactic(auto, unfolding(crate::specs::SavedTwo::second_at))]
+fn second(alloc: Global, bytes: &[u8]) -> Result<Saved, Unread>
+    ensures { Gives (λ s. s) result (second_at 268435455 bytes.now) }
+{
+    let (client, rest) = text(alloc, bytes)?;
+    let (established, rest) = flag(rest)?;
+    let session = session(alloc, rest)?;
+    Ok(Saved {
+        client: Some(client),
+        established,
+        session,
+    })
+}
+
+// A text, behind a count of two bytes.
+#[tactic(auto, unfolding(crate::specs::SavedTwo::text_at))]
+fn text(alloc: Global, bytes: &[u8]) -> Result<(Text, &[u8]), Unread>
+    ensures { Gives (λ x. (x.0, x.1.now)) result (text_at bytes.now) }
+{
+    let Ok((text, place)) = text_at(bytes, 0) else {
+        return Err(Unread::Bad(BadField { left: bytes.len() }));
+    };
+    let text = text.to_text(alloc)?;
+    Ok((text, &bytes[place..]))
+}
