@@ -1,6 +1,6 @@
 //! The client end.
 
-ghost use Rattle.std.specs.Prelude.{◌≡◌, ◌<◌, ◌≤◌, ◌↔◌, ◌∷◌, ℕ, [], true, false, length, drop, IfOk, IfErr, IfSome, IfNone, IsSome, OnOk, OnErr, Err, None, Some};
+ghost use Rattle.std.specs.Prelude.{◌≡◌, ◌<◌, ◌≤◌, ◌↔◌, ◌⊎◌, ◌∷◌, ◌++◌, IsErrOf, ℕ, [], true, false, length, drop, IfOk, IfErr, IfSome, IfNone, IsSome, OnOk, OnErr, Err, None, Some};
 ghost use Rattle.mq_packet.specs.declared.packet.Packet.TheVariants as packets;
 ghost use Rattle.mq_end.specs.End.{blank_end, is_live, over, resumed};
 ghost use Rattle.mq_end.specs.Both.{publish_refusal};
@@ -10,7 +10,9 @@ ghost use Rattle.mq_end.specs.Receiving.{Acts, ClientReceives};
 ghost use Rattle.mq_end.specs.Publishing.{Accepts, connect_of};
 ghost use Rattle.mq_end.specs.KeepAlive.{pings};
 ghost use Rattle.mq_end.specs.Requests.{Requests, Ticks};
-ghost use Rattle.mq_end.specs.Resuming.{FitsWithin};
+ghost use Rattle.mq_end.specs.Resuming.{FitsWithin, NamesAnother, kept_session};
+ghost use Rattle.mq_flow.specs.Saved.{AreWithin, IsSession};
+ghost use Rattle.mq_flow.specs.SavedTwo.{saved_form_two};
 
 use crate::config::ClientConfig;
 use crate::link::Link;
@@ -18,10 +20,10 @@ use crate::progress::Progress;
 use crate::queue::ByteQueue;
 use crate::reason::CloseReason;
 use crate::refusal::PublishRefusal;
-use crate::resuming::fits_within;
+use crate::resuming::{fits_within, names_another};
 use crate::role::Role;
 use crate::state::State;
-use mq_flow::Session;
+use mq_flow::{LoadError, Saved, Session};
 use mq_packet::{BoxedConnect, Connect, Message, NonEmpty, Packet, PacketId, Request};
 use mq_topic::TopicFilter;
 use std::alloc::{AllocError, Global};
@@ -82,6 +84,50 @@ impl ClientEnd {
         }
         let link = Link::with_session(alloc, config.limits, session, false);
         Some(ClientEnd { config, link })
+    }
+
+    /// A client without a connection that goes on with a session that was saved, its claimed identifiers freed (3.1.2.4, 4.1). It is
+    /// established where the saved one was. The session keeps its capacity, which stands in place of the configured one. Returns
+    /// `AnotherClient` where the session was saved for another client identifier, and else `TooLarge` where a message of it is over the
+    /// limit. It takes no memory.
+    pub fn with_saved(
+        alloc: Global,
+        config: ClientConfig,
+        saved: Saved,
+    ) -> Result<ClientEnd, LoadError>
+        ensures another { IsErrOf result LoadError.AnotherClient ↔ NamesAnother saved.client config.id }
+        ensures too_large { IsErrOf result LoadError.TooLarge
+            ↔ ((NamesAnother saved.client config.id → ⊥) × (FitsWithin config.limits.most saved.session → ⊥)) }
+        ensures only { IfErr result (λ why. (why ≡ LoadError.AnotherClient) ⊎ (why ≡ LoadError.TooLarge)) }
+        ensures end { IfOk result (λ client. client.link.end
+            ≡ resumed saved.established saved.session.sender.book saved.session.receiver saved.session.sender.last) }
+        ensures capacity { IfOk result (λ client. client.link.capacity ≡ saved.session.sender.capacity) }
+        ensures limit { IfOk result (λ client. client.link.limit ≡ config.limits) }
+        ensures output { IfOk result (λ client. client.link.output ≡ []) }
+        ensures held { IfOk result (λ client. client.link.held ≡ []) }
+        ensures config { IfOk result (λ client. client.config ≡ config) }
+    {
+        if names_another(&saved.client, &config.id) {
+            return Err(LoadError::AnotherClient);
+        }
+        if !fits_within(config.limits, &saved.session) {
+            return Err(LoadError::TooLarge);
+        }
+        let link = Link::with_session(alloc, config.limits, saved.session, saved.established);
+        Ok(ClientEnd { config, link })
+    }
+
+    /// Appends the saved form of the session, version 2 (4.1): the client identifier, whether the session is established, and what it sends
+    /// and receives and is not through with. The identifiers in use by SUBSCRIBE and UNSUBSCRIBE are not saved. Returns an error where
+    /// memory runs out, and then `out` is unchanged.
+    pub fn save(&self, out: &mut Vec<u8>) -> Result<(), AllocError>
+        ensures ok { OnOk result (out.new.items ≡ out.old.items ++ saved_form_two self.now.config.id self.now.link.end.known (kept_session self.now.link)) }
+        ensures session { OnOk result (AreWithin 268435455 self.now.link.end.book.entries → IsSession (kept_session self.now.link)) }
+        ensures err { OnErr result (out.new.items ≡ out.old.items) }
+    {
+        self.link
+            .session
+            .save_with_client(&self.config.id, self.link.known, out)
     }
 
     // The CONNECT that it begins a connection with.

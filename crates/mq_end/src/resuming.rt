@@ -2,7 +2,7 @@
 
 ghost use Rattle.std.specs.Prelude.{◌≡◌, ◌↔◌, [], IsTrue};
 ghost use Rattle.mq_end.specs.End.{resumed};
-ghost use Rattle.mq_end.specs.Resuming.{FitsWithin};
+ghost use Rattle.mq_end.specs.Resuming.{FitsWithin, NamesAnother};
 
 use crate::link::Link;
 use crate::publishing::publish_size;
@@ -10,6 +10,7 @@ use crate::queue::ByteQueue;
 use crate::state::State;
 use mq_decode::{Decoder, Limits};
 use mq_flow::Session;
+use mq_wire::Text;
 use std::alloc::Global;
 
 /// Whether each message that a session holds fits within the limits (2.2.3).
@@ -19,6 +20,16 @@ pub(crate) fn fits_within(limits: Limits, session: &Session) -> bool
     let most = limits.max_packet() as usize;
     let mut entries = session.sender.entries();
     entries.all(|entry| publish_size(&entry.message) <= most)
+}
+
+/// Whether a session was saved for another client than this (3.1.3.1).
+pub(crate) fn names_another(client: &Option<Text>, id: &Text) -> bool
+    ensures { IsTrue result ↔ NamesAnother client.now id.now }
+{
+    match client {
+        Some(client) => client != id,
+        None => false,
+    }
 }
 
 impl Link {

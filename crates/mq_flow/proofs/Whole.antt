@@ -5,7 +5,7 @@ use Rattle.std.proofs.lemmas.List.{append-nil}
 use Rattle.std.specs.FinSet.{contains}
 use Rattle.mq_packet.specs.Identifier.{IsIdentifier}
 use Rattle.mq_flow.specs.declared.loading.LoadError.{LoadError}
-use Rattle.mq_flow.specs.declared.loading.LoadError.TheVariants.{Version, Malformed, Memory}
+use Rattle.mq_flow.specs.declared.loading.LoadError.TheVariants.{Version, Malformed, Memory, AnotherClient, TooLarge}
 use Rattle.mq_flow.specs.declared.session.Session.{Session}
 use Rattle.mq_flow.specs.Sending.{Sending}
 use Rattle.mq_flow.specs.Receiver.{ReceiverBook}
@@ -134,3 +134,5 @@ loads_session r bytes l s is saved = given r (subst (Loads r) (ap read_session s
     given (Err Memory) l = refl
     given (Err Version) l = absurd cc
     given (Err (Malformed place)) l = absurd cc
+    given (Err AnotherClient) l = absurd cc
+    given (Err TooLarge) l = absurd cc

@@ -8,7 +8,7 @@ use Rattle.mq_wire.specs.TextReading.{TextLaws, read_text}
 use Rattle.mq_wire.specs.declared.text.FieldFault.{FieldFault}
 use Rattle.mq_packet.specs.Spelling.{bit}
 use Rattle.mq_flow.specs.declared.loading.LoadError.{LoadError}
-use Rattle.mq_flow.specs.declared.loading.LoadError.TheVariants.{Version, Malformed, Memory}
+use Rattle.mq_flow.specs.declared.loading.LoadError.TheVariants.{Version, Malformed, Memory, AnotherClient, TooLarge}
 use Rattle.mq_flow.specs.declared.saved.Saved as value
 use Rattle.mq_flow.specs.declared.session.Session.{Session}
 use Rattle.mq_flow.specs.Saved.{signature, saved_sender, saved_receiver, saved_form, Saved, IsSession}
@@ -161,3 +161,5 @@ loads_value texts r bytes l v is saved = given r (subst (Loads r) (read_back tex
     given (Err Memory) l = refl
     given (Err Version) l = absurd cc
     given (Err (Malformed place)) l = absurd cc
+    given (Err AnotherClient) l = absurd cc
+    given (Err TooLarge) l = absurd cc

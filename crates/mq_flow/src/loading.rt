@@ -36,6 +36,12 @@ pub enum LoadError {
     /// Memory ran out.
     #[error("L3")]
     Memory,
+    /// The session was saved for another client (3.1.3.1).
+    #[error("L4")]
+    AnotherClient,
+    /// A message of the session is over the limit of the end that is to go on with it (2.2.3).
+    #[error("L5")]
+    TooLarge,
 }
 
 /// How many bytes there are from the bad field on.
