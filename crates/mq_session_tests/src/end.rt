@@ -4,6 +4,7 @@ mod late;
 mod queue;
 mod requests;
 mod resumed;
+mod saved;
 mod server;
 
 use bytes::Bytes;
