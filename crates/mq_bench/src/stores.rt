@@ -175,7 +175,7 @@ fn rows_of(filters: Filters, clients: u32, rows: u32) -> u32 {
 
 /// Measures a store without rows, `named` so, as it gets so many rows, is asked about so many names, and loses clients, and
 /// prints the nanoseconds of each.
-pub(crate) fn measure<S: FilterStore>(
+pub(crate) fn measure<S: FilterStore + Drop>(
     rt: &(impl Print + Clock),
     alloc: Global,
     named: &str,
@@ -208,11 +208,12 @@ fn resident<R: Files + Alloc>(rt: &R) -> anyhow::Result<u64> {
         .split(' ')
         .nth(1)
         .context("no number of pages")?;
-    Ok(u64::from_str(pages)?.saturating_mul(4_096))
+    let pages: u64 = pages.parse()?;
+    Ok(pages.saturating_mul(4_096))
 }
 
 /// Fills a store, and prints how many bytes a row takes. The program has to be a new one, which has freed nothing yet.
-pub(crate) fn weigh<R: Files + AllocGlobal + Print + Clock, S: FilterStore>(
+pub(crate) fn weigh<R: Files + AllocGlobal + Print + Clock, S: FilterStore + Drop>(
     rt: &R,
     named: &str,
     mut store: S,
