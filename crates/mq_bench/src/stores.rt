@@ -22,6 +22,15 @@ const ROUNDS: usize = 5;
 /// How many clients are taken away.
 const LEAVING: u32 = 50;
 
+/// How many names a store is asked about, and how often.
+#[derive(Clone, Copy, Debug)]
+pub(crate) struct Asked {
+    /// How many names, spread over all rows.
+    pub(crate) names: u32,
+    /// How often each, all of them one after another.
+    pub(crate) passes: u32,
+}
+
 /// What the filters of a store are like.
 #[derive(Clone, Copy, Debug, PartialEq, Eq)]
 pub(crate) enum Filters {
@@ -135,21 +144,50 @@ fn fill<S: FilterStore>(
     Ok(time)
 }
 
-/// How long the store takes to say who gets a message to each of these names.
-fn time_matching<S: FilterStore>(
-    rt: &impl Clock,
-    store: &S,
-    names: &[TopicName],
-    found: usize,
-) -> anyhow::Result<u64> {
-    let start = Instant::now(rt)?;
+/// Asks a store who gets a message to each of these names.
+fn ask<S: FilterStore>(store: &S, names: &[TopicName], found: usize) -> anyhow::Result<()> {
     for name in names {
         ensure!(
             store.matching(name)?.len() == found,
             "a client is not found"
         );
     }
+    Ok(())
+}
+
+/// How long it takes to ask about each of these names so often.
+fn time_matching<S: FilterStore>(
+    rt: &impl Clock,
+    store: &S,
+    names: &[TopicName],
+    found: usize,
+    passes: u32,
+) -> anyhow::Result<u64> {
+    let start = Instant::now(rt)?;
+    for _ in 0..passes {
+        ask(store, names, found)?;
+    }
     since(rt, start)
+}
+
+/// The nanoseconds that a store with so many rows takes for each of these questions: the middle one of some times.
+fn matching<S: FilterStore>(
+    rt: &impl Clock,
+    alloc: Global,
+    store: &S,
+    filters: Filters,
+    rows: u32,
+    asked: Asked,
+) -> anyhow::Result<u64> {
+    let names = filters.names(alloc, rows, asked.names)?;
+    let mut times = [0u64; ROUNDS];
+    for time in &mut times {
+        let found = filters.found(rows);
+        *time = time_matching(rt, store, names.as_slice(), found, asked.passes)?;
+    }
+    times.sort_unstable();
+    let questions = u64::from(asked.names).saturating_mul(u64::from(asked.passes));
+    Ok(times[ROUNDS / 2] / questions.max(1))
 }
 
 /// How long it takes to take clients away.
@@ -173,8 +211,8 @@ fn rows_of(filters: Filters, clients: u32, rows: u32) -> u32 {
     }
 }
 
-/// Measures a store without rows, `named` so, as it gets so many rows, is asked about so many names, and loses clients, and
-/// prints the nanoseconds of each.
+/// Measures a store without rows, `named` so, as it gets so many rows, is asked about few names often and about many names, and
+/// loses clients, and prints the nanoseconds of each.
 pub(crate) fn measure<S: FilterStore + Drop>(
     rt: &(impl Print + Clock),
     alloc: Global,
@@ -182,20 +220,15 @@ pub(crate) fn measure<S: FilterStore + Drop>(
     mut store: S,
     filters: Filters,
     rows: u32,
-    asked: u32,
+    asked: [Asked; 2],
 ) -> anyhow::Result<()> {
     let set = fill(rt, alloc, &mut store, filters, rows)? / u64::from(rows).max(1);
-    let names = filters.names(alloc, rows, asked)?;
-    let mut times = [0u64; ROUNDS];
-    for time in &mut times {
-        *time = time_matching(rt, &store, names.as_slice(), filters.found(rows))?;
-    }
-    times.sort_unstable();
-    let matching = times[ROUNDS / 2] / u64::from(asked).max(1);
+    let few = matching(rt, alloc, &store, filters, rows, asked[0])?;
+    let many = matching(rt, alloc, &store, filters, rows, asked[1])?;
     let gone = u64::from(rows_of(filters, LEAVING, rows)).max(1);
     let removal = time_removal(rt, &mut store, LEAVING)? / gone;
     println!(rt;
-        "topics: {named}, {rows} rows, {filters}: set {set} ns, matching {matching} ns, removal {removal} ns a row"
+        "topics: {named}, {rows} rows, {filters}: set {set} ns, matching {few} ns, of many names {many} ns, removal {removal} ns a row"
     )?;
     Ok(())
 }

@@ -1,6 +1,6 @@
 //! The matching of topic filters, timed and printed.
 
-use crate::stores::{self, Filters};
+use crate::stores::{self, Asked, Filters};
 use anyhow::bail;
 use mq_topic::{ListStore, TopicFilter, TopicName, TrieStore, matches};
 use std::alloc::Global;
@@ -19,15 +19,34 @@ const NAMES: u32 = 1_000;
 /// How often all names are asked about.
 const PASSES: u32 = 1_000;
 
-/// How many rows a plain store has, and how many names it is asked about. It asks each of its rows about each name.
-const LIST_SIZES: [(u32, u32); 2] = [(1_000, 1_000), (10_000, 200)];
+/// How many rows a plain store has. It asks each of its rows about each name.
+const LIST_ROWS: [u32; 2] = [1_000, 10_000];
 
-/// How many rows a trie has, and how many names it is asked about.
-const TRIE_SIZES: [(u32, u32); 4] = [
-    (1_000, 10_000),
-    (10_000, 10_000),
-    (100_000, 10_000),
-    (1_000_000, 10_000),
+/// What a plain store is asked.
+const LIST_ASKED: [Asked; 2] = [
+    Asked {
+        names: 100,
+        passes: 2,
+    },
+    Asked {
+        names: 200,
+        passes: 1,
+    },
+];
+
+/// How many rows a trie has.
+const TRIE_ROWS: [u32; 4] = [1_000, 10_000, 100_000, 1_000_000];
+
+/// What a trie is asked.
+const TRIE_ASKED: [Asked; 2] = [
+    Asked {
+        names: 1_000,
+        passes: 10,
+    },
+    Asked {
+        names: 10_000,
+        passes: 1,
+    },
 ];
 
 /// How many rows a store has whose memory is looked at.
@@ -79,13 +98,13 @@ fn time_matches(rt: &impl Clock, filter: &TopicFilter, names: &[TopicName]) -> a
 /// Measures stores of so many rows of each kind, and prints how long each call takes.
 fn measure_stores(rt: &(impl Print + Clock), alloc: Global) -> anyhow::Result<()> {
     for filters in Filters::ALL {
-        for (rows, asked) in LIST_SIZES {
+        for rows in LIST_ROWS {
             let store = ListStore::new(alloc);
-            stores::measure(rt, alloc, "list", store, filters, rows, asked)?;
+            stores::measure(rt, alloc, "list", store, filters, rows, LIST_ASKED)?;
         }
-        for (rows, asked) in TRIE_SIZES {
+        for rows in TRIE_ROWS {
             let store = TrieStore::new(alloc);
-            stores::measure(rt, alloc, "trie", store, filters, rows, asked)?;
+            stores::measure(rt, alloc, "trie", store, filters, rows, TRIE_ASKED)?;
         }
     }
     Ok(())
