@@ -5,6 +5,7 @@ pub mod Counting
 pub mod Ascending
 pub mod Books
 pub mod Members
+pub mod Windows
 pub mod Sending
 pub mod Queues
 pub mod Holding

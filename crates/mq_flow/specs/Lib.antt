@@ -2,6 +2,7 @@ pub mod Sender
 pub mod Held
 pub mod Sending
 pub mod Receiver
+pub mod Window
 pub mod Laws
 pub mod Next
 pub mod Saved

@@ -26,7 +26,7 @@ pub use crate::laws::{
     identifier_laws, next_laws, receiver_laws, saved_laws, saved_two_laws, sending_laws, stray_laws,
 };
 pub use crate::loading::LoadError;
-pub use crate::reaction::{Reaction, Refusal};
+pub use crate::reaction::{Reaction, ReceiveRefusal, Refusal};
 pub use crate::receiver::Receiver;
 pub use crate::saved::Saved;
 pub use crate::sender::Sender;

@@ -1,4 +1,4 @@
-//! What an acknowledgement does to a sender's book, and why a message is refused.
+//! What an acknowledgement does to a sender's book, and why a message is refused by a sender or by a receiver.
 
 use mq_packet::PacketId;
 use thiserror::Error;
@@ -23,4 +23,15 @@ pub enum Refusal {
     /// Memory ran out.
     #[error("S2")]
     Memory,
+}
+
+/// Why a receiver refuses a message.
+#[derive(Clone, Copy, Debug, PartialEq, Eq, Error)]
+pub enum ReceiveRefusal {
+    /// Memory ran out.
+    #[error("memory ran out")]
+    Memory,
+    /// As many identifiers are stored as the window has, and this one is not among them.
+    #[error("the receiving window is full")]
+    Window,
 }

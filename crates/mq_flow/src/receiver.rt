@@ -1,11 +1,13 @@
 //! What a receiver of messages keeps (4.3.3).
 
-ghost use Rattle.std.specs.Prelude.{◌≡◌, ◌↔◌, true, IsTrue, IfOk, OnOk, OnErr, Some, None, if◌then◌else◌};
+ghost use Rattle.std.specs.Prelude.{◌≡◌, ◌↔◌, true, false, IsTrue, IsErrOf, IfOk, OnOk, OnErr, Some, None, if◌then◌else◌};
 ghost use Rattle.mq_topic.specs.declared.qos.Qos.TheVariants.{Q0, Q1, Q2};
 ghost use Rattle.mq_packet.specs.declared.packet.Packet.TheVariants as packets;
 ghost use Rattle.std.specs.FinSet as set;
 ghost use Rattle.mq_flow.specs.Receiver.{none_received, is_new, on_publish, on_pubrel};
+ghost use Rattle.mq_flow.specs.Window.{fits_window};
 
+use crate::reaction::ReceiveRefusal;
 use mq_packet::{Message, Packet, PacketId};
 use mq_topic::Qos;
 use std::alloc::{AllocError, Global};
@@ -51,6 +53,24 @@ impl Receiver {
         self.stored.contains(&id.get())
     }
 
+    /// How many identifiers are stored. It takes no memory.
+    pub fn identifiers(&self) -> usize
+        ensures { result ≡ set.len self.now }
+    {
+        self.stored.len()
+    }
+
+    /// Whether a PUBLISH of quality of service 2 with this identifier fits a window: its identifier is stored, or fewer are stored
+    /// than the window has; `None` is no window. It takes no memory.
+    pub fn fits(&self, id: PacketId, window: Option<u16>) -> bool
+        ensures { result ≡ fits_window window id self.now }
+    {
+        match window {
+            None => true,
+            Some(window) => self.is_stored(id) || self.identifiers() < window as usize,
+        }
+    }
+
     /// Stores an identifier (4.3.3). The answer says whether it is new, so that its message is to be handed on.
     /// Errs where memory runs out, and then nothing changes.
     pub fn store(&mut self, id: PacketId) -> Result<bool, AllocError>
@@ -63,15 +83,18 @@ impl Receiver {
 
     /// A PUBLISH of quality of service 1 or 2: the message, where it is handed on, and the packet that answers
     /// (4.3.2, 4.3.3). With quality of service 1 it is always handed on and PUBACK answers; with 2 it is handed on
-    /// exactly where its identifier is new, and PUBREC answers. Errs where memory runs out, and then nothing changes.
+    /// exactly where its identifier is new, and PUBREC answers. Errs where one of quality of service 2 doesn't fit the window, or
+    /// where memory runs out, and then nothing changes.
     pub fn on_publish(
         &mut self,
         id: PacketId,
         qos: Qos,
         message: Message,
-    ) -> Result<(Option<Message>, Packet), AllocError>
+        window: Option<u16>,
+    ) -> Result<(Option<Message>, Packet), ReceiveRefusal>
         requires own { qos ≡ message.qos }
         requires acknowledged { qos ≡ Q0 → ⊥ }
+        ensures window { IsErrOf result ReceiveRefusal.Window ↔ ((qos ≡ Q2) × (fits_window window id self.old ≡ false)) }
         ensures once { qos ≡ Q1 → IfOk result (λ r. r ≡ (Some message, packets.PubAck id)) }
         ensures same { qos ≡ Q1 → self.new ≡ self.old }
         ensures exactly { qos ≡ Q2 → IfOk result (λ r. r ≡ ((if is_new id self.old then Some message else None), packets.PubRec id)) }
@@ -81,7 +104,12 @@ impl Receiver {
         if qos == Qos::Q1 {
             return Ok((Some(message), Packet::PubAck(id)));
         }
-        let new = self.store(id)?;
+        if !self.fits(id, window) {
+            return Err(ReceiveRefusal::Window);
+        }
+        let Ok(new) = self.store(id) else {
+            return Err(ReceiveRefusal::Memory);
+        };
         let handed = if new { Some(message) } else { None };
         Ok((handed, Packet::PubRec(id)))
     }

@@ -2,6 +2,7 @@
 
 mod room;
 mod saved;
+mod window;
 
 use bytes::Bytes;
 use mq_flow::{Claim, LoadError, Session};
@@ -92,7 +93,9 @@ fn received(alloc: Global, session: &mut Session, number: u16, qos: Qos) -> Resu
     if message.qos != qos || qos == Qos::Q0 {
         return Err("a message that is not answered".into());
     }
-    let (handed, answer) = session.receiver.on_publish(id(number)?, qos, message)?;
+    let (handed, answer) = session
+        .receiver
+        .on_publish(id(number)?, qos, message, None)?;
     Ok(format!(in alloc; "{} {}", handed.is_some(), Line(&answer))?)
 }
 
