@@ -2,7 +2,7 @@ use bytes::Bytes;
 use mq_packet::{
     Binary, BoxedConnect, ConnAck, Connect, Delivery, EncodeError, Login, Message, NonEmpty,
     Packet, PacketId, Payload, Publish, RefusalCode, Request, SubAckCode, Will, WriteError,
-    encode_into, encoded_len, write_packet,
+    encode_into, encode_publish_into, encoded_len, write_packet,
 };
 use mq_topic::{Qos, TopicFilter, TopicName};
 use mq_wire::Text;
@@ -143,6 +143,41 @@ fn publish_is_spelled(rt: HostRuntime) -> Result<(), Fail> {
     expect_spelled(&rt, alloc, once, b"\x30\x07\x00\x03a/bhi")?;
     let bytes = b"\x3c\x09\x00\x03a/b\x00\x01hi";
     expect_spelled(&rt, alloc, repeated_packet(alloc)?, bytes)
+}
+
+// A PUBLISH of quality of service 0 behind a byte, whose message stays where it is.
+fn once_in_place(alloc: Global) -> Result<Vec<u8>, Fail> {
+    let message = message(alloc, "a/b", Bytes::from_static(b"hi"), Qos::Q0)?;
+    if message.qos != Qos::Q0 {
+        return Err(Fail::new("another quality of service"));
+    }
+    let mut out = vec![in alloc; 0xff]?;
+    encode_publish_into(&message, None, &mut out)?;
+    Ok(out)
+}
+
+// The same of quality of service 2, which may have come before.
+fn repeated_in_place(alloc: Global) -> Result<Vec<u8>, Fail> {
+    let message = message(alloc, "a/b", Bytes::from_static(b"hi"), Qos::Q2)?;
+    if message.qos != Qos::Q2 {
+        return Err(Fail::new("another quality of service"));
+    }
+    let delivery = Delivery {
+        id: id(1)?,
+        dup: true,
+    };
+    let mut out = vec![in alloc; 0xff]?;
+    encode_publish_into(&message, Some(delivery), &mut out)?;
+    Ok(out)
+}
+
+#[test]
+fn a_message_that_stays_is_spelled(rt: HostRuntime) -> Result<(), Fail> {
+    let once = once_in_place(rt.alloc())?;
+    assert!(rt; once.as_slice() == b"\xff\x30\x07\x00\x03a/bhi".as_slice());
+    let repeated = repeated_in_place(rt.alloc())?;
+    assert!(rt; repeated.as_slice() == b"\xff\x3c\x09\x00\x03a/b\x00\x01hi".as_slice());
+    Ok(())
 }
 
 // Whether a PUBLISH shows its delivery, and its message in each way.

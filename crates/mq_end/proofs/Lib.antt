@@ -7,3 +7,5 @@ pub mod Hearing
 pub mod Openings
 pub mod Accepted
 pub mod Along
+pub mod Onward
+pub mod Measures

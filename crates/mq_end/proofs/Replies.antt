@@ -1,6 +1,6 @@
 -- Packets that come to an end one after another, and what it puts out for them.
-use Rattle.std.proofs.Common.{◌≡◌, ℕ, ◌<◌, ◌+◌, List, [], ◌∷◌, ◌++◌, length, take, get_or, Option, Some, None, refl, sym, ap, subst, ◌∙◌, append_assoc}
-use Rattle.std.proofs.lemmas.List.{append-nil, take_more}
+use Rattle.std.proofs.Common.{◌≡◌, ℕ, List, [], ◌∷◌, ◌++◌, Option, Some, None, refl, sym, ap, subst, ◌∙◌, append_assoc}
+use Rattle.std.proofs.lemmas.List.{append-nil}
 use Rattle.mq_packet.specs.declared.packet.Packet.{Packet}
 use Rattle.mq_packet.specs.Spelling.{Spells}
 use Rattle.mq_end.specs.declared.reason.CloseReason.{CloseReason}
@@ -87,12 +87,6 @@ makes_then r s old mid new t u v going h k = record {
 -- the end that a reply leaves
 pub makes_end : (r : Reply) (old new : EndState) (t u : Told) → Makes r old new t u → new.end ≡ r.end
 makes_end r old new t u h = ap (λ (s : EndState). s.end) h.state
-
--- packets are put out one after another
-pub puts_more : (ps : List Packet) (i : ℕ) (p : Packet) (a b c : List ℕ) → i < length ps → p ≡ get_or ps i p → PutsOut (take i ps) a b → (s : List ℕ) × Spells p s × (c ≡ b ++ s) → PutsOut (take (i + 1) ps) a c
-puts_more ps i p a b c lt is h k =
-    subst (λ (qs : List Packet). PutsOut qs a c) (sym (take_more ps i p lt ∙ ap (λ (q : Packet). take i ps ++ q ∷ []) (sym is)))
-    (puts_then (take i ps) (p ∷ []) a b c h (puts_one p k.0 b c k.1 k.2))
 
 -- a reply that tells nothing
 pub quiet : (r : Reply) (old new : EndState) (t : Told) → Acts r old new → r.happenings ≡ [] → r.freed ≡ [] → Makes r old new t t

@@ -1,5 +1,6 @@
 pub mod End
 pub mod Sizes
+pub mod SizeLaws
 pub mod Both
 pub mod Client
 pub mod Server

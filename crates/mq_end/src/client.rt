@@ -290,6 +290,14 @@ impl ClientEnd {
         self.link.take_all_output()
     }
 
+    /// Exchanges the bytes that wait to be written for others. It takes no memory.
+    pub fn swap_output(&mut self, other: &mut ByteQueue)
+        ensures end { self.new ≡ record self.old { link = record self.old.link { output = other.old } } }
+        ensures other { other.new ≡ self.old.link.output }
+    {
+        self.link.swap_output(other);
+    }
+
     /// How far the connection is.
     pub fn state(&self) -> State
         ensures { result ≡ self.now.link.end.state }
@@ -301,6 +309,8 @@ impl ClientEnd {
     pub fn session(&self) -> Option<&Session>
         ensures book { IfSome result (λ session. session.now.sender.book ≡ self.now.link.end.book) }
         ensures received { IfSome result (λ session. session.now.receiver ≡ self.now.link.end.received) }
+        ensures last { IfSome result (λ session. session.now.sender.last ≡ self.now.link.end.last) }
+        ensures capacity { IfSome result (λ session. session.now.sender.capacity ≡ self.now.link.capacity) }
         ensures there { IsSome result }
     {
         Some(&self.link.session)

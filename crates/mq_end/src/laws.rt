@@ -1,5 +1,6 @@
 //! The laws of what an end does.
 
+ghost use Rattle.mq_end.specs.SizeLaws.{SizeLaws};
 ghost use Rattle.mq_end.specs.Laws.{ClosingLaws, SoundLaws};
 ghost use Rattle.mq_end.specs.KeepAlive.{KeepAliveLaws};
 
@@ -18,4 +19,9 @@ pub fn keep_alive_laws()
 /// clean session 1 it ends (3.1.2.4).
 pub fn closing_laws()
     ensures { ClosingLaws }
+{}
+
+/// What a packet that a user has an end put out is measured by is the length of its fields (2.2.3).
+pub fn size_laws()
+    ensures { SizeLaws }
 {}

@@ -1,11 +1,10 @@
 //! What both ends have: a session, how far the connection is, and the connection's bytes.
 
-ghost use Rattle.std.specs.Prelude.{◌≡◌, ◌<◌, ◌++◌, ◌∷◌, [], List, ℕ, true, false, length, take, OnOk, OnErr};
+ghost use Rattle.std.specs.Prelude.{◌≡◌, ◌<◌, ◌++◌, ◌∷◌, [], List, ℕ, true, false, OnOk, OnErr};
 ghost use Rattle.mq_packet.specs.Spelling.{Spells};
 ghost use Rattle.mq_flow.specs.Sender.{blank_book, all_sent};
 ghost use Rattle.mq_flow.specs.Receiver.{none_received};
 ghost use Rattle.mq_end.specs.End.{End, blank_end, over, renewed};
-ghost use Rattle.mq_end.specs.State.{PutsOut};
 ghost use Rattle.mq_end.specs.declared.state.State.TheVariants as states;
 
 use crate::queue::ByteQueue;
@@ -157,6 +156,14 @@ impl Link {
         mem::replace(&mut self.output, ByteQueue::new(self.alloc))
     }
 
+    /// Exchanges the bytes that wait to be written for others.
+    pub(crate) fn swap_output(&mut self, other: &mut ByteQueue)
+        ensures end { self.new ≡ record self.old { output = other.old } }
+        ensures other { other.new ≡ self.old.output }
+    {
+        mem::swap(&mut self.output, other);
+    }
+
     /// A packet is put out. Errs where memory runs out, and then nothing changes.
     pub(crate) fn write(&mut self, packet: &Packet) -> Result<(), AllocError>
         ensures ok { OnOk result ((b : List ℕ) × Spells packet.now b × (self.new ≡ record self.old { output = self.old.output ++ b })) }
@@ -164,29 +171,4 @@ impl Link {
     {
         self.output.append_packet(packet)
     }
-
-    /// Packets are put out. Errs where memory runs out, and then nothing changes.
-    pub(crate) fn write_all(&mut self, packets: &[Packet]) -> Result<(), AllocError>
-        ensures ok { OnOk result (PutsOut packets.now self.old.output self.new.output) }
-        ensures state { self.new ≡ record self.old { output = self.new.output } }
-        ensures err { OnErr result (self.new ≡ self.old) }
-    {
-        let before = self.output.len();
-        let written = put_packets(&mut self.output, packets);
-        if written.is_err() {
-            self.output.truncate(before);
-        }
-        written
-    }
-}
-
-// Appends packets; where memory runs out a beginning of them.
-fn put_packets(output: &mut ByteQueue, packets: &[Packet]) -> Result<(), AllocError>
-    ensures ok { OnOk result (PutsOut packets.now output.old output.new) }
-    ensures err { OnErr result ((rest : List ℕ) × (output.new ≡ output.old ++ rest)) }
-{
-    for packet in packets {
-        output.append_packet(packet)?;
-    }
-    Ok(())
 }

@@ -9,6 +9,7 @@ ghost use Rattle.mq_end.specs.Server.{server_open_gets, refuses};
 ghost use Rattle.mq_end.specs.End.{comes_up, renewed};
 ghost use Rattle.mq_end.specs.Opening.{accepts_connect, connack_in, terms_get, terms_in, terms_of};
 ghost use Rattle.mq_end.specs.Receiving.{Makes, Stays};
+ghost use Rattle.mq_end.specs.State.{PutsOut};
 
 use crate::happening::Happening;
 use crate::link::Link;
@@ -63,9 +64,7 @@ impl Link {
         ensures err { OnErr result (Stays self.old self.new told.old told.new) }
     {
         told.happenings.reserve(1)?;
-        let mut packets = Vec::new(self.alloc);
-        self.session.sender.resent(&mut packets)?;
-        self.write_all(&packets)?;
+        self.write_resent()?;
         told.happenings
             .push_reserved(Happening::Up { session_present });
         self.rise();
@@ -126,17 +125,24 @@ impl Link {
         Ok(Some(self.close(CloseReason::Refused(code))))
     }
 
-    /// What a server that accepts CONNECT puts out: CONNACK, and what is sent again (3.2, 4.4).
-    fn answers_to(&self, clean: bool, session_present: bool) -> Result<Vec<Packet>, AllocError>
-        ensures { IfOk result (λ ps. ps.items ≡ packets.ConnAck (connacks.Accepted session_present)
-            ∷ resent (renewed clean self.now.end).book) }
+    /// Puts out what answers a CONNECT that is accepted: CONNACK, and what is sent again (3.2, 4.4). Errs where memory runs
+    /// out, and then nothing changes.
+    fn write_accepted(&mut self, clean: bool, session_present: bool) -> Result<(), AllocError>
+        ensures ok { OnOk result (PutsOut (packets.ConnAck (connacks.Accepted session_present)
+            ∷ resent (renewed clean self.old.end).book) self.old.output self.new.output) }
+        ensures state { self.new ≡ record self.old { output = self.new.output } }
+        ensures err { OnErr result (self.new ≡ self.old) }
     {
-        let mut packets = Vec::new(self.alloc);
-        packets.push(Packet::ConnAck(ConnAck::Accepted { session_present }))?;
-        if !clean {
-            self.session.sender.resent(&mut packets)?;
+        let before = self.output.len();
+        self.write(&Packet::ConnAck(ConnAck::Accepted { session_present }))?;
+        if clean {
+            return Ok(());
         }
-        Ok(packets)
+        let resent = self.write_resent();
+        if resent.is_err() {
+            self.output.truncate(before);
+        }
+        resent
     }
 
     /// CONNECT is accepted (3.1.4).
@@ -150,8 +156,7 @@ impl Link {
         ensures err { OnErr result (Stays self.old self.new told.old told.new) }
     {
         told.happenings.reserve(1)?;
-        let packets = self.answers_to(terms.clean, session_present)?;
-        self.write_all(&packets)?;
+        self.write_accepted(terms.clean, session_present)?;
         told.happenings
             .push_reserved(Happening::Up { session_present });
         self.renew(terms.clean);

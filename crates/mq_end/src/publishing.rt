@@ -11,7 +11,7 @@ ghost use Rattle.mq_end.specs.Publishing.{Accepts};
 use crate::link::Link;
 use crate::refusal::PublishRefusal;
 use crate::state::State;
-use mq_packet::{Delivery, Message, Packet, PacketId, Publish};
+use mq_packet::{Delivery, Message, PacketId};
 use mq_topic::Qos;
 use std::alloc::AllocError;
 
@@ -54,8 +54,7 @@ impl Link {
             return Ok(());
         }
         let delivery = Delivery { id, dup: false };
-        let publish = Publish::new(message.clone()?, Some(delivery));
-        self.write(&Packet::Publish(publish))
+        self.output.append_publish(message, Some(delivery))
     }
 
     /// Accepts a message of quality of service 1 or 2 (4.3.2, 4.3.3).
@@ -79,12 +78,12 @@ impl Link {
     }
 
     /// Puts out a message of quality of service 0 (4.3.1).
-    fn send_once(&mut self, message: Message) -> Result<(), AllocError>
-        requires { message.qos ≡ Q0 }
-        ensures ok { OnOk result (Accepts None message self.old self.new) }
+    fn send_once(&mut self, message: &Message) -> Result<(), AllocError>
+        requires { message.now.qos ≡ Q0 }
+        ensures ok { OnOk result (Accepts None message.now self.old self.new) }
         ensures err { OnErr result (self.new ≡ self.old) }
     {
-        self.write(&Packet::Publish(Publish::new(message, None)))
+        self.output.append_publish(message, None)
     }
 
     /// Publishes a message that is not refused, and answers its identifier, where it has one.
@@ -94,7 +93,7 @@ impl Link {
         ensures err { OnErr result (self.new ≡ self.old) }
     {
         if message.qos == Qos::Q0 {
-            self.send_once(message)?;
+            self.send_once(&message)?;
             return Ok(None);
         }
         let id = self.keep(message)?;

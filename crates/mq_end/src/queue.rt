@@ -1,9 +1,10 @@
 //! Bytes that wait to be written.
 
-ghost use Rattle.std.specs.Prelude.{◌≡◌, ℕ, ◌≤◌, ◌==◌, List, [], ◌++◌, length, drop, take, OnOk, OnErr};
+ghost use Rattle.std.specs.Prelude.{◌≡◌, ℕ, ◌≤◌, ◌==◌, List, [], ◌++◌, length, drop, take, true, OnOk, OnErr};
+ghost use Rattle.mq_packet.specs.Publication.{fits_delivery};
 ghost use Rattle.mq_packet.specs.Spelling.{Spells};
 
-use mq_packet::{Packet, encode_into};
+use mq_packet::{Delivery, Message, Packet, encode_into, encode_publish_into};
 use std::alloc::{AllocError, Global};
 use std::marker::Model;
 
@@ -75,6 +76,25 @@ impl ByteQueue {
         ensures err { OnErr result (self.new ≡ self.old) }
     {
         match encode_into(packet, &mut self.bytes) {
+            Ok(()) => Ok(()),
+            Err(_) => Err(AllocError),
+        }
+    }
+
+    /// Appends the bytes of the PUBLISH of a message (3.3), which stays where it is. It has a delivery exactly where the quality of
+    /// service is over 0. Errs where memory runs out or the packet is too large, and then nothing changes.
+    pub fn append_publish(
+        &mut self,
+        message: &Message,
+        delivery: Option<Delivery>,
+    ) -> Result<(), AllocError>
+        requires { fits_delivery message.now.qos delivery ≡ true }
+        ensures ok { OnOk result
+            ((b : List ℕ) × Spells (Packet.Publish (record { message = message.now; delivery = delivery })) b
+            × (self.new ≡ self.old ++ b)) }
+        ensures err { OnErr result (self.new ≡ self.old) }
+    {
+        match encode_publish_into(message, delivery, &mut self.bytes) {
             Ok(()) => Ok(()),
             Err(_) => Err(AllocError),
         }

@@ -195,6 +195,14 @@ impl ServerEnd {
         self.link.take_all_output()
     }
 
+    /// Exchanges the bytes that wait to be written for others. It takes no memory.
+    pub fn swap_output(&mut self, other: &mut ByteQueue)
+        ensures end { self.new ≡ record self.old { output = other.old } }
+        ensures other { other.new ≡ self.old.output }
+    {
+        self.link.swap_output(other);
+    }
+
     /// How far the connection is.
     pub fn state(&self) -> State
         ensures { result ≡ self.now.end.state }
@@ -207,6 +215,8 @@ impl ServerEnd {
         ensures there { IsSome result ↔ (self.now.end.known ≡ true) }
         ensures book { IfSome result (λ session. session.now.sender.book ≡ self.now.end.book) }
         ensures received { IfSome result (λ session. session.now.receiver ≡ self.now.end.received) }
+        ensures last { IfSome result (λ session. session.now.sender.last ≡ self.now.end.last) }
+        ensures capacity { IfSome result (λ session. session.now.sender.capacity ≡ self.now.capacity) }
     {
         if !self.link.known {
             return None;

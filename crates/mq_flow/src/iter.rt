@@ -43,7 +43,7 @@ impl<'a> Iterator for Entries<'a> {
 
 /// An iterator over the identifiers that are released, in the order of the PUBRECs (4.3.3).
 #[derive(Drop)]
-pub(crate) struct Releases<'a> {
+pub struct Releases<'a> {
     pub(crate) slots: &'a [Option<Held>],
 }
 

@@ -21,7 +21,7 @@ mod table;
 
 pub use crate::claim::{Claim, Claimed};
 pub use crate::entry::Entry;
-pub use crate::iter::Entries;
+pub use crate::iter::{Entries, Releases};
 pub use crate::laws::{
     identifier_laws, next_laws, receiver_laws, saved_laws, saved_two_laws, sending_laws, stray_laws,
 };

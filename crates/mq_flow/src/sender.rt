@@ -1,8 +1,8 @@
 //! What a sender of messages keeps (2.3.1, 4.3.2, 4.3.3, 4.4).
 
-ghost use Rattle.std.specs.Prelude.{◌≡◌, ◌↔◌, ◌<◌, ◌≤◌, ◌+◌, ◌-◌, ◌==◌, ◌&&◌, if◌then◌else◌, true, false, nat_lt, length, [], IsSome, IfSome, IsTrue, IsOk, IfOk, IfErr, OnOk, OnErr, IsErrOf};
+ghost use Rattle.std.specs.Prelude.{ℕ, ◌≡◌, ◌↔◌, ◌<◌, ◌≤◌, ◌+◌, ◌-◌, ◌==◌, ◌&&◌, if◌then◌else◌, true, false, nat_lt, length, [], IsSome, IfSome, IsTrue, IsOk, IfOk, IfErr, OnOk, OnErr, IsErrOf};
 ghost use Rattle.std.specs.List.{list_any};
-ghost use Rattle.std.specs.Map.Iter.{ShowsInOrder, deref};
+ghost use Rattle.std.specs.Map.Iter.{ShowsInOrder, GivesInOrder, deref};
 ghost use Rattle.mq_flow.specs.declared.entry.Entry.{Entry};
 ghost use Rattle.mq_topic.specs.declared.qos.Qos.TheVariants.{Q0, Q1, Q2};
 ghost use Rattle.mq_flow.specs.Laws.{IsSound};
@@ -11,7 +11,7 @@ ghost use Rattle.mq_flow.specs.Sender.{blank_book, uses, times, IsFree, IsFirstF
 
 use crate::claim::{Claim, Claimed};
 use crate::entry::Entry;
-use crate::iter::Entries;
+use crate::iter::{Entries, Releases};
 use crate::queue::{claim_at, count_of, has_subscribe, has_unsubscribe};
 use crate::reaction::Refusal;
 use crate::table::{Held, Table};
@@ -82,8 +82,17 @@ impl Sender {
     pub fn entries(&self) -> Entries<'_>
         ensures rest { result ≡ self.now.book.entries }
         ensures runs { ShowsInOrder (deref {X = Entry}) }
+        ensures kept { list_any (λ e. same_qos Q0 e.message.qos) self.now.book.entries ≡ false }
     {
         self.table.entries()
+    }
+
+    /// The identifiers that are released, in the order of the PUBRECs (4.3.3).
+    pub fn releases(&self) -> Releases<'_>
+        ensures rest { result ≡ self.now.book.released }
+        ensures runs { GivesInOrder ℕ }
+    {
+        self.table.releases()
     }
 
     /// How many more identifiers may be in use (2.3.1).

@@ -1,19 +1,18 @@
--- What an error leaves of a list that was appended to, and how long the front of a list is.
-use Rattle.std.proofs.Common.{◌≡◌, ℕ, ◌+◌, ◌≤◌, ◌<◌, ◌^◌, ◌↔◌, true, false, List, ◌++◌, length, take, get_or, Result, Ok, Err, sym, ap, ◌∙◌, arith}
-use Rattle.std.specs.Result.{OnErr}
+-- How long the front of a list is.
+use Rattle.std.proofs.Common.{◌≡◌, ℕ, ◌+◌, ◌≤◌, ◌<◌, ◌^◌, ◌↔◌, true, false, List, ◌++◌, length, take, get_or, ap, arith}
+use Rattle.std.proofs.lemmas.List.{length-append}
 use Rattle.std.specs.List.{flat_map}
-use Rattle.std.proofs.lemmas.List.{length-append, take-take}
 use Rattle.std.proofs.lemmas.List.Folds.{length-flat_map-take}
-use Rattle.std.proofs.Math.Seq.{take-append_seam}
 
-pub on_err : {T E P : Type 0} (r : Result T E) → P → OnErr r P
-on_err (Ok x) p = tt
-on_err (Err e) p = p
-
--- x begins with a ++ b, and so with a
-pub kept_front : (a b x : List ℕ) → take (length (a ++ b)) x ≡ a ++ b → take (length a) x ≡ a
-kept_front a b x e =
-    sym (take-take (length a) (length (a ++ b)) x (omega (arith, length-append a b))) ∙ (ap (λ (y : List ℕ). take (length a) y) e ∙ take-append_seam a b)
+-- behind the front of a list there is room for the next item, where there is for all
+pub fits_item : {A : Type 0} (f : A → List ℕ) (xs : List A) (i : ℕ) (x : A) (out old : List ℕ) → i < length xs → get_or xs i x ≡ x → out ≡ old ++ flat_map f (take i xs)
+    → length out + length (f x) ≤ length old + length (flat_map f xs)
+fits_item f xs i x out old lt is e =
+    let front = length-flat_map-take f xs i x lt in
+    let one : length (flat_map f (take i xs)) + length (f x) ≤ length (flat_map f xs) = rw is at front in
+    let parts = length-append old (flat_map f (take i xs)) in
+    let same = ap length e in
+    omega arith
 
 -- a front that is too long makes the whole too long
 pub too_long : {A : Type 0} (f : A → List ℕ) (xs : List A) (i : ℕ) (x : A) (n m : ℕ) → i < length xs → get_or xs i x ≡ x → n ≡ length (flat_map f (take i xs)) → m ≡ length (f x)

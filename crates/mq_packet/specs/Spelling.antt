@@ -143,6 +143,10 @@ pub record Spells (p : Packet) (b : List ℕ) : Type 0 where
 unfoldable pub spelling : Packet → List ℕ
 spelling p = first_byte p ∷ length_bytes (length (fields p)) ++ fields p
 
+-- how many bytes a packet takes in all whose fields take so many (2.2)
+abbrev pub spelled_size : ℕ → ℕ
+spelled_size n = 1 + (length (length_bytes n) + n)
+
 -- the bytes of packets, one after another
 abbrev pub spellings : List Packet → List ℕ
 spellings ps = flat_map spelling ps
@@ -157,5 +161,7 @@ pub record SpellingLaws : Type 0 where
   -- a packet has one spelling, unless its remaining length is none
   pub exists : (p : Packet) → IsPacket p → length (fields p) < 2 ^ 28 → Spells p (spelling p)
   pub one : (p : Packet) (b : List ℕ) → Spells p b → b ≡ spelling p
+  -- of this many bytes
+  pub size : (p : Packet) (b : List ℕ) → Spells p b → length b ≡ spelled_size (length (fields p))
   -- and so have packets one after another
   pub all : (ps : List Packet) (b : List ℕ) → Spelled ps b → b ≡ spellings ps

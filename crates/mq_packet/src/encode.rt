@@ -1,15 +1,16 @@
 //! Writing packets (chapter 3).
 
-ghost use Rattle.std.specs.Prelude.{◌≡◌, ℕ, ◌+◌, ◌<◌, ◌≤◌, ◌^◌, ◌++◌, ◌∷◌, ◌↔◌, List, length, take, OnOk, OnErr, IfSome, IsSome, IsErrOf};
-ghost use Rattle.mq_wire.specs.Length.{Length};
-ghost use Rattle.mq_packet.specs.Spelling.{Spells, first_byte, fields};
+ghost use Rattle.std.specs.Prelude.{◌≡◌, ℕ, ◌+◌, ◌<◌, ◌≤◌, ◌^◌, ◌++◌, ◌∷◌, ◌↔◌, List, length, take, vec_len, vec_capacity, true, IsOk, OnOk, OnErr, IfErr, IfSome, IsSome, IsErrOf};
+ghost use Rattle.mq_wire.specs.Length.{Length, length_bytes};
+ghost use Rattle.mq_packet.specs.Publication.{fits_delivery, publication};
+ghost use Rattle.mq_packet.specs.Spelling.{Spells, first_byte, fields, spelled_size};
 
-use crate::fields::{fields_len, put_fields};
+use crate::fields::{fields_len, publish_len, put_fields, put_publish};
+use crate::message::Message;
 use crate::packet::Packet;
-use crate::publish::Publish;
-use mq_topic::Qos;
-use mq_wire::{put_varlen, varlen_len};
-use std::alloc::AllocError;
+use crate::publish::{Delivery, MessageRef};
+use crate::spelled::put_bytes;
+use mq_wire::{length_laws, put_varlen, varlen_len};
 use thiserror::Error;
 
 /// Why a packet was not written.
@@ -24,11 +25,10 @@ pub enum EncodeError {
 }
 
 // The first byte of a PUBLISH (3.3.1).
-fn publish_byte(publish: &Publish) -> u8
-    ensures { result ≡ first_byte (Packet.Publish publish.now) }
+fn publish_byte(message: MessageRef<'_>, delivery: &Option<Delivery>) -> u8
+    ensures { result ≡ first_byte (Packet.Publish (publication message.entry delivery.now)) }
 {
-    let message = publish.message();
-    let dup = match publish.delivery() {
+    let dup = match delivery {
         Some(delivery) => delivery.dup,
         None => false,
     };
@@ -42,7 +42,7 @@ fn first_byte(packet: &Packet) -> u8
     match packet {
         Packet::Connect(_) => 0x10,
         Packet::ConnAck(_) => 0x20,
-        Packet::Publish(publish) => publish_byte(publish),
+        Packet::Publish(publish) => publish_byte(publish.message(), publish.delivery_ref()),
         Packet::PubAck(_) => 0x40,
         Packet::PubRec(_) => 0x50,
         Packet::PubRel(_) => 0x62,
@@ -68,47 +68,81 @@ pub fn encoded_len(packet: &Packet) -> Option<u32>
     Some(1 + size as u32 + rest)
 }
 
-// Appends the first byte and the remaining length, and makes room for the rest.
-fn put_header(out: &mut Vec<u8>, first: u8, rest: u32) -> Result<(), AllocError>
+// The remaining length in bytes, and how many they are (2.2.3).
+fn length_of(rest: u32) -> ([u8; 4], usize)
     requires { rest < 2 ^ 28 }
-    ensures ok { OnOk result
-        ((len : List ℕ) × Length rest len × (out.new.items ≡ out.old.items ++ first ∷ len)) }
-    ensures err { OnErr result (take (length out.old.items) out.new.items ≡ out.old.items) }
+    ensures formed { Length rest (length_bytes rest) }
+    ensures size { result.1 ≡ length (length_bytes rest) }
+    ensures bytes { take result.1 result.0 ≡ length_bytes rest }
 {
-    let mut len = [0u8; 4];
-    let size = put_varlen(rest, &mut len).unwrap();
-    out.reserve(1 + size + rest as usize)?;
-    out.push(first)?;
-    out.extend_from_slice(&len[..size])
+    length_laws();
+    let mut bytes = [0u8; 4];
+    let size = put_varlen(rest, &mut bytes).unwrap();
+    (bytes, size)
 }
 
-fn put_packet(out: &mut Vec<u8>, packet: &Packet, rest: u32) -> Result<(), AllocError>
-    requires fits { rest < 2 ^ 28 }
-    requires rest { rest ≡ length (fields packet.now) }
-    ensures ok { OnOk result
-        ((b : List ℕ) × Spells packet.now b × (out.new.items ≡ out.old.items ++ b)) }
-    ensures err { OnErr result (take (length out.old.items) out.new.items ≡ out.old.items) }
+// Makes room for a packet whose fields take so many bytes, and appends its first byte and the remaining length.
+fn put_header(out: &mut Vec<u8>, first: u8, rest: u32) -> Result<(), EncodeError>
+    requires { rest < 2 ^ 28 }
+    ensures formed { Length rest (length_bytes rest) }
+    ensures ok { OnOk result (out.new.items ≡ out.old.items ++ first ∷ length_bytes rest) }
+    ensures room { OnOk result (vec_len out.new + rest ≤ vec_capacity out.new) }
+    ensures succeeds { vec_len out.old + spelled_size rest ≤ vec_capacity out.old → IsOk result }
+    ensures memory { IfErr result (λ why. why ≡ EncodeError.Memory) }
+    ensures capacity { vec_capacity out.old ≤ vec_capacity out.new }
+    ensures err { OnErr result (out.new.items ≡ out.old.items) }
 {
-    put_header(out, first_byte(packet), rest)?;
-    put_fields(out, packet)
+    let (bytes, size) = length_of(rest);
+    if out.reserve(1 + size + rest as usize).is_err() {
+        return Err(EncodeError::Memory);
+    }
+    out.push_reserved(first);
+    put_bytes(out, &bytes[..size]);
+    Ok(())
 }
 
-/// Appends the bytes of a packet (chapter 3). After an `Err` the vector is unchanged.
+/// Appends the bytes of a packet (chapter 3). After an `Err` the vector is unchanged. Memory doesn't run out where the vector has room
+/// for them.
 pub fn encode_into(packet: &Packet, out: &mut Vec<u8>) -> Result<(), EncodeError>
     ensures ok { OnOk result
         ((b : List ℕ) × Spells packet.now b × (out.new.items ≡ out.old.items ++ b)) }
     ensures too_large { IsErrOf result EncodeError.TooLarge ↔ (2 ^ 28 ≤ length (fields packet.now)) }
+    ensures room { vec_len out.old + spelled_size (length (fields packet.now)) ≤ vec_capacity out.old
+        → IfErr result (λ why. why ≡ EncodeError.TooLarge) }
+    ensures capacity { vec_capacity out.old ≤ vec_capacity out.new }
     ensures err { OnErr result (out.new.items ≡ out.old.items) }
 {
     let Some(rest) = fields_len(packet) else {
         return Err(EncodeError::TooLarge);
     };
-    let before = out.len();
-    match put_packet(out, packet, rest) {
-        Ok(()) => Ok(()),
-        Err(_) => {
-            out.truncate(before);
-            Err(EncodeError::Memory)
-        }
-    }
+    put_header(out, first_byte(packet), rest)?;
+    put_fields(out, packet);
+    Ok(())
+}
+
+/// Appends the bytes of the PUBLISH of a message (3.3), which stays where it is, with its delivery exactly where the quality of
+/// service is over 0. After an `Err` the vector is unchanged. Memory doesn't run out where the vector has room for them.
+pub fn encode_publish_into(
+    message: &Message,
+    delivery: Option<Delivery>,
+    out: &mut Vec<u8>,
+) -> Result<(), EncodeError>
+    requires { fits_delivery message.now.qos delivery ≡ true }
+    ensures ok { let packet = Packet.Publish (record { message = message.now; delivery = delivery }) in OnOk result
+        ((b : List ℕ) × Spells packet b × (out.new.items ≡ out.old.items ++ b)) }
+    ensures too_large { let packet = Packet.Publish (record { message = message.now; delivery = delivery }) in
+        IsErrOf result EncodeError.TooLarge ↔ (2 ^ 28 ≤ length (fields packet)) }
+    ensures room { let packet = Packet.Publish (record { message = message.now; delivery = delivery }) in
+        vec_len out.old + spelled_size (length (fields packet)) ≤ vec_capacity out.old
+        → IfErr result (λ why. why ≡ EncodeError.TooLarge) }
+    ensures capacity { vec_capacity out.old ≤ vec_capacity out.new }
+    ensures err { OnErr result (out.new.items ≡ out.old.items) }
+{
+    let Some(rest) = publish_len(message.as_parts(), &delivery) else {
+        return Err(EncodeError::TooLarge);
+    };
+    let first = publish_byte(message.as_parts(), &delivery);
+    put_header(out, first, rest)?;
+    put_publish(out, message.as_parts(), &delivery);
+    Ok(())
 }

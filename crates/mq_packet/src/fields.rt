@@ -1,11 +1,12 @@
 //! The fields of packets, one after another (chapter 3).
 
-ghost use Rattle.std.specs.Prelude.{◌≡◌, ℕ, ◌+◌, ◌<◌, ◌^◌, ◌++◌, ◌↔◌, length, take, OnOk, OnErr, IfSome, IsSome};
-ghost use Rattle.mq_packet.specs.Values.{IsPacket, IsConnect, IsPublication, IsWill, IsLogin, IsList};
+ghost use Rattle.std.specs.Prelude.{◌≡◌, ℕ, ◌+◌, ◌<◌, ◌≤◌, ◌^◌, ◌++◌, ◌↔◌, length, vec_len, vec_capacity, true, IfSome, IsSome};
+ghost use Rattle.mq_packet.specs.Values.{IsPacket, IsBinary, IsConnect, IsPublication, IsWill, IsLogin, IsList};
 ghost use Rattle.mq_packet.specs.Identifier.{IsIdentifier};
+ghost use Rattle.mq_packet.specs.Publication.{fits_delivery, publication};
 ghost use Rattle.std.specs.List.{flat_map};
 ghost use Rattle.mq_wire.specs.Number.{number};
-ghost use Rattle.mq_packet.specs.Spelling.{fields, connect_protocol, connect_head, connect_fields, connect_flags, will_fields, login_fields, connack_fields, publish_fields};
+ghost use Rattle.mq_packet.specs.Spelling.{fields, connect_protocol, connect_head, connect_fields, connect_flags, will_fields, login_fields, connack_fields, delivery_fields, password_fields, publish_fields};
 ghost use Rattle.mq_wire.specs.Text.{IsText, counted};
 
 use crate::binary::Binary;
@@ -14,10 +15,8 @@ use crate::connect::{Connect, Login, Will};
 use crate::id::PacketId;
 use crate::list::NonEmpty;
 use crate::packet::Packet;
-use crate::publish::Publish;
-use crate::spelled::{Spelled, put_all, put_counted, size_of_all};
-use mq_wire::put_number;
-use std::alloc::AllocError;
+use crate::publish::{Delivery, MessageRef};
+use crate::spelled::{Spelled, put_all, put_bytes, put_counted, put_number, size_of_all};
 
 fn will_len(will: &Option<Will>) -> u32
     ensures len { result ≡ length (will_fields will.now) }
@@ -55,12 +54,12 @@ fn connect_len(connect: &Connect) -> u32
     12 + id + will_len(&connect.will) + login_len(&connect.login)
 }
 
-fn publish_len(publish: &Publish) -> Option<u32>
-    ensures fits { IsSome result ↔ (length (publish_fields publish.now) < 2 ^ 28) }
-    ensures len { IfSome result (λ n. n ≡ length (publish_fields publish.now)) }
+/// How many bytes the fields of a PUBLISH take, `None` where they are over 268,435,455 (2.2.3, 3.3).
+pub(crate) fn publish_len(message: MessageRef<'_>, delivery: &Option<Delivery>) -> Option<u32>
+    ensures fits { IsSome result ↔ (length (publish_fields (publication message.entry delivery.now)) < 2 ^ 28) }
+    ensures len { IfSome result (λ n. n ≡ length (publish_fields (publication message.entry delivery.now))) }
 {
-    let message = publish.message();
-    let id = match publish.delivery() {
+    let id = match delivery {
         None => 0,
         Some(_) => 2,
     };
@@ -85,7 +84,7 @@ pub(crate) fn fields_len(packet: &Packet) -> Option<u32>
     match packet {
         Packet::Connect(connect) => Some(connect_len(connect.as_connect())),
         Packet::ConnAck(_) => Some(2),
-        Packet::Publish(publish) => publish_len(publish),
+        Packet::Publish(publish) => publish_len(publish.message(), publish.delivery_ref()),
         Packet::PubAck(_)
         | Packet::PubRec(_)
         | Packet::PubRel(_)
@@ -98,38 +97,47 @@ pub(crate) fn fields_len(packet: &Packet) -> Option<u32>
     }
 }
 
-fn put_binary(out: &mut Vec<u8>, binary: &Binary) -> Result<(), AllocError>
-    ensures ok { OnOk result (out.new.items ≡ out.old.items ++ counted binary.now) }
-    ensures err { OnErr result (take (length out.old.items) out.new.items ≡ out.old.items) }
+fn put_binary(out: &mut Vec<u8>, binary: &Binary)
+    requires { vec_len out.old + length (counted binary.now) ≤ vec_capacity out.old }
+    ensures items { out.new.items ≡ out.old.items ++ counted binary.now }
+    ensures capacity { vec_capacity out.old ≤ vec_capacity out.new }
     ensures binary { length binary.now < 65_536 }
 {
-    put_counted(out, binary.as_slice())
+    put_counted(out, binary.as_slice());
 }
 
-fn put_will(out: &mut Vec<u8>, will: &Option<Will>) -> Result<(), AllocError>
-    ensures ok { OnOk result (out.new.items ≡ out.old.items ++ will_fields will.now) }
-    ensures err { OnErr result (take (length out.old.items) out.new.items ≡ out.old.items) }
-    ensures will { OnOk result (IfSome will.now IsWill) }
+fn put_will(out: &mut Vec<u8>, will: &Option<Will>)
+    requires { vec_len out.old + length (will_fields will.now) ≤ vec_capacity out.old }
+    ensures items { out.new.items ≡ out.old.items ++ will_fields will.now }
+    ensures capacity { vec_capacity out.old ≤ vec_capacity out.new }
+    ensures will { IfSome will.now IsWill }
 {
-    let Some(will) = will else {
-        return Ok(());
-    };
-    put_counted(out, will.topic.as_str().as_bytes())?;
-    put_binary(out, &will.message)
+    if let Some(will) = will {
+        put_counted(out, will.topic.as_str().as_bytes());
+        put_binary(out, &will.message);
+    }
 }
 
-fn put_login(out: &mut Vec<u8>, login: &Option<Login>) -> Result<(), AllocError>
-    ensures ok { OnOk result (out.new.items ≡ out.old.items ++ login_fields login.now) }
-    ensures err { OnErr result (take (length out.old.items) out.new.items ≡ out.old.items) }
-    ensures login { OnOk result (IfSome login.now IsLogin) }
+fn put_password(out: &mut Vec<u8>, password: &Option<Binary>)
+    requires { vec_len out.old + length (password_fields password.now) ≤ vec_capacity out.old }
+    ensures items { out.new.items ≡ out.old.items ++ password_fields password.now }
+    ensures capacity { vec_capacity out.old ≤ vec_capacity out.new }
+    ensures password { IfSome password.now IsBinary }
 {
-    let Some(login) = login else {
-        return Ok(());
-    };
-    put_counted(out, login.name.as_str().as_bytes())?;
-    match &login.password {
-        None => Ok(()),
-        Some(password) => put_binary(out, password),
+    if let Some(password) = password {
+        put_binary(out, password);
+    }
+}
+
+fn put_login(out: &mut Vec<u8>, login: &Option<Login>)
+    requires { vec_len out.old + length (login_fields login.now) ≤ vec_capacity out.old }
+    ensures items { out.new.items ≡ out.old.items ++ login_fields login.now }
+    ensures capacity { vec_capacity out.old ≤ vec_capacity out.new }
+    ensures login { IfSome login.now IsLogin }
+{
+    if let Some(login) = login {
+        put_counted(out, login.name.as_str().as_bytes());
+        put_password(out, &login.password);
     }
 }
 
@@ -152,94 +160,107 @@ fn connect_flags(connect: &Connect) -> u8
 }
 
 // The protocol, the flags and the keep-alive (3.1.2).
-fn put_protocol(out: &mut Vec<u8>, connect: &Connect) -> Result<(), AllocError>
-    ensures ok { OnOk result (out.new.items ≡ out.old.items ++ connect_protocol connect.now) }
-    ensures err { OnErr result (take (length out.old.items) out.new.items ≡ out.old.items) }
-    ensures keep_alive { OnOk result (connect.now.keep_alive < 65_536) }
+fn put_protocol(out: &mut Vec<u8>, connect: &Connect)
+    requires { vec_len out.old + 10 ≤ vec_capacity out.old }
+    ensures items { out.new.items ≡ out.old.items ++ connect_protocol connect.now }
+    ensures capacity { vec_capacity out.old ≤ vec_capacity out.new }
+    ensures keep_alive { connect.now.keep_alive < 65_536 }
 {
     let flags = connect_flags(connect);
-    out.extend_from_slice(&[0, 4, b'M', b'Q', b'T', b'T', 4, flags])?;
-    put_number(out, connect.keep_alive)
+    put_bytes(out, &[0, 4, b'M', b'Q', b'T', b'T', 4, flags]);
+    put_number(out, connect.keep_alive);
 }
 
 // The fields that each CONNECT has (3.1.2, 3.1.3.1).
-fn put_connect_head(out: &mut Vec<u8>, connect: &Connect) -> Result<(), AllocError>
-    ensures ok { OnOk result (out.new.items ≡ out.old.items ++ connect_head connect.now) }
-    ensures err { OnErr result (take (length out.old.items) out.new.items ≡ out.old.items) }
-    ensures head { OnOk result
-        (IsText connect.now.client_id × (connect.now.keep_alive < 65_536)) }
+fn put_connect_head(out: &mut Vec<u8>, connect: &Connect)
+    requires { vec_len out.old + length (connect_head connect.now) ≤ vec_capacity out.old }
+    ensures items { out.new.items ≡ out.old.items ++ connect_head connect.now }
+    ensures capacity { vec_capacity out.old ≤ vec_capacity out.new }
+    ensures head { IsText connect.now.client_id × (connect.now.keep_alive < 65_536) }
 {
-    put_protocol(out, connect)?;
-    put_counted(out, connect.client_id.as_str().as_bytes())
+    put_protocol(out, connect);
+    put_counted(out, connect.client_id.as_str().as_bytes());
 }
 
-fn put_connect(out: &mut Vec<u8>, connect: &Connect) -> Result<(), AllocError>
-    ensures ok { OnOk result (out.new.items ≡ out.old.items ++ connect_fields connect.now) }
-    ensures err { OnErr result (take (length out.old.items) out.new.items ≡ out.old.items) }
-    ensures connect { OnOk result (IsConnect connect.now) }
+fn put_connect(out: &mut Vec<u8>, connect: &Connect)
+    requires { vec_len out.old + length (connect_fields connect.now) ≤ vec_capacity out.old }
+    ensures items { out.new.items ≡ out.old.items ++ connect_fields connect.now }
+    ensures capacity { vec_capacity out.old ≤ vec_capacity out.new }
+    ensures connect { IsConnect connect.now }
 {
-    put_connect_head(out, connect)?;
-    put_will(out, &connect.will)?;
-    put_login(out, &connect.login)
+    put_connect_head(out, connect);
+    put_will(out, &connect.will);
+    put_login(out, &connect.login);
 }
 
-fn put_publish(out: &mut Vec<u8>, publish: &Publish) -> Result<(), AllocError>
-    ensures ok { OnOk result (out.new.items ≡ out.old.items ++ publish_fields publish.now) }
-    ensures err { OnErr result (take (length out.old.items) out.new.items ≡ out.old.items) }
-    ensures publish { OnOk result (IsPublication publish.now) }
+// The packet identifier of a PUBLISH, where it has one (3.3.2.2).
+fn put_delivery(out: &mut Vec<u8>, delivery: &Option<Delivery>)
+    requires { vec_len out.old + length (delivery_fields delivery.now) ≤ vec_capacity out.old }
+    ensures items { out.new.items ≡ out.old.items ++ delivery_fields delivery.now }
+    ensures capacity { vec_capacity out.old ≤ vec_capacity out.new }
+    ensures id { IfSome delivery.now (λ d. IsIdentifier d.id) }
 {
-    let message = publish.message();
-    put_counted(out, message.topic.as_str().as_bytes())?;
-    if let Some(delivery) = publish.delivery() {
-        put_number(out, delivery.id.get())?;
+    if let Some(delivery) = delivery {
+        put_number(out, delivery.id.get());
     }
-    out.extend_from_slice(message.payload.as_slice())
 }
 
-fn put_connack(out: &mut Vec<u8>, connack: ConnAck) -> Result<(), AllocError>
-    ensures ok { OnOk result (out.new.items ≡ out.old.items ++ connack_fields connack) }
-    ensures err { OnErr result (take (length out.old.items) out.new.items ≡ out.old.items) }
+/// Appends the fields of a PUBLISH (3.3), for which there is room.
+pub(crate) fn put_publish(out: &mut Vec<u8>, message: MessageRef<'_>, delivery: &Option<Delivery>)
+    requires fits { fits_delivery message.qos delivery.now ≡ true }
+    requires room { vec_len out.old + length (publish_fields (publication message delivery.now)) ≤ vec_capacity out.old }
+    ensures items { out.new.items ≡ out.old.items ++ publish_fields (publication message.entry delivery.now) }
+    ensures capacity { vec_capacity out.old ≤ vec_capacity out.new }
+    ensures publish { IsPublication (publication message.entry delivery.now) }
+{
+    put_counted(out, message.topic.as_str().as_bytes());
+    put_delivery(out, delivery);
+    put_bytes(out, message.payload.as_slice());
+}
+
+fn put_connack(out: &mut Vec<u8>, connack: ConnAck)
+    requires { vec_len out.old + 2 ≤ vec_capacity out.old }
+    ensures items { out.new.items ≡ out.old.items ++ connack_fields connack }
+    ensures capacity { vec_capacity out.old ≤ vec_capacity out.new }
 {
     match connack {
         ConnAck::Accepted { session_present } => {
-            out.extend_from_slice(&[u8::from(session_present), 0])
+            put_bytes(out, &[u8::from(session_present), 0]);
         }
-        ConnAck::Refused(code) => out.extend_from_slice(&[0, code.number()]),
+        ConnAck::Refused(code) => put_bytes(out, &[0, code.number()]),
     }
 }
 
-fn put_id(out: &mut Vec<u8>, id: PacketId) -> Result<(), AllocError>
-    ensures ok { OnOk result (out.new.items ≡ out.old.items ++ number id) }
-    ensures err { OnErr result (take (length out.old.items) out.new.items ≡ out.old.items) }
+fn put_id(out: &mut Vec<u8>, id: PacketId)
+    requires { vec_len out.old + 2 ≤ vec_capacity out.old }
+    ensures items { out.new.items ≡ out.old.items ++ number id }
+    ensures capacity { vec_capacity out.old ≤ vec_capacity out.new }
     ensures id { IsIdentifier id }
 {
-    put_number(out, id.get())
+    put_number(out, id.get());
 }
 
-fn put_list<T: Spelled>(
-    out: &mut Vec<u8>,
-    id: PacketId,
-    items: &NonEmpty<T>,
-) -> Result<(), AllocError>
-    ensures ok { OnOk result
-        (out.new.items ≡ out.old.items ++ number id ++ flat_map T.spelling items.now) }
-    ensures err { OnErr result (take (length out.old.items) out.new.items ≡ out.old.items) }
-    ensures list { OnOk result (IsList T.is_item id items.now) }
+fn put_list<T: Spelled>(out: &mut Vec<u8>, id: PacketId, items: &NonEmpty<T>)
+    requires { vec_len out.old + (2 + length (flat_map T.spelling items.now)) ≤ vec_capacity out.old }
+    ensures items { out.new.items ≡ out.old.items ++ (number id ++ flat_map T.spelling items.now) }
+    ensures capacity { vec_capacity out.old ≤ vec_capacity out.new }
+    ensures list { IsList T.is_item id items.now }
 {
-    put_id(out, id)?;
-    put_all(out, items.as_slice())
+    put_id(out, id);
+    put_all(out, items.as_slice());
 }
 
-/// Appends the fields of a packet.
-pub(crate) fn put_fields(out: &mut Vec<u8>, packet: &Packet) -> Result<(), AllocError>
-    ensures ok { OnOk result (out.new.items ≡ out.old.items ++ fields packet.now) }
-    ensures err { OnErr result (take (length out.old.items) out.new.items ≡ out.old.items) }
-    ensures packet { OnOk result (IsPacket packet.now) }
+/// Appends the fields of a packet, for which there is room.
+pub(crate) fn put_fields(out: &mut Vec<u8>, packet: &Packet)
+    requires { vec_len out.old + length (fields packet.now) ≤ vec_capacity out.old }
+    ensures items { out.new.items ≡ out.old.items ++ fields packet.now }
+    ensures capacity { vec_capacity out.old ≤ vec_capacity out.new }
+    ensures packet { IsPacket packet.now }
 {
     match packet {
         Packet::Connect(connect) => put_connect(out, connect.as_connect()),
         Packet::ConnAck(connack) => put_connack(out, *connack),
-        Packet::Publish(publish) => put_publish(out, publish),
+        Packet::Publish(publish) => put_publish(out, publish.message(), publish.delivery_ref()),
         Packet::PubAck(id)
         | Packet::PubRec(id)
         | Packet::PubRel(id)
@@ -248,6 +269,6 @@ pub(crate) fn put_fields(out: &mut Vec<u8>, packet: &Packet) -> Result<(), Alloc
         Packet::Subscribe { id, requests } => put_list(out, *id, requests),
         Packet::SubAck { id, codes } => put_list(out, *id, codes),
         Packet::Unsubscribe { id, filters } => put_list(out, *id, filters),
-        Packet::PingReq | Packet::PingResp | Packet::Disconnect => Ok(()),
+        Packet::PingReq | Packet::PingResp | Packet::Disconnect => {}
     }
 }

@@ -20,7 +20,7 @@ mod write;
 pub use crate::binary::{Binary, Payload};
 pub use crate::connack::{ConnAck, RefusalCode};
 pub use crate::connect::{BoxedConnect, Connect, Login, Will};
-pub use crate::encode::{EncodeError, encode_into, encoded_len};
+pub use crate::encode::{EncodeError, encode_into, encode_publish_into, encoded_len};
 pub use crate::id::PacketId;
 pub use crate::laws::spelling_laws;
 pub use crate::list::NonEmpty;

@@ -3,6 +3,7 @@
 ghost use Rattle.std.specs.Prelude.{◌≡◌};
 
 use crate::binary::Payload;
+use crate::publish::MessageRef;
 use mq_topic::{Qos, TopicName};
 use std::alloc::AllocError;
 
@@ -17,6 +18,23 @@ pub struct Message {
     pub qos: Qos,
     /// RETAIN: the server keeps it for later subscribers.
     pub retain: bool,
+}
+
+impl Message {
+    /// The message, as it lies there.
+    pub fn as_parts(&self) -> MessageRef<'_>
+        ensures topic { result.topic.now ≡ self.now.topic }
+        ensures payload { result.payload.now ≡ self.now.payload }
+        ensures qos { result.qos ≡ self.now.qos }
+        ensures retain { result.retain ≡ self.now.retain }
+    {
+        MessageRef {
+            topic: &self.topic,
+            payload: &self.payload,
+            qos: self.qos,
+            retain: self.retain,
+        }
+    }
 }
 
 impl Clone for Message {

@@ -104,6 +104,14 @@ impl Publish {
         self.delivery
     }
 
+    /// The same where it lies.
+    pub(crate) fn delivery_ref(&self) -> &Option<Delivery>
+        ensures value { result.now ≡ self.now.delivery }
+        ensures fits { fits_delivery self.now.message.qos self.now.delivery ≡ true }
+    {
+        &self.delivery
+    }
+
     /// The message, which it gives away.
     pub fn into_message(self) -> Message
         ensures { result ≡ self.message }

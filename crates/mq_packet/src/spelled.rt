@@ -1,16 +1,16 @@
 //! The items of lists as they are spelled.
 
-ghost use Rattle.std.specs.Prelude.{◌≡◌, ◌+◌, ◌<◌, ◌≤◌, ◌^◌, ◌++◌, List, ℕ, length, take, OnOk, OnErr, IfSome, IsSome, ◌↔◌};
+ghost use Rattle.std.specs.Prelude.{◌≡◌, ◌+◌, ◌<◌, ◌≤◌, ◌^◌, ◌++◌, List, ℕ, length, vec_len, vec_capacity, IfSome, IsSome, ◌↔◌};
 ghost use Rattle.std.specs.List.{flat_map, AllByRecursion};
+ghost use Rattle.mq_wire.specs.Number.{number};
 ghost use Rattle.mq_wire.specs.Text.{counted};
 ghost use Rattle.mq_packet.specs.Values.{IsRequest, Always};
 ghost use Rattle.mq_packet.specs.Spelling.{request_fields, code_fields};
 ghost use Rattle.mq_topic.specs.Topic.{IsTopicFilter};
 
 use crate::packet::{Request, SubAckCode};
+use byteorder::{BigEndian, ByteOrder};
 use mq_topic::TopicFilter;
-use mq_wire::put_number;
-use std::alloc::AllocError;
 
 /// What stands in a list of a packet.
 pub(crate) trait Spelled {
@@ -23,21 +23,43 @@ pub(crate) trait Spelled {
         ensures size { result ≡ length (spelling self.now) }
         ensures small { result < 65_540 };
 
-    /// Appends its bytes.
-    fn put(&self, out: &mut Vec<u8>) -> Result<(), AllocError>
-        ensures ok { OnOk result (out.new.items ≡ out.old.items ++ spelling self.now) }
-        ensures err { OnErr result (take (length out.old.items) out.new.items ≡ out.old.items) }
+    /// Appends its bytes, for which there is room.
+    fn put(&self, out: &mut Vec<u8>)
+        requires { vec_len out.old + length (spelling self.now) ≤ vec_capacity out.old }
+        ensures items { out.new.items ≡ out.old.items ++ spelling self.now }
+        ensures capacity { vec_capacity out.old ≤ vec_capacity out.new }
         ensures item { is_item self.now };
 }
 
-/// Appends a count of two bytes, and the bytes.
-pub(crate) fn put_counted(out: &mut Vec<u8>, bytes: &[u8]) -> Result<(), AllocError>
-    requires { length bytes.now < 65_536 }
-    ensures ok { OnOk result (out.new.items ≡ out.old.items ++ counted bytes.now) }
-    ensures err { OnErr result (take (length out.old.items) out.new.items ≡ out.old.items) }
+/// Appends bytes, for which there is room.
+pub(crate) fn put_bytes(out: &mut Vec<u8>, bytes: &[u8])
+    requires { vec_len out.old + length bytes.now ≤ vec_capacity out.old }
+    ensures items { out.new.items ≡ out.old.items ++ bytes.now }
+    ensures capacity { vec_capacity out.old ≤ vec_capacity out.new }
 {
-    put_number(out, bytes.len() as u16)?;
-    out.extend_from_slice(bytes)
+    let _ = out.extend_from_slice(bytes);
+}
+
+/// Appends a number in two bytes (1.5.2), for which there is room.
+pub(crate) fn put_number(out: &mut Vec<u8>, n: u16)
+    requires { vec_len out.old + 2 ≤ vec_capacity out.old }
+    ensures items { out.new.items ≡ out.old.items ++ number n }
+    ensures capacity { vec_capacity out.old ≤ vec_capacity out.new }
+{
+    let mut bytes = [0u8; 2];
+    BigEndian::write_u16(&mut bytes, n);
+    put_bytes(out, &bytes);
+}
+
+/// Appends a count of two bytes, and the bytes, for which there is room.
+pub(crate) fn put_counted(out: &mut Vec<u8>, bytes: &[u8])
+    requires short { length bytes.now < 65_536 }
+    requires room { vec_len out.old + length (counted bytes.now) ≤ vec_capacity out.old }
+    ensures items { out.new.items ≡ out.old.items ++ counted bytes.now }
+    ensures capacity { vec_capacity out.old ≤ vec_capacity out.new }
+{
+    put_number(out, bytes.len() as u16);
+    put_bytes(out, bytes);
 }
 
 impl Spelled for TopicFilter {
@@ -49,8 +71,8 @@ impl Spelled for TopicFilter {
         2 + self.as_str().len() as u32
     }
 
-    fn put(&self, out: &mut Vec<u8>) -> Result<(), AllocError> {
-        put_counted(out, self.as_str().as_bytes())
+    fn put(&self, out: &mut Vec<u8>) {
+        put_counted(out, self.as_str().as_bytes());
     }
 }
 
@@ -63,10 +85,9 @@ impl Spelled for Request {
         3 + self.filter.as_str().len() as u32
     }
 
-    fn put(&self, out: &mut Vec<u8>) -> Result<(), AllocError> {
-        put_counted(out, self.filter.as_str().as_bytes())?;
-        out.push(self.qos.number())?;
-        Ok(())
+    fn put(&self, out: &mut Vec<u8>) {
+        put_counted(out, self.filter.as_str().as_bytes());
+        out.push_reserved(self.qos.number());
     }
 }
 
@@ -79,9 +100,8 @@ impl Spelled for SubAckCode {
         1
     }
 
-    fn put(&self, out: &mut Vec<u8>) -> Result<(), AllocError> {
-        out.push(self.number())?;
-        Ok(())
+    fn put(&self, out: &mut Vec<u8>) {
+        out.push_reserved(self.number());
     }
 }
 
@@ -100,14 +120,14 @@ pub(crate) fn size_of_all<T: Spelled>(items: &[T]) -> Option<u32>
     Some(size)
 }
 
-/// Appends the bytes of items, one after another.
-pub(crate) fn put_all<T: Spelled>(out: &mut Vec<u8>, items: &[T]) -> Result<(), AllocError>
-    ensures ok { OnOk result (out.new.items ≡ out.old.items ++ flat_map T.spelling items.now) }
-    ensures err { OnErr result (take (length out.old.items) out.new.items ≡ out.old.items) }
-    ensures items { OnOk result (AllByRecursion T.is_item items.now) }
+/// Appends the bytes of items, one after another, for which there is room.
+pub(crate) fn put_all<T: Spelled>(out: &mut Vec<u8>, items: &[T])
+    requires { vec_len out.old + length (flat_map T.spelling items.now) ≤ vec_capacity out.old }
+    ensures items { out.new.items ≡ out.old.items ++ flat_map T.spelling items.now }
+    ensures capacity { vec_capacity out.old ≤ vec_capacity out.new }
+    ensures each { AllByRecursion T.is_item items.now }
 {
     for item in items {
-        item.put(out)?;
+        item.put(out);
     }
-    Ok(())
 }

@@ -5,6 +5,7 @@ mod queue;
 mod requests;
 mod resumed;
 mod saved;
+mod sending;
 mod server;
 
 use bytes::Bytes;

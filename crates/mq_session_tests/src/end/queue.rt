@@ -1,7 +1,9 @@
 use crate::end::brief::happened;
+use crate::end::message;
 use mq_decode::{DecodeFault, FaultKind};
 use mq_end::{ByteQueue, CloseReason, Happening, Items, PublishRefusal};
 use mq_packet::{NonEmpty, Packet, PacketId, RefusalCode, SubAckCode};
+use mq_topic::Qos;
 use std::alloc::Global;
 use std::test::Fail;
 
@@ -37,6 +39,25 @@ fn queue_of(alloc: Global, packet: &Packet) -> Result<ByteQueue, Fail> {
 fn packets_wait_in_a_queue(rt: HostRuntime) -> Result<(), Fail> {
     let queue = queue_of(rt.alloc(), &Packet::PingReq)?;
     assert_eq!(rt; queue.as_slice(), b"a\xc0\x00".as_slice());
+    Ok(())
+}
+
+// A queue with the PUBLISH of a message behind another byte.
+fn queue_of_message(alloc: Global) -> Result<ByteQueue, Fail> {
+    let message = message(alloc, Qos::Q0, b"x")?;
+    if message.qos != Qos::Q0 {
+        return Err(Fail::new("another quality of service"));
+    }
+    let mut queue = ByteQueue::new(alloc);
+    queue.append(b"a")?;
+    queue.append_publish(&message, None)?;
+    Ok(queue)
+}
+
+#[test]
+fn messages_wait_in_a_queue(rt: HostRuntime) -> Result<(), Fail> {
+    let queue = queue_of_message(rt.alloc())?;
+    assert_eq!(rt; queue.as_slice(), b"a\x30\x04\x00\x01tx".as_slice());
     Ok(())
 }
 

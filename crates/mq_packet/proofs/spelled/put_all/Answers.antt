@@ -1,9 +1,8 @@
-use Rattle.std.proofs.Common.{take}
-use Rattle.std.specs.List.{flat_map}
-use Rattle.mq_packet.proofs.Lists.{on_err, kept_front}
+use Rattle.std.proofs.Common.{sym, arith}
+use Rattle.mq_packet.proofs.Lists.{fits_item}
 use Rattle.mq_packet.proofs.spelled.put_all.Goals as goal
 
-pub returns-in_err-put-clause-err : goal.returns-in_err-put-clause-err
-returns-in_err-put-clause-err g c =
-    on_err c.from_residual.result (kept_front c.args.out.now.items (flat_map g.T.Spelled.spelling (take c.loop-item.item-index c.args.items.now)) c.put.new.out.items
-    (rw c.loop-item.invariant.items at c.in_err-put.ensures.err))
+pub put-requires : goal.put-requires
+put-requires g c =
+    let fits = fits_item g.T.Spelled.spelling c.args.items.now c.loop-item.item-index c.item-item.result c.loop-item.out.items c.args.out.now.items c.loop-item-test.true (sym c.item-item.is) c.loop-item.invariant.items in
+    omega (arith, c.loop-item.out.ok.0, c.args.out.now.ok.0)
