@@ -2,6 +2,7 @@ mod readers;
 mod rows;
 
 use crate::decode::rows::{CODES, FIELD_FAULTS, PACKETS};
+use crate::view::{expect_view, expect_view_fault, size_in};
 use mq_decode::FaultKind::{
     DupWithoutDelivery, ForbiddenFlags, ForbiddenQos, ForbiddenType, LengthOverlong, LengthTooLong,
     NotTopicFilter, NotTopicName, OverLimit, PastEnd, WrongFlags, WrongSize,
@@ -22,8 +23,8 @@ fn digit(byte: u8) -> Option<u8> {
     }
 }
 
-// The bytes of a row, whose fields blanks part.
-fn bytes_of(alloc: Global, row: &str) -> Result<Vec<u8>, Fail> {
+/// The bytes of a row, whose fields blanks part.
+pub(crate) fn bytes_of(alloc: Global, row: &str) -> Result<Vec<u8>, Fail> {
     let mut digits = Vec::new(alloc);
     for byte in row.as_bytes() {
         if let Some(digit) = digit(*byte) {
@@ -39,12 +40,13 @@ fn bytes_of(alloc: Global, row: &str) -> Result<Vec<u8>, Fail> {
     Ok(bytes)
 }
 
-fn limits(max_packet: u32) -> Result<Limits, Fail> {
+/// Strict limits.
+pub(crate) fn limits(max_packet: u32) -> Result<Limits, Fail> {
     Ok(Limits::new(max_packet).ok_or("no limits")?)
 }
 
-// The fault of these bytes, which the last of them shows: as a whole, between two packets, and one
-// byte at a time.
+// The fault of these bytes, which the last of them shows: in place, as a whole, between two packets, and
+// one byte at a time.
 fn expect_fault(
     rt: &impl Abort,
     alloc: Global,
@@ -53,6 +55,7 @@ fn expect_fault(
     kind: FaultKind,
     place: usize,
 ) -> Result<(), Fail> {
+    expect_view_fault(rt, limits, bytes, DecodeFault { kind, place });
     let fault = DecodeError::Fault(DecodeFault { kind, place });
     let mut out = Vec::new(alloc);
     let answer = decode_pieces(alloc, limits, &[bytes], &mut out);
@@ -217,9 +220,10 @@ fn spelled(alloc: Global, packets: &[Packet]) -> Result<Vec<u8>, Fail> {
     Ok(bytes)
 }
 
-// Cut anywhere: it is held, and then it comes out.
+// In place it is whole with its last byte. Cut anywhere it is held, and then it comes out.
 fn expect_packet(rt: &impl Abort, alloc: Global, bytes: &[u8], row: &str) -> Result<(), Fail> {
     let least = limits(64)?;
+    expect_view(rt, alloc, least, bytes)?;
     for cut in 0..bytes.len() {
         let (front, rest) = bytes.split_at(cut);
         let mut out = Vec::new(alloc);
@@ -394,7 +398,9 @@ fn what_follows_a_fault_does_not_matter(rt: HostRuntime) -> Result<(), Fail> {
         ("3080808080", LengthTooLong, 4),
     ] {
         let bytes = bytes_of(alloc, row)?;
-        let fault = DecodeError::Fault(DecodeFault { kind, place });
+        let fault = DecodeFault { kind, place };
+        assert_eq!(rt; size_in(greatest, &bytes), Err(Some(fault)), "{row}");
+        let fault = DecodeError::Fault(fault);
         assert_eq!(rt;
             decode_pieces(alloc, greatest, &[&bytes], &mut out),
             Err(fault),

@@ -1,5 +1,6 @@
 //! Remaining lengths with more bytes than they need.
 
+use crate::view::size_in;
 use mq_decode::FaultKind::{LengthOverlong, LengthTooLong};
 use mq_decode::{
     DecodeError, DecodeFault, FaultKind, Limits, decode_pieces, packet_len, read_sized,
@@ -18,7 +19,25 @@ fn outcome(alloc: Global, limits: Limits, pieces: &[&[u8]]) -> Result<usize, Opt
     }
 }
 
-// The same comes of the bytes as a whole and in two pieces.
+// How many packets lie whole in the bytes, or the fault that follows them.
+fn viewed(limits: Limits, bytes: &[u8]) -> Result<usize, Option<DecodeFault>> {
+    let mut rest = bytes;
+    for count in 0..bytes.len() {
+        match size_in(limits, rest) {
+            Ok(size) => {
+                let Some((_, after)) = rest.split_at_checked(size) else {
+                    return Err(None);
+                };
+                rest = after;
+            }
+            Err(None) => return Ok(count),
+            Err(fault) => return Err(fault),
+        }
+    }
+    Err(None)
+}
+
+// The same comes of the bytes in place, as a whole and in two pieces.
 fn expect(
     rt: &impl Abort,
     alloc: Global,
@@ -28,6 +47,8 @@ fn expect(
 ) {
     let expected = expected.map_err(|(kind, place)| Some(DecodeFault { kind, place }));
     let answer = outcome(alloc, limits, &[bytes]);
+    assert!(rt; answer == expected, "{bytes:?} {answer:?}");
+    let answer = viewed(limits, bytes);
     assert!(rt; answer == expected, "{bytes:?} {answer:?}");
     for at in 0..bytes.len() {
         let (front, back) = bytes.split_at(at);

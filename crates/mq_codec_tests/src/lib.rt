@@ -16,4 +16,6 @@ mod topic;
 #[cfg(test)]
 mod trie;
 #[cfg(test)]
+mod view;
+#[cfg(test)]
 mod wire;

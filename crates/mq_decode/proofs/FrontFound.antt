@@ -11,15 +11,17 @@ use Rattle.mq_packet.specs.declared.packet.Packet.{Packet}
 use Rattle.mq_packet.specs.Spelling.{fields, first_byte}
 use Rattle.mq_decode.specs.declared.fault.FaultKind.{FaultKind}
 use Rattle.mq_decode.specs.declared.fault.FaultKind.TheVariants.{LengthTooLong, LengthOverlong, OverLimit}
-use Rattle.mq_decode.specs.declared.fault.DecodeError.{DecodeError}
-use Rattle.mq_decode.specs.declared.fault.DecodeError.TheVariants as errors
 use Rattle.mq_decode.specs.declared.fault.BadField.{BadField}
+use Rattle.mq_decode.specs.declared.fault.DecodeFault.{DecodeFault}
 use Rattle.mq_decode.specs.declared.kind.Kind.{Kind}
 use Rattle.mq_decode.specs.Kind.{kind_at, fixed_size, wrong_size, size_fault}
 use Rattle.mq_decode.specs.Bodies.{body_at}
-use Rattle.mq_decode.specs.Front.{header_at, front_at, GivesFront}
+use Rattle.mq_decode.specs.Front.{header_at, front_at}
 use Rattle.mq_decode.specs.Limits.{Bounds}
-use Rattle.mq_decode.specs.Grammar.{ReadsWithin, Faulty, AtFirst, AtLength, AtSize, AtField, Pending, IsFront}
+use Rattle.mq_decode.specs.Grammar.{ReadsWithin, Faulty, AtFirst, AtLength, AtSize, AtField, Pending}
+use Rattle.mq_decode.specs.declared.packet_view.View.{View}
+use Rattle.mq_decode.specs.declared.packet_view.View.TheVariants as views
+use Rattle.mq_decode.specs.Views.{IsView, view_read}
 use Rattle.mq_decode.proofs.FieldLaws.{Wire, AreBytes-rest}
 use Rattle.mq_decode.proofs.KindLaws.{kind_byte, byte_again, kind_found}
 use Rattle.mq_decode.proofs.BodyLaws.{body_found}
@@ -133,9 +135,19 @@ front_found w limit (first ∷ rest) bytes = go (kind_at first) refl
     go (Err k) e = is_faulty w limit (first ∷ rest) k 0 (AtFirst (record { first = first; rest = rest; bytes = refl; fault = e; here = refl }))
     go (Ok kind) e = first_found w limit first kind rest e (λ i. bytes (suc i))
 
--- what a function returned, unless memory ran out
-pub front_is : (w : Wire) (limit : Bounds) (b : List ℕ) (r : Result (Option (Packet × ℕ)) DecodeError) → AreBytes b → GivesFront r (front_at limit b) → (r ≡ Err errors.Memory → 0 < length b) → IsFront limit b r
-front_is w limit b (Ok None) bytes e memory = subst (FrontFound limit b) e (front_found w limit b bytes)
-front_is w limit b (Ok (Some x)) bytes e memory = subst (FrontFound limit b) e (front_found w limit b bytes)
-front_is w limit b (Err errors.Memory) bytes e memory = memory refl
-front_is w limit b (Err (errors.Fault fault)) bytes e memory = subst (FrontFound limit b) e (front_found w limit b bytes)
+-- what a view read
+pub view_is : (w : Wire) (limit : Bounds) (b : List ℕ) (v : View) → AreBytes b → view_read v ≡ front_at limit b → IsView limit b v
+view_is w limit b (views.Whole packet n) bytes e = subst (FrontFound limit b) (sym e) (front_found w limit b bytes)
+view_is w limit b views.More bytes e = subst (FrontFound limit b) (sym e) (front_found w limit b bytes)
+view_is w limit b (views.Fault fault) bytes e = subst (FrontFound limit b) (sym e) (front_found w limit b bytes)
+
+-- what a view is, by what it read
+pub more_is : (v : View) → view_read v ≡ Ok None → v ≡ views.More
+more_is (views.Whole packet n) e = absurd cc
+more_is views.More e = refl
+more_is (views.Fault fault) e = absurd cc
+
+pub fault_is : (v : View) (fault : DecodeFault) → view_read v ≡ Err fault → v ≡ views.Fault fault
+fault_is (views.Whole packet n) fault e = absurd cc
+fault_is views.More fault e = absurd cc
+fault_is (views.Fault other) fault e = cc

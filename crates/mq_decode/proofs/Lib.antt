@@ -3,6 +3,7 @@ pub mod ConnectLaws
 pub mod FieldLaws
 pub mod FrontFound
 pub mod FrontLaws
+pub mod Items
 pub mod KindLaws
 pub mod ListLaws
 pub mod Loops

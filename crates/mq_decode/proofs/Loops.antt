@@ -1,12 +1,15 @@
 -- Reading the items of a list one after the other, as a loop does.
-use Rattle.std.proofs.Common.{◌≡◌, ℕ, zero, suc, ◌+◌, ◌-◌, Bool, false, eqb, ◌<◌, ◌≤◌, List, [], ◌∷◌, ◌++◌, length, Result, Ok, Err, refl, sym, ap, ◌∙◌, append_assoc, arith}
-use Rattle.std.proofs.lemmas.Bool.{true≢false}
+use Rattle.std.proofs.Common.{◌≡◌, ℕ, zero, suc, ◌+◌, ◌-◌, Bool, true, false, eqb, ◌<◌, ◌≤◌, List, [], ◌∷◌, ◌++◌, length, Result, Ok, Err, refl, sym, ap, ◌∙◌, append_assoc, arith}
+use Rattle.std.specs.Result.{is_ok, IsOk}
+use Rattle.std.proofs.lemmas.Bool.{true≢false, false≢true}
 use Rattle.std.proofs.lemmas.List.{append-nil, length-append}
 use Rattle.mq_decode.specs.declared.fault.BadField.{BadField}
 use Rattle.mq_decode.specs.declared.fault.FieldsError.{FieldsError}
 use Rattle.mq_decode.specs.declared.fault.FieldsError.TheVariants as errors
 use Rattle.mq_decode.specs.Gives.{◌>>=◌, Fails}
+use Rattle.mq_decode.specs.Lent.{items_of, rest_of}
 use Rattle.mq_decode.specs.Lists.{items_at, list_at}
+use Rattle.mq_decode.proofs.FieldLaws.{ok_is}
 
 -- the items read so far, before those still to be read
 abbrev pub with_front : {A : Type 0} → List A → Result (List A) BadField → Result (List A) BadField
@@ -53,3 +56,39 @@ list_of_some item (b ∷ bytes) left = refl
 pub some_left : (b : Bool) (n : ℕ) → b ≡ eqb n 0 → b ≡ false → 0 < n
 some_left b zero e f = absurd (true≢false (sym e ∙ f))
 some_left b (suc n) e f = omega arith
+
+-- ---- a list that is tested, and none of its items kept
+
+-- the items that were passed
+pub record Passed {A : Type 0} (item : List ℕ → Result (A × List ℕ) BadField) (bytes rest : List ℕ) : Type 0 where
+  pub items : List A
+  pub room : length items + length rest ≤ length bytes
+  pub told : with_front items (items_at item (length bytes - length items) rest) ≡ items_at item (length bytes) bytes
+
+front_nil : {A : Type 0} (read : Result (List A) BadField) → with_front [] read ≡ read
+front_nil (Ok xs) = refl
+front_nil (Err bad) = refl
+
+pub passed_none : {A : Type 0} (item : List ℕ → Result (A × List ℕ) BadField) (bytes : List ℕ) → Passed item bytes bytes
+passed_none item bytes =
+    let all : length bytes - 0 ≡ length bytes = omega arith in
+    record { items = []; room = omega arith; told = rw all (front_nil (items_at item (length bytes) bytes)) }
+
+-- the item before the bytes that are left
+pub rest_found : {A : Type 0} (r : Result (A × List ℕ) BadField) (after : List ℕ) → rest_of r ≡ Ok after → (x : A) × (r ≡ Ok (x, after))
+rest_found (Ok x) after e = (x.0, ap (λ (t : List ℕ). Ok (x.0, t)) (ok_is x.1 after e))
+rest_found (Err bad) after e = absurd cc
+
+pub passed_more : {A : Type 0} (item : List ℕ → Result (A × List ℕ) BadField) (bytes rest after : List ℕ) → 0 < length rest → length after < length rest → rest_of (item rest) ≡ Ok after → Passed item bytes rest → Passed item bytes after
+passed_more item bytes rest after left shorter read p =
+    let f = rest_found (item rest) after read in
+    record {
+      items = p.items ++ f.0 ∷ [];
+      room = omega (arith, length-append p.items (f.0 ∷ []), p.room);
+      told = goes_on item p.items f.0 bytes rest after (items_at item (length bytes) bytes) left p.room f.1 p.told;
+    }
+
+-- none of its items is bad
+pub never_bad : {A : Type 0} (read : Result A BadField) (bad : BadField) → IsOk read → read ≡ Err bad → ⊥
+never_bad (Ok x) bad h e = absurd cc
+never_bad (Err other) bad h e = absurd (false≢true h)

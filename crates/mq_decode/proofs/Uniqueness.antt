@@ -1,6 +1,5 @@
 -- Every list of bytes has one reading, and what is pending is short.
 use Rattle.std.proofs.Common.{◌≡◌, ℕ, zero, suc, ◌+◌, ◌<◌, ◌≤◌, Bool, true, false, cond, ltb, List, [], ◌∷◌, ◌++◌, length, take, drop, Option, Some, None, Result, Ok, Err, refl, sym, ap, subst, ◌∙◌, append_assoc, arith, ◌⊎◌, inl, inr}
-use Rattle.std.specs.Prelude.{IfOk, IfNone}
 use Rattle.std.proofs.lemmas.Bool.{ltb-true, ltb-false}
 use Rattle.std.proofs.lemmas.List.{length-take, length-drop, take-append-drop, drop_at, take_at}
 use Rattle.mq_wire.specs.declared.reading.LengthReading.{LengthReading}
@@ -13,14 +12,13 @@ use Rattle.mq_decode.specs.declared.fault.FaultKind.{FaultKind}
 use Rattle.mq_decode.specs.declared.fault.FaultKind.TheVariants.{OverLimit}
 use Rattle.mq_decode.specs.declared.fault.BadField.{BadField}
 use Rattle.mq_decode.specs.declared.fault.DecodeFault.{DecodeFault}
-use Rattle.mq_decode.specs.declared.fault.DecodeError.{DecodeError}
 use Rattle.mq_decode.specs.declared.header.Header.{Header}
 use Rattle.mq_decode.specs.declared.kind.Kind.{Kind}
 use Rattle.mq_decode.specs.Kind.{kind_at, fixed_size, wrong_size, size_fault}
 use Rattle.mq_decode.specs.Bodies.{body_at}
 use Rattle.mq_decode.specs.Front.{fault_at, sized, header_of, header_after, header_at, packet_or_fault, front_after, front_at}
 use Rattle.mq_decode.specs.Limits.{Bounds}
-use Rattle.mq_decode.specs.Grammar.{ReadsWithin, Stream, Faulty, Ends, Reading, IsFront}
+use Rattle.mq_decode.specs.Grammar.{ReadsWithin, Stream, Faulty, Ends, Reading}
 use Rattle.mq_decode.specs.Laws.{EachReads, OneReading, PendingIsShort, ReadsAgain}
 use Rattle.mq_decode.proofs.FieldLaws.{Wire, AreBytes-drop}
 use Rattle.mq_decode.proofs.ListLaws.{chosen}
@@ -196,12 +194,6 @@ not_faulty_front w limit p s rest k place h bad = not_ended w limit p s rest (s 
 
 pub again_laws : (w : Wire) → ReadsAgain
 again_laws w = record { one = one_front w; some = some_bytes; right = not_faulty_front w; spelled = λ limits p s h le. (spelled_reads w limits.lenient p s h, le) }
-
--- what a function found to be pending is short
-pub found_short : (w : Wire) (limit : Bounds) (b : List ℕ) (r : Result (Option (Packet × ℕ)) DecodeError) → AreBytes b → IsFront limit b r → IfOk r (λ o. IfNone o (length b ≤ 5 + limit.most))
-found_short w limit b (Err e) bytes h = tt
-found_short w limit b (Ok (Some x)) bytes h = tt
-found_short w limit b (Ok None) bytes h = pending_short w limit b bytes h
 
 -- ---- each list of bytes has a reading
 

@@ -91,7 +91,7 @@ wants_most w limit b h n bytes e more one =
     ]
 
 -- with the header and as many bytes as it says nothing is pending
-pending_none : (w : Wire) (limit : Bounds) (b : List ℕ) → AreBytes b → Pending limit b → front_at limit b ≡ Ok None
+pub pending_none : (w : Wire) (limit : Bounds) (b : List ℕ) → AreBytes b → Pending limit b → front_at limit b ≡ Ok None
 pending_none w limit b bytes pending = go (front_at limit b) refl (front_found w limit b bytes)
   where
     go : (r : Read) → front_at limit b ≡ r → FrontFound limit b r → front_at limit b ≡ Ok None

@@ -7,8 +7,6 @@ use Rattle.mq_packet.specs.declared.packet.Packet.{Packet}
 use Rattle.mq_decode.specs.declared.fault.FaultKind.{FaultKind}
 use Rattle.mq_decode.specs.declared.fault.FaultKind.TheVariants.{LengthTooLong, LengthOverlong}
 use Rattle.mq_decode.specs.declared.fault.DecodeFault.{DecodeFault}
-use Rattle.mq_decode.specs.declared.fault.DecodeError.{DecodeError}
-use Rattle.mq_decode.specs.declared.fault.DecodeError.TheVariants as errors
 use Rattle.mq_decode.specs.declared.fault.BadField.{BadField}
 use Rattle.mq_decode.specs.declared.header.Header.{Header}
 use Rattle.mq_decode.specs.declared.kind.Kind.{Kind}
@@ -58,9 +56,3 @@ front_after (Ok (Some h)) bytes = if nat_lt (length bytes) (h.start + h.size) th
 -- the packet at the front and how many bytes it takes, nothing where it isn't whole, or its first fault
 unfoldable pub front_at : Bounds → List ℕ → Result (Option (Packet × ℕ)) DecodeFault
 front_at limits bytes = front_after (header_at limits bytes) bytes
-
--- what a function returned is what is read, unless memory ran out
-abbrev pub GivesFront : Result (Option (Packet × ℕ)) DecodeError → Result (Option (Packet × ℕ)) DecodeFault → Type 0
-GivesFront (Ok x) read = read ≡ Ok x
-GivesFront (Err errors.Memory) read = Unit {0}
-GivesFront (Err (errors.Fault fault)) read = read ≡ Err fault

@@ -7,7 +7,9 @@ pub mod Gives
 pub mod Grammar
 pub mod Kind
 pub mod Laws
+pub mod Lent
 pub mod Limits
 pub mod Lists
 pub mod Reader
 pub mod State
+pub mod Views

@@ -1,19 +1,20 @@
 //! The fields of a packet, all of them (chapter 3).
 
-ghost use Rattle.std.specs.Prelude.{◌≡◌, ◌<◌, ◌^◌, length, IfSome};
-ghost use Rattle.mq_decode.specs.Gives.{EndsWith, Gives, Same};
-ghost use Rattle.mq_decode.specs.Lists.{list_with};
+ghost use Rattle.std.specs.Prelude.{◌≡◌, ◌<◌, ◌^◌, length, IfOk};
+ghost use Rattle.mq_decode.specs.Gives.{Same};
 ghost use Rattle.mq_decode.specs.Bodies.{present_at, answer_at, connack_at, only_identifier_at, body_at};
+ghost use Rattle.mq_decode.specs.Views.{LiesAtEnd, packet_of};
 
-use crate::connect::boxed_connect;
-use crate::fault::{BadField, FaultKind, FieldsError};
+use crate::connect::connect;
+use crate::fault::{BadField, FaultKind};
 use crate::fields::{bad_at, end, identifier};
 use crate::kind::Kind;
-use crate::lists::{Item, list};
+use crate::list_views::{CodesView, FiltersView, RequestsView};
+use crate::lists::tested_list;
+use crate::packet_view::PacketView;
 use crate::publish::publish;
-use bytes::Bytes;
-use mq_packet::{ConnAck, NonEmpty, Packet, PacketId, RefusalCode};
-use std::alloc::Global;
+use mq_packet::{ConnAck, PacketId, RefusalCode, Request, SubAckCode};
+use mq_topic::TopicFilter;
 
 fn session_present(bytes: &[u8]) -> Result<(bool, &[u8]), BadField>
     ensures { Same (λ x. (x.0, x.1.now)) result (present_at bytes.now) }
@@ -66,66 +67,80 @@ fn only_identifier(bytes: &[u8]) -> Result<PacketId, BadField>
     Ok(id)
 }
 
-// An identifier and a list.
-#[tactic(auto, unfolding(crate::specs::Lists::list_with))]
-fn identified<T: Item + Drop>(
-    alloc: Global,
-    bytes: &[u8],
-) -> Result<(PacketId, NonEmpty<T>), FieldsError>
-    ensures { Gives (λ x. (x.0, x.1)) result (list_with T.item_at bytes.now) }
-{
-    let (id, rest) = match identifier(bytes) {
-        Ok(field) => field,
-        Err(bad) => return Err(FieldsError::Bad(bad)),
-    };
-    let items = list(alloc, rest)?;
-    Ok((id, items))
-}
-
-/// All fields of a packet of this kind. Where `whole` is the packet that they end, a message shares its
-/// bytes.
-pub(crate) fn body(
-    alloc: Global,
-    kind: Kind,
-    whole: Option<&Bytes>,
-    bytes: &[u8],
-) -> Result<Packet, FieldsError>
-    requires shared { IfSome whole (λ packet. EndsWith packet.now bytes.now) }
-    requires small { length bytes.now < 2 ^ 28 }
-    ensures { Gives (λ p. p) result (body_at kind bytes.now) }
+/// All fields of a packet of this kind.
+pub(crate) fn body(kind: Kind, bytes: &[u8]) -> Result<PacketView<'_>, BadField>
+    requires { length bytes.now < 2 ^ 28 }
+    ensures read { Same packet_of result (body_at kind bytes.now) }
+    ensures end { IfOk result (LiesAtEnd bytes.now) }
 {
     match kind {
-        Kind::Connect => Ok(Packet::Connect(boxed_connect(alloc, bytes)?)),
-        Kind::ConnAck => Ok(Packet::ConnAck(connack(bytes)?)),
-        Kind::Publish(flags) => Ok(Packet::Publish(publish(alloc, flags, whole, bytes)?)),
-        Kind::PubAck => Ok(Packet::PubAck(only_identifier(bytes)?)),
-        Kind::PubRec => Ok(Packet::PubRec(only_identifier(bytes)?)),
-        Kind::PubRel => Ok(Packet::PubRel(only_identifier(bytes)?)),
-        Kind::PubComp => Ok(Packet::PubComp(only_identifier(bytes)?)),
-        Kind::Subscribe => {
-            let (id, requests) = identified(alloc, bytes)?;
-            Ok(Packet::Subscribe { id, requests })
-        }
-        Kind::SubAck => {
-            let (id, codes) = identified(alloc, bytes)?;
-            Ok(Packet::SubAck { id, codes })
-        }
-        Kind::Unsubscribe => {
-            let (id, filters) = identified(alloc, bytes)?;
-            Ok(Packet::Unsubscribe { id, filters })
-        }
-        Kind::UnsubAck => Ok(Packet::UnsubAck(only_identifier(bytes)?)),
+        Kind::Connect => match connect(bytes) {
+            Ok(connect) => Ok(PacketView::Connect(connect)),
+            Err(bad) => Err(bad),
+        },
+        Kind::ConnAck => Ok(PacketView::ConnAck(connack(bytes)?)),
+        Kind::Publish(flags) => match publish(flags, bytes) {
+            Ok(publish) => Ok(PacketView::Publish(publish)),
+            Err(bad) => Err(bad),
+        },
+        Kind::PubAck => Ok(PacketView::PubAck(only_identifier(bytes)?)),
+        Kind::PubRec => Ok(PacketView::PubRec(only_identifier(bytes)?)),
+        Kind::PubRel => Ok(PacketView::PubRel(only_identifier(bytes)?)),
+        Kind::PubComp => Ok(PacketView::PubComp(only_identifier(bytes)?)),
+        Kind::Subscribe => subscribe(bytes),
+        Kind::SubAck => suback(bytes),
+        Kind::Unsubscribe => unsubscribe(bytes),
+        Kind::UnsubAck => Ok(PacketView::UnsubAck(only_identifier(bytes)?)),
         Kind::PingReq => {
             end(bytes)?;
-            Ok(Packet::PingReq)
+            Ok(PacketView::PingReq)
         }
         Kind::PingResp => {
             end(bytes)?;
-            Ok(Packet::PingResp)
+            Ok(PacketView::PingResp)
         }
         Kind::Disconnect => {
             end(bytes)?;
-            Ok(Packet::Disconnect)
+            Ok(PacketView::Disconnect)
         }
+    }
+}
+
+fn subscribe(bytes: &[u8]) -> Result<PacketView<'_>, BadField>
+    ensures read { Same packet_of result (body_at Kind.Subscribe bytes.now) }
+    ensures end { IfOk result (LiesAtEnd bytes.now) }
+{
+    match tested_list::<Request>(bytes) {
+        Ok((id, list)) => Ok(PacketView::Subscribe {
+            id,
+            requests: RequestsView::new(list),
+        }),
+        Err(bad) => Err(bad),
+    }
+}
+
+fn suback(bytes: &[u8]) -> Result<PacketView<'_>, BadField>
+    ensures read { Same packet_of result (body_at Kind.SubAck bytes.now) }
+    ensures end { IfOk result (LiesAtEnd bytes.now) }
+{
+    match tested_list::<SubAckCode>(bytes) {
+        Ok((id, list)) => Ok(PacketView::SubAck {
+            id,
+            codes: CodesView::new(list),
+        }),
+        Err(bad) => Err(bad),
+    }
+}
+
+fn unsubscribe(bytes: &[u8]) -> Result<PacketView<'_>, BadField>
+    ensures read { Same packet_of result (body_at Kind.Unsubscribe bytes.now) }
+    ensures end { IfOk result (LiesAtEnd bytes.now) }
+{
+    match tested_list::<TopicFilter>(bytes) {
+        Ok((id, list)) => Ok(PacketView::Unsubscribe {
+            id,
+            filters: FiltersView::new(list),
+        }),
+        Err(bad) => Err(bad),
     }
 }

@@ -1,16 +1,212 @@
 //! CONNECT (3.1).
 
-ghost use Rattle.std.specs.Prelude.{◌≡◌, ◌<◌, length, IfOk};
-ghost use Rattle.mq_decode.specs.Gives.{Same, Gives};
+ghost use Rattle.std.specs.Prelude.{◌≡◌, true, None, Some, IfOk, IsOk, MatchOption};
+ghost use Rattle.mq_topic.specs.Topic.{is_topic_name};
+ghost use Rattle.mq_decode.specs.Gives.{Same};
+ghost use Rattle.mq_decode.specs.Lent.{connect_in};
+ghost use Rattle.mq_decode.specs.Views.{connect_of};
 ghost use Rattle.mq_decode.specs.Connects.{flags_at, protocol_at, level_at, will_at, password_at, login_at, connect_at, is_protocol};
 
-use crate::fault::{BadField, FaultKind, FieldsError};
-use crate::fields::{bad_at, binary, end, name, number, text};
+use crate::fault::{BadField, FaultKind};
+use crate::fields::{BinaryView, bad_at, binary, end, name, number, text};
 use crate::flags::{ConnectFlags, WillFlags, flags_from};
-use bytes::Bytes;
-use mq_packet::{Binary, BoxedConnect, Connect, Login, Will};
-use mq_topic::TopicName;
+use mq_packet::{BoxedConnect, Connect, Login, Will};
+use mq_topic::{Qos, TopicName};
+use mq_wire::TextRef;
 use std::alloc::{AllocError, Global};
+use std::marker::Model;
+
+/// The will of a CONNECT that lies in bytes (3.1.3.2, 3.1.3.3). Contracts see it as the will.
+#[derive(Debug, Drop)]
+pub struct WillView<'a> {
+    topic: TextRef<'a>,
+    message: BinaryView<'a>,
+    qos: Qos,
+    retain: bool,
+}
+
+impl<'a> Model for WillView<'a> {
+    ghost use Rattle.std.specs.Prelude.{◌≡◌, true};
+    ghost use Rattle.mq_topic.specs.Topic.{is_topic_name};
+    ghost use Rattle.mq_packet.specs.declared.connect.Will.{Will};
+
+    ghost Value = { Will };
+
+    ghost view = { λ w. record { topic = w.topic; message = w.message; qos = w.qos; retain = w.retain } };
+
+    ghost invariant = { λ w. is_topic_name w.topic ≡ true };
+}
+
+impl<'a> WillView<'a> {
+    /// What it is published to.
+    pub fn topic(&self) -> &'a str
+        ensures value { result.now ≡ self.now.topic }
+        ensures name { is_topic_name self.now.topic ≡ true }
+    {
+        self.topic.as_str()
+    }
+
+    /// What it says.
+    pub fn message(&self) -> &'a [u8]
+        ensures { result.now ≡ self.now.message }
+    {
+        self.message.as_slice()
+    }
+
+    /// How often it is handed on.
+    pub fn qos(&self) -> Qos
+        ensures { result ≡ self.now.qos }
+    {
+        self.qos
+    }
+
+    /// RETAIN of the message.
+    pub fn retain(&self) -> bool
+        ensures { result ≡ self.now.retain }
+    {
+        self.retain
+    }
+
+    // A will of its own.
+    fn owned(&self, alloc: Global) -> Result<Will, AllocError>
+        ensures { IfOk result (λ w. w ≡ self.now) }
+    {
+        let topic = TopicName::from_text(self.topic.to_text(alloc)?);
+        let message = self.message.owned(alloc)?;
+        Ok(Will {
+            topic,
+            message,
+            qos: self.qos,
+            retain: self.retain,
+        })
+    }
+}
+
+/// A user name and a password that lie in bytes (3.1.3.4, 3.1.3.5). Contracts see them as the login.
+#[derive(Debug, Drop)]
+pub struct LoginView<'a> {
+    name: TextRef<'a>,
+    password: Option<BinaryView<'a>>,
+}
+
+impl<'a> Model for LoginView<'a> {
+    ghost use Rattle.mq_packet.specs.declared.connect.Login.{Login};
+
+    ghost Value = { Login };
+
+    ghost view = { λ l. record { name = l.name; password = l.password } };
+}
+
+impl<'a> LoginView<'a> {
+    /// The user name.
+    pub fn name(&self) -> &'a str
+        ensures { result.now ≡ self.now.name }
+    {
+        self.name.as_str()
+    }
+
+    /// The password, where there is one.
+    pub fn password(&self) -> Option<&'a [u8]>
+        ensures { MatchOption result (self.now.password ≡ None)
+            (λ b. self.now.password ≡ Some b.now) }
+    {
+        match &self.password {
+            Some(password) => Some(password.as_slice()),
+            None => None,
+        }
+    }
+
+    // A login of its own.
+    fn owned(&self, alloc: Global) -> Result<Login, AllocError>
+        ensures { IfOk result (λ l. l ≡ self.now) }
+    {
+        let name = self.name.to_text(alloc)?;
+        let password = match &self.password {
+            Some(password) => Some(password.owned(alloc)?),
+            None => None,
+        };
+        Ok(Login { name, password })
+    }
+}
+
+/// The fields of a CONNECT that lies in bytes (3.1).
+#[derive(Debug, Drop)]
+pub struct ConnectFields<'a> {
+    /// The client identifier (3.1.3.1), any text.
+    pub client_id: TextRef<'a>,
+    /// Clean session (3.1.2.4).
+    pub clean_session: bool,
+    /// Keep-alive in seconds (3.1.2.10), 0 for none.
+    pub keep_alive: u16,
+    /// The message that is published when the connection ends without a DISCONNECT (3.1.2.5).
+    pub will: Option<WillView<'a>>,
+    /// Who the client says that it is (3.1.3.4, 3.1.3.5).
+    pub login: Option<LoginView<'a>>,
+}
+
+impl<'a> ConnectFields<'a> {
+    // A CONNECT of its own.
+    fn owned(&self, alloc: Global) -> Result<Connect, AllocError>
+        ensures { IfOk result (λ c. c ≡ connect_of self.now) }
+    {
+        let client_id = self.client_id.to_text(alloc)?;
+        let will = match &self.will {
+            Some(will) => Some(will.owned(alloc)?),
+            None => None,
+        };
+        let login = match &self.login {
+            Some(login) => Some(login.owned(alloc)?),
+            None => None,
+        };
+        Ok(Connect {
+            client_id,
+            clean_session: self.clean_session,
+            keep_alive: self.keep_alive,
+            will,
+            login,
+        })
+    }
+}
+
+/// A CONNECT that lies in bytes (3.1), which were tested. Contracts see it as the CONNECT.
+#[derive(Debug, Drop)]
+pub struct ConnectView<'a> {
+    // All its fields.
+    bytes: &'a [u8],
+}
+
+impl<'a> Model for ConnectView<'a> {
+    ghost use Rattle.std.specs.Prelude.{IsOk};
+    ghost use Rattle.mq_packet.specs.declared.connect.Connect.{Connect};
+    ghost use Rattle.mq_decode.specs.Connects.{connect_at};
+    ghost use Rattle.mq_decode.specs.Lent.{connect_in};
+
+    ghost Value = { Connect };
+
+    ghost view = { λ c. connect_in (connect_at c.bytes.now) };
+
+    ghost invariant = { λ c. IsOk (connect_at c.bytes.now) };
+}
+
+impl<'a> ConnectView<'a> {
+    /// Its fields, which are read once more.
+    pub fn fields(&self) -> ConnectFields<'a>
+        ensures { connect_of result ≡ self.now }
+    {
+        match connect_fields(self.bytes) {
+            Ok(fields) => fields,
+            Err(_) => unreachable!(),
+        }
+    }
+
+    // A CONNECT of its own, behind a box.
+    pub(crate) fn owned(&self, alloc: Global) -> Result<BoxedConnect, AllocError>
+        ensures { IfOk result (λ c. c ≡ self.now) }
+    {
+        let connect = self.fields().owned(alloc)?;
+        BoxedConnect::new(alloc, connect)
+    }
+}
 
 fn is_protocol(name: &str) -> bool
     ensures { result ≡ is_protocol name.now }
@@ -56,34 +252,22 @@ fn flags(bytes: &[u8]) -> Result<(ConnectFlags, &[u8]), BadField>
     }
 }
 
-/// A binary of its own, with the same bytes.
-fn owned(alloc: Global, bytes: &[u8]) -> Result<Binary, AllocError>
-    requires { length bytes.now < 65_536 }
-    ensures { IfOk result (λ b. b ≡ bytes.now) }
-{
-    let bytes = Bytes::copy_from_slice(alloc, bytes)?;
-    Ok(Binary::new(bytes).unwrap())
-}
-
 #[tactic(auto, unfolding(crate::specs::Connects::will_at))]
-fn will(
-    alloc: Global,
-    flags: Option<WillFlags>,
-    bytes: &[u8],
-) -> Result<(Option<Will>, &[u8]), FieldsError>
-    ensures { Gives (λ x. (x.0, x.1.now)) result (will_at flags bytes.now) }
+fn will(flags: Option<WillFlags>, bytes: &[u8]) -> Result<(Option<WillView<'_>>, &[u8]), BadField>
+    ensures { Same (λ x. (x.0, x.1.now)) result (will_at flags bytes.now) }
 {
     let Some(flags) = flags else {
         return Ok((None, bytes));
     };
     let (topic, rest) = match name(bytes) {
         Ok(field) => field,
-        Err(bad) => return Err(FieldsError::Bad(bad)),
+        Err(bad) => return Err(bad),
     };
-    let (message, rest) = binary(rest)?;
-    let topic = TopicName::from_text(topic.to_text(alloc)?);
-    let message = owned(alloc, message)?;
-    let will = Will {
+    let (message, rest) = match binary(rest) {
+        Ok(field) => field,
+        Err(bad) => return Err(bad),
+    };
+    let will = WillView {
         topic,
         message,
         qos: flags.qos,
@@ -93,58 +277,42 @@ fn will(
 }
 
 #[tactic(auto, unfolding(crate::specs::Connects::password_at))]
-fn password(
-    alloc: Global,
-    has_password: bool,
-    bytes: &[u8],
-) -> Result<(Option<Binary>, &[u8]), FieldsError>
-    ensures { Gives (λ x. (x.0, x.1.now)) result (password_at has_password bytes.now) }
+fn password(has_password: bool, bytes: &[u8]) -> Result<(Option<BinaryView<'_>>, &[u8]), BadField>
+    ensures { Same (λ x. (x.0, x.1.now)) result (password_at has_password bytes.now) }
 {
     if !has_password {
         return Ok((None, bytes));
     }
-    let (password, rest) = binary(bytes)?;
-    Ok((Some(owned(alloc, password)?), rest))
+    match binary(bytes) {
+        Ok((password, rest)) => Ok((Some(password), rest)),
+        Err(bad) => Err(bad),
+    }
 }
 
 #[tactic(auto, unfolding(crate::specs::Connects::login_at))]
 fn login(
-    alloc: Global,
     has_password: Option<bool>,
     bytes: &[u8],
-) -> Result<(Option<Login>, &[u8]), FieldsError>
-    ensures { Gives (λ x. (x.0, x.1.now)) result (login_at has_password bytes.now) }
+) -> Result<(Option<LoginView<'_>>, &[u8]), BadField>
+    ensures { Same (λ x. (x.0, x.1.now)) result (login_at has_password bytes.now) }
 {
     let Some(has_password) = has_password else {
         return Ok((None, bytes));
     };
     let (name, rest) = match text(bytes) {
         Ok(field) => field,
-        Err(bad) => return Err(FieldsError::Bad(bad)),
+        Err(bad) => return Err(bad),
     };
-    match password(alloc, has_password, rest) {
-        Ok((password, rest)) => {
-            let name = name.to_text(alloc)?;
-            Ok((Some(Login { name, password }), rest))
-        }
-        Err(e) => Err(e),
-    }
-}
-
-/// All fields of a CONNECT, behind a box.
-pub(crate) fn boxed_connect(alloc: Global, bytes: &[u8]) -> Result<BoxedConnect, FieldsError>
-    ensures { Gives (λ x. x) result (connect_at bytes.now) }
-{
-    match connect(alloc, bytes) {
-        Ok(connect) => Ok(BoxedConnect::new(alloc, connect)?),
-        Err(e) => Err(e),
+    match password(has_password, rest) {
+        Ok((password, rest)) => Ok((Some(LoginView { name, password }), rest)),
+        Err(bad) => Err(bad),
     }
 }
 
 // All fields of a CONNECT.
 #[tactic(auto, unfolding(crate::specs::Connects::connect_at))]
-fn connect(alloc: Global, bytes: &[u8]) -> Result<Connect, FieldsError>
-    ensures { Gives (λ x. x) result (connect_at bytes.now) }
+fn connect_fields(bytes: &[u8]) -> Result<ConnectFields<'_>, BadField>
+    ensures { Same connect_of result (connect_at bytes.now) }
 {
     let rest = protocol(bytes)?;
     let rest = level(rest)?;
@@ -152,23 +320,32 @@ fn connect(alloc: Global, bytes: &[u8]) -> Result<Connect, FieldsError>
     let (keep_alive, rest) = number(rest)?;
     let (client_id, rest) = match text(rest) {
         Ok(field) => field,
-        Err(bad) => return Err(FieldsError::Bad(bad)),
+        Err(bad) => return Err(bad),
     };
-    let (will, rest) = match will(alloc, flags.will, rest) {
+    let (will, rest) = match will(flags.will, rest) {
         Ok(field) => field,
-        Err(e) => return Err(e),
+        Err(bad) => return Err(bad),
     };
-    let (login, rest) = match login(alloc, flags.password, rest) {
+    let (login, rest) = match login(flags.password, rest) {
         Ok(field) => field,
-        Err(e) => return Err(e),
+        Err(bad) => return Err(bad),
     };
     end(rest)?;
-    let client_id = client_id.to_text(alloc)?;
-    Ok(Connect {
+    Ok(ConnectFields {
         client_id,
         clean_session: flags.clean_session,
         keep_alive,
         will,
         login,
     })
+}
+
+/// A CONNECT whose fields are all of these bytes.
+pub(crate) fn connect(bytes: &[u8]) -> Result<ConnectView<'_>, BadField>
+    ensures { Same (λ c. c) result (connect_at bytes.now) }
+{
+    match connect_fields(bytes) {
+        Ok(_) => Ok(ConnectView { bytes }),
+        Err(bad) => Err(bad),
+    }
 }

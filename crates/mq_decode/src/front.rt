@@ -1,52 +1,66 @@
 //! The packet at the front of bytes.
 
-ghost use Rattle.std.specs.Prelude.{◌≡◌, ◌+◌, ◌<◌, ◌≤◌, length, IfOk, IfNone, IfSome};
-ghost use Rattle.mq_decode.specs.Front.{front_at, GivesFront};
-ghost use Rattle.mq_decode.specs.Grammar.{IsFront};
+ghost use Rattle.std.specs.Prelude.{◌≡◌, ◌+◌, ◌<◌, ◌≤◌, ◌++◌, ℕ, List, length, Ok, Some, IfOk, IfNone, IfSome};
+ghost use Rattle.mq_packet.specs.declared.packet.Packet.{Packet};
+ghost use Rattle.mq_decode.specs.declared.fault.FaultKind.{FaultKind};
+ghost use Rattle.mq_decode.specs.Front.{front_at};
+ghost use Rattle.mq_decode.specs.Grammar.{Faulty, IsFront, Pending, ReadsWithin};
+ghost use Rattle.mq_decode.specs.Views.{IsView, LiesInFront, view_read};
 
 use crate::body::body;
-use crate::fault::{DecodeError, DecodeFault, FieldsError};
+use crate::fault::{DecodeError, DecodeFault};
 use crate::header::header_at;
+use crate::laws::{pending_is_short, reads_again};
 use crate::limits::Limits;
+use crate::packet_view::View;
 use bytes::Bytes;
 use mq_packet::Packet;
 use mq_wire::{length_laws, number_laws, text_laws};
 use std::alloc::Global;
 
-// The packet at the front and how many bytes it takes, as the definitions read it. Where `whole` are these
-// bytes in a buffer, and the packet takes all of them, its payload shares them.
+// What stands at the front, as the definitions read it.
 #[tactic(auto, unfolding(crate::specs::Front::front_at))]
-fn read_front(
-    alloc: Global,
-    limits: Limits,
-    whole: Option<&Bytes>,
-    bytes: &[u8],
-) -> Result<Option<(Packet, usize)>, DecodeError>
-    requires { IfSome whole (λ all. all.now ≡ bytes.now) }
-    ensures read { GivesFront result (front_at limits bytes.now) }
-    ensures memory { result ≡ Err DecodeError.Memory → 0 < length bytes.now }
-    ensures some { IfOk result (λ o. IfSome o (λ x. 0 < x.1)) }
+fn read_front(limits: Limits, bytes: &[u8]) -> View<'_>
+    ensures read { view_read result ≡ front_at limits bytes.now }
+    ensures end { LiesInFront bytes.now result }
 {
     let header = match header_at(limits, bytes) {
-        Ok(None) => return Ok(None),
+        Ok(None) => return View::More,
         Ok(Some(header)) => header,
-        Err(fault) => return Err(DecodeError::Fault(fault)),
+        Err(fault) => return View::Fault(fault),
     };
     let end = header.start + header.size;
     if bytes.len() < end {
-        return Ok(None);
+        return View::More;
     }
-    let whole = if bytes.len() == end { whole } else { None };
     let (front, _) = bytes.split_at(end);
     let (_, fields) = front.split_at(header.start);
-    match body(alloc, header.kind, whole, fields) {
-        Ok(packet) => Ok(Some((packet, end))),
-        Err(FieldsError::Memory) => Err(DecodeError::Memory),
-        Err(FieldsError::Bad(bad)) => Err(DecodeError::Fault(DecodeFault {
+    match body(header.kind, fields) {
+        Ok(packet) => View::Whole(packet, end),
+        Err(bad) => View::Fault(DecodeFault {
             kind: bad.kind,
             place: end.saturating_sub(bad.left),
-        })),
+        }),
     }
+}
+
+/// What stands at the front of bytes: a packet that lies there and how many bytes it takes, less than a
+/// whole one, or the first fault. It takes no memory.
+pub fn view<'a>(bytes: &'a [u8], limits: Limits) -> View<'a>
+    ensures front { IsView limits bytes.now result }
+    // Each of the three is told where it stands.
+    ensures whole { (p : Packet) (s rest : List ℕ) → ReadsWithin limits p s → bytes.now ≡ s ++ rest
+        → view_read result ≡ Ok (Some (p, length s)) }
+    ensures more { Pending limits bytes.now → result ≡ View.More }
+    ensures fault { (k : FaultKind) (place : ℕ) → Faulty limits bytes.now k place
+        → result ≡ View.Fault (record { kind = k; place = place }) }
+    // A PUBLISH lies where its packet ends.
+    ensures end { LiesInFront bytes.now result }
+{
+    number_laws();
+    text_laws();
+    length_laws();
+    read_front(limits, bytes)
 }
 
 /// The packet at the front and how many bytes it takes, `None` where nothing is wrong but it is not
@@ -63,8 +77,17 @@ pub(crate) fn front(
     ensures short { IfOk result (λ o. IfNone o (length bytes.now ≤ 5 + limits.most)) }
     ensures some { IfOk result (λ o. IfSome o (λ x. 0 < x.1)) }
 {
-    number_laws();
-    text_laws();
-    length_laws();
-    read_front(alloc, limits, whole, bytes)
+    pending_is_short();
+    reads_again();
+    match view(bytes, limits) {
+        View::Whole(packet, size) => {
+            let whole = if bytes.len() == size { whole } else { None };
+            match packet.shared(alloc, whole) {
+                Ok(packet) => Ok(Some((packet, size))),
+                Err(_) => Err(DecodeError::Memory),
+            }
+        }
+        View::More => Ok(None),
+        View::Fault(fault) => Err(DecodeError::Fault(fault)),
+    }
 }

@@ -1,12 +1,13 @@
 //! PUBLISH (3.3).
 
-ghost use Rattle.std.specs.Prelude.{◌≡◌, ◌+◌, ◌-◌, ◌<◌, ◌≤◌, ◌^◌, true, length, drop, slice_range, IfOk, IfSome, IsSome};
+ghost use Rattle.std.specs.Prelude.{◌≡◌, ◌+◌, ◌<◌, ◌≤◌, ◌^◌, true, length, drop, slice_range, IfOk, IfSome, IsSome};
 ghost use Rattle.mq_topic.specs.Topic.{is_topic_name};
 ghost use Rattle.mq_packet.specs.Publication.{fits_delivery};
-ghost use Rattle.mq_decode.specs.Gives.{EndsWith, Gives, Same};
+ghost use Rattle.mq_decode.specs.Gives.{EndsWith, Same};
 ghost use Rattle.mq_decode.specs.Bodies.{identified_at, delivery_at, publish_at};
+ghost use Rattle.mq_decode.specs.Lent.{delivery_len, payload_start};
 
-use crate::fault::{BadField, FieldsError};
+use crate::fault::BadField;
 use crate::fields::{identifier, name};
 use crate::kind::PublishFlags;
 use bytes::Bytes;
@@ -14,29 +15,110 @@ use mq_packet::{Delivery, Message, Payload, Publish};
 use mq_topic::{Qos, TopicName};
 use mq_wire::TextRef;
 use std::alloc::{AllocError, Global};
+use std::marker::Model;
 
-// The identifier of a quality of service over 0.
-fn identified(dup: bool, bytes: &[u8]) -> Result<(Option<Delivery>, &[u8]), BadField>
-    ensures read { Same (λ x. (x.0, x.1.now)) result (identified_at dup bytes.now) }
-    ensures some { IfOk result (λ x. IsSome x.0) }
-    ensures end { IfOk result (λ x. EndsWith bytes.now x.1.now) }
-{
-    match identifier(bytes) {
-        Ok((id, rest)) => Ok((Some(Delivery { id, dup }), rest)),
-        Err(bad) => Err(bad),
+/// A PUBLISH that lies in bytes (3.3): it owns nothing. Contracts see its fields as they lie there, and
+/// what they say.
+#[derive(Debug, Drop)]
+pub struct PublishView<'a> {
+    // From the topic name to the end of the payload.
+    fields: &'a [u8],
+    topic: TextRef<'a>,
+    qos: Qos,
+    retain: bool,
+    delivery: Option<Delivery>,
+}
+
+impl<'a> Model for PublishView<'a> {
+    ghost use Rattle.std.specs.Prelude.{drop};
+    ghost use Rattle.mq_decode.specs.Lent.{LentPublish, LiesIn, payload_start};
+
+    ghost Value = { LentPublish };
+
+    ghost view = { λ p. record {
+      fields = p.fields.now;
+      publish = record {
+        message = record {
+          topic = p.topic;
+          payload = drop (payload_start p.topic p.delivery) p.fields.now;
+          qos = p.qos;
+          retain = p.retain;
+        };
+        delivery = p.delivery;
+      };
+    } };
+
+    ghost invariant = { λ p. LiesIn p.fields.now p.topic p.qos p.delivery };
+}
+
+impl<'a> PublishView<'a> {
+    /// What it is published to.
+    pub fn topic(&self) -> &'a str
+        ensures value { result.now ≡ self.now.publish.message.topic }
+        ensures name { is_topic_name self.now.publish.message.topic ≡ true }
+    {
+        self.topic.as_str()
+    }
+
+    /// What it says.
+    pub fn payload(&self) -> &'a [u8]
+        ensures value { result.now ≡ self.now.publish.message.payload }
+        ensures short { length self.now.publish.message.payload < 2 ^ 28 }
+    {
+        let start = payload_start(&self.topic, self.delivery);
+        let (_, payload) = self.fields.split_at(start);
+        payload
+    }
+
+    /// How often it is handed on.
+    pub fn qos(&self) -> Qos
+        ensures { result ≡ self.now.publish.message.qos }
+    {
+        self.qos
+    }
+
+    /// RETAIN: the server keeps it for later subscribers.
+    pub fn retain(&self) -> bool
+        ensures { result ≡ self.now.publish.message.retain }
+    {
+        self.retain
+    }
+
+    /// The packet identifier and DUP, `None` exactly with quality of service 0.
+    pub fn delivery(&self) -> Option<Delivery>
+        ensures value { result ≡ self.now.publish.delivery }
+        ensures fits { fits_delivery self.now.publish.message.qos self.now.publish.delivery ≡ true }
+    {
+        self.delivery
+    }
+
+    /// A PUBLISH of its own. Topic name and payload share one block: where `whole` is the packet whose
+    /// end the fields are, its bytes, and else a copy of the fields.
+    pub(crate) fn shared(&self, alloc: Global, whole: Option<&Bytes>) -> Result<Publish, AllocError>
+        requires { IfSome whole (λ packet. EndsWith packet.now self.now.fields) }
+        ensures { IfOk result (λ p. p ≡ self.now.publish) }
+    {
+        let fields = shared_fields(alloc, whole, self.fields)?;
+        let start = payload_start(&self.topic, self.delivery);
+        let (topic, payload) = parts(&fields, &self.topic, start)?;
+        let message = Message {
+            topic,
+            payload,
+            qos: self.qos,
+            retain: self.retain,
+        };
+        Ok(Publish::new(message, self.delivery))
     }
 }
 
-#[tactic(auto, unfolding(crate::specs::Bodies::delivery_at))]
-fn delivery(flags: PublishFlags, bytes: &[u8]) -> Result<(Option<Delivery>, &[u8]), BadField>
-    ensures read { Same (λ x. (x.0, x.1.now)) result (delivery_at flags bytes.now) }
-    ensures fits { IfOk result (λ x. fits_delivery flags.qos x.0 ≡ true) }
-    ensures end { IfOk result (λ x. EndsWith bytes.now x.1.now) }
+// How many bytes stand before the payload.
+fn payload_start(topic: &TextRef<'_>, delivery: Option<Delivery>) -> usize
+    ensures { result ≡ payload_start topic.now delivery }
 {
-    match flags.qos {
-        Qos::Q0 => Ok((None, bytes)),
-        Qos::Q1 => identified(flags.dup, bytes),
-        Qos::Q2 => identified(flags.dup, bytes),
+    let size = topic.as_str().len();
+    match delivery {
+        Some(_) => 2 + size + 2,
+        None => 2 + size,
     }
 }
 
@@ -51,60 +133,73 @@ fn shared_fields(alloc: Global, whole: Option<&Bytes>, fields: &[u8]) -> Result<
     }
 }
 
-// The message whose topic name stands at the front of the fields, before `rest`, and whose payload
-// ends them. Both share one block of bytes.
-fn message_of(
-    flags: PublishFlags,
+// The topic name at the front of the fields, and the payload that ends them. Both share one block.
+fn parts(
     fields: &Bytes,
     topic: &TextRef<'_>,
-    rest: usize,
-    payload: usize,
-) -> Result<Message, AllocError>
-    requires topic_in { 2 + rest ≤ length fields.now }
-    requires topic { slice_range fields.now 2 (length fields.now - rest) ≡ topic.now }
+    start: usize,
+) -> Result<(TopicName, Payload), AllocError>
+    requires topic_in { 2 + length topic.now ≤ length fields.now }
+    requires topic { slice_range fields.now 2 (2 + length topic.now) ≡ topic.now }
     requires name { is_topic_name topic.now ≡ true }
-    requires payload_in { payload ≤ length fields.now }
+    requires payload_in { start ≤ length fields.now }
     requires small { length fields.now < 2 ^ 28 }
-    ensures { IfOk result (λ m. m ≡ record {
-      topic = topic.now;
-      payload = drop (length fields.now - payload) fields.now;
-      qos = flags.qos;
-      retain = flags.retain;
-    }) }
+    ensures topic { IfOk result (λ x. x.0 ≡ topic.now) }
+    ensures payload { IfOk result (λ x. x.1 ≡ drop start fields.now) }
 {
-    let size = fields.len();
-    let topic = topic.shared(fields.slice(2..size - rest)?);
-    let payload = fields.slice(size - payload..)?;
-    Ok(Message {
-        topic: TopicName::from_text(topic),
-        payload: Payload::new(payload).unwrap(),
-        qos: flags.qos,
-        retain: flags.retain,
-    })
+    let end = 2 + topic.as_str().len();
+    let name = topic.shared(fields.slice(2..end)?);
+    let payload = fields.slice(start..)?;
+    Ok((TopicName::from_text(name), Payload::new(payload).unwrap()))
 }
 
-/// All fields of a PUBLISH. Topic name and payload share one block: where `whole` is the packet that
-/// they end, its bytes, and else a copy of the fields.
+// The identifier of a quality of service over 0.
+fn identified(dup: bool, bytes: &[u8]) -> Result<(Option<Delivery>, &[u8]), BadField>
+    ensures read { Same (λ x. (x.0, x.1.now)) result (identified_at dup bytes.now) }
+    ensures some { IfOk result (λ x. IsSome x.0) }
+    ensures within { IfOk result (λ x. delivery_len x.0 ≤ length bytes.now) }
+    ensures after { IfOk result (λ x. x.1.now ≡ drop (delivery_len x.0) bytes.now) }
+{
+    match identifier(bytes) {
+        Ok((id, rest)) => Ok((Some(Delivery { id, dup }), rest)),
+        Err(bad) => Err(bad),
+    }
+}
+
+#[tactic(auto, unfolding(crate::specs::Bodies::delivery_at))]
+fn delivery(flags: PublishFlags, bytes: &[u8]) -> Result<(Option<Delivery>, &[u8]), BadField>
+    ensures read { Same (λ x. (x.0, x.1.now)) result (delivery_at flags bytes.now) }
+    ensures fits { IfOk result (λ x. fits_delivery flags.qos x.0 ≡ true) }
+    ensures within { IfOk result (λ x. delivery_len x.0 ≤ length bytes.now) }
+    ensures after { IfOk result (λ x. x.1.now ≡ drop (delivery_len x.0) bytes.now) }
+{
+    match flags.qos {
+        Qos::Q0 => Ok((None, bytes)),
+        Qos::Q1 => identified(flags.dup, bytes),
+        Qos::Q2 => identified(flags.dup, bytes),
+    }
+}
+
+/// All fields of a PUBLISH.
 #[tactic(auto, unfolding(crate::specs::Bodies::publish_at))]
-pub(crate) fn publish(
-    alloc: Global,
-    flags: PublishFlags,
-    whole: Option<&Bytes>,
-    bytes: &[u8],
-) -> Result<Publish, FieldsError>
-    requires shared { IfSome whole (λ packet. EndsWith packet.now bytes.now) }
-    requires small { length bytes.now < 2 ^ 28 }
-    ensures { Gives (λ p. p) result (publish_at flags bytes.now) }
+pub(crate) fn publish(flags: PublishFlags, bytes: &[u8]) -> Result<PublishView<'_>, BadField>
+    requires { length bytes.now < 2 ^ 28 }
+    ensures read { Same (λ p. p.publish) result (publish_at flags bytes.now) }
+    ensures fields { IfOk result (λ p. p.fields ≡ bytes.now) }
 {
     let (topic, rest) = match name(bytes) {
         Ok(field) => field,
-        Err(bad) => return Err(FieldsError::Bad(bad)),
+        Err(bad) => return Err(bad),
     };
-    let (delivery, payload) = match delivery(flags, rest) {
+    let (delivery, _) = match delivery(flags, rest) {
         Ok(field) => field,
-        Err(bad) => return Err(FieldsError::Bad(bad)),
+        Err(bad) => return Err(bad),
     };
-    let fields = shared_fields(alloc, whole, bytes)?;
-    let message = message_of(flags, &fields, &topic, rest.len(), payload.len())?;
-    Ok(Publish::new(message, delivery))
+    Ok(PublishView {
+        fields: bytes,
+        topic,
+        qos: flags.qos,
+        retain: flags.retain,
+        delivery,
+    })
 }

@@ -1,0 +1,58 @@
+-- What bytes that were tested stand for.
+use Rattle.std.specs.Prelude.{◌≡◌, ℕ, ◌+◌, ◌-◌, ◌<◌, ◌≤◌, ◌^◌, true, false, List, [], length, drop, slice_range, Option, Some, None, Result, Ok, Err, IsOk}
+use Rattle.mq_topic.specs.declared.qos.Qos.{Qos}
+use Rattle.mq_topic.specs.Topic.{is_topic_name}
+use Rattle.mq_packet.specs.declared.connect.Connect.{Connect}
+use Rattle.mq_packet.specs.declared.publish.Delivery.{Delivery}
+use Rattle.mq_packet.specs.Publication.{Publication, fits_delivery}
+use Rattle.mq_decode.specs.declared.fault.BadField.{BadField}
+use Rattle.mq_decode.specs.Lists.{items_at}
+
+-- the items of a list that was read
+abbrev pub items_of : {A : Type 0} → Result (List A) BadField → List A
+items_of (Ok items) = items
+items_of (Err bad) = []
+
+-- the items that are left at the end of a list, and that they were tested
+abbrev pub left_in : {A : Type 0} → (List ℕ → Result (A × List ℕ) BadField) → List ℕ → List A
+left_in item rest = items_of (items_at item (length rest) rest)
+
+abbrev pub IsLeft : {A : Type 0} → (List ℕ → Result (A × List ℕ) BadField) → List ℕ → Type 0
+IsLeft item rest = IsOk (items_at item (length rest) rest)
+
+-- the CONNECT that was read
+abbrev pub connect_in : Result Connect BadField → Connect
+connect_in (Ok connect) = connect
+connect_in (Err bad) = record { client_id = []; clean_session = false; keep_alive = 0; will = None; login = None }
+
+-- the bytes after what was read
+abbrev pub rest_of : {A : Type 0} → Result (A × List ℕ) BadField → Result (List ℕ) BadField
+rest_of (Ok x) = Ok x.1
+rest_of (Err bad) = Err bad
+
+-- what a test says of a reading: that there is one, or its fault
+abbrev pub Tests : {Y : Type 0} → Result (Unit {0}) BadField → Result Y BadField → Type 0
+Tests (Ok done) read = IsOk read
+Tests (Err bad) read = read ≡ Err bad
+
+-- how many bytes an identifier takes (3.3.2.2)
+abbrev pub delivery_len : Option Delivery → ℕ
+delivery_len None = 0
+delivery_len (Some delivery) = 2
+
+-- how many bytes of a PUBLISH stand before its payload (3.3.3): the topic name behind its count, and the identifier
+abbrev pub payload_start : List ℕ → Option Delivery → ℕ
+payload_start topic delivery = 2 + length topic + delivery_len delivery
+
+-- the topic name of a PUBLISH stands at the front of its fields, and its delivery fits
+pub record LiesIn (fields topic : List ℕ) (qos : Qos) (delivery : Option Delivery) : Type 0 where
+  pub within : payload_start topic delivery ≤ length fields
+  pub stands : slice_range fields 2 (2 + length topic) ≡ topic
+  pub name : is_topic_name topic ≡ true
+  pub fits : fits_delivery qos delivery ≡ true
+  pub small : length fields < 2 ^ 28
+
+-- a PUBLISH in bytes: all its fields, and what they say
+pub record LentPublish : Type 0 where
+  pub fields : List ℕ
+  pub publish : Publication

@@ -1,0 +1,113 @@
+//! Packets that lie in bytes.
+
+ghost use Rattle.std.specs.Prelude.{◌≡◌, IfOk, IfSome};
+ghost use Rattle.mq_decode.specs.Views.{LiesAtEnd, packet_of};
+
+use crate::connect::ConnectView;
+use crate::fault::DecodeFault;
+use crate::list_views::{CodesView, FiltersView, RequestsView};
+use crate::publish::PublishView;
+use bytes::Bytes;
+use mq_packet::{ConnAck, Packet, PacketId};
+use std::alloc::{AllocError, Global};
+
+/// What stands at the front of bytes.
+#[derive(Debug, Drop)]
+pub enum View<'a> {
+    /// A packet, and how many bytes it takes.
+    Whole(PacketView<'a>, usize),
+    /// Less than a whole packet, and nothing is wrong with it.
+    More,
+    /// The first fault.
+    Fault(DecodeFault),
+}
+
+/// A control packet that lies in bytes (chapter 3). It owns nothing: names, payloads and lists are lent
+/// from the bytes.
+#[derive(Debug, Drop)]
+pub enum PacketView<'a> {
+    /// A client asks for a connection (3.1).
+    Connect(ConnectView<'a>),
+    /// The server's answer (3.2).
+    ConnAck(ConnAck),
+    /// A message (3.3).
+    Publish(PublishView<'a>),
+    /// A message of quality of service 1 has come (3.4).
+    PubAck(PacketId),
+    /// A message of quality of service 2 has come (3.5).
+    PubRec(PacketId),
+    /// Its identifier may be forgotten (3.6).
+    PubRel(PacketId),
+    /// It is forgotten (3.7).
+    PubComp(PacketId),
+    /// A client subscribes (3.8).
+    Subscribe {
+        /// The packet identifier.
+        id: PacketId,
+        /// What it asks for, at least one item.
+        requests: RequestsView<'a>,
+    },
+    /// The server's answer, a code for each request (3.9).
+    SubAck {
+        /// The packet identifier.
+        id: PacketId,
+        /// The codes, at least one.
+        codes: CodesView<'a>,
+    },
+    /// A client gives subscriptions up (3.10).
+    Unsubscribe {
+        /// The packet identifier.
+        id: PacketId,
+        /// The filters, at least one.
+        filters: FiltersView<'a>,
+    },
+    /// The server's answer (3.11).
+    UnsubAck(PacketId),
+    /// A client asks whether the server is there (3.12).
+    PingReq,
+    /// It is (3.13).
+    PingResp,
+    /// A client leaves (3.14).
+    Disconnect,
+}
+
+impl<'a> PacketView<'a> {
+    /// The packet of its own, with a copy of the bytes.
+    pub fn owned(&self, alloc: Global) -> Result<Packet, AllocError>
+        ensures { IfOk result (λ p. p ≡ packet_of self.now) }
+    {
+        self.shared(alloc, None)
+    }
+
+    /// The packet of its own. Where `whole` are bytes that end with it, a message shares them.
+    pub(crate) fn shared(&self, alloc: Global, whole: Option<&Bytes>) -> Result<Packet, AllocError>
+        requires { IfSome whole (λ packet. LiesAtEnd packet.now self.now) }
+        ensures { IfOk result (λ p. p ≡ packet_of self.now) }
+    {
+        Ok(match self {
+            PacketView::Connect(connect) => Packet::Connect(connect.owned(alloc)?),
+            PacketView::ConnAck(answer) => Packet::ConnAck(*answer),
+            PacketView::Publish(publish) => Packet::Publish(publish.shared(alloc, whole)?),
+            PacketView::PubAck(id) => Packet::PubAck(*id),
+            PacketView::PubRec(id) => Packet::PubRec(*id),
+            PacketView::PubRel(id) => Packet::PubRel(*id),
+            PacketView::PubComp(id) => Packet::PubComp(*id),
+            PacketView::Subscribe { id, requests } => Packet::Subscribe {
+                id: *id,
+                requests: requests.owned(alloc)?,
+            },
+            PacketView::SubAck { id, codes } => Packet::SubAck {
+                id: *id,
+                codes: codes.owned(alloc)?,
+            },
+            PacketView::Unsubscribe { id, filters } => Packet::Unsubscribe {
+                id: *id,
+                filters: filters.owned(alloc)?,
+            },
+            PacketView::UnsubAck(id) => Packet::UnsubAck(*id),
+            PacketView::PingReq => Packet::PingReq,
+            PacketView::PingResp => Packet::PingResp,
+            PacketView::Disconnect => Packet::Disconnect,
+        })
+    }
+}
