@@ -1,0 +1,284 @@
+-- The changes of which a step of a broker is made, one by one; and what they keep true of its sessions and connections.
+use Rattle.std.proofs.Common.{◌≡◌, ℕ, ◌≤◌, Bool, true, false, List, [], ◌∷◌, ◌++◌, map, Option, Some, None, refl, sym, ap, subst, ◌∙◌, eqb, eq-eqb, ne_eqb, arith, le_refl}
+use Rattle.std.proofs.lemmas.Bool.{cond-true, cond-false, cond_both}
+use Rattle.mq_topic.specs.declared.qos.Qos.{Qos}
+use Rattle.mq_topic.specs.Rows.{with_row, without_row}
+use Rattle.mq_packet.specs.declared.message.Message.{Message}
+use Rattle.mq_packet.specs.declared.packet.Packet.{Packet}
+use Rattle.mq_packet.specs.Spelling.{spellings}
+use Rattle.mq_end.specs.declared.state.State.TheVariants.{Up}
+use Rattle.mq_end.specs.End.{End, Reply, over}
+use Rattle.mq_end.specs.Server.{server_gets}
+use Rattle.mq_route.specs.declared.conn.Conn.{Conn}
+use Rattle.mq_route.specs.declared.act.Act.{Act}
+use Rattle.mq_route.specs.declared.act.Act.TheVariants as acts
+use Rattle.mq_route.specs.declared.close.HubClose.{HubClose}
+use Rattle.mq_route.specs.declared.stage.Stage.TheVariants.{UpFor, Shut}
+use Rattle.mq_route.specs.declared.stage.Terms.{Terms}
+use Rattle.mq_route.specs.Routed.{same_conn}
+use Rattle.mq_route.specs.Copies.{kept, retained_for}
+use Rattle.mq_route.specs.Hub.{HubState, HubSession, Line, no_end, new_end, end_of, with_end, changed, with_line, without_session, is_for, for_key, knows, stage_of, up_on, copies_of}
+use Rattle.mq_route.specs.Work.{Work, said, with_lines, with_sessions, staged, shut, put_on, put_where, does, remove, remove_if}
+use Rattle.mq_route.specs.Arrives.{new_session}
+use Rattle.mq_route.proofs.Lines.{Mild, Names, Ups, upper, names_changed, ups_changed, upper_map, grown, same_conn-itself}
+use Rattle.mq_route.proofs.Uppers.{Apart, IsIdle, apart_map, unless, upper_closed, apart_closed, upper_at, unless_other, upper_risen, apart_risen}
+use Rattle.mq_route.proofs.Sessions.{has, has_with, has_without, has_new, each_there, each_with, each_without, each_new}
+use Rattle.mq_route.proofs.Ends.{Alike, GoesOn, takings}
+
+-- ---- what is still to be done in a step
+
+-- The copies that are due and not placed; the messages that an end handed on and that are not taken; and the packets that came and are
+-- not written down.
+pub record Debt : Type 0 where
+  pub copies : List (ℕ × Message)
+  pub taken : List (ℕ × Message)
+  pub came : List (ℕ × Packet)
+
+abbrev pub owes : List (ℕ × Message) → List (ℕ × Message) → List (ℕ × Packet) → Debt
+owes copies taken came = record { copies = copies; taken = taken; came = came }
+
+abbrev pub nothing : Debt
+nothing = owes [] [] []
+
+-- ---- changes
+
+-- the retained messages with one more, after an act that says so
+abbrev pub retaining : Act → Message → Work → Work
+retaining act m w = said act (record w { hub = record w.hub { retained = kept m w.hub.retained } })
+
+abbrev pub subscribing : ℕ → List ℕ → Qos → Work → Work
+subscribing key f q w = said (acts.Subscribed key f q) (record w { hub = record w.hub { rows = with_row key f q w.hub.rows } })
+
+abbrev pub unsubscribing : ℕ → List ℕ → Work → Work
+unsubscribing key f w = said (acts.Unsubscribed key f) (record w { hub = record w.hub { rows = without_row key f w.hub.rows } })
+
+-- a connection that is up is closed, and its session ends where it is to
+abbrev pub closing : Conn → HubClose → ℕ → Terms → Work → Work
+closing k why key terms w =
+    remove_if terms.clean_session key (with_sessions (with_end key (over (end_of key w.hub.sessions))) (said (acts.Closed k why) (shut k w)))
+
+-- a connection is up for a session, which does this
+abbrev pub rising : Conn → ℕ → Terms → ℕ → (End → Reply) → Bool → Work → Work
+rising k key terms moment move present w = said (acts.Up k key present) (does key move (staged k (UpFor key terms moment) w))
+
+-- What is kept while copies are placed and subscriptions change.
+pub record Inner (R : Debt → Work → Type 0) : Type 0 where
+  pub put : (k : Conn) (ps : List Packet) (o : Debt) (w : Work) → R o w → R o (put_on k ps w)
+  pub moves : (key : ℕ) (e : End) (o : Debt) (w : Work) → Alike e (end_of key w.hub.sessions) → R o w → R o (with_sessions (with_end key e) w)
+  pub took : (key : ℕ) (m : Message) (t : List (ℕ × Message)) (n : List (ℕ × Packet)) (w : Work) → R (owes [] ((key, m) ∷ t) n) w → R (owes (copies_of m w.hub) t n) (retaining (acts.Took key m) m w)
+  pub willed : (key : ℕ) (m : Message) (w : Work) → R nothing w → R (owes (copies_of m w.hub) [] []) (retaining (acts.Will key m) m w)
+  pub placed : (key : ℕ) (m : Message) (c t : List (ℕ × Message)) (n : List (ℕ × Packet)) (w : Work) → R (owes ((key, m) ∷ c) t n) w → R (owes c t n) (said (acts.Placed key m) w)
+  pub dropped : (key : ℕ) (w : Work) → R nothing w → R nothing (said (acts.WillDropped key) w)
+  pub subscribed : (key : ℕ) (f : List ℕ) (q : Qos) (c t : List (ℕ × Message)) (n : List (ℕ × Packet)) (w : Work)
+      → R (owes c t n) w → R (owes (c ++ for_key key (retained_for f q w.hub.retained)) t n) (subscribing key f q w)
+  pub unsubscribed : (key : ℕ) (f : List ℕ) (o : Debt) (w : Work) → R o w → R o (unsubscribing key f w)
+
+-- ---- what sessions and connections keep
+
+-- a client's session, its end, and the connection on which it is up
+abbrev pub Tied : Option (Conn × Bool) → Bool → End → Type 0
+Tied None there e = e.clean ≡ false
+Tied (Some u) there e = (there ≡ true) × (e.state ≡ Up) × (e.clean ≡ u.1)
+
+-- names stand once, keys that were not given have no session, and a client is up where its end is
+pub record Orderly (lines : List Line) (next : ℕ) (sessions : List HubSession) : Type 0 where
+  pub apart : Apart lines
+  pub keyless : (c : ℕ) → next ≤ c → has c sessions ≡ false
+  pub tied : (c : ℕ) → Tied (upper c lines) (has c sessions) (end_of c sessions)
+
+abbrev pub Sound : HubState → Type 0
+Sound h = Orderly h.lines h.next_key h.sessions
+
+-- What is kept where packets and connections come and go.
+pub record Outer (R : Debt → Work → Type 0) : Type 0 where
+  pub mild : (f : Line → Line) (k : Conn) (o : Debt) (w : Work) → Mild f → R o w → R o (with_lines (with_line f k) w)
+  pub gets : (key : ℕ) (p : Packet) (w : Work) → Sound w.hub → has key w.hub.sessions ≡ true → (end_of key w.hub.sessions).state ≡ Up → GoesOn key p (end_of key w.hub.sessions) (server_gets p (end_of key w.hub.sessions))
+      → R nothing w → R (owes [] (takings key (server_gets p (end_of key w.hub.sessions)).happenings) ((key, p) ∷ [])) (with_sessions (with_end key (server_gets p (end_of key w.hub.sessions)).end) w)
+  pub noted : (n : List (ℕ × Packet)) (w : Work) → R (owes [] [] n) w → R nothing (record w { came = w.came ++ n })
+  pub shuts : (k : Conn) (why : HubClose) (w : Work) → Sound w.hub → IsIdle (stage_of k w.hub.lines) → R nothing w → R nothing (said (acts.Closed k why) (shut k w))
+  pub closes : (k : Conn) (why : HubClose) (key : ℕ) (terms : Terms) (moment : ℕ) (w : Work) → Sound w.hub → stage_of k w.hub.lines ≡ UpFor key terms moment → R nothing w → R nothing (closing k why key terms w)
+  pub removes : (key : ℕ) (w : Work) → Sound w.hub → upper key w.hub.lines ≡ None → R nothing w → R nothing (remove key w)
+  pub begins : (client : List ℕ) (w : Work) → Sound w.hub → R nothing w → R nothing (new_session client w)
+  pub rises : (k : Conn) (key : ℕ) (terms : Terms) (moment : ℕ) (move : End → Reply) (present : Bool) (w : Work) → Sound w.hub → knows k w.hub.lines ≡ true → IsIdle (stage_of k w.hub.lines)
+      → upper key w.hub.lines ≡ None → has key w.hub.sessions ≡ true → (move (end_of key w.hub.sessions)).end.state ≡ Up → (move (end_of key w.hub.sessions)).end.clean ≡ terms.clean_session → (move (end_of key w.hub.sessions)).end.received ≡ (end_of key w.hub.sessions).received
+      → R nothing w → R nothing (rising k key terms moment move present w)
+
+-- ---- and that they keep it
+
+-- a connection that is closed
+abbrev pub closed_line : Line → Line
+closed_line x = record x { stage = Shut; held = [] }
+
+names_shut : Names closed_line
+names_shut x = refl
+
+idle_shut : (x : Line) → IsIdle Shut
+idle_shut x c = refl
+
+pub names_grown : (b : List ℕ) → Names (grown b)
+names_grown b x = refl
+
+pub ups_grown : (b : List ℕ) → Ups (grown b)
+ups_grown b x = (λ c. refl, refl)
+
+-- a change that leaves names and on which connection a client is up
+pub mapped : (g : Line → Line) (xs : List Line) (n : ℕ) (ss : List HubSession) → Names g → Ups g → Orderly xs n ss → Orderly (map g xs) n ss
+mapped g xs n ss h u s = record {
+  apart = apart_map g h u xs s.apart;
+  keyless = s.keyless;
+  tied = λ c. subst (λ (o : Option (Conn × Bool)). Tied o (has c ss) (end_of c ss)) (sym (upper_map g h u c xs)) (s.tied c);
+}
+
+-- the end of a session is another that is as tied
+ended_as : (key : ℕ) (e : End) (xs : List Line) (n : ℕ) (ss : List HubSession) → (has key ss ≡ true → Tied (upper key xs) true e) → Orderly xs n ss → Orderly xs n (with_end key e ss)
+ended_as key e xs n ss new s = record {
+  apart = s.apart;
+  keyless = λ c le. has_with key e c ss ∙ s.keyless c le;
+  tied = each_with (λ c there e. Tied (upper c xs) there e) key e ss s.tied new;
+}
+
+alike_tied : (o : Option (Conn × Bool)) (there : Bool) (e f : End) → Alike e f → there ≡ true → Tied o there f → Tied o true e
+alike_tied None there e f a h t = a.1 ∙ t
+alike_tied (Some u) there e f a h t = (refl, a.0 ∙ t.1, a.1 ∙ t.2)
+
+-- a client without a session is not up
+pub not_up : (c : ℕ) (h : HubState) → Sound h → has c h.sessions ≡ false → upper c h.lines ≡ None
+not_up c h s none = go (upper c h.lines) (subst (λ (b : Bool). Tied (upper c h.lines) b (end_of c h.sessions)) none (s.tied c))
+  where
+    go : (o : Option (Conn × Bool)) → Tied o false (end_of c h.sessions) → o ≡ None
+    go None t = refl
+    go (Some u) t = absurd (let clash = t.0 in cc)
+
+-- a client that is up has a session, and its end is up
+pub is_tied : (c : ℕ) (u : Conn × Bool) (h : HubState) → Sound h → upper c h.lines ≡ Some u → Tied (Some u) (has c h.sessions) (end_of c h.sessions)
+is_tied c u h s e = subst (λ (o : Option (Conn × Bool)). Tied o (has c h.sessions) (end_of c h.sessions)) e (s.tied c)
+
+-- the end of a client that is not up
+pub is_idle : (c : ℕ) (h : HubState) → Sound h → upper c h.lines ≡ None → (end_of c h.sessions).clean ≡ false
+is_idle c h s e = subst (λ (o : Option (Conn × Bool)). Tied o (has c h.sessions) (end_of c h.sessions)) e (s.tied c)
+
+pub sound_put : (k : Conn) (ps : List Packet) (w : Work) → Sound w.hub → Sound (put_on k ps w).hub
+unfolding put_on
+sound_put k ps w s =
+    mapped (changed (grown (spellings ps)) k) w.hub.lines w.hub.next_key w.hub.sessions (names_changed (grown (spellings ps)) k (names_grown (spellings ps))) (ups_changed (grown (spellings ps)) k (ups_grown (spellings ps))) s
+
+pub sound_put_where : (to : Option Conn) (ps : List Packet) (w : Work) → Sound w.hub → Sound (put_where to ps w).hub
+sound_put_where None ps w s = s
+sound_put_where (Some k) ps w s = sound_put k ps w s
+
+pub sound_inner : Inner (λ o w. Sound w.hub)
+sound_inner = record {
+  put = λ k ps o w s. sound_put k ps w s;
+  moves = λ key e o w alike s. ended_as key e w.hub.lines w.hub.next_key w.hub.sessions
+      (λ there. alike_tied (upper key w.hub.lines) (has key w.hub.sessions) e (end_of key w.hub.sessions) alike there (s.tied key)) s;
+  took = λ key m t n w s. s;
+  willed = λ key m w s. s;
+  placed = λ key m c t n w s. s;
+  dropped = λ key w s. s;
+  subscribed = λ key f q c t n w s. s;
+  unsubscribed = λ key f o w s. s;
+}
+
+pub sound_mild : (f : Line → Line) (k : Conn) (w : Work) → Mild f → Sound w.hub → Sound (with_lines (with_line f k) w).hub
+sound_mild f k w m s =
+    mapped (changed f k) w.hub.lines w.hub.next_key w.hub.sessions (names_changed f k (λ x. (m x).0)) (ups_changed f k (λ x. ((m x).2, (m x).3))) s
+
+pub sound_gets : (key : ℕ) (e : End) (w : Work) → e.state ≡ (end_of key w.hub.sessions).state → e.clean ≡ (end_of key w.hub.sessions).clean → Sound w.hub → Sound (with_sessions (with_end key e) w).hub
+sound_gets key e w state clean s =
+    ended_as key e w.hub.lines w.hub.next_key w.hub.sessions (λ there. go (upper key w.hub.lines) (has key w.hub.sessions) (s.tied key)) s
+  where
+    go : (o : Option (Conn × Bool)) (b : Bool) → Tied o b (end_of key w.hub.sessions) → Tied o true e
+    go None b t = clean ∙ t
+    go (Some u) b t = (refl, state ∙ t.1, clean ∙ t.2)
+
+pub sound_shuts : (k : Conn) (w : Work) → Sound w.hub → IsIdle (stage_of k w.hub.lines) → Sound (shut k w).hub
+sound_shuts k w s free = record {
+  apart = apart_closed closed_line k names_shut idle_shut w.hub.lines s.apart;
+  keyless = s.keyless;
+  tied = λ c. subst (λ (o : Option (Conn × Bool)). Tied o (has c w.hub.sessions) (end_of c w.hub.sessions))
+      (sym (upper_closed closed_line k names_shut idle_shut w.hub.lines s.apart c ∙ unless_other k c w.hub.lines s.apart (free c))) (s.tied c);
+}
+
+-- the connection on which a client is up, after it is closed
+pub upper_shut : (k : Conn) (c : ℕ) (w : Work) → Apart w.hub.lines → upper c (shut k w).hub.lines ≡ unless k (upper c w.hub.lines)
+upper_shut k c w a = upper_closed closed_line k names_shut idle_shut w.hub.lines a c
+
+pub unless_itself : (k : Conn) (b : Bool) → unless k (Some (k, b)) ≡ None
+unless_itself k b = cond-true (same_conn k k) None (Some (k, b)) (same_conn-itself k)
+
+over_clean : (e : End) → (over e).clean ≡ false
+over_clean e = refl
+
+-- a session's end is over, and its connection closed
+module _ (k : Conn) (key : ℕ) (terms : Terms) (moment : ℕ) (w : Work) (s : Sound w.hub) (stage : stage_of k w.hub.lines ≡ UpFor key terms moment) where
+  pub upper_was : upper key w.hub.lines ≡ Some (k, terms.clean_session)
+  upper_was = upper_at k key terms moment w.hub.lines s.apart stage
+
+  pub upper_is_none : upper key (shut k w).hub.lines ≡ None
+  upper_is_none = upper_shut k key w s.apart ∙ ap (unless k) upper_was ∙ unless_itself k terms.clean_session
+
+  pub upper_others : (c : ℕ) → eqb key c ≡ false → upper c (shut k w).hub.lines ≡ upper c w.hub.lines
+  upper_others c apart = upper_shut k c w s.apart ∙ unless_other k c w.hub.lines s.apart (ap (is_for c) stage ∙ apart)
+
+  sound_over : Orderly (shut k w).hub.lines w.hub.next_key (with_end key (over (end_of key w.hub.sessions)) w.hub.sessions)
+  sound_over = record {
+    apart = apart_closed closed_line k names_shut idle_shut w.hub.lines s.apart;
+    keyless = λ c le. has_with key (over (end_of key w.hub.sessions)) c w.hub.sessions ∙ s.keyless c le;
+    tied = each_there (λ c there e. Tied (upper c (shut k w).hub.lines) there e) key (over (end_of key w.hub.sessions)) w.hub.sessions
+        (is_tied key (k, terms.clean_session) w.hub s upper_was).0
+        (subst (λ (o : Option (Conn × Bool)). Tied o true (over (end_of key w.hub.sessions))) (sym upper_is_none) refl)
+        (λ c apart. subst (λ (o : Option (Conn × Bool)). Tied o (has c w.hub.sessions) (end_of c w.hub.sessions)) (sym (upper_others c apart)) (s.tied c));
+  }
+
+without_as : (key : ℕ) (xs : List Line) (n : ℕ) (ss : List HubSession) → upper key xs ≡ None → Orderly xs n ss → Orderly xs n (without_session key ss)
+without_as key xs n ss none s = record {
+  apart = s.apart;
+  keyless = λ c le. has_without key c ss ∙ cond_both (eqb key c) false (has c ss) (λ b. b ≡ false) (λ e. refl) (λ e. s.keyless c le);
+  tied = each_without (λ c there e. Tied (upper c xs) there e) key ss s.tied (subst (λ (o : Option (Conn × Bool)). Tied o false no_end) (sym none) refl);
+}
+
+pub sound_removes : (key : ℕ) (w : Work) → Sound w.hub → upper key w.hub.lines ≡ None → Sound (remove key w).hub
+unfolding remove
+sound_removes key w s none = without_as key w.hub.lines w.hub.next_key w.hub.sessions none s
+
+sound_remove_if : (b : Bool) (key : ℕ) (w : Work) → Sound w.hub → upper key w.hub.lines ≡ None → Sound (remove_if b key w).hub
+sound_remove_if true key w s none = sound_removes key w s none
+sound_remove_if false key w s none = s
+
+pub sound_closes : (k : Conn) (why : HubClose) (key : ℕ) (terms : Terms) (moment : ℕ) (w : Work) → Sound w.hub → stage_of k w.hub.lines ≡ UpFor key terms moment → Sound (closing k why key terms w).hub
+sound_closes k why key terms moment w s stage =
+    sound_remove_if terms.clean_session key (with_sessions (with_end key (over (end_of key w.hub.sessions))) (said (acts.Closed k why) (shut k w)))
+    (sound_over k key terms moment w s stage) (upper_is_none k key terms moment w s stage)
+
+pub sound_begins : (client : List ℕ) (w : Work) → Sound w.hub → Sound (new_session client w).hub
+unfolding new_session
+sound_begins client w s =
+    let n = w.hub.next_key in
+    let session : HubSession = record { client = client; key = n; end = new_end w.hub.config } in
+    let none = not_up n w.hub s (s.keyless n (le_refl n)) in
+    record {
+      apart = s.apart;
+      keyless = λ c le. has_new session c w.hub.sessions ∙ cond-false (has c w.hub.sessions) true (eqb n c) (s.keyless c (omega arith)) ∙ ne_eqb n c (λ same. omega arith);
+      tied = each_new (λ c there e. Tied (upper c w.hub.lines) there e) session w.hub.sessions (s.keyless n (le_refl n)) s.tied
+          (subst (λ (o : Option (Conn × Bool)). Tied o true (new_end w.hub.config)) (sym none) refl);
+    }
+
+pub sound_rises : (k : Conn) (key : ℕ) (terms : Terms) (moment : ℕ) (move : End → Reply) (present : Bool) (w : Work) → Sound w.hub → knows k w.hub.lines ≡ true → IsIdle (stage_of k w.hub.lines)
+    → upper key w.hub.lines ≡ None → has key w.hub.sessions ≡ true → (move (end_of key w.hub.sessions)).end.state ≡ Up → (move (end_of key w.hub.sessions)).end.clean ≡ terms.clean_session
+    → Sound (rising k key terms moment move present w).hub
+unfolding does
+sound_rises k key terms moment move present w s known free none there up clean =
+    let v = staged k (UpFor key terms moment) w in
+    let e = (move (end_of key w.hub.sessions)).end in
+    sound_put_where (up_on key v.hub.lines) (move (end_of key w.hub.sessions)).out (with_sessions (with_end key e) v)
+    (record {
+      apart = apart_risen k key terms moment w.hub.lines s.apart known free none;
+      keyless = λ c le. has_with key e c w.hub.sessions ∙ s.keyless c le;
+      tied = each_there (λ c there e. Tied (upper c v.hub.lines) there e) key e w.hub.sessions there
+          (subst (λ (o : Option (Conn × Bool)). Tied o true e)
+          (sym (upper_risen k key terms moment w.hub.lines s.apart known free none key ∙ cond-true (eqb key key) (Some (k, terms.clean_session)) (upper key w.hub.lines) (eq-eqb key key refl)))
+          (refl, up, clean))
+          (λ c apart. subst (λ (o : Option (Conn × Bool)). Tied o (has c w.hub.sessions) (end_of c w.hub.sessions))
+          (sym (upper_risen k key terms moment w.hub.lines s.apart known free none c ∙ cond-false (eqb key c) (Some (k, terms.clean_session)) (upper c w.hub.lines) apart))
+          (s.tied c));
+    })

@@ -1,0 +1,13 @@
+mod Lines
+mod Uppers
+mod Sessions
+mod Ends
+mod Changes
+mod Walk
+mod Frames
+mod Steps
+mod Events
+mod Output
+mod Routing
+mod Taking
+mod Rows

@@ -1,0 +1,284 @@
+-- What is written on a connection is the spellings of the packets that were put out on it.
+use Rattle.std.proofs.Common.{◌≡◌, ℕ, Bool, true, false, not, cond, ◌||◌, List, [], ◌∷◌, ◌++◌, map, max, None, refl, sym, ap, ap₂, subst, ◌∙◌, append_assoc, append-nil}
+use Rattle.std.proofs.lemmas.Bool.{cond-true, cond-false}
+use Rattle.std.proofs.lemmas.List.Concat.{flat_map-append}
+use Rattle.mq_packet.specs.declared.packet.Packet.{Packet}
+use Rattle.mq_packet.specs.Spelling.{spelling, spellings}
+use Rattle.mq_end.specs.End.{End, Reply, over}
+use Rattle.mq_route.specs.declared.act.Act.TheVariants as acts
+use Rattle.mq_route.specs.declared.conn.Conn.{Conn}
+use Rattle.mq_route.specs.declared.event.HubEvent.{HubEvent}
+use Rattle.mq_route.specs.declared.event.HubEvent.TheVariants.{Opened, Bytes, Ended, Tick, Collect}
+use Rattle.mq_route.specs.declared.reply.HubReply.{HubReply}
+use Rattle.mq_route.specs.declared.stage.Stage.TheVariants.{UpFor}
+use Rattle.mq_route.specs.declared.stage.Terms.{Terms}
+use Rattle.mq_route.specs.Routed.{same_conn}
+use Rattle.mq_route.specs.Hub.{HubState, Line, new_hub, is_line, knows, waiting_on, stage_of, changed, with_line, without_line, is_open, held_on, up_on, end_of, with_end}
+use Rattle.mq_route.specs.Work.{Work, begin, said, with_sessions, staged, shut, put_on, does, remove, remove_if}
+use Rattle.mq_route.specs.Arrives.{new_session}
+use Rattle.mq_route.specs.Step.{Does, event_refusal, opened, ended, ended_open, collected, told, holding}
+use Rattle.mq_route.specs.Runs.{Episode, Follows, Stays, ends_it, collects, written_by, written, sent_in, on_conn}
+use Rattle.mq_route.specs.Laws.{OutputLaws}
+use Rattle.mq_route.proofs.Lines.{one_conn, Names, Bytes as BytesStay, grown, names_changed, bytes_changed, knows_map, waiting_map, put_here, put_there}
+use Rattle.mq_route.proofs.Uppers.{newcomer, risen}
+use Rattle.mq_route.proofs.Changes.{Debt, nothing, Inner, Outer, Sound, names_grown, closed_line}
+use Rattle.mq_route.proofs.Walk.{put_where_keeps}
+use Rattle.mq_route.proofs.Steps.{comes_both, holding_both, ticks_both, ended_both}
+use Rattle.mq_route.proofs.Events.{sound_new, not_known, sound_opened, sound_collected, sound_without, ended_idle, emptied}
+
+-- ---- the packets of a connection
+
+pub on_conn-append : (n : Conn) (xs ys : List (Conn × Packet)) → on_conn n (xs ++ ys) ≡ on_conn n xs ++ on_conn n ys
+on_conn-append n [] ys = refl
+on_conn-append n (x ∷ xs) ys = go (same_conn x.0 n) (on_conn-append n xs ys)
+  where
+    go : (b : Bool) → on_conn n (xs ++ ys) ≡ on_conn n xs ++ on_conn n ys → cond b (x.1 ∷ on_conn n (xs ++ ys)) (on_conn n (xs ++ ys)) ≡ cond b (x.1 ∷ on_conn n xs) (on_conn n xs) ++ on_conn n ys
+    go true ih = ap (λ (l : List Packet). x.1 ∷ l) ih
+    go false ih = ih
+
+on_conn-own : (k n : Conn) (ps : List Packet) → same_conn k n ≡ true → on_conn n (map (λ p. (k, p)) ps) ≡ ps
+on_conn-own k n [] e = refl
+on_conn-own k n (p ∷ ps) e = cond-true (same_conn k n) (p ∷ on_conn n (map (λ p. (k, p)) ps)) (on_conn n (map (λ p. (k, p)) ps)) e ∙ ap (λ (l : List Packet). p ∷ l) (on_conn-own k n ps e)
+
+on_conn-other : (k n : Conn) (ps : List Packet) → same_conn k n ≡ false → on_conn n (map (λ p. (k, p)) ps) ≡ []
+on_conn-other k n [] e = refl
+on_conn-other k n (p ∷ ps) e = cond-false (same_conn k n) (p ∷ on_conn n (map (λ p. (k, p)) ps)) (on_conn n (map (λ p. (k, p)) ps)) e ∙ on_conn-other k n ps e
+
+module _ (n : Conn) (base : List ℕ) where
+  -- what waits on the connection is what waited, and the spellings of what was put out on it
+  abbrev pub Grows : Debt → Work → Type 0
+  Grows o w = (knows n w.hub.lines ≡ true) × (waiting_on n w.hub.lines ≡ base ++ spellings (on_conn n w.sent))
+
+  -- a change that leaves names and bytes
+  quiet : (g : Line → Line) (w : Work) → Names g → BytesStay g → (o : Debt) → Grows o w → (knows n (map g w.hub.lines) ≡ true) × (waiting_on n (map g w.hub.lines) ≡ base ++ spellings (on_conn n w.sent))
+  quiet g w h b o r = (knows_map g h n w.hub.lines ∙ r.0, waiting_map g h b n w.hub.lines ∙ r.1)
+
+  put_grows : (k : Conn) (ps : List Packet) (o : Debt) (w : Work) → Grows o w → Grows o (put_on k ps w)
+  unfolding put_on
+  put_grows k ps o w r = (knows_map (changed (grown (spellings ps)) k) (names_changed (grown (spellings ps)) k (names_grown (spellings ps))) n w.hub.lines ∙ r.0, go (same_conn k n) refl)
+    where
+      old : List Packet
+      old = on_conn n w.sent
+
+      go : (b : Bool) → same_conn k n ≡ b
+          → waiting_on n (with_line (grown (spellings ps)) k w.hub.lines) ≡ base ++ spellings (on_conn n (w.sent ++ map (λ p. (k, p)) ps))
+      go true e =
+          ap (λ (j : Conn). waiting_on n (with_line (grown (spellings ps)) j w.hub.lines)) (one_conn k n e)
+          ∙ put_here n (spellings ps) w.hub.lines r.0
+          ∙ ap (λ (b : List ℕ). b ++ spellings ps) r.1
+          ∙ append_assoc base (spellings (on_conn n w.sent)) (spellings ps)
+          ∙ ap (λ (b : List ℕ). base ++ b) (sym (flat_map-append spelling (on_conn n w.sent) ps)
+          ∙ ap spellings (ap (λ (l : List Packet). on_conn n w.sent ++ l) (sym (on_conn-own k n ps e)) ∙ sym (on_conn-append n w.sent (map (λ p. (k, p)) ps))))
+      go false e =
+          put_there k n (grown (spellings ps)) w.hub.lines (names_grown (spellings ps)) e
+          ∙ r.1
+          ∙ ap (λ (l : List Packet). base ++ spellings l) (sym (on_conn-append n w.sent (map (λ p. (k, p)) ps) ∙ ap (λ (l : List Packet). on_conn n w.sent ++ l) (on_conn-other k n ps e) ∙ append-nil (on_conn n w.sent)))
+
+  pub inner : Inner Grows
+  inner = record {
+    put = put_grows;
+    moves = λ key e o w alike r. r;
+    took = λ key m t c w r. r;
+    willed = λ key m w r. r;
+    placed = λ key m d t c w r. r;
+    dropped = λ key w r. r;
+    subscribed = λ key f q d t c w r. r;
+    unsubscribed = λ key f o w r. r;
+  }
+
+  remove_grows : (key : ℕ) (w : Work) → Grows nothing w → Grows nothing (remove key w)
+  unfolding remove
+  remove_grows key w r = r
+
+  remove_if_grows : (b : Bool) (key : ℕ) (w : Work) → Grows nothing w → Grows nothing (remove_if b key w)
+  remove_if_grows true key w r = remove_grows key w r
+  remove_if_grows false key w r = r
+
+  shut_grows : (k : Conn) (w : Work) → Grows nothing w → Grows nothing (shut k w)
+  shut_grows k w r = quiet (changed closed_line k) w (names_changed closed_line k (λ x. refl)) (bytes_changed closed_line k (λ x. refl)) nothing r
+
+  begins_grows : (client : List ℕ) (w : Work) → Grows nothing w → Grows nothing (new_session client w)
+  unfolding new_session
+  begins_grows client w r = r
+
+  rises_grows : (k : Conn) (key : ℕ) (terms : Terms) (moment : ℕ) (move : End → Reply) (w : Work) → Grows nothing w → Grows nothing (does key move (staged k (UpFor key terms moment) w))
+  unfolding does
+  rises_grows k key terms moment move w r =
+      let v = staged k (UpFor key terms moment) w in
+      let e = end_of key w.hub.sessions in
+      put_where_keeps Grows inner (up_on key v.hub.lines) (move e).out nothing (with_sessions (with_end key (move e).end) v)
+      (quiet (changed (risen k key terms moment) k) w (names_changed (risen k key terms moment) k (λ x. refl)) (bytes_changed (risen k key terms moment) k (λ x. refl)) nothing r)
+
+  pub outer : Outer Grows
+  outer = record {
+    mild = λ f k o w m r. quiet (changed f k) w (names_changed f k (λ x. (m x).0)) (bytes_changed f k (λ x. (m x).1)) o r;
+    gets = λ key p w s there up g r. r;
+    noted = λ c w r. r;
+    shuts = λ k why w s free r. shut_grows k w r;
+    closes = λ k why key terms moment w s e r. remove_if_grows terms.clean_session key (with_sessions (with_end key (over (end_of key w.hub.sessions))) (said (acts.Closed k why) (shut k w))) (shut_grows k w r);
+    removes = λ key w s none r. remove_grows key w r;
+    begins = λ client w s r. begins_grows client w r;
+    rises = λ k key terms moment move present w s known free none there up clean received r. rises_grows k key terms moment move w r;
+  }
+
+-- the connection's bytes are taken
+emptied_here : (n : Conn) (xs : List Line) → waiting_on n (with_line emptied n xs) ≡ []
+emptied_here n [] = refl
+emptied_here n (x ∷ xs) = go (is_line n x) refl (emptied_here n xs)
+  where
+    go : (b : Bool) → is_line n x ≡ b → waiting_on n (with_line emptied n xs) ≡ [] → waiting_on n (with_line emptied n (x ∷ xs)) ≡ []
+    go true e ih =
+        ap (λ (y : Line). cond (same_conn y.conn n) y.waiting (waiting_on n (with_line emptied n xs))) (cond-true (is_line n x) (record x { waiting = [] }) x e)
+        ∙ cond-true (is_line n x) [] (waiting_on n (with_line emptied n xs)) e
+    go false e ih =
+        ap (λ (y : Line). cond (same_conn y.conn n) y.waiting (waiting_on n (with_line emptied n xs))) (cond-false (is_line n x) (record x { waiting = [] }) x e)
+        ∙ cond-false (is_line n x) x.waiting (waiting_on n (with_line emptied n xs)) e
+        ∙ ih
+
+-- nothing in particular
+abbrev pub Any : Debt → Work → Type 0
+Any o w = Unit {0}
+
+pub any_inner : Inner Any
+any_inner = record {
+  put = λ k ps o w r. tt;
+  moves = λ key e o w alike r. tt;
+  took = λ key m t c w r. tt;
+  willed = λ key m w r. tt;
+  placed = λ key m d t c w r. tt;
+  dropped = λ key w r. tt;
+  subscribed = λ key f q d t c w r. tt;
+  unsubscribed = λ key f o w r. tt;
+}
+
+pub any_outer : Outer Any
+any_outer = record {
+  mild = λ f k o w m r. tt;
+  gets = λ key p w s there up g r. tt;
+  noted = λ c w r. tt;
+  shuts = λ k why w s free r. tt;
+  closes = λ k why key terms moment w s e r. tt;
+  removes = λ key w s none r. tt;
+  begins = λ client w s r. tt;
+  rises = λ k key terms moment move present w s known free none there up clean received r. tt;
+}
+
+-- ---- events
+
+-- what an event leaves
+abbrev Leaves : Conn → HubState → HubEvent → HubReply → Work → Type 0
+Leaves n h e r w = Sound w.hub × (knows n w.hub.lines ≡ true) × (cond (collects n e) r.output [] ++ waiting_on n w.hub.lines ≡ waiting_on n h.lines ++ spellings (on_conn n w.sent))
+
+waiting_opened : (n k : Conn) (xs : List Line) → knows n xs ≡ true → waiting_on n (xs ++ newcomer k ∷ []) ≡ waiting_on n xs
+waiting_opened n k [] h = absurd cc
+waiting_opened n k (x ∷ xs) h = go (is_line n x) refl (waiting_opened n k xs)
+  where
+    go : (b : Bool) → is_line n x ≡ b → (knows n xs ≡ true → waiting_on n (xs ++ newcomer k ∷ []) ≡ waiting_on n xs) → waiting_on n (x ∷ (xs ++ newcomer k ∷ [])) ≡ waiting_on n (x ∷ xs)
+    go true e ih =
+        cond-true (is_line n x) x.waiting (waiting_on n (xs ++ newcomer k ∷ [])) e ∙ sym (cond-true (is_line n x) x.waiting (waiting_on n xs) e)
+    go false e ih =
+        ap (λ (b : List ℕ). cond (is_line n x) x.waiting b) (ih (sym (ap (λ (t : Bool). t || knows n xs) e) ∙ h))
+
+knows_opened : (n k : Conn) (xs : List Line) → knows n xs ≡ true → knows n (xs ++ newcomer k ∷ []) ≡ true
+knows_opened n k [] h = absurd cc
+knows_opened n k (x ∷ xs) h = go (is_line n x) (knows_opened n k xs) h
+  where
+    go : (b : Bool) → (knows n xs ≡ true → knows n (xs ++ newcomer k ∷ []) ≡ true) → (b || knows n xs) ≡ true → (b || knows n (xs ++ newcomer k ∷ [])) ≡ true
+    go true ih e = refl
+    go false ih e = ih e
+
+-- a connection that is over takes no other along
+kept_line : (n k : Conn) → same_conn k n ≡ false → (xs : List Line) → (knows n (without_line k xs) ≡ knows n xs) × (waiting_on n (without_line k xs) ≡ waiting_on n xs)
+kept_line n k apart [] = (refl, refl)
+kept_line n k apart (x ∷ xs) = go (is_line k x) refl (kept_line n k apart xs)
+  where
+    go : (b : Bool) → is_line k x ≡ b → (knows n (without_line k xs) ≡ knows n xs) × (waiting_on n (without_line k xs) ≡ waiting_on n xs)
+        → (knows n (without_line k (x ∷ xs)) ≡ knows n (x ∷ xs)) × (waiting_on n (without_line k (x ∷ xs)) ≡ waiting_on n (x ∷ xs))
+    go true e ih =
+        let far : is_line n x ≡ false = ap (λ (j : Conn). same_conn j n) (one_conn x.conn k e) ∙ apart in
+        let gone : without_line k (x ∷ xs) ≡ without_line k xs = cond-false (not (is_line k x)) (x ∷ without_line k xs) (without_line k xs) (ap not e) in (
+          ap (knows n) gone ∙ ih.0 ∙ sym (ap (λ (t : Bool). t || knows n xs) far),
+          ap (waiting_on n) gone ∙ ih.1 ∙ sym (cond-false (is_line n x) x.waiting (waiting_on n xs) far),
+        )
+    go false e ih =
+        let stays : without_line k (x ∷ xs) ≡ x ∷ without_line k xs = cond-true (not (is_line k x)) (x ∷ without_line k xs) (without_line k xs) (ap not e) in (
+          ap (knows n) stays ∙ ap (λ (t : Bool). is_line n x || t) ih.0,
+          ap (waiting_on n) stays ∙ ap (λ (b : List ℕ). cond (is_line n x) x.waiting b) ih.1,
+        )
+
+begins_at : (n : Conn) (h : HubState) → knows n h.lines ≡ true → Grows n (waiting_on n h.lines) nothing (begin h)
+begins_at n h known = (known, sym (append-nil (waiting_on n h.lines)))
+
+-- nothing is taken, and what waits grew
+grew : (n : Conn) (h : HubState) (e : HubEvent) (r : HubReply) (w : Work) → cond (collects n e) r.output [] ≡ [] → Sound w.hub → Grows n (waiting_on n h.lines) nothing w → Leaves n h e r w
+grew n h e r w none s g = (s, g.0, ap (λ (b : List ℕ). b ++ waiting_on n w.hub.lines) none ∙ g.1)
+
+collected_leaves : (n k : Conn) (h : HubState) (r : HubReply) → r.output ≡ waiting_on k h.lines → Sound h → knows n h.lines ≡ true → Leaves n h (Collect k) r (begin (collected k h))
+collected_leaves n k h r out s known = (sound_collected k h s, knows_map (changed emptied k) (names_changed emptied k (λ x. refl)) n h.lines ∙ known, go (same_conn k n) refl)
+  where
+    go : (b : Bool) → same_conn k n ≡ b → cond (same_conn k n) r.output [] ++ waiting_on n (collected k h).lines ≡ waiting_on n h.lines ++ []
+    go true e =
+        ap₂ (λ (a b : List ℕ). a ++ b) (cond-true (same_conn k n) r.output [] e ∙ out ∙ ap (λ (j : Conn). waiting_on j h.lines) (one_conn k n e))
+        (ap (λ (j : Conn). waiting_on n (with_line emptied j h.lines)) (one_conn k n e) ∙ emptied_here n h.lines)
+    go false e =
+        ap₂ (λ (a b : List ℕ). a ++ b) (cond-false (same_conn k n) r.output [] e) (put_there k n emptied h.lines (λ x. refl) e) ∙ sym (append-nil (waiting_on n h.lines))
+
+leaves : (n : Conn) (h : HubState) (e : HubEvent) (r : HubReply) (w : Work) → event_refusal e h ≡ None → Does h e r w → ends_it n e ≡ false → Sound h → knows n h.lines ≡ true → Leaves n h e r w
+leaves n h (Opened k) r w right d stays s known =
+    subst (Leaves n h (Opened k) r) (sym d.0)
+    (grew n h (Opened k) r (begin (opened k h)) refl (sound_opened k h (not_known k h right) s)
+    (knows_opened n k h.lines known, waiting_opened n k h.lines known ∙ sym (append-nil (waiting_on n h.lines))))
+leaves n h (Bytes k piece) r w right d stays s known =
+    let base = waiting_on n h.lines in
+    let start = holding_both (Grows n base) (inner n base) (outer n base) k [] (begin h) (s, begins_at n h known) in
+    let end = comes_both (Grows n base) (inner n base) (outer n base) h.config.limits k (held_on k h.lines ++ piece) (holding k [] (begin h)) w d.0 start in
+    grew n h (Bytes k piece) r w refl end.0 end.1
+leaves n h (Ended k) r w right d stays s known =
+    let base = waiting_on n h.lines in
+    let fits = d.0 in
+    let end = ended_both (Grows n base) (inner n base) (outer n base) k (is_open (stage_of k h.lines)) fits (begin h) (s, begins_at n h known) in
+    let v = ended_open k (is_open (stage_of k h.lines)) fits (begin h) in
+    let kept = kept_line n k stays v.hub.lines in
+    subst (Leaves n h (Ended k) r) (sym d.1)
+    (grew n h (Ended k) r (ended k fits h) refl (sound_without k v (ended_idle k fits (begin h)) end.0) (kept.0 ∙ end.1.0, kept.1 ∙ end.1.1))
+leaves n h (Tick now) r w right d stays s known =
+    let base = waiting_on n h.lines in
+    let end = ticks_both (Grows n base) (inner n base) (outer n base) (max h.clock now) h.lines (begin (told now h)) w d.0 (s, begins_at n h known) in
+    grew n h (Tick now) r w refl end.0 end.1
+leaves n h (Collect k) r w right d stays s known =
+    subst (Leaves n h (Collect k) r) (sym d.0) (collected_leaves n k h r (ap (λ (r : HubReply). r.output) d.1) s known)
+
+-- ---- runs
+
+-- what a run keeps of sessions and connections
+pub sound_event : (h : HubState) (e : HubEvent) (r : HubReply) (w : Work) → event_refusal e h ≡ None → Does h e r w → Sound h → Sound w.hub
+sound_event h (Opened k) r w right d s = subst (λ (w : Work). Sound w.hub) (sym d.0) (sound_opened k h (not_known k h right) s)
+sound_event h (Bytes k piece) r w right d s = (comes_both Any any_inner any_outer h.config.limits k (held_on k h.lines ++ piece) (holding k [] (begin h)) w d.0 (holding_both Any any_inner any_outer k [] (begin h) (s, tt))).0
+sound_event h (Ended k) r w right d s =
+    let v = ended_open k (is_open (stage_of k h.lines)) d.0 (begin h) in
+    subst (λ (w : Work). Sound w.hub) (sym d.1) (sound_without k v (ended_idle k d.0 (begin h)) (ended_both Any any_inner any_outer k (is_open (stage_of k h.lines)) d.0 (begin h) (s, tt)).0)
+sound_event h (Tick now) r w right d s = (ticks_both Any any_inner any_outer (max h.clock now) h.lines (begin (told now h)) w d.0 (s, tt)).0
+sound_event h (Collect k) r w right d s = subst (λ (w : Work). Sound w.hub) (sym d.0) (sound_collected k h s)
+
+pub sound_run : (es : List Episode) (h h2 : HubState) → Follows h es h2 → Sound h → Sound h2
+sound_run [] h h2 f s = subst Sound (sym f) s
+sound_run (e ∷ es) h h2 f s = sound_run es e.work.hub h2 f.2 (sound_event h e.event e.reply e.work f.0 f.1 s)
+
+written_is : (n : Conn) (es : List Episode) (h h2 : HubState) → Follows h es h2 → Stays n es → Sound h → knows n h.lines ≡ true → written n es ++ waiting_on n h2.lines ≡ waiting_on n h.lines ++ spellings (on_conn n (sent_in es))
+written_is n [] h h2 f st s known = ap (λ (h : HubState). waiting_on n h.lines) f ∙ sym (append-nil (waiting_on n h.lines))
+written_is n (e ∷ es) h h2 f st s known =
+    let l = leaves n h e.event e.reply e.work f.0 f.1 st.0 s known in
+    let mid = waiting_on n e.work.hub.lines in
+    let first = on_conn n e.work.sent in
+    let later = on_conn n (sent_in es) in
+    append_assoc (written_by n e) (written n es) (waiting_on n h2.lines)
+    ∙ ap (λ (b : List ℕ). written_by n e ++ b) (written_is n es e.work.hub h2 f.2 st.1 l.0 l.1)
+    ∙ sym (append_assoc (written_by n e) mid (spellings later))
+    ∙ ap (λ (b : List ℕ). b ++ spellings later) l.2
+    ∙ append_assoc (waiting_on n h.lines) (spellings first) (spellings later)
+    ∙ ap (λ (b : List ℕ). waiting_on n h.lines ++ b) (sym (flat_map-append spelling first later) ∙ ap spellings (sym (on_conn-append n e.work.sent (sent_in es))))
+
+pub laws : OutputLaws
+laws = record {
+  written_is_put_out = λ config before h after h2 f g k stays known. written_is k after h h2 g stays (sound_run before (new_hub config) h f (sound_new config)) known;
+}

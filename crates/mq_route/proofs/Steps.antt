@@ -1,0 +1,287 @@
+-- What packets, connections that begin and end, and time keep.
+use Rattle.std.proofs.Common.{◌≡◌, ℕ, Bool, true, false, not, ◌&&◌, cond, List, [], ◌∷◌, ◌++◌, length, Option, Some, None, refl, sym, ap, subst, ◌∙◌, eqb, eq-eqb, true≢false, le_refl}
+use Rattle.std.proofs.lemmas.Bool.{cond-true, cond-false, cond_both, false_from_ne_true}
+use Rattle.std.specs.Option.{option_or}
+use Rattle.mq_packet.specs.declared.connack.ConnAck.TheVariants as connacks
+use Rattle.mq_packet.specs.declared.connack.RefusalCode.{RefusalCode}
+use Rattle.mq_packet.specs.declared.connack.RefusalCode.TheVariants.{IdentifierRejected, ServerUnavailable}
+use Rattle.mq_packet.specs.declared.connect.Connect.{Connect}
+use Rattle.mq_packet.specs.declared.packet.Packet.{Packet}
+use Rattle.mq_packet.specs.declared.packet.Packet.TheVariants as packets
+use Rattle.mq_decode.specs.declared.fault.DecodeFault.{DecodeFault}
+use Rattle.mq_decode.specs.Limits.{Bounds}
+use Rattle.mq_end.specs.declared.happening.Happening.{Happening}
+use Rattle.mq_end.specs.declared.reason.CloseReason.{CloseReason}
+use Rattle.mq_end.specs.declared.reason.CloseReason.TheVariants as reasons
+use Rattle.mq_end.specs.declared.state.State.TheVariants.{Up}
+use Rattle.mq_end.specs.End.{End, renewed}
+use Rattle.mq_end.specs.Server.{server_gets}
+use Rattle.mq_route.specs.declared.act.Act.TheVariants as acts
+use Rattle.mq_route.specs.declared.conn.Conn.{Conn}
+use Rattle.mq_route.specs.declared.close.HubClose.{HubClose}
+use Rattle.mq_route.specs.declared.close.HubClose.TheVariants.{Own, TargetFull, TakenOver, PeerEnded}
+use Rattle.mq_route.specs.declared.stage.Stage.{Stage}
+use Rattle.mq_route.specs.declared.stage.Stage.TheVariants.{Fresh, UpFor, Shut}
+use Rattle.mq_route.specs.declared.stage.Terms.{Terms}
+use Rattle.mq_route.specs.Routed.{same_conn}
+use Rattle.mq_route.specs.Hub.{HubState, HubSession, Line, new_end, no_end, stage_of, with_line, is_open, key_on, is_clean, is_for, up_on, end_of, with_end, key_of}
+use Rattle.mq_route.specs.Welcome.{client_of, refusal, login_refusal, is_unavailable, ends_on}
+use Rattle.mq_route.specs.Work.{Work, said, with_lines, with_sessions, staged, shut, put_on, put_where, does, have_room, remove, will_after, leaves_behind, close}
+use Rattle.mq_route.specs.Arrives.{Growth, due, answers, answers_all, replies, greeting, terms_of, greet, new_session, greet_new, take_over, goes_on, admit, welcomes, at_first, comes_in, heard, heard_on, arrives, noted, takes, closes_by, broken, breaks}
+use Rattle.mq_route.specs.Step.{holding, Comes, Arrives, Waits, Breaks, Starves, LetsGo, Ticks, Done, InTime, Late, Later, ended_open}
+use Rattle.mq_route.proofs.Lines.{one_conn, upper, up_is, upper_none, conn_in, Mild, stage_here, fresh_known}
+use Rattle.mq_route.proofs.Uppers.{IsIdle, unless, upper_at, upper_stage}
+use Rattle.mq_route.proofs.Sessions.{has, has_new, end_new, key_there}
+use Rattle.mq_route.proofs.Ends.{stays_up, greets, takings}
+use Rattle.mq_route.proofs.Changes.{Debt, owes, nothing, Inner, Outer, Sound, closing, not_up, is_tied, is_idle, sound_inner, sound_mild, sound_gets, sound_shuts, sound_closes, sound_removes, sound_begins, sound_rises, upper_shut, unless_itself}
+use Rattle.mq_route.proofs.Walk.{put_where_keeps, last_will_keeps, answers_all_keeps}
+use Rattle.mq_route.proofs.Frames.{stage_firm, upper_firm, lines_inner, lines_closed, closed_shut, closed_other, has_closed}
+
+-- ---- connections
+
+pub heard_mild : (now : ℕ) → Mild (λ x. record x { stage = heard now x.stage })
+heard_mild now x = (refl, refl, λ c. go c x.stage, clean x.stage)
+  where
+    go : (c : ℕ) (s : Stage) → is_for c (heard now s) ≡ is_for c s
+    go c Fresh = refl
+    go c (UpFor key terms moment) = refl
+    go c Shut = refl
+
+    clean : (s : Stage) → is_clean (heard now s) ≡ is_clean s
+    clean Fresh = refl
+    clean (UpFor key terms moment) = refl
+    clean Shut = refl
+
+pub holding_mild : (b : List ℕ) → Mild (λ x. record x { held = b })
+holding_mild b x = (refl, refl, λ c. refl, refl)
+
+-- a connection on which a packet comes is as far as it was
+stage_heard : (k : Conn) (w : Work) → stage_of k (heard_on k w).hub.lines ≡ heard w.hub.clock (stage_of k w.hub.lines)
+stage_heard k w = stage_here (λ x. record x { stage = heard w.hub.clock x.stage }) (heard w.hub.clock) k w.hub.lines (λ x. refl) (λ x. refl) refl
+
+-- ---- CONNECT
+
+-- an accepted CONNECT has a client identifier, or clean session 1
+pub accepted : (c : Connect) (h : HubState) → refusal c h ≡ None → (not c.clean_session && eqb (length c.client_id) 0) ≡ false
+unfolding refusal
+accepted c h none = go (eqb (length c.client_id) 0) c.clean_session none
+  where
+    go : (empty clean : Bool)
+        → cond (empty && not clean) (Some IdentifierRejected) (option_or (login_refusal h.config.users c.login) (cond (is_unavailable c (key_of (client_of c h.sessions) h.sessions) h) (Some ServerUnavailable) None)) ≡ None
+        → (not clean && empty) ≡ false
+    go true true e = refl
+    go false true e = refl
+    go false false e = refl
+    go true false e = absurd cc
+
+module _ (R : Debt → Work → Type 0) (inner : Inner R) (outer : Outer R) where
+  abbrev pub Both : Debt → Work → Type 0
+  Both o w = Sound w.hub × R o w
+
+  pub both : Inner Both
+  both = record {
+    put = λ k ps o w h. (sound_inner.put k ps o w h.0, inner.put k ps o w h.1);
+    moves = λ key e o w alike h. (sound_inner.moves key e o w alike h.0, inner.moves key e o w alike h.1);
+    took = λ key m t n w h. (h.0, inner.took key m t n w h.1);
+    willed = λ key m w h. (h.0, inner.willed key m w h.1);
+    placed = λ key m c t n w h. (h.0, inner.placed key m c t n w h.1);
+    dropped = λ key w h. (h.0, inner.dropped key w h.1);
+    subscribed = λ key f q c t n w h. (h.0, inner.subscribed key f q c t n w h.1);
+    unsubscribed = λ key f o w h. (h.0, inner.unsubscribed key f o w h.1);
+  }
+
+  mild_both : (f : Line → Line) (k : Conn) (o : Debt) (w : Work) → Mild f → Both o w → Both o (with_lines (with_line f k) w)
+  mild_both f k o w m h = (sound_mild f k w m h.0, outer.mild f k o w m h.1)
+
+  -- ---- a connection is closed
+
+  leaves_both : (k : Conn) (why : HubClose) (fits : Bool) (s : Stage) (w : Work) → stage_of k w.hub.lines ≡ s → Both nothing w → Both nothing (leaves_behind why fits s (said (acts.Closed k why) (shut k w)))
+  unfolding leaves_behind
+  leaves_both k why fits Fresh w e h =
+      let free : IsIdle (stage_of k w.hub.lines) = subst IsIdle (sym e) (λ c. refl) in
+      (sound_shuts k w h.0 free, outer.shuts k why w h.0 free h.1)
+  leaves_both k why fits (UpFor key terms moment) w e h =
+      last_will_keeps Both both key (will_after why terms.will) fits (closing k why key terms w) (sound_closes k why key terms moment w h.0 e, outer.closes k why key terms moment w h.0 e h.1)
+  leaves_both k why fits Shut w e h =
+      let free : IsIdle (stage_of k w.hub.lines) = subst IsIdle (sym e) (λ c. refl) in
+      (sound_shuts k w h.0 free, outer.shuts k why w h.0 free h.1)
+
+  pub close_both : (k : Conn) (why : HubClose) (fits : Bool) (w : Work) → Both nothing w → Both nothing (close k why fits w)
+  unfolding close
+  close_both k why fits w h = leaves_both k why fits (stage_of k w.hub.lines) w refl h
+
+  -- ---- a packet on a connection that is up
+
+  -- what is kept after a packet, which is to be written down where it was taken in and the connection is open
+  abbrev After : Option ℕ → Conn → Packet → Work → Type 0
+  After on k p v = Both (owes [] [] (noted on (is_open (stage_of k v.hub.lines)) p)) v
+
+  none_noted : (on : Option ℕ) (p : Packet) → noted on false p ≡ []
+  none_noted None p = refl
+  none_noted (Some key) p = refl
+
+  after_closed : (on : Option ℕ) (k : Conn) (p : Packet) (why : HubClose) (fits : Bool) (w : Work) → Both nothing w → After on k p (close k why fits w)
+  after_closed on k p why fits w h =
+      let v = close k why fits w in
+      let none : noted on (is_open (stage_of k v.hub.lines)) p ≡ [] = ap (λ (s : Stage). noted on (is_open s) p) (closed_shut k why fits w) ∙ none_noted on p in
+      subst (λ (n : List (ℕ × Packet)). Both (owes [] [] n) v) (sym none) (close_both k why fits w h)
+
+  after_open : (k : Conn) (key : ℕ) (terms : Terms) (moment : ℕ) (p : Packet) (v : Work) → stage_of k v.hub.lines ≡ UpFor key terms moment → Both (owes [] [] ((key, p) ∷ [])) v → After (Some key) k p v
+  after_open k key terms moment p v e h = subst (λ (s : Stage). Both (owes [] [] (noted (Some key) (is_open s) p)) v) (sym e) h
+
+  module _ (k : Conn) (key : ℕ) (terms : Terms) (moment : ℕ) (p : Packet) (fits : Bool) (w : Work) (stage : stage_of k w.hub.lines ≡ UpFor key terms moment) (h : Both nothing w) where
+    abbrev e : End
+    e = end_of key w.hub.sessions
+
+    up_tied : (has key w.hub.sessions ≡ true) × (e.state ≡ Up) × (e.clean ≡ terms.clean_session)
+    up_tied = is_tied key (k, terms.clean_session) w.hub h.0 (upper_at k key terms moment w.hub.lines h.0.apart stage)
+
+    after_gets : (server_gets p e).close ≡ None → After (Some key) k p (answers_all k key (server_gets p e).happenings (does key (server_gets p) w))
+    unfolding does
+    after_gets none =
+        let g = stays_up key p e up_tied.1 none in
+        let r = server_gets p e in
+        let u = with_sessions (with_end key r.end) w in
+        let o = owes [] (takings key r.happenings) ((key, p) ∷ []) in
+        let Stays : Debt → Work → Type 0 = λ o w. stage_of k w.hub.lines ≡ UpFor key terms moment in
+        let still = lines_inner (stage_of k) (stage_firm k) (UpFor key terms moment) in
+        let v = put_where (up_on key w.hub.lines) r.out u in
+        after_open k key terms moment p (answers_all k key r.happenings v)
+        (answers_all_keeps Stays still k key r.happenings ((key, p) ∷ []) v g.told (put_where_keeps Stays still (up_on key w.hub.lines) r.out o u stage))
+        (answers_all_keeps Both both k key r.happenings ((key, p) ∷ []) v g.told
+        (put_where_keeps Both both (up_on key w.hub.lines) r.out o u (sound_gets key r.end w g.state g.clean h.0, outer.gets key p w h.0 up_tied.0 up_tied.1 g h.1)))
+
+    after_replies : (c : Option CloseReason) → (server_gets p e).close ≡ c → After (Some key) k p (replies k key (server_gets p) c fits w)
+    unfolding replies
+    after_replies (Some reason) is = after_closed (Some key) k p (Own reason) fits (put_on k (server_gets p e).out w) (both.put k (server_gets p e).out nothing w h)
+    after_replies None is =
+        cond_both (have_room (due key w.hub (server_gets p e).happenings) w.hub) (answers_all k key (server_gets p e).happenings (does key (server_gets p) w)) (close k TargetFull fits w) (After (Some key) k p)
+        (λ room. after_gets is) (λ full. after_closed (Some key) k p TargetFull fits w h)
+
+  -- ---- CONNECT
+
+  greet_both : (k : Conn) (c : Connect) (key : ℕ) (w : Work) → stage_of k w.hub.lines ≡ Fresh → (not c.clean_session && eqb (length c.client_id) 0) ≡ false → Both nothing w
+      → upper key w.hub.lines ≡ None → has key w.hub.sessions ≡ true → (c.clean_session ≡ true → (end_of key w.hub.sessions).received ≡ (renewed true (end_of key w.hub.sessions)).received) → Both nothing (greet k c key w)
+  unfolding greet answers
+  greet_both k c key w fresh ok h none there new =
+      let e = end_of key w.hub.sessions in
+      let g = greets c e ok (is_idle key w.hub h.0 none) new in
+      let now = w.hub.clock in
+      let known = fresh_known k w.hub.lines fresh in
+      let free : IsIdle (stage_of k w.hub.lines) = subst IsIdle (sym fresh) (λ c. refl) in
+      subst (λ (told : List Happening). Both nothing (answers_all k key told (does key (greeting c) (staged k (UpFor key (terms_of c) now) w)))) (sym g.told) (
+        sound_rises k key (terms_of c) now (greeting c) g.present w h.0 known free none there g.state g.clean,
+        outer.rises k key (terms_of c) now (greeting c) g.present w h.0 known free none there g.state g.clean g.received h.1,
+      )
+
+  greet_new_both : (k : Conn) (c : Connect) (client : List ℕ) (w : Work) → stage_of k w.hub.lines ≡ Fresh → (not c.clean_session && eqb (length c.client_id) 0) ≡ false → Both nothing w → Both nothing (greet_new k c client w)
+  unfolding new_session
+  greet_new_both k c client w fresh ok h =
+      let n = w.hub.next_key in
+      let session : HubSession = record { client = client; key = n; end = new_end w.hub.config } in
+      let none = h.0.keyless n (le_refl n) in
+      let itself : eqb n n ≡ true = eq-eqb n n refl in
+      let is_new : end_of n (w.hub.sessions ++ session ∷ []) ≡ new_end w.hub.config =
+      (end_new session n w.hub.sessions ∙ cond-false (has n w.hub.sessions) (end_of n w.hub.sessions) (cond (eqb n n) (new_end w.hub.config) no_end) none ∙ cond-true (eqb n n) (new_end w.hub.config) no_end itself) in
+      greet_both k c n (new_session client w) fresh ok (sound_begins client w h.0, outer.begins client w h.0 h.1)
+      (not_up n w.hub h.0 none)
+      (has_new session n w.hub.sessions ∙ cond-false (has n w.hub.sessions) true (eqb n n) none ∙ itself)
+      (λ clean. subst (λ (e : End). e.received ≡ (renewed true e).received) (sym is_new) refl)
+
+  goes_on_both : (k : Conn) (c : Connect) (client : List ℕ) (key : ℕ) (ends : Bool) (w : Work) → stage_of k w.hub.lines ≡ Fresh → (not c.clean_session && eqb (length c.client_id) 0) ≡ false → Both nothing w
+      → upper key w.hub.lines ≡ None → (ends ≡ false → has key w.hub.sessions ≡ true) → Both nothing (goes_on k c client key ends w)
+  unfolding goes_on remove
+  goes_on_both k c client key true w fresh ok h none there = greet_new_both k c client w fresh ok h
+  goes_on_both k c client key false w fresh ok h none there =
+      cond_both c.clean_session (greet_new k c client (remove key w)) (greet k c key w) (Both nothing)
+      (λ clean. greet_new_both k c client (remove key w) fresh ok (sound_removes key w h.0 none, outer.removes key w h.0 none h.1))
+      (λ keeps. greet_both k c key w fresh ok h none (there refl) (λ clean. absurd (true≢false (sym clean ∙ keeps))))
+
+  conn_up : (k : Conn) (o : Option (Conn × Bool)) → conn_in o ≡ Some k → (clean : Bool) × (o ≡ Some (k, clean))
+  conn_up k None e = absurd cc
+  conn_up k (Some u) e = let same : u.0 ≡ k = cc in (u.1, ap (λ (n : Conn). Some (n, u.1)) same)
+
+  over_both : (k : Conn) (c : Connect) (client : List ℕ) (key : ℕ) (fits : Bool) (w : Work) → stage_of k w.hub.lines ≡ Fresh → (not c.clean_session && eqb (length c.client_id) 0) ≡ false → Both nothing w
+      → has key w.hub.sessions ≡ true → (o : Option Conn) → up_on key w.hub.lines ≡ o → Both nothing (goes_on k c client key (ends_on o w.hub.lines) (take_over o fits w))
+  over_both k c client key fits w fresh ok h there None e = goes_on_both k c client key false w fresh ok h (upper_none key w.hub.lines e) (λ keeps. there)
+  over_both k c client key fits w fresh ok h there (Some old) e =
+      let u = conn_up old (upper key w.hub.lines) (sym (up_is key w.hub.lines) ∙ e) in
+      let for_key : is_for key (stage_of old w.hub.lines) ≡ true = upper_stage key (old, u.0) w.hub.lines h.0.apart u.1 in
+      let far : same_conn old k ≡ false = false_from_ne_true (same_conn old k) (λ same. true≢false (sym for_key ∙ ap (λ (n : Conn). is_for key (stage_of n w.hub.lines)) (one_conn old k same) ∙ ap (is_for key) fresh)) in
+      let none : upper key (shut old w).hub.lines ≡ None = upper_shut old key w h.0.apart ∙ ap (unless old) u.1 ∙ unless_itself old u.0 in
+      goes_on_both k c client key (is_clean (stage_of old w.hub.lines)) (close old TakenOver fits w) (closed_other old k TakenOver fits w far ∙ fresh) ok (close_both old TakenOver fits w h)
+      (lines_closed (upper key) (upper_firm key) None old TakenOver fits w none) (λ keeps. has_closed key true old TakenOver fits w keeps there)
+
+  admit_both : (k : Conn) (c : Connect) (client : List ℕ) (fits : Bool) (w : Work) → stage_of k w.hub.lines ≡ Fresh → (not c.clean_session && eqb (length c.client_id) 0) ≡ false → Both nothing w
+      → (o : Option ℕ) → key_of client w.hub.sessions ≡ o → Both nothing (admit k c client o fits w)
+  admit_both k c client fits w fresh ok h None e = greet_new_both k c client w fresh ok h
+  admit_both k c client fits w fresh ok h (Some key) e = over_both k c client key fits w fresh ok h (key_there client key w.hub.sessions e) (up_on key w.hub.lines) refl
+
+  welcomes_both : (k : Conn) (c : Connect) (fits : Bool) (w : Work) → stage_of k w.hub.lines ≡ Fresh → Both nothing w → (code : Option RefusalCode) → refusal c w.hub ≡ code → Both nothing (welcomes k c code fits w)
+  unfolding welcomes
+  welcomes_both k c fits w fresh h (Some code) e =
+      let out = packets.ConnAck (connacks.Refused code) ∷ [] in
+      close_both k (Own (reasons.Refused code)) fits (put_on k out w) (both.put k out nothing w h)
+  welcomes_both k c fits w fresh h None e =
+      admit_both k c (client_of c w.hub.sessions) fits w fresh (accepted c w.hub e) h (key_of (client_of c w.hub.sessions) w.hub.sessions) refl
+
+  at_first_both : (k : Conn) (p : Packet) (fits : Bool) (w : Work) → stage_of k w.hub.lines ≡ Fresh → Both nothing w → Both nothing (at_first k p fits w)
+  unfolding at_first
+  at_first_both k (packets.Connect c) fits w fresh h = welcomes_both k c fits w fresh h (refusal c w.hub) refl
+  at_first_both k p fits w fresh h = close_both k (Own reasons.Unexpected) fits w h
+
+  -- ---- any packet
+
+  comes_in_both : (now : ℕ) (k : Conn) (p : Packet) (fits : Bool) (s : Stage) (w : Work) → stage_of k w.hub.lines ≡ heard now s → Both nothing w → After (key_on s) k p (comes_in k p fits s w)
+  unfolding comes_in
+  comes_in_both now k p fits Fresh w e h = at_first_both k p fits w e h
+  comes_in_both now k p fits (UpFor key terms moment) w e h = after_replies k key terms now p fits w e h (server_gets p (end_of key w.hub.sessions)).close refl
+  comes_in_both now k p fits Shut w e h = h
+
+  arrives_both : (k : Conn) (p : Packet) (g : Growth) (w : Work) → Both nothing w → After (key_on (stage_of k w.hub.lines)) k p (arrives k p g w)
+  unfolding arrives
+  arrives_both k p g w h =
+      let on = key_on (stage_of k w.hub.lines) in
+      cond_both g.fits (comes_in k p g.will_fits (stage_of k w.hub.lines) (heard_on k w)) (close k (Own reasons.Memory) g.will_fits w) (After on k p)
+      (λ fits. comes_in_both w.hub.clock k p g.will_fits (stage_of k w.hub.lines) (heard_on k w) (stage_heard k w) (mild_both (λ x. record x { stage = heard w.hub.clock x.stage }) k nothing w (heard_mild w.hub.clock) h))
+      (λ starved. after_closed on k p (Own reasons.Memory) g.will_fits w h)
+
+  takes_both : (k : Conn) (p : Packet) (g : Growth) (w : Work) → Both nothing w → Both nothing (takes k p g w)
+  unfolding takes
+  takes_both k p g w h =
+      let a = arrives_both k p g w h in
+      let v = arrives k p g w in
+      (a.0, outer.noted (noted (key_on (stage_of k w.hub.lines)) (is_open (stage_of k v.hub.lines)) p) v a.1)
+
+  breaks_both : (k : Conn) (fault : DecodeFault) (fits : Bool) (w : Work) → Both nothing w → Both nothing (breaks k fault fits w)
+  unfolding breaks
+  breaks_both k fault fits w h = go (broken k fault w).close
+    where
+      out : List Packet
+      out = (broken k fault w).out
+
+      go : (c : Option CloseReason) → Both nothing (closes_by k c fits (put_on k (broken k fault w).out w))
+      go None = both.put k (broken k fault w).out nothing w h
+      go (Some reason) = close_both k (Own reason) fits (put_on k (broken k fault w).out w) (both.put k (broken k fault w).out nothing w h)
+
+  -- ---- bytes, time, the end of a connection
+
+  pub comes_both : (limits : Bounds) (k : Conn) (b : List ℕ) (w w2 : Work) → Comes limits k b w w2 → Both nothing w → Both nothing w2
+  comes_both limits k b w w2 (Arrives p first rest g v v2 on reads more) h = comes_both limits k rest (takes k p g v) v2 more (takes_both k p g v h)
+  comes_both limits k b w w2 (Waits c v on pending) h = mild_both (λ x. record x { held = c }) k nothing v (holding_mild c) h
+  comes_both limits k b w w2 (Breaks c fault fits v on faulty) h = breaks_both k fault fits v h
+  comes_both limits k b w w2 (Starves c fits v on some) h = close_both k (Own reasons.Memory) fits v h
+  comes_both limits k b w w2 (LetsGo c v closed) h = h
+
+  pub holding_both : (k : Conn) (b : List ℕ) (w : Work) → Both nothing w → Both nothing (holding k b w)
+  holding_both k b w h = mild_both (λ x. record x { held = b }) k nothing w (holding_mild b) h
+
+  pub ticks_both : (now : ℕ) (xs : List Line) (w w2 : Work) → Ticks now xs w w2 → Both nothing w → Both nothing w2
+  ticks_both now xs w w2 (Done v) h = h
+  ticks_both now xs w w2 (InTime x ys v v2 soon more) h = ticks_both now ys v v2 more h
+  ticks_both now xs w w2 (Late x ys fits v v2 late more) h = ticks_both now ys (close x.conn (Own reasons.KeepAlive) fits v) v2 more (close_both x.conn (Own reasons.KeepAlive) fits v h)
+  ticks_both now xs w w2 (Later x ys v late) h = h
+
+  pub ended_both : (k : Conn) (alive fits : Bool) (w : Work) → Both nothing w → Both nothing (ended_open k alive fits w)
+  ended_both k true fits w h = close_both k PeerEnded fits w h
+  ended_both k false fits w h = h

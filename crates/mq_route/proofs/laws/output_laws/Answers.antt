@@ -1,0 +1,5 @@
+use Rattle.mq_route.proofs.Output.{laws}
+use Rattle.mq_route.proofs.laws.output_laws.Goals as goal
+
+pub returns : goal.returns
+returns c = laws

@@ -1,0 +1,183 @@
+-- A whole packet comes to a broker on a connection (3.1 to 3.14).
+use Rattle.std.specs.Prelude.{ℕ, ◌+◌, Bool, true, false, List, [], ◌∷◌, ◌++◌, map, Option, Some, None, if◌then◌else◌}
+use Rattle.std.specs.List.{flat_map}
+use Rattle.mq_packet.specs.declared.connack.ConnAck.TheVariants as connacks
+use Rattle.mq_packet.specs.declared.connack.RefusalCode.{RefusalCode}
+use Rattle.mq_packet.specs.declared.connect.Connect.{Connect}
+use Rattle.mq_packet.specs.declared.message.Message.{Message}
+use Rattle.mq_packet.specs.declared.packet.Packet.{Packet}
+use Rattle.mq_packet.specs.declared.packet.Packet.TheVariants as packets
+use Rattle.mq_packet.specs.declared.packet.Request.{Request}
+use Rattle.mq_packet.specs.declared.packet.SubAckCode.{SubAckCode}
+use Rattle.mq_packet.specs.declared.packet.SubAckCode.TheVariants.{Granted}
+use Rattle.mq_decode.specs.declared.fault.DecodeFault.{DecodeFault}
+use Rattle.mq_end.specs.declared.happening.Happening.{Happening}
+use Rattle.mq_end.specs.declared.happening.Happening.TheVariants as happens
+use Rattle.mq_end.specs.declared.reason.CloseReason.{CloseReason}
+use Rattle.mq_end.specs.declared.reason.CloseReason.TheVariants as reasons
+use Rattle.mq_end.specs.End.{End, Reply}
+use Rattle.mq_end.specs.Server.{server_gets, opens, subacks, unsubacks}
+use Rattle.mq_end.specs.State.{server_faulted}
+use Rattle.mq_route.specs.declared.conn.Conn.{Conn}
+use Rattle.mq_route.specs.declared.act.Act.TheVariants as acts
+use Rattle.mq_route.specs.declared.close.HubClose.TheVariants.{Own, TargetFull, TakenOver}
+use Rattle.mq_route.specs.declared.stage.Stage.{Stage}
+use Rattle.mq_route.specs.declared.stage.Terms.{Terms}
+use Rattle.mq_route.specs.declared.stage.Stage.TheVariants.{Fresh, UpFor, Shut}
+use Rattle.mq_route.specs.Hub.{HubState, new_end, with_line, stage_of, up_on, is_open, key_on, key_of, end_of, end_on, copies_of}
+use Rattle.mq_route.specs.Welcome.{client_of, ends_with, refusal}
+use Rattle.mq_route.specs.Work.{Work, said, with_lines, staged, put_on, does, place_all, have_room, share, remove, close, subscribed, unsubscribed, retained_copies}
+
+-- Whether memory is there for a packet, and for the will that it sets free. A packet sets at most one will free: that of its
+-- connection where it closes that, or of the connection that it takes over.
+pub record Growth : Type 0 where
+  pub fits : Bool
+  pub will_fits : Bool
+
+-- ---- what an end tells the broker
+
+-- each request is granted the quality of service that it asks for (3.9.3)
+abbrev pub granted : List Request → List SubAckCode
+granted rs = map (λ r. Granted r.qos) rs
+
+-- the copies that something told of client `key` makes due
+abbrev pub due_by : ℕ → HubState → Happening → List (ℕ × Message)
+due_by key h (happens.Handed m) = copies_of m h
+due_by key h (happens.Subscribe i requests) = retained_copies key requests h.retained
+due_by key h told = []
+
+abbrev pub due : ℕ → HubState → List Happening → List (ℕ × Message)
+due key h told = flat_map (due_by key h) told
+
+-- The broker does what something told of client `key`, on connection k, asks for.
+unfoldable pub answers : Conn → ℕ → Happening → Work → Work
+-- the connection is up (3.2)
+answers k key (happens.Up present) w = said (acts.Up k key present) w
+-- a message is handed on: it is taken, retained and placed (3.3.1.3, 3.3.5)
+answers k key (happens.Handed m) w = share (acts.Took key m) m w
+-- SUBSCRIBE: the subscriptions stand, SUBACK answers, and then the retained messages go out (3.8.4)
+answers k key (happens.Subscribe i requests) w =
+    place_all (retained_copies key requests w.hub.retained) (does key (subacks i (granted requests)) (subscribed key requests w))
+-- UNSUBSCRIBE: the subscriptions are gone, UNSUBACK answers, always (3.10.4)
+answers k key (happens.Unsubscribe i filters) w = does key (unsubacks i) (unsubscribed key filters w)
+-- nothing else is told by a server end
+answers k key (happens.SubAck i codes) w = w
+answers k key (happens.UnsubAck i) w = w
+answers k key happens.Pong w = w
+
+abbrev pub answers_all : Conn → ℕ → List Happening → Work → Work
+answers_all k key [] w = w
+answers_all k key (told ∷ later) w = answers_all k key later (answers k key told w)
+
+-- ---- a connection that is up
+
+-- Its end does what it does with the packet: it closes, and so does the connection; or a session is too full for what is due, and
+-- the packet changes nothing but that its connection closes; or the broker does what the end tells.
+unfoldable pub replies : Conn → ℕ → (End → Reply) → Option CloseReason → Bool → Work → Work
+replies k key move (Some reason) fits w = close k (Own reason) fits (put_on k (move (end_of key w.hub.sessions)).out w)
+replies k key move None fits w =
+    if have_room (due key w.hub (move (end_of key w.hub.sessions)).happenings) w.hub
+    then answers_all k key (move (end_of key w.hub.sessions)).happenings (does key move w)
+    else close k TargetFull fits w
+
+abbrev pub while_up : Conn → ℕ → Packet → Bool → Work → Work
+while_up k key p fits w = replies k key (server_gets p) (server_gets p (end_of key w.hub.sessions)).close fits w
+
+-- ---- CONNECT
+
+-- the end of the session takes the CONNECT in, on this connection (3.1.4, 3.2)
+abbrev pub greeting : Connect → End → Reply
+greeting c e = server_gets (packets.Connect c) (opens e).end
+
+-- what of it matters as long as the connection is up
+abbrev pub terms_of : Connect → Terms
+terms_of c = record { clean_session = c.clean_session; keep_alive = c.keep_alive; will = c.will }
+
+unfoldable pub greet : Conn → Connect → ℕ → Work → Work
+greet k c key w =
+    answers_all k key (greeting c (end_of key w.hub.sessions)).happenings
+    (does key (greeting c) (staged k (UpFor key (terms_of c) w.hub.clock) w))
+
+-- a new session, with the next key (3.1.2.4)
+unfoldable pub new_session : List ℕ → Work → Work
+new_session client w = record w {
+  hub = record w.hub {
+    next_key = w.hub.next_key + 1;
+    sessions = w.hub.sessions ++ record { client = client; key = w.hub.next_key; end = new_end w.hub.config } ∷ [];
+  };
+}
+
+abbrev pub greet_new : Conn → Connect → List ℕ → Work → Work
+greet_new k c client w = greet k c w.hub.next_key (new_session client w)
+
+-- the connection on which the client is up is closed first (3.1.4)
+abbrev pub take_over : Option Conn → Bool → Work → Work
+take_over None fits w = w
+take_over (Some k) fits w = close k TakenOver fits w
+
+-- The session of this key goes on, unless it ended with the connection that was taken over, or clean session discards it (3.1.2.4).
+unfoldable pub goes_on : Conn → Connect → List ℕ → ℕ → Bool → Work → Work
+goes_on k c client key true w = greet_new k c client w
+goes_on k c client key false w = if c.clean_session then greet_new k c client (remove key w) else greet k c key w
+
+abbrev pub admit : Conn → Connect → List ℕ → Option ℕ → Bool → Work → Work
+admit k c client None fits w = greet_new k c client w
+admit k c client (Some key) fits w = goes_on k c client key (ends_with key w.hub) (take_over (up_on key w.hub.lines) fits w)
+
+-- a CONNECT is refused, with CONNACK and a close (3.2.2.3), or accepted
+unfoldable pub welcomes : Conn → Connect → Option RefusalCode → Bool → Work → Work
+welcomes k c (Some code) fits w = close k (Own (reasons.Refused code)) fits (put_on k (packets.ConnAck (connacks.Refused code) ∷ []) w)
+welcomes k c None fits w = admit k c (client_of c w.hub.sessions) (key_of (client_of c w.hub.sessions) w.hub.sessions) fits w
+
+-- the first packet has to be CONNECT (3.1)
+unfoldable pub at_first : Conn → Packet → Bool → Work → Work
+at_first k (packets.Connect c) fits w = welcomes k c (refusal c w.hub) fits w
+at_first k p fits w = close k (Own reasons.Unexpected) fits w
+
+-- ---- any packet
+
+-- a packet comes on a connection that is so far
+unfoldable pub comes_in : Conn → Packet → Bool → Stage → Work → Work
+comes_in k p fits Fresh w = at_first k p fits w
+comes_in k p fits (UpFor key terms moment) w = while_up k key p fits w
+comes_in k p fits Shut w = w
+
+-- the moment of its last whole packet is now (3.1.2.10)
+abbrev pub heard : ℕ → Stage → Stage
+heard now Fresh = Fresh
+heard now (UpFor key terms moment) = UpFor key terms now
+heard now Shut = Shut
+
+abbrev pub heard_on : Conn → Work → Work
+heard_on k w = with_lines (with_line (λ x. record x { stage = heard w.hub.clock x.stage }) k) w
+
+-- A whole packet comes; where there is no memory for it, the connection is closed.
+unfoldable pub arrives : Conn → Packet → Growth → Work → Work
+arrives k p g w =
+    if g.fits then comes_in k p g.will_fits (stage_of k w.hub.lines) (heard_on k w)
+    else close k (Own reasons.Memory) g.will_fits w
+
+-- it came from a client that is up, and didn't close the connection
+abbrev pub noted : Option ℕ → Bool → Packet → List (ℕ × Packet)
+noted (Some key) true p = (key, p) ∷ []
+noted (Some key) false p = []
+noted None still p = []
+
+-- and it is written down (in the log alone) where it came from a client that is up, and didn't close the connection
+unfoldable pub takes : Conn → Packet → Growth → Work → Work
+takes k p g w = record (arrives k p g w) {
+  came = (arrives k p g w).came ++ noted (key_on (stage_of k w.hub.lines)) (is_open (stage_of k (arrives k p g w).hub.lines)) p;
+}
+
+-- the connection closes where its end does
+abbrev pub closes_by : Conn → Option CloseReason → Bool → Work → Work
+closes_by k None fits w = w
+closes_by k (Some reason) fits w = close k (Own reason) fits w
+
+-- what the end that takes in what comes on a connection does with bytes that are no packet (3.1.2.2, 4.8)
+abbrev pub broken : Conn → DecodeFault → Work → Reply
+broken k fault w = server_faulted fault (end_on (stage_of k w.hub.lines) w.hub.sessions)
+
+-- Bytes that are no packet come (4.8): the end says whether they are answered, and why it closes.
+unfoldable pub breaks : Conn → DecodeFault → Bool → Work → Work
+breaks k fault fits w = closes_by k (broken k fault w).close fits (put_on k (broken k fault w).out w)

@@ -1,0 +1,12 @@
+pub mod Closes
+pub mod Copies
+pub mod Routed
+pub mod Hub
+pub mod Welcome
+pub mod Work
+pub mod Arrives
+pub mod Step
+pub mod Runs
+pub mod Taken
+pub mod Laws
+pub mod Examples

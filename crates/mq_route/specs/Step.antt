@@ -1,0 +1,112 @@
+-- HubStep: what comes of an event (4.2, 4.6, 4.8).
+use Rattle.std.specs.Prelude.{◌≡◌, ℕ, ◌<◌, Bool, true, false, max, List, [], ◌∷◌, ◌++◌, length, Option, Some, None, if◌then◌else◌}
+use Rattle.mq_packet.specs.declared.packet.Packet.{Packet}
+use Rattle.mq_decode.specs.declared.fault.DecodeFault.{DecodeFault}
+use Rattle.mq_decode.specs.Grammar.{ReadsWithin, Pending, Faulty}
+use Rattle.mq_decode.specs.Limits.{Bounds}
+use Rattle.mq_end.specs.declared.reason.CloseReason.TheVariants as reasons
+use Rattle.mq_end.specs.KeepAlive.{is_late}
+use Rattle.mq_route.specs.declared.conn.Conn.{Conn}
+use Rattle.mq_route.specs.declared.close.HubClose.TheVariants.{Own, PeerEnded}
+use Rattle.mq_route.specs.declared.event.HubEvent.{HubEvent}
+use Rattle.mq_route.specs.declared.event.HubEvent.TheVariants.{Opened, Bytes, Ended, Tick, Collect}
+use Rattle.mq_route.specs.declared.reply.HubReply.{HubReply}
+use Rattle.mq_route.specs.declared.refusal.HubRefusal.{HubRefusal}
+use Rattle.mq_route.specs.declared.refusal.HubRefusal.TheVariants as refusals
+use Rattle.mq_route.specs.declared.stage.Stage.{Stage}
+use Rattle.mq_route.specs.declared.stage.Stage.TheVariants.{Fresh, UpFor, Shut}
+use Rattle.mq_route.specs.Hub.{HubState, Line, knows, stage_of, held_on, waiting_on, with_line, without_line, is_open}
+use Rattle.mq_route.specs.Work.{Work, begin, with_lines, close}
+use Rattle.mq_route.specs.Arrives.{Growth, takes, breaks}
+
+-- ---- bytes that come
+
+abbrev pub is_open_on : Conn → Work → Bool
+is_open_on k w = is_open (stage_of k w.hub.lines)
+
+-- a connection holds these bytes of a packet that isn't whole
+abbrev pub holding : Conn → List ℕ → Work → Work
+holding k b w = with_lines (with_line (λ x. record x { held = b }) k) w
+
+-- These bytes come on a connection: the whole packets among them one after another, up to one at which it closes, and the rest.
+pub data Comes (limits : Bounds) (k : Conn) : List ℕ → Work → Work → Type 0 where
+  -- a whole packet stands at the front, and comes first
+  Arrives : (p : Packet) (first rest : List ℕ) (g : Growth) (w w2 : Work) → is_open_on k w ≡ true → ReadsWithin limits p first
+      → Comes limits k rest (takes k p g w) w2 → Comes limits k (first ++ rest) w w2
+  -- they are less than a whole packet, and are held
+  Waits : (b : List ℕ) (w : Work) → is_open_on k w ≡ true → Pending limits b → Comes limits k b w (holding k b w)
+  -- they begin with what is no packet
+  Breaks : (b : List ℕ) (fault : DecodeFault) (fits : Bool) (w : Work) → is_open_on k w ≡ true → Faulty limits b fault.kind fault.place
+      → Comes limits k b w (breaks k fault fits w)
+  -- there are some, and no memory for them
+  Starves : (b : List ℕ) (fits : Bool) (w : Work) → is_open_on k w ≡ true → 0 < length b → Comes limits k b w (close k (Own reasons.Memory) fits w)
+  -- the connection is closed, and lets them go
+  LetsGo : (b : List ℕ) (w : Work) → is_open_on k w ≡ false → Comes limits k b w w
+
+-- ---- time
+
+-- a connection that is up is late (3.1.2.10)
+abbrev pub is_late_on : ℕ → Stage → Bool
+is_late_on now Fresh = false
+is_late_on now (UpFor key terms moment) = is_late moment terms.keep_alive now
+is_late_on now Shut = false
+
+-- It is this moment: the late ones among these connections are closed one after another. Where there is no memory for that, the
+-- others are left to the next time.
+pub data Ticks (now : ℕ) : List Line → Work → Work → Type 0 where
+  Done : (w : Work) → Ticks now [] w w
+  InTime : (x : Line) (xs : List Line) (w w2 : Work) → is_late_on now x.stage ≡ false → Ticks now xs w w2 → Ticks now (x ∷ xs) w w2
+  Late : (x : Line) (xs : List Line) (fits : Bool) (w w2 : Work) → is_late_on now x.stage ≡ true
+      → Ticks now xs (close x.conn (Own reasons.KeepAlive) fits w) w2 → Ticks now (x ∷ xs) w w2
+  Later : (x : Line) (xs : List Line) (w : Work) → is_late_on now x.stage ≡ true → Ticks now (x ∷ xs) w w
+
+-- ---- events
+
+-- why an event is refused, memory aside: its connection is not known, or is already (4.2)
+abbrev pub event_refusal : HubEvent → HubState → Option HubRefusal
+event_refusal (Opened k) h = if knows k h.lines then Some refusals.ConnInUse else None
+event_refusal (Bytes k piece) h = if knows k h.lines then None else Some refusals.UnknownConn
+event_refusal (Ended k) h = if knows k h.lines then None else Some refusals.UnknownConn
+event_refusal (Tick now) h = None
+event_refusal (Collect k) h = if knows k h.lines then None else Some refusals.UnknownConn
+
+-- what comes of a step: what was done, no bytes
+abbrev pub done : Bool → Work → HubReply
+done alive w = record { acts = w.did; output = []; alive = alive }
+
+-- a new connection goes last
+abbrev pub opened : Conn → HubState → HubState
+opened k h = record h { lines = h.lines ++ record { conn = k; stage = Fresh; held = []; waiting = [] } ∷ [] }
+
+abbrev pub ended_open : Conn → Bool → Bool → Work → Work
+ended_open k true fits w = close k PeerEnded fits w
+ended_open k false fits w = w
+
+-- a connection that is over is closed, where it is open, and then not known any more
+abbrev pub ended : Conn → Bool → HubState → Work
+ended k fits h = with_lines (without_line k) (ended_open k (is_open (stage_of k h.lines)) fits (begin h))
+
+-- the bytes that wait are taken
+abbrev pub collected : Conn → HubState → HubState
+collected k h = record h { lines = with_line (λ x. record x { waiting = [] }) k h.lines }
+
+-- the clock is the greatest moment so far
+abbrev pub told : ℕ → HubState → HubState
+told now h = record h { clock = max h.clock now }
+
+-- What comes of an event, by its kind.
+abbrev pub Does : HubState → HubEvent → HubReply → Work → Type 0
+Does h (Opened k) r w = (w ≡ begin (opened k h)) × (r ≡ done true w)
+Does h (Bytes k piece) r w =
+    Comes h.config.limits k (held_on k h.lines ++ piece) (holding k [] (begin h)) w × (r ≡ done (is_open_on k w) w)
+Does h (Ended k) r w = (fits : Bool) × (w ≡ ended k fits h) × (r ≡ done false w)
+Does h (Tick now) r w = Ticks (max h.clock now) h.lines (begin (told now h)) w × (r ≡ done true w)
+Does h (Collect k) r w =
+    (w ≡ begin (collected k h)) × (r ≡ record { acts = []; output = waiting_on k h.lines; alive = is_open (stage_of k h.lines) })
+
+-- HubStep: this reply and this broker come of an event.
+pub record HubStep (h : HubState) (e : HubEvent) (r : HubReply) (h2 : HubState) : Type 0 where
+  pub right : event_refusal e h ≡ None
+  pub work : Work
+  pub does : Does h e r work
+  pub after : h2 ≡ work.hub

@@ -1,0 +1,31 @@
+//! The laws of every run of a broker.
+
+ghost use Rattle.mq_route.specs.Examples.{Examples};
+ghost use Rattle.mq_route.specs.Laws.{OutputLaws, RoutingLaws, TakingLaws};
+
+use mq_topic::store_laws;
+
+/// Over every run, what is written on a connection, and then waits, are the spellings of the packets that are put out on
+/// it (4.6).
+pub fn output_laws()
+    ensures { OutputLaws }
+{}
+
+/// Over every run, the messages that are placed for a client are those that are routed to it: by its subscriptions
+/// (3.3.5, 3.8.4), while it is up or not (4.3), and those that are retained (3.3.1.3).
+pub fn routing_laws()
+    ensures { RoutingLaws }
+{
+    store_laws();
+}
+
+/// Over every run, the messages that are taken from a client are those that a receiver's book hands on over the packets
+/// that came from it (4.3).
+pub fn taking_laws()
+    ensures { TakingLaws }
+{}
+
+/// Worked runs, with their acts and the bytes that wait.
+pub fn examples()
+    ensures { Examples }
+{}

@@ -1,0 +1,26 @@
+//! What a broker does, in words: who gets a message, and what comes of each event (3.1 to 3.14, 4.3).
+//!
+//! The definitions are in `specs/`; this crate has the words that they share with the code.
+#![tactic(auto)]
+
+mod act;
+mod close;
+mod config;
+mod conn;
+mod event;
+mod laws;
+mod refusal;
+mod reply;
+mod stage;
+mod trace;
+
+pub use crate::act::Act;
+pub use crate::close::HubClose;
+pub use crate::config::{HubConfig, User};
+pub use crate::conn::Conn;
+pub use crate::event::HubEvent;
+pub use crate::laws::{examples, output_laws, routing_laws, taking_laws};
+pub use crate::refusal::HubRefusal;
+pub use crate::reply::HubReply;
+pub use crate::stage::{Stage, Terms};
+pub use crate::trace::{Account, HubTrace};
