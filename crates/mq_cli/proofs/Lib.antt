@@ -1,4 +1,6 @@
 pub mod Counting
+pub mod InTurn
+pub mod MadeUp
 pub mod Matches
 pub mod Pieces
 pub mod Printing

@@ -10,7 +10,7 @@ use Rattle.clap.specs.declared.parser.matches.Found.{Found}
 use Rattle.clap.specs.declared.parser.matches.SubCommand.{SubCommand}
 use Rattle.clap.proofs.OnLiterals.{clap_on_literals}
 use Rattle.clap.proofs.WalkLemmas.{first_value-rows, one_text-rows}
-use Rattle.mq_cli.specs.CommandLine.{GivesFlag, GivesNumber, GivesWord, program_words}
+use Rattle.mq_cli.specs.CommandLine.{GivesFlag, GivesNumber, HasWord, program_words}
 
 pub program_is_simple : is_simple program_words ≡ true
 unfolding clap_on_literals
@@ -26,11 +26,10 @@ command_met : {Z : Type 0} (o : Option (Box SubCommand Z)) (name : Text) (rows :
 command_met None name rows n r = cc
 command_met (Some b) name rows n r = cc
 
--- the value of a word
+-- what there is of a word
 pub word_given : {Z : Type 0} (o : Option (Box SubCommand Z)) (name word : Text) (f : Found) (v : Option (Bor Text)) → Met o name f → option_map (λ s. s.now) v ≡ first_value f word
-    → IfSome v (λ value. GivesWord (subcommand_rows o) name word value.now)
-word_given o name word f None met read = tt
-word_given o name word f (Some value) met read = (rows_of f, command_met o name (rows_of f) met.named met.rows, sym (first_value-rows f word) ∙ sym read)
+    → HasWord (subcommand_rows o) name word (option_map (λ s. s.now) v)
+word_given o name word f v met read = (rows_of f, command_met o name (rows_of f) met.named met.rows, sym (first_value-rows f word) ∙ sym read)
 
 -- the number of an option
 pub number_given : {Z E : Type 0} (G : List ℕ → Result ℕ E → Type 0) (o : Option (Box SubCommand Z)) (name word : Text) (f : Found) (v : Option ℕ) → Met o name f

@@ -7,10 +7,9 @@ use Rattle.mq_cli.specs.declared.stream.Shown.{Shown}
 use Rattle.mq_cli.specs.Show.{Shows}
 use Rattle.mq_line.specs.Lines.{Prints}
 use Rattle.mq_cli.specs.Printed.{no_memory, shown_lines}
-use Rattle.mq_cli.specs.Status.{IsMadeUp, IsRandomText, IsShowDone, IsTextReplayed, end_status, widest}
+use Rattle.mq_cli.specs.Status.{IsShowDone, IsTextReplayed, end_status, widest}
 use Rattle.mq_schedule.specs.declared.schedule.Schedule.{Schedule}
 use Rattle.mq_schedule.specs.Schedule.{IsSchedule, lines_of}
-use Rattle.mq_schedule.specs.Writing.{schedule_text}
 use Rattle.mq_replay.specs.Replay.{IsCutReplay, IsReplay}
 
 -- one text after another
@@ -28,10 +27,10 @@ printed_one (Err e) n old new text P h k p = tt
 
 -- what is shown is that of `show`
 pub shown_done : {E : Type 0} (lenient : Bool) (limits : Bounds) (digits : List ℕ) (shown : Shown) (r : Result ℕ E) (old new : Option (List ℕ)) → limits ≡ widest lenient → Shows limits digits shown
-    → IfOk r (λ status. status ≡ end_status shown.end) → OnOk r (Appends old new (shown_lines shown)) → IfOk r (λ status. Prints old new (IsShowDone lenient digits status))
+    → IfOk r (λ status. status ≡ end_status shown.end) → OnOk r (Appends old new (shown_lines shown.packets.items shown.end)) → IfOk r (λ status. Prints old new (IsShowDone lenient digits status))
 shown_done lenient limits digits shown r old new is shows h k =
     let here : Shows (widest lenient) digits shown = subst (λ (l : Bounds). Shows l digits shown) is shows in
-    printed_one r (end_status shown.end) old new (shown_lines shown) (IsShowDone lenient digits) h k (inl (shown, here, refl, refl))
+    printed_one r (end_status shown.end) old new (shown_lines shown.packets.items shown.end) (IsShowDone lenient digits) h k (inl (shown, here, refl, refl))
 
 -- a text, and then what a function wrote
 pub printed_then : {E : Type 0} (r : Result ℕ E) (a b c : Option (List ℕ)) (x y : List ℕ) → Appends a b x → OnOk r (Appends b c y) → OnOk r (Appends a c (x ++ y))
@@ -47,9 +46,3 @@ cut_off text schedule (Err e) a b c reads p status k = tt
 -- a replay to its end
 pub replayed : (text : List ℕ) (schedule : Schedule) (a b : Option (List ℕ)) → IsSchedule (lines_of text) schedule → Prints a b (IsReplay schedule) → Prints a b (IsTextReplayed text 0)
 replayed text schedule a b reads p = (p.0, p.1, inl (schedule, reads, p.2, refl))
-
--- a text that a schedule was written as
-pub made_text : {S E : Type 0} (bytes : S → List ℕ) (start count : ℕ) (schedule : Schedule) (r : Result S E) → IsMadeUp start count schedule
-    → IfOk r (λ text. bytes text ≡ schedule_text schedule) → IfOk r (λ text. IsSchedule (lines_of (bytes text)) schedule) → IfOk r (λ text. IsRandomText start count (bytes text))
-made_text bytes start count schedule (Ok text) made is reads = (schedule, made, is, reads)
-made_text bytes start count schedule (Err e) made is reads = tt

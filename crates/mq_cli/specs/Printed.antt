@@ -8,7 +8,6 @@ use Rattle.mq_topic.specs.declared.fault.TopicFault.{TopicFault}
 use Rattle.mq_topic.specs.declared.fault.TopicFault.TheVariants.{Empty, Nul, TooLong, Wildcard, Plus, Hash, Memory}
 use Rattle.mq_cli.specs.declared.stream.StreamEnd.{StreamEnd}
 use Rattle.mq_cli.specs.declared.stream.StreamEnd.TheVariants.{Whole, Held, Fault}
-use Rattle.mq_cli.specs.declared.stream.Shown.{Shown}
 use Rattle.mq_cli.specs.declared.count.PacketCount.{PacketCount}
 use Rattle.mq_cli.specs.declared.count.CountEnd.{CountEnd}
 use Rattle.mq_cli.specs.declared.count.CountEnd.TheVariants as ends
@@ -38,8 +37,8 @@ end_lines (Held n) = codes "held " ++ (decimal n ++ codes "\n")
 end_lines (Fault fault start) = fault_line fault start
 
 -- the packets in order, and how they end
-abbrev pub shown_lines : Shown → List ℕ
-shown_lines shown = flat_map packet_line shown.packets.items ++ end_lines shown.end
+abbrev pub shown_lines : List Packet → StreamEnd → List ℕ
+shown_lines packets end = flat_map packet_line packets ++ end_lines end
 
 -- ---- check
 

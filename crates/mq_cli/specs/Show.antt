@@ -1,9 +1,9 @@
 -- What is shown of bytes.
-use Rattle.std.specs.Prelude.{◌≡◌, ℕ, ◌+◌, ◌<◌, List, [], length, Some, None, Ok}
+use Rattle.std.specs.Prelude.{◌≡◌, ℕ, ◌+◌, ◌<◌, List, [], ◌++◌, length, Some, None, Ok}
 use Rattle.hex.specs.Hex.{decode_of}
 use Rattle.mq_packet.specs.declared.packet.Packet.{Packet}
 use Rattle.mq_decode.specs.Limits.{Bounds}
-use Rattle.mq_decode.specs.Grammar.{Reading}
+use Rattle.mq_decode.specs.Grammar.{Reading, Stream}
 use Rattle.mq_cli.specs.declared.stream.StreamEnd.{StreamEnd}
 use Rattle.mq_cli.specs.declared.stream.StreamEnd.TheVariants.{Whole, Held, Fault}
 use Rattle.mq_cli.specs.declared.stream.Shown.{Shown}
@@ -14,6 +14,10 @@ abbrev pub Reads : Bounds → List ℕ → List Packet → StreamEnd → Type 0
 Reads limits bytes packets Whole = Reading limits bytes packets [] None
 Reads limits bytes packets (Held n) = (rest : List ℕ) × Reading limits bytes packets rest None × (n ≡ length rest) × (0 < n)
 Reads limits bytes packets (Fault fault start) = (rest : List ℕ) × Reading limits bytes packets rest (Some fault) × (start + length rest ≡ length bytes)
+
+-- the packets are the first of these bytes
+abbrev pub AreFirst : Bounds → List ℕ → List Packet → Type 0
+AreFirst limits bytes packets = (front : List ℕ) × (rest : List ℕ) × Stream limits packets front × (bytes ≡ front ++ rest)
 
 -- the packets, and the end, of the bytes that the digits stand for
 abbrev pub Shows : Bounds → List ℕ → Shown → Type 0

@@ -1,27 +1,31 @@
 -- What the statuses of the program mean, and what it prints with each.
-use Rattle.std.specs.Prelude.{◌≡◌, ◌⊎◌, ℕ, Bool, true, false, List, [], ◌∷◌, ◌++◌, map, Option, Some, None, IfSome, codes}
+use Rattle.std.specs.Prelude.{◌≡◌, ◌⊎◌, ⊤, ℕ, ◌==◌, if◌then◌else◌, Bool, true, false, List, [], ◌∷◌, ◌++◌, map, Option, Some, None, IfSome, codes, decimal}
+use Rattle.std.specs.List.{flat_map}
 use Rattle.std.specs.Int.NonZero.{non_zero_u16_get}
 use Rattle.mq_topic.specs.Fault.{filter_fault, name_fault}
 use Rattle.mq_topic.specs.Matching.{is_match}
 use Rattle.mq_topic.specs.declared.fault.TopicFault.{TopicFault}
+use Rattle.mq_packet.specs.declared.packet.Packet.{Packet}
 use Rattle.mq_decode.specs.Limits.{Bounds, strict}
 use Rattle.mq_cli.specs.declared.jobs.Job.{Job}
 use Rattle.mq_cli.specs.declared.jobs.Job.TheVariants as jobs
 use Rattle.mq_cli.specs.declared.stream.StreamEnd.{StreamEnd}
 use Rattle.mq_cli.specs.declared.stream.StreamEnd.TheVariants.{Whole, Held, Fault}
 use Rattle.mq_cli.specs.declared.stream.Shown.{Shown}
+use Rattle.mq_cli.specs.declared.streaming.Stop.{Stop}
+use Rattle.mq_cli.specs.declared.streaming.Stop.TheVariants.{Io, Memory}
 use Rattle.mq_cli.specs.declared.count.PacketCount.{PacketCount}
 use Rattle.mq_cli.specs.declared.count.CountEnd.{CountEnd}
 use Rattle.mq_cli.specs.declared.count.CountEnd.TheVariants as ends
 use Rattle.mq_cli.specs.Count.{Counts}
 use Rattle.mq_cli.specs.Hexadecimal.{IsHexadecimal}
-use Rattle.mq_cli.specs.Printed.{bad_hex, bad_line, count_lines, file_not_read, match_line, no_memory, shown_lines, topic_line}
-use Rattle.mq_cli.specs.Show.{Shows}
+use Rattle.mq_cli.specs.Printed.{bad_hex, bad_line, count_lines, file_not_read, match_line, no_memory, packet_line, shown_lines, topic_line}
+use Rattle.mq_cli.specs.Show.{AreFirst, Reads, Shows}
 use Rattle.mq_world.specs.MadeUp.{made_up}
 use Rattle.mq_schedule.specs.declared.schedule.Schedule.{Schedule}
 use Rattle.mq_schedule.specs.declared.schedule.Step.TheVariants.{Event, Settle}
 use Rattle.mq_schedule.specs.Schedule.{IsBadLine, IsSchedule, lines_of}
-use Rattle.mq_schedule.specs.Writing.{schedule_text}
+use Rattle.mq_schedule.specs.Writing.{line_with, schedule_text, step_line}
 use Rattle.mq_replay.specs.Replay.{IsCutReplay, IsReplay}
 
 -- 0 where all bytes are packets
@@ -44,7 +48,27 @@ widest lenient = record { most = 268435455; lenient = lenient }
 -- for want of memory
 abbrev pub IsShowDone : Bool → List ℕ → ℕ → List ℕ → Type 0
 IsShowDone lenient digits status text =
-    ((shown : Shown) × Shows (widest lenient) digits shown × (status ≡ end_status shown.end) × (text ≡ shown_lines shown)) ⊎ ((status ≡ 2) × (text ≡ bad_hex) × (¬ IsHexadecimal digits)) ⊎ ((status ≡ 3) × (text ≡ no_memory))
+    ((shown : Shown) × Shows (widest lenient) digits shown × (status ≡ end_status shown.end) × (text ≡ shown_lines shown.packets.items shown.end)) ⊎ ((status ≡ 2) × (text ≡ bad_hex) × (¬ IsHexadecimal digits)) ⊎ ((status ≡ 3) × (text ≡ no_memory))
+
+-- how bytes end that have so many behind their packets
+abbrev pub end_of_rest : ℕ → StreamEnd
+end_of_rest held = if held == 0 then Whole else Held held
+
+-- a fact where memory ran out
+abbrev pub OnMemory : Stop → Type 0 → Type 0
+OnMemory (Io error) P = ⊤
+OnMemory Memory P = P
+
+-- the status and the line where bytes can't be read on: 2, or 3 for want of memory
+abbrev pub IsCutShort : ℕ → List ℕ → Type 0
+IsCutShort status line = ((status ≡ 2) × (line ≡ file_not_read)) ⊎ ((status ≡ 3) × (line ≡ no_memory))
+
+-- the status and the lines of `show` for a file: those of its packets and its end, where its bytes are known; or, behind the lines of
+-- its first packets, that it can't be read on
+abbrev pub IsStreamShown : Bool → Option (List ℕ) → ℕ → List ℕ → Type 0
+IsStreamShown lenient left status text =
+    ((packets : List Packet) × (end : StreamEnd) × IfSome left (λ bytes. Reads (widest lenient) bytes packets end) × (status ≡ end_status end) × (text ≡ shown_lines packets end)) ⊎
+    ((packets : List Packet) × (line : List ℕ) × IfSome left (λ bytes. AreFirst (widest lenient) bytes packets) × IsCutShort status line × (text ≡ flat_map packet_line packets ++ line))
 
 -- the status and the lines of `check`: those of what a file has, where its bytes are known, or 2 where it can't be read, or 3 for
 -- want of memory
@@ -91,18 +115,21 @@ pub record IsMadeUp (start count : ℕ) (schedule : Schedule) : Type 0 where
   pub capacity : non_zero_u16_get schedule.capacity ≡ 4
   pub all : schedule.steps.items ≡ map (λ event. Event event) (made_up start count) ++ Settle ∷ []
 
--- a text is such a schedule, as it is written, and its lines are read as that
-abbrev pub IsRandomText : ℕ → ℕ → List ℕ → Type 0
-IsRandomText start count text = (schedule : Schedule) × IsMadeUp start count schedule × (text ≡ schedule_text schedule) × IsSchedule (lines_of text) schedule
+-- the lines of such a schedule: the one for the world, one for each event, and `settle`; they are read as it
+pub record IsRandomText (start count : ℕ) (text : List ℕ) : Type 0 where
+  pub lines : text ≡ line_with (codes "world" ∷ decimal 65536 ∷ decimal 4 ∷ []) ++ flat_map step_line (map (λ event. Event event) (made_up start count) ++ Settle ∷ [])
+  pub written : (schedule : Schedule) → IsMadeUp start count schedule → text ≡ schedule_text schedule
+  pub reads : (schedule : Schedule) → IsMadeUp start count schedule → IsSchedule (lines_of text) schedule
 
--- the status and the lines of `random`: those of a schedule that is made up, or 3 for want of memory
+-- the status and the lines of `random`: those of a schedule that is made up
 abbrev pub IsRandomDone : ℕ → ℕ → ℕ → List ℕ → Type 0
-IsRandomDone start count status text = ((status ≡ 0) × IsRandomText start count text) ⊎ ((status ≡ 3) × (text ≡ no_memory))
+IsRandomDone start count status text = (status ≡ 0) × IsRandomText start count text
 
 -- the status that a job ends with and the lines that it prints, over a file with these bytes
 abbrev pub IsDone : Job → Option (List ℕ) → ℕ → List ℕ → Type 0
 IsDone (jobs.Show hex lenient) left status text = IsShowDone lenient hex.now status text
-IsDone (jobs.Check file lenient) left status text = IsCheckDone lenient left status text
+IsDone (jobs.ShowFrom source lenient) left status text = IsStreamShown lenient left status text
+IsDone (jobs.Check source lenient) left status text = IsCheckDone lenient left status text
 IsDone (jobs.Match filter name) left status text = IsMatchDone filter.now name.now status text
-IsDone (jobs.Replay file) left status text = IsReplayDone left status text
+IsDone (jobs.Replay source) left status text = IsReplayDone left status text
 IsDone (jobs.Random start steps) left status text = IsRandomDone start steps status text

@@ -9,6 +9,7 @@ use mq_decode::{DecodeFault, Limits, ReadError, read_sized, reads_again};
 use std::alloc::Global;
 use std::io;
 use std::io::Read;
+use thiserror::Error;
 
 /// How many packets a reader gave, and what comes after them.
 #[derive(Clone, Copy, Debug, PartialEq, Eq)]
@@ -36,13 +37,16 @@ pub enum CountEnd {
 }
 
 /// Why the packets of a reader could not be counted.
-#[derive(Debug, Drop)]
+#[derive(Debug, Drop, Error)]
 pub enum CountFault {
     /// The reader failed.
+    #[error("the reader failed: {0}")]
     Io(io::Error),
     /// Memory ran out.
+    #[error("out of memory")]
     Memory,
     /// The packets have more bytes than a `u64` counts.
+    #[error("there are more bytes than can be counted")]
     TooLong,
 }
 

@@ -1,5 +1,17 @@
 //! What the program can do.
 
+ghost use Rattle.std.specs.Prelude.{◌≡◌};
+ghost use Rattle.mq_cli.specs.CommandLine.{job_source};
+
+/// Where the bytes of a job come from.
+#[derive(Clone, Copy, Debug, PartialEq, Eq)]
+pub enum Source<'a> {
+    /// The file of this name.
+    File(&'a str),
+    /// The standard input.
+    Standard,
+}
+
 /// What the program is asked to do.
 #[derive(Clone, Copy, Debug, PartialEq, Eq)]
 pub enum Job<'a> {
@@ -10,10 +22,17 @@ pub enum Job<'a> {
         /// A remaining length may have more bytes than it needs (2.2.3).
         lenient: bool,
     },
+    /// To print the packets of a file.
+    ShowFrom {
+        /// The file.
+        source: Source<'a>,
+        /// A remaining length may have more bytes than it needs (2.2.3).
+        lenient: bool,
+    },
     /// To count the packets of a file.
     Check {
-        /// The file's name.
-        file: &'a str,
+        /// The file.
+        source: Source<'a>,
         /// A remaining length may have more bytes than it needs (2.2.3).
         lenient: bool,
     },
@@ -26,8 +45,8 @@ pub enum Job<'a> {
     },
     /// To replay the schedule of a file.
     Replay {
-        /// The file's name.
-        file: &'a str,
+        /// The file.
+        source: Source<'a>,
     },
     /// To print a schedule that is made up.
     Random {
@@ -36,4 +55,18 @@ pub enum Job<'a> {
         /// How many events it has.
         steps: u32,
     },
+}
+
+impl<'a> Job<'a> {
+    /// Where the bytes come from that the job reads, `None` for a job that reads none.
+    pub fn source(&self) -> Option<Source<'a>>
+        ensures { result ≡ job_source self.now }
+    {
+        match self {
+            Job::ShowFrom { source, .. } | Job::Check { source, .. } | Job::Replay { source } => {
+                Some(*source)
+            }
+            Job::Show { .. } | Job::Match { .. } | Job::Random { .. } => None,
+        }
+    }
 }

@@ -1,10 +1,11 @@
 //! Jobs done over a reader and a writer.
 
 ghost use Rattle.std.specs.Prelude.{◌≡◌, IfOk, OnOk};
+ghost use Rattle.std.specs.List.{flat_map};
 ghost use Rattle.std.specs.Io.KnownBytes.{Appends};
 ghost use Rattle.mq_topic.specs.Matching.{is_match};
 ghost use Rattle.mq_line.specs.Lines.{Prints};
-ghost use Rattle.mq_cli.specs.Printed.{bad_hex, count_end_lines, count_lines, end_lines, fault_line, file_not_read, match_line, no_memory, packets_line, shown_lines, topic_code, topic_line};
+ghost use Rattle.mq_cli.specs.Printed.{bad_hex, count_end_lines, count_lines, end_lines, fault_line, file_not_read, match_line, no_memory, packet_line, packets_line, shown_lines, topic_code, topic_line};
 ghost use Rattle.mq_cli.specs.Status.{IsCheckDone, IsDone, IsMatchDone, IsShowDone, count_status, end_status, match_status, widest};
 
 use crate::count::{CountEnd, CountFault, PacketCount, count_packets};
@@ -13,8 +14,10 @@ use crate::random::write_random;
 use crate::replaying::replay_file;
 use crate::show::{ShowFault, shown};
 use crate::stream::{Shown, StreamEnd};
+use crate::streaming::show_stream;
 use mq_decode::{DecodeFault, Limits};
 use mq_line::Line;
+use mq_packet::Packet;
 use mq_topic::{TopicFault, TopicFilter, TopicName, matches};
 use std::alloc::Global;
 use std::io;
@@ -51,7 +54,11 @@ fn bad_hex<W: Write>(output: &mut W) -> io::Result<u8>
 }
 
 // Writes what is wrong with a packet, and where in all bytes it begins.
-fn write_fault<W: Write>(output: &mut W, fault: DecodeFault, start: u64) -> io::Result<u8>
+pub(crate) fn write_fault<W: Write>(
+    output: &mut W,
+    fault: DecodeFault,
+    start: u64,
+) -> io::Result<u8>
     ensures status { IfOk result (λ status. status ≡ FAULT) }
     ensures printed { OnOk result
         (Appends (W.contents output.old) (W.contents output.new) (fault_line fault start)) }
@@ -63,7 +70,7 @@ fn write_fault<W: Write>(output: &mut W, fault: DecodeFault, start: u64) -> io::
 }
 
 // Writes how the bytes end.
-fn write_end<W: Write>(output: &mut W, end: StreamEnd) -> io::Result<u8>
+pub(crate) fn write_end<W: Write>(output: &mut W, end: StreamEnd) -> io::Result<u8>
     ensures status { IfOk result (λ status. status ≡ end_status end) }
     ensures printed { OnOk result
         (Appends (W.contents output.old) (W.contents output.new) (end_lines end)) }
@@ -78,19 +85,29 @@ fn write_end<W: Write>(output: &mut W, end: StreamEnd) -> io::Result<u8>
     }
 }
 
-fn write_shown<W: Write>(output: &mut W, shown: &Shown) -> io::Result<u8>
-    ensures status { IfOk result (λ status. status ≡ end_status shown.now.end) }
-    ensures printed { OnOk result
-        (Appends (W.contents output.old) (W.contents output.new) (shown_lines shown.now)) }
+// Writes packets, each on a line.
+pub(crate) fn write_lines<W: Write>(output: &mut W, packets: &[Packet]) -> io::Result<()>
+    ensures { OnOk result (Appends (W.contents output.old) (W.contents output.new)
+        (flat_map packet_line packets.now)) }
 {
-    for packet in &shown.packets {
+    for packet in packets {
         writeln!(output, "{}", Line(packet))?;
     }
+    Ok(())
+}
+
+// Writes packets, and how they end.
+fn write_shown<W: Write>(output: &mut W, shown: &Shown) -> io::Result<u8>
+    ensures status { IfOk result (λ status. status ≡ end_status shown.now.end) }
+    ensures printed { OnOk result (Appends (W.contents output.old) (W.contents output.new)
+        (shown_lines shown.now.packets.items shown.now.end)) }
+{
+    write_lines(output, shown.packets.as_slice())?;
     write_end(output, shown.end)
 }
 
 // The limit of the standard (2.2.3).
-fn widest(lenient: bool) -> Limits
+pub(crate) fn widest(lenient: bool) -> Limits
     ensures { result ≡ widest lenient }
 {
     if lenient {
@@ -229,7 +246,7 @@ fn match_texts<W: Write>(alloc: Global, filter: &str, name: &str, output: &mut W
 }
 
 /// Does a job: writes what it prints, line by line, and answers the status that the program ends with.
-/// `input` is the file of the job, where it has one. An error is that of a write that failed. The writer
+/// `input` has the bytes of the job's source, where it has one. An error is that of a write that failed. The writer
 /// is not flushed.
 pub fn perform<R: Read, W: Write>(
     alloc: Global,
@@ -242,9 +259,10 @@ pub fn perform<R: Read, W: Write>(
 {
     match job {
         Job::Show { hex, lenient } => show(alloc, hex, *lenient, output),
+        Job::ShowFrom { lenient, .. } => show_stream(alloc, input, *lenient, output),
         Job::Check { lenient, .. } => check(alloc, input, *lenient, output),
         Job::Match { filter, name } => match_texts(alloc, filter, name, output),
         Job::Replay { .. } => replay_file(alloc, input, output),
-        Job::Random { start, steps } => write_random(alloc, *start, *steps, output),
+        Job::Random { start, steps } => write_random(*start, *steps, output),
     }
 }

@@ -1,4 +1,4 @@
-//! The packets of bytes that are written as hexadecimal digits.
+//! The packets of bytes, and of bytes that are written as hexadecimal digits.
 
 ghost use Rattle.std.specs.Prelude.{◌≡◌, ◌+◌, ◌<◌, ◌↔◌, ℕ, List, Option, IsTrue, IfOk, IsErrOf, length};
 ghost use Rattle.hex.specs.Hex.{decode_of};
@@ -6,12 +6,12 @@ ghost use Rattle.mq_packet.specs.declared.packet.Packet.{Packet};
 ghost use Rattle.mq_decode.specs.declared.fault.DecodeFault.{DecodeFault};
 ghost use Rattle.mq_decode.specs.Grammar.{Reading};
 ghost use Rattle.mq_cli.specs.Hexadecimal.{IsHexadecimal};
-ghost use Rattle.mq_cli.specs.Show.{Shows};
+ghost use Rattle.mq_cli.specs.Show.{Reads, Shows};
 
 use crate::stream::{Shown, StreamEnd};
 use mq_decode::{DecodeError, Limits, decode_pieces, packet_len};
 use mq_packet::Packet;
-use std::alloc::Global;
+use std::alloc::{AllocError, Global};
 use thiserror::Error;
 
 /// Why nothing is shown.
@@ -23,6 +23,17 @@ pub enum ShowFault {
     /// Memory ran out.
     #[error("out of memory")]
     Memory,
+}
+
+impl From<AllocError> for ShowFault {
+    ghost use Rattle.std.specs.Prelude.{◌≡◌};
+    ghost use Rattle.mq_cli.specs.declared.show.ShowFault.TheVariants.{Memory};
+
+    ghost from_gives = { λ _ fault. fault ≡ Memory };
+
+    fn from(_e: AllocError) -> ShowFault {
+        ShowFault::Memory
+    }
 }
 
 // Whether a text is an even number of hexadecimal digits.
@@ -64,21 +75,28 @@ fn size_of(limits: Limits, packets: &[Packet], bytes: &[u8]) -> usize
     size
 }
 
+// The packets of bytes, and how the bytes end.
+pub(crate) fn read_all(alloc: Global, limits: Limits, bytes: &[u8]) -> Result<Shown, AllocError>
+    ensures { IfOk result (λ shown. Reads limits bytes.now shown.packets.items shown.end) }
+{
+    let mut packets = Vec::new(alloc);
+    let end = match decode_pieces(alloc, limits, &[bytes], &mut packets) {
+        Ok(0) => StreamEnd::Whole,
+        Ok(held) => StreamEnd::Held(held),
+        Err(DecodeError::Fault(fault)) => StreamEnd::Fault {
+            fault,
+            start: size_of(limits, packets.as_slice(), bytes),
+        },
+        Err(DecodeError::Memory) => return Err(AllocError),
+    };
+    Ok(Shown { packets, end })
+}
+
 /// The packets of the bytes that hexadecimal digits stand for, two a byte, and how the bytes end.
 pub fn shown(alloc: Global, text: &str, limits: Limits) -> Result<Shown, ShowFault>
     ensures shows { IfOk result (Shows limits text.now) }
     ensures bad_hex { IsErrOf result ShowFault.BadHex ↔ ¬ IsHexadecimal text.now }
 {
     let bytes = bytes_of(alloc, text)?;
-    let mut packets = Vec::new(alloc);
-    let end = match decode_pieces(alloc, limits, &[bytes.as_slice()], &mut packets) {
-        Ok(0) => StreamEnd::Whole,
-        Ok(held) => StreamEnd::Held(held),
-        Err(DecodeError::Fault(fault)) => StreamEnd::Fault {
-            fault,
-            start: size_of(limits, packets.as_slice(), bytes.as_slice()),
-        },
-        Err(DecodeError::Memory) => return Err(ShowFault::Memory),
-    };
-    Ok(Shown { packets, end })
+    Ok(read_all(alloc, limits, &bytes)?)
 }

@@ -1,9 +1,12 @@
 mod lenient;
 mod randoms;
-mod replays;
+pub(crate) mod replays;
+mod streams;
 
 use clap::error::ErrorKind;
-use mq_cli::{CountEnd, Job, ShowFault, StreamEnd, WordsFault, count_packets, job, perform, shown};
+use mq_cli::{
+    CountEnd, Job, ShowFault, Source, StreamEnd, WordsFault, count_packets, job, perform, shown,
+};
 use mq_decode::{DecodeFault, FaultKind, Limits};
 use std::alloc::Global;
 use std::io;
@@ -18,9 +21,9 @@ fn shows(hex: &str) -> Job<'_> {
     }
 }
 
-fn checks(file: &str) -> Job<'_> {
+fn checks(name: &str) -> Job<'_> {
     Job::Check {
-        file,
+        source: Source::File(name),
         lenient: false,
     }
 }
@@ -353,39 +356,62 @@ fn error_of(alloc: Global, words: &[&str]) -> Option<ErrorKind> {
     }
 }
 
+// The job that words ask for, where they ask for this one.
+fn asks_for(alloc: Global, words: &[&str], wanted: Job<'_>) -> bool {
+    match job(alloc, words) {
+        Ok(read) => read == wanted,
+        Err(_) => false,
+    }
+}
+
 #[test]
 fn reads_words(rt: HostRuntime) -> Result<(), Fail> {
     let alloc = rt.alloc();
-    for (words, hex) in [
-        (["mqtt", "show", "c000"].as_slice(), "c000"),
-        (&["mqtt", "show", ""], ""),
-        (&["mqtt", "show", "--", "-a"], "-a"),
-    ] {
+    for hex in ["c000", "", "zz"] {
         assert!(rt;
-            matches!(job(alloc, words), Ok(Job::Show { hex: read, lenient: false }) if read == hex)
+            asks_for(alloc, &["mqtt", "show", hex], shows(hex)),
+            "show {hex}"
         );
     }
-    for (words, file) in [
-        (["mqtt", "check", "a.bin"].as_slice(), "a.bin"),
-        (&["mqtt", "check", "a b"], "a b"),
-    ] {
+    assert!(rt; asks_for(alloc, &["mqtt", "show", "--", "-a"], shows("-a")));
+    for name in ["a.bin", "a b", ""] {
         assert!(rt;
-            matches!(job(alloc, words), Ok(Job::Check { file: read, lenient: false }) if read == file)
+            asks_for(alloc, &["mqtt", "check", name], checks(name)),
+            "check {name}"
         );
     }
-    let words: &[&str] = &["mqtt", "replay", "a.txt"];
-    assert!(rt; matches!(job(alloc, words), Ok(Job::Replay { file }) if file == "a.txt"));
-    let words: &[&str] = &["mqtt", "random", "--steps", "300", "--start=7"];
-    let random = Job::Random {
-        start: 7,
-        steps: 300,
-    };
-    assert!(rt; matches!(job(alloc, words), Ok(job) if job == random));
-    let words: &[&str] = &["mqtt", "match", "a/#", "a"];
+    let source = Source::File("a.txt");
+    assert!(rt; asks_for(alloc, &["mqtt", "replay", "a.txt"], Job::Replay { source }));
+    let source = Source::Standard;
+    assert!(rt; asks_for(alloc, &["mqtt", "replay", "-"], Job::Replay { source }));
+    let (filter, name) = ("a/#", "a");
     assert!(rt;
-        matches!(job(alloc, words), Ok(Job::Match { filter, name }) if filter == "a/#" && name == "a")
+        asks_for(
+            alloc,
+            &["mqtt", "match", "a/#", "a"],
+            Job::Match { filter, name }
+        )
     );
     Ok(())
+}
+
+// Numbers of `random`, up to the greatest.
+#[test]
+fn reads_numbers(rt: HostRuntime) {
+    for (option, start) in [
+        ("--start=7", 7),
+        ("--start=4294967295", 4_294_967_295),
+        ("--start=4294967296", 4_294_967_296),
+        ("--start=8589934592", 8_589_934_592),
+        ("--start=18446744073709551615", 18_446_744_073_709_551_615),
+    ] {
+        let words = ["mqtt", "random", "--steps", "4294967295", option];
+        let steps = 4_294_967_295;
+        assert!(rt;
+            asks_for(rt.alloc(), &words, Job::Random { start, steps }),
+            "{option}"
+        );
+    }
 }
 
 #[test]
@@ -402,6 +428,11 @@ fn refuses_words(rt: HostRuntime) -> Result<(), Fail> {
         (&["mqtt", "--version"], ErrorKind::DisplayVersion),
         (&["mqtt", "shwo", "c000"], ErrorKind::InvalidSubcommand),
         (&["mqtt", "show"], ErrorKind::MissingRequiredArgument),
+        (
+            &["mqtt", "show", "c000", "--file", "a"],
+            ErrorKind::MissingRequiredArgument,
+        ),
+        (&["mqtt", "show", "--file"], ErrorKind::InvalidValue),
         (&["mqtt", "show", "-a"], ErrorKind::UnknownArgument),
         (&["mqtt", "show", "c0", "00"], ErrorKind::UnknownArgument),
         (&["mqtt", "check"], ErrorKind::MissingRequiredArgument),
@@ -432,6 +463,11 @@ fn refuses_numbers(rt: HostRuntime) {
             "--steps=4294967296",
             ErrorKind::ValueValidation,
         ),
+        (
+            "--start=18446744073709551616",
+            "--steps=1",
+            ErrorKind::ValueValidation,
+        ),
     ] {
         let words = ["mqtt", "random", start, steps];
         assert_eq!(rt; error_of(rt.alloc(), &words), Some(kind), "{start} {steps}");
@@ -446,15 +482,36 @@ fn prints_help(rt: HostRuntime) -> Result<(), Fail> {
     let text = format!(in rt.alloc(); "{error}")?;
     let help = "Prints each packet of a stream of bytes on a line, and how the stream ends
 
-Usage: mqtt show [OPTIONS] <HEX>
+Usage: mqtt show [OPTIONS] [HEX]
 
 Arguments:
-  <HEX>  The bytes, two hexadecimal digits each
+  [HEX]  The bytes, two hexadecimal digits each; `-` takes them from the standard input
 
 Options:
-      --lenient  Takes a remaining length with more bytes than it needs
-  -h, --help     Print help
+      --file <FILE>  Shows the bytes of this file instead; `-` is the standard input
+      --lenient      Takes a remaining length with more bytes than it needs
+  -h, --help         Print help
+
+Example: mqtt show 62020001c000
 ";
     assert_eq!(rt; text.as_str(), help);
+    Ok(())
+}
+
+#[test]
+fn tells_of_the_statuses(rt: HostRuntime) -> Result<(), Fail> {
+    let Err(WordsFault::Words(error)) = job(rt.alloc(), &["mqtt", "--help"]) else {
+        return Err("no help".into());
+    };
+    let text = format!(in rt.alloc(); "{error}")?;
+    let statuses = "
+Status:
+  0  done, and nothing is wrong
+  1  a fault, less than a whole packet, or a no
+  2  words, digits, a file, a filter, a name or a line of a schedule that can't be read
+  3  out of memory
+  4  the output failed, or was closed
+";
+    assert!(rt; text.ends_with(statuses), "{text}");
     Ok(())
 }

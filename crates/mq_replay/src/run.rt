@@ -19,13 +19,16 @@ use mq_world::{Answer, World, over_bytes};
 use std::alloc::{AllocError, Global};
 use std::io;
 use std::io::Write;
+use thiserror::Error;
 
 /// Why a replay stops before its end.
-#[derive(Debug, Drop)]
+#[derive(Debug, Drop, Error)]
 pub enum ReplayFault {
     /// A write failed.
+    #[error("the output failed: {0}")]
     Io(io::Error),
     /// Memory ran out.
+    #[error("out of memory")]
     Memory,
 }
 

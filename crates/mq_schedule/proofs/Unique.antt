@@ -17,10 +17,12 @@ use Rattle.mq_line.specs.Lines.{byte_digits, escaped, escaped_byte, hex_of}
 use Rattle.mq_schedule.specs.declared.schedule.Step.{Step}
 use Rattle.mq_schedule.specs.declared.schedule.Step.TheVariants.{Event, Settle}
 use Rattle.mq_schedule.specs.declared.schedule.Schedule.{Schedule}
-use Rattle.mq_schedule.specs.Schedule.{HasNoStep, HasNoWorld, IsAmount, IsBadLine, IsNumber, IsPublication, IsSchedule, IsWorldLine, Writes, bytes_word, publish_word, side_word, words_of}
+use Rattle.mq_schedule.specs.Schedule.{HasNoStep, HasNoWorld, IsAmount, IsBadLine, IsNumber, IsPublication, IsSchedule, IsWorldLine, Writes, bytes_word, lines_of, publish_word, side_word, words_of}
 use Rattle.mq_schedule.specs.Parts.{AreSteps}
-use Rattle.mq_schedule.specs.Laws.{SameSchedule, ScheduleLaws}
+use Rattle.mq_schedule.specs.Writing.{schedule_text}
+use Rattle.mq_schedule.specs.Laws.{InBounds, SameSchedule, ScheduleLaws}
 use Rattle.mq_schedule.proofs.Codes.{digits_code, escaped_code, same_codes, two_digits}
+use Rattle.mq_schedule.proofs.Laying.{schedule_back, world_is}
 use Rattle.mq_schedule.proofs.Octets.{name_bytes}
 
 -- ---- words
@@ -224,5 +226,9 @@ not_both : (lines : List (List ℕ)) (s : Schedule) (n : ℕ) → IsSchedule lin
 not_both lines s n h (inl bad) = no_world lines s h bad.1
 not_both lines s n h (inr bad) = no_bad_step lines s n h bad
 
+-- what is written of a schedule
+read_back : (s : Schedule) → InBounds s → IsSchedule (lines_of (schedule_text s)) s
+read_back s bounds = schedule_back s (schedule_text s) refl (world_is s bounds.least bounds.most bounds.some bounds.few) bounds.steps
+
 pub laws : ScheduleLaws
-laws = record { one_schedule = one_schedule; not_both = not_both }
+laws = record { one_schedule = one_schedule; not_both = not_both; read_back = read_back }

@@ -1,8 +1,11 @@
 -- What a text says as a schedule.
-use Rattle.std.specs.Prelude.{◌≡◌, ℕ, List}
+use Rattle.std.specs.Prelude.{◌≡◌, ℕ, ◌^◌, ◌≤◌, ◌<◌, List}
+use Rattle.std.specs.List.{All}
 use Rattle.std.specs.Int.NonZero.{non_zero_u16_get}
 use Rattle.mq_schedule.specs.declared.schedule.Schedule.{Schedule}
-use Rattle.mq_schedule.specs.Schedule.{IsBadLine, IsSchedule}
+use Rattle.mq_schedule.specs.Schedule.{IsBadLine, IsSchedule, lines_of}
+use Rattle.mq_schedule.specs.Parts.{KeepsBounds}
+use Rattle.mq_schedule.specs.Writing.{schedule_text}
 
 -- two schedules with the same limit, capacity and steps
 pub record SameSchedule (s t : Schedule) : Type 0 where
@@ -10,9 +13,19 @@ pub record SameSchedule (s t : Schedule) : Type 0 where
   pub capacity : non_zero_u16_get s.capacity ≡ non_zero_u16_get t.capacity
   pub steps : s.steps.items ≡ t.steps.items
 
+-- the limit is one (2.2.3), identifiers may be in use (2.3.1), and each step keeps its bounds
+pub record InBounds (s : Schedule) : Type 0 where
+  pub least : 64 ≤ s.limits.most
+  pub most : s.limits.most < 2 ^ 28
+  pub some : 1 ≤ non_zero_u16_get s.capacity
+  pub few : non_zero_u16_get s.capacity < 2 ^ 16
+  pub steps : All KeepsBounds s.steps.items
+
 -- what a reader of lines may rely on
 pub record ScheduleLaws : Type 0 where
   -- lines are at most one schedule
   pub one_schedule : (lines : List (List ℕ)) (s t : Schedule) → IsSchedule lines s → IsSchedule lines t → SameSchedule s t
   -- lines that are a schedule have no line that is of no kind
   pub not_both : (lines : List (List ℕ)) (s : Schedule) (n : ℕ) → IsSchedule lines s → ¬ IsBadLine lines n
+  -- what is written of a schedule is read as it, where each of its parts is in its bounds
+  pub read_back : (s : Schedule) → InBounds s → IsSchedule (lines_of (schedule_text s)) s

@@ -1,6 +1,6 @@
 //! `show` and `check` with `--lenient`.
 
-use mq_cli::{Job, job, perform};
+use mq_cli::{Job, Source, job, perform};
 use std::io;
 use std::test::Fail;
 
@@ -45,7 +45,7 @@ fn checks_lengths_with_more_bytes_than_they_need(rt: HostRuntime) -> Result<(), 
         let mut output = Vec::new(alloc);
         let mut input = bytes;
         let job = Job::Check {
-            file: "a file",
+            source: Source::File("a file"),
             lenient: true,
         };
         let answer = perform(alloc, &job, &mut input, &mut output)?;
@@ -70,5 +70,6 @@ fn reads_the_flag(rt: HostRuntime) {
     }
     let words = ["mqtt", "check", "--lenient", "a.bin"];
     let read = job(rt.alloc(), &words);
-    assert!(rt; matches!(read, Ok(Job::Check { file, lenient: true }) if file == "a.bin"));
+    let source = Source::File("a.bin");
+    assert!(rt; matches!(read, Ok(job) if job == Job::Check { source, lenient: true }));
 }

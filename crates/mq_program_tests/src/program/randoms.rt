@@ -1,6 +1,6 @@
 //! Schedules that are made up: what `random` prints, and what comes of it.
 
-use mq_cli::{Job, perform};
+use mq_cli::{Job, Source, perform};
 use std::alloc::Global;
 use std::test::Fail;
 
@@ -55,7 +55,9 @@ fn fault(printed: &str) -> &'static str {
 fn fault_of(alloc: Global, start: u64) -> Result<&'static str, Fail> {
     let job = Job::Random { start, steps: 300 };
     let schedule = printed(alloc, &job, &[])?;
-    let job = Job::Replay { file: "a schedule" };
+    let job = Job::Replay {
+        source: Source::File("a schedule"),
+    };
     let lines = printed(alloc, &job, schedule.as_bytes())?;
     Ok(fault(lines.as_str()))
 }

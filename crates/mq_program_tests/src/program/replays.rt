@@ -1,18 +1,20 @@
 //! Schedules that are replayed: what each prints, byte for byte, and its status.
 
-use mq_cli::{Job, perform};
+use mq_cli::{Job, Source, perform};
 use std::alloc::Global;
 use std::io;
 use std::test::Fail;
 
 // A schedule, and what it prints.
-struct Replay {
-    schedule: &'static str,
-    printed: &'static str,
+pub(crate) struct Replay {
+    name: &'static str,
+    pub(crate) schedule: &'static str,
+    pub(crate) printed: &'static str,
 }
 
 // A connection comes up.
 static HANDSHAKE: Replay = Replay {
+    name: "a handshake",
     schedule: "world 65536 4\n\
 open\n\
 to s 15\n\
@@ -23,15 +25,16 @@ to c 20020000\n\
 c up 0\n",
 };
 
-// ---- schedules that go on after it
-
-// A publish of quality of service 2 that a drop cuts.
-static CUT: Replay = Replay {
-    schedule: "pub c 2 t 78\n\
+// Schedules that go on after it.
+static AFTER: [Replay; 7] = [
+    // A publish of quality of service 2 that a drop cuts.
+    Replay {
+        name: "a publish that is cut",
+        schedule: "pub c 2 t 78\n\
 to s 7\n\
 drop c\n\
 settle\n",
-    printed: "c accepted 1\n\
+        printed: "c accepted 1\n\
 to s 34060001740001\n\
 c dropped\n\
 s dropped\n\
@@ -49,15 +52,15 @@ c>s qos1 accepted 0 handed 0 held 0\n\
 c>s qos2 accepted 1 handed 1 held 0\n\
 s>c qos1 accepted 0 handed 0 held 0\n\
 s>c qos2 accepted 0 handed 0 held 0\n",
-};
-
-// It came, and its PUBREC is lost.
-static PUBREC_LOST: Replay = Replay {
-    schedule: "pub c 2 t 78\n\
+    },
+    // It came, and its PUBREC is lost.
+    Replay {
+        name: "a lost PUBREC",
+        schedule: "pub c 2 t 78\n\
 to s 8\n\
 drop c\n\
 settle\n",
-    printed: "c accepted 1\n\
+        printed: "c accepted 1\n\
 to s 3406000174000178\n\
 s got 2 t 78\n\
 c dropped\n\
@@ -75,15 +78,15 @@ c>s qos1 accepted 0 handed 0 held 0\n\
 c>s qos2 accepted 1 handed 1 held 0\n\
 s>c qos1 accepted 0 handed 0 held 0\n\
 s>c qos2 accepted 0 handed 0 held 0\n",
-};
-
-// One of quality of service 1 came, and its PUBACK is lost.
-static PUBACK_LOST: Replay = Replay {
-    schedule: "pub c 1 t 78\n\
+    },
+    // One of quality of service 1 came, and its PUBACK is lost.
+    Replay {
+        name: "a lost PUBACK",
+        schedule: "pub c 1 t 78\n\
 to s 8\n\
 drop c\n\
 settle\n",
-    printed: "c accepted 1\n\
+        printed: "c accepted 1\n\
 to s 3206000174000178\n\
 s got 1 t 78\n\
 c dropped\n\
@@ -102,11 +105,11 @@ c>s qos1 accepted 1 handed 2 held 0\n\
 c>s qos2 accepted 0 handed 0 held 0\n\
 s>c qos1 accepted 0 handed 0 held 0\n\
 s>c qos2 accepted 0 handed 0 held 0\n",
-};
-
-// Bytes to a side without a connection, texts that are escaped, and nothing to say.
-static LITTLE: Replay = Replay {
-    schedule: "pub c 0 t 78\n\
+    },
+    // Bytes to a side without a connection, texts that are escaped, and nothing to say.
+    Replay {
+        name: "bytes without a connection",
+        schedule: "pub c 0 t 78\n\
 pubr c 0 a/%25%20b -\n\
 drop s\n\
 pub c 0 t 79\n\
@@ -115,7 +118,7 @@ open\n\
 to s 3\n\
 drop s\n\
 to s all",
-    printed: "c accepted -\n\
+        printed: "c accepted -\n\
 c accepted -\n\
 s dropped\n\
 c accepted -\n\
@@ -129,16 +132,16 @@ c>s qos1 accepted 0 handed 0 held 0\n\
 c>s qos2 accepted 0 handed 0 held 0\n\
 s>c qos1 accepted 0 handed 0 held 0\n\
 s>c qos2 accepted 0 handed 0 held 0\n",
-};
-
-// The client asks whether the server is there, and the server waits for a packet one and a half times the keep-alive (3.1.2.10).
-static SILENCE: Replay = Replay {
-    schedule: "tick c 60000\n\
+    },
+    // The client asks whether the server is there, and the server waits for a packet one and a half times the keep-alive (3.1.2.10).
+    Replay {
+        name: "silence",
+        schedule: "tick c 60000\n\
 to s 2\n\
 to c 2\n\
 tick s 90000\n\
 tick s 1\n",
-    printed: "to s c000\n\
+        printed: "to s c000\n\
 to c d000\n\
 c pong\n\
 s closed C5\n\
@@ -146,33 +149,61 @@ c>s qos1 accepted 0 handed 0 held 0\n\
 c>s qos2 accepted 0 handed 0 held 0\n\
 s>c qos1 accepted 0 handed 0 held 0\n\
 s>c qos2 accepted 0 handed 0 held 0\n",
-};
-
-// The user of the client leaves (3.14).
-static LEAVING: Replay = Replay {
-    schedule: "leave\n\
+    },
+    // The user of the client leaves (3.14).
+    Replay {
+        name: "a client that leaves",
+        schedule: "leave\n\
 to s 2\n",
-    printed: "c closed C7\n\
+        printed: "c closed C7\n\
 to s e000\n\
 s closed C7\n\
 c>s qos1 accepted 0 handed 0 held 0\n\
 c>s qos2 accepted 0 handed 0 held 0\n\
 s>c qos1 accepted 0 handed 0 held 0\n\
 s>c qos2 accepted 0 handed 0 held 0\n",
-};
+    },
+    // Messages of quality of service 0 have no identifier; what comes to a server without a connection is lost, and a side that has none is
+    // not dropped.
+    Replay {
+        name: "bytes that are lost",
+        schedule: "pub s 1 t -\n\
+pub c 0 t 78\n\
+drop s\n\
+drop s\n\
+pub c 0 t 78\n\
+to s 1\n\
+to c 9\n\
+to c 1\n",
+        printed: "s accepted 1\n\
+c accepted -\n\
+s dropped\n\
+c accepted -\n\
+to s 30\n\
+lost\n\
+to c 32050001740001\n\
+c got 1 t -\n\
+to c -\n\
+c>s qos1 accepted 0 handed 0 held 0\n\
+c>s qos2 accepted 0 handed 0 held 0\n\
+s>c qos1 accepted 1 handed 1 held 1\n\
+s>c qos2 accepted 0 handed 0 held 0\n",
+    },
+];
 
-// ---- schedules that stand alone
-
-// The first CONNACK is lost, and the sender is full.
-static CONNACK_LOST: Replay = Replay {
-    schedule: "world 65536 1\n\
+// Schedules that stand alone.
+pub(crate) static ALONE: [Replay; 6] = [
+    // The first CONNACK is lost, and the sender is full.
+    Replay {
+        name: "a lost CONNACK",
+        schedule: "world 65536 1\n\
 open\n\
 to s 15\n\
 drop c\n\
 pub c 2 t 78\n\
 pub c 2 t 79\n\
 settle\n",
-    printed: "to s 100d00044d5154540400003c000177\n\
+        printed: "to s 100d00044d5154540400003c000177\n\
 s up 0\n\
 c dropped\n\
 c accepted 1\n\
@@ -192,24 +223,24 @@ c>s qos1 accepted 0 handed 0 held 0\n\
 c>s qos2 accepted 1 handed 1 held 0\n\
 s>c qos1 accepted 0 handed 0 held 0\n\
 s>c qos2 accepted 0 handed 0 held 0\n",
-};
-
-// The greatest packet within the limit, and one over it.
-static SIZES: Replay = Replay {
-    schedule: "world 64 4\n\
+    },
+    // The greatest packet within the limit, and one over it.
+    Replay {
+        name: "sizes",
+        schedule: "world 64 4\n\
 pub c 2 t 6161616161616161616161616161616161616161616161616161616161616161616161616161616161616161616161616161616161616161616161\n\
 pub c 2 t 616161616161616161616161616161616161616161616161616161616161616161616161616161616161616161616161616161616161616161616161\n",
-    printed: "c accepted 1\n\
+        printed: "c accepted 1\n\
 c refused P3\n\
 c>s qos1 accepted 0 handed 0 held 0\n\
 c>s qos2 accepted 1 handed 0 held 1\n\
 s>c qos1 accepted 0 handed 0 held 0\n\
 s>c qos2 accepted 0 handed 0 held 0\n",
-};
-
-// Both directions.
-static BOTH_WAYS: Replay = Replay {
-    schedule: "world 65536 4\n\
+    },
+    // Both directions.
+    Replay {
+        name: "both ways",
+        schedule: "world 65536 4\n\
 pub s 1 t 78\n\
 open\n\
 to s 15\n\
@@ -217,7 +248,7 @@ pub s 1 t 78\n\
 pub c 2 u 79\n\
 to c all\n\
 to s all\n",
-    printed: "s refused P2\n\
+        printed: "s refused P2\n\
 to s 100d00044d5154540400003c000177\n\
 s up 0\n\
 s accepted 1\n\
@@ -231,18 +262,70 @@ c>s qos1 accepted 0 handed 0 held 0\n\
 c>s qos2 accepted 1 handed 1 held 1\n\
 s>c qos1 accepted 1 handed 1 held 0\n\
 s>c qos2 accepted 0 handed 0 held 0\n",
-};
-
-// There is no connection to leave.
-static EARLY_LEAVING: Replay = Replay {
-    schedule: "world 65536 4\n\
+    },
+    // There is no connection to leave.
+    Replay {
+        name: "leaving without a connection",
+        schedule: "world 65536 4\n\
 leave\n",
-    printed: "c refused P1\n\
+        printed: "c refused P1\n\
 c>s qos1 accepted 0 handed 0 held 0\n\
 c>s qos2 accepted 0 handed 0 held 0\n\
 s>c qos1 accepted 0 handed 0 held 0\n\
 s>c qos2 accepted 0 handed 0 held 0\n",
-};
+    },
+    // The remaining length of a PUBLISH is 64 with a payload of 59 bytes (2.2.3, 3.3); a server without a session takes no message, and a client
+    // that is not connected none of quality of service 0.
+    Replay {
+        name: "messages that are refused",
+        schedule: "world 64 4\n\
+pub c 2 t 0000000000000000000000000000000000000000000000000000000000000000000000000000000000000000000000000000000000000000000000\n\
+pub c 2 t 000000000000000000000000000000000000000000000000000000000000000000000000000000000000000000000000000000000000000000000000\n\
+pub s 1 t 78\n\
+pub c 0 t 78\n",
+        printed: "c accepted 1\n\
+c refused P3\n\
+s refused P2\n\
+c refused P1\n\
+c>s qos1 accepted 0 handed 0 held 0\n\
+c>s qos2 accepted 1 handed 0 held 1\n\
+s>c qos1 accepted 0 handed 0 held 0\n\
+s>c qos2 accepted 0 handed 0 held 0\n",
+    },
+    // A client leaves with DISCONNECT (3.14), and not before it has a connection; both sides keep their sessions (3.1.2.4).
+    Replay {
+        name: "leaving and settling",
+        schedule: "world 65536 4\n\
+leave\n\
+open\n\
+to s 15\n\
+to c 4\n\
+leave\n\
+to s 2\n\
+settle\n",
+        printed: "c refused P1\n\
+to s 100d00044d5154540400003c000177\n\
+s up 0\n\
+to c 20020000\n\
+c up 0\n\
+c closed C7\n\
+to s e000\n\
+s closed C7\n\
+to s 100d00044d5154540400003c000177\n\
+s up 1\n\
+to c 20020100\n\
+c up 1\n\
+to s -\n\
+to c -\n\
+to s -\n\
+to c -\n\
+idle yes\n\
+c>s qos1 accepted 0 handed 0 held 0\n\
+c>s qos2 accepted 0 handed 0 held 0\n\
+s>c qos1 accepted 0 handed 0 held 0\n\
+s>c qos2 accepted 0 handed 0 held 0\n",
+    },
+];
 
 // ---- texts that are no schedule
 
@@ -282,7 +365,9 @@ to s 18446744073709551616\n",
 fn replayed(alloc: Global, schedule: &str) -> io::Result<(u8, Vec<u8>)> {
     let mut output = Vec::new(alloc);
     let mut input = schedule.as_bytes();
-    let job = Job::Replay { file: "a schedule" };
+    let job = Job::Replay {
+        source: Source::File("a schedule"),
+    };
     let status = perform(alloc, &job, &mut input, &mut output)?;
     Ok((status, output))
 }
@@ -302,57 +387,13 @@ fn goes_on(alloc: Global, replay: &Replay) -> Result<bool, Fail> {
 }
 
 #[test]
-fn a_publish_that_is_cut_is_handed_on_once(rt: HostRuntime) -> Result<(), Fail> {
-    assert!(rt; goes_on(rt.alloc(), &CUT)?);
-    Ok(())
-}
-
-#[test]
-fn a_lost_pubrec_hands_on_once(rt: HostRuntime) -> Result<(), Fail> {
-    assert!(rt; goes_on(rt.alloc(), &PUBREC_LOST)?);
-    Ok(())
-}
-
-#[test]
-fn a_lost_puback_hands_on_again(rt: HostRuntime) -> Result<(), Fail> {
-    assert!(rt; goes_on(rt.alloc(), &PUBACK_LOST)?);
-    Ok(())
-}
-
-#[test]
-fn a_first_send_has_no_dup(rt: HostRuntime) -> Result<(), Fail> {
-    assert!(rt; prints(rt.alloc(), &CONNACK_LOST)?);
-    Ok(())
-}
-
-#[test]
-fn packets_are_within_the_limit(rt: HostRuntime) -> Result<(), Fail> {
-    assert!(rt; prints(rt.alloc(), &SIZES)?);
-    Ok(())
-}
-
-#[test]
-fn messages_go_both_ways(rt: HostRuntime) -> Result<(), Fail> {
-    assert!(rt; prints(rt.alloc(), &BOTH_WAYS)?);
-    Ok(())
-}
-
-#[test]
-fn lost_bytes_are_told(rt: HostRuntime) -> Result<(), Fail> {
-    assert!(rt; goes_on(rt.alloc(), &LITTLE)?);
-    Ok(())
-}
-
-#[test]
-fn silence_closes_the_server(rt: HostRuntime) -> Result<(), Fail> {
-    assert!(rt; goes_on(rt.alloc(), &SILENCE)?);
-    Ok(())
-}
-
-#[test]
-fn the_client_leaves(rt: HostRuntime) -> Result<(), Fail> {
-    assert!(rt; goes_on(rt.alloc(), &LEAVING)?);
-    assert!(rt; prints(rt.alloc(), &EARLY_LEAVING)?);
+fn schedules_print_their_replays(rt: HostRuntime) -> Result<(), Fail> {
+    for replay in &ALONE {
+        assert!(rt; prints(rt.alloc(), replay)?, "{}", replay.name);
+    }
+    for replay in &AFTER {
+        assert!(rt; goes_on(rt.alloc(), replay)?, "{}", replay.name);
+    }
     Ok(())
 }
 
@@ -363,5 +404,18 @@ fn names_the_first_line_of_no_kind(rt: HostRuntime) -> Result<(), Fail> {
         assert_eq!(rt; status, 2);
         assert_eq!(rt; output.as_slice(), printed.as_bytes());
     }
+    Ok(())
+}
+
+#[test]
+fn a_schedule_is_utf8(rt: HostRuntime) -> Result<(), Fail> {
+    let alloc = rt.alloc();
+    let mut output = Vec::new(alloc);
+    let mut input: &[u8] = b"world 65536 4\npub c 0 \xff 78\n";
+    let job = Job::Replay {
+        source: Source::File("no text"),
+    };
+    assert_eq!(rt; perform(alloc, &job, &mut input, &mut output)?, 2);
+    assert_eq!(rt; output.as_slice(), b"file not read\n".as_slice());
     Ok(())
 }

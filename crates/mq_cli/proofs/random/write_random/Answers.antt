@@ -1,6 +1,14 @@
-use Rattle.std.proofs.Common.{refl, inl}
-use Rattle.std.specs.String.{string_bytes}
+use Rattle.std.proofs.Common.{refl}
+use Rattle.std.specs.Prelude.{codes, decimal}
+use Rattle.std.proofs.Common.{◌∷◌, []}
+use Rattle.mq_schedule.specs.Writing.{line_with}
+use Rattle.mq_cli.proofs.MadeUp.{parts_written, random_text}
 use Rattle.mq_cli.proofs.random.write_random.Goals as goal
 
-pub returns-in_ok-write_all-in-Ok : goal.returns-in_ok-write_all-in-Ok
-returns-in_ok-write_all-in-Ok g c = (string_bytes c.in-Ok.text, rw c.as_bytes.ensures.value at c.in_ok-write_all-in-Ok.ensures.bytes, inl (refl, c.in-Ok.ensures))
+pub returns : goal.returns
+returns g c = (
+  _,
+  parts_written c.args.start c.args.count (g.W.Write.contents c.args.output.now) (g.W.Write.contents c.write_world.new.output) (g.W.Write.contents c.write_events.new.output) (g.W.Write.contents c.writeln.new.self) (line_with (codes "world" ∷ decimal 65536 ∷ decimal 4 ∷ []))
+      c.in_ok-write_world.ensures c.in_ok-write_events.ensures c.in_ok-writeln.ensures.bytes,
+  (refl, random_text c.schedule_laws.ensures c.args.start c.args.count _ refl),
+)

@@ -2,7 +2,7 @@ use Rattle.std.proofs.Common.{rules, IsSome}
 use Rattle.clap.specs.Words.{found_of}
 use Rattle.clap.specs.declared.parser.matches.ArgMatches.TheViews.{out-ArgMatches}
 use Rattle.mq_cli.proofs.Matches.{word_given}
-use Rattle.mq_cli.proofs.words.word_of.Goals as goal
+use Rattle.mq_cli.proofs.words.given_of.Goals as goal
 
 pub returns : goal.returns
 returns c =

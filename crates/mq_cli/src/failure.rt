@@ -1,0 +1,77 @@
+//! Why the program ends without an answer.
+
+ghost use Rattle.std.specs.Prelude.{◌≡◌, ◌≢◌};
+ghost use Rattle.std.specs.IoError.{error_kind};
+ghost use Rattle.mq_cli.specs.Failure.{failure_status};
+
+use std::alloc::AllocError;
+use std::io;
+use std::io::ErrorKind;
+use thiserror::Error;
+
+/// Why the program ends without an answer.
+#[derive(Clone, Copy, Debug, PartialEq, Eq, Error)]
+pub enum Failure {
+    /// A word of the command line is not UTF-8.
+    #[error("words not read: one is not UTF-8")]
+    Words,
+    /// Memory ran out.
+    #[error("out of memory")]
+    Memory,
+    /// What the job prints could not be written.
+    #[error("output failed")]
+    Output,
+    /// Whoever reads the output reads no more of it.
+    #[error("output closed")]
+    Closed,
+}
+
+impl Failure {
+    /// The status that the program ends with: 2 for words, 3 for memory, 4 for the output.
+    pub fn status(self) -> u8
+        ensures { result ≡ failure_status self }
+    {
+        match self {
+            Failure::Words => 2,
+            Failure::Memory => 3,
+            Failure::Output | Failure::Closed => 4,
+        }
+    }
+
+    /// Why the words of the command line could not be had: memory ran out, or one is not UTF-8.
+    pub fn of_words(error: io::Error) -> Failure
+        ensures memory { error_kind error ≡ ErrorKind.OutOfMemory → result ≡ Failure.Memory }
+        ensures words { error_kind error ≢ ErrorKind.OutOfMemory → result ≡ Failure.Words }
+    {
+        match error.kind() {
+            ErrorKind::OutOfMemory => Failure::Memory,
+            _ => Failure::Words,
+        }
+    }
+}
+
+impl From<io::Error> for Failure {
+    ghost use Rattle.std.specs.IoError.{error_kind};
+    ghost use Rattle.mq_cli.specs.Failure.{IsOutputFailure};
+
+    ghost from_gives = { λ error failure. IsOutputFailure (error_kind error) failure };
+
+    fn from(error: io::Error) -> Failure {
+        match error.kind() {
+            ErrorKind::OutOfMemory => Failure::Memory,
+            ErrorKind::BrokenPipe => Failure::Closed,
+            _ => Failure::Output,
+        }
+    }
+}
+
+impl From<AllocError> for Failure {
+    ghost use Rattle.std.specs.Prelude.{◌≡◌};
+    ghost use Rattle.mq_cli.specs.declared.failure.Failure.TheVariants.{Memory};
+
+    ghost from_gives = { λ _ failure. failure ≡ Memory };
+
+    fn from(_e: AllocError) -> Failure {
+        Failure::Memory
+    }
+}

@@ -1,0 +1,218 @@
+//! `show` for files, long files, and what is said where there is no answer.
+
+use super::{Broken, FILES, Full, ROWS, asks_for};
+use mq_cli::{Failure, Job, ShowFault, Source, perform};
+use std::alloc::Global;
+use std::io;
+use std::io::{ErrorKind, Read};
+use std::test::Fail;
+
+// The job of `show` for a file.
+fn shows(source: Source<'_>, lenient: bool) -> Job<'_> {
+    Job::ShowFrom { source, lenient }
+}
+
+// What is printed of a reader's bytes, with its status.
+fn printed<R: Read>(alloc: Global, job: &Job<'_>, input: &mut R) -> io::Result<(u8, Vec<u8>)> {
+    let mut output = Vec::new(alloc);
+    let status = perform(alloc, job, input, &mut output)?;
+    Ok((status, output))
+}
+
+// A reader that gives a byte at a time.
+#[derive(Drop)]
+struct Slow<'a>(&'a [u8]);
+
+impl Read for Slow<'_> {
+    fn read(&mut self, room: &mut [u8]) -> io::Result<usize> {
+        if room.is_empty() || self.0.is_empty() {
+            return Ok(0);
+        }
+        room[0] = self.0[0];
+        self.0 = &self.0[1..];
+        Ok(1)
+    }
+}
+
+// The bytes of a row, none where it has no digits.
+fn bytes_of(alloc: Global, hex: &str) -> Option<Vec<u8>> {
+    hex::decode(alloc, hex).ok()
+}
+
+#[test]
+fn shows_files_as_it_shows_digits(rt: HostRuntime) -> Result<(), Fail> {
+    let alloc = rt.alloc();
+    let job = shows(Source::File("a file"), false);
+    for (hex, status, lines) in &ROWS {
+        if let Some(bytes) = bytes_of(alloc, hex) {
+            let whole = printed(alloc, &job, &mut bytes.as_slice())?;
+            assert_eq!(rt; whole.0, *status, "show {hex}");
+            assert_eq!(rt; whole.1.as_slice(), lines.as_bytes(), "show {hex}");
+            let slow = printed(alloc, &job, &mut Slow(bytes.as_slice()))?;
+            assert_eq!(rt; slow.0, *status, "show {hex}, byte by byte");
+            assert_eq!(rt;
+                slow.1.as_slice(),
+                lines.as_bytes(),
+                "show {hex}, byte by byte"
+            );
+        }
+    }
+    Ok(())
+}
+
+#[test]
+fn shows_what_came_before_a_failed_read(rt: HostRuntime) -> Result<(), Fail> {
+    let alloc = rt.alloc();
+    let job = shows(Source::Standard, false);
+    for at_once in [2, 3, 8] {
+        let bytes: &[u8] = &[0xc0, 0x00, 0x40, 0x02, 0x00, 0x01, 0xc0];
+        let answer = printed(alloc, &job, &mut Broken { bytes, at_once })?;
+        assert_eq!(rt; answer.0, 2);
+        assert_eq!(rt;
+            answer.1.as_slice(),
+            b"PINGREQ\nPUBACK id=1\nfile not read\n".as_slice()
+        );
+    }
+    Ok(())
+}
+
+#[test]
+fn shows_lenient_lengths_of_files(rt: HostRuntime) -> Result<(), Fail> {
+    let job = shows(Source::File("a file"), true);
+    let mut input: &[u8] = b"\xc0\x80\x00\xc0\x01";
+    let answer = printed(rt.alloc(), &job, &mut input)?;
+    assert_eq!(rt; answer.0, 1);
+    assert_eq!(rt;
+        answer.1.as_slice(),
+        b"PINGREQ\nfault F8 at 1 in packet at 3\n".as_slice()
+    );
+    Ok(())
+}
+
+#[test]
+fn reads_words_for_files(rt: HostRuntime) {
+    let alloc = rt.alloc();
+    let a = Source::File("a");
+    let words = ["mqtt", "show", "--file", "a"];
+    assert!(rt; asks_for(alloc, &words, shows(a, false)));
+    let words = ["mqtt", "show", "--lenient", "--file=a"];
+    assert!(rt; asks_for(alloc, &words, shows(a, true)));
+    let words = ["mqtt", "show", "--file", "-"];
+    assert!(rt; asks_for(alloc, &words, shows(Source::Standard, false)));
+    let words = ["mqtt", "show", "-", "--lenient"];
+    assert!(rt; asks_for(alloc, &words, shows(Source::Standard, true)));
+    let (source, lenient) = (Source::Standard, false);
+    let words = ["mqtt", "check", "-"];
+    assert!(rt; asks_for(alloc, &words, Job::Check { source, lenient }));
+}
+
+// A PUBLISH with a payload of 1,000,000 bytes, and a PINGREQ behind it.
+fn great(alloc: Global) -> io::Result<Vec<u8>> {
+    let mut bytes = Vec::new(alloc);
+    bytes.extend_from_slice(&[0x30, 0xc3, 0x84, 0x3d, 0x00, 0x01, 0x74])?;
+    bytes.resize(1_000_007, 0xab)?;
+    bytes.extend_from_slice(&[0xc0, 0x00])?;
+    Ok(bytes)
+}
+
+// What is printed of it.
+fn great_lines(alloc: Global) -> io::Result<Vec<u8>> {
+    let mut lines = Vec::new(alloc);
+    lines.extend_from_slice(b"PUBLISH topic=t qos=0 dup=0 retain=0 payload=")?;
+    for _ in 0..1_000_000 {
+        lines.extend_from_slice(b"ab")?;
+    }
+    lines.extend_from_slice(b"\nPINGREQ\n")?;
+    Ok(lines)
+}
+
+#[test]
+fn shows_a_great_packet(rt: HostRuntime) -> Result<(), Fail> {
+    let alloc = rt.alloc();
+    let bytes = great(alloc)?;
+    let job = shows(Source::File("a file"), false);
+    let answer = printed(alloc, &job, &mut bytes.as_slice())?;
+    assert_eq!(rt; answer.0, 0);
+    assert!(rt; answer.1.as_slice() == great_lines(alloc)?.as_slice());
+    Ok(())
+}
+
+#[test]
+fn checks_many_packets(rt: HostRuntime) -> Result<(), Fail> {
+    let alloc = rt.alloc();
+    let mut bytes = great(alloc)?;
+    for _ in 0..100_000 {
+        bytes.extend_from_slice(&[0xe0, 0x00])?;
+    }
+    let (source, lenient) = (Source::File("a file"), false);
+    let answer = printed(
+        alloc,
+        &Job::Check { source, lenient },
+        &mut bytes.as_slice(),
+    )?;
+    assert_eq!(rt; answer.0, 0);
+    assert_eq!(rt; answer.1.as_slice(), b"packets 100002\n".as_slice());
+    Ok(())
+}
+
+#[test]
+fn tells_of_a_full_output(rt: HostRuntime) {
+    let alloc = rt.alloc();
+    let (filter, name) = ("a", "a");
+    let (source, lenient) = (Source::Standard, false);
+    for (job, size) in [
+        (Job::Match { filter, name }, 4),
+        (Job::Check { source, lenient }, 10),
+        (Job::Random { start: 0, steps: 0 }, 21),
+        (shows(source, lenient), 0),
+    ] {
+        for room in 0..size {
+            let answer = perform(alloc, &job, &mut io::empty(), &mut Full(room));
+            assert!(rt; answer.is_err(), "{job:?} with room for {room}");
+        }
+        let answer = perform(alloc, &job, &mut io::empty(), &mut Full(size));
+        assert!(rt; answer.is_ok(), "{job:?} with room");
+    }
+}
+
+#[test]
+fn tells_of_failures(rt: HostRuntime) -> Result<(), Fail> {
+    let alloc = rt.alloc();
+    for (kind, status, text) in [
+        (ErrorKind::BrokenPipe, 4, "output closed"),
+        (ErrorKind::StorageFull, 4, "output failed"),
+        (ErrorKind::WriteZero, 4, "output failed"),
+        (ErrorKind::OutOfMemory, 3, "out of memory"),
+    ] {
+        let failure = Failure::from(io::Error::from(kind));
+        assert_eq!(rt; failure.status(), status);
+        assert_eq!(rt; format!(in alloc; "{failure}")?.as_str(), text);
+    }
+    let failure = Failure::of_words(io::Error::from(ErrorKind::InvalidData));
+    assert_eq!(rt; failure.status(), 2);
+    assert_eq!(rt;
+        format!(in alloc; "{failure}")?.as_str(),
+        "words not read: one is not UTF-8"
+    );
+    let failure = Failure::of_words(io::Error::from(ErrorKind::OutOfMemory));
+    assert_eq!(rt; failure, Failure::Memory);
+    assert_eq!(rt;
+        format!(in alloc; "{}", ShowFault::BadHex)?.as_str(),
+        "bad hex"
+    );
+    assert_eq!(rt;
+        format!(in alloc; "{}", ShowFault::Memory)?.as_str(),
+        "out of memory"
+    );
+    Ok(())
+}
+
+// A file that is missing can't be told from one that is not read: `perform` is not asked for it.
+#[test]
+fn prints_of_a_file_that_is_not_read(rt: HostRuntime) -> Result<(), Fail> {
+    let mut output = Vec::new(rt.alloc());
+    assert_eq!(rt; mq_cli::file_not_read(&mut output)?, 2);
+    assert_eq!(rt; output.as_slice(), b"file not read\n".as_slice());
+    assert_eq!(rt; FILES.len(), 9);
+    Ok(())
+}
