@@ -13,13 +13,14 @@ use Rattle.mq_packet.specs.declared.packet.Packet.{Packet}
 use Rattle.mq_packet.specs.declared.packet.Packet.TheVariants as packets
 use Rattle.mq_flow.specs.Sender.{blank_book, no_claims, release, awaits_suback, awaits_unsuback}
 use Rattle.mq_flow.specs.Receiver.{none_received}
+use Rattle.mq_flow.specs.Window.{fits_window}
 use Rattle.mq_end.specs.declared.state.State.{State}
 use Rattle.mq_end.specs.declared.state.State.TheVariants.{Closed, Open, Up}
 use Rattle.mq_end.specs.declared.happening.Happening.TheVariants as happens
 use Rattle.mq_end.specs.declared.reason.CloseReason.{CloseReason}
 use Rattle.mq_end.specs.declared.reason.CloseReason.TheVariants as reasons
 use Rattle.mq_end.specs.End.{End, Reply, silent, tells, over, closes, comes_up, followed, is_up}
-use Rattle.mq_end.specs.Both.{publish_gets, flow_gets}
+use Rattle.mq_end.specs.Both.{stores, publish_gets, flow_gets}
 use Rattle.mq_end.specs.Client.{connack_gets, client_open_gets, client_up_gets, client_gets_in, client_gets_all}
 use Rattle.mq_end.specs.Server.{connect_gets, refuses, server_open_gets, server_up_gets, server_gets_in, server_gets_all}
 use Rattle.mq_end.specs.KeepAlive.{is_late, server_ticks}
@@ -38,7 +39,7 @@ stays e f reason h = absurd (not_none reason h)
 publish_over : (q : Qos) (d : Option Delivery) (m : Message) (e : End) → EndsOver e (publish_gets q d m e)
 publish_over Q0 None m e = λ r h. stays e _ r h
 publish_over Q1 (Some d) m e = λ r h. stays e _ r h
-publish_over Q2 (Some d) m e = λ r h. stays e _ r h
+publish_over Q2 (Some d) m e = cond_both (fits_window e.window d.id e.received) (stores d.id m e) (closes reasons.Window e) (EndsOver e) (λ t r h. stays e _ r h) (λ f r h. refl)
 publish_over q d m e = λ r h. refl
 
 flow_over : (p : Packet) (e : End) → EndsOver e (flow_gets p e)

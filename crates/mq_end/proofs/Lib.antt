@@ -1,6 +1,8 @@
 pub mod Soundness
 pub mod Lateness
 pub mod Closing
+pub mod Windows
+pub mod OnePacket
 pub mod Replies
 pub mod Received
 pub mod Hearing

@@ -13,6 +13,7 @@ use Rattle.mq_packet.specs.declared.packet.Packet.{Packet}
 use Rattle.mq_packet.specs.declared.packet.Packet.TheVariants as packets
 use Rattle.mq_flow.specs.declared.claim.Claim.TheVariants as claims
 use Rattle.mq_flow.specs.Sender.{blank_book, no_claims, IsFree, is_full, release, awaits_suback, awaits_unsuback}
+use Rattle.mq_flow.specs.Window.{fits_window}
 use Rattle.mq_flow.specs.Laws.{IsSound, IsGiven}
 use Rattle.mq_flow.proofs.Books.{laws as books}
 use Rattle.mq_end.specs.declared.state.State.{State}
@@ -22,7 +23,7 @@ use Rattle.mq_end.specs.declared.reason.CloseReason.TheVariants as reasons
 use Rattle.mq_end.specs.declared.refusal.PublishRefusal.{PublishRefusal}
 use Rattle.mq_end.specs.declared.refusal.PublishRefusal.TheVariants as refusals
 use Rattle.mq_end.specs.End.{End, tells, over, closes, renewed, comes_up, is_up}
-use Rattle.mq_end.specs.Both.{publish_gets, flow_gets, publishes_at, publish_refusal, has_identifier}
+use Rattle.mq_end.specs.Both.{stores, publish_gets, flow_gets, publishes_at, publish_refusal, has_identifier}
 use Rattle.mq_end.specs.Sizes.{publish_size}
 use Rattle.mq_end.specs.Client.{connack_gets, client_open_gets, client_up_gets, client_gets_in, request_refusal}
 use Rattle.mq_end.specs.Server.{connect_gets, refuses, server_open_gets, server_up_gets, server_gets_in}
@@ -38,7 +39,8 @@ renewed_sound capacity false e s = s
 publish_sound : (capacity : ℕ) (q : Qos) (d : Option Delivery) (m : Message) (e : End) → IsSound capacity e.book → IsSound capacity (publish_gets q d m e).end.book
 publish_sound capacity Q0 None m e s = s
 publish_sound capacity Q1 (Some d) m e s = s
-publish_sound capacity Q2 (Some d) m e s = s
+publish_sound capacity Q2 (Some d) m e s =
+    cond_both (fits_window e.window d.id e.received) (stores d.id m e) (closes reasons.Window e) (λ r. IsSound capacity r.end.book) (λ t. s) (λ f. over_sound capacity e s)
 publish_sound capacity q d m e s = over_sound capacity e s
 
 flow_sound : (capacity : ℕ) (p : Packet) (e : End) → IsSound capacity e.book → IsSound capacity (flow_gets p e).end.book

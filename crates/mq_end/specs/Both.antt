@@ -8,12 +8,24 @@ use Rattle.mq_packet.specs.declared.packet.Packet.{Packet}
 use Rattle.mq_packet.specs.declared.packet.Packet.TheVariants as packets
 use Rattle.mq_flow.specs.Sender.{is_awaited, is_full, accept, publish_packet, on_puback, on_pubrec, pubrec_answer, on_pubcomp}
 use Rattle.mq_flow.specs.Receiver.{is_new, on_publish, on_pubrel}
+use Rattle.mq_flow.specs.Window.{fits_window}
 use Rattle.mq_end.specs.declared.happening.Happening.TheVariants as happens
 use Rattle.mq_end.specs.declared.reason.CloseReason.TheVariants as reasons
 use Rattle.mq_end.specs.declared.refusal.PublishRefusal.{PublishRefusal}
 use Rattle.mq_end.specs.declared.refusal.PublishRefusal.TheVariants as refusals
 use Rattle.mq_end.specs.End.{End, Reply, silent, puts_out, tells, closes, is_up}
 use Rattle.mq_end.specs.Sizes.{publish_size}
+
+-- PUBLISH of quality of service 2: the identifier is stored, and PUBREC says so; only a message whose identifier was not stored
+-- is handed on (4.3.3).
+abbrev pub stores : ℕ → Message → End → Reply
+stores i m e = record {
+  end = record e { received = on_publish i e.received };
+  out = packets.PubRec i ∷ [];
+  happenings = if is_new i e.received then happens.Handed m ∷ [] else [];
+  freed = [];
+  close = None;
+}
 
 -- PUBLISH comes to an end that is up, by the quality of service (3.3, 4.3).
 abbrev pub publish_gets : Qos → Option Delivery → Message → End → Reply
@@ -27,14 +39,8 @@ publish_gets Q1 (Some d) m e = record {
   freed = [];
   close = None;
 }
--- exactly once: the identifier is stored, and PUBREC says so; only a message whose identifier was not stored is handed on (4.3.3)
-publish_gets Q2 (Some d) m e = record {
-  end = record e { received = on_publish d.id e.received };
-  out = packets.PubRec d.id ∷ [];
-  happenings = if is_new d.id e.received then happens.Handed m ∷ [] else [];
-  freed = [];
-  close = None;
-}
+-- exactly once: what doesn't fit the window closes the connection (4.8), else it is stored
+publish_gets Q2 (Some d) m e = if fits_window e.window d.id e.received then stores d.id m e else closes reasons.Window e
 -- there is no other PUBLISH: an identifier stands exactly where the quality of service is over 0 (2.3.1)
 publish_gets qos delivery m e = closes reasons.Unexpected e
 

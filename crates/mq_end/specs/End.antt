@@ -17,6 +17,7 @@ use Rattle.mq_end.specs.declared.reason.CloseReason.{CloseReason}
 -- clean: the CONNECT of the connection, at the server the accepted one, has clean session 1, so that the session ends
 --   with the connection (3.1.2.4).
 -- keep_alive: the seconds of that CONNECT (3.1.2.10).
+-- window: the receiving window, where it has one.
 pub record End : Type 0 where
   pub book : SenderBook
   pub received : ReceiverBook
@@ -25,14 +26,16 @@ pub record End : Type 0 where
   pub known : Bool
   pub clean : Bool
   pub keep_alive : ℕ
+  pub window : Option ℕ
 
--- an end without a session (3.1.2.4) and without a connection
-abbrev pub blank_end : End
-blank_end = record { book = blank_book; received = none_received; last = 0; state = Closed; known = false; clean = false; keep_alive = 0 }
+-- an end with this window, without a session (3.1.2.4) and without a connection
+abbrev pub blank_end : Option ℕ → End
+blank_end window = record { book = blank_book; received = none_received; last = 0; state = Closed; known = false; clean = false; keep_alive = 0; window = window }
 
--- An end that goes on with a session of before (3.1.2.4), its claimed identifiers freed; known is its mark.
-abbrev pub resumed : Bool → SenderBook → ReceiverBook → ℕ → End
-resumed known book received last = record { book = no_claims book; received = received; last = last; state = Closed; known = known; clean = false; keep_alive = 0 }
+-- An end with this window that goes on with a session of before (3.1.2.4), its claimed identifiers freed; known is its mark.
+abbrev pub resumed : Option ℕ → Bool → SenderBook → ReceiverBook → ℕ → End
+resumed window known book received last =
+    record { book = no_claims book; received = received; last = last; state = Closed; known = known; clean = false; keep_alive = 0; window = window }
 
 -- What comes of a packet or of a call: the end after it, the packets that it puts out in order, what it tells its user,
 -- the identifiers whose message of quality of service 1 is acknowledged, and why the connection is closed, where it is.

@@ -6,6 +6,7 @@ use Rattle.mq_packet.specs.declared.packet.Packet.{Packet}
 use Rattle.mq_packet.specs.declared.packet.Request.{Request}
 use Rattle.mq_flow.specs.Sender.{IsFree, blank_book, no_claims}
 use Rattle.mq_flow.specs.Receiver.{none_received}
+use Rattle.mq_flow.specs.Window.{IsWithin}
 use Rattle.mq_flow.specs.Laws.{IsSound, IsGiven}
 use Rattle.mq_end.specs.declared.reason.CloseReason.{CloseReason}
 use Rattle.mq_end.specs.declared.state.State.TheVariants.{Closed}
@@ -51,3 +52,12 @@ pub record ClosingLaws : Type 0 where
   -- a closed end takes nothing in
   pub client_ignores : (ps : List Packet) (e : End) → e.state ≡ Closed → client_gets_all ps e ≡ silent e
   pub server_ignores : (ps : List Packet) (e : End) → e.state ≡ Closed → server_gets_all ps e ≡ silent e
+
+-- From one end to the next: the window is the same, and at most as many identifiers are stored as it has or as were stored before.
+abbrev pub KeepsWindow : End → End → Type 0
+KeepsWindow e f = (f.window ≡ e.window) × IsWithin e.window e.received f.received
+
+-- Whatever comes to an end, its receiving window stays, and bounds what is stored (4.3.3).
+pub record WindowLaws : Type 0 where
+  pub client : (ps : List Packet) (e : End) → KeepsWindow e (client_gets_all ps e).end
+  pub server : (ps : List Packet) (e : End) → KeepsWindow e (server_gets_all ps e).end

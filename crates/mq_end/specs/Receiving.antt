@@ -140,3 +140,15 @@ pub record Hears (role : Role) (now : ℕ) (piece : List ℕ) (old new : EndStat
 abbrev pub ReceivesAs : Role → List ℕ → EndState → EndState → List Happening → List ℕ → Option CloseReason → Type 0
 ReceivesAs Client piece old new happenings acknowledged closed = ClientReceives piece old new happenings acknowledged closed
 ReceivesAs Server piece old new happenings acknowledged closed = ServerReceives piece old new happenings acknowledged closed
+
+-- the moment of a server's last whole packet, where one came now and the end did not close (3.1.2.10)
+abbrev pub heard_one : Option CloseReason → ℕ → ℕ → ℕ
+heard_one None now last = now
+heard_one (Some reason) now last = last
+
+-- A whole packet came to a server end with a connection: this came of it, or there was no memory for it and the end closed.
+pub record TakesOne (now : ℕ) (p : Packet) (old new : EndState) (happenings : List Happening) (acknowledged : List ℕ) (closed : Option CloseReason) : Type 0 where
+  pub reply : Reply
+  pub does : (reply ≡ server_gets p old.end) ⊎ (reply ≡ closes reasons.Memory old.end)
+  pub shows : Shows reply old new happenings acknowledged closed
+  pub state : new ≡ record old { end = reply.end; output = new.output; held = held_after reply.close old.held; moment = heard_one reply.close now old.moment }

@@ -10,6 +10,7 @@ ghost use Rattle.mq_end.specs.Receiving.{Acts, ClientReceives};
 ghost use Rattle.mq_end.specs.Publishing.{Accepts, connect_of};
 ghost use Rattle.mq_end.specs.KeepAlive.{pings};
 ghost use Rattle.mq_end.specs.Requests.{Requests, Ticks};
+ghost use Rattle.mq_end.specs.Laws.{KeepsWindow};
 ghost use Rattle.mq_end.specs.Resuming.{FitsWithin, NamesAnother, kept_session};
 ghost use Rattle.mq_flow.specs.Saved.{AreWithin, IsSession};
 ghost use Rattle.mq_flow.specs.SavedTwo.{saved_form_two};
@@ -54,15 +55,16 @@ impl Model for ClientEnd {
 impl ClientEnd {
     /// A client without a session and without a connection. It takes no memory.
     pub fn new(alloc: Global, config: ClientConfig) -> ClientEnd
-        requires { 0 < config.capacity }
-        ensures end { result.link.end ≡ blank_end }
+        requires capacity { 0 < config.capacity }
+        requires window { IfSome config.window (λ window. 0 < window) }
+        ensures end { result.link.end ≡ blank_end config.window }
         ensures capacity { result.link.capacity ≡ config.capacity }
         ensures limit { result.link.limit ≡ config.limits }
         ensures output { result.link.output ≡ [] }
         ensures held { result.link.held ≡ [] }
         ensures config { result.config ≡ config }
     {
-        let link = Link::new(alloc, config.limits, config.capacity);
+        let link = Link::new(alloc, config.limits, config.capacity, config.window);
         ClientEnd { config, link }
     }
 
@@ -70,9 +72,10 @@ impl ClientEnd {
     /// It counts as never established, so the server may have no session present. The session keeps its capacity, which
     /// stands in place of the configured one. `None` where a message of the session is over the limit. It takes no memory.
     pub fn with_session(alloc: Global, config: ClientConfig, session: Session) -> Option<ClientEnd>
+        requires { IfSome config.window (λ window. 0 < window) }
         ensures there { IsSome result ↔ FitsWithin config.limits.most session }
         ensures end { IfSome result (λ client. client.link.end
-            ≡ resumed false session.sender.book session.receiver session.sender.last) }
+            ≡ resumed config.window false session.sender.book session.receiver session.sender.last) }
         ensures capacity { IfSome result (λ client. client.link.capacity ≡ session.sender.capacity) }
         ensures limit { IfSome result (λ client. client.link.limit ≡ config.limits) }
         ensures output { IfSome result (λ client. client.link.output ≡ []) }
@@ -82,7 +85,7 @@ impl ClientEnd {
         if !fits_within(config.limits, &session) {
             return None;
         }
-        let link = Link::with_session(alloc, config.limits, session, false);
+        let link = Link::with_session(alloc, config.limits, config.window, session, false);
         Some(ClientEnd { config, link })
     }
 
@@ -95,12 +98,13 @@ impl ClientEnd {
         config: ClientConfig,
         saved: Saved,
     ) -> Result<ClientEnd, LoadError>
+        requires { IfSome config.window (λ window. 0 < window) }
         ensures another { IsErrOf result LoadError.AnotherClient ↔ NamesAnother saved.client config.id }
         ensures too_large { IsErrOf result LoadError.TooLarge
             ↔ ((NamesAnother saved.client config.id → ⊥) × (FitsWithin config.limits.most saved.session → ⊥)) }
         ensures only { IfErr result (λ why. (why ≡ LoadError.AnotherClient) ⊎ (why ≡ LoadError.TooLarge)) }
         ensures end { IfOk result (λ client. client.link.end
-            ≡ resumed saved.established saved.session.sender.book saved.session.receiver saved.session.sender.last) }
+            ≡ resumed config.window saved.established saved.session.sender.book saved.session.receiver saved.session.sender.last) }
         ensures capacity { IfOk result (λ client. client.link.capacity ≡ saved.session.sender.capacity) }
         ensures limit { IfOk result (λ client. client.link.limit ≡ config.limits) }
         ensures output { IfOk result (λ client. client.link.output ≡ []) }
@@ -113,7 +117,13 @@ impl ClientEnd {
         if !fits_within(config.limits, &saved.session) {
             return Err(LoadError::TooLarge);
         }
-        let link = Link::with_session(alloc, config.limits, saved.session, saved.established);
+        let link = Link::with_session(
+            alloc,
+            config.limits,
+            config.window,
+            saved.session,
+            saved.established,
+        );
         Ok(ClientEnd { config, link })
     }
 
@@ -176,6 +186,7 @@ impl ClientEnd {
         ensures limit { self.new.link.limit ≡ self.old.link.limit }
         ensures capacity { self.new.link.capacity ≡ self.old.link.capacity }
         ensures moment { self.new.link.moment ≡ self.old.link.moment }
+        ensures window { KeepsWindow self.old.link.end self.new.link.end }
         ensures config { self.new.config ≡ self.old.config }
     {
         self.link.receive(Role::Client, now, piece)

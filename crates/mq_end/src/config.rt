@@ -19,6 +19,9 @@ pub struct ClientConfig {
     pub limits: Limits,
     /// The most packet identifiers in use, at least 1 (2.3.1).
     pub capacity: u16,
+    /// The receiving window, at least 1: while so many messages of quality of service 2 were handed on and are not released, a new
+    /// one closes the connection (4.3.3, 4.8). `None` is no window.
+    pub window: Option<u16>,
 }
 
 /// What the user of a server end says of it.
@@ -28,4 +31,7 @@ pub struct ServerConfig {
     pub limits: Limits,
     /// The most packet identifiers in use, at least 1 (2.3.1).
     pub capacity: u16,
+    /// The receiving window, at least 1: while so many messages of quality of service 2 were handed on and are not released, a new
+    /// one closes the connection (4.3.3, 4.8). `None` is no window.
+    pub window: Option<u16>,
 }

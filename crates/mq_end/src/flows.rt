@@ -4,7 +4,7 @@ ghost use Rattle.std.specs.Prelude.{◌≡◌, IfOk, OnOk, OnErr, None, Some};
 ghost use Rattle.mq_topic.specs.declared.qos.Qos.TheVariants.{Q1, Q2};
 ghost use Rattle.mq_packet.specs.declared.packet.Packet.TheVariants as packets;
 ghost use Rattle.mq_flow.specs.Receiver.{on_pubrel};
-ghost use Rattle.mq_end.specs.Both.{flow_gets, publish_gets};
+ghost use Rattle.mq_end.specs.Both.{flow_gets, publish_gets, stores};
 ghost use Rattle.mq_end.specs.Receiving.{Acts, Makes, Stays};
 
 use crate::happening::Happening;
@@ -57,7 +57,7 @@ impl Link {
         message: Message,
         told: &mut Told,
     ) -> Result<(), AllocError>
-        ensures ok { OnOk result (Makes (publish_gets Q2 (Some delivery) message self.old.end) self.old self.new told.old told.new) }
+        ensures ok { OnOk result (Makes (stores delivery.id message self.old.end) self.old self.new told.old told.new) }
         ensures err { OnErr result (Stays self.old self.new told.old told.new) }
     {
         told.happenings.reserve(1)?;
@@ -74,18 +74,42 @@ impl Link {
         Ok(())
     }
 
+    /// A message of quality of service 2: where it doesn't fit the window the end closes (4.3.3, 4.8).
+    fn take_within_window(
+        &mut self,
+        delivery: Delivery,
+        message: Message,
+        told: &mut Told,
+    ) -> Result<Option<CloseReason>, AllocError>
+        ensures closed { IfOk result (λ closed. closed ≡ (publish_gets Q2 (Some delivery) message self.old.end).close) }
+        ensures ok { OnOk result (Makes (publish_gets Q2 (Some delivery) message self.old.end) self.old self.new told.old told.new) }
+        ensures err { OnErr result (Stays self.old self.new told.old told.new) }
+    {
+        if !self.session.receiver.fits(delivery.id, self.window) {
+            return Ok(Some(self.close(CloseReason::Window)));
+        }
+        self.take_exactly_once(delivery, message, told)?;
+        Ok(None)
+    }
+
     /// PUBLISH (3.3, 4.3).
-    fn take_publish(&mut self, publish: Publish, told: &mut Told) -> Result<(), AllocError>
+    fn take_publish(
+        &mut self,
+        publish: Publish,
+        told: &mut Told,
+    ) -> Result<Option<CloseReason>, AllocError>
+        ensures closed { IfOk result (λ closed. closed ≡ (flow_gets (packets.Publish publish) self.old.end).close) }
         ensures ok { OnOk result (Makes (flow_gets (packets.Publish publish) self.old.end) self.old self.new told.old told.new) }
         ensures err { OnErr result (Stays self.old self.new told.old told.new) }
     {
         let delivery = publish.delivery();
         let message = publish.into_message();
         match (message.qos, delivery) {
-            (Qos::Q1, Some(delivery)) => self.take_at_least_once(delivery, message, told),
-            (Qos::Q2, Some(delivery)) => self.take_exactly_once(delivery, message, told),
-            _ => self.hand_on(message, told),
+            (Qos::Q1, Some(delivery)) => self.take_at_least_once(delivery, message, told)?,
+            (Qos::Q2, Some(delivery)) => return self.take_within_window(delivery, message, told),
+            _ => self.hand_on(message, told)?,
         }
+        Ok(None)
     }
 
     /// PUBACK (3.4, 4.3.2).
@@ -142,7 +166,7 @@ impl Link {
         ensures err { OnErr result (Stays self.old self.new told.old told.new) }
     {
         match packet {
-            Packet::Publish(publish) => self.take_publish(publish, told)?,
+            Packet::Publish(publish) => return self.take_publish(publish, told),
             Packet::PubAck(id) => self.take_puback(id, told)?,
             Packet::PubRec(id) => self.take_pubrec(id)?,
             Packet::PubRel(id) => self.take_pubrel(id)?,

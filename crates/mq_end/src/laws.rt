@@ -1,7 +1,7 @@
 //! The laws of what an end does.
 
 ghost use Rattle.mq_end.specs.SizeLaws.{SizeLaws};
-ghost use Rattle.mq_end.specs.Laws.{ClosingLaws, SoundLaws};
+ghost use Rattle.mq_end.specs.Laws.{ClosingLaws, SoundLaws, WindowLaws};
 ghost use Rattle.mq_end.specs.KeepAlive.{KeepAliveLaws};
 
 /// Whatever an end takes in and whatever its user asks, its identifiers in use stay from 1 to 65,535, each in
@@ -24,4 +24,10 @@ pub fn closing_laws()
 /// What a packet that a user has an end put out is measured by is the length of its fields (2.2.3).
 pub fn size_laws()
     ensures { SizeLaws }
+{}
+
+/// Whatever comes to an end, it keeps its receiving window, and at most as many identifiers are stored as the window has or as
+/// were stored before (4.3.3).
+pub fn window_laws()
+    ensures { WindowLaws }
 {}

@@ -30,7 +30,7 @@ pub use crate::client::ClientEnd;
 pub use crate::config::{ClientConfig, ServerConfig};
 pub use crate::happening::Happening;
 pub use crate::items::Items;
-pub use crate::laws::{closing_laws, keep_alive_laws, size_laws, sound_laws};
+pub use crate::laws::{closing_laws, keep_alive_laws, size_laws, sound_laws, window_laws};
 pub use crate::progress::Progress;
 pub use crate::queue::ByteQueue;
 pub use crate::reason::CloseReason;

@@ -27,6 +27,7 @@ pub(crate) struct Link {
     pub(crate) clean: bool,
     pub(crate) keep_alive: u16,
     pub(crate) capacity: u16,
+    pub(crate) window: Option<u16>,
     pub(crate) limits: Limits,
     pub(crate) moment: u64,
     pub(crate) decoder: Decoder,
@@ -53,6 +54,7 @@ impl Model for Link {
         known = l.known;
         clean = l.clean;
         keep_alive = l.keep_alive;
+        window = l.window;
       };
       capacity = l.session.sender.capacity;
       limit = l.limits;
@@ -67,11 +69,11 @@ impl Model for Link {
 
 impl Link {
     /// An end without a session and without a connection.
-    pub(crate) fn new(alloc: Global, limits: Limits, capacity: u16) -> Link
+    pub(crate) fn new(alloc: Global, limits: Limits, capacity: u16, window: Option<u16>) -> Link
         requires { 0 < capacity }
-        ensures { result ≡ record { end = blank_end; capacity = capacity; limit = limits; held = []; output = []; moment = 0 } }
+        ensures { result ≡ record { end = blank_end window; capacity = capacity; limit = limits; held = []; output = []; moment = 0 } }
     {
-        Link::with_session(alloc, limits, Session::new(alloc, capacity), false)
+        Link::with_session(alloc, limits, window, Session::new(alloc, capacity), false)
     }
 
     /// The session is as new, and not known.

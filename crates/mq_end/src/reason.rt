@@ -28,4 +28,7 @@ pub enum CloseReason {
     /// DISCONNECT was sent or read (3.14).
     #[error("C7")]
     Left,
+    /// A new message of quality of service 2 that does not fit the receiving window (4.8).
+    #[error("C11")]
+    Window,
 }

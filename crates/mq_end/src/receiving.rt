@@ -3,7 +3,8 @@
 ghost use Rattle.std.specs.Prelude.{◌≡◌, ◌++◌, [], true, false, IfErr, OnOk, None, Some};
 ghost use Rattle.mq_decode.specs.Grammar.{Goes, Stops};
 ghost use Rattle.mq_end.specs.End.{Reply, is_live};
-ghost use Rattle.mq_end.specs.Receiving.{HeardAs, Hears, IsBreak, Makes, ReceivesAs, heard_as, is_answered};
+ghost use Rattle.mq_end.specs.Laws.{KeepsWindow};
+ghost use Rattle.mq_end.specs.Receiving.{HeardAs, Hears, IsBreak, Makes, ReceivesAs, TakesOne, heard_as, is_answered};
 
 use crate::link::Link;
 use crate::progress::Progress;
@@ -92,6 +93,31 @@ impl Link {
         }
     }
 
+    /// A whole packet comes to the server, at this moment. Without a connection it is ignored.
+    pub(crate) fn on_packet(&mut self, now: u64, packet: Packet) -> Progress
+        ensures open { is_live self.old.end.state ≡ true → TakesOne now packet self.old self.new
+            result.happenings result.acknowledged result.closed }
+        ensures closed { is_live self.old.end.state ≡ false → self.new ≡ self.old }
+        ensures nothing { is_live self.old.end.state ≡ false
+            → (result.happenings ≡ []) × (result.acknowledged ≡ []) × (result.closed ≡ None) }
+    {
+        let mut told = Told::new(self.alloc);
+        if self.state == State::Closed {
+            return told.into_progress(None);
+        }
+        match self.take(Role::Server, packet, &mut told) {
+            Ok(None) => {
+                self.hear(Role::Server, now, true);
+                told.into_progress(None)
+            }
+            Ok(Some(reason)) => told.into_progress(Some(reason)),
+            Err(_) => {
+                let reason = self.close(CloseReason::Memory);
+                told.into_progress(Some(reason))
+            }
+        }
+    }
+
     /// Bytes come to the end, at this moment. Without a connection they are ignored.
     pub(crate) fn receive(&mut self, role: Role, now: u64, piece: &[u8]) -> Progress
         ensures open { is_live self.old.end.state ≡ true → ReceivesAs role piece.now self.old self.new
@@ -101,6 +127,7 @@ impl Link {
             → (result.happenings ≡ []) × (result.acknowledged ≡ []) × (result.closed ≡ None) }
         ensures limit { self.new.limit ≡ self.old.limit }
         ensures capacity { self.new.capacity ≡ self.old.capacity }
+        ensures window { KeepsWindow self.old.end self.new.end }
         ensures heard { is_live self.old.end.state ≡ true → HeardAs role now (self.old.held ++ piece.now) result.closed self.old self.new }
     {
         let mut told = Told::new(self.alloc);

@@ -37,11 +37,12 @@ impl Link {
     pub(crate) fn with_session(
         alloc: Global,
         limits: Limits,
+        window: Option<u16>,
         mut session: Session,
         known: bool,
     ) -> Link
         ensures { result ≡ record {
-          end = resumed known session.sender.book session.receiver session.sender.last;
+          end = resumed window known session.sender.book session.receiver session.sender.last;
           capacity = session.sender.capacity;
           limit = limits;
           held = [];
@@ -59,6 +60,7 @@ impl Link {
             clean: false,
             keep_alive: 0,
             capacity,
+            window,
             limits,
             moment: 0,
             decoder: Decoder::new(alloc, limits),

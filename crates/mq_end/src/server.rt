@@ -1,11 +1,12 @@
 //! The server end.
 
 ghost use Rattle.std.specs.Prelude.{◌≡◌, ◌<◌, ◌≤◌, ◌++◌, ◌↔◌, ℕ, [], true, false, length, drop, IfOk, IfErr, IfSome, IfNone, IsSome, OnOk, OnErr, Err, None, Some};
-ghost use Rattle.mq_end.specs.End.{blank_end, is_live, over, resumed};
-ghost use Rattle.mq_end.specs.Server.{opens, server_publish_refusal, subacks, suback_refusal, unsubacks, unsuback_refusal};
-ghost use Rattle.mq_end.specs.Receiving.{Acts, HearsAt, ServerReceives};
+ghost use Rattle.mq_end.specs.End.{blank_end, is_live, is_up, over, resumed};
+ghost use Rattle.mq_end.specs.Server.{would_hand, opens, server_publish_refusal, subacks, suback_refusal, unsubacks, unsuback_refusal};
+ghost use Rattle.mq_end.specs.Receiving.{Acts, HearsAt, ServerReceives, TakesOne};
 ghost use Rattle.mq_end.specs.Publishing.{Accepts};
 ghost use Rattle.mq_end.specs.KeepAlive.{server_ticks};
+ghost use Rattle.mq_end.specs.Laws.{KeepsWindow};
 ghost use Rattle.mq_end.specs.Resuming.{FitsWithin};
 
 use crate::config::ServerConfig;
@@ -18,7 +19,8 @@ use crate::resuming::fits_within;
 use crate::role::Role;
 use crate::state::State;
 use mq_flow::Session;
-use mq_packet::{Message, NonEmpty, PacketId, SubAckCode};
+use mq_packet::{Message, NonEmpty, Packet, PacketId, Publish, SubAckCode};
+use mq_topic::Qos;
 use std::alloc::Global;
 use std::marker::Model;
 
@@ -45,15 +47,16 @@ impl Model for ServerEnd {
 impl ServerEnd {
     /// A server end without a session and without a connection. It takes no memory.
     pub fn new(alloc: Global, config: ServerConfig) -> ServerEnd
-        requires { 0 < config.capacity }
-        ensures end { result.end ≡ blank_end }
+        requires capacity { 0 < config.capacity }
+        requires window { IfSome config.window (λ window. 0 < window) }
+        ensures end { result.end ≡ blank_end config.window }
         ensures capacity { result.capacity ≡ config.capacity }
         ensures limit { result.limit ≡ config.limits }
         ensures output { result.output ≡ [] }
         ensures held { result.held ≡ [] }
     {
         ServerEnd {
-            link: Link::new(alloc, config.limits, config.capacity),
+            link: Link::new(alloc, config.limits, config.capacity, config.window),
         }
     }
 
@@ -61,9 +64,10 @@ impl ServerEnd {
     /// 4.1). The session keeps its capacity, which stands in place of the configured one. `None` where a message of the
     /// session is over the limit. It takes no memory.
     pub fn with_session(alloc: Global, config: ServerConfig, session: Session) -> Option<ServerEnd>
+        requires { IfSome config.window (λ window. 0 < window) }
         ensures there { IsSome result ↔ FitsWithin config.limits.most session }
         ensures end { IfSome result (λ server. server.end
-            ≡ resumed true session.sender.book session.receiver session.sender.last) }
+            ≡ resumed config.window true session.sender.book session.receiver session.sender.last) }
         ensures capacity { IfSome result (λ server. server.capacity ≡ session.sender.capacity) }
         ensures limit { IfSome result (λ server. server.limit ≡ config.limits) }
         ensures output { IfSome result (λ server. server.output ≡ []) }
@@ -72,7 +76,7 @@ impl ServerEnd {
         if !fits_within(config.limits, &session) {
             return None;
         }
-        let link = Link::with_session(alloc, config.limits, session, true);
+        let link = Link::with_session(alloc, config.limits, config.window, session, true);
         Some(ServerEnd { link })
     }
 
@@ -102,8 +106,47 @@ impl ServerEnd {
         ensures heard { is_live self.old.end.state ≡ true → HearsAt now (self.old.held ++ piece.now) result.closed self.old self.new }
         ensures limit { self.new.limit ≡ self.old.limit }
         ensures capacity { self.new.capacity ≡ self.old.capacity }
+        ensures window { KeepsWindow self.old.end self.new.end }
     {
         self.link.receive(Role::Server, now, piece)
+    }
+
+    /// A whole packet comes from the client, at this moment: `receive` is the decoder, and then this for each packet. Without a
+    /// connection it is ignored; where memory runs out the end closes.
+    pub fn on_packet(&mut self, now: u64, packet: Packet) -> Progress
+        ensures open { is_live self.old.end.state ≡ true → TakesOne now packet self.old self.new
+            result.happenings result.acknowledged result.closed }
+        ensures closed { is_live self.old.end.state ≡ false → self.new ≡ self.old }
+        ensures nothing { is_live self.old.end.state ≡ false
+            → (result.happenings ≡ []) × (result.acknowledged ≡ []) × (result.closed ≡ None) }
+    {
+        self.link.on_packet(now, packet)
+    }
+
+    /// Whether a packet that comes now hands a message on, memory aside (4.3). It takes no memory.
+    pub fn would_hand(&self, packet: &Packet) -> bool
+        ensures { result ≡ would_hand packet.now self.now.end }
+    {
+        if self.link.state != State::Up {
+            return false;
+        }
+        match packet {
+            Packet::Publish(publish) => self.hands(publish),
+            _ => false,
+        }
+    }
+
+    // Whether a PUBLISH that comes to an end that is up hands its message on (4.3).
+    fn hands(&self, publish: &Publish) -> bool
+        ensures { is_up self.now.end.state ≡ true → result ≡ would_hand (Packet.Publish publish.now) self.now.end }
+    {
+        let receiver = &self.link.session.receiver;
+        match (publish.message().qos, publish.delivery()) {
+            (Qos::Q2, Some(delivery)) => {
+                receiver.fits(delivery.id, self.link.window) && !receiver.is_stored(delivery.id)
+            }
+            _ => true,
+        }
     }
 
     /// Publishes a message to the client, and answers its packet identifier, where it has one (2.3.1). While the end is

@@ -6,6 +6,7 @@ mod loss;
 mod making;
 mod publish;
 mod run;
+mod window;
 
 use crate::world::ask::Ask;
 use crate::world::brief::told_of_copy;

@@ -36,6 +36,7 @@ close_code closes.SessionLost = codes "C4"
 close_code closes.KeepAlive = codes "C5"
 close_code closes.Memory = codes "C6"
 close_code closes.Left = codes "C7"
+close_code closes.Window = codes "C11"
 
 -- ---- one line each: the side, and what comes of it
 

@@ -1,5 +1,5 @@
 -- What a schedule comes to, and what is printed of it.
-use Rattle.std.specs.Prelude.{ℕ, ◌≡◌, if◌then◌else◌, List, [], ◌∷◌, ◌++◌, length, codes, decimal}
+use Rattle.std.specs.Prelude.{ℕ, ◌≡◌, if◌then◌else◌, None, List, [], ◌∷◌, ◌++◌, length, codes, decimal}
 use Rattle.std.specs.List.{flat_map}
 use Rattle.std.specs.Int.NonZero.{non_zero_u16_get}
 use Rattle.mq_topic.specs.declared.qos.Qos.{Qos}
@@ -37,7 +37,7 @@ StepsLead limit capacity (s ∷ ss) [] old new = ⊥
 -- from a new world
 pub record Comes (limit : Bounds) (capacity : ℕ) (steps : List Step) (answers : List Answer) (end : Wired) : Type 0 where
   pub start : Wired
-  pub new : IsNew limit capacity start
+  pub new : IsNew limit capacity None start
   pub leads : StepsLead limit capacity steps answers start end
 
 -- ---- the last lines: of each direction and quality of service, how many messages were accepted, handed on, and are held

@@ -1,6 +1,6 @@
 //! Schedules that are run.
 
-ghost use Rattle.std.specs.Prelude.{◌≡◌, IfErr, IfOk, OnOk};
+ghost use Rattle.std.specs.Prelude.{◌≡◌, None, IfErr, IfOk, OnOk};
 ghost use Rattle.std.specs.Int.NonZero.{non_zero_u16_get};
 ghost use Rattle.std.specs.Io.KnownBytes.{Appends};
 ghost use Rattle.mq_line.specs.Lines.{Prints};
@@ -56,7 +56,7 @@ impl From<AllocError> for ReplayFault {
 
 // There is a new world within these bounds, also where memory does not suffice to make it.
 fn begins(limits: Limits, capacity: u16)
-    ensures { (start : Wired) × IsNew limits capacity start }
+    ensures { (start : Wired) × IsNew limits capacity None start }
 {
     over_bytes();
     let _least = limits.max_packet();
@@ -90,7 +90,7 @@ fn advance<W: Write>(world: &mut World, step: &Step, output: &mut W) -> Result<(
 
 // Runs a schedule in a world that is new.
 fn run<W: Write>(world: &mut World, schedule: &Schedule, output: &mut W) -> Result<(), ReplayFault>
-    requires new { IsNew schedule.now.limits (non_zero_u16_get schedule.now.capacity) world.old.wired }
+    requires new { IsNew schedule.now.limits (non_zero_u16_get schedule.now.capacity) None world.old.wired }
     requires limit { world.old.limit ≡ schedule.now.limits }
     requires capacity { world.old.capacity ≡ non_zero_u16_get schedule.now.capacity }
     ensures printed { OnOk result

@@ -64,5 +64,6 @@ pub(crate) fn close_code(reason: CloseReason) -> &'static str
         CloseReason::KeepAlive => "C5",
         CloseReason::Memory => "C6",
         CloseReason::Left => "C7",
+        CloseReason::Window => "C11",
     }
 }

@@ -1,6 +1,7 @@
 mod brief;
 mod client;
 mod late;
+mod packets;
 mod queue;
 mod requests;
 mod resumed;
@@ -47,13 +48,14 @@ fn client_config(alloc: Global, capacity: u16) -> Result<ClientConfig, Fail> {
         login: None,
         limits,
         capacity,
+        window: None,
     })
 }
 
 // A client end of that.
 fn new_client(alloc: Global, capacity: u16) -> Result<ClientEnd, Fail> {
     let config = client_config(alloc, capacity)?;
-    if config.capacity == 0 {
+    if config.capacity == 0 || config.window.is_some() {
         return Err(Fail::new("no room"));
     }
     Ok(ClientEnd::new(alloc, config))
@@ -62,13 +64,17 @@ fn new_client(alloc: Global, capacity: u16) -> Result<ClientEnd, Fail> {
 // What the user of a server says of it: limits 64 and so much room.
 fn server_config(capacity: u16) -> Result<ServerConfig, Fail> {
     let limits = Limits::new(64).ok_or("no limits")?;
-    Ok(ServerConfig { limits, capacity })
+    Ok(ServerConfig {
+        limits,
+        capacity,
+        window: None,
+    })
 }
 
 // A server end of that.
 fn new_server(alloc: Global, capacity: u16) -> Result<ServerEnd, Fail> {
     let config = server_config(capacity)?;
-    if config.capacity == 0 {
+    if config.capacity == 0 || config.window.is_some() {
         return Err(Fail::new("no room"));
     }
     Ok(ServerEnd::new(alloc, config))

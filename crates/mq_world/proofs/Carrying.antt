@@ -14,12 +14,13 @@ use Rattle.mq_packet.specs.declared.connack.RefusalCode.TheVariants.{IdentifierR
 use Rattle.mq_packet.specs.declared.packet.Packet.{Packet}
 use Rattle.mq_packet.specs.declared.packet.Packet.TheVariants as packets
 use Rattle.mq_flow.specs.declared.entry.Entry.{Entry}
+use Rattle.mq_flow.specs.Window.{fits_window}
 use Rattle.mq_flow.specs.Sender.{SenderBook, blank_book, no_claims, resent, publish_packet, is_awaited, without_entry}
 use Rattle.mq_end.specs.declared.state.State.{State}
 use Rattle.mq_end.specs.declared.state.State.TheVariants.{Closed, Open, Up}
 use Rattle.mq_end.specs.declared.reason.CloseReason.TheVariants as reasons
 use Rattle.mq_end.specs.End.{End, Reply, drops, is_up, over, closes, comes_up, renewed}
-use Rattle.mq_end.specs.Both.{publish_gets, flow_gets, has_identifier, publishes_at}
+use Rattle.mq_end.specs.Both.{stores, publish_gets, flow_gets, has_identifier, publishes_at}
 use Rattle.mq_end.specs.Client.{leaves, connack_gets, client_open_gets, client_up_gets, client_gets_in}
 use Rattle.mq_end.specs.Server.{connect_gets, refuses, server_open_gets, server_up_gets, server_gets_in}
 use Rattle.mq_end.specs.Laws.{MayHave}
@@ -50,7 +51,8 @@ module _ (test : Message → Bool) where
   publish_well : (q : Qos) (d : Option Delivery) (m : Message) (e : End) → IsPublication test (record m { qos = q }) d → Holds e.book → Leaves_well (publish_gets q d (record m { qos = q }) e)
   publish_well Q0 None m e p h = (h, tt)
   publish_well Q1 (Some d) m e p h = (h, (p.2, tt))
-  publish_well Q2 (Some d) m e p h = (h, (p.2, tt))
+  publish_well Q2 (Some d) m e p h =
+      cond_both (fits_window e.window d.id e.received) (stores d.id (record m { qos = Q2 }) e) (closes reasons.Window e) Leaves_well (λ t. (h, (p.2, tt))) (λ f. (over_well e h, tt))
   publish_well q d m e p h = (over_well e h, tt)
 
   flow_well : (p : Packet) (e : End) → IsCarried test p → Holds e.book → Leaves_well (flow_gets p e)
@@ -221,6 +223,6 @@ module _ (test : Message → Bool) where
   of_well h k = record { entries = k.0.0; released = k.0.1; coming = k.1 }
 
 pub carried : CarriedLaw
-carried test limit capacity moves w p run =
-    let k = run_well test limit capacity blank_machine moves w p run ((tt, tt), tt) ((tt, tt), tt) in
+carried test limit capacity window moves w p run =
+    let k = run_well test limit capacity (blank_machine window) moves w p run ((tt, tt), tt) ((tt, tt), tt) in
     (of_well test w.client k.0, of_well test w.server k.1)

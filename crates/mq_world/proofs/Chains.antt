@@ -50,6 +50,6 @@ known_both c s m k = by_server s.end.known m
         true_not e = cc
 
 pub kept_sessions : SessionsLaw
-kept_sessions limit capacity moves w run =
-    let h = reached_well limit capacity moves w run in
+kept_sessions limit capacity window moves w run =
+    let h = reached_well limit capacity window moves w run in
     record { client = h.0.kept_x; server = h.0.kept_y; known = known_both w.client w.server h.1 }

@@ -5,6 +5,7 @@ use Rattle.mq_packet.specs.declared.packet.Packet.{Packet}
 use Rattle.mq_decode.specs.Limits.{Bounds}
 use Rattle.mq_decode.specs.Grammar.{Stream, Pending}
 use Rattle.mq_decode.specs.Laws.{ReadsAgain}
+use Rattle.mq_flow.specs.Window.{Spans}
 use Rattle.mq_end.specs.declared.state.State.{State}
 use Rattle.mq_end.specs.declared.state.State.TheVariants.{Closed, Open, Up}
 use Rattle.mq_end.specs.declared.happening.Happening.{Happening}
@@ -20,10 +21,13 @@ use Rattle.mq_world.specs.Half.{Half, Arrives, Drops, moved, kept, put, took, ge
 use Rattle.mq_world.specs.Machine.{Machine, Move, By, Run, after}
 use Rattle.mq_world.specs.Settling.{arrivals}
 use Rattle.mq_world.specs.Identifiers.{half_of}
-use Rattle.mq_world.specs.Carries.{WiredSide, Wired, CarriesSide}
+use Rattle.mq_world.specs.Carries.{WiredSide, Wired, CarriesSide, Reached}
 use Rattle.mq_world.specs.OverBytes.{Stands, Delivers, near, far, facing, SameBounds, with_more, handed_with, left_on, hearing, faulted, ReceivesAt}
 use Rattle.mq_world.proofs.Streams.{cut, no_fault}
 use Rattle.mq_world.proofs.Together.{law as at_once}
+use Rattle.mq_world.proofs.Both.{turned}
+use Rattle.mq_world.proofs.Whole.{holds}
+use Rattle.mq_world.proofs.Windows.{IsOther, not_window, all_other}
 use Rattle.mq_world.proofs.Chains.{chains}
 use Rattle.mq_world.proofs.Standing.{other, face, put_none, side_near, follows, all_put_out}
 
@@ -50,6 +54,14 @@ closes_all laws side (p ∷ ps) e reason h = at (gets side p e).close refl h (cl
     at (Some first) is h next =
         let closed : (gets side p e).end.state ≡ Closed = ap (λ (f : End). f.state) (gets_over laws side p e first is) in
         ap (λ (r : Reply). r.end.state) (ignores laws side ps (gets side p e).end closed) ∙ closed
+
+-- ---- windows
+
+-- in a machine that a run reaches, an end whose window is not less than the capacity does not close because of it
+fits_all : (limit capacity : ℕ) (side : Side) (m : Machine) → Reached limit capacity m → Spans (half_of side m).end.window capacity → (ps rest : List Packet) → (half_of side m).coming ≡ kept (half_of side m).end.state (ps ++ rest)
+    → IsOther (one_by_one (gets side) ps (half_of side m).end).close
+fits_all limit capacity Client m r spans ps rest h = all_other capacity Client ps rest m.client m.server (holds limit capacity r.0 r.1 m r.2) spans h
+fits_all limit capacity Server m r spans ps rest h = all_other capacity Server ps rest m.server m.client (turned capacity m.client m.server (holds limit capacity r.0 r.1 m r.2)) spans h
 
 -- ---- the side to which bytes come
 
@@ -144,6 +156,7 @@ module _ (limit : Bounds) (capacity : ℕ) (side : Side) (w : Wired) (m : Machin
         later = c.later;
         first = c.queue;
         arrivals = inl refl;
+        fits = λ spans. not_window closed (subst IsOther (sym (c.shows.close ∙ ap (λ (r : Reply). r.close) same)) (fits_all limit.most capacity side m c.stands.reached spans ps c.later (c.queue ∙ kept_live (half_of side m).end.state (ps ++ c.later) c.live)));
         follows = follows limit capacity side w m moves (hearing left new happenings acknowledged closed (near side w)) (took (half_of side m) c.later all).half all.out new.output c.stands run (subst (λ (r : Reply). Spelled r.out new.output) same (put_out c)) near_side;
       }
 
@@ -165,6 +178,7 @@ module _ (limit : Bounds) (capacity : ℕ) (side : Side) (w : Wired) (m : Machin
         later = c.later;
         first = c.queue;
         arrivals = inr (why, refl);
+        fits = λ spans. not_window closed (subst IsOther (sym why) tt);
         follows = follows limit capacity side w m moves (hearing left new happenings acknowledged closed (near side w)) (took (half_of side m) [] last).half all.out new.output c.stands run out near_side;
       }
 

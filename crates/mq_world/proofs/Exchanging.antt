@@ -7,6 +7,7 @@ use Rattle.mq_decode.specs.Limits.{Bounds}
 use Rattle.mq_decode.specs.Grammar.{Stream, Pending}
 use Rattle.mq_decode.specs.Laws.{ReadsAgain}
 use Rattle.mq_decode.specs.declared.fault.DecodeFault.{DecodeFault}
+use Rattle.mq_flow.specs.Window.{Spans}
 use Rattle.mq_end.specs.declared.state.State.{State}
 use Rattle.mq_end.specs.declared.state.State.TheVariants.{Closed, Open, Up}
 use Rattle.mq_end.specs.declared.happening.Happening.{Happening}
@@ -24,11 +25,12 @@ use Rattle.mq_world.specs.Machine.{Machine, Move, By, Opens, Run, after, blank_m
 use Rattle.mq_world.specs.Orders.{IsAt, messages}
 use Rattle.mq_world.specs.Settling.{Idle, AllHanded, queue, arrivals, delivered, exchange, settled}
 use Rattle.mq_world.specs.Identifiers.{half_of}
-use Rattle.mq_world.specs.Carries.{WiredSide, Wired, CarriesSide, Reached, seen}
+use Rattle.mq_world.specs.Carries.{WiredSide, Wired, CarriesSide, Reached, IsSpanned, seen}
 use Rattle.mq_world.specs.OverBytes.{Stands, Delivers, near, far, facing, SameBounds, with_more, hearing, faulted, ReceivesAt}
 use Rattle.mq_world.specs.SettlesOver.{SettledFrom, HoldsNothing, SettlesOver}
 use Rattle.mq_world.proofs.Streams.{cut}
 use Rattle.mq_world.proofs.Settle.{law as settling}
+use Rattle.mq_world.proofs.Windows.{reached_windows}
 use Rattle.mq_world.proofs.Moving.{same_state}
 use Rattle.mq_world.proofs.Standing.{put_none, side_near, unheard}
 use Rattle.mq_world.proofs.Delivering.{closes_all, deliver}
@@ -69,8 +71,8 @@ run_quiet limit capacity m [] v run c s = subst (λ (u : Machine). Quiet u.clien
 run_quiet limit capacity m (move ∷ moves) v run c s = let k = after_quiet m move c s in run_quiet limit capacity (after m move) moves v run.1 k.0 k.1
 
 reached_quiet : (limit capacity : ℕ) (side : Side) (m : Machine) → Reached limit capacity m → Quiet (half_of side m)
-reached_quiet limit capacity Client m r = (run_quiet limit capacity blank_machine r.0 m r.1 (λ c. refl) (λ c. refl)).0
-reached_quiet limit capacity Server m r = (run_quiet limit capacity blank_machine r.0 m r.1 (λ c. refl) (λ c. refl)).1
+reached_quiet limit capacity Client m r = (run_quiet limit capacity (blank_machine r.0) r.1 m r.2 (λ c. refl) (λ c. refl)).0
+reached_quiet limit capacity Server m r = (run_quiet limit capacity (blank_machine r.0) r.1 m r.2 (λ c. refl) (λ c. refl)).1
 
 -- ---- arrivals
 
@@ -179,6 +181,11 @@ module _ (reads : ReadsAgain) (laws : ClosingLaws) (limit : Bounds) (capacity : 
 
 -- ---- settling
 
+-- the window of the ends is that with which the run began
+spans_run : (limit : Bounds) (capacity : ℕ) (w : Wired) (m : Machine) → IsSpanned capacity w → (k : Stands limit capacity w m) → Spans k.reached.0 capacity
+spans_run limit capacity w m spans k =
+    subst (λ (o : Option ℕ). Spans o capacity) (ap (λ (e : End). e.window) k.carries.client.end ∙ (reached_windows limit.most capacity m k.reached).0) spans.0
+
 idle_as : (x y : Half) → y.end ≡ x.end → Idle x → Idle y
 idle_as x y e h = record { entries = ap (λ (e : End). e.book.entries) e ∙ h.entries; released = ap (λ (e : End). e.book.released) e ∙ h.released }
 
@@ -194,9 +201,9 @@ handed_as x y u v a b h = record {
 no_bytes_left : (limit : Bounds) (capacity : ℕ) (x : WiredSide) (h : Half) → CarriesSide limit capacity x h → h.end.state ≡ Up → h.coming ≡ [] → x.state.held ++ x.wire ≡ []
 no_bytes_left limit capacity x h k up none = subst (λ (q : List Packet). Stream limit q (x.state.held ++ x.wire)) none (k.bytes (ap is_live up))
 
-pub settles : (limit : Bounds) (capacity : ℕ) (w v : Wired) (m : Machine) → Stands limit capacity w m → Stands limit capacity v (settled m) → SettledFrom w v
-settles limit capacity w v m k s =
-    let h = settling limit.most capacity k.reached.0 m k.reached.1 in
+pub settles : (limit : Bounds) (capacity : ℕ) (w v : Wired) (m : Machine) → IsSpanned capacity w → Stands limit capacity w m → Stands limit capacity v (settled m) → SettledFrom w v
+settles limit capacity w v m spans k s =
+    let h = settling limit.most capacity k.reached.0 k.reached.1 m (spans_run limit capacity w m spans k) k.reached.2 in
     let c = s.carries.client in
     let d = s.carries.server in
     record {
@@ -212,9 +219,9 @@ settles limit capacity w v m k s =
       server_bytes = no_bytes_left limit capacity v.server (settled m).server d h.server_up h.server_queue;
     }
 
-pub second : (limit : Bounds) (capacity : ℕ) (w v : Wired) (m : Machine) → Stands limit capacity w m → Stands limit capacity v (exchange (exchange (after m Opens))) → HoldsNothing v
-second limit capacity w v m k s =
-    let h = settling limit.most capacity k.reached.0 m k.reached.1 in
+pub second : (limit : Bounds) (capacity : ℕ) (w v : Wired) (m : Machine) → IsSpanned capacity w → Stands limit capacity w m → Stands limit capacity v (exchange (exchange (after m Opens))) → HoldsNothing v
+second limit capacity w v m spans k s =
+    let h = settling limit.most capacity k.reached.0 k.reached.1 m (spans_run limit capacity w m spans k) k.reached.2 in
     record {
       client = ap (λ (e : End). e.book.entries) s.carries.client.end ∙ h.client_second;
       server = ap (λ (e : End). e.book.entries) s.carries.server.end ∙ h.server_second;

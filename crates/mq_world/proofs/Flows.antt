@@ -1,5 +1,6 @@
 -- A packet of a message's flow comes to a side that is up.
 use Rattle.std.proofs.Common.{◌≡◌, ℕ, Bool, true, false, cond, not, Option, Some, None, List, [], ◌∷◌, ◌++◌, refl, sym, ap, subst, ◌∙◌, arith}
+use Rattle.std.proofs.lemmas.Bool.{cond_both}
 use Rattle.std.specs.FinSet as FinSet
 use Rattle.mq_topic.specs.declared.qos.Qos.{Qos}
 use Rattle.mq_topic.specs.declared.qos.Qos.TheVariants.{Q0, Q1, Q2}
@@ -9,6 +10,7 @@ use Rattle.mq_packet.specs.declared.packet.Packet.{Packet}
 use Rattle.mq_packet.specs.declared.packet.Packet.TheVariants as packets
 use Rattle.mq_flow.specs.declared.entry.Entry.{Entry}
 use Rattle.mq_flow.specs.Sender.{SenderBook, times, held, is_awaited, without, without_entry}
+use Rattle.mq_flow.specs.Window.{fits_window}
 use Rattle.mq_flow.specs.Laws.{IsSound}
 use Rattle.mq_flow.proofs.Books.{laws as books, times_uses}
 use Rattle.mq_flow.proofs.Counting.{times_same, without_first}
@@ -16,7 +18,7 @@ use Rattle.mq_end.specs.declared.state.State.TheVariants.{Up}
 use Rattle.mq_end.specs.declared.happening.Happening.TheVariants as happens
 use Rattle.mq_end.specs.declared.reason.CloseReason.TheVariants as reasons
 use Rattle.mq_end.specs.End.{Reply, closes}
-use Rattle.mq_end.specs.Both.{publish_gets, flow_gets}
+use Rattle.mq_end.specs.Both.{stores, publish_gets, flow_gets}
 use Rattle.mq_world.specs.Half.{Half, joined, put, took, last_place}
 use Rattle.mq_world.proofs.Lists.{each_filter, ids, without_pair, pair_absent, pair_first, held_without, first_awaited}
 use Rattle.mq_world.proofs.Second.{Second}
@@ -62,7 +64,7 @@ publish_1 capacity h y m d rest b =
     b
 
 publish_2 : (capacity : ℕ) (h y : Half) (m : Message) (d : Delivery) (rest : List Packet) → Both capacity (upon h Up (packets.Publish (record { message = record m { qos = Q2 }; delivery = Some d }) ∷ rest)) y
-    → Keeps capacity (upon h Up (packets.Publish (record { message = record m { qos = Q2 }; delivery = Some d }) ∷ rest)) rest y (publish_gets Q2 (Some d) (record m { qos = Q2 }) (upon h Up rest).end)
+    → Keeps capacity (upon h Up (packets.Publish (record { message = record m { qos = Q2 }; delivery = Some d }) ∷ rest)) rest y (stores d.id (record m { qos = Q2 }) (upon h Up rest).end)
 publish_2 capacity h y m d rest b = by_set (FinSet.contains h.end.received d.id) refl
   where
     by_set : (t : Bool) → FinSet.contains h.end.received d.id ≡ t → Keeps capacity (upon h Up (packets.Publish (record { message = record m { qos = Q2 }; delivery = Some d }) ∷ rest)) rest y
@@ -96,7 +98,11 @@ publish_keeps : (capacity : ℕ) (h y : Half) (q : Qos) (d : Option Delivery) (m
     → Keeps capacity (upon h Up (packets.Publish (record { message = record m { qos = q }; delivery = d }) ∷ rest)) rest y (publish_gets q d (record m { qos = q }) (upon h Up rest).end)
 publish_keeps capacity h y Q0 None m rest b = publish_0 capacity h y m rest b
 publish_keeps capacity h y Q1 (Some d) m rest b = publish_1 capacity h y m d rest b
-publish_keeps capacity h y Q2 (Some d) m rest b = publish_2 capacity h y m d rest b
+publish_keeps capacity h y Q2 (Some d) m rest b =
+    cond_both (fits_window h.end.window d.id h.end.received) (stores d.id (record m { qos = Q2 }) (upon h Up rest).end) (closes reasons.Window (upon h Up rest).end)
+    (Keeps capacity (upon h Up (packets.Publish (record { message = record m { qos = Q2 }; delivery = Some d }) ∷ rest)) rest y)
+    (λ t. publish_2 capacity h y m d rest b)
+    (λ f. close_keeps capacity h y Up (packets.Publish (record { message = record m { qos = Q2 }; delivery = Some d }) ∷ rest) rest [] None refl refl tt b)
 publish_keeps capacity h y q d m rest b = closes_keeps capacity h y (packets.Publish (record { message = record m { qos = q }; delivery = d })) rest b
 
 -- ---- PUBACK

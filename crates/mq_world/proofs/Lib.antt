@@ -11,6 +11,7 @@ pub mod Whole
 pub mod Samples
 pub mod Together
 pub mod Marks
+pub mod Windows
 pub mod Ranks
 pub mod Settle
 pub mod Chains
@@ -25,4 +26,5 @@ pub mod Events
 pub mod Worlds
 pub mod Clocks
 pub mod Settled
+pub mod Fitting
 pub mod Accounts

@@ -11,13 +11,14 @@ use Rattle.mq_packet.specs.declared.connack.ConnAck.TheVariants as connacks
 use Rattle.mq_packet.specs.declared.connack.RefusalCode.TheVariants.{IdentifierRejected}
 use Rattle.mq_packet.specs.declared.packet.Packet.{Packet}
 use Rattle.mq_packet.specs.declared.packet.Packet.TheVariants as packets
+use Rattle.mq_flow.specs.Window.{fits_window}
 use Rattle.mq_flow.specs.Sender.{release, awaits_suback, awaits_unsuback, is_awaited, publish_packet}
 use Rattle.mq_end.specs.declared.state.State.{State}
 use Rattle.mq_end.specs.declared.state.State.TheVariants.{Closed, Open, Up}
 use Rattle.mq_end.specs.declared.happening.Happening.TheVariants as happens
 use Rattle.mq_end.specs.declared.reason.CloseReason.TheVariants as reasons
 use Rattle.mq_end.specs.End.{End, Reply, is_up, tells, closes, comes_up, renewed}
-use Rattle.mq_end.specs.Both.{publish_gets, flow_gets, publishes_at}
+use Rattle.mq_end.specs.Both.{stores, publish_gets, flow_gets, publishes_at}
 use Rattle.mq_end.specs.Client.{client_open_gets, client_up_gets, client_gets_in, connects}
 use Rattle.mq_end.specs.Server.{connect_gets, refuses, server_open_gets, server_up_gets, server_gets_in}
 use Rattle.mq_world.specs.declared.side.Side.TheVariants.{Client, Server}
@@ -47,7 +48,8 @@ keeping h = record h { end = record h.end { clean = false } }
 publish_known : (q : Qos) (d : Option Delivery) (m : Message) (h : Half) (st : State) → (publish_gets q d m (upon h st []).end).end.known ≡ h.end.known
 publish_known Q0 None m h st = refl
 publish_known Q1 (Some d) m h st = refl
-publish_known Q2 (Some d) m h st = refl
+publish_known Q2 (Some d) m h st =
+    cond_both (fits_window h.end.window d.id h.end.received) (stores d.id m (upon h st []).end) (closes reasons.Window (upon h st []).end) (λ r. r.end.known ≡ h.end.known) (λ t. refl) (λ f. refl)
 publish_known q d m h st = refl
 
 flow_known : (p : Packet) (h : Half) (st : State) → (flow_gets p (upon h st []).end).end.known ≡ h.end.known
@@ -110,7 +112,7 @@ client_marks limit capacity Pings st q c s may m = m
 publish_out : (q : Qos) (d : Option Delivery) (m : Message) (e : End) → Each IsNoConnack (publish_gets q d m e).out
 publish_out Q0 None m e = tt
 publish_out Q1 (Some d) m e = (tt, tt)
-publish_out Q2 (Some d) m e = (tt, tt)
+publish_out Q2 (Some d) m e = cond_both (fits_window e.window d.id e.received) (stores d.id m e) (closes reasons.Window e) (λ r. Each IsNoConnack r.out) (λ t. (tt, tt)) (λ f. tt)
 publish_out q d m e = tt
 
 flow_out : (p : Packet) (e : End) → Each IsNoConnack (flow_gets p e).out
@@ -194,5 +196,5 @@ pub run_well : (limit capacity : ℕ) (w : Machine) (moves : List Move) (v : Mac
 run_well limit capacity w [] v run h = subst (λ (u : Machine). Well capacity u) (sym run) h
 run_well limit capacity w (move ∷ moves) v run h = run_well limit capacity (after w move) moves v run.1 (after_well limit capacity w move run.0 h)
 
-pub reached_well : (limit capacity : ℕ) (moves : List Move) (w : Machine) → Run limit capacity blank_machine moves w → Well capacity w
-reached_well limit capacity moves w run = run_well limit capacity blank_machine moves w run (blank_holds capacity, λ k. (refl, tt))
+pub reached_well : (limit capacity : ℕ) (window : Option ℕ) (moves : List Move) (w : Machine) → Run limit capacity (blank_machine window) moves w → Well capacity w
+reached_well limit capacity window moves w run = run_well limit capacity (blank_machine window) moves w run (blank_holds capacity window, λ k. (refl, tt))

@@ -1,5 +1,5 @@
 -- Packets answer packets of a lower rank only, so queues run empty.
-use Rattle.std.proofs.Common.{◌≡◌, ℕ, suc, ◌<◌, ◌≤◌, true, Option, Some, None, List, [], ◌∷◌, map, length, refl, sym, ap, subst, ◌∙◌, arith}
+use Rattle.std.proofs.Common.{◌≡◌, ℕ, suc, ◌<◌, ◌≤◌, Bool, true, cond, Option, Some, None, List, [], ◌∷◌, map, length, refl, sym, ap, subst, ◌∙◌, arith}
 use Rattle.std.proofs.lemmas.Bool.{cond_both}
 use Rattle.std.specs.List.{filter_map, cons_option}
 use Rattle.mq_topic.specs.declared.qos.Qos.{Qos}
@@ -9,11 +9,13 @@ use Rattle.mq_packet.specs.declared.publish.Delivery.{Delivery}
 use Rattle.mq_packet.specs.declared.packet.Packet.{Packet}
 use Rattle.mq_packet.specs.declared.packet.Packet.TheVariants as packets
 use Rattle.mq_flow.specs.declared.entry.Entry.{Entry}
+use Rattle.mq_flow.specs.Window.{Spans}
 use Rattle.mq_flow.specs.Sender.{SenderBook, is_awaited, resent, publish_packet}
 use Rattle.mq_end.specs.declared.state.State.{State}
 use Rattle.mq_end.specs.declared.state.State.TheVariants.{Closed, Open, Up}
-use Rattle.mq_end.specs.End.{End, Reply}
-use Rattle.mq_end.specs.Both.{publish_gets, flow_gets, has_identifier}
+use Rattle.mq_end.specs.declared.reason.CloseReason.TheVariants as reasons
+use Rattle.mq_end.specs.End.{End, Reply, closes}
+use Rattle.mq_end.specs.Both.{stores, publish_gets, flow_gets, has_identifier}
 use Rattle.mq_end.specs.Client.{client_up_gets}
 use Rattle.mq_end.specs.Server.{server_up_gets}
 use Rattle.mq_world.specs.declared.side.Side.{Side}
@@ -24,6 +26,7 @@ use Rattle.mq_world.proofs.Queues.{as_pubrec, as_puback, as_first, as_second, fi
 use Rattle.mq_world.proofs.Both.{IsHeld, Both}
 use Rattle.mq_world.proofs.Steps.{moved_keeps}
 use Rattle.mq_world.proofs.Together.{arrive_at}
+use Rattle.mq_world.proofs.Windows.{FitsAs, FitsIn, fits_arriving, moved_window}
 
 abbrev pub publish_rank : Qos → Option Delivery → ℕ
 publish_rank Q0 None = 3
@@ -56,36 +59,38 @@ pub record Stays (n : ℕ) (e : End) (r : Reply) : Type 0 where
   pub state : r.end.state ≡ e.state
   pub out : Below n r.out
 
-publish_stays : (n : ℕ) (q : Qos) (d : Option Delivery) (m : Message) (e : End) → publish_rank q d < suc n → n ≤ 3 → Stays n e (publish_gets q d m e)
-publish_stays n Q0 None m e lt le = record { state = refl; out = tt }
-publish_stays n Q1 (Some d) m e lt le = record { state = refl; out = (omega arith, tt) }
-publish_stays n Q2 (Some d) m e lt le = record { state = refl; out = (omega arith, tt) }
-publish_stays n q d m e lt le = absurd (omega arith)
+publish_stays : (n : ℕ) (q : Qos) (d : Option Delivery) (m : Message) (e : End) → FitsAs q d e.window e.received → publish_rank q d < suc n → n ≤ 3 → Stays n e (publish_gets q d m e)
+publish_stays n Q0 None m e f lt le = record { state = refl; out = tt }
+publish_stays n Q1 (Some d) m e f lt le = record { state = refl; out = (omega arith, tt) }
+publish_stays n Q2 (Some d) m e f lt le =
+    let P : Bool → Type 0 = λ b. Stays n e (cond b (stores d.id m e) (closes reasons.Window e)) in
+    subst P (sym f) (record { state = refl; out = (omega arith, tt) })
+publish_stays n q d m e f lt le = absurd (omega arith)
 
-flow_stays : (n : ℕ) (p : Packet) (e : End) → rank p < suc n → n ≤ 3 → Stays n e (flow_gets p e)
-flow_stays n (packets.Publish p) e lt le = publish_stays n p.message.qos p.delivery p.message e lt le
-flow_stays n (packets.PubAck i) e lt le = record { state = refl; out = tt }
-flow_stays n (packets.PubRec i) e lt le = record { state = refl; out = cond_both (is_awaited Q2 i e.book.entries) (packets.PubRel i ∷ []) [] (Below n) (λ t. (omega arith, tt)) (λ f. tt) }
-flow_stays n (packets.PubRel i) e lt le = record { state = refl; out = (omega arith, tt) }
-flow_stays n (packets.PubComp i) e lt le = record { state = refl; out = tt }
-flow_stays n p e lt le = absurd (omega arith)
+flow_stays : (n : ℕ) (p : Packet) (e : End) → FitsIn p e.window e.received → rank p < suc n → n ≤ 3 → Stays n e (flow_gets p e)
+flow_stays n (packets.Publish p) e f lt le = publish_stays n p.message.qos p.delivery p.message e f lt le
+flow_stays n (packets.PubAck i) e f lt le = record { state = refl; out = tt }
+flow_stays n (packets.PubRec i) e f lt le = record { state = refl; out = cond_both (is_awaited Q2 i e.book.entries) (packets.PubRel i ∷ []) [] (Below n) (λ t. (omega arith, tt)) (λ f. tt) }
+flow_stays n (packets.PubRel i) e f lt le = record { state = refl; out = (omega arith, tt) }
+flow_stays n (packets.PubComp i) e f lt le = record { state = refl; out = tt }
+flow_stays n p e f lt le = absurd (omega arith)
 
-client_stays : (n : ℕ) (p : Packet) (e : End) → rank p < suc n → n ≤ 3 → Stays n e (client_up_gets p e)
-client_stays n (packets.SubAck i codes) e lt le = absurd (omega arith)
-client_stays n (packets.UnsubAck i) e lt le = absurd (omega arith)
-client_stays n packets.PingResp e lt le = absurd (omega arith)
-client_stays n p e lt le = flow_stays n p e lt le
+client_stays : (n : ℕ) (p : Packet) (e : End) → FitsIn p e.window e.received → rank p < suc n → n ≤ 3 → Stays n e (client_up_gets p e)
+client_stays n (packets.SubAck i codes) e f lt le = absurd (omega arith)
+client_stays n (packets.UnsubAck i) e f lt le = absurd (omega arith)
+client_stays n packets.PingResp e f lt le = absurd (omega arith)
+client_stays n p e f lt le = flow_stays n p e f lt le
 
-server_stays : (n : ℕ) (p : Packet) (e : End) → rank p < suc n → n ≤ 3 → Stays n e (server_up_gets p e)
-server_stays n (packets.Subscribe i requests) e lt le = absurd (omega arith)
-server_stays n (packets.Unsubscribe i filters) e lt le = absurd (omega arith)
-server_stays n packets.PingReq e lt le = absurd (omega arith)
-server_stays n packets.Disconnect e lt le = absurd (omega arith)
-server_stays n p e lt le = flow_stays n p e lt le
+server_stays : (n : ℕ) (p : Packet) (e : End) → FitsIn p e.window e.received → rank p < suc n → n ≤ 3 → Stays n e (server_up_gets p e)
+server_stays n (packets.Subscribe i requests) e f lt le = absurd (omega arith)
+server_stays n (packets.Unsubscribe i filters) e f lt le = absurd (omega arith)
+server_stays n packets.PingReq e f lt le = absurd (omega arith)
+server_stays n packets.Disconnect e f lt le = absurd (omega arith)
+server_stays n p e f lt le = flow_stays n p e f lt le
 
-stays : (side : Side) (n : ℕ) (p : Packet) (e : End) → rank p < suc n → n ≤ 3 → Stays n (record e { state = Up }) (gets side p (record e { state = Up }))
-stays Client n p e lt le = client_stays n p (record e { state = Up }) lt le
-stays Server n p e lt le = server_stays n p (record e { state = Up }) lt le
+stays : (side : Side) (n : ℕ) (p : Packet) (e : End) → FitsIn p e.window e.received → rank p < suc n → n ≤ 3 → Stays n (record e { state = Up }) (gets side p (record e { state = Up }))
+stays Client n p e f lt le = client_stays n p (record e { state = Up }) f lt le
+stays Server n p e f lt le = server_stays n p (record e { state = Up }) f lt le
 
 -- ---- one side takes in all that is in the queue toward it
 
@@ -93,6 +98,8 @@ pub record Draining (capacity : ℕ) (n m : ℕ) (x y : Half) (old_x old_y : Acc
   pub both : Both capacity x y
   pub up_x : x.end.state ≡ Up
   pub up_y : y.end.state ≡ Up
+  pub spans_x : Spans x.end.window capacity
+  pub spans_y : Spans y.end.window capacity
   pub below_x : Below n x.coming
   pub below_y : Below m y.coming
   pub same_x : x.accepted ≡ old_x
@@ -112,12 +119,14 @@ step_up : (capacity n m : ℕ) (side : Side) (h y : Half) (old_x old_y : Accepte
 step_up capacity n m side h y old_x old_y p rest le three d =
     let x : Half = record h { end = record h.end { state = Up }; coming = p ∷ rest } in
     let r : Reply = gets side p x.end in
-    let s : Stays n x.end r = stays side n p h.end d.below_x.0 three in
+    let s : Stays n x.end r = stays side n p h.end (fits_arriving capacity h y p rest d.both d.spans_x) d.below_x.0 three in
     let left : kept r.end.state rest ≡ rest = ap (λ (st : State). kept st rest) s.state in (
       record {
         both = moved_keeps 0 capacity side Arrives x y tt d.both;
         up_x = s.state;
         up_y = d.up_y;
+        spans_x = subst (λ (o : Option ℕ). Spans o capacity) (sym (moved_window side Arrives x)) d.spans_x;
+        spans_y = d.spans_y;
         below_x = subst (λ (q : List Packet). Below (suc n) q) (sym left) d.below_x.1;
         below_y = below_joined y.end.state m y.coming r.out d.below_y (below_more n m r.out le s.out);
         same_x = d.same_x;
@@ -138,6 +147,8 @@ drained capacity n m side [] x y old_x old_y le three is d = record {
   both = d.both;
   up_x = d.up_x;
   up_y = d.up_y;
+  spans_x = d.spans_x;
+  spans_y = d.spans_y;
   below_x = subst (λ (q : List Packet). Below 0 q) (sym is) tt;
   below_y = d.below_y;
   same_x = d.same_x;

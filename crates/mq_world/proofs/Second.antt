@@ -1,11 +1,13 @@
 -- Exactly once, from one side to the other, over lists alone.
-use Rattle.std.proofs.Common.{◌≡◌, ℕ, ◌+◌, ◌≤◌, Bool, true, false, cond, List, [], ◌∷◌, ◌++◌, map, refl, sym, ap, subst, ◌∙◌, arith, append_assoc, map-id, inl, inr}
+use Rattle.std.proofs.Common.{◌≡◌, ℕ, ◌+◌, ◌≤◌, Bool, true, false, cond, Option, List, [], ◌∷◌, ◌++◌, map, length, refl, sym, ap, subst, ◌∙◌, arith, append_assoc, map-id, inl, inr}
 use Rattle.std.proofs.lemmas.Bool.{cases_eq}
 use Rattle.std.proofs.lemmas.List.{map-append}
 use Rattle.std.specs.FinSet as FinSet
 use Rattle.std.specs.Ordering.{nat_cmp}
 use Rattle.mq_packet.specs.declared.message.Message.{Message}
 use Rattle.mq_flow.specs.Sender.{times}
+use Rattle.mq_flow.specs.Window.{Spans, fits_window}
+use Rattle.mq_flow.proofs.Windows.{spanned_fits}
 use Rattle.mq_flow.proofs.Counting.{times_append, times_same, times_other}
 use Rattle.mq_end.specs.declared.state.State.{State}
 use Rattle.mq_end.specs.declared.state.State.TheVariants.{Closed, Open, Up}
@@ -280,6 +282,26 @@ takes_publish {x} {E} {L} {S} {rc} {cp} {rest} {rl} {A} {H} i m h once t is =
       | inl same ↦ subst (λ (k : ℕ). FinSet.contains (FinSet.insert S i) k ≡ true) (sym same) (insert_same S i)
       | inr other ↦ insert_other S i j other ∙ q
     ]
+
+-- ---- a receiving window
+
+-- where all that the sender has out fits the window, so does what comes
+pub spanned : {x : State} {E : List (ℕ × Message)} {L : List ℕ} {S : FinSet.FinSet nat_cmp} {rc cp : List ℕ} {rest : List (ℕ × Message)} {rl : List ℕ} {A H : List Message} (i : ℕ) (m : Message) (window : Option ℕ) (capacity : ℕ)
+    → Second x Up E L S rc cp ((i, m) ∷ rest) rl A H → length (ids E ++ L) ≤ capacity → Spans window capacity → fits_window window i S ≡ true
+spanned {x} {E} {L} {S} i m window capacity h short spans =
+    let k_less : (j : ℕ) → times j (ids h.K) + times j L ≤ times j (ids E ++ L) = λ j. let s = split_times h j in let a = times_append j (ids E) L in omega arith in
+    let w_less : (j : ℕ) → times j (ids h.W) ≤ times j (ids E ++ L) = λ j. let s = split_times h j in let a = times_append j (ids E) L in omega arith in
+    let here : 1 ≤ times i (ids E ++ L) = elim (stages.takes_in _ _ _ _ _ _ _ h.e) [
+      | Again front back split now ↦
+          let there : 1 ≤ times i (ids h.K) = subst (λ (q : List (ℕ × Message)). 1 ≤ times i (ids q)) (sym split) (in_middle i front back (i, m) refl) in
+          let k = k_less i in
+          omega arith
+      | New later split now ↦
+          let there : 1 ≤ times i (ids h.W) = subst (λ (q : List (ℕ × Message)). 1 ≤ times i (ids q)) (sym split) (in_middle i [] later (i, m) refl) in
+          let w = w_less i in
+          omega arith
+    ] in
+    spanned_fits window capacity i (ids E ++ L) S spans short (λ j there. let o = h.only j there in let k = k_less j in omega arith) here
 
 -- ---- a PUBREL comes
 

@@ -1,5 +1,5 @@
 -- A new connection and three exchanges settle everything.
-use Rattle.std.proofs.Common.{◌≡◌, ℕ, suc, ◌+◌, ◌≤◌, Bool, true, false, cond, not, ◌&&◌, List, [], ◌∷◌, ◌++◌, map, filter, length, refl, sym, ap, subst, ◌∙◌, arith}
+use Rattle.std.proofs.Common.{◌≡◌, ℕ, suc, ◌+◌, ◌≤◌, Bool, true, false, cond, not, ◌&&◌, Option, List, [], ◌∷◌, ◌++◌, map, filter, length, refl, sym, ap, subst, ◌∙◌, arith}
 use Rattle.std.proofs.lemmas.List.{length-append}
 use Rattle.mq_topic.specs.declared.qos.Qos.{Qos}
 use Rattle.mq_topic.specs.declared.qos.Qos.TheVariants.{Q0, Q1, Q2}
@@ -7,6 +7,7 @@ use Rattle.mq_packet.specs.declared.message.Message.{Message}
 use Rattle.mq_packet.specs.declared.packet.Packet.{Packet}
 use Rattle.mq_flow.specs.declared.entry.Entry.{Entry}
 use Rattle.mq_flow.specs.Sender.{held, same_qos, resent}
+use Rattle.mq_flow.specs.Window.{Spans}
 use Rattle.mq_end.specs.declared.state.State.{State}
 use Rattle.mq_end.specs.declared.state.State.TheVariants.{Up}
 use Rattle.mq_end.specs.declared.reason.CloseReason.TheVariants as reasons
@@ -14,7 +15,7 @@ use Rattle.mq_end.specs.End.{End, closes, comes_up}
 use Rattle.mq_end.specs.Both.{has_identifier}
 use Rattle.mq_world.specs.declared.side.Side.TheVariants.{Client, Server}
 use Rattle.mq_world.specs.Half.{Half, Accepted, Arrives, put, took}
-use Rattle.mq_world.specs.Machine.{Machine, By, Opens, after, opened_client}
+use Rattle.mq_world.specs.Machine.{Machine, By, Opens, after, opened_client, blank_machine}
 use Rattle.mq_world.specs.Orders.{messages}
 use Rattle.mq_world.specs.Settling.{arrivals, delivered, exchange, AllHanded, Settles, SettlingLaw}
 use Rattle.mq_world.proofs.Stages.{Stages, nothing_held}
@@ -23,6 +24,7 @@ use Rattle.mq_world.proofs.Places.{covered}
 use Rattle.mq_world.proofs.Queues.{answers, flight}
 use Rattle.mq_world.proofs.Both.{IsHeld, OwnOf, WayOf, turned}
 use Rattle.mq_world.proofs.Together.{client_arrivals, server_arrivals}
+use Rattle.mq_world.proofs.Windows.{run_windows}
 use Rattle.mq_world.proofs.Marks.{Marks, IsNoConnack, Well, after_well, reached_well}
 use Rattle.mq_world.proofs.Ranks.{below_more, below_none, Draining, drained, resent_below, low_second, low_first, low_pubrec, low_puback}
 
@@ -34,10 +36,10 @@ abbrev pub Turned : ℕ → ℕ → ℕ → Accepted → Accepted → Machine �
 Turned capacity s c old_client old_server w = Draining capacity s c w.server w.client old_server old_client
 
 turn : (capacity n m : ℕ) (x y : Half) (a b : Accepted) → Draining capacity n m x y a b → Draining capacity m n y x b a
-turn capacity n m x y a b d = record { both = turned capacity x y d.both; up_x = d.up_y; up_y = d.up_x; below_x = d.below_y; below_y = d.below_x; same_x = d.same_y; same_y = d.same_x }
+turn capacity n m x y a b d = record { both = turned capacity x y d.both; up_x = d.up_y; up_y = d.up_x; spans_x = d.spans_y; spans_y = d.spans_x; below_x = d.below_y; below_y = d.below_x; same_x = d.same_y; same_y = d.same_x }
 
 weaker : (capacity n m k : ℕ) (x y : Half) (a b : Accepted) → m ≤ k → Draining capacity n m x y a b → Draining capacity n k x y a b
-weaker capacity n m k x y a b le d = record { both = d.both; up_x = d.up_x; up_y = d.up_y; below_x = d.below_x; below_y = below_more m k y.coming le d.below_y; same_x = d.same_x; same_y = d.same_y }
+weaker capacity n m k x y a b le d = record { both = d.both; up_x = d.up_x; up_y = d.up_y; spans_x = d.spans_x; spans_y = d.spans_y; below_x = d.below_x; below_y = below_more m k y.coming le d.below_y; same_x = d.same_x; same_y = d.same_y }
 
 client_delivered : (capacity n m : ℕ) (a b : Accepted) (w : Machine) → n ≤ m → n ≤ 3 → Going capacity (suc n) m a b w → Going capacity 0 m a b (delivered Client w)
 client_delivered capacity n m a b w le three d =
@@ -106,8 +108,8 @@ marked c s m = by_server s.end.known m
         either false = refl
     by_server false m = ap (λ (b : Bool). b && true) (m refl).0
 
-shaken : (capacity : ℕ) (c s : Half) → Well capacity (pair c s) → Going capacity 0 4 c.accepted s.accepted (exchange (after (pair c s) Opens))
-shaken capacity c s well =
+shaken : (capacity : ℕ) (c s : Half) → Spans c.end.window capacity → Spans s.end.window capacity → Well capacity (pair c s) → Going capacity 0 4 c.accepted s.accepted (exchange (after (pair c s) Opens))
+shaken capacity c s spans_c spans_s well =
     let one = after_well 0 capacity (pair c s) Opens tt well in
     let two = after_well 0 capacity (after (pair c s) Opens) (By Server Arrives) tt one in
     let three = after_well 0 capacity (after_connect c s) (By Client Arrives) tt two in
@@ -118,6 +120,8 @@ shaken capacity c s well =
       both = well_up.0;
       up_x = refl;
       up_y = refl;
+      spans_x = spans_c;
+      spans_y = spans_s;
       below_x = resent_below s.end.book well.0.own_y.2;
       below_y = resent_below c.end.book well.0.own_x.2;
       same_x = refl;
@@ -126,11 +130,11 @@ shaken capacity c s well =
     let done : Going capacity 0 4 c.accepted s.accepted (delivered Client w) = client_delivered capacity 3 4 c.accepted s.accepted w (omega arith) (omega arith) start in
     subst (λ (v : Machine). Going capacity 0 4 c.accepted s.accepted (arrivals (length (resent s.end.book)) Client v)) (sym same) done
 
-shaken_hands : (capacity : ℕ) (w : Machine) → Well capacity w → Going capacity 0 4 w.client.accepted w.server.accepted (exchange (after w Opens))
-shaken_hands capacity w well =
+shaken_hands : (capacity : ℕ) (w : Machine) → Spans w.client.end.window capacity → Spans w.server.end.window capacity → Well capacity w → Going capacity 0 4 w.client.accepted w.server.accepted (exchange (after w Opens))
+shaken_hands capacity w spans_c spans_s well =
     let P : Bool → Bool → Type 0 = λ a b. Well capacity (record { client = record w.client { end = record w.client.end { clean = a } }; server = record w.server { end = record w.server.end { clean = b } } })
     → Going capacity 0 4 w.client.accepted w.server.accepted (exchange (after (record { client = record w.client { end = record w.client.end { clean = a } }; server = record w.server { end = record w.server.end { clean = b } } }) Opens)) in
-    let one : P false w.server.end.clean = subst (λ (b : Bool). P false b) (sym well.0.kept_y) (shaken capacity w.client w.server) in
+    let one : P false w.server.end.clean = subst (λ (b : Bool). P false b) (sym well.0.kept_y) (shaken capacity w.client w.server spans_c spans_s) in
     subst (λ (a : Bool). P a w.server.end.clean) (sym well.0.kept_x) one well
 
 -- ---- what is left
@@ -203,14 +207,14 @@ second_over capacity a b w d =
       record { up_x = d.up_y; up_y = d.up_x; rec = low_pubrec w.server.coming d.below_y; ack = low_puback w.server.coming d.below_y; pub2 = ap (λ (q : List Packet). (flight q).pub2) c; pub1 = ap (λ (q : List Packet). (flight q).pub1) c },
     )
 
-pub settles : (capacity : ℕ) (w : Machine) → Well capacity w → Settles w
-settles capacity w well =
+pub settles : (capacity : ℕ) (w : Machine) → Spans w.client.end.window capacity → Spans w.server.end.window capacity → Well capacity w → Settles w
+settles capacity w spans_c spans_s well =
     let a : Accepted = w.client.accepted in
     let b : Accepted = w.server.accepted in
     let w1 : Machine = exchange (after w Opens) in
     let w2 : Machine = exchange w1 in
     let w3 : Machine = exchange w2 in
-    let g1 : Going capacity 0 4 a b w1 = shaken_hands capacity w well in
+    let g1 : Going capacity 0 4 a b w1 = shaken_hands capacity w spans_c spans_s well in
     let g2 : Going capacity 0 2 a b w2 = exchanged capacity 2 a b w1 (omega arith) g1 in
     let g3 : Going capacity 0 0 a b w3 = exchanged capacity 0 a b w2 (omega arith) g2 in
     let o2 = second_over capacity a b w2 g2 in
@@ -239,4 +243,7 @@ settles capacity w well =
     }
 
 pub law : SettlingLaw
-law limit capacity moves w run = settles capacity w (reached_well limit capacity moves w run)
+law limit capacity window moves w spans run =
+    let same = run_windows limit capacity (blank_machine window) moves w run in
+    let fits : (o : Option ℕ) → o ≡ window → Spans o capacity = λ o e. subst (λ (o : Option ℕ). Spans o capacity) (sym e) spans in
+    settles capacity w (fits w.client.end.window same.0) (fits w.server.end.window same.1) (reached_well limit capacity window moves w run)

@@ -13,7 +13,7 @@ use Rattle.mq_world.specs.declared.answer.Opening.{Opening}
 use Rattle.mq_world.specs.declared.answer.Settling.{Settling}
 use Rattle.mq_world.specs.Machine.{Machine, Opens, after}
 use Rattle.mq_world.specs.Settling.{delivered, exchange}
-use Rattle.mq_world.specs.Carries.{Wired}
+use Rattle.mq_world.specs.Carries.{Wired, IsSpanned}
 use Rattle.mq_world.specs.OverBytes.{Stands, ReceivesAt, near, far, facing, with_more, hearing}
 use Rattle.mq_world.specs.SettlesOver.{SettlesOver, SettledFrom, HoldsNothing}
 use Rattle.mq_world.specs.World.{IsDelivered, IsOpened, InTurn, MetNoWant, exchanges}
@@ -91,11 +91,11 @@ stands_twice law limit capacity w between second m s k opened twice met =
     stands_after law limit capacity (take 4 exchanges) (take 4 s.deliveries) between second (after m Opens) (stands_open limit capacity w between m s.opening k opened met.0) twice (All-take IsFed 4 s.deliveries met.1)
 
 pub left_twice : SettlesOver → (limit : Bounds) (capacity : ℕ) (w between second : Wired) (m : Machine) (s : Settling) → Stands limit capacity w m → IsOpened limit capacity s.opening w between
-    → InTurn limit capacity (take 4 exchanges) (take 4 s.deliveries) between second → MetNoWant (answers.Settled s) → HoldsNothing second
-left_twice law limit capacity w between second m s k opened twice met =
-    law.second limit capacity w second m k (stands_twice law limit capacity w between second m s k opened twice met)
+    → InTurn limit capacity (take 4 exchanges) (take 4 s.deliveries) between second → IsSpanned capacity w → MetNoWant (answers.Settled s) → HoldsNothing second
+left_twice law limit capacity w between second m s k opened twice spans met =
+    law.second limit capacity w second m spans k (stands_twice law limit capacity w between second m s k opened twice met)
 
 pub left_settled : SettlesOver → (limit : Bounds) (capacity : ℕ) (w between v : Wired) (m : Machine) (s : Settling) → Stands limit capacity w m → IsOpened limit capacity s.opening w between
-    → InTurn limit capacity exchanges s.deliveries between v → MetNoWant (answers.Settled s) → SettledFrom w v
-left_settled law limit capacity w between v m s k opened all met =
-    law.settles limit capacity w v m k (stands_after law limit capacity exchanges s.deliveries between v (after m Opens) (stands_open limit capacity w between m s.opening k opened met.0) all met.1)
+    → InTurn limit capacity exchanges s.deliveries between v → IsSpanned capacity w → MetNoWant (answers.Settled s) → SettledFrom w v
+left_settled law limit capacity w between v m s k opened all spans met =
+    law.settles limit capacity w v m spans k (stands_after law limit capacity exchanges s.deliveries between v (after m Opens) (stands_open limit capacity w between m s.opening k opened met.0) all met.1)

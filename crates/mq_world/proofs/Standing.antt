@@ -1,5 +1,5 @@
 -- A world over bytes stands on a machine: what each side shows, and how it follows the machine's moves.
-use Rattle.std.proofs.Common.{◌≡◌, ℕ, ◌≤◌, true, false, List, [], ◌∷◌, ◌++◌, refl, sym, ap, subst, ◌∙◌}
+use Rattle.std.proofs.Common.{◌≡◌, ℕ, ◌≤◌, true, false, Option, List, [], ◌∷◌, ◌++◌, refl, sym, ap, subst, ◌∙◌}
 use Rattle.std.proofs.lemmas.List.{append-nil}
 use Rattle.mq_packet.specs.declared.packet.Packet.{Packet}
 use Rattle.mq_decode.specs.Limits.{Bounds}
@@ -35,7 +35,7 @@ pub put_none : (h : Half) → put [] h ≡ h
 put_none h = λ i. record h { coming = joined_nil h.end.state h.coming i }
 
 pub reached_on : (limit capacity : ℕ) (m v : Machine) (moves : List Move) → Reached limit capacity m → Run limit capacity m moves v → Reached limit capacity v
-reached_on limit capacity m v moves r run = (r.0 ++ moves, chains.joins limit capacity blank_machine m v r.0 moves r.1 run)
+reached_on limit capacity m v moves r run = (r.0, r.1 ++ moves, chains.joins limit capacity (blank_machine r.0) m v r.1 moves r.2 run)
 
 -- ---- sides
 
@@ -92,15 +92,15 @@ all_put_out ps old new e p = subst (Spelled ps) (sym (p.2 ∙ ap (λ (b : List �
 
 -- ---- worlds
 
-pub blank : (limit : Bounds) (capacity : ℕ) (c s : EndState) → 64 ≤ limit.most → c.end ≡ blank_end → c.limit ≡ limit → c.capacity ≡ capacity → s.end ≡ blank_end → s.limit ≡ limit → s.capacity ≡ capacity
-    → Stands limit capacity (record { client = blank_side c; server = blank_side s }) blank_machine
-blank limit capacity c s large ce cl cc_ se sl sc = record {
+pub blank : (limit : Bounds) (capacity : ℕ) (window : Option ℕ) (c s : EndState) → 64 ≤ limit.most → c.end ≡ blank_end window → c.limit ≡ limit → c.capacity ≡ capacity → s.end ≡ blank_end window → s.limit ≡ limit → s.capacity ≡ capacity
+    → Stands limit capacity (record { client = blank_side c; server = blank_side s }) (blank_machine window)
+blank limit capacity window c s large ce cl cc_ se sl sc = record {
   large = large;
   carries = record {
     client = record { end = ce; bytes = λ live. cc; output = refl; limits = cl; room = cc_; accepted = refl; handed = refl; freed = refl };
     server = record { end = se; bytes = λ live. cc; output = refl; limits = sl; room = sc; accepted = refl; handed = refl; freed = refl };
   };
-  reached = ([], refl);
+  reached = (window, [], refl);
 }
 
 alike_side : (limit : Bounds) (capacity : ℕ) (x y : WiredSide) (h : Half) → Alike x y → CarriesSide limit capacity x h → CarriesSide limit capacity y h
@@ -145,7 +145,7 @@ seen_exactly x y q r h = record { beginning = h.beginning; before = h.before; la
 
 pub seen_headline : (limit : Bounds) (capacity : ℕ) (w : Wired) (m : Machine) → Stands limit capacity w m → Headline (seen w)
 seen_headline limit capacity w m k =
-    let h = headline limit.most capacity k.reached.0 m k.reached.1 in
+    let h = headline limit.most capacity k.reached.0 k.reached.1 m k.reached.2 in
     let c : Half = record m.client { coming = [] } in
     let s : Half = record m.server { coming = [] } in
     let all : Headline (record { client = c; server = s }) = record {

@@ -53,7 +53,7 @@ joined_both Closed q a b = refl
 joined_both Open q a b = append_assoc q a b
 joined_both Up q a b = append_assoc q a b
 
-closed_silent : (side : Side) (p : Packet) (e : End) → gets side p (record e { state = Closed }) ≡ silent (record e { state = Closed })
+pub closed_silent : (side : Side) (p : Packet) (e : End) → gets side p (record e { state = Closed }) ≡ silent (record e { state = Closed })
 closed_silent Client p e = refl
 closed_silent Server p e = refl
 

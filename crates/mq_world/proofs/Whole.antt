@@ -1,5 +1,5 @@
 -- The run, from the start, and the headline.
-use Rattle.std.proofs.Common.{◌≡◌, ℕ, ◌+◌, Bool, true, false, List, [], ◌∷◌, ◌++◌, length, refl, sym, ap, subst, ◌∙◌, arith, append_assoc}
+use Rattle.std.proofs.Common.{◌≡◌, ℕ, ◌+◌, Bool, true, false, Option, List, [], ◌∷◌, ◌++◌, length, refl, sym, ap, subst, ◌∙◌, arith, append_assoc}
 use Rattle.std.proofs.lemmas.List.{map-append, length-append, length-map}
 use Rattle.std.specs.FinSet as FinSet
 use Rattle.std.specs.Ordering.{nat_cmp}
@@ -24,8 +24,8 @@ use Rattle.mq_world.proofs.First as first
 use Rattle.mq_world.proofs.Both.{Both, WayOf, turned}
 use Rattle.mq_world.proofs.Steps.{moved_keeps, opened_keeps, not_refused}
 
-pub blank_holds : (capacity : ℕ) → Both capacity blank_machine.client blank_machine.server
-blank_holds capacity = record {
+pub blank_holds : (capacity : ℕ) (window : Option ℕ) → Both capacity (blank_machine window).client (blank_machine window).server
+blank_holds capacity window = record {
   to_y = (second.at_first FinSet.empty (FinSet.contains-empty nat_cmp), first.at_first, tt);
   to_x = (second.at_first FinSet.empty (FinSet.contains-empty nat_cmp), first.at_first, tt);
   own_x = (books.at_first capacity, tt, tt);
@@ -45,8 +45,8 @@ pub run_keeps : (limit capacity : ℕ) (w : Machine) (moves : List Move) (v : Ma
 run_keeps limit capacity w [] v run b = subst (λ (u : Machine). Both capacity u.client u.server) (sym run) b
 run_keeps limit capacity w (move ∷ moves) v run b = run_keeps limit capacity (after w move) moves v run.1 (after_keeps limit capacity w move run.0 b)
 
-pub holds : (limit capacity : ℕ) (moves : List Move) (w : Machine) → Run limit capacity blank_machine moves w → Both capacity w.client w.server
-holds limit capacity moves w run = run_keeps limit capacity blank_machine moves w run (blank_holds capacity)
+pub holds : (limit capacity : ℕ) (window : Option ℕ) (moves : List Move) (w : Machine) → Run limit capacity (blank_machine window) moves w → Both capacity w.client w.server
+holds limit capacity window moves w run = run_keeps limit capacity (blank_machine window) moves w run (blank_holds capacity window)
 
 -- ---- the headline
 
@@ -88,8 +88,8 @@ exactly_once x y way =
     }
 
 pub headline : HeadlineLaw
-headline limit capacity moves w run =
-    let b = holds limit capacity moves w run in
+headline limit capacity window moves w run =
+    let b = holds limit capacity window moves w run in
     record {
       to_server_0 = at_most_once w.client w.server b.to_y;
       to_client_0 = at_most_once w.server w.client b.to_x;
@@ -119,6 +119,6 @@ given_at limit capacity i m Server w may has = sound.published limit capacity i 
 
 pub identifiers : IdentifiersLaw
 identifiers = record {
-  sound = λ limit capacity moves w run side. sound_at capacity w (holds limit capacity moves w run) side;
+  sound = λ limit capacity window moves w run side. sound_at capacity w (holds limit capacity window moves w run) side;
   given = given_at;
 }

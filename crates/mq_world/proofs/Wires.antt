@@ -101,7 +101,7 @@ run_fits limit capacity w (move ∷ moves) v run = run_fits limit capacity (afte
 -- all that is on its way in a machine that a run reaches is within the limit
 pub reached_fits : (limit capacity : ℕ) (m : Machine) → Reached limit capacity m → Each (IsCarried (fits limit)) m.client.coming × Each (IsCarried (fits limit)) m.server.coming
 reached_fits limit capacity m r =
-    let h = carried (fits limit) limit capacity r.0 m (run_fits limit capacity blank_machine r.0 m r.1) r.1 in
+    let h = carried (fits limit) limit capacity r.0 r.1 m (run_fits limit capacity (blank_machine r.0) r.1 m r.2) r.2 in
     (h.0.coming, h.1.coming)
 
 -- ---- the wire toward a side grows by what the other side puts out

@@ -34,6 +34,7 @@ use Rattle.mq_world.specs.Carries.{WiredSide, Wired}
 use Rattle.mq_world.specs.OverBytes.{OverBytes, Stands, Follows, Alike, Delivers, ReceivesAt, SameBounds, near, far, facing, written, with_more, accepting, hearing, handed_with, left_on, cut_off, blank_side}
 use Rattle.mq_world.specs.World.{Moves, IsAccepted, IsRefused, reason_or_memory, Ignores, IsDelivered, IsLost, IsOpened, IsSettled, Does, Leads, InTurn, exchanges}
 use Rattle.mq_world.specs.Time.{SameTime, SameTimes, HearsIn, BeginsNow, later, time_moves}
+use Rattle.mq_world.proofs.Windows.{SameWindows, run_windows, windows_then}
 use Rattle.mq_world.proofs.Standing.{side_near, no_more_bytes, alike_itself}
 
 -- ---- sides
@@ -298,32 +299,36 @@ refused_open law limit capacity w v o c s cd sd failed ce cb se sb cm sm e = rec
 }
 
 -- a new world
-pub new_at : OverBytes → (limit : Bounds) (capacity : ℕ) (w : Wired) (c s : EndState) → 64 ≤ limit.most → c.end ≡ blank_end → c.limit ≡ limit → c.capacity ≡ capacity → s.end ≡ blank_end → s.limit ≡ limit → s.capacity ≡ capacity
-    → w ≡ record { client = blank_side c; server = blank_side s } → Stands limit capacity w blank_machine
-new_at law limit capacity w c s large ce cl cc_ se sl sc e = subst (λ (u : Wired). Stands limit capacity u blank_machine) (sym e) (law.blank limit capacity c s large ce cl cc_ se sl sc)
+pub new_at : OverBytes → (limit : Bounds) (capacity : ℕ) (window : Option ℕ) (w : Wired) (c s : EndState) → 64 ≤ limit.most → c.end ≡ blank_end window → c.limit ≡ limit → c.capacity ≡ capacity → s.end ≡ blank_end window → s.limit ≡ limit → s.capacity ≡ capacity
+    → w ≡ record { client = blank_side c; server = blank_side s } → Stands limit capacity w (blank_machine window)
+new_at law limit capacity window w c s large ce cl cc_ se sl sc e = subst (λ (u : Wired). Stands limit capacity u (blank_machine window)) (sym e) (law.blank limit capacity window c s large ce cl cc_ se sl sc)
 
 -- ---- one event after another
 
-stands_moved : (limit : Bounds) (capacity : ℕ) (w v : Wired) (m : Machine) (moves : List Move) → Stands limit capacity w m → Moves limit capacity w moves v → (n : Machine) × Stands limit capacity v n
-stands_moved limit capacity w v m moves s f = let g = f m s in (g.machine, g.stands)
+-- a machine that a world carries, whose sides have the windows of another
+abbrev pub StandsStill : Bounds → ℕ → Wired → Machine → Type 0
+StandsStill limit capacity v m = (n : Machine) × Stands limit capacity v n × SameWindows m n
+
+stands_moved : (limit : Bounds) (capacity : ℕ) (w v : Wired) (m : Machine) (moves : List Move) → Stands limit capacity w m → Moves limit capacity w moves v → StandsStill limit capacity v m
+stands_moved limit capacity w v m moves s f = let g = f m s in (g.machine, g.stands, run_windows limit.most capacity m moves g.machine g.run)
 
 pub live_or_not : (b : Bool) (A : Type 0) → (b ≡ true → A) → (b ≡ false → A) → A
 live_or_not true A f g = f refl
 live_or_not false A f g = g refl
 
-pub stands_delivered : OverBytes → (limit : Bounds) (capacity : ℕ) (side : Side) (w v : Wired) (m : Machine) (count : ℕ) (d : Delivery) → Stands limit capacity w m → IsDelivered limit capacity side count d w v → (n : Machine) × Stands limit capacity v n
-stands_delivered law limit capacity side w v m count d s h = live_or_not (is_live (near side w).state.end.state) ((n : Machine) × Stands limit capacity v n)
-    (λ on. let g = (h.arrive on m s).follows in (g.machine, g.stands))
-    (λ off. (m, subst (λ (u : Wired). Stands limit capacity u m) (sym (h.ignores off).world) (law.unheard limit capacity side w m (drop count (near side w).wire) s off)))
+pub stands_delivered : OverBytes → (limit : Bounds) (capacity : ℕ) (side : Side) (w v : Wired) (m : Machine) (count : ℕ) (d : Delivery) → Stands limit capacity w m → IsDelivered limit capacity side count d w v → StandsStill limit capacity v m
+stands_delivered law limit capacity side w v m count d s h = live_or_not (is_live (near side w).state.end.state) (StandsStill limit capacity v m)
+    (λ on. let a = h.arrive on m s in let g = a.follows in (g.machine, g.stands, run_windows limit.most capacity m a.moves g.machine g.run))
+    (λ off. (m, subst (λ (u : Wired). Stands limit capacity u m) (sym (h.ignores off).world) (law.unheard limit capacity side w m (drop count (near side w).wire) s off), (refl, refl)))
 
-pub stands_opened : (limit : Bounds) (capacity : ℕ) (w v : Wired) (m : Machine) (o : Opening) → Stands limit capacity w m → IsOpened limit capacity o w v → (n : Machine) × Stands limit capacity v n
-stands_opened limit capacity w v m o s h = live_or_not o.refused ((n : Machine) × Stands limit capacity v n)
+pub stands_opened : (limit : Bounds) (capacity : ℕ) (w v : Wired) (m : Machine) (o : Opening) → Stands limit capacity w m → IsOpened limit capacity o w v → StandsStill limit capacity v m
+stands_opened limit capacity w v m o s h = live_or_not o.refused (StandsStill limit capacity v m)
     (λ said. stands_moved limit capacity w v m (By Client Drops ∷ By Server Drops ∷ []) s (h.refused said).2)
     (λ said. stands_moved limit capacity w v m (Opens ∷ []) s (h.opens said))
 
-pub stands_done : OverBytes → (limit : Bounds) (capacity : ℕ) (event : Event) (answer : Answer) (w v : Wired) (m : Machine) → Stands limit capacity w m → Does limit capacity event answer w v → (n : Machine) × Stands limit capacity v n
+pub stands_done : OverBytes → (limit : Bounds) (capacity : ℕ) (event : Event) (answer : Answer) (w v : Wired) (m : Machine) → Stands limit capacity w m → Does limit capacity event answer w v → StandsStill limit capacity v m
 stands_done law limit capacity (events.Publish side message) (answers.Published at (Ok id)) w v m s h = stands_moved limit capacity w v m (By side (Publishes h.1.id message) ∷ []) s h.1.moves
-stands_done law limit capacity (events.Publish side message) (answers.Published at (Err why)) w v m s h = (m, subst (λ (u : Wired). Stands limit capacity u m) (sym h.1.same) s)
+stands_done law limit capacity (events.Publish side message) (answers.Published at (Err why)) w v m s h = (m, subst (λ (u : Wired). Stands limit capacity u m) (sym h.1.same) s, (refl, refl))
 stands_done law limit capacity (events.Publish side message) (answers.Delivered d) w v m s h = absurd h
 stands_done law limit capacity (events.Publish side message) (answers.Dropped at b) w v m s h = absurd h
 stands_done law limit capacity (events.Publish side message) (answers.Opened o) w v m s h = absurd h
@@ -345,7 +350,7 @@ stands_done law limit capacity (events.Drop side) (answers.Left o) w v m s h = a
 stands_done law limit capacity (events.Drop side) (answers.Ticked at o) w v m s h = absurd h
 stands_done law limit capacity (events.Drop side) (answers.Settled o) w v m s h = absurd h
 stands_done law limit capacity events.Leave (answers.Left (Ok done)) w v m s h = stands_moved limit capacity w v m (By Client Leaves ∷ []) s h.moves
-stands_done law limit capacity events.Leave (answers.Left (Err why)) w v m s h = (m, subst (λ (u : Wired). Stands limit capacity u m) (sym h.same) s)
+stands_done law limit capacity events.Leave (answers.Left (Err why)) w v m s h = (m, subst (λ (u : Wired). Stands limit capacity u m) (sym h.same) s, (refl, refl))
 stands_done law limit capacity events.Leave (answers.Published at id) w v m s h = absurd h
 stands_done law limit capacity events.Leave (answers.Delivered d) w v m s h = absurd h
 stands_done law limit capacity events.Leave (answers.Dropped at b) w v m s h = absurd h
@@ -363,7 +368,7 @@ stands_done law limit capacity (events.Tick side more) (answers.Ticked at (Ok cl
 stands_done law limit capacity (events.Tick side more) (answers.Ticked at (Err why)) w v m s h =
     let u : Wired = record w { client = record w.client { clock = later w.client.clock more } } in
     let a : Alike w.client u.client = record { end = refl; bytes = λ live. refl; output = refl; bounds = (refl, refl); accepted = refl; handed = refl; freed = refl } in
-    (m, subst (λ (z : Wired). Stands limit capacity z m) (sym h.1.world) (law.alike limit capacity w u m s a (alike_itself w.server)))
+    (m, subst (λ (z : Wired). Stands limit capacity z m) (sym h.1.world) (law.alike limit capacity w u m s a (alike_itself w.server)), (refl, refl))
 stands_done law limit capacity (events.Tick side more) (answers.Published at id) w v m s h = absurd h
 stands_done law limit capacity (events.Tick side more) (answers.Delivered d) w v m s h = absurd h
 stands_done law limit capacity (events.Tick side more) (answers.Dropped at b) w v m s h = absurd h
@@ -385,11 +390,12 @@ turn_more limit capacity (s ∷ sides) (b ∷ ds) side d u v w h k = (h.0, h.1, 
 turn_more limit capacity [] (b ∷ ds) side d u v w h k = absurd h
 turn_more limit capacity (s ∷ sides) [] side d u v w h k = absurd h
 
-pub stands_turned : OverBytes → (limit : Bounds) (capacity : ℕ) (sides : List Side) (ds : List Delivery) (u v : Wired) (m : Machine) → Stands limit capacity u m → InTurn limit capacity sides ds u v → (n : Machine) × Stands limit capacity v n
-stands_turned law limit capacity [] [] u v m s h = (m, subst (λ (x : Wired). Stands limit capacity x m) (sym h) s)
+pub stands_turned : OverBytes → (limit : Bounds) (capacity : ℕ) (sides : List Side) (ds : List Delivery) (u v : Wired) (m : Machine) → Stands limit capacity u m → InTurn limit capacity sides ds u v → StandsStill limit capacity v m
+stands_turned law limit capacity [] [] u v m s h = (m, subst (λ (x : Wired). Stands limit capacity x m) (sym h) s, (refl, refl))
 stands_turned law limit capacity (side ∷ sides) (d ∷ ds) u v m s h =
     let g = stands_delivered law limit capacity side u h.0 m (length (near side u).wire) d s h.1 in
-    stands_turned law limit capacity sides ds h.0 v g.0 g.1 h.2
+    let k = stands_turned law limit capacity sides ds h.0 v g.0 g.1 h.2 in
+    (k.0, k.1, windows_then m g.0 k.0 g.2 k.2)
 stands_turned law limit capacity [] (d ∷ ds) u v m s h = absurd h
 stands_turned law limit capacity (side ∷ sides) [] u v m s h = absurd h
 
@@ -405,8 +411,9 @@ leads_next limit capacity es k rest e a u v w below at h come =
     let f : take (k + 1) es ≡ take k es ++ e ∷ [] = ap (λ n. take n es) (add-one k) ∙ take-suc es k e below ∙ ap (λ z. take k es ++ z ∷ []) (sym at) in
     subst (λ (ss : List Event). Leads limit capacity ss (rest ++ a ∷ []) u w) (sym f) (leads_more limit capacity (take k es) rest e a u v w h come)
 
-pub stands_settled : OverBytes → (limit : Bounds) (capacity : ℕ) (w v : Wired) (m : Machine) (s : Settling) → Stands limit capacity w m → IsSettled limit capacity s w v → (n : Machine) × Stands limit capacity v n
+pub stands_settled : OverBytes → (limit : Bounds) (capacity : ℕ) (w v : Wired) (m : Machine) (s : Settling) → Stands limit capacity w m → IsSettled limit capacity s w v → StandsStill limit capacity v m
 stands_settled law limit capacity w v m s t h =
     let g = stands_opened limit capacity w h.between m s.opening t h.opened in
     let k = stands_turned law limit capacity (take 4 exchanges) (take 4 s.deliveries) h.between h.second g.0 g.1 h.exchanged_twice in
-    stands_turned law limit capacity (drop 4 exchanges) (drop 4 s.deliveries) h.second v k.0 k.1 h.exchanged_again
+    let z = stands_turned law limit capacity (drop 4 exchanges) (drop 4 s.deliveries) h.second v k.0 k.1 h.exchanged_again in
+    (z.0, z.1, windows_then m g.0 z.0 g.2 (windows_then g.0 k.0 z.0 k.2 z.2))

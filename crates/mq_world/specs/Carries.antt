@@ -3,6 +3,7 @@ use Rattle.std.specs.Prelude.{ℕ, ◌≡◌, ◌⊎◌, Bool, true, Option, Non
 use Rattle.mq_packet.specs.declared.message.Message.{Message}
 use Rattle.mq_packet.specs.declared.packet.Packet.{Packet}
 use Rattle.mq_decode.specs.Limits.{Bounds}
+use Rattle.mq_flow.specs.Window.{Spans}
 use Rattle.mq_decode.specs.Grammar.{Stream, Pending}
 use Rattle.mq_end.specs.declared.reason.CloseReason.{CloseReason}
 use Rattle.mq_end.specs.declared.reason.CloseReason.TheVariants as reasons
@@ -46,7 +47,15 @@ pub record Carries (limit : Bounds) (capacity : ℕ) (w : Wired) (m : Machine) :
 
 -- the machine is one that a run reaches
 abbrev pub Reached : ℕ → ℕ → Machine → Type 0
-Reached limit capacity m = (moves : List Move) × Run limit capacity blank_machine moves m
+Reached limit capacity m = (window : Option ℕ) × (moves : List Move) × Run limit capacity (blank_machine window) moves m
+
+-- the capacity is at most the window of each side that has one
+abbrev pub IsSpanned : ℕ → Wired → Type 0
+IsSpanned capacity w = Spans w.client.state.end.window capacity × Spans w.server.state.end.window capacity
+
+-- both sides have this window, where it is one
+abbrev pub HaveWindow : Option ℕ → Wired → Type 0
+HaveWindow window w = (w.client.state.end.window ≡ window) × (w.server.state.end.window ≡ window)
 
 -- the remaining length of the PUBLISH of a message is within the limit (2.2.3, 3.3)
 abbrev pub fits : ℕ → Message → Bool

@@ -1,5 +1,5 @@
 -- Runs that the machine has.
-use Rattle.std.specs.Prelude.{◌≡◌, true, false, Some, List, [], ◌∷◌}
+use Rattle.std.specs.Prelude.{◌≡◌, true, false, Some, None, List, [], ◌∷◌}
 use Rattle.mq_topic.specs.declared.qos.Qos.TheVariants.{Q1, Q2}
 use Rattle.mq_packet.specs.declared.message.Message.{Message}
 use Rattle.mq_end.specs.declared.state.State.TheVariants.{Up}
@@ -41,18 +41,18 @@ dropped_inside = Opens ∷ By Server Arrives ∷ By Client Drops ∷ []
 -- That the machine has these runs, and what comes of them.
 pub record Examples : Type 0 where
   -- PUBREC lost: handed on once, before and after all is settled
-  pub pubrec_lost_runs : Run 100 4 blank_machine pubrec_lost (after_all blank_machine pubrec_lost)
-  pub pubrec_lost_before : (after_all blank_machine pubrec_lost).server.handed.exactly_once ≡ word_2 ∷ []
-  pub pubrec_lost_after : (settled (after_all blank_machine pubrec_lost)).server.handed.exactly_once ≡ word_2 ∷ []
+  pub pubrec_lost_runs : Run 100 4 (blank_machine None) pubrec_lost (after_all (blank_machine None) pubrec_lost)
+  pub pubrec_lost_before : (after_all (blank_machine None) pubrec_lost).server.handed.exactly_once ≡ word_2 ∷ []
+  pub pubrec_lost_after : (settled (after_all (blank_machine None) pubrec_lost)).server.handed.exactly_once ≡ word_2 ∷ []
   -- PUBACK lost: handed on twice when all is settled
-  pub puback_lost_runs : Run 100 4 blank_machine puback_lost (after_all blank_machine puback_lost)
-  pub puback_lost_before : (after_all blank_machine puback_lost).server.handed.at_least_once ≡ word_1 ∷ []
-  pub puback_lost_after : (settled (after_all blank_machine puback_lost)).server.handed.at_least_once ≡ word_1 ∷ word_1 ∷ []
+  pub puback_lost_runs : Run 100 4 (blank_machine None) puback_lost (after_all (blank_machine None) puback_lost)
+  pub puback_lost_before : (after_all (blank_machine None) puback_lost).server.handed.at_least_once ≡ word_1 ∷ []
+  pub puback_lost_after : (settled (after_all (blank_machine None) puback_lost)).server.handed.at_least_once ≡ word_1 ∷ word_1 ∷ []
   -- a drop inside the handshake: the server has a session, the client has none that is established; it goes on all the same
-  pub dropped_inside_runs : Run 100 4 blank_machine dropped_inside (after_all blank_machine dropped_inside)
-  pub dropped_inside_server : (after_all blank_machine dropped_inside).server.end.known ≡ true
-  pub dropped_inside_client : (after_all blank_machine dropped_inside).client.end.known ≡ false
-  pub dropped_inside_after : (settled (after_all blank_machine dropped_inside)).client.end.state ≡ Up
+  pub dropped_inside_runs : Run 100 4 (blank_machine None) dropped_inside (after_all (blank_machine None) dropped_inside)
+  pub dropped_inside_server : (after_all (blank_machine None) dropped_inside).server.end.known ≡ true
+  pub dropped_inside_client : (after_all (blank_machine None) dropped_inside).client.end.known ≡ false
+  pub dropped_inside_after : (settled (after_all (blank_machine None) dropped_inside)).client.end.state ≡ Up
   -- a server's message is refused before a session stands, and accepted after
-  pub refused_before : refusal Server 100 4 word_2 blank_machine.server.end ≡ Some NoSession
-  pub accepted_after : Run 100 4 blank_machine (Opens ∷ By Server Arrives ∷ By Server (Publishes 1 word_2) ∷ []) (after_all blank_machine (Opens ∷ By Server Arrives ∷ By Server (Publishes 1 word_2) ∷ []))
+  pub refused_before : refusal Server 100 4 word_2 (blank_machine None).server.end ≡ Some NoSession
+  pub accepted_after : Run 100 4 (blank_machine None) (Opens ∷ By Server Arrives ∷ By Server (Publishes 1 word_2) ∷ []) (after_all (blank_machine None) (Opens ∷ By Server Arrives ∷ By Server (Publishes 1 word_2) ∷ []))

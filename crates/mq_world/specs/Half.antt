@@ -42,15 +42,16 @@ pub record Half : Type 0 where
   pub handed : HandedOn
   pub freed : List ℕ
 
--- no session, no connection, nothing accepted or handed on
-abbrev pub blank_half : Half
-blank_half = record {
-  end = blank_end;
-  coming = [];
-  accepted = record { at_most_once = []; at_least_once = []; exactly_once = [] };
-  handed = record { at_most_once = []; at_least_once = []; exactly_once = [] };
-  freed = [];
-}
+-- nothing accepted, and nothing handed on
+abbrev pub none_accepted : Accepted
+none_accepted = record { at_most_once = []; at_least_once = []; exactly_once = [] }
+
+abbrev pub none_handed : HandedOn
+none_handed = record { at_most_once = []; at_least_once = []; exactly_once = [] }
+
+-- with this receiving window; no session, no connection, nothing accepted or handed on
+abbrev pub blank_half : Option ℕ → Half
+blank_half window = record { end = blank_end window; coming = []; accepted = none_accepted; handed = none_handed; freed = [] }
 
 -- ---- queues
 

@@ -1,5 +1,5 @@
 -- What every run keeps (4.3).
-use Rattle.std.specs.Prelude.{ℕ, ◌+◌, ◌≡◌, ◌≤◌, List, ◌++◌, length}
+use Rattle.std.specs.Prelude.{ℕ, ◌+◌, ◌≡◌, ◌≤◌, Option, List, ◌++◌, length}
 use Rattle.mq_topic.specs.declared.qos.Qos.TheVariants.{Q1, Q2}
 use Rattle.mq_packet.specs.declared.message.Message.{Message}
 use Rattle.mq_flow.specs.Sender.{held}
@@ -37,6 +37,6 @@ pub record Headline (w : Machine) : Type 0 where
   pub to_server_2 : ExactlyOnce w.client w.server
   pub to_client_2 : ExactlyOnce w.server w.client
 
--- over every run, whatever is published, comes, is lost, and is opened again
+-- over every run, for every window, whatever is published, comes, is lost, and is opened again
 abbrev pub HeadlineLaw : Type 0
-HeadlineLaw = (limit capacity : ℕ) (moves : List Move) (w : Machine) → Run limit capacity blank_machine moves w → Headline w
+HeadlineLaw = (limit capacity : ℕ) (window : Option ℕ) (moves : List Move) (w : Machine) → Run limit capacity (blank_machine window) moves w → Headline w

@@ -1,5 +1,5 @@
 -- Two sides that are joined by two queues of packets, and what may happen.
-use Rattle.std.specs.Prelude.{ℕ, ◌≡◌, false, None, List, [], ◌∷◌}
+use Rattle.std.specs.Prelude.{ℕ, ◌≡◌, false, Option, None, List, [], ◌∷◌}
 use Rattle.mq_packet.specs.declared.connect.Connect.{Connect}
 use Rattle.mq_packet.specs.declared.packet.Packet.{Packet}
 use Rattle.mq_end.specs.Client.{connects}
@@ -13,9 +13,9 @@ pub record Machine : Type 0 where
   pub client : Half
   pub server : Half
 
--- at first neither side has a session, and there is no connection
-abbrev pub blank_machine : Machine
-blank_machine = record { client = blank_half; server = blank_half }
+-- at first neither side has a session, and there is no connection; both have this receiving window, where it is one
+abbrev pub blank_machine : Option ℕ → Machine
+blank_machine window = record { client = blank_half window; server = blank_half window }
 
 -- Each connection begins with this CONNECT: the client `w`, clean session 0, so that both sides keep their sessions
 -- (3.1.2.4), and a keep-alive of 60 seconds.

@@ -1,13 +1,15 @@
 -- What comes of each event of a world over bytes: the machine that it carries makes some moves (4.2, 4.4, 4.6).
-use Rattle.std.specs.Prelude.{ℕ, ◌≡◌, ◌≤◌, true, false, Option, None, Some, List, [], ◌∷◌, ◌++◌, length}
+use Rattle.std.specs.Prelude.{ℕ, ◌≡◌, ◌≢◌, ◌≤◌, true, false, Option, None, Some, List, [], ◌∷◌, ◌++◌, length}
 use Rattle.mq_topic.specs.declared.qos.Qos.TheVariants.{Q0, Q1, Q2}
 use Rattle.mq_packet.specs.declared.message.Message.{Message}
 use Rattle.mq_packet.specs.declared.packet.Packet.{Packet}
 use Rattle.mq_packet.specs.declared.packet.Packet.TheVariants as packets
 use Rattle.mq_decode.specs.Limits.{Bounds}
 use Rattle.mq_decode.specs.declared.fault.DecodeFault.{DecodeFault}
+use Rattle.mq_flow.specs.Window.{Spans}
 use Rattle.mq_end.specs.declared.happening.Happening.{Happening}
 use Rattle.mq_end.specs.declared.reason.CloseReason.{CloseReason}
+use Rattle.mq_end.specs.declared.reason.CloseReason.TheVariants as reasons
 use Rattle.mq_end.specs.End.{End, Reply, blank_end, is_live, is_up, over}
 use Rattle.mq_end.specs.Both.{publishes, has_identifier}
 use Rattle.mq_end.specs.Client.{connects, leaves, leave_refusal}
@@ -17,7 +19,7 @@ use Rattle.mq_end.specs.State.{EndState, PutsOut, client_faulted, server_faulted
 use Rattle.mq_end.specs.Receiving.{Receives, Shows}
 use Rattle.mq_world.specs.declared.side.Side.{Side}
 use Rattle.mq_world.specs.declared.side.Side.TheVariants.{Client, Server}
-use Rattle.mq_world.specs.Half.{HandedOn, Publishes, Drops, Leaves, Pings, blank_half, gets, refusal, told, freed_with, accepted_with}
+use Rattle.mq_world.specs.Half.{HandedOn, Publishes, Drops, Leaves, Pings, none_accepted, none_handed, gets, refusal, told, freed_with, accepted_with}
 use Rattle.mq_world.specs.Machine.{Machine, Move, By, Opens, Run, blank_machine, first_packet}
 use Rattle.mq_world.specs.Headline.{Headline}
 use Rattle.mq_world.specs.Identifiers.{half_of}
@@ -72,7 +74,7 @@ cut_off new x = record x { state = written new; wire = [] }
 
 -- a side without a session, without a connection and without bytes
 abbrev pub blank_side : EndState → WiredSide
-blank_side new = record { state = written new; clock = 0; wire = []; accepted = blank_half.accepted; handed = blank_half.handed; freed = [] }
+blank_side new = record { state = written new; clock = 0; wire = []; accepted = none_accepted; handed = none_handed; freed = [] }
 
 -- it accepted a message, with this identifier where it has one
 abbrev pub accepting : ℕ → Message → EndState → WiredSide → WiredSide
@@ -119,6 +121,8 @@ pub record Delivers (limit : Bounds) (capacity : ℕ) (side : Side) (m : Machine
   pub later : List Packet
   pub first : (half_of side m).coming ≡ packets ++ later
   pub arrivals : AreArrivals side (length packets) closed moves
+  -- a window that is not less than the capacity closes no end
+  pub fits : Spans (half_of side m).end.window capacity → closed ≢ Some reasons.Window
   pub follows : Follows limit capacity m moves w
 
 -- Two sides that show the same: of their bytes, where there is a connection, what comes next.
@@ -136,10 +140,10 @@ pub record Alike (x y : WiredSide) : Type 0 where
 -- The bytes of a world, cut anywhere, are a run of the machine.
 pub record OverBytes : Type 0 where
   -- a new world
-  pub blank : (limit : Bounds) (capacity : ℕ) (c s : EndState) → 64 ≤ limit.most
-      → c.end ≡ blank_end → c.limit ≡ limit → c.capacity ≡ capacity
-      → s.end ≡ blank_end → s.limit ≡ limit → s.capacity ≡ capacity
-      → Stands limit capacity (record { client = blank_side c; server = blank_side s }) blank_machine
+  pub blank : (limit : Bounds) (capacity : ℕ) (window : Option ℕ) (c s : EndState) → 64 ≤ limit.most
+      → c.end ≡ blank_end window → c.limit ≡ limit → c.capacity ≡ capacity
+      → s.end ≡ blank_end window → s.limit ≡ limit → s.capacity ≡ capacity
+      → Stands limit capacity (record { client = blank_side c; server = blank_side s }) (blank_machine window)
   -- worlds whose sides are alike
   pub alike : (limit : Bounds) (capacity : ℕ) (w v : Wired) (m : Machine) → Stands limit capacity w m
       → Alike w.client v.client → Alike w.server v.server → Stands limit capacity v m

@@ -1,5 +1,5 @@
 -- Sessions over every run (3.1.2.4).
-use Rattle.std.specs.Prelude.{ℕ, ◌≡◌, true, false, List}
+use Rattle.std.specs.Prelude.{ℕ, ◌≡◌, true, false, Option, List}
 use Rattle.mq_world.specs.Machine.{Machine, Move, Run, blank_machine}
 
 -- Neither side's connection has clean session 1, so neither discards its session; and where the client's session is
@@ -11,4 +11,4 @@ pub record KeepsSessions (w : Machine) : Type 0 where
 
 -- over every run
 abbrev pub SessionsLaw : Type 0
-SessionsLaw = (limit capacity : ℕ) (moves : List Move) (w : Machine) → Run limit capacity blank_machine moves w → KeepsSessions w
+SessionsLaw = (limit capacity : ℕ) (window : Option ℕ) (moves : List Move) (w : Machine) → Run limit capacity (blank_machine window) moves w → KeepsSessions w

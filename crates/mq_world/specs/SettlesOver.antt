@@ -10,7 +10,7 @@ use Rattle.mq_end.specs.State.{EndState}
 use Rattle.mq_world.specs.declared.side.Side.{Side}
 use Rattle.mq_world.specs.Machine.{Machine, Opens, after}
 use Rattle.mq_world.specs.Settling.{Idle, AllHanded, delivered, exchange, settled}
-use Rattle.mq_world.specs.Carries.{Wired, seen}
+use Rattle.mq_world.specs.Carries.{Wired, IsSpanned, seen}
 use Rattle.mq_world.specs.OverBytes.{Stands, near, far, facing, with_more, hearing, ReceivesAt, SameBounds}
 
 -- What settling leaves (4.4), from one world to another.
@@ -47,6 +47,6 @@ pub record SettlesOver : Type 0 where
   pub lose_all : (limit : Bounds) (capacity : ℕ) (side : Side) (w : Wired) (m : Machine) → Stands limit capacity w m
       → is_live (near side w).state.end.state ≡ false
       → Stands limit capacity (facing side (record (near side w) { wire = [] }) (far side w)) (delivered side m)
-  -- what the third exchange after a new connection leaves, and what the second
-  pub settles : (limit : Bounds) (capacity : ℕ) (w v : Wired) (m : Machine) → Stands limit capacity w m → Stands limit capacity v (settled m) → SettledFrom w v
-  pub second : (limit : Bounds) (capacity : ℕ) (w v : Wired) (m : Machine) → Stands limit capacity w m → Stands limit capacity v (exchange (exchange (after m Opens))) → HoldsNothing v
+  -- what the third exchange after a new connection leaves, and what the second, where the capacity is at most the window
+  pub settles : (limit : Bounds) (capacity : ℕ) (w v : Wired) (m : Machine) → IsSpanned capacity w → Stands limit capacity w m → Stands limit capacity v (settled m) → SettledFrom w v
+  pub second : (limit : Bounds) (capacity : ℕ) (w v : Wired) (m : Machine) → IsSpanned capacity w → Stands limit capacity w m → Stands limit capacity v (exchange (exchange (after m Opens))) → HoldsNothing v

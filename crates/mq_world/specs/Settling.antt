@@ -1,6 +1,7 @@
 -- A new connection and three exchanges settle everything (4.4).
-use Rattle.std.specs.Prelude.{ℕ, zero, suc, ◌≡◌, ◌<◌, List, [], length}
+use Rattle.std.specs.Prelude.{ℕ, zero, suc, ◌≡◌, ◌<◌, Option, List, [], length}
 use Rattle.mq_packet.specs.declared.packet.Packet.{Packet}
+use Rattle.mq_flow.specs.Window.{Spans}
 use Rattle.mq_end.specs.declared.state.State.TheVariants.{Up}
 use Rattle.mq_world.specs.declared.side.Side.{Side}
 use Rattle.mq_world.specs.declared.side.Side.TheVariants.{Client, Server}
@@ -60,6 +61,6 @@ pub record Settles (w : Machine) : Type 0 where
   pub client_second : (exchange (exchange (after w Opens))).client.end.book.entries ≡ []
   pub server_second : (exchange (exchange (after w Opens))).server.end.book.entries ≡ []
 
--- from every machine that a run reaches
+-- from every machine that a run reaches, where there is no window, or one that is not less than the capacity
 abbrev pub SettlingLaw : Type 0
-SettlingLaw = (limit capacity : ℕ) (moves : List Move) (w : Machine) → Run limit capacity blank_machine moves w → Settles w
+SettlingLaw = (limit capacity : ℕ) (window : Option ℕ) (moves : List Move) (w : Machine) → Spans window capacity → Run limit capacity (blank_machine window) moves w → Settles w

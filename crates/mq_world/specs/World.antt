@@ -23,23 +23,25 @@ use Rattle.mq_world.specs.declared.answer.Opening.{Opening}
 use Rattle.mq_world.specs.declared.answer.Settling.{Settling}
 use Rattle.mq_world.specs.Half.{Publishes, Drops, Leaves, refusal, freed_with}
 use Rattle.mq_world.specs.Machine.{Machine, Move, By, Opens, blank_machine}
-use Rattle.mq_world.specs.Carries.{Wired}
+use Rattle.mq_world.specs.Carries.{Wired, IsSpanned}
 use Rattle.mq_world.specs.OverBytes.{Stands, Follows, Delivers, ReceivesAt, SameBounds, near, far, facing, with_more, hearing, handed_with, left_on}
 use Rattle.mq_world.specs.SettlesOver.{HoldsNothing}
 use Rattle.mq_world.specs.Time.{SameTime, SameTimes, HearsIn, BeginsNow, later, time_closes, time_moves, time_moment, time_out}
 
 -- What contracts see of a world: its sides, the bounds on what is read and published (2.2.3), the most packet identifiers in use at a side
--- (2.3.1), whether memory ran out, and what came of the events so far, the oldest first.
+-- (2.3.1), the receiving window of both sides, where it is one, whether memory ran out, and what came of the events so far, the oldest
+-- first.
 pub record WorldState : Type 0 where
   pub wired : Wired
   pub limit : Bounds
   pub capacity : ℕ
+  pub window : Option ℕ
   pub failed : Bool
   pub answers : List Answer
 
 -- a new world: no session, no connection, no byte on its way, nothing accepted or handed on
-pub record IsNew (limit : Bounds) (capacity : ℕ) (w : Wired) : Type 0 where
-  pub stands : Stands limit capacity w blank_machine
+pub record IsNew (limit : Bounds) (capacity : ℕ) (window : Option ℕ) (w : Wired) : Type 0 where
+  pub stands : Stands limit capacity w (blank_machine window)
   pub client_clock : w.client.clock ≡ 0
   pub server_clock : w.server.clock ≡ 0
   pub to_client : w.client.wire ≡ []
@@ -193,6 +195,13 @@ abbrev pub MetNoWant : Answer → Type 0
 MetNoWant (answers.Settled s) = (s.opening.refused ≡ false) × All (λ d. d.progress.closed ≢ Some reasons.Memory) s.deliveries
 MetNoWant answer = ⊥
 
+-- no end closed since a message did not fit its window
+abbrev pub IsNeverFull : Answer → Type 0
+IsNeverFull (answers.Delivered d) = d.progress.closed ≢ Some reasons.Window
+IsNeverFull (answers.Ticked side (Ok closed)) = closed ≢ Some reasons.Window
+IsNeverFull (answers.Settled s) = All (λ d. d.progress.closed ≢ Some reasons.Window) s.deliveries
+IsNeverFull answer = Unit {0}
+
 -- A connection is opened, and three exchanges follow (4.4).
 pub record IsSettled (limit : Bounds) (capacity : ℕ) (s : Settling) (old new : Wired) : Type 0 where
   -- the worlds after the opening and after the second exchange
@@ -201,8 +210,8 @@ pub record IsSettled (limit : Bounds) (capacity : ℕ) (s : Settling) (old new :
   pub opened : IsOpened limit capacity s.opening old between
   pub exchanged_twice : InTurn limit capacity (take 4 exchanges) (take 4 s.deliveries) between second
   pub exchanged_again : InTurn limit capacity (drop 4 exchanges) (drop 4 s.deliveries) second new
-  -- for the messages two exchanges are enough, the third is for the released identifiers
-  pub second_left : MetNoWant (answers.Settled s) → HoldsNothing second
+  -- for the messages two exchanges are enough, the third is for the released identifiers, where the capacity is at most the window
+  pub second_left : IsSpanned capacity old → MetNoWant (answers.Settled s) → HoldsNothing second
   -- a server without a session has nothing that waits
   pub idle : IsTrue s.idle ↔ (IsIdle new.client.state.end × (new.server.state.end.known ≡ true → IsIdle new.server.state.end))
 

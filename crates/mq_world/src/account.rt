@@ -4,7 +4,7 @@ ghost use Rattle.std.specs.Prelude.{◌≡◌, ◌∷◌, ℕ, [], OnOk, nat_eq}
 ghost use Rattle.std.specs.HashMap.{get};
 ghost use Rattle.std.specs.Option.{unwrap_or};
 ghost use Rattle.mq_end.specs.Both.{answered_identifier};
-ghost use Rattle.mq_world.specs.Half.{accepted_with, freed_with, last_place, blank_half};
+ghost use Rattle.mq_world.specs.Half.{accepted_with, freed_with, last_place, none_accepted, none_handed};
 
 use mq_end::{Happening, Progress};
 use mq_packet::{Message, PacketId};
@@ -40,8 +40,8 @@ impl Account {
 
     /// Nothing accepted, nothing handed on. It takes no memory.
     pub fn new(alloc: Global) -> Account
-        ensures accepted { accepted_in result ≡ blank_half.accepted }
-        ensures handed { handed_in result ≡ blank_half.handed }
+        ensures accepted { accepted_in result ≡ none_accepted }
+        ensures handed { handed_in result ≡ none_handed }
         ensures freed { result.freed.items ≡ [] }
     {
         Account {

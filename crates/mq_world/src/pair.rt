@@ -4,6 +4,7 @@ ghost use Rattle.std.specs.Prelude.{◌≡◌, ◌++◌, ◌↔◌, ◌&&◌, �
 ghost use Rattle.mq_decode.specs.Limits.{Bounds};
 ghost use Rattle.mq_end.specs.End.{is_live};
 ghost use Rattle.mq_end.specs.Publishing.{connect_of};
+ghost use Rattle.mq_world.specs.Carries.{IsSpanned};
 ghost use Rattle.mq_world.specs.Machine.{Machine, first_packet};
 ghost use Rattle.mq_world.specs.OverBytes.{Stands, near, left_on};
 ghost use Rattle.mq_world.specs.Pairs.{wired_of};
@@ -291,7 +292,7 @@ impl Pair {
         ensures settled { IfOk result (λ s. (limit : Bounds) (capacity : ℕ) (m : Machine) → Stands limit capacity (wired_of self.old) m
             → IsSettled limit capacity s (wired_of self.old) (wired_of self.new)) }
         ensures left { IfOk result (λ s. (limit : Bounds) (capacity : ℕ) (m : Machine) → Stands limit capacity (wired_of self.old) m
-            → MetNoWant (Answer.Settled s) → SettledFrom (wired_of self.old) (wired_of self.new)) }
+            → IsSpanned capacity (wired_of self.old) → MetNoWant (Answer.Settled s) → SettledFrom (wired_of self.old) (wired_of self.new)) }
         ensures config { self.new.client.config ≡ self.old.client.config }
         ensures answers { self.new.trace.answers ≡ self.old.trace.answers }
     {

@@ -1,13 +1,14 @@
 //! Two ends under a list of events.
 
-ghost use Rattle.std.specs.Prelude.{◌≡◌, ◌<◌, ◌↔◌, ◌∷◌, ◌++◌, [], true, false, IfOk, IfSome, IsSome, IsErr, OnOk, OnErr};
-ghost use Rattle.mq_world.specs.Carries.{Wired, seen};
+ghost use Rattle.std.specs.Prelude.{◌≡◌, ◌<◌, ◌≤◌, ◌↔◌, All, None, Some, ◌∷◌, ◌++◌, [], true, false, IfOk, IfSome, IsSome, IsErr, OnOk, OnErr};
+ghost use Rattle.mq_flow.specs.Window.{Spans};
+ghost use Rattle.mq_world.specs.Carries.{Wired, HaveWindow, seen};
 ghost use Rattle.mq_world.specs.Headline.{Headline};
 ghost use Rattle.mq_world.specs.Machine.{Machine};
 ghost use Rattle.mq_world.specs.OverBytes.{Stands, near};
 ghost use Rattle.mq_world.specs.Listed.{accepted_in, handed_in};
 ghost use Rattle.mq_world.specs.SettlesOver.{SettledFrom};
-ghost use Rattle.mq_world.specs.World.{Does, IsNew, Leads, MetNoWant, Settles};
+ghost use Rattle.mq_world.specs.World.{Does, IsNeverFull, IsNew, Leads, MetNoWant, Settles};
 
 use crate::account::Account;
 use crate::answer::Answer;
@@ -31,6 +32,7 @@ pub struct World {
     pair: Pair,
     limits: Limits,
     capacity: u16,
+    window: Option<u16>,
     failed: bool,
 }
 
@@ -40,6 +42,7 @@ impl Model for World {
     ghost use Rattle.std.specs.FinSet as set;
     ghost use Rattle.std.specs.Ordering.{nat_cmp};
     ghost use Rattle.mq_end.specs.Publishing.{connect_of};
+    ghost use Rattle.mq_world.specs.Carries.{HaveWindow};
     ghost use Rattle.mq_world.specs.Machine.{Machine, first_packet};
     ghost use Rattle.mq_world.specs.OverBytes.{Stands};
     ghost use Rattle.mq_world.specs.World.{WorldState};
@@ -53,22 +56,63 @@ impl Model for World {
       wired = wired_of w.pair;
       limit = w.limits;
       capacity = w.capacity;
+      window = w.window;
       failed = w.failed;
       answers = w.pair.trace.answers.items;
     } };
 
     ghost invariant = { λ w. (connect_of w.pair.client.config false ≡ first_packet)
-        × (w.failed ≡ false → (m : Machine) × Stands w.limits w.capacity (wired_of w.pair) m) };
+        × (w.failed ≡ false → (m : Machine) × Stands w.limits w.capacity (wired_of w.pair) m × HaveWindow w.window (wired_of w.pair)) };
 }
 
 impl World {
     /// A world in which nothing happened. Packets are within these limits at both sides, and at each side at most so many
-    /// packet identifiers are in use. Errs where memory runs out.
+    /// packet identifiers are in use. No side has a receiving window. Errs where memory runs out.
     pub fn new(alloc: Global, limits: Limits, capacity: u16) -> Result<World, AllocError>
         requires { 0 < capacity }
-        ensures new { IfOk result (λ world. IsNew limits capacity world.wired) }
+        ensures new { IfOk result (λ world. IsNew limits capacity None world.wired) }
         ensures limit { IfOk result (λ world. world.limit ≡ limits) }
         ensures capacity { IfOk result (λ world. world.capacity ≡ capacity) }
+        ensures window { IfOk result (λ world. world.window ≡ None) }
+        ensures failed { IfOk result (λ world. world.failed ≡ false) }
+        ensures answers { IfOk result (λ world. world.answers ≡ []) }
+    {
+        World::begin(alloc, limits, capacity, None)
+    }
+
+    /// The same, and both sides have this receiving window: a side closes with C11 where a new message of quality of service 2
+    /// does not fit it.
+    pub fn with_window(
+        alloc: Global,
+        limits: Limits,
+        capacity: u16,
+        window: u16,
+    ) -> Result<World, AllocError>
+        requires capacity { 0 < capacity }
+        requires window { 0 < window }
+        ensures new { IfOk result (λ world. IsNew limits capacity (Some window) world.wired) }
+        ensures limit { IfOk result (λ world. world.limit ≡ limits) }
+        ensures capacity { IfOk result (λ world. world.capacity ≡ capacity) }
+        ensures window { IfOk result (λ world. world.window ≡ Some window) }
+        ensures failed { IfOk result (λ world. world.failed ≡ false) }
+        ensures answers { IfOk result (λ world. world.answers ≡ []) }
+    {
+        World::begin(alloc, limits, capacity, Some(window))
+    }
+
+    // A world in which nothing happened, and whose sides have this window.
+    fn begin(
+        alloc: Global,
+        limits: Limits,
+        capacity: u16,
+        window: Option<u16>,
+    ) -> Result<World, AllocError>
+        requires capacity { 0 < capacity }
+        requires window { IfSome window (λ window. 0 < window) }
+        ensures new { IfOk result (λ world. IsNew limits capacity window world.wired) }
+        ensures limit { IfOk result (λ world. world.limit ≡ limits) }
+        ensures capacity { IfOk result (λ world. world.capacity ≡ capacity) }
+        ensures window { IfOk result (λ world. world.window ≡ window) }
         ensures failed { IfOk result (λ world. world.failed ≡ false) }
         ensures answers { IfOk result (λ world. world.answers ≡ []) }
     {
@@ -84,6 +128,12 @@ impl World {
             login: None,
             limits,
             capacity,
+            window,
+        };
+        let server = ServerConfig {
+            limits,
+            capacity,
+            window,
         };
         let trace = Trace {
             answers: Vec::new(alloc),
@@ -93,7 +143,7 @@ impl World {
         let pair = Pair {
             alloc,
             client: ClientEnd::new(alloc, config),
-            server: ServerEnd::new(alloc, ServerConfig { limits, capacity }),
+            server: ServerEnd::new(alloc, server),
             client_clock: 0,
             server_clock: 0,
             to_client: ByteQueue::new(alloc),
@@ -104,6 +154,7 @@ impl World {
             pair,
             limits,
             capacity,
+            window,
             failed: false,
         })
     }
@@ -113,11 +164,13 @@ impl World {
         ensures does { IfOk result (λ answer. Does self.old.limit self.old.capacity event.now answer self.old.wired self.new.wired) }
         ensures answers { IfOk result (λ answer. self.new.answers ≡ self.old.answers ++ answer ∷ []) }
         ensures headline { OnOk result (Headline (seen self.new.wired)) }
+        ensures fits { IfOk result (λ answer. Spans self.old.window self.old.capacity → IsNeverFull answer) }
         ensures ok { OnOk result (self.new.failed ≡ false) }
         ensures failed { OnErr result (self.new.failed ≡ true) }
         ensures before { self.old.failed ≡ true → IsErr result }
         ensures limit { self.new.limit ≡ self.old.limit }
         ensures capacity { self.new.capacity ≡ self.old.capacity }
+        ensures window { self.new.window ≡ self.old.window }
     {
         over_bytes();
         if self.failed {
@@ -131,19 +184,22 @@ impl World {
     }
 
     /// Opens a connection and makes three exchanges, in each of which all that is on its way to the server comes, then all
-    /// that is on its way to the client (4.4). Wherever no end ran out of memory, both sides are idle then, and each message
+    /// that is on its way to the client (4.4). Wherever no end ran out of memory, and the capacity is at most the window where there
+    /// is one, both sides are idle then, and each message
     /// of quality of service 1 or 2 that was accepted was handed on, with 2 just once and in order. Errs where memory runs
     /// out, and each time from then on.
     pub fn settle(&mut self) -> Result<Answer, AllocError>
         ensures settles { IfOk result (λ answer. Settles self.old.limit self.old.capacity answer self.old.wired self.new.wired) }
-        ensures settled { IfOk result (λ answer. MetNoWant answer → SettledFrom self.old.wired self.new.wired) }
+        ensures settled { IfOk result (λ answer. Spans self.old.window self.old.capacity → MetNoWant answer → SettledFrom self.old.wired self.new.wired) }
         ensures answers { IfOk result (λ answer. self.new.answers ≡ self.old.answers ++ answer ∷ []) }
         ensures headline { OnOk result (Headline (seen self.new.wired)) }
+        ensures fits { IfOk result (λ answer. Spans self.old.window self.old.capacity → IsNeverFull answer) }
         ensures ok { OnOk result (self.new.failed ≡ false) }
         ensures failed { OnErr result (self.new.failed ≡ true) }
         ensures before { self.old.failed ≡ true → IsErr result }
         ensures limit { self.new.limit ≡ self.old.limit }
         ensures capacity { self.new.capacity ≡ self.old.capacity }
+        ensures window { self.new.window ≡ self.old.window }
     {
         over_bytes();
         if self.failed {
@@ -166,24 +222,67 @@ impl World {
     ) -> Result<World, AllocError>
         requires { 0 < capacity }
         ensures headline { IfOk result (λ world. Headline (seen world.wired)) }
-        ensures events { IfOk result (λ world. (start : Wired) × IsNew limits capacity start
+        ensures events { IfOk result (λ world. (start : Wired) × IsNew limits capacity None start
             × Leads limits capacity events.now world.answers start world.wired) }
         ensures limit { IfOk result (λ world. world.limit ≡ limits) }
         ensures capacity { IfOk result (λ world. world.capacity ≡ capacity) }
+        ensures window { IfOk result (λ world. world.window ≡ None) }
         ensures failed { IfOk result (λ world. world.failed ≡ false) }
     {
         let mut world = World::new(alloc, limits, capacity)?;
-        for event in events {
-            world.step(event)?;
-        }
-        world.promise();
+        world.make_all(events)?;
         Ok(world)
+    }
+
+    /// A new world whose sides have this receiving window, after these events. The same holds of it, for each window. Where the
+    /// capacity is at most the window, no answer tells of a close with C11.
+    pub fn run_with_window(
+        alloc: Global,
+        limits: Limits,
+        capacity: u16,
+        window: u16,
+        events: &[Event],
+    ) -> Result<World, AllocError>
+        requires capacity { 0 < capacity }
+        requires window { 0 < window }
+        ensures headline { IfOk result (λ world. Headline (seen world.wired)) }
+        ensures events { IfOk result (λ world. (start : Wired) × IsNew limits capacity (Some window) start
+            × Leads limits capacity events.now world.answers start world.wired) }
+        ensures fits { IfOk result (λ world. capacity ≤ window → All IsNeverFull world.answers) }
+        ensures limit { IfOk result (λ world. world.limit ≡ limits) }
+        ensures capacity { IfOk result (λ world. world.capacity ≡ capacity) }
+        ensures window { IfOk result (λ world. world.window ≡ Some window) }
+        ensures failed { IfOk result (λ world. world.failed ≡ false) }
+    {
+        let mut world = World::with_window(alloc, limits, capacity, window)?;
+        world.make_all(events)?;
+        Ok(world)
+    }
+
+    // Makes events, one after another, in a world in which none was made.
+    fn make_all(&mut self, events: &[Event]) -> Result<(), AllocError>
+        requires new { self.old.answers ≡ [] }
+        requires stands { self.old.failed ≡ false }
+        ensures headline { OnOk result (Headline (seen self.new.wired)) }
+        ensures events { OnOk result (Leads self.old.limit self.old.capacity events.now self.new.answers self.old.wired self.new.wired) }
+        ensures fits { OnOk result (Spans self.old.window self.old.capacity → All IsNeverFull self.new.answers) }
+        ensures limit { self.new.limit ≡ self.old.limit }
+        ensures capacity { self.new.capacity ≡ self.old.capacity }
+        ensures window { self.new.window ≡ self.old.window }
+        ensures failed { OnOk result (self.new.failed ≡ false) }
+    {
+        for event in events {
+            self.step(event)?;
+        }
+        self.promise();
+        Ok(())
     }
 
     /// What every world keeps in which no event failed: it carries a machine that a run reaches, so what the laws say of each
     /// run holds of it, and what its sides handed on stands to what they accepted as promised (4.3). It does nothing.
     pub fn promise(&self)
         ensures carries { self.now.failed ≡ false → (m : Machine) × Stands self.now.limit self.now.capacity self.now.wired m }
+        ensures window { self.now.failed ≡ false → HaveWindow self.now.window self.now.wired }
         ensures headline { self.now.failed ≡ false → Headline (seen self.now.wired) }
     {
         over_bytes();

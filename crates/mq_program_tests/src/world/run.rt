@@ -32,7 +32,7 @@ const LATE: [Step; 7] = [
     Tick(Server, 90_001),
 ];
 
-fn events_of(alloc: Global, steps: &[Step]) -> Result<Vec<Event>, Fail> {
+pub(crate) fn events_of(alloc: Global, steps: &[Step]) -> Result<Vec<Event>, Fail> {
     let mut events = Vec::new(alloc);
     for step in steps {
         events.push(event_of(alloc, *step)?)?;

@@ -28,6 +28,9 @@ fn saved(alloc: Global, payload: &[u8]) -> Result<Session, Fail> {
 // A client, configured with room for one, that goes on with it.
 fn resumed_client(alloc: Global, payload: &[u8]) -> Result<Option<ClientEnd>, Fail> {
     let config = client_config(alloc, 1)?;
+    if config.window.is_some() {
+        return Err(Fail::new("a window"));
+    }
     let session = saved(alloc, payload)?;
     Ok(ClientEnd::with_session(alloc, config, session))
 }
@@ -35,6 +38,9 @@ fn resumed_client(alloc: Global, payload: &[u8]) -> Result<Option<ClientEnd>, Fa
 // The same of a server.
 fn resumed_server(alloc: Global, payload: &[u8]) -> Result<Option<ServerEnd>, Fail> {
     let config = server_config(1)?;
+    if config.window.is_some() {
+        return Err(Fail::new("a window"));
+    }
     let session = saved(alloc, payload)?;
     Ok(ServerEnd::with_session(alloc, config, session))
 }

@@ -3,6 +3,7 @@ use Rattle.mq_end.specs.End.{is_live}
 use Rattle.mq_end.specs.State.{EndState}
 use Rattle.mq_end.specs.Publishing.{ClientState}
 use Rattle.mq_end.specs.Receiving.{ClientReceives}
+use Rattle.mq_end.specs.Laws.{KeepsWindow}
 use Rattle.mq_end.proofs.Hearing.{kept_moment}
 use Rattle.mq_end.proofs.client.ClientEnd.receive.Goals as goal
 
@@ -14,3 +15,6 @@ returns-clause-open c =
 pub returns-clause-moment : goal.returns-clause-moment
 returns-clause-moment c =
     subst (λ (l : EndState). c.receive.new.self.moment ≡ l.moment) (ap (λ (s : ClientState). s.link) c.self.view_is) (kept_moment _ c.receive.new.self c.receive.ensures.heard c.receive.ensures.closed)
+
+pub returns-clause-window : goal.returns-clause-window
+returns-clause-window c = subst (λ (l : EndState). KeepsWindow l.end c.receive.new.self.end) (ap (λ (s : ClientState). s.link) c.self.view_is) c.receive.ensures.window
