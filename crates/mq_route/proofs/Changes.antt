@@ -12,7 +12,9 @@ use Rattle.mq_end.specs.Server.{server_gets}
 use Rattle.mq_route.specs.declared.conn.Conn.{Conn}
 use Rattle.mq_route.specs.declared.act.Act.{Act}
 use Rattle.mq_route.specs.declared.act.Act.TheVariants as acts
+use Rattle.mq_end.specs.declared.reason.CloseReason.{CloseReason}
 use Rattle.mq_route.specs.declared.close.HubClose.{HubClose}
+use Rattle.mq_route.specs.declared.close.HubClose.TheVariants.{Own, TakenOver, PeerEnded}
 use Rattle.mq_route.specs.declared.stage.Stage.TheVariants.{UpFor, Shut}
 use Rattle.mq_route.specs.declared.stage.Terms.{Terms}
 use Rattle.mq_route.specs.Routed.{same_conn}
@@ -89,19 +91,32 @@ pub record Orderly (lines : List Line) (next : ℕ) (sessions : List HubSession)
 abbrev pub Sound : HubState → Type 0
 Sound h = Orderly h.lines h.next_key h.sessions
 
--- What is kept where packets and connections come and go.
-pub record Outer (R : Debt → Work → Type 0) : Type 0 where
+-- What is kept where packets and connections come and go, and a connection is closed only for what may close it.
+pub record Outer (R : Debt → Work → Type 0) (May : HubClose → Type 0) : Type 0 where
   pub mild : (f : Line → Line) (k : Conn) (o : Debt) (w : Work) → Mild f → R o w → R o (with_lines (with_line f k) w)
   pub gets : (key : ℕ) (p : Packet) (w : Work) → Sound w.hub → has key w.hub.sessions ≡ true → (end_of key w.hub.sessions).state ≡ Up → GoesOn key p (end_of key w.hub.sessions) (server_gets p (end_of key w.hub.sessions))
       → R nothing w → R (owes [] (takings key (server_gets p (end_of key w.hub.sessions)).happenings) ((key, p) ∷ [])) (with_sessions (with_end key (server_gets p (end_of key w.hub.sessions)).end) w)
   pub noted : (n : List (ℕ × Packet)) (w : Work) → R (owes [] [] n) w → R nothing (record w { came = w.came ++ n })
-  pub shuts : (k : Conn) (why : HubClose) (w : Work) → Sound w.hub → IsIdle (stage_of k w.hub.lines) → R nothing w → R nothing (said (acts.Closed k why) (shut k w))
-  pub closes : (k : Conn) (why : HubClose) (key : ℕ) (terms : Terms) (moment : ℕ) (w : Work) → Sound w.hub → stage_of k w.hub.lines ≡ UpFor key terms moment → R nothing w → R nothing (closing k why key terms w)
+  pub shuts : (k : Conn) (why : HubClose) (w : Work) → May why → Sound w.hub → IsIdle (stage_of k w.hub.lines) → R nothing w → R nothing (said (acts.Closed k why) (shut k w))
+  pub closes : (k : Conn) (why : HubClose) (key : ℕ) (terms : Terms) (moment : ℕ) (w : Work) → May why → Sound w.hub → stage_of k w.hub.lines ≡ UpFor key terms moment → R nothing w → R nothing (closing k why key terms w)
   pub removes : (key : ℕ) (w : Work) → Sound w.hub → upper key w.hub.lines ≡ None → R nothing w → R nothing (remove key w)
   pub begins : (client : List ℕ) (w : Work) → Sound w.hub → R nothing w → R nothing (new_session client w)
   pub rises : (k : Conn) (key : ℕ) (terms : Terms) (moment : ℕ) (move : End → Reply) (present : Bool) (w : Work) → Sound w.hub → knows k w.hub.lines ≡ true → IsIdle (stage_of k w.hub.lines)
       → upper key w.hub.lines ≡ None → has key w.hub.sessions ≡ true → (move (end_of key w.hub.sessions)).end.state ≡ Up → (move (end_of key w.hub.sessions)).end.clean ≡ terms.clean_session → (move (end_of key w.hub.sessions)).end.received ≡ (end_of key w.hub.sessions).received
       → R nothing w → R nothing (rising k key terms moment move present w)
+
+-- All but a session that is full may close a connection.
+pub record Ways (May : HubClose → Type 0) : Type 0 where
+  pub own : (reason : CloseReason) → May (Own reason)
+  pub over : May TakenOver
+  pub peer : May PeerEnded
+
+-- anything may
+abbrev pub Freely : HubClose → Type 0
+Freely why = Unit {0}
+
+pub freely : Ways Freely
+freely = record { own = λ reason. tt; over = tt; peer = tt }
 
 -- ---- and that they keep it
 

@@ -11,3 +11,4 @@ mod Output
 mod Routing
 mod Taking
 mod Rows
+mod Filling

@@ -33,7 +33,7 @@ use Rattle.mq_route.proofs.Lines.{one_conn, upper, up_is, upper_none, conn_in, M
 use Rattle.mq_route.proofs.Uppers.{IsIdle, unless, upper_at, upper_stage}
 use Rattle.mq_route.proofs.Sessions.{has, has_new, end_new, key_there}
 use Rattle.mq_route.proofs.Ends.{stays_up, greets, takings}
-use Rattle.mq_route.proofs.Changes.{Debt, owes, nothing, Inner, Outer, Sound, closing, not_up, is_tied, is_idle, sound_inner, sound_mild, sound_gets, sound_shuts, sound_closes, sound_removes, sound_begins, sound_rises, upper_shut, unless_itself}
+use Rattle.mq_route.proofs.Changes.{Debt, owes, nothing, Inner, Outer, Ways, Sound, closing, not_up, is_tied, is_idle, sound_inner, sound_mild, sound_gets, sound_shuts, sound_closes, sound_removes, sound_begins, sound_rises, upper_shut, unless_itself}
 use Rattle.mq_route.proofs.Walk.{put_where_keeps, last_will_keeps, answers_all_keeps}
 use Rattle.mq_route.proofs.Frames.{stage_firm, upper_firm, lines_inner, lines_closed, closed_shut, closed_other, has_closed}
 
@@ -74,7 +74,12 @@ accepted c h none = go (eqb (length c.client_id) 0) c.clean_session none
     go false false e = refl
     go true false e = absurd cc
 
-module _ (R : Debt → Work → Type 0) (inner : Inner R) (outer : Outer R) where
+-- a packet that comes on a connection that is up, for which a session is too full, may close it
+abbrev pub Fills : (HubClose → Type 0) → Conn → Packet → Work → Type 0
+Fills May k p w = (key : ℕ) → key_on (stage_of k w.hub.lines) ≡ Some key → (end_of key w.hub.sessions).state ≡ Up
+    → have_room (due key w.hub (server_gets p (end_of key w.hub.sessions)).happenings) w.hub ≡ false → May TargetFull
+
+module _ (R : Debt → Work → Type 0) (May : HubClose → Type 0) (inner : Inner R) (outer : Outer R May) (ways : Ways May) where
   abbrev pub Both : Debt → Work → Type 0
   Both o w = Sound w.hub × R o w
 
@@ -95,20 +100,20 @@ module _ (R : Debt → Work → Type 0) (inner : Inner R) (outer : Outer R) wher
 
   -- ---- a connection is closed
 
-  leaves_both : (k : Conn) (why : HubClose) (fits : Bool) (s : Stage) (w : Work) → stage_of k w.hub.lines ≡ s → Both nothing w → Both nothing (leaves_behind why fits s (said (acts.Closed k why) (shut k w)))
+  leaves_both : (k : Conn) (why : HubClose) (fits : Bool) (s : Stage) (w : Work) → May why → stage_of k w.hub.lines ≡ s → Both nothing w → Both nothing (leaves_behind why fits s (said (acts.Closed k why) (shut k w)))
   unfolding leaves_behind
-  leaves_both k why fits Fresh w e h =
+  leaves_both k why fits Fresh w may e h =
       let free : IsIdle (stage_of k w.hub.lines) = subst IsIdle (sym e) (λ c. refl) in
-      (sound_shuts k w h.0 free, outer.shuts k why w h.0 free h.1)
-  leaves_both k why fits (UpFor key terms moment) w e h =
-      last_will_keeps Both both key (will_after why terms.will) fits (closing k why key terms w) (sound_closes k why key terms moment w h.0 e, outer.closes k why key terms moment w h.0 e h.1)
-  leaves_both k why fits Shut w e h =
+      (sound_shuts k w h.0 free, outer.shuts k why w may h.0 free h.1)
+  leaves_both k why fits (UpFor key terms moment) w may e h =
+      last_will_keeps Both both key (will_after why terms.will) fits (closing k why key terms w) (sound_closes k why key terms moment w h.0 e, outer.closes k why key terms moment w may h.0 e h.1)
+  leaves_both k why fits Shut w may e h =
       let free : IsIdle (stage_of k w.hub.lines) = subst IsIdle (sym e) (λ c. refl) in
-      (sound_shuts k w h.0 free, outer.shuts k why w h.0 free h.1)
+      (sound_shuts k w h.0 free, outer.shuts k why w may h.0 free h.1)
 
-  pub close_both : (k : Conn) (why : HubClose) (fits : Bool) (w : Work) → Both nothing w → Both nothing (close k why fits w)
+  pub close_both : (k : Conn) (why : HubClose) (fits : Bool) (w : Work) → May why → Both nothing w → Both nothing (close k why fits w)
   unfolding close
-  close_both k why fits w h = leaves_both k why fits (stage_of k w.hub.lines) w refl h
+  close_both k why fits w may h = leaves_both k why fits (stage_of k w.hub.lines) w may refl h
 
   -- ---- a packet on a connection that is up
 
@@ -120,16 +125,17 @@ module _ (R : Debt → Work → Type 0) (inner : Inner R) (outer : Outer R) wher
   none_noted None p = refl
   none_noted (Some key) p = refl
 
-  after_closed : (on : Option ℕ) (k : Conn) (p : Packet) (why : HubClose) (fits : Bool) (w : Work) → Both nothing w → After on k p (close k why fits w)
-  after_closed on k p why fits w h =
+  after_closed : (on : Option ℕ) (k : Conn) (p : Packet) (why : HubClose) (fits : Bool) (w : Work) → May why → Both nothing w → After on k p (close k why fits w)
+  after_closed on k p why fits w may h =
       let v = close k why fits w in
       let none : noted on (is_open (stage_of k v.hub.lines)) p ≡ [] = ap (λ (s : Stage). noted on (is_open s) p) (closed_shut k why fits w) ∙ none_noted on p in
-      subst (λ (n : List (ℕ × Packet)). Both (owes [] [] n) v) (sym none) (close_both k why fits w h)
+      subst (λ (n : List (ℕ × Packet)). Both (owes [] [] n) v) (sym none) (close_both k why fits w may h)
 
   after_open : (k : Conn) (key : ℕ) (terms : Terms) (moment : ℕ) (p : Packet) (v : Work) → stage_of k v.hub.lines ≡ UpFor key terms moment → Both (owes [] [] ((key, p) ∷ [])) v → After (Some key) k p v
   after_open k key terms moment p v e h = subst (λ (s : Stage). Both (owes [] [] (noted (Some key) (is_open s) p)) v) (sym e) h
 
-  module _ (k : Conn) (key : ℕ) (terms : Terms) (moment : ℕ) (p : Packet) (fits : Bool) (w : Work) (stage : stage_of k w.hub.lines ≡ UpFor key terms moment) (h : Both nothing w) where
+  module _ (k : Conn) (key : ℕ) (terms : Terms) (moment : ℕ) (p : Packet) (fits : Bool) (w : Work) (stage : stage_of k w.hub.lines ≡ UpFor key terms moment) (h : Both nothing w)
+      (full : have_room (due key w.hub (server_gets p (end_of key w.hub.sessions)).happenings) w.hub ≡ false → May TargetFull) where
     abbrev e : End
     e = end_of key w.hub.sessions
 
@@ -153,10 +159,10 @@ module _ (R : Debt → Work → Type 0) (inner : Inner R) (outer : Outer R) wher
 
     after_replies : (c : Option CloseReason) → (server_gets p e).close ≡ c → After (Some key) k p (replies k key (server_gets p) c fits w)
     unfolding replies
-    after_replies (Some reason) is = after_closed (Some key) k p (Own reason) fits (put_on k (server_gets p e).out w) (both.put k (server_gets p e).out nothing w h)
+    after_replies (Some reason) is = after_closed (Some key) k p (Own reason) fits (put_on k (server_gets p e).out w) (ways.own reason) (both.put k (server_gets p e).out nothing w h)
     after_replies None is =
         cond_both (have_room (due key w.hub (server_gets p e).happenings) w.hub) (answers_all k key (server_gets p e).happenings (does key (server_gets p) w)) (close k TargetFull fits w) (After (Some key) k p)
-        (λ room. after_gets is) (λ full. after_closed (Some key) k p TargetFull fits w h)
+        (λ room. after_gets is) (λ short. after_closed (Some key) k p TargetFull fits w (full short) h)
 
   -- ---- CONNECT
 
@@ -209,7 +215,7 @@ module _ (R : Debt → Work → Type 0) (inner : Inner R) (outer : Outer R) wher
       let for_key : is_for key (stage_of old w.hub.lines) ≡ true = upper_stage key (old, u.0) w.hub.lines h.0.apart u.1 in
       let far : same_conn old k ≡ false = false_from_ne_true (same_conn old k) (λ same. true≢false (sym for_key ∙ ap (λ (n : Conn). is_for key (stage_of n w.hub.lines)) (one_conn old k same) ∙ ap (is_for key) fresh)) in
       let none : upper key (shut old w).hub.lines ≡ None = upper_shut old key w h.0.apart ∙ ap (unless old) u.1 ∙ unless_itself old u.0 in
-      goes_on_both k c client key (is_clean (stage_of old w.hub.lines)) (close old TakenOver fits w) (closed_other old k TakenOver fits w far ∙ fresh) ok (close_both old TakenOver fits w h)
+      goes_on_both k c client key (is_clean (stage_of old w.hub.lines)) (close old TakenOver fits w) (closed_other old k TakenOver fits w far ∙ fresh) ok (close_both old TakenOver fits w ways.over h)
       (lines_closed (upper key) (upper_firm key) None old TakenOver fits w none) (λ keeps. has_closed key true old TakenOver fits w keeps there)
 
   admit_both : (k : Conn) (c : Connect) (client : List ℕ) (fits : Bool) (w : Work) → stage_of k w.hub.lines ≡ Fresh → (not c.clean_session && eqb (length c.client_id) 0) ≡ false → Both nothing w
@@ -221,57 +227,56 @@ module _ (R : Debt → Work → Type 0) (inner : Inner R) (outer : Outer R) wher
   unfolding welcomes
   welcomes_both k c fits w fresh h (Some code) e =
       let out = packets.ConnAck (connacks.Refused code) ∷ [] in
-      close_both k (Own (reasons.Refused code)) fits (put_on k out w) (both.put k out nothing w h)
+      close_both k (Own (reasons.Refused code)) fits (put_on k out w) (ways.own (reasons.Refused code)) (both.put k out nothing w h)
   welcomes_both k c fits w fresh h None e =
       admit_both k c (client_of c w.hub.sessions) fits w fresh (accepted c w.hub e) h (key_of (client_of c w.hub.sessions) w.hub.sessions) refl
 
   at_first_both : (k : Conn) (p : Packet) (fits : Bool) (w : Work) → stage_of k w.hub.lines ≡ Fresh → Both nothing w → Both nothing (at_first k p fits w)
   unfolding at_first
   at_first_both k (packets.Connect c) fits w fresh h = welcomes_both k c fits w fresh h (refusal c w.hub) refl
-  at_first_both k p fits w fresh h = close_both k (Own reasons.Unexpected) fits w h
+  at_first_both k p fits w fresh h = close_both k (Own reasons.Unexpected) fits w (ways.own reasons.Unexpected) h
 
   -- ---- any packet
 
-  comes_in_both : (now : ℕ) (k : Conn) (p : Packet) (fits : Bool) (s : Stage) (w : Work) → stage_of k w.hub.lines ≡ heard now s → Both nothing w → After (key_on s) k p (comes_in k p fits s w)
+  comes_in_both : (now : ℕ) (k : Conn) (p : Packet) (fits : Bool) (s : Stage) (w : Work) → Fills May k p w → stage_of k w.hub.lines ≡ heard now s → Both nothing w → After (key_on s) k p (comes_in k p fits s w)
   unfolding comes_in
-  comes_in_both now k p fits Fresh w e h = at_first_both k p fits w e h
-  comes_in_both now k p fits (UpFor key terms moment) w e h = after_replies k key terms now p fits w e h (server_gets p (end_of key w.hub.sessions)).close refl
-  comes_in_both now k p fits Shut w e h = h
+  comes_in_both now k p fits Fresh w full e h = at_first_both k p fits w e h
+  comes_in_both now k p fits (UpFor key terms moment) w full e h =
+      after_replies k key terms now p fits w e h
+      (full key (ap key_on e) (is_tied key (k, terms.clean_session) w.hub h.0 (upper_at k key terms now w.hub.lines h.0.apart e)).1) (server_gets p (end_of key w.hub.sessions)).close refl
+  comes_in_both now k p fits Shut w full e h = h
 
-  arrives_both : (k : Conn) (p : Packet) (g : Growth) (w : Work) → Both nothing w → After (key_on (stage_of k w.hub.lines)) k p (arrives k p g w)
+  arrives_both : (k : Conn) (p : Packet) (g : Growth) (w : Work) → Fills May k p (heard_on k w) → Both nothing w → After (key_on (stage_of k w.hub.lines)) k p (arrives k p g w)
   unfolding arrives
-  arrives_both k p g w h =
+  arrives_both k p g w full h =
       let on = key_on (stage_of k w.hub.lines) in
       cond_both g.fits (comes_in k p g.will_fits (stage_of k w.hub.lines) (heard_on k w)) (close k (Own reasons.Memory) g.will_fits w) (After on k p)
-      (λ fits. comes_in_both w.hub.clock k p g.will_fits (stage_of k w.hub.lines) (heard_on k w) (stage_heard k w) (mild_both (λ x. record x { stage = heard w.hub.clock x.stage }) k nothing w (heard_mild w.hub.clock) h))
-      (λ starved. after_closed on k p (Own reasons.Memory) g.will_fits w h)
+      (λ fits. comes_in_both w.hub.clock k p g.will_fits (stage_of k w.hub.lines) (heard_on k w) full (stage_heard k w) (mild_both (λ x. record x { stage = heard w.hub.clock x.stage }) k nothing w (heard_mild w.hub.clock) h))
+      (λ starved. after_closed on k p (Own reasons.Memory) g.will_fits w (ways.own reasons.Memory) h)
 
-  takes_both : (k : Conn) (p : Packet) (g : Growth) (w : Work) → Both nothing w → Both nothing (takes k p g w)
+  pub takes_both : (k : Conn) (p : Packet) (g : Growth) (w : Work) → Fills May k p (heard_on k w) → Both nothing w → Both nothing (takes k p g w)
   unfolding takes
-  takes_both k p g w h =
-      let a = arrives_both k p g w h in
+  takes_both k p g w full h =
+      let a = arrives_both k p g w full h in
       let v = arrives k p g w in
       (a.0, outer.noted (noted (key_on (stage_of k w.hub.lines)) (is_open (stage_of k v.hub.lines)) p) v a.1)
 
-  breaks_both : (k : Conn) (fault : DecodeFault) (fits : Bool) (w : Work) → Both nothing w → Both nothing (breaks k fault fits w)
+  pub breaks_both : (k : Conn) (fault : DecodeFault) (fits : Bool) (w : Work) → Both nothing w → Both nothing (breaks k fault fits w)
   unfolding breaks
   breaks_both k fault fits w h = go (broken k fault w).close
     where
-      out : List Packet
-      out = (broken k fault w).out
-
       go : (c : Option CloseReason) → Both nothing (closes_by k c fits (put_on k (broken k fault w).out w))
       go None = both.put k (broken k fault w).out nothing w h
-      go (Some reason) = close_both k (Own reason) fits (put_on k (broken k fault w).out w) (both.put k (broken k fault w).out nothing w h)
+      go (Some reason) = close_both k (Own reason) fits (put_on k (broken k fault w).out w) (ways.own reason) (both.put k (broken k fault w).out nothing w h)
 
   -- ---- bytes, time, the end of a connection
 
-  pub comes_both : (limits : Bounds) (k : Conn) (b : List ℕ) (w w2 : Work) → Comes limits k b w w2 → Both nothing w → Both nothing w2
-  comes_both limits k b w w2 (Arrives p first rest g v v2 on reads more) h = comes_both limits k rest (takes k p g v) v2 more (takes_both k p g v h)
-  comes_both limits k b w w2 (Waits c v on pending) h = mild_both (λ x. record x { held = c }) k nothing v (holding_mild c) h
-  comes_both limits k b w w2 (Breaks c fault fits v on faulty) h = breaks_both k fault fits v h
-  comes_both limits k b w w2 (Starves c fits v on some) h = close_both k (Own reasons.Memory) fits v h
-  comes_both limits k b w w2 (LetsGo c v closed) h = h
+  pub comes_both : May TargetFull → (limits : Bounds) (k : Conn) (b : List ℕ) (w w2 : Work) → Comes limits k b w w2 → Both nothing w → Both nothing w2
+  comes_both full limits k b w w2 (Arrives p first rest g v v2 on reads more) h = comes_both full limits k rest (takes k p g v) v2 more (takes_both k p g v (λ key up state short. full) h)
+  comes_both full limits k b w w2 (Waits c v on pending) h = mild_both (λ x. record x { held = c }) k nothing v (holding_mild c) h
+  comes_both full limits k b w w2 (Breaks c fault fits v on faulty) h = breaks_both k fault fits v h
+  comes_both full limits k b w w2 (Starves c fits v on some) h = close_both k (Own reasons.Memory) fits v (ways.own reasons.Memory) h
+  comes_both full limits k b w w2 (LetsGo c v closed) h = h
 
   pub holding_both : (k : Conn) (b : List ℕ) (w : Work) → Both nothing w → Both nothing (holding k b w)
   holding_both k b w h = mild_both (λ x. record x { held = b }) k nothing w (holding_mild b) h
@@ -279,9 +284,9 @@ module _ (R : Debt → Work → Type 0) (inner : Inner R) (outer : Outer R) wher
   pub ticks_both : (now : ℕ) (xs : List Line) (w w2 : Work) → Ticks now xs w w2 → Both nothing w → Both nothing w2
   ticks_both now xs w w2 (Done v) h = h
   ticks_both now xs w w2 (InTime x ys v v2 soon more) h = ticks_both now ys v v2 more h
-  ticks_both now xs w w2 (Late x ys fits v v2 late more) h = ticks_both now ys (close x.conn (Own reasons.KeepAlive) fits v) v2 more (close_both x.conn (Own reasons.KeepAlive) fits v h)
+  ticks_both now xs w w2 (Late x ys fits v v2 late more) h = ticks_both now ys (close x.conn (Own reasons.KeepAlive) fits v) v2 more (close_both x.conn (Own reasons.KeepAlive) fits v (ways.own reasons.KeepAlive) h)
   ticks_both now xs w w2 (Later x ys v late) h = h
 
   pub ended_both : (k : Conn) (alive fits : Bool) (w : Work) → Both nothing w → Both nothing (ended_open k alive fits w)
-  ended_both k true fits w h = close_both k PeerEnded fits w h
+  ended_both k true fits w h = close_both k PeerEnded fits w ways.peer h
   ended_both k false fits w h = h

@@ -62,7 +62,8 @@ open_three c = begin (opened (conn 3) (opened (conn 2) (opened (conn 1) (new_hub
 -- `c` subscribes to `a/+` and `a/#`, `p` publishes to `a/b` and leaves
 abbrev pub mixed : Work
 mixed = run ((1, hello (99 ∷ []) true None) ∷ (1, packets.Subscribe 1 (ask (97 ∷ 47 ∷ 43 ∷ []) Q1 ∷ ask (97 ∷ 47 ∷ 35 ∷ []) Q2 ∷ []))
-    ∷ (2, hello (112 ∷ []) true None) ∷ (2, publish 1 (msg (97 ∷ 47 ∷ 98 ∷ []) (104 ∷ 105 ∷ []) Q1 false)) ∷ (2, packets.Disconnect) ∷ []) (open_three config)
+    ∷ (2, hello (112 ∷ []) true None) ∷ (2, publish 1 (msg (97 ∷ 47 ∷ 98 ∷ []) (104 ∷ 105 ∷ []) Q1 false)) ∷ (2, packets.Disconnect)
+    ∷ []) (open_three config)
 
 -- `p` publishes with RETAIN; `c` subscribes to `#`, twice, and again after an empty message took the retained one away
 abbrev pub retained : Work
@@ -72,17 +73,33 @@ retained = run ((1, hello (112 ∷ []) true None) ∷ (1, publish0 (msg (97 ∷ 
 
 -- `v` has a will; `c` subscribes to `#`; `v` comes on another connection
 abbrev pub over_taken : Work
-over_taken = run ((1, hello (118 ∷ []) false (Some (record { topic = 119 ∷ []; message = 120 ∷ []; qos = Q0; retain = false }))) ∷ (2, hello (99 ∷ []) true None)
+over_taken = run ((1, hello (118 ∷ []) false (Some (record { topic = 119 ∷ []; message = 120 ∷ []; qos = Q0; retain = false }))) ∷ (
+  2,
+  hello (99
+      ∷ []) true None,
+)
     ∷ (2, packets.Subscribe 1 (ask (35 ∷ []) Q1 ∷ [])) ∷ (3, hello (118 ∷ []) false None) ∷ []) (open_three config)
 
 -- `c` subscribes, its connection ends, and it comes again with clean session 1; then `p` publishes
 abbrev pub replaced : Work
 replaced = run ((2, hello (99 ∷ []) true None) ∷ (3, hello (112 ∷ []) true None) ∷ (3, publish 7 (msg (97 ∷ []) (120 ∷ []) Q1 false)) ∷ [])
-    (ended_open (conn 1) true true (run ((1, hello (99 ∷ []) false None) ∷ (1, packets.Subscribe 1 (ask (35 ∷ []) Q1 ∷ [])) ∷ []) (open_three config)))
+    (ended_open (conn 1) true true (run ((1, hello (99 ∷ []) false None) ∷ (1, packets.Subscribe 1 (ask (35 ∷ []) Q1 ∷ []))
+    ∷ []) (open_three config)))
 
 -- one user, and one identifier in use at most
 abbrev pub tight : HubConfig
-tight = record { limits = strict 1000; capacity = 1; window = None; max_conns = 10; max_sessions = 10; users = Some (record { name = 117 ∷ []; password = 112 ∷ [] } ∷ []) }
+tight = record {
+  limits = strict 1000;
+  capacity = 1;
+  window = None;
+  max_conns = 10;
+  max_sessions = 10;
+  users = Some (record {
+    name = 117
+        ∷ [];
+    password = 112 ∷ [];
+  } ∷ []);
+}
 
 abbrev pub user : List ℕ → Option Will → List ℕ → Packet
 user client will password = packets.Connect (record { client_id = client; clean_session = true; keep_alive = 10; will = will; login = Some (record { name = 117 ∷ []; password = Some password }) })
@@ -107,12 +124,14 @@ pub record Examples : Type 0 where
   pub mixed_first : waiting_on (conn 1) mixed.hub.lines
       ≡ 32 ∷ 2 ∷ 0 ∷ 0 ∷ 144 ∷ 4 ∷ 0 ∷ 1 ∷ 1 ∷ 2 ∷ 50 ∷ 9 ∷ 0 ∷ 3 ∷ 97 ∷ 47 ∷ 98 ∷ 0 ∷ 1 ∷ 104 ∷ 105 ∷ []
   pub mixed_second : waiting_on (conn 2) mixed.hub.lines ≡ 32 ∷ 2 ∷ 0 ∷ 0 ∷ 64 ∷ 2 ∷ 0 ∷ 1 ∷ []
-  pub mixed_routed : routed 0 (acts.Up (conn 1) 0 false ∷ acts.Subscribed 0 (97 ∷ 47 ∷ 43 ∷ []) Q1 ∷ acts.Subscribed 0 (97 ∷ 47 ∷ 35 ∷ []) Q2 ∷ acts.Up (conn 2) 1 false
+  pub mixed_routed : routed 0 (acts.Up (conn 1) 0 false ∷ acts.Subscribed 0 (97 ∷ 47 ∷ 43 ∷ []) Q1 ∷ acts.Subscribed 0 (97 ∷ 47 ∷ 35 ∷ []) Q2
+      ∷ acts.Up (conn 2) 1 false
       ∷ acts.Took 1 (msg (97 ∷ 47 ∷ 98 ∷ []) (104 ∷ []) Q1 false) ∷ [])
       ≡ msg (97 ∷ 47 ∷ 98 ∷ []) (104 ∷ []) Q1 false ∷ []
   -- each new subscription is sent the retained message, with RETAIN; the empty one is placed, and not retained (3.3.1.3)
   pub retained_bytes : waiting_on (conn 2) retained.hub.lines
-      ≡ 32 ∷ 2 ∷ 0 ∷ 0 ∷ 144 ∷ 3 ∷ 0 ∷ 1 ∷ 1 ∷ 49 ∷ 4 ∷ 0 ∷ 1 ∷ 97 ∷ 49 ∷ 144 ∷ 3 ∷ 0 ∷ 2 ∷ 1 ∷ 49 ∷ 4 ∷ 0 ∷ 1 ∷ 97 ∷ 49 ∷ 48 ∷ 3 ∷ 0 ∷ 1 ∷ 97 ∷ 144 ∷ 3 ∷ 0 ∷ 3 ∷ 1 ∷ 176 ∷ 2 ∷ 0 ∷ 4 ∷ []
+      ≡ 32 ∷ 2 ∷ 0 ∷ 0 ∷ 144 ∷ 3 ∷ 0 ∷ 1 ∷ 1 ∷ 49 ∷ 4 ∷ 0 ∷ 1 ∷ 97 ∷ 49 ∷ 144 ∷ 3 ∷ 0 ∷ 2 ∷ 1 ∷ 49 ∷ 4 ∷ 0 ∷ 1 ∷ 97 ∷ 49 ∷ 48 ∷ 3 ∷ 0 ∷ 1 ∷ 97 ∷ 144
+      ∷ 3 ∷ 0 ∷ 3 ∷ 1 ∷ 176 ∷ 2 ∷ 0 ∷ 4 ∷ []
   pub retained_routed : routed 1 (acts.Took 0 (msg (97 ∷ []) (49 ∷ []) Q0 true) ∷ acts.Up (conn 2) 1 false ∷ acts.Subscribed 1 (35 ∷ []) Q1
       ∷ acts.Took 0 (msg (97 ∷ []) [] Q0 true) ∷ acts.Subscribed 1 (35 ∷ []) Q1 ∷ [])
       ≡ msg (97 ∷ []) (49 ∷ []) Q0 true ∷ msg (97 ∷ []) [] Q0 false ∷ []
@@ -126,9 +145,11 @@ pub record Examples : Type 0 where
       ≡ acts.Up (conn 1) 0 false ∷ acts.Subscribed 0 (35 ∷ []) Q1 ∷ acts.Closed (conn 1) PeerEnded ∷ acts.Removed 0 ∷ acts.Up (conn 2) 1 false
       ∷ acts.Up (conn 3) 2 false ∷ acts.Took 2 (msg (97 ∷ []) (120 ∷ []) Q1 false) ∷ []
   -- who isn't a user is refused (3.2.2.3)
-  pub strangers_acts : strangers.did ≡ acts.Closed (conn 1) (Own (Refused NotAuthorized)) ∷ acts.Closed (conn 2) (Own (Refused BadUserNameOrPassword)) ∷ []
+  pub strangers_acts : strangers.did ≡ acts.Closed (conn 1) (Own (Refused NotAuthorized))
+      ∷ acts.Closed (conn 2) (Own (Refused BadUserNameOrPassword)) ∷ []
   pub strangers_bytes : waiting_on (conn 1) strangers.hub.lines ≡ 32 ∷ 2 ∷ 0 ∷ 5 ∷ []
   -- a session is full: the publisher's connection is closed, its session is removed, and its will is dropped
   pub full_acts : full.did
-      ≡ acts.Up (conn 1) 0 false ∷ acts.Subscribed 0 (35 ∷ []) Q2 ∷ acts.Up (conn 2) 1 false ∷ acts.Took 1 (msg (97 ∷ []) [] Q1 false) ∷ acts.Placed 0 (msg (97 ∷ []) [] Q1 false)
+      ≡ acts.Up (conn 1) 0 false ∷ acts.Subscribed 0 (35 ∷ []) Q2 ∷ acts.Up (conn 2) 1 false ∷ acts.Took 1 (msg (97 ∷ []) [] Q1 false)
+      ∷ acts.Placed 0 (msg (97 ∷ []) [] Q1 false)
       ∷ acts.Closed (conn 2) TargetFull ∷ acts.Removed 1 ∷ acts.WillDropped 1 ∷ []

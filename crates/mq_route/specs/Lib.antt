@@ -10,3 +10,4 @@ pub mod Runs
 pub mod Taken
 pub mod Laws
 pub mod Examples
+pub mod Full

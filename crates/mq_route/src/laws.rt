@@ -1,6 +1,7 @@
 //! The laws of every run of a broker.
 
 ghost use Rattle.mq_route.specs.Examples.{Examples};
+ghost use Rattle.mq_route.specs.Full.{FullLaws};
 ghost use Rattle.mq_route.specs.Laws.{OutputLaws, RoutingLaws, TakingLaws};
 
 use mq_topic::store_laws;
@@ -23,6 +24,12 @@ pub fn routing_laws()
 /// that came from it (4.3).
 pub fn taking_laws()
     ensures { TakingLaws }
+{}
+
+/// At each step of a run, a connection is closed for a full session only where a PUBLISH or a SUBSCRIBE comes on one that is up
+/// and makes copies due for which some session has too few identifiers free (2.3.1).
+pub fn full_laws()
+    ensures { FullLaws }
 {}
 
 /// Worked runs, with their acts and the bytes that wait.
