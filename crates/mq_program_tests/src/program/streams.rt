@@ -1,8 +1,11 @@
 //! `show` for files, long files, and what is said where there is no answer.
 
 use super::{Broken, FILES, Full, ROWS, asks_for};
-use mq_cli::{Failure, Job, ShowFault, Source, perform};
-use std::alloc::Global;
+use mq_cli::{CountFault, Failure, Job, ShowFault, Source, WordsFault, perform};
+use mq_replay::ReplayFault;
+use mq_schedule::ScheduleFault;
+use std::alloc::{AllocError, Global};
+use std::fmt::Display;
 use std::io;
 use std::io::{ErrorKind, Read};
 use std::test::Fail;
@@ -196,14 +199,36 @@ fn tells_of_failures(rt: HostRuntime) -> Result<(), Fail> {
     );
     let failure = Failure::of_words(io::Error::from(ErrorKind::OutOfMemory));
     assert_eq!(rt; failure, Failure::Memory);
-    assert_eq!(rt;
-        format!(in alloc; "{}", ShowFault::BadHex)?.as_str(),
-        "bad hex"
-    );
-    assert_eq!(rt;
-        format!(in alloc; "{}", ShowFault::Memory)?.as_str(),
-        "out of memory"
-    );
+    Ok(())
+}
+
+// What an error says.
+fn said<E: Display + Drop>(alloc: Global, error: E) -> Result<String, AllocError> {
+    format!(in alloc; "{error}")
+}
+
+#[test]
+fn errors_are_sentences(rt: HostRuntime) -> Result<(), Fail> {
+    let alloc = rt.alloc();
+    let reset = CountFault::Io(io::Error::from(ErrorKind::ConnectionReset));
+    let closed = ReplayFault::Io(io::Error::from(ErrorKind::BrokenPipe));
+    for (text, wanted) in [
+        (said(alloc, ShowFault::BadHex)?, "bad hex"),
+        (said(alloc, ShowFault::Memory)?, "out of memory"),
+        (said(alloc, reset)?, "the reader failed: connection reset"),
+        (said(alloc, CountFault::Memory)?, "out of memory"),
+        (
+            said(alloc, CountFault::TooLong)?,
+            "there are more bytes than can be counted",
+        ),
+        (said(alloc, closed)?, "the output failed: broken pipe"),
+        (said(alloc, ReplayFault::Memory)?, "out of memory"),
+        (said(alloc, ScheduleFault::Line(3))?, "line 3: not an event"),
+        (said(alloc, ScheduleFault::Memory)?, "out of memory"),
+        (said(alloc, WordsFault::Memory)?, "out of memory"),
+    ] {
+        assert_eq!(rt; text.as_str(), wanted);
+    }
     Ok(())
 }
 
