@@ -384,6 +384,47 @@ fn a_fault_lasts_until_reset(rt: HostRuntime) -> Result<(), Fail> {
     Ok(())
 }
 
+// What comes of a piece: how many bytes are held, how many packets came so far, and how many bytes were
+// copied.
+fn copied(
+    alloc: Global,
+    decoder: &mut Decoder,
+    piece: &str,
+    out: &mut Vec<Packet>,
+) -> Result<String, Fail> {
+    if piece == "reset" {
+        decoder.reset();
+    } else {
+        let bytes = bytes_of(alloc, piece)?;
+        decoder.feed(bytes.as_slice(), out)?;
+    }
+    Ok(format!(in alloc; "{} {} {}", decoder.held(), out.len(), decoder.copied())?)
+}
+
+#[test]
+fn only_what_is_left_over_is_copied(rt: HostRuntime) -> Result<(), Fail> {
+    let mut out = Vec::new(rt.alloc());
+    let mut decoder = Decoder::new(rt.alloc(), limits(64)?);
+    assert_eq!(rt; decoder.copied(), 0);
+    for (piece, told) in [
+        ("c000 c000", "0 2 0"),
+        // Less than a PUBLISH; its end, a PINGREQ, and half of one.
+        ("30 05 0003 61", "5 2 5"),
+        ("2f62 c000 c0", "1 4 8"),
+        ("", "1 4 8"),
+        ("00 c000 30 02", "2 6 11"),
+        ("reset", "0 6 0"),
+        ("62", "1 6 1"),
+        ("02", "2 6 2"),
+        ("00", "3 6 3"),
+        ("01 62 02 0001", "0 8 4"),
+    ] {
+        let came = copied(rt.alloc(), &mut decoder, piece, &mut out)?;
+        assert!(rt; came.as_str() == told, "{piece} {came}");
+    }
+    Ok(())
+}
+
 #[test]
 fn what_follows_a_fault_does_not_matter(rt: HostRuntime) -> Result<(), Fail> {
     let alloc = rt.alloc();

@@ -1,5 +1,6 @@
 pub mod BodyLaws
 pub mod ConnectLaws
+pub mod Copying
 pub mod FieldLaws
 pub mod FrontFound
 pub mod FrontLaws

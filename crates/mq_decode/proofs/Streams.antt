@@ -155,7 +155,7 @@ taken_stops limit bytes taken old new errors.Memory h front = (h.packets, h.appe
 -- ---- pieces that go to what is held
 
 -- the bytes of the piece so far, and the next ones
-next_bytes : (held piece : List ℕ) (used n : ℕ) → (held ++ take used piece) ++ take n (drop used piece) ≡ held ++ take (used + n) piece
+pub next_bytes : (held piece : List ℕ) (used n : ℕ) → (held ++ take used piece) ++ take n (drop used piece) ≡ held ++ take (used + n) piece
 next_bytes held piece used n = append_assoc held (take used piece) (take n (drop used piece)) ∙ ap (λ (t : List ℕ). held ++ t) (sym (take-more used n piece))
 
 all_bytes : (held piece : List ℕ) (used : ℕ) → (held ++ take used piece) ++ drop used piece ≡ held ++ piece
@@ -232,7 +232,7 @@ pieces_stop f xs i d limit limits old mid new held e lt same h k =
 
 -- ---- the packet that is held alone
 
-pending_nil : (limit : Bounds) → Pending limit []
+pub pending_nil : (limit : Bounds) → Pending limit []
 pending_nil limit = record { not_whole = λ p first rest h e. no_bytes p first rest h e; not_faulty = no_fault }
   where
     no_bytes : (p : Packet) (first rest : List ℕ) → ReadsWithin limit p first → [] ≡ first ++ rest → ⊥

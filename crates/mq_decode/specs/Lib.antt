@@ -1,5 +1,6 @@
 pub mod Bodies
 pub mod Connects
+pub mod Copied
 pub mod Fault
 pub mod Fields
 pub mod Front

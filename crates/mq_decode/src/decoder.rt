@@ -3,9 +3,11 @@
 ghost use Rattle.std.specs.Prelude.{◌≡◌, ◌+◌, ◌≤◌, ◌++◌, ℕ, List, [], length, Option, Some, None, IfOk, IfErr, IfSome, OnOk};
 ghost use Rattle.std.specs.Result.{result_err};
 ghost use Rattle.std.specs.List.{flat_map};
+ghost use Rattle.mq_decode.specs.Copied.{Copies};
 ghost use Rattle.mq_decode.specs.Grammar.{Goes, Pending, Stops};
 
 use crate::fault::DecodeError;
+use crate::held::Held;
 use crate::laws::pending_is_short;
 use crate::limits::Limits;
 use crate::take::take_piece;
@@ -14,12 +16,12 @@ use std::alloc::Global;
 use std::marker::Model;
 
 /// Takes the packets out of a stream that comes in pieces, cut anywhere. It keeps the bytes of the
-/// packet that is not whole. After an error it answers the same error until `reset`.
+/// packet that is not whole; a packet that lies whole in a piece is read from the piece. After an error it answers the same error until `reset`.
 #[derive(Debug, Drop)]
 pub struct Decoder {
     alloc: Global,
     limits: Limits,
-    held: Vec<u8>,
+    held: Held,
     failed: Option<DecodeError>,
 }
 
@@ -30,9 +32,14 @@ impl Model for Decoder {
 
     ghost Value = { State };
 
-    ghost view = { λ d. record { limit = d.limits; held = d.held.items; failed = d.failed } };
+    ghost view = { λ d. record {
+      limit = d.limits;
+      held = d.held.bytes;
+      failed = d.failed;
+      copied = d.held.copied;
+    } };
 
-    ghost invariant = { λ d. d.failed ≡ None → Pending d.limits d.held.items };
+    ghost invariant = { λ d. d.failed ≡ None → Pending d.limits d.held.bytes };
 }
 
 impl Decoder {
@@ -41,11 +48,12 @@ impl Decoder {
         ensures limit { result.limit ≡ limits }
         ensures held { result.held ≡ [] }
         ensures failed { result.failed ≡ None }
+        ensures copied { result.copied ≡ 0 }
     {
         Decoder {
             alloc,
             limits,
-            held: Vec::new(alloc),
+            held: Held::new(alloc),
             failed: None,
         }
     }
@@ -65,6 +73,9 @@ impl Decoder {
             (λ e. (result ≡ Err e) × (out.new.items ≡ out.old.items)) }
         ensures failed { self.new.failed ≡ result_err result }
         ensures limit { self.new.limit ≡ self.old.limit }
+        // Just what belongs to a packet that doesn't lie whole in the piece is copied.
+        ensures copied { OnOk result (Copies self.old.limit self.old.held piece.now
+            self.old.copied self.new.copied) }
     {
         if let Some(error) = self.failed {
             return Err(error);
@@ -83,7 +94,15 @@ impl Decoder {
         ensures value { result ≡ length self.now.held }
         ensures most { self.now.failed ≡ None → result ≤ 5 + self.now.limit.most }
     {
-        len_of(self.limits, &self.held)
+        len_of(self.limits, self.held.as_slice())
+    }
+
+    /// How many bytes were put into the decoder's own buffer since `new` or `reset`; it stops at the
+    /// greatest `u64`. It takes no memory.
+    pub fn copied(&self) -> u64
+        ensures { result ≡ self.now.copied }
+    {
+        self.held.copied()
     }
 
     /// Lets go of what is held and of an error: the stream begins anew. It takes no memory.
@@ -91,8 +110,9 @@ impl Decoder {
         ensures limit { self.new.limit ≡ self.old.limit }
         ensures held { self.new.held ≡ [] }
         ensures failed { self.new.failed ≡ None }
+        ensures copied { self.new.copied ≡ 0 }
     {
-        self.held.clear();
+        self.held.reset();
         self.failed = None;
     }
 }

@@ -9,6 +9,7 @@ mod fields;
 mod flags;
 mod front;
 mod header;
+mod held;
 mod kind;
 mod laws;
 mod limits;

@@ -1,12 +1,16 @@
 //! Packets from the front of bytes, one after another.
 
 ghost use Rattle.std.specs.Prelude.{◌≡◌, ◌+◌, ◌<◌, ◌≤◌, ◌++◌, [], ◌∷◌, length, take, drop, IfOk, IfErr, IfNone, IfSome, IsTrue, OnOk};
+ghost use Rattle.mq_decode.specs.Copied.{Adds, Copies, StaysOrGoes, counted_more};
 ghost use Rattle.mq_decode.specs.Grammar.{Goes, IsAlone, IsFront, Pending, Stops, Wants};
+ghost use Rattle.mq_decode.specs.Views.{packet_of};
 
 use crate::fault::DecodeError;
-use crate::front::front;
+use crate::front::{front, view};
 use crate::header::header_at;
+use crate::held::Held;
 use crate::limits::Limits;
+use crate::packet_view::{PacketView, View};
 use bytes::Bytes;
 use mq_packet::Packet;
 use mq_wire::{length_laws, number_laws, text_laws};
@@ -21,6 +25,28 @@ fn append(out: &mut Vec<Packet>, packet: Packet) -> Result<(), DecodeError>
 {
     match out.push(packet) {
         Ok(()) => Ok(()),
+        Err(_) => Err(DecodeError::Memory),
+    }
+}
+
+// Appends the packet that a view stands for. Where memory runs out the list is unchanged.
+fn append_owned(
+    alloc: Global,
+    packet: &PacketView<'_>,
+    out: &mut Vec<Packet>,
+) -> Result<(), DecodeError>
+    ensures ok { OnOk result (out.new.items ≡ out.old.items ++ packet_of packet.now ∷ []) }
+    ensures err { IfErr result
+        (λ e. (e ≡ DecodeError.Memory) × (out.new.items ≡ out.old.items)) }
+{
+    if out.reserve(1).is_err() {
+        return Err(DecodeError::Memory);
+    }
+    match packet.owned(alloc) {
+        Ok(packet) => {
+            out.push_reserved(packet);
+            Ok(())
+        }
         Err(_) => Err(DecodeError::Memory),
     }
 }
@@ -40,13 +66,13 @@ pub(crate) fn take_packets(
     let mut taken = 0;
     loop {
         let (_, rest) = bytes.split_at(taken);
-        match front(alloc, limits, None, rest) {
-            Ok(Some((packet, size))) => {
-                append(out, packet)?;
+        match view(rest, limits) {
+            View::Whole(packet, size) => {
+                append_owned(alloc, &packet, out)?;
                 taken += size;
             }
-            Ok(None) => return Ok(taken),
-            Err(error) => return Err(error),
+            View::More => return Ok(taken),
+            View::Fault(fault) => return Err(DecodeError::Fault(fault)),
         }
     }
 }
@@ -103,29 +129,20 @@ pub(crate) fn take_held(
     }
 }
 
-// Appends bytes to those that are held.
-fn hold(held: &mut Vec<u8>, bytes: &[u8]) -> Result<(), DecodeError>
-    ensures ok { OnOk result (held.new.items ≡ held.old.items ++ bytes.now) }
-    ensures err { IfErr result (λ e. e ≡ DecodeError.Memory) }
-{
-    match held.extend_from_slice(bytes) {
-        Ok(()) => Ok(()),
-        Err(_) => Err(DecodeError::Memory),
-    }
-}
-
 // Takes the packet that is held, if it is whole; it has no bytes after it.
 fn take_one(
     alloc: Global,
     limits: Limits,
-    held: &mut Vec<u8>,
+    held: &mut Held,
     out: &mut Vec<Packet>,
 ) -> Result<(), DecodeError>
-    requires { IsAlone limits held.old.items }
-    ensures ok { OnOk result (Goes limits held.old.items out.old.items out.new.items held.new.items) }
-    ensures err { IfErr result (Stops limits held.old.items out.old.items out.new.items) }
+    requires { IsAlone limits held.old.bytes }
+    ensures ok { OnOk result (Goes limits held.old.bytes out.old.items out.new.items held.new.bytes) }
+    ensures stays { OnOk result (StaysOrGoes limits held.old.bytes held.new.bytes) }
+    ensures copied { held.new.copied ≡ held.old.copied }
+    ensures err { IfErr result (Stops limits held.old.bytes out.old.items out.new.items) }
 {
-    match take_held(alloc, limits, held) {
+    match held.take(alloc, limits) {
         Ok(None) => Ok(()),
         Ok(Some(found)) => {
             append(out, found.0)?;
@@ -141,24 +158,29 @@ fn take_one(
 pub(crate) fn fill_up(
     alloc: Global,
     limits: Limits,
-    held: &mut Vec<u8>,
+    held: &mut Held,
     piece: &[u8],
     out: &mut Vec<Packet>,
 ) -> Result<usize, DecodeError>
-    requires { Pending limits held.old.items }
+    requires { Pending limits held.old.bytes }
     ensures within { IfOk result (λ n. n ≤ length piece.now) }
-    ensures used { IfOk result (λ n. n < length piece.now → held.new.items ≡ []) }
-    ensures ok { IfOk result (λ n. Goes limits (held.old.items ++ take n piece.now)
-        out.old.items out.new.items held.new.items) }
+    ensures used { IfOk result (λ n. n < length piece.now → held.new.bytes ≡ []) }
+    ensures ok { IfOk result (λ n. Goes limits (held.old.bytes ++ take n piece.now)
+        out.old.items out.new.items held.new.bytes) }
+    ensures adds { IfOk result
+        (λ n. Adds limits held.old.bytes (take n piece.now) (drop n piece.now)) }
+    ensures none { IfOk result (λ n. n ≡ 0 → held.new.copied ≡ held.old.copied) }
+    ensures copied { IfOk result
+        (λ n. 0 < n → held.new.copied ≡ counted_more held.old.copied n) }
     ensures err { IfErr result
-        (Stops limits (held.old.items ++ piece.now) out.old.items out.new.items) }
+        (Stops limits (held.old.bytes ++ piece.now) out.old.items out.new.items) }
 {
     let mut used = 0;
     while used < piece.len() && !held.is_empty() {
         let (_, rest) = piece.split_at(used);
-        let n = wanted(limits, held).min(rest.len());
+        let n = wanted(limits, held.as_slice()).min(rest.len());
         let (next, _) = rest.split_at(n);
-        hold(held, next)?;
+        held.hold(next)?;
         take_one(alloc, limits, held, out)?;
         used += n;
     }
@@ -169,18 +191,20 @@ pub(crate) fn fill_up(
 pub(crate) fn take_piece(
     alloc: Global,
     limits: Limits,
-    held: &mut Vec<u8>,
+    held: &mut Held,
     piece: &[u8],
     out: &mut Vec<Packet>,
 ) -> Result<(), DecodeError>
-    requires { Pending limits held.old.items }
-    ensures ok { OnOk result (Goes limits (held.old.items ++ piece.now) out.old.items
-        out.new.items held.new.items) }
+    requires { Pending limits held.old.bytes }
+    ensures ok { OnOk result (Goes limits (held.old.bytes ++ piece.now) out.old.items
+        out.new.items held.new.bytes) }
+    ensures copied { OnOk result
+        (Copies limits held.old.bytes piece.now held.old.copied held.new.copied) }
     ensures err { IfErr result
-        (Stops limits (held.old.items ++ piece.now) out.old.items out.new.items) }
+        (Stops limits (held.old.bytes ++ piece.now) out.old.items out.new.items) }
 {
     let used = fill_up(alloc, limits, held, piece, out)?;
-    if used == piece.len() {
+    if !held.is_empty() {
         return Ok(());
     }
     let (_, rest) = piece.split_at(used);
@@ -189,5 +213,5 @@ pub(crate) fn take_piece(
     if left.is_empty() {
         return Ok(());
     }
-    hold(held, left)
+    held.hold(left)
 }

@@ -1,0 +1,111 @@
+//! The bytes that a decoder holds.
+
+ghost use Rattle.std.specs.Prelude.{◌≡◌, ◌<◌, ◌^◌, ◌++◌, [], length, true, IfErr, IfNone, IfOk, IfSome, OnOk, ◌==◌};
+ghost use Rattle.mq_decode.specs.Copied.{counted_more};
+ghost use Rattle.mq_decode.specs.Grammar.{IsFront};
+
+use crate::fault::DecodeError;
+use crate::limits::Limits;
+use crate::take::take_held;
+use mq_packet::Packet;
+use std::alloc::Global;
+use std::marker::Model;
+
+/// The bytes of the packet that is not whole, and how many bytes were ever put here. Contracts see
+/// both.
+#[derive(Debug, Drop)]
+pub(crate) struct Held {
+    bytes: Vec<u8>,
+    copied: u64,
+}
+
+impl Model for Held {
+    ghost use Rattle.mq_decode.specs.State.{HeldBytes};
+
+    ghost Value = { HeldBytes };
+
+    ghost view = { λ h. record { bytes = h.bytes.items; copied = h.copied } };
+}
+
+impl Held {
+    /// No bytes, and none were put here. It takes no memory.
+    pub(crate) fn new(alloc: Global) -> Held
+        ensures bytes { result.bytes ≡ [] }
+        ensures copied { result.copied ≡ 0 }
+    {
+        Held {
+            bytes: Vec::new(alloc),
+            copied: 0,
+        }
+    }
+
+    /// Appends bytes, and counts them.
+    pub(crate) fn hold(&mut self, bytes: &[u8]) -> Result<(), DecodeError>
+        ensures ok { OnOk result (self.new.bytes ≡ self.old.bytes ++ bytes.now) }
+        ensures copied { OnOk result
+            (self.new.copied ≡ counted_more self.old.copied (length bytes.now)) }
+        ensures err { IfErr result (λ e. e ≡ DecodeError.Memory) }
+    {
+        match self.bytes.extend_from_slice(bytes) {
+            Ok(()) => {
+                self.copied = self.copied.saturating_add(bytes.len() as u64);
+                Ok(())
+            }
+            Err(_) => Err(DecodeError::Memory),
+        }
+    }
+
+    /// The bytes.
+    pub(crate) fn as_slice(&self) -> &[u8]
+        ensures { result.now ≡ self.now.bytes }
+    {
+        self.bytes.as_slice()
+    }
+
+    /// Whether there are none.
+    pub(crate) fn is_empty(&self) -> bool
+        ensures value { result ≡ (length self.now.bytes == 0) }
+        ensures count { self.now.copied < 2 ^ 64 }
+    {
+        let _copied = self.copied;
+        self.bytes.is_empty()
+    }
+
+    /// How many bytes were put here.
+    pub(crate) fn copied(&self) -> u64
+        ensures { result ≡ self.now.copied }
+    {
+        self.copied
+    }
+
+    /// Lets go of the bytes. The count stays.
+    pub(crate) fn clear(&mut self)
+        ensures bytes { self.new.bytes ≡ [] }
+        ensures copied { self.new.copied ≡ self.old.copied }
+    {
+        self.bytes.clear();
+    }
+
+    /// Lets go of the bytes and of the count.
+    pub(crate) fn reset(&mut self)
+        ensures bytes { self.new.bytes ≡ [] }
+        ensures copied { self.new.copied ≡ 0 }
+    {
+        self.bytes.clear();
+        self.copied = 0;
+    }
+
+    /// The packet that stands at the front, and how many bytes it takes. A packet that fills the buffer
+    /// takes it, and its payload shares it.
+    pub(crate) fn take(
+        &mut self,
+        alloc: Global,
+        limits: Limits,
+    ) -> Result<Option<(Packet, usize)>, DecodeError>
+        ensures front { IsFront limits self.old.bytes result }
+        ensures kept { IfOk result (λ o. IfNone o (self.new.bytes ≡ self.old.bytes)) }
+        ensures copied { self.new.copied ≡ self.old.copied }
+    {
+        take_held(alloc, limits, &mut self.bytes)
+    }
+}
