@@ -11,12 +11,15 @@ use Rattle.mq_packet.specs.declared.packet.Packet.{Packet}
 use Rattle.mq_packet.specs.declared.packet.Packet.TheVariants as packets
 use Rattle.mq_packet.specs.declared.publish.Delivery.{Delivery}
 use Rattle.mq_flow.specs.Receiver.{is_new}
+use Rattle.mq_flow.specs.Window.{fits_window}
 use Rattle.mq_end.specs.declared.happening.Happening.{Happening}
 use Rattle.mq_end.specs.declared.happening.Happening.TheVariants as happens
 use Rattle.mq_end.specs.declared.reason.CloseReason.{CloseReason}
+use Rattle.mq_end.specs.declared.reason.CloseReason.TheVariants as reasons
 use Rattle.mq_end.specs.declared.state.State.{State}
 use Rattle.mq_end.specs.declared.state.State.TheVariants.{Up}
-use Rattle.mq_end.specs.End.{End, Reply, renewed, comes_up}
+use Rattle.mq_end.specs.End.{End, Reply, closes, renewed, comes_up}
+use Rattle.mq_end.specs.Both as both
 use Rattle.mq_end.specs.Both.{publish_gets, flow_gets, publishes_at}
 use Rattle.mq_end.specs.Server.{opens, refuses, server_gets, server_gets_in, server_up_gets}
 use Rattle.mq_route.specs.Hub.{for_key}
@@ -80,7 +83,17 @@ module _ (key : ℕ) where
       × (takings key (publish_gets q d m e).happenings ≡ for_key key (hands q d m e.received)) × NoUps (publish_gets q d m e).happenings
   publish_goes Q0 None m e h = (refl, refl, refl, refl, (tt, tt))
   publish_goes Q1 (Some d) m e h = (refl, refl, refl, refl, (tt, tt))
-  publish_goes Q2 (Some d) m e h = (refl, refl, refl, handed_if key (is_new d.id e.received) m, told_if (is_new d.id e.received) m)
+  publish_goes Q2 (Some d) m e h = within (fits_window e.window d.id e.received) h
+    where
+      -- what comes of it where it fits the window or not
+      comes : Bool → Reply
+      comes fits = cond fits (both.stores d.id m e) (closes reasons.Window e)
+
+      within : (fits : Bool) → (comes fits).close ≡ None
+          → ((comes fits).end.state ≡ e.state) × ((comes fits).end.clean ≡ e.clean) × ((comes fits).end.received ≡ stores Q2 (Some d) e.received)
+          × (takings key (comes fits).happenings ≡ for_key key (hands Q2 (Some d) m e.received)) × NoUps (comes fits).happenings
+      within true h = (refl, refl, refl, handed_if key (is_new d.id e.received) m, told_if (is_new d.id e.received) m)
+      within false h = shut _ h
   publish_goes q d m e h = shut _ h
 
   flow_goes : (p : Packet) (e : End) → (flow_gets p e).close ≡ None → GoesOn key p e (flow_gets p e)

@@ -1,7 +1,7 @@
 -- The codes of what closes a connection.
 use Rattle.std.specs.Prelude.{ℕ, List, ◌++◌, codes, decimal}
 use Rattle.mq_end.specs.declared.reason.CloseReason.{CloseReason}
-use Rattle.mq_end.specs.declared.reason.CloseReason.TheVariants.{Fault, Unexpected, Refused, SessionLost, KeepAlive, Memory, Left}
+use Rattle.mq_end.specs.declared.reason.CloseReason.TheVariants.{Fault, Unexpected, Refused, SessionLost, KeepAlive, Memory, Left, Window}
 use Rattle.mq_route.specs.declared.close.HubClose.{HubClose}
 use Rattle.mq_route.specs.declared.close.HubClose.TheVariants.{Own, TargetFull, TakenOver, PeerEnded}
 
@@ -14,6 +14,7 @@ reason_code SessionLost = 4
 reason_code KeepAlive = 5
 reason_code Memory = 6
 reason_code Left = 7
+reason_code Window = 11
 
 -- the number of a close
 abbrev pub close_code : HubClose → ℕ

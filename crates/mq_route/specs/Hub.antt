@@ -41,11 +41,11 @@ pub record HubState : Type 0 where
 
 -- the end of a new session (3.1.2.4)
 abbrev pub new_end : HubConfig → End
-new_end config = blank_end
+new_end config = blank_end config.window
 
 -- what stands for an end where there is none
 abbrev pub no_end : End
-no_end = blank_end
+no_end = blank_end None
 
 -- a new broker
 abbrev pub new_hub : HubConfig → HubState

@@ -45,6 +45,7 @@ fn code_of(reason: CloseReason) -> u8
         CloseReason::KeepAlive => 5,
         CloseReason::Memory => 6,
         CloseReason::Left => 7,
+        CloseReason::Window => 11,
     }
 }
 
