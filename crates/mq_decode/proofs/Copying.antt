@@ -1,11 +1,11 @@
 -- What of a piece is copied into the decoder's own buffer.
-use Rattle.std.proofs.Common.{◌≡◌, ℕ, ◌+◌, ◌-◌, ◌^◌, ◌<◌, ◌≤◌, min, List, [], ◌∷◌, ◌++◌, length, take, drop, Option, None, refl, sym, ap, subst, ◌∙◌, arith, inl, inr}
+use Rattle.std.proofs.Common.{◌≡◌, ℕ, ◌+◌, ◌-◌, ◌^◌, ◌<◌, ◌≤◌, min, List, [], ◌∷◌, ◌++◌, length, take, drop, refl, sym, ap, subst, ◌∙◌, arith, inl, inr}
 use Rattle.std.proofs.lemmas.Bool.{cases_lt}
 use Rattle.std.proofs.lemmas.List.{append-nil, nil_from_length, length-append, length-take, length-drop, take-append-drop}
 use Rattle.mq_packet.specs.declared.packet.Packet.{Packet}
 use Rattle.mq_decode.specs.Limits.{Bounds}
 use Rattle.mq_decode.specs.Grammar.{ReadsWithin, Pending, Goes, IsAlone}
-use Rattle.mq_decode.specs.Copied.{Adds, LeftOver, Copies, StaysOrGoes, counted_more}
+use Rattle.mq_decode.specs.Copied.{Adds, Copies, StaysOrGoes, counted_more}
 use Rattle.mq_decode.proofs.Streams.{next_bytes, pending_nil}
 
 -- ---- the packet that is held

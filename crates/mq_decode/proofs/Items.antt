@@ -9,7 +9,6 @@ use Rattle.mq_decode.specs.Gives.{◌>>=◌}
 use Rattle.mq_decode.specs.Lent.{items_of}
 use Rattle.mq_decode.specs.Lists.{items_at}
 use Rattle.mq_decode.proofs.ListLaws.{ItemLaws}
-use Rattle.mq_decode.proofs.Loops.{never_bad}
 
 bind_same : {A B : Type 0} (r : Result A BadField) (f g : A → Result B BadField) → ((x : A) → r ≡ Ok x → f x ≡ g x) → (r >>= f) ≡ (r >>= g)
 bind_same (Ok x) f g same = same x refl

@@ -1,13 +1,13 @@
 -- Reading the items of a list one after the other, as a loop does.
 use Rattle.std.proofs.Common.{◌≡◌, ℕ, zero, suc, ◌+◌, ◌-◌, Bool, true, false, eqb, ◌<◌, ◌≤◌, List, [], ◌∷◌, ◌++◌, length, Result, Ok, Err, refl, sym, ap, ◌∙◌, append_assoc, arith}
-use Rattle.std.specs.Result.{is_ok, IsOk}
+use Rattle.std.specs.Result.{IsOk}
 use Rattle.std.proofs.lemmas.Bool.{true≢false, false≢true}
 use Rattle.std.proofs.lemmas.List.{append-nil, length-append}
 use Rattle.mq_decode.specs.declared.fault.BadField.{BadField}
 use Rattle.mq_decode.specs.declared.fault.FieldsError.{FieldsError}
 use Rattle.mq_decode.specs.declared.fault.FieldsError.TheVariants as errors
 use Rattle.mq_decode.specs.Gives.{◌>>=◌, Fails}
-use Rattle.mq_decode.specs.Lent.{items_of, rest_of}
+use Rattle.mq_decode.specs.Lent.{rest_of}
 use Rattle.mq_decode.specs.Lists.{items_at, list_at}
 use Rattle.mq_decode.proofs.FieldLaws.{ok_is}
 

@@ -2,7 +2,6 @@ use Rattle.std.proofs.Common.{◌<◌, length, arith}
 use Rattle.mq_wire.specs.Text.{counted}
 use Rattle.mq_topic.specs.Topic.{IsTopicFilter}
 use Rattle.mq_decode.specs.Fields.{filter_at}
-use Rattle.mq_decode.proofs.FieldLaws.{Wire}
 use Rattle.mq_decode.proofs.ListLaws.{filter_laws}
 use Rattle.mq_decode.proofs.Items.{next_item}
 use Rattle.mq_decode.proofs.Loops.{some_left}

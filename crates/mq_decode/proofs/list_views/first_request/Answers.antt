@@ -2,7 +2,6 @@ use Rattle.std.proofs.Common.{◌<◌, length, arith}
 use Rattle.mq_packet.specs.Spelling.{request_fields}
 use Rattle.mq_packet.specs.Values.{IsRequest}
 use Rattle.mq_decode.specs.Lists.{request_at}
-use Rattle.mq_decode.proofs.FieldLaws.{Wire}
 use Rattle.mq_decode.proofs.ListLaws.{request_laws}
 use Rattle.mq_decode.proofs.Items.{next_item}
 use Rattle.mq_decode.proofs.Loops.{some_left}

@@ -1,4 +1,4 @@
-use Rattle.std.proofs.Common.{◌<◌, length, arith}
+use Rattle.std.proofs.Common.{◌<◌, length}
 use Rattle.mq_decode.proofs.Loops.{passed_none, passed_more, some_left}
 use Rattle.mq_decode.proofs.lists.test_list.Goals as goal
 
