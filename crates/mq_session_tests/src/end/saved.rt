@@ -27,6 +27,9 @@ fn loaded(alloc: Global, form: &str) -> Result<Saved, Fail> {
 fn gone_on(alloc: Global, form: &str) -> Result<String, Fail> {
     let saved = loaded(alloc, form)?;
     let config = client_config(alloc, 9)?;
+    if config.window.is_some() {
+        return Err(Fail::new("a window"));
+    }
     match ClientEnd::with_saved(alloc, config, saved) {
         Ok(client) => form_of(alloc, &client),
         Err(why) => Ok(format!(in alloc; "{why:?}")?),

@@ -16,7 +16,7 @@ use std::test::Fail;
 fn large_client(alloc: Global) -> Result<ClientEnd, Fail> {
     let mut config = client_config(alloc, 300)?;
     config.limits = Limits::new(4_096).ok_or("no limits")?;
-    if config.capacity == 0 {
+    if config.capacity == 0 || config.window.is_some() {
         return Err(Fail::new("no room"));
     }
     let mut end = ClientEnd::new(alloc, config);
@@ -30,7 +30,7 @@ fn large_client(alloc: Global) -> Result<ClientEnd, Fail> {
 fn large_server(alloc: Global) -> Result<ServerEnd, Fail> {
     let mut config = server_config(300)?;
     config.limits = Limits::new(4_096).ok_or("no limits")?;
-    if config.capacity == 0 {
+    if config.capacity == 0 || config.window.is_some() {
         return Err(Fail::new("no room"));
     }
     let mut end = ServerEnd::new(alloc, config);
