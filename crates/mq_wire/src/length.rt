@@ -2,7 +2,7 @@
 //! that another byte follows. A length with more bytes than it needs is refused, but by a lenient
 //! reader.
 
-ghost use Rattle.std.specs.Prelude.{◌≡◌, ℕ, ◌+◌, ◌<◌, ◌≤◌, ◌^◌, ◌↔◌, true, false, List, [], ◌∷◌, ◌++◌, length, take, IsSome, IfSome, IfNone};
+ghost use Rattle.std.specs.Prelude.{◌≡◌, ℕ, ◌+◌, ◌<◌, ◌≤◌, ◌^◌, ◌↔◌, true, false, List, [], ◌∷◌, ◌++◌, length, take, drop, IsSome, IfSome, IfNone};
 ghost use Rattle.mq_wire.specs.Length.{Length};
 ghost use Rattle.mq_wire.specs.Value.{value_of};
 
@@ -139,28 +139,30 @@ pub fn varlen_len(n: u32) -> Option<usize>
     }
 }
 
-/// Writes the remaining length `n` to the front of `out` (2.2.3) and answers how many bytes it takes,
-/// or `None` where it is over 268,435,455, and then `out` is unchanged.
+/// Writes the remaining length `n` to the front of `out` (2.2.3) and returns how many bytes it takes. Those
+/// behind them stay. Returns `None` where `n` is over 268,435,455, and then `out` is unchanged.
 pub fn put_varlen(n: u32, out: &mut [u8; 4]) -> Option<usize>
     ensures fits { IsSome result ↔ (n < 2 ^ 28) }
     ensures size { IfSome result (λ k. k ≤ 4) }
     ensures form { IfSome result (λ k. Length n (take k out.new)) }
+    ensures rest { IfSome result (λ k. drop k out.new ≡ drop k out.old) }
     ensures none { IfNone result (out.new ≡ out.old) }
 {
     let low = (n % 128) as u8;
     let second = (n / 128 % 128) as u8;
     let third = (n / 16_384 % 128) as u8;
+    let [_, b, c, d] = *out;
     match n {
         0..=127 => {
-            *out = [low, 0, 0, 0];
+            *out = [low, b, c, d];
             Some(1)
         }
         128..=16_383 => {
-            *out = [low + 128, second, 0, 0];
+            *out = [low + 128, second, c, d];
             Some(2)
         }
         16_384..=2_097_151 => {
-            *out = [low + 128, second + 128, third, 0];
+            *out = [low + 128, second + 128, third, d];
             Some(3)
         }
         2_097_152..=268_435_455 => {
