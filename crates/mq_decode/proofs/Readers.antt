@@ -1,6 +1,6 @@
 -- What is taken from a reader.
-use Rattle.std.proofs.Common.{◌≡◌, ℕ, ◌≤◌, List, [], ◌++◌, length, take, drop, Option, Some, None, Result, Ok, Err, sym, ap, subst, ◌∙◌, append_assoc, arith}
-use Rattle.std.specs.Prelude.{IfSome, IfNone, IfOk, IfErr}
+use Rattle.std.proofs.Common.{◌≡◌, ℕ, ◌<◌, ◌≤◌, List, [], ◌++◌, length, take, drop, Option, Some, None, Result, Ok, Err, sym, ap, subst, ◌∙◌, append_assoc, arith}
+use Rattle.std.specs.Prelude.{IfSome, IfNone, IfOk, IfErr, OnErr}
 use Rattle.std.specs.Io.KnownBytes.{Consumes, IsAtEnd}
 use Rattle.std.proofs.lemmas.List.{append-nil, length-append, take-append-drop}
 use Rattle.mq_packet.specs.declared.packet.Packet.{Packet}
@@ -11,24 +11,49 @@ use Rattle.mq_decode.specs.declared.read.ReadError.TheVariants as errors
 use Rattle.mq_decode.specs.Limits.{Bounds}
 use Rattle.mq_decode.specs.Grammar.{ReadsWithin, Faulty, Pending, Wants, IsFront}
 use Rattle.mq_decode.specs.Laws.{ReadsAgain}
-use Rattle.mq_decode.specs.Reader.{ReadStops, Answers, TakesSized, stop_of, without_size}
-use Rattle.mq_decode.proofs.Streams.{faulty_more}
+use Rattle.mq_decode.specs.Reader.{ReadStops, Answers, FillStops, TakesSized, TakesWithin, stop_of, without_size}
+use Rattle.mq_decode.proofs.Streams.{PendingBefore, before_alone, before_more, faulty_more}
+
+-- something was left
+pub left_some : (left now : Option (List ℕ)) (b : List ℕ) → 0 < length b → Consumes left now b → IfSome left (λ all. 0 < length all)
+left_some None now b some c = tt
+left_some (Some xs) None b some c = absurd c
+left_some (Some xs) (Some ys) b some c = omega (arith, ap length c, length-append b ys, some)
 
 -- the bytes that were taken are faulty, and so all that was left
 pub stops_at : (limit : Bounds) (left now : Option (List ℕ)) (b : List ℕ) (e : DecodeError) → IsFront limit b (Err e) → Consumes left now b → ReadStops limit left (stop_of e)
-stops_at limit left now b decodes.Memory h c = tt
+stops_at limit left now b decodes.Memory h c = left_some left now b h c
 stops_at limit None now b (decodes.Fault fault) h c = tt
 stops_at limit (Some xs) None b (decodes.Fault fault) h c = absurd c
 stops_at limit (Some xs) (Some ys) b (decodes.Fault fault) h c = subst (λ (t : List ℕ). Faulty limit t fault.kind fault.place) (sym c) (faulty_more limit b ys fault.kind fault.place h)
 
 -- the bytes that were taken are all of the packet
-pub whole_taken : (limit : Bounds) (old new more : List ℕ) (wanted n : ℕ) (p : Packet) → Wants limit old wanted → Pending limit old → length more ≤ wanted → new ≡ old ++ more
-    → (n ≤ length new) × ReadsWithin limit p (take n new) → ReadsWithin limit p new
-whole_taken limit old new more wanted n p wants pending few e h =
-    let parts : old ++ more ≡ take n new ++ drop n new = sym e ∙ sym (take-append-drop n new) in
-    let none : drop n new ≡ [] = wants pending more few p (take n new) (drop n new) h.1 parts in
-    let same : take n new ≡ new = sym (append-nil (take n new)) ∙ (ap (λ (t : List ℕ). take n new ++ t) (sym none) ∙ take-append-drop n new) in
+pub all_taken : (limit : Bounds) (b : List ℕ) (n : ℕ) (p : Packet) → PendingBefore limit b → (n ≤ length b) × ReadsWithin limit p (take n b) → ReadsWithin limit p b
+all_taken limit b n p before h =
+    let none : drop n b ≡ [] = before_alone limit b before p (take n b) (drop n b) h.1 (sym (take-append-drop n b)) in
+    let same : take n b ≡ b = sym (append-nil (take n b)) ∙ (ap (λ (t : List ℕ). take n b ++ t) (sym none) ∙ take-append-drop n b) in
     subst (ReadsWithin limit p) same h.1
+
+-- what is left was pending
+pub left_pending : (limit : Bounds) (left now : Option (List ℕ)) (b : List ℕ) → Pending limit b → 0 < length b → Consumes left now b → IsAtEnd now → IfSome left (λ all. Pending limit all × (0 < length all))
+left_pending limit None now b h some c end = tt
+left_pending limit (Some xs) None b h some c end = absurd c
+left_pending limit (Some xs) (Some ys) b h some c end =
+    let all : xs ≡ b = c ∙ (ap (λ (t : List ℕ). b ++ t) end ∙ append-nil b) in
+    subst (λ (t : List ℕ). Pending limit t × (0 < length t)) (sym all) (h, some)
+
+-- no more was read
+pub fill_stops : (limit : Bounds) (left now : Option (List ℕ)) (b : List ℕ) (e : ReadError) → 0 < length b → Consumes left now b → FillStops e → ReadStops limit left e
+fill_stops limit left now b errors.Cut some c h = absurd h
+fill_stops limit left now b (errors.Io error) some c h = tt
+fill_stops limit left now b (errors.Fault fault) some c h = absurd h
+fill_stops limit left now b errors.Memory some c h = left_some left now b some c
+
+-- a reader that is at its end before it gives a byte was at its end
+pub end_before : (left now : Option (List ℕ)) (b : List ℕ) → Consumes left now b → b ≡ [] → IsAtEnd now → IsAtEnd left
+end_before None now b c none end = tt
+end_before (Some xs) None b c none end = absurd c
+end_before (Some xs) (Some ys) b c none end = c ∙ (ap (λ (t : List ℕ). t ++ ys) none ∙ end)
 
 some_is : {a b : List ℕ} → Some a ≡ Some b → a ≡ b
 some_is e = cc
@@ -74,3 +99,21 @@ pub sized_err : (limit : Bounds) (r : Result (Option (Packet × ℕ)) ReadError)
 sized_err limit (Ok None) left h = tt
 sized_err limit (Ok (Some x)) left h = tt
 sized_err limit (Err e) left h = h
+
+pub sized_within : (limit : Bounds) (r : Result (Option (Packet × ℕ)) ReadError) (left now : Option (List ℕ)) → OnErr r (TakesWithin limit left now) → OnErr (without_size r) (TakesWithin limit left now)
+sized_within limit (Ok None) left now h = tt
+sized_within limit (Ok (Some x)) left now h = tt
+sized_within limit (Err e) left now h = h
+
+-- ---- more is read
+
+pub longer : (b held new more : List ℕ) → held ≡ b → new ≡ held ++ more → 0 < length b → 0 < length new
+longer b held new more same e some = omega (arith, ap length same, ap length e, length-append held more, some)
+
+-- what was taken is pending, and then no more is taken than it wants
+pub more_taken : (limit : Bounds) (b held new more : List ℕ) (wanted : ℕ) (left mid now : Option (List ℕ)) → held ≡ b → Pending limit b → Wants limit held wanted → length more ≤ wanted → new ≡ held ++ more
+    → Consumes left mid b → Consumes mid now more → Consumes left now new × PendingBefore limit new
+more_taken limit b held new more wanted left mid now same pending wants few e taken read =
+    let all : new ≡ b ++ more = e ∙ ap (λ (t : List ℕ). t ++ more) same in
+    let before = before_more limit held more wanted (subst (Pending limit) (sym same) pending) wants few in
+    (consumes_then left mid now b more new all taken read, subst (PendingBefore limit) (sym e) before)

@@ -1,9 +1,10 @@
 -- Streams: one after another, cut anywhere, and read in one way.
-use Rattle.std.proofs.Common.{◌≡◌, ℕ, ◌+◌, ◌<◌, ◌≤◌, Bool, true, eqb, List, [], ◌∷◌, ◌++◌, length, take, drop, get_or, Option, Some, None, Ok, Err, refl, sym, ap, subst, ◌∙◌, append_assoc, arith}
-use Rattle.std.proofs.lemmas.Bool.{eqb-true}
-use Rattle.std.proofs.lemmas.List.{nil_from_length, append-nil, length-append, length-take, length-drop, take-append-drop, take-take, drop-take, take_more}
+use Rattle.std.proofs.Common.{◌≡◌, ℕ, ◌+◌, ◌-◌, ◌<◌, ◌≤◌, Bool, true, eqb, List, [], ◌∷◌, ◌++◌, length, take, drop, get_or, Option, Some, None, Ok, Err, refl, sym, ap, subst, ◌∙◌, append_assoc, arith, inl, inr}
+use Rattle.std.proofs.lemmas.Bool.{cases_lt, eqb-true}
+use Rattle.std.proofs.lemmas.List.{nil_from_length, append-nil, length-append, length-take, length-drop, take-append-drop, take-append-le, take-take, drop-take, take_at, take_more}
 use Rattle.std.proofs.lemmas.List.Concat.{flat_map-append}
 use Rattle.std.specs.List.{flat_map}
+use Rattle.bytes.proofs.Ranges.{take-append_past}
 use Rattle.mq_packet.specs.declared.packet.Packet.{Packet}
 use Rattle.mq_decode.specs.declared.fault.FaultKind.{FaultKind}
 use Rattle.mq_decode.specs.declared.fault.FaultKind.TheVariants.{LengthTooLong, LengthOverlong}
@@ -253,6 +254,40 @@ alone_goes limit b p n old new rest alone h e none =
 pub front_stops : (limit : Bounds) (b : List ℕ) (old : List Packet) (e : DecodeError) → IsFront limit b (Err e) → Stops limit b old old e
 front_stops limit b old e h = taken_stops limit b 0 old old e (taken_none limit b old) h
 
+-- what is less than something pending is pending
+pub pending_less : (limit : Bounds) (b more : List ℕ) → Pending limit (b ++ more) → Pending limit b
+pending_less limit b more h = record {
+  not_whole = λ p first rest read parts. h.not_whole p first (rest ++ more) read (ap (λ (t : List ℕ). t ++ more) parts ∙ append_assoc first rest more);
+  not_faulty = λ k place fault. h.not_faulty k place (faulty_more limit b more k place fault);
+}
+
+-- each shorter beginning of the bytes is pending
+abbrev pub PendingBefore : Bounds → List ℕ → Type 0
+PendingBefore limit b = (n : ℕ) → n < length b → Pending limit (take n b)
+
+-- a packet that they begin with is then all of them
+pub before_alone : (limit : Bounds) (b : List ℕ) → PendingBefore limit b → IsAlone limit b
+before_alone limit b before p first [] read parts = refl
+before_alone limit b before p first (x ∷ rest) read parts =
+    let front : take (length first) b ≡ first = ap (take (length first)) parts ∙ take_at first (x ∷ rest) (length first) refl in
+    let short : length first < length b = omega (arith, ap length parts, length-append first (x ∷ rest)) in
+    absurd ((before (length first) short).not_whole p first [] read (front ∙ sym (append-nil first)))
+
+pub before_one : (limit : Bounds) (x : ℕ) → PendingBefore limit (x ∷ [])
+before_one limit x n lt = let none : n ≡ 0 = omega arith in rw none (pending_nil limit)
+
+-- what is pending, with no more than it wants
+pub before_more : (limit : Bounds) (b more : List ℕ) (wanted : ℕ) → Pending limit b → Wants limit b wanted → length more ≤ wanted → PendingBefore limit (b ++ more)
+before_more limit b more wanted pending wants few n lt =
+    elim (cases_lt n (length b)) [
+      | inl less ↦
+          let front : take n (b ++ more) ≡ take n b = take-append-le n b more (omega arith) in
+          subst (Pending limit) (sym front) (pending_less limit (take n b) (drop n b) (subst (Pending limit) (sym (take-append-drop n b)) pending))
+      | inr le ↦
+          let front : take n (b ++ more) ≡ b ++ take (n - length b) more = take-append_past b more (n - length b) n (omega arith) in
+          subst (Pending limit) (sym front) (wants pending (take (n - length b) more) (omega (arith, length-take (n - length b) more, length-append b more)))
+    ]
+
 pub held_alone : (limit : Bounds) (now piece next : List ℕ) (used n wanted : ℕ) → next ≡ now ++ take n (drop used piece) → n ≤ wanted → Wants limit now wanted → Pending limit now → IsAlone limit next
 held_alone limit now piece next used n wanted e few wants pending =
-    subst (IsAlone limit) (sym e) (wants pending (take n (drop used piece)) (omega (arith, length-take n (drop used piece), few)))
+    subst (IsAlone limit) (sym e) (before_alone limit (now ++ take n (drop used piece)) (before_more limit now (take n (drop used piece)) wanted pending wants (omega (arith, length-take n (drop used piece), few))))

@@ -1,8 +1,7 @@
 -- How many bytes a packet that isn't whole still wants.
-use Rattle.std.proofs.Common.{◌≡◌, ℕ, suc, ◌+◌, ◌-◌, ◌<◌, ◌≤◌, Bool, true, false, cond, ltb, List, [], ◌∷◌, ◌++◌, length, take, drop, Option, Some, None, Result, Ok, Err, refl, sym, ap, ◌∙◌, append_assoc, arith, inl, inr}
-use Rattle.std.proofs.lemmas.Bool.{cases_lt, le-ltb}
-use Rattle.std.proofs.lemmas.List.{nil_from_length, length-append, length-take, take-append-drop, take_at}
-use Rattle.bytes.proofs.Ranges.{take-append_past}
+use Rattle.std.proofs.Common.{◌≡◌, ℕ, suc, ◌+◌, ◌-◌, ◌<◌, ◌≤◌, Bool, true, false, cond, ltb, subst, List, [], ◌∷◌, ◌++◌, length, take, drop, Option, Some, None, Result, Ok, Err, refl, sym, ap, ◌∙◌, append_assoc, arith, inl, inr}
+use Rattle.std.proofs.lemmas.Bool.{cases_lt, le-ltb, lt-ltb}
+use Rattle.std.proofs.lemmas.List.{append-nil, nil_from_length, length-append, length-take, take-append-drop, take_at}
 use Rattle.mq_wire.specs.declared.reading.LengthReading.{LengthReading}
 use Rattle.mq_wire.specs.declared.reading.LengthReading.TheVariants.{Whole, Unfinished, TooLong, Overlong}
 use Rattle.mq_wire.specs.Bytes.{AreBytes}
@@ -19,25 +18,15 @@ use Rattle.mq_decode.specs.Front.{header_of, header_after, header_at, packet_or_
 use Rattle.mq_decode.specs.Limits.{Bounds}
 use Rattle.mq_decode.specs.Grammar.{Pending, Wants}
 use Rattle.mq_decode.proofs.FieldLaws.{Wire}
-use Rattle.mq_decode.proofs.FrontLaws.{Read, whole_again}
+use Rattle.mq_decode.proofs.FrontLaws.{Read, pending_at}
 use Rattle.mq_decode.proofs.FrontFound.{FrontFound, front_found}
-use Rattle.mq_decode.proofs.Uniqueness.{packet_at, same_packet}
-
--- a front that is no longer than b is a front of b
-front_of : (b more first rest : List ℕ) → length first ≤ length b → b ++ more ≡ first ++ rest → b ≡ first ++ take (length b - length first) rest
-front_of b more first rest le e =
-    sym (take_at b more (length b) refl) ∙ (ap (take (length b)) e ∙ take-append_past first rest (length b - length first) (length b) (omega arith))
 
 empty : (rest : List ℕ) → length rest ≤ 0 → rest ≡ []
 empty rest le = nil_from_length rest (omega arith)
 
--- what is pending with at most one byte more ends with the packet that it makes
+-- less than one byte is none
 pub wants_one : (limit : Bounds) (b : List ℕ) → Wants limit b 1
-wants_one limit b pending more few p first rest h e =
-    elim (cases_lt (length b) (length first)) [
-      | inl longer ↦ empty rest (omega (arith, ap length e, length-append b more, length-append first rest))
-      | inr le ↦ absurd (pending.not_whole p first (take (length b - length first) rest) h (front_of b more first rest le e))
-    ]
+wants_one limit b pending more few = subst (Pending limit) (sym (ap (λ (t : List ℕ). b ++ t) (empty more (omega arith)) ∙ append-nil b)) pending
 
 -- a header that is whole stays, whatever follows
 header_more : (w : Wire) (limit : Bounds) (b more : List ℕ) (h : Header) → AreBytes b → header_at limit b ≡ Ok (Some h) → header_at limit (b ++ more) ≡ Ok (Some h)
@@ -60,34 +49,20 @@ header_more w limit (first ∷ rest) more h bytes e = kinds (kind_at first) refl
     kinds (Err k) is e = absurd cc
     kinds (Ok kind) is e = rw is (lengths kind (read_length limit.lenient rest) refl e)
 
--- where the header is whole, the packet ends where it says
-packet_end : (end n : ℕ) (p : Packet) (r : Result Packet BadField) → packet_or_fault end r ≡ Ok (Some (p, n)) → n ≡ end
-packet_end end n p (Err bad) e = absurd cc
-packet_end end n p (Ok q) e =
-    let same : packet_at (q, end) ≡ packet_at (p, n) = e in
-    sym (ap (λ (x : Packet × ℕ). x.1) (same_packet (q, end) (p, n) same))
-
-header_end : (h : Header) (b : List ℕ) (p : Packet) (n : ℕ) → front_after (Ok (Some h)) b ≡ Ok (Some (p, n)) → n ≡ h.start + h.size
-header_end h b p n e = go (ltb (length b) (h.start + h.size)) e
-  where
-    go : (t : Bool) → cond t (Ok None) (packet_or_fault (h.start + h.size) (body_at h.kind (take h.size (drop h.start b)))) ≡ Ok (Some (p, n)) → n ≡ h.start + h.size
-    go true e = absurd cc
-    go false e = packet_end (h.start + h.size) n p _ e
-
--- with the header it wants what the header says, and at least one byte
-pub wants_rest : (w : Wire) (limit : Bounds) (b : List ℕ) (h : Header) (n : ℕ) → AreBytes b → header_at limit b ≡ Ok (Some h) → length b + n ≤ h.start + h.size → Wants limit b n
+-- with the header it wants what the header says
+wants_rest : (w : Wire) (limit : Bounds) (b : List ℕ) (h : Header) (n : ℕ) → AreBytes b → header_at limit b ≡ Ok (Some h) → length b + n ≤ h.start + h.size → Wants limit b n
 unfolding front_at
-wants_rest w limit b h n bytes e within pending more few p first rest spelled parts =
-    let read : front_at limit (b ++ more) ≡ Ok (Some (p, length first)) = ap (front_at limit) parts ∙ whole_again w limit p first rest spelled in
-    let ends : length first ≡ h.start + h.size = header_end h (b ++ more) p (length first) (ap (λ (r : Result (Option Header) DecodeFault). front_after r (b ++ more)) (sym (header_more w limit b more h bytes e)) ∙ read) in
-    empty rest (omega (arith, ap length parts, length-append b more, length-append first rest))
+wants_rest w limit b h n bytes e within pending more few =
+    let header : header_at limit (b ++ more) ≡ Ok (Some h) = header_more w limit b more h bytes e in
+    let short : ltb (length (b ++ more)) (h.start + h.size) ≡ true = lt-ltb _ _ (omega (arith, length-append b more)) in
+    pending_at w limit (b ++ more) (ap (λ (r : Result (Option Header) DecodeFault). front_after r (b ++ more)) header ∙ rw short refl)
 
 -- the greater of one and what the header says
 pub wants_most : (w : Wire) (limit : Bounds) (b : List ℕ) (h : Header) (n : ℕ) → AreBytes b → header_at limit b ≡ Ok (Some h) → (length b < h.start + h.size → length b + n ≤ h.start + h.size) → (h.start + h.size ≤ length b → n ≤ 1) → Wants limit b n
 wants_most w limit b h n bytes e more one =
     elim (cases_lt (length b) (h.start + h.size)) [
       | inl lt ↦ wants_rest w limit b h n bytes e (more lt)
-      | inr le ↦ λ pending m few p first rest spelled parts. wants_one limit b pending m (omega (arith, one le, few)) p first rest spelled parts
+      | inr le ↦ λ pending m few. wants_one limit b pending m (omega (arith, one le, few))
     ]
 
 -- with the header and as many bytes as it says nothing is pending

@@ -140,6 +140,6 @@ IsFront limits b (Err (errors.Fault fault)) = Faulty limits b fault.kind fault.p
 abbrev pub IsAlone : Bounds → List ℕ → Type 0
 IsAlone limits b = (p : Packet) (first rest : List ℕ) → ReadsWithin limits p first → b ≡ first ++ rest → rest ≡ []
 
--- what is pending wants so many bytes: a packet that at most so many make whole ends with them
+-- what is pending wants so many bytes: with less it is pending still
 abbrev pub Wants : Bounds → List ℕ → ℕ → Type 0
-Wants limits b n = Pending limits b → (more : List ℕ) → length more ≤ n → IsAlone limits (b ++ more)
+Wants limits b n = Pending limits b → (more : List ℕ) → length more < n → Pending limits (b ++ more)

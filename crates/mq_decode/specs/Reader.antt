@@ -1,5 +1,5 @@
 -- What reading a packet from a reader says of the bytes that it had left, where these are known.
-use Rattle.std.specs.Prelude.{◌≡◌, ℕ, ◌<◌, List, length, Option, Some, None, IfSome, Result, Ok, Err}
+use Rattle.std.specs.Prelude.{◌≡◌, ℕ, ◌<◌, List, length, take, Option, Some, None, IfSome, Result, Ok, Err}
 use Rattle.std.specs.Io.KnownBytes.{Consumes}
 use Rattle.mq_packet.specs.declared.packet.Packet.{Packet}
 use Rattle.mq_decode.specs.declared.fault.DecodeError.{DecodeError}
@@ -14,7 +14,19 @@ abbrev pub ReadStops : Bounds → Option (List ℕ) → ReadError → Type 0
 ReadStops limits left errors.Cut = IfSome left (λ b. Pending limits b × (0 < length b))
 ReadStops limits left (errors.Io error) = Unit {0}
 ReadStops limits left (errors.Fault fault) = IfSome left (λ b. Faulty limits b fault.kind fault.place)
-ReadStops limits left errors.Memory = Unit {0}
+ReadStops limits left errors.Memory = IfSome left (λ b. 0 < length b)
+
+-- what was taken before an error is within the packet that it is of: each shorter beginning of it is less than a whole packet, and nothing is
+-- wrong with it
+abbrev pub TakesWithin : Bounds → Option (List ℕ) → Option (List ℕ) → Type 0
+TakesWithin limits old new = (taken : List ℕ) × Consumes old new taken × ((n : ℕ) → n < length taken → Pending limits (take n taken))
+
+-- a reader that gives no more bytes failed, or memory ran out
+abbrev pub FillStops : ReadError → Type 0
+FillStops errors.Cut = ⊥
+FillStops (errors.Io error) = Unit {0}
+FillStops (errors.Fault fault) = ⊥
+FillStops errors.Memory = Unit {0}
 
 -- where a packet was left, it was read, unless the reader failed or memory ran out
 abbrev pub Answers : Packet → List ℕ → Result (Option Packet) ReadError → Option (List ℕ) → Type 0

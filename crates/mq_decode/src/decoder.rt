@@ -1,6 +1,6 @@
 //! A decoder over pieces of a stream.
 
-ghost use Rattle.std.specs.Prelude.{◌≡◌, ◌+◌, ◌≤◌, ◌++◌, ℕ, List, [], length, Option, Some, None, IfOk, IfErr, IfSome, OnOk};
+ghost use Rattle.std.specs.Prelude.{◌≡◌, ◌+◌, ◌≤◌, ◌++◌, ℕ, List, [], length, Option, Some, None, IfOk, IfErr, IfSome, OnErr, OnOk};
 ghost use Rattle.std.specs.Result.{result_err};
 ghost use Rattle.std.specs.List.{flat_map};
 ghost use Rattle.mq_decode.specs.Copied.{Copies};
@@ -16,7 +16,8 @@ use std::alloc::Global;
 use std::marker::Model;
 
 /// Takes the packets out of a stream that comes in pieces, cut anywhere. It keeps the bytes of the
-/// packet that is not whole; a packet that lies whole in a piece is read from the piece. After an error it answers the same error until `reset`.
+/// packet that is not whole; a packet that lies whole in a piece is read from the piece. After an error it holds nothing, and answers the same error until
+/// `reset`.
 #[derive(Debug, Drop)]
 pub struct Decoder {
     alloc: Global,
@@ -26,7 +27,7 @@ pub struct Decoder {
 }
 
 impl Model for Decoder {
-    ghost use Rattle.std.specs.Prelude.{◌≡◌, None};
+    ghost use Rattle.std.specs.Prelude.{◌≡◌, [], IfSome};
     ghost use Rattle.mq_decode.specs.State.{State};
     ghost use Rattle.mq_decode.specs.Grammar.{Pending};
 
@@ -39,7 +40,10 @@ impl Model for Decoder {
       copied = d.held.copied;
     } };
 
-    ghost invariant = { λ d. d.failed ≡ None → Pending d.limits d.held.bytes };
+    ghost invariant = { λ d. record {
+      pending : Pending d.limits d.held.bytes;
+      gone : IfSome d.failed (λ _. d.held.bytes ≡ []);
+    } };
 }
 
 impl Decoder {
@@ -72,6 +76,8 @@ impl Decoder {
         ensures again { IfSome self.old.failed
             (λ e. (result ≡ Err e) × (out.new.items ≡ out.old.items)) }
         ensures failed { self.new.failed ≡ result_err result }
+        // After an error nothing is held.
+        ensures gone { OnErr result (self.new.held ≡ []) }
         ensures limit { self.new.limit ≡ self.old.limit }
         // Just what belongs to a packet that doesn't lie whole in the piece is copied.
         ensures copied { OnOk result (Copies self.old.limit self.old.held piece.now
@@ -83,16 +89,17 @@ impl Decoder {
         match take_piece(self.alloc, self.limits, &mut self.held, piece, out) {
             Ok(()) => Ok(()),
             Err(error) => {
+                self.held.clear(self.alloc);
                 self.failed = Some(error);
                 Err(error)
             }
         }
     }
 
-    /// How many bytes of the packet that is not whole are held. It takes no memory.
+    /// How many bytes of the packet that is not whole are held; after an error none are. It takes no memory.
     pub fn held(&self) -> usize
         ensures value { result ≡ length self.now.held }
-        ensures most { self.now.failed ≡ None → result ≤ 5 + self.now.limit.most }
+        ensures most { result ≤ 5 + self.now.limit.most }
     {
         len_of(self.limits, self.held.as_slice())
     }
@@ -112,7 +119,7 @@ impl Decoder {
         ensures failed { self.new.failed ≡ None }
         ensures copied { self.new.copied ≡ 0 }
     {
-        self.held.reset();
+        self.held.reset(self.alloc);
         self.failed = None;
     }
 }

@@ -4,8 +4,8 @@ ghost use Rattle.std.specs.Prelude.{◌≡◌, Some};
 ghost use Rattle.mq_decode.specs.Fault.{fault_code, fault_number};
 
 use std::alloc::{AllocError, AllocFailed};
-use std::error::Error;
 use std::fmt;
+use thiserror::Error;
 
 /// What stands where a packet should. It displays as its code, `F1` to `F20`.
 #[derive(Clone, Copy, Debug, PartialEq, Eq)]
@@ -90,10 +90,11 @@ impl fmt::Display for FaultKind {
     }
 }
 
-impl Error for FaultKind {}
+impl std::error::Error for FaultKind {}
 
 /// The first fault of a packet.
-#[derive(Clone, Copy, Debug, PartialEq, Eq)]
+#[derive(Clone, Copy, Debug, PartialEq, Eq, Error)]
+#[error("the bytes are no packet: {kind} at byte {place}")]
 pub struct DecodeFault {
     /// What is wrong.
     pub kind: FaultKind,
@@ -103,11 +104,13 @@ pub struct DecodeFault {
 }
 
 /// Why no further packet is read.
-#[derive(Clone, Copy, Debug, PartialEq, Eq)]
+#[derive(Clone, Copy, Debug, PartialEq, Eq, Error)]
 pub enum DecodeError {
     /// The bytes are no packet.
+    #[error("{0}")]
     Fault(DecodeFault),
     /// Memory ran out.
+    #[error("out of memory")]
     Memory,
 }
 

@@ -78,20 +78,20 @@ impl Held {
         self.copied
     }
 
-    /// Lets go of the bytes. The count stays.
-    pub(crate) fn clear(&mut self)
+    /// Lets go of the bytes and of their memory. The count stays.
+    pub(crate) fn clear(&mut self, alloc: Global)
         ensures bytes { self.new.bytes ≡ [] }
         ensures copied { self.new.copied ≡ self.old.copied }
     {
-        self.bytes.clear();
+        self.bytes = Vec::new(alloc);
     }
 
-    /// Lets go of the bytes and of the count.
-    pub(crate) fn reset(&mut self)
+    /// Lets go of the bytes, of their memory and of the count.
+    pub(crate) fn reset(&mut self, alloc: Global)
         ensures bytes { self.new.bytes ≡ [] }
         ensures copied { self.new.copied ≡ 0 }
     {
-        self.bytes.clear();
+        self.clear(alloc);
         self.copied = 0;
     }
 

@@ -5,7 +5,7 @@ ghost use Rattle.std.specs.Io.KnownBytes.{Consumes, IsAtEnd, Keeps, ReadConsumes
 ghost use Rattle.mq_packet.specs.declared.packet.Packet.{Packet};
 ghost use Rattle.mq_decode.specs.Grammar.{ReadsWithin, Pending};
 ghost use Rattle.mq_decode.specs.Limits.{Bounds};
-ghost use Rattle.mq_decode.specs.Reader.{ReadStops, Answers, TakesSized, stop_of, without_size};
+ghost use Rattle.mq_decode.specs.Reader.{ReadStops, Answers, FillStops, TakesSized, TakesWithin, stop_of, without_size};
 
 use crate::fault::{DecodeError, DecodeFault};
 use crate::laws::reads_again;
@@ -15,18 +15,34 @@ use mq_packet::Packet;
 use std::alloc::Global;
 use std::io;
 use std::io::{ErrorKind, Read};
+use thiserror::Error;
 
 /// Why no packet was read.
-#[derive(Debug, Drop)]
+#[derive(Debug, Drop, Error)]
 pub enum ReadError {
     /// The reader ended within a packet.
+    #[error("the input ends within a packet")]
     Cut,
     /// The reader failed.
+    #[error("the reader failed: {0}")]
     Io(io::Error),
     /// The bytes are no packet.
+    #[error("{0}")]
     Fault(DecodeFault),
     /// Memory ran out.
+    #[error("out of memory")]
     Memory,
+}
+
+impl From<io::Error> for ReadError {
+    ghost use Rattle.std.specs.Prelude.{◌≡◌};
+    ghost use Rattle.mq_decode.specs.declared.read.ReadError.TheVariants.{Io};
+
+    ghost from_gives = { λ error stop. stop ≡ Io error };
+
+    fn from(error: io::Error) -> ReadError {
+        ReadError::Io(error)
+    }
 }
 
 // How far the buffer grows at a time.
@@ -47,7 +63,8 @@ fn read_some<R: Read>(reader: &mut R, room: &mut [u8]) -> io::Result<usize>
     reader.read(room)
 }
 
-// Reads at most `most` bytes behind those of the buffer, none only at the reader's end.
+// Reads at most `most` bytes behind those of the buffer, none only at the reader's end. Where it fails
+// nothing was taken.
 fn fill<R: Read>(reader: &mut R, buffer: &mut Vec<u8>, most: usize) -> Result<usize, ReadError>
     requires some { 0 < most }
     requires chunk { most ≤ 4096 }
@@ -56,24 +73,21 @@ fn fill<R: Read>(reader: &mut R, buffer: &mut Vec<u8>, most: usize) -> Result<us
         × (buffer.new.items ≡ buffer.old.items ++ more)
         × Consumes (R.remaining reader.old) (R.remaining reader.new) more) }
     ensures end { IfOk result (λ n. n ≡ 0 → IsAtEnd (R.remaining reader.new)) }
-    ensures err { (limit : Bounds) (left : Option (List ℕ)) → IfErr result (ReadStops limit left) }
+    ensures err { IfErr result FillStops }
+    ensures kept { OnErr result (Keeps (R.remaining reader.old) (R.remaining reader.new)) }
 {
     let start = buffer.len();
     if buffer.resize(start + most, 0).is_err() {
         return Err(ReadError::Memory);
     }
-    let read = read_some(reader, &mut buffer[start..]);
-    match read {
-        Ok(count) => {
-            buffer.truncate(start + count);
-            Ok(count)
-        }
-        Err(error) => Err(ReadError::Io(error)),
-    }
+    let count = read_some(reader, &mut buffer[start..])?;
+    buffer.truncate(start + count);
+    Ok(count)
 }
 
-/// Reads the next packet, and takes just its bytes from the reader. `None`: the reader was at its end.
-/// After an error the reader stands somewhere in the packet, and is not to be read on.
+/// Reads the next packet, and takes just its bytes from the reader. Returns `None` where the reader was at its end.
+/// After an error the reader stands within the packet, at the byte that shows the error or where the reader
+/// failed, and is not to be read on.
 pub fn read_packet<R: Read>(
     alloc: Global,
     reader: &mut R,
@@ -84,6 +98,9 @@ pub fn read_packet<R: Read>(
         × Consumes (R.remaining reader.old) (R.remaining reader.new) s)) }
     ensures none { IfOk result (λ o. IfNone o (IsAtEnd (R.remaining reader.old))) }
     ensures err { IfErr result (ReadStops limits (R.remaining reader.old)) }
+    // Before an error no byte was taken past the one that shows it.
+    ensures within { OnErr result
+        (TakesWithin limits (R.remaining reader.old) (R.remaining reader.new)) }
     // A packet that stands there is read, and what follows is left.
     ensures again { (p : Packet) (s rest : List ℕ) → ReadsWithin limits p s
         → R.remaining reader.old ≡ Some (s ++ rest) → Answers p rest result (R.remaining reader.new) }
@@ -126,23 +143,27 @@ pub fn read_sized<R: Read>(
         (TakesSized limits (R.remaining reader.old) (R.remaining reader.new))) }
     ensures none { IfOk result (λ o. IfNone o (IsAtEnd (R.remaining reader.old))) }
     ensures err { IfErr result (ReadStops limits (R.remaining reader.old)) }
+    ensures within { OnErr result
+        (TakesWithin limits (R.remaining reader.old) (R.remaining reader.new)) }
 {
+    let mut first = [0];
+    if read_some(reader, &mut first)? == 0 {
+        return Ok(None);
+    }
     let mut buffer = Vec::new(alloc);
+    if buffer.extend_from_slice(&first).is_err() {
+        return Err(ReadError::Memory);
+    }
     loop {
-        let most = wanted(limits, &buffer).min(CHUNK);
-        let count = fill(reader, &mut buffer, most)?;
-        if count == 0 {
-            return if buffer.is_empty() {
-                Ok(None)
-            } else {
-                Err(ReadError::Cut)
-            };
-        }
         let size = buffer.len();
         match take_held(alloc, limits, &mut buffer) {
             Ok(None) => {}
             Ok(Some(found)) => return Ok(Some((found.0, size))),
             Err(error) => return Err(stop_of(error)),
+        }
+        let most = wanted(limits, &buffer).min(CHUNK);
+        if fill(reader, &mut buffer, most)? == 0 {
+            return Err(ReadError::Cut);
         }
     }
 }

@@ -146,7 +146,7 @@ fn take_one(
         Ok(None) => Ok(()),
         Ok(Some(found)) => {
             append(out, found.0)?;
-            held.clear();
+            held.clear(alloc);
             Ok(())
         }
         Err(error) => Err(error),
