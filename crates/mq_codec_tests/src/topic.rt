@@ -142,19 +142,28 @@ fn texts_that_pass_become_names_and_filters(rt: HostRuntime) -> Result<(), Fail>
     Ok(())
 }
 
+// The code of a fault, and what it displays.
+fn fault_in_short(alloc: Global, fault: TopicFault) -> Result<String, Fail> {
+    let code = fault.code();
+    Ok(format!(in alloc; "{code} {fault}")?)
+}
+
+// Each fault, its code, and what it displays.
+static FAULTS: [(TopicFault, &str); 7] = [
+    (TopicFault::Empty, "N1 the text is empty"),
+    (TopicFault::Nul, "N2 the text has the character U+0000"),
+    (TopicFault::TooLong, "N3 the text has over 65,535 bytes"),
+    (TopicFault::Wildcard, "N4 a topic name has a wildcard"),
+    (TopicFault::Plus, "N5 a + is not alone in its level"),
+    (TopicFault::Hash, "N6 a # is not alone in the last level"),
+    (TopicFault::Memory, "N7 out of memory"),
+];
+
 #[test]
-fn faults_display_as_their_codes(rt: HostRuntime) -> Result<(), Fail> {
-    for (fault, code) in [
-        (TopicFault::Empty, "N1"),
-        (TopicFault::Nul, "N2"),
-        (TopicFault::TooLong, "N3"),
-        (TopicFault::Wildcard, "N4"),
-        (TopicFault::Plus, "N5"),
-        (TopicFault::Hash, "N6"),
-        (TopicFault::Memory, "N7"),
-    ] {
-        let text = format!(in rt.alloc(); "{fault}")?;
-        assert!(rt; text.as_str() == code, "{code}");
+fn faults_have_codes_and_display_as_sentences(rt: HostRuntime) -> Result<(), Fail> {
+    for (fault, wanted) in &FAULTS {
+        let told = fault_in_short(rt.alloc(), *fault)?;
+        assert!(rt; told.as_str() == *wanted, "{wanted}");
     }
     Ok(())
 }

@@ -1,5 +1,5 @@
 -- What a trie stands for after each change of it.
-use Rattle.std.proofs.Common.{◌≡◌, ◌⊎◌, inl, inr, ℕ, ◌+◌, ◌<◌, Bool, true, false, cond, List, [], ◌∷◌, ◌++◌, length, Option, Some, None, IsSome, is_some, refl, sym, ap, subst, ◌∙◌, arith, append_assoc}
+use Rattle.std.proofs.Common.{◌≡◌, ◌⊎◌, inl, inr, ℕ, ◌<◌, Bool, true, false, cond, List, [], ◌∷◌, ◌++◌, length, Option, Some, None, IsSome, refl, sym, ap, subst, ◌∙◌, arith, append_assoc}
 use Rattle.std.specs.List.{join_with_byte}
 use Rattle.std.specs.Ordering.{is_eq}
 use Rattle.std.specs.declared.cmp.Ordering.{Ordering}
@@ -16,7 +16,7 @@ use Rattle.mq_topic.specs.declared.trie_nodes.NodeId.{NodeId}
 use Rattle.std.specs.Str.{bytes_eq}
 use Rattle.mq_topic.proofs.Standard.{bytes_eq-itself, same_bytes}
 use Rattle.mq_topic.proofs.Fitting.{levels_some}
-use Rattle.mq_topic.proofs.Paths.{Link, append_nil, is_some-some, join, last, leads_same, longer, not_root, not_some, once, parts, path_once, place_of, rest, same_number}
+use Rattle.mq_topic.proofs.Paths.{Link, append_nil, is_some-some, join, last, leads_same, longer, not_root, not_some, once, parts, path_once, rest, same_number}
 
 -- ---- nothing changes
 

@@ -11,6 +11,7 @@ pub mod Keys
 pub mod Leaving
 pub mod Levels
 pub mod Nodes
+pub mod Inside
 pub mod Noting
 pub mod Placing
 pub mod Searching

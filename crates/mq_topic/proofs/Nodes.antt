@@ -1,7 +1,7 @@
 -- What can be asked of the nodes after one of them was changed.
-use Rattle.std.proofs.Common.{◌≡◌, ◌⊎◌, inl, inr, ℕ, Bool, true, false, cond, List, [], ◌∷◌, length, Option, Some, None, IsSome, Global, IsTrue, ◌↔◌, refl, sym, ap, subst, ◌∙◌, arith}
+use Rattle.std.proofs.Common.{◌≡◌, inl, inr, ℕ, Bool, true, false, List, Option, Some, None, IsSome, refl, sym, ap, subst, ◌∙◌}
 use Rattle.std.specs.Bool.{MatchBool}
-use Rattle.std.specs.Map.{AreApart, IsKeyTest, KeepsOthers, lookup}
+use Rattle.std.specs.Map.{KeepsOthers, lookup}
 use Rattle.std.specs.Option.{option_map, option_map_or}
 use Rattle.std.specs.Ordering.{is_eq, nat_cmp}
 use Rattle.std.specs.Rc.{rc_str_bytes}
@@ -11,6 +11,7 @@ use Rattle.std.proofs.lemmas.Bool.{ne_eqb}
 use Rattle.std.proofs.lemmas.Cmp.{nat_cmp_total, tied_itself}
 use Rattle.slab.specs.Slab.{Slab, Updates, get, with_value}
 use Rattle.slab.proofs.SlabLemmas.{Updates-with_value}
+use Rattle.mq_topic.specs.NodeView.{child_in, client_in}
 use Rattle.mq_topic.specs.Tree.{ChildIs, ClientIs, Cut, Grown, IsBare, IsPlace, IsUsed, SameTree}
 use Rattle.mq_topic.specs.TrieView.{child_at, child_of, client_at, client_of, link_in, node_of, tree}
 use Rattle.mq_topic.specs.declared.qos.Qos.{Qos}
@@ -19,7 +20,7 @@ use Rattle.mq_topic.specs.declared.trie_nodes.NodeId.{NodeId}
 use Rattle.mq_topic.specs.declared.trie_nodes.Trie.{Trie}
 use Rattle.mq_topic.proofs.Keys.{nat_ties}
 use Rattle.mq_topic.proofs.Paths.{same_number}
-use Rattle.mq_topic.proofs.Standard.{bytes_eq-itself, same_bytes}
+use Rattle.mq_topic.proofs.Standard.{same_bytes}
 
 -- ---- maps with levels and clients as keys
 
@@ -27,7 +28,7 @@ bytes_differ-by : (l m : List ℕ) (r : Bool) → bytes_eq l m ≡ r → (l ≡ 
 bytes_differ-by l m true e ne = absurd (ne (same_bytes l m e))
 bytes_differ-by l m false e ne = refl
 
-bytes_differ : (l m : List ℕ) → (l ≡ m → ⊥) → bytes_eq l m ≡ false
+pub bytes_differ : (l m : List ℕ) → (l ≡ m → ⊥) → bytes_eq l m ≡ false
 bytes_differ l m ne = bytes_differ-by l m (bytes_eq l m) refl ne
 
 -- the test of a key by its bytes
@@ -69,25 +70,25 @@ module _ (old new : Trie) (k : NodeId) (n m : Node) (was : node_of old k ≡ Som
         | inr ne ↦ ap f (other_node j ne)
       ]
 
-  pub child_is : (top : new.top.entries ≡ old.top.entries) → link_in m ≡ link_in n → m.clients.entries ≡ n.clients.entries
+  pub child_is : (top : new.top ≡ old.top) → link_in m ≡ link_in n → m.clients ≡ n.clients
       → (level : List ℕ) (x : Option NodeId) → child_at level m ≡ x → ((l : List ℕ) → (l ≡ level → ⊥) → child_at l m ≡ child_at l n)
       → ChildIs (Some k) level x (tree old) (tree new)
   child_is top link clients level x here there = record {
     link = read (option_map link_in) (ap (λ y. Some y) link);
     same = ap (λ (o : Option Node). option_map_or (child_at level) o None) u.changed ∙ here;
     others = others;
-    client = λ j c. read (λ o. option_map_or (client_at c) o None) (ap (lookup (is_client c)) clients) j;
+    client = λ j c. read (λ o. option_map_or (client_at c) o None) (ap (client_in c) clients) j;
   }
     where
       others : (a : Option NodeId) (l : List ℕ) → ((a ≡ Some k) × (l ≡ level) → ⊥) → child_of new a l ≡ child_of old a l
-      others None l ne = ap (lookup (has_bytes l)) top
+      others None l ne = ap (child_in l) top
       others (Some j) l ne =
           elim (same_number j k) [
             | inl s ↦ read (λ o. option_map_or (child_at l) o None) (there l (λ e. ne (ap (λ (y : NodeId). Some y) s, e))) j
             | inr differs ↦ ap (λ (o : Option Node). option_map_or (child_at l) o None) (other_node j differs)
           ]
 
-  pub client_is : (top : new.top.entries ≡ old.top.entries) → link_in m ≡ link_in n → m.children.entries ≡ n.children.entries
+  pub client_is : (top : new.top ≡ old.top) → link_in m ≡ link_in n → m.children ≡ n.children
       → (c : ℕ) (x : Option Qos) → client_at c m ≡ x → ((d : ℕ) → (d ≡ c → ⊥) → client_at d m ≡ client_at d n)
       → ClientIs k c x (tree old) (tree new)
   client_is top link children c x here there = record {
@@ -101,20 +102,20 @@ module _ (old new : Trie) (k : NodeId) (n m : Node) (was : node_of old k ≡ Som
   }
     where
       child : (a : Option NodeId) (l : List ℕ) → child_of new a l ≡ child_of old a l
-      child None l = ap (lookup (has_bytes l)) top
-      child (Some j) l = read (λ o. option_map_or (child_at l) o None) (ap (lookup (has_bytes l)) children) j
+      child None l = ap (child_in l) top
+      child (Some j) l = read (λ o. option_map_or (child_at l) o None) (ap (child_in l) children) j
 
-  pub same_is : (top : new.top.entries ≡ old.top.entries) → link_in m ≡ link_in n → m.children.entries ≡ n.children.entries → m.clients.entries ≡ n.clients.entries
+  pub same_is : (top : new.top ≡ old.top) → link_in m ≡ link_in n → ((l : List ℕ) → child_in l m.children ≡ child_in l n.children) → ((c : ℕ) → client_in c m.clients ≡ client_in c n.clients)
       → SameTree (tree old) (tree new)
   same_is top link children clients = record {
     link = read (option_map link_in) (ap (λ y. Some y) link);
     child = child;
-    client = λ j c. read (λ o. option_map_or (client_at c) o None) (ap (lookup (is_client c)) clients) j;
+    client = λ j c. read (λ o. option_map_or (client_at c) o None) (clients c) j;
   }
     where
       child : (a : Option NodeId) (l : List ℕ) → child_of new a l ≡ child_of old a l
-      child None l = ap (lookup (has_bytes l)) top
-      child (Some j) l = read (λ o. option_map_or (child_at l) o None) (ap (lookup (has_bytes l)) children) j
+      child None l = ap (child_in l) top
+      child (Some j) l = read (λ o. option_map_or (child_at l) o None) (children l) j
 
 pub some_is : (o : Option Node) (n : Node) → Some n ≡ o → IsSome o
 some_is None n e = absurd cc
@@ -141,10 +142,22 @@ top_is old new same level x here there = record {
     others None l ne = there l (λ e. ne (refl, e))
     others (Some j) l ne = ap (λ (s : Slab Node). option_map_or (child_at l) (get s j.0) None) same
 
+-- the root's children are found as before
+pub top_same : (old new : Trie) → new.nodes ≡ old.nodes → ((l : List ℕ) → child_of new None l ≡ child_of old None l) → SameTree (tree old) (tree new)
+top_same old new same there = record {
+  link = λ k. ap (λ (s : Slab Node). option_map link_in (get s k.0)) same;
+  child = child;
+  client = λ k c. ap (λ (s : Slab Node). option_map_or (client_at c) (get s k.0) None) same;
+}
+  where
+    child : (a : Option NodeId) (l : List ℕ) → child_of new a l ≡ child_of old a l
+    child None l = there l
+    child (Some j) l = ap (λ (s : Slab Node). option_map_or (child_at l) (get s j.0) None) same
+
 -- ---- a node more
 
-module _ (old mid : Trie) (k : NodeId) (n : Node) (top : mid.top.entries ≡ old.top.entries) (absent : node_of old k ≡ None) (u : Updates old.nodes mid.nodes k.0 (Some n))
-    (no_children : n.children.entries ≡ []) (no_clients : n.clients.entries ≡ []) where
+module _ (old mid : Trie) (k : NodeId) (n : Node) (top : mid.top ≡ old.top) (absent : node_of old k ≡ None) (u : Updates old.nodes mid.nodes k.0 (Some n))
+    (no_children : (l : List ℕ) → child_in l n.children ≡ None) (no_clients : (c : ℕ) → client_in c n.clients ≡ None) where
   beside : (j : NodeId) → (j ≡ k → ⊥) → node_of mid j ≡ node_of old j
   beside j ne = u.others j.0 (λ e. ne (λ i. record { 0 = e i }))
 
@@ -157,11 +170,11 @@ module _ (old mid : Trie) (k : NodeId) (n : Node) (top : mid.top.entries ≡ old
       ]
 
   mid_child : (a : Option NodeId) (l : List ℕ) → child_of mid a l ≡ child_of old a l
-  mid_child None l = ap (lookup (has_bytes l)) top
-  mid_child (Some j) l = read_new (λ o. option_map_or (child_at l) o None) (ap (lookup (has_bytes l)) no_children) j
+  mid_child None l = ap (child_in l) top
+  mid_child (Some j) l = read_new (λ o. option_map_or (child_at l) o None) (no_children l) j
 
   mid_client : (j : NodeId) (c : ℕ) → client_of mid j c ≡ client_of old j c
-  mid_client j c = read_new (λ o. option_map_or (client_at c) o None) (ap (lookup (is_client c)) no_clients) j
+  mid_client j c = read_new (λ o. option_map_or (client_at c) o None) (no_clients c) j
 
   pub grown_is : (new : Trie) (at : Option NodeId) (level : List ℕ) → link_in n ≡ (at, level) → ChildIs at level (Some k) (tree mid) (tree new) → Grown at level k (tree old) (tree new)
   grown_is new at level link g = record {
@@ -173,7 +186,7 @@ module _ (old mid : Trie) (k : NodeId) (n : Node) (top : mid.top.entries ≡ old
     client = λ j c. g.client j c ∙ mid_client j c;
   }
 
-  pub undone_is : (post new : Trie) → SameTree (tree mid) (tree post) → new.top.entries ≡ post.top.entries → Updates post.nodes new.nodes k.0 None → SameTree (tree old) (tree new)
+  pub undone_is : (post new : Trie) → SameTree (tree mid) (tree post) → new.top ≡ post.top → Updates post.nodes new.nodes k.0 None → SameTree (tree old) (tree new)
   undone_is post new same last v = record { link = link; child = child; client = client }
     where
       after : {A : Type 0} (f : Option Node → A) (j : NodeId) → f None ≡ f (node_of old k) → (f (node_of post j) ≡ f (node_of old j)) → f (node_of new j) ≡ f (node_of old j)
@@ -194,7 +207,7 @@ module _ (old mid : Trie) (k : NodeId) (n : Node) (top : mid.top.entries ≡ old
           ]
 
       child : (a : Option NodeId) (l : List ℕ) → child_of new a l ≡ child_of old a l
-      child None l = ap (lookup (has_bytes l)) last ∙ same.child None l ∙ mid_child None l
+      child None l = ap (child_in l) last ∙ same.child None l ∙ mid_child None l
       child (Some j) l = after (λ o. option_map_or (child_at l) o None) j (sym (ap (λ (o : Option Node). option_map_or (child_at l) o None) absent)) (same.child (Some j) l ∙ mid_child (Some j) l)
 
       client : (j : NodeId) (c : ℕ) → client_of new j c ≡ client_of old j c
@@ -202,7 +215,7 @@ module _ (old mid : Trie) (k : NodeId) (n : Node) (top : mid.top.entries ≡ old
 
 -- ---- a node less
 
-pub cut_is : (old mid new : Trie) (k : NodeId) (n : Node) → Some n ≡ node_of old k → mid.top.entries ≡ old.top.entries → Updates old.nodes mid.nodes k.0 None → IsBare (tree old) k
+pub cut_is : (old mid new : Trie) (k : NodeId) (n : Node) → Some n ≡ node_of old k → mid.top ≡ old.top → Updates old.nodes mid.nodes k.0 None → IsBare (tree old) k
     → ChildIs n.parent (rc_str_bytes n.level) None (tree mid) (tree new) → Cut n.parent (rc_str_bytes n.level) k (tree old) (tree new)
 cut_is old mid new k n was top u bare g = record {
   link = g.link k ∙ ap (option_map link_in) u.changed;
@@ -220,48 +233,34 @@ cut_is old mid new k n was top u bare g = record {
         ]
 
     mid_child : (a : Option NodeId) (l : List ℕ) → child_of mid a l ≡ child_of old a l
-    mid_child None l = ap (lookup (has_bytes l)) top
+    mid_child None l = ap (child_in l) top
     mid_child (Some j) l = gone (λ o. option_map_or (child_at l) o None) j (sym (bare.child l))
 
 -- ---- a node with nothing
 
-empty : {A : Type 0} (xs : List A) → length xs ≡ 0 → xs ≡ []
-empty [] e = refl
-empty (x ∷ xs) e = absurd (omega arith)
-
-pub bare_is : (t : Trie) (k : NodeId) (n : Node) → Some n ≡ node_of t k → length n.children.entries ≡ 0 → length n.clients.entries ≡ 0 → IsBare (tree t) k × IsPlace (tree t) (Some k)
+pub bare_is : (t : Trie) (k : NodeId) (n : Node) → Some n ≡ node_of t k → ((l : List ℕ) → child_in l n.children ≡ None) → ((c : ℕ) → client_in c n.clients ≡ None) → IsBare (tree t) k × IsPlace (tree t) (Some k)
 bare_is t k n was children clients = (
   record {
-    child = λ l. sym (ap (λ (o : Option Node). option_map_or (child_at l) o None) was) ∙ ap (lookup (has_bytes l)) (empty n.children.entries children);
-    client = λ c. sym (ap (λ (o : Option Node). option_map_or (client_at c) o None) was) ∙ ap (lookup (is_client c)) (empty n.clients.entries clients);
+    child = λ l. sym (ap (λ (o : Option Node). option_map_or (child_at l) o None) was) ∙ children l;
+    client = λ c. sym (ap (λ (o : Option Node). option_map_or (client_at c) o None) was) ∙ clients c;
   },
   subst (λ (o : Option Node). IsSome (option_map link_in o)) was refl,
 )
 
-first_child : (es : List (RcStr Global × NodeId)) → (length es ≡ 0 → ⊥) → (l : List ℕ) × IsSome (lookup (has_bytes l) es)
-first_child [] ne = absurd (ne refl)
-first_child (e ∷ es) ne = (rc_str_bytes e.0, rw (bytes_eq-itself (rc_str_bytes e.0)) refl)
+pub used_by_child : (t : Trie) (k : NodeId) (n : Node) → Some n ≡ node_of t k → (l : List ℕ) × IsSome (child_in l n.children) → IsUsed (tree t) k
+used_by_child t k n was w = inl (w.0, subst (λ (o : Option Node). IsSome (option_map_or (child_at w.0) o None)) was w.1)
 
-first_client : (es : List (ℕ × Qos)) → (length es ≡ 0 → ⊥) → (c : ℕ) × IsSome (lookup (is_client c) es)
-first_client [] ne = absurd (ne refl)
-first_client (e ∷ es) ne = (e.0, rw (is_client-itself e.0) refl)
+pub used_by_client : (t : Trie) (k : NodeId) (n : Node) → Some n ≡ node_of t k → (c : ℕ) × IsSome (client_in c n.clients) → IsUsed (tree t) k
+used_by_client t k n was w = inr (w.0, subst (λ (o : Option Node). IsSome (option_map_or (client_at w.0) o None)) was w.1)
 
-pub used_by_child : (t : Trie) (k : NodeId) (n : Node) → Some n ≡ node_of t k → (length n.children.entries ≡ 0 → ⊥) → IsUsed (tree t) k
-used_by_child t k n was ne =
-    let w = first_child n.children.entries ne in
-    inl (w.0, subst (λ (o : Option Node). IsSome (option_map_or (child_at w.0) o None)) was w.1)
-
-pub used_by_client : (t : Trie) (k : NodeId) (n : Node) → Some n ≡ node_of t k → (length n.clients.entries ≡ 0 → ⊥) → IsUsed (tree t) k
-used_by_client t k n was ne =
-    let w = first_client n.clients.entries ne in
-    inr (w.0, subst (λ (o : Option Node). IsSome (option_map_or (client_at w.0) o None)) was w.1)
-
-pub bare-by : (t : Trie) (k : NodeId) (n : Node) (r : Bool) → Some n ≡ node_of t k → length n.children.entries ≡ 0 → IsTrue r ↔ (length n.clients.entries ≡ 0)
+pub bare-by : (t : Trie) (k : NodeId) (n : Node) (r : Bool) → Some n ≡ node_of t k → ((l : List ℕ) → child_in l n.children ≡ None)
+    → MatchBool r ((c : ℕ) → client_in c n.clients ≡ None) ((c : ℕ) × IsSome (client_in c n.clients))
     → MatchBool r (IsBare (tree t) k × IsPlace (tree t) (Some k)) (IsPlace (tree t) (Some k) → IsUsed (tree t) k)
-bare-by t k n true was children h = bare_is t k n was children (h.0 refl)
-bare-by t k n false was children h = λ _. used_by_client t k n was (λ e. let no : false ≡ true = h.1 e in cc)
+bare-by t k n true was children h = bare_is t k n was children h
+bare-by t k n false was children h = λ _. used_by_client t k n was h
 
-pub used-by : (t : Trie) (k : NodeId) (n : Node) (r : Bool) → Some n ≡ node_of t k → r ≡ false → IsTrue r ↔ (length n.children.entries ≡ 0)
+pub used-by : (t : Trie) (k : NodeId) (n : Node) (r : Bool) → Some n ≡ node_of t k → r ≡ false
+    → MatchBool r ((l : List ℕ) → child_in l n.children ≡ None) ((l : List ℕ) × IsSome (child_in l n.children))
     → MatchBool r (IsBare (tree t) k × IsPlace (tree t) (Some k)) (IsPlace (tree t) (Some k) → IsUsed (tree t) k)
 used-by t k n true was e h = absurd cc
-used-by t k n false was e h = λ _. used_by_child t k n was (λ e. let no : false ≡ true = h.1 e in cc)
+used-by t k n false was e h = λ _. used_by_child t k n was h

@@ -1,7 +1,7 @@
 -- What follows where a call answers a value, or an error.
 use Rattle.std.proofs.Common.{◌≡◌, Bool, true, false, Result, Ok, Err}
 use Rattle.std.specs.Bool.{MatchBool}
-use Rattle.std.specs.Result.{IfOk, OnErr, OnOk}
+use Rattle.std.specs.Result.{IfOk, OnOk}
 
 pub if_ok : {A E : Type 0} (r : Result A E) (P Q : A → Type 0) → ((x : A) → P x → Q x) → IfOk r P → IfOk r Q
 if_ok (Ok x) P Q f h = f x h

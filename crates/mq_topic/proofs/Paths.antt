@@ -1,5 +1,5 @@
 -- Where the levels lead in a trie.
-use Rattle.std.proofs.Common.{◌≡◌, ◌⊎◌, inl, inr, ℕ, zero, suc, ◌+◌, ◌<◌, List, [], ◌∷◌, ◌++◌, length, Option, Some, None, IsSome, MatchOption, ◌↔◌, refl, sym, ap, subst, ◌∙◌, arith, append_assoc, length-append, eqb, eqb-true, false-eqb, Bool, true, false}
+use Rattle.std.proofs.Common.{◌≡◌, ◌⊎◌, inl, inr, ℕ, List, [], ◌∷◌, ◌++◌, length, Option, Some, None, IsSome, MatchOption, ◌↔◌, refl, sym, ap, subst, ◌∙◌, arith, length-append, eqb, eqb-true, false-eqb, Bool, true, false}
 use Rattle.mq_topic.specs.Tree.{IsLinked, IsPlace, Leads, Tree}
 use Rattle.mq_topic.specs.declared.trie_nodes.NodeId.{NodeId}
 

@@ -4,6 +4,7 @@ pub mod Found
 pub mod Laws
 pub mod Match
 pub mod Matching
+pub mod NodeView
 pub mod Qos
 pub mod Rows
 pub mod StoreLaws

@@ -1,35 +1,52 @@
 //! Why a text is no topic name, or no topic filter.
 
 ghost use Rattle.std.specs.Prelude.{◌≡◌};
-ghost use Rattle.mq_topic.specs.Fault.{text_fault};
+ghost use Rattle.mq_topic.specs.Fault.{text_fault, topic_code};
 ghost use Rattle.mq_topic.specs.Laws.{TopicLaws};
 
 use thiserror::Error;
 
-/// Why a text is no topic name, or no topic filter (4.7). It displays as its code.
+/// Why a text is no topic name, or no topic filter (4.7). It displays as a sentence.
 #[derive(Clone, Copy, Debug, PartialEq, Eq, Error)]
 pub enum TopicFault {
     /// It is empty.
-    #[error("N1")]
+    #[error("the text is empty")]
     Empty,
     /// It has the character U+0000.
-    #[error("N2")]
+    #[error("the text has the character U+0000")]
     Nul,
     /// It has over 65,535 bytes.
-    #[error("N3")]
+    #[error("the text has over 65,535 bytes")]
     TooLong,
     /// A name has `+` or `#`.
-    #[error("N4")]
+    #[error("a topic name has a wildcard")]
     Wildcard,
     /// A `+` is not alone in its level.
-    #[error("N5")]
+    #[error("a + is not alone in its level")]
     Plus,
     /// A `#` is not alone in its level, or its level is not the last.
-    #[error("N6")]
+    #[error("a # is not alone in the last level")]
     Hash,
     /// Memory ran out.
-    #[error("N7")]
+    #[error("out of memory")]
     Memory,
+}
+
+impl TopicFault {
+    /// The code that stands for it in what is printed, `N1` to `N7`.
+    pub fn code(self) -> &'static str
+        ensures { result.now ≡ topic_code self }
+    {
+        match self {
+            TopicFault::Empty => "N1",
+            TopicFault::Nul => "N2",
+            TopicFault::TooLong => "N3",
+            TopicFault::Wildcard => "N4",
+            TopicFault::Plus => "N5",
+            TopicFault::Hash => "N6",
+            TopicFault::Memory => "N7",
+        }
+    }
 }
 
 /// What keeps a text from being a topic name, and from being a topic filter.

@@ -2,12 +2,15 @@
 //! quality of service (4.3).
 #![tactic(auto)]
 
+mod children;
 mod client;
 mod client_rows;
+mod clients;
 mod comparing;
 mod fault;
 mod filter;
 mod level;
+mod level_texts;
 mod list_store;
 mod matching;
 mod name;
@@ -23,6 +26,6 @@ pub use crate::filter::{TopicFilter, is_topic_filter};
 pub use crate::list_store::ListStore;
 pub use crate::matching::matches;
 pub use crate::name::{TopicName, is_topic_name};
-pub use crate::qos::Qos;
+pub use crate::qos::{Qos, qos_order_law};
 pub use crate::store::{FilterStore, store_laws};
 pub use crate::trie_store::TrieStore;

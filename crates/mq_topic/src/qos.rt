@@ -1,7 +1,9 @@
 //! The quality of service (4.3).
 
 ghost use Rattle.std.specs.Prelude.{◌≡◌};
+ghost use Rattle.std.specs.Ordering.{nat_cmp};
 ghost use Rattle.mq_topic.specs.Qos.{greater, qos_number, qos_from};
+ghost use Rattle.mq_topic.specs.declared.qos.Qos as declared;
 
 /// How often a message is handed on (4.3): at most once, at least once, exactly once.
 #[derive(Clone, Copy, Debug, PartialEq, Eq, PartialOrd, Ord, Hash)]
@@ -49,3 +51,8 @@ impl Qos {
         }
     }
 }
+
+/// The law of the order of qualities of service: they ascend by their numbers.
+pub fn qos_order_law()
+    ensures { (a b : declared.Qos) → ⟦<Qos as Ord>⟧.cmp a b ≡ nat_cmp (qos_number a) (qos_number b) }
+{}

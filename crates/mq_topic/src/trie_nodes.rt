@@ -2,35 +2,33 @@
 
 ghost use Rattle.std.specs.Prelude.{◌≡◌, ◌+◌, ℕ, Some, None, IsSome, IfOk, OnOk, OnErr, MatchOption, List};
 ghost use Rattle.std.specs.Bool.{MatchBool};
-ghost use Rattle.std.specs.Map.{lookup};
-ghost use Rattle.std.specs.Ordering.{is_eq, nat_cmp};
 ghost use Rattle.std.specs.Rc.{rc_str_bytes};
 ghost use Rattle.slab.specs.Slab.{slab_len};
+ghost use Rattle.mq_topic.specs.NodeView.{client_in};
 ghost use Rattle.mq_topic.specs.Tree.{ChildIs, ClientIs, Cut, Grown, IsBare, IsPlace, IsTrieOf, IsUsed, SameTree, client_from};
 ghost use Rattle.mq_topic.specs.TrieView.{child_of, client_of, tree};
 
+use crate::children::Children;
 use crate::client::ClientKey;
+use crate::clients::Clients;
+use crate::level_texts::LevelTexts;
 use crate::qos::Qos;
 use slab::Slab;
 use std::alloc::{AllocError, Global};
-use std::collections::{BTreeMap, HashMap};
 use std::rc::RcStr;
 
 /// The number of a node.
 #[derive(Clone, Copy, Debug, PartialEq, Eq)]
 pub(crate) struct NodeId(usize);
 
-// The children of a node, by their levels.
-type Children = HashMap<RcStr, NodeId>;
-
-// A node: the place where the filters that begin with the same levels go on. Its level's bytes are
-// shared with the key by which its parent finds it.
+// A node: the place where the filters that begin with the same levels go on. What is read on the way
+// along a name stands first. Its level's bytes are shared with the key by which its parent finds it.
 #[derive(Drop)]
 pub(crate) struct Node {
+    children: Children,
+    clients: Clients,
     parent: Option<NodeId>,
     level: RcStr,
-    children: Children,
-    clients: BTreeMap<ClientKey, Qos>,
 }
 
 /// The nodes: below the root, which `None` stands for, each filter's levels lead to the node that has
@@ -40,6 +38,7 @@ pub(crate) struct Trie {
     alloc: Global,
     top: Children,
     nodes: Slab<Node>,
+    texts: LevelTexts,
 }
 
 impl Trie {
@@ -49,8 +48,9 @@ impl Trie {
     {
         Trie {
             alloc,
-            top: HashMap::new(alloc),
+            top: Children::new(),
             nodes: Slab::new(alloc),
+            texts: LevelTexts::new(alloc),
         }
     }
 
@@ -66,9 +66,9 @@ impl Trie {
         ensures { result ≡ child_of self.now at level.now }
     {
         match at {
-            None => self.top.get(level).copied(),
+            None => self.top.get(level),
             Some(id) => match self.nodes.get(id.0) {
-                Some(node) => node.children.get(level).copied(),
+                Some(node) => node.children.get(level),
                 None => None,
             },
         }
@@ -87,11 +87,11 @@ impl Trie {
     {
         match at {
             None => {
-                self.top.insert(level, child)?;
+                self.top.put(self.alloc, level, child)?;
             }
             Some(id) => {
                 if let Some(node) = self.nodes.get_mut(id.0) {
-                    node.children.insert(level, child)?;
+                    node.children.put(self.alloc, level, child)?;
                 }
             }
         }
@@ -105,11 +105,11 @@ impl Trie {
     {
         match at {
             None => {
-                self.top.remove(level);
+                self.top.take(level);
             }
             Some(id) => {
                 if let Some(node) = self.nodes.get_mut(id.0) {
-                    node.children.remove(level);
+                    node.children.take(level);
                 }
             }
         }
@@ -121,13 +121,13 @@ impl Trie {
         ensures grown { IfOk result (λ k. Grown at level.now k (tree self.old) (tree self.new)) }
         ensures unchanged { OnErr result (SameTree (tree self.old) (tree self.new)) }
     {
-        let level = RcStr::from_str(self.alloc, level)?;
+        let level = self.texts.share(level)?;
         let key = level.clone()?;
         let number = self.nodes.insert(Node {
+            children: Children::new(),
+            clients: Clients::Nobody,
             parent: at,
             level,
-            children: HashMap::new(self.alloc),
-            clients: BTreeMap::new(self.alloc),
         })?;
         let id = NodeId(number);
         match self.put_child(at, key, id) {
@@ -180,7 +180,7 @@ impl Trie {
         ensures refused { OnErr result (client_of self.old id client ≡ None) }
     {
         if let Some(node) = self.nodes.get_mut(id.0) {
-            node.clients.insert(client, qos)?;
+            node.clients.set(self.alloc, client, qos)?;
         }
         Ok(())
     }
@@ -190,14 +190,14 @@ impl Trie {
         ensures { ClientIs id client None (tree self.old) (tree self.new) }
     {
         if let Some(node) = self.nodes.get_mut(id.0) {
-            node.clients.remove(&client);
+            node.clients.take(client);
         }
     }
 
     /// The clients of a node, none of the root.
-    pub(crate) fn clients(&self, at: Option<NodeId>) -> Option<&BTreeMap<ClientKey, Qos>>
+    pub(crate) fn clients(&self, at: Option<NodeId>) -> Option<&Clients>
         ensures { MatchOption result ((c : ℕ) → client_from (tree self.now) at c ≡ None)
-            (λ clients. (c : ℕ) → lookup (λ d. is_eq (nat_cmp c d)) clients.now.entries ≡ client_from (tree self.now) at c) }
+            (λ clients. (c : ℕ) → client_in c clients.now ≡ client_from (tree self.now) at c) }
     {
         match self.nodes.get(at?.0) {
             Some(node) => Some(&node.clients),

@@ -1,8 +1,11 @@
 //! How a trie of levels is walked: along a filter, and along a name.
 
 ghost use Rattle.std.specs.Prelude.{◌≡◌, ◌+◌, ◌⊎◌, ◌↔◌, ◌∷◌, [], ℕ, List, Some, None, Option, true, IfOk, OnOk, OnErr, MatchOption};
+ghost use Rattle.std.specs.Map.{lookup};
+ghost use Rattle.std.specs.Ordering.{is_eq, nat_cmp};
 ghost use Rattle.mq_topic.specs.Found.{Among, Finds, Gathers, IsAt, IsThere, Steps};
 ghost use Rattle.mq_topic.specs.Matching.{begins, is_dollar, is_match, levels_left};
+ghost use Rattle.mq_topic.specs.NodeView.{client_in};
 ghost use Rattle.mq_topic.specs.Rows.{greater_of};
 ghost use Rattle.mq_topic.specs.Topic.{levels};
 ghost use Rattle.mq_topic.specs.Tree.{IsLinked, IsPlace, IsTrieOf, IsTrieUpTo, Leads, RowMap, SameTree};
@@ -10,6 +13,7 @@ ghost use Rattle.mq_topic.specs.TrieView.{child_of, tree};
 ghost use Rattle.mq_topic.specs.declared.trie_nodes.NodeId.{NodeId};
 
 use crate::client::ClientKey;
+use crate::clients::Clients;
 use crate::matching::first_level;
 use crate::qos::Qos;
 use crate::trie_nodes::{NodeId, Trie};
@@ -107,17 +111,35 @@ fn note(found: &mut Found, client: ClientKey, qos: Qos) -> Result<(), AllocError
     Ok(())
 }
 
-// Notes the clients of a node.
-fn gather(trie: &Trie, at: Option<NodeId>, found: &mut Found) -> Result<(), AllocError>
-    ensures { OnOk result (Gathers (IsAt (tree trie.now) at) found.old.entries found.new.entries) }
+// Notes the clients of a map.
+fn gather_map(clients: &BTreeMap<ClientKey, Qos>, found: &mut Found) -> Result<(), AllocError>
+    ensures { OnOk result (Gathers (λ c q. lookup (λ d. is_eq (nat_cmp c d)) clients.now.entries ≡ Some q) found.old.entries found.new.entries) }
 {
-    let Some(clients) = trie.clients(at) else {
-        return Ok(());
-    };
     'clients: for (client, qos) in clients.iter() {
         note(found, *client, *qos)?;
     }
     Ok(())
+}
+
+// Notes clients.
+fn gather_clients(clients: &Clients, found: &mut Found) -> Result<(), AllocError>
+    ensures { OnOk result (Gathers (λ c q. client_in c clients.now ≡ Some q) found.old.entries found.new.entries) }
+{
+    match clients {
+        Clients::Nobody => Ok(()),
+        Clients::One(client, qos) => note(found, *client, *qos),
+        Clients::Several(clients) => gather_map(clients, found),
+    }
+}
+
+// Notes the clients of a node.
+fn gather(trie: &Trie, at: Option<NodeId>, found: &mut Found) -> Result<(), AllocError>
+    ensures { OnOk result (Gathers (IsAt (tree trie.now) at) found.old.entries found.new.entries) }
+{
+    match trie.clients(at) {
+        Some(clients) => gather_clients(clients, found),
+        None => Ok(()),
+    }
 }
 
 // Notes the clients of the nodes, whose levels are those of the whole name.

@@ -1,4 +1,4 @@
-use Rattle.std.proofs.Common.{Some, None, sym, refl, ap, subst, ◌∙◌}
+use Rattle.std.proofs.Common.{None, subst}
 use Rattle.mq_topic.specs.Topic.{levels}
 use Rattle.mq_topic.specs.Tree.{Leads, without}
 use Rattle.mq_topic.specs.TrieView.{tree}

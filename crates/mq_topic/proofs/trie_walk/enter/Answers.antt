@@ -1,5 +1,4 @@
-use Rattle.std.proofs.Common.{Some, sym, ◌∙◌}
-use Rattle.mq_topic.specs.Tree.{Grown, IsLinked, IsPlace, IsTrieUpTo, Leads, RowMap}
+use Rattle.std.proofs.Common.{sym, ◌∙◌}
 use Rattle.mq_topic.specs.TrieView.{tree}
 use Rattle.mq_topic.proofs.Changes.{grown_places, grown_up_to, leads_up, up_to_child}
 use Rattle.mq_topic.proofs.Outcomes.{if_ok, on_ok}

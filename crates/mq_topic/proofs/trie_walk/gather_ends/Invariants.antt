@@ -1,6 +1,6 @@
-use Rattle.std.proofs.Common.{take, ◌∷◌, []}
+use Rattle.std.proofs.Common.{take}
 use Rattle.mq_topic.specs.Found.{Among, Gathers, IsAt}
-use Rattle.mq_topic.specs.TrieView.{child_of, tree}
+use Rattle.mq_topic.specs.TrieView.{tree}
 use Rattle.mq_topic.proofs.trie_walk.gather_ends.Given as goal
 
 abbrev pub invariant-nodes : goal.invariant-nodes

@@ -1,6 +1,5 @@
-use Rattle.std.proofs.Common.{◌≡◌, Some, None, sym, refl, ap, subst, ◌∙◌}
-use Rattle.mq_topic.specs.Found.{Gathers}
-use Rattle.mq_topic.specs.Rows.{greater_of, qos_of}
+use Rattle.std.proofs.Common.{Some, sym, ap, ◌∙◌}
+use Rattle.mq_topic.specs.Rows.{greater_of}
 use Rattle.mq_topic.proofs.Gathering.{noted, qos_of-lookup}
 use Rattle.mq_topic.proofs.Nodes.{is_client-other}
 use Rattle.mq_topic.proofs.trie_walk.note.Goals as goal

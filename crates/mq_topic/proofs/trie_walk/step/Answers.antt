@@ -1,7 +1,6 @@
-use Rattle.std.proofs.Common.{◌⊎◌, ◌∷◌, [], sym, arith, subst, Option, ◌↔◌}
+use Rattle.std.proofs.Common.{◌⊎◌, sym, arith, subst, ◌↔◌}
 use Rattle.mq_topic.specs.Found.{Among, IsThere, Steps}
 use Rattle.mq_topic.specs.TrieView.{tree}
-use Rattle.mq_topic.specs.declared.trie_nodes.NodeId.{NodeId}
 use Rattle.mq_topic.proofs.Gathering.{Holds, all_taken, step_more}
 use Rattle.mq_topic.proofs.trie_walk.step.Goals as goal
 

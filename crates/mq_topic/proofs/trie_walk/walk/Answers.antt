@@ -1,4 +1,4 @@
-use Rattle.std.proofs.Common.{◌≡◌, ◌∷◌, [], List, ℕ, Option, sym, refl, ap, subst, ◌∙◌, ◌↔◌}
+use Rattle.std.proofs.Common.{◌∷◌, [], Option, ap, subst, ◌∙◌, ◌↔◌}
 use Rattle.mq_topic.specs.Found.{Among, Finds, Gathers, IsAt, Steps}
 use Rattle.mq_topic.specs.Matching.{levels_left}
 use Rattle.mq_topic.specs.TrieView.{child_of, tree}

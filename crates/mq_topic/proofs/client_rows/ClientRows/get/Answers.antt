@@ -1,4 +1,4 @@
-use Rattle.std.proofs.Common.{◌≡◌, Option, None, sym, refl, ap, subst, ◌∙◌}
+use Rattle.std.proofs.Common.{Option, None, sym, ap, subst, ◌∙◌}
 use Rattle.std.specs.Map.{lookup}
 use Rattle.std.specs.Option.{option_map_or}
 use Rattle.mq_topic.specs.Rows.{IsAscending, row_qos}

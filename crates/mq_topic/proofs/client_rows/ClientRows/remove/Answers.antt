@@ -1,8 +1,8 @@
-use Rattle.std.proofs.Common.{◌≡◌, ℕ, List, Option, Some, None, IsSome, cond, sym, refl, ap, subst, ◌∙◌}
+use Rattle.std.proofs.Common.{◌≡◌, ℕ, Some, None, cond, ap, subst, ◌∙◌}
 use Rattle.std.specs.Map.{lookup}
-use Rattle.mq_topic.specs.ClientRows.{AreClientRows, rows_of}
+use Rattle.mq_topic.specs.ClientRows.{rows_of}
 use Rattle.mq_topic.specs.Rows.{without_row}
-use Rattle.mq_topic.proofs.ClientMaps.{Own, absent_client, empty_own, is_filter, none_is, nothing_twice, own_is, remove_rows, removed_rows, some_own, twice, written_rows}
+use Rattle.mq_topic.proofs.ClientMaps.{absent_client, empty_own, is_filter, none_is, nothing_twice, own_is, remove_rows, removed_rows, some_own, twice, written_rows}
 use Rattle.mq_topic.proofs.Nodes.{is_client}
 use Rattle.mq_topic.proofs.client_rows.ClientRows.remove.Goals.{in-Some-1, in-None-1}
 use Rattle.mq_topic.proofs.client_rows.ClientRows.remove.Goals as goal

@@ -1,6 +1,5 @@
-use Rattle.std.proofs.Common.{◌≡◌, ℕ, List, Option, None, sym, refl, ap, subst, ◌∙◌}
-use Rattle.std.specs.Map.{lookup}
-use Rattle.mq_topic.specs.ClientRows.{AreClientRows, rows_of}
+use Rattle.std.proofs.Common.{◌≡◌, subst}
+use Rattle.mq_topic.specs.ClientRows.{rows_of}
 use Rattle.mq_topic.specs.Rows.{without_client}
 use Rattle.mq_topic.proofs.ClientMaps.{clients_ascend, drop_rows, filters_removed, own_given}
 use Rattle.mq_topic.proofs.Nodes.{is_client}

@@ -1,4 +1,4 @@
-use Rattle.std.proofs.Common.{Some, None, sym, refl, ap, subst}
+use Rattle.std.proofs.Common.{None, sym, refl, ap, subst}
 use Rattle.std.specs.Option.{option_map}
 use Rattle.std.specs.Rc.{rc_str_bytes}
 use Rattle.mq_topic.specs.Tree.{ChildIs}

@@ -1,6 +1,4 @@
-use Rattle.std.proofs.Common.{◌≡◌, [], List, ℕ, sym, ap, subst, ◌∙◌, IsTrue}
-use Rattle.std.specs.FinMap.{is_sorted}
-use Rattle.std.specs.Ordering.{nat_cmp}
+use Rattle.std.proofs.Common.{[], sym, subst, ◌∙◌}
 use Rattle.mq_topic.specs.Found.{Entries, Gathers}
 use Rattle.mq_topic.specs.Rows.{IsMatched, matched, row_qos}
 use Rattle.mq_topic.proofs.Answering.{answered}

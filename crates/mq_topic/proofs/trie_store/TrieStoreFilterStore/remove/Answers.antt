@@ -1,6 +1,6 @@
-use Rattle.std.proofs.Common.{is_some, sym, ap, subst, ◌∙◌}
-use Rattle.mq_topic.specs.Rows.{Key, Row, row_qos, without_row}
-use Rattle.mq_topic.specs.Tree.{IsTrieOf, without}
+use Rattle.std.proofs.Common.{is_some, sym, ap, ◌∙◌}
+use Rattle.mq_topic.specs.Rows.{Key, row_qos, without_row}
+use Rattle.mq_topic.specs.Tree.{without}
 use Rattle.mq_topic.specs.TrieView.{tree}
 use Rattle.mq_topic.proofs.Changes.{trie_rows}
 use Rattle.mq_topic.proofs.StoreFacts.{store_facts}

@@ -1,4 +1,4 @@
-use Rattle.std.proofs.Common.{◌≡◌, None, sym, ap, subst, ◌∙◌}
+use Rattle.std.proofs.Common.{sym, ◌∙◌}
 use Rattle.mq_topic.specs.Rows.{row_qos, without_client}
 use Rattle.mq_topic.specs.Tree.{RowMap, without_all}
 use Rattle.mq_topic.specs.TrieView.{tree}

@@ -1,4 +1,4 @@
-use Rattle.std.proofs.Common.{◌≡◌, None, sym, ap, subst, ◌∙◌}
+use Rattle.std.proofs.Common.{◌≡◌, None, sym, subst}
 use Rattle.mq_topic.specs.Rows.{row_qos, with_row}
 use Rattle.mq_topic.specs.Tree.{RowMap, row_with, without}
 use Rattle.mq_topic.specs.TrieView.{tree}

@@ -1,0 +1,46 @@
+-- What can be asked of a node of a trie: of its children, and of its clients.
+use Rattle.std.specs.Prelude.{◌≡◌, ℕ, Bool, true, List, Option, Some, None, if◌then◌else◌}
+use Rattle.std.specs.Map.{lookup}
+use Rattle.std.specs.Option.{option_map_or, option_or}
+use Rattle.std.specs.Ordering.{is_eq, nat_cmp}
+use Rattle.std.specs.Rc.{rc_str_bytes}
+use Rattle.std.specs.Str.{bytes_eq}
+use Rattle.mq_topic.specs.declared.children.Child.{Child}
+use Rattle.mq_topic.specs.declared.children.Children.{Children}
+use Rattle.mq_topic.specs.declared.clients.Clients.{Clients}
+use Rattle.mq_topic.specs.declared.clients.Clients.TheVariants.{Nobody, One, Several}
+use Rattle.mq_topic.specs.declared.qos.Qos.{Qos}
+use Rattle.mq_topic.specs.declared.trie_nodes.NodeId.{NodeId}
+
+-- the child in the node is at this level, or there is none
+abbrev pub is_own : List ℕ → Children → Bool
+is_own l n = option_map_or (λ (c : Child). bytes_eq l (rc_str_bytes c.level)) n.first true
+
+-- the child at a level, if it lies in the node
+abbrev pub own_child : List ℕ → Option Child → Option NodeId
+own_child l None = None
+own_child l (Some c) = if bytes_eq l (rc_str_bytes c.level) then Some c.id else None
+
+-- the child at a level, if it lies in the map
+abbrev pub child_beside : List ℕ → Children → Option NodeId
+child_beside l n = option_map_or (λ b. lookup (λ k. bytes_eq l (rc_str_bytes k)) b.value.entries) n.others None
+
+-- the child at a level
+abbrev pub child_in : List ℕ → Children → Option NodeId
+child_in l n = option_or (own_child l n.first) (child_beside l n)
+
+-- the child at a level is this one, and the others stay
+pub record ChildIn (level : List ℕ) (child : Option NodeId) (old new : Children) : Type 0 where
+  pub same : child_in level new ≡ child
+  pub others : (l : List ℕ) → (l ≡ level → ⊥) → child_in l new ≡ child_in l old
+
+-- the QoS of a client
+abbrev pub client_in : ℕ → Clients → Option Qos
+client_in c Nobody = None
+client_in c (One d q) = if is_eq (nat_cmp c d) then Some q else None
+client_in c (Several m) = lookup (λ d. is_eq (nat_cmp c d)) m.entries
+
+-- a client has this QoS, or none, and the others stay
+pub record ClientIn (client : ℕ) (qos : Option Qos) (old new : Clients) : Type 0 where
+  pub same : client_in client new ≡ qos
+  pub others : (c : ℕ) → (c ≡ client → ⊥) → client_in c new ≡ client_in c old

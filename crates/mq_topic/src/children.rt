@@ -1,0 +1,146 @@
+//! The children of a node of a trie.
+
+ghost use Rattle.std.specs.Prelude.{◌≡◌, ℕ, List, None, Some, true, IsSome, OnOk, OnErr};
+ghost use Rattle.std.specs.Bool.{MatchBool};
+ghost use Rattle.std.specs.Option.{option_map_or};
+ghost use Rattle.std.specs.Rc.{rc_str_bytes};
+ghost use Rattle.std.specs.Str.{bytes_eq};
+ghost use Rattle.mq_topic.specs.NodeView.{ChildIn, child_beside, child_in, is_own, own_child};
+
+use crate::trie_nodes::NodeId;
+use std::alloc::{AllocError, Global};
+use std::collections::HashMap;
+use std::rc::RcStr;
+
+// A child, and its level.
+#[derive(Drop)]
+struct Child {
+    level: RcStr,
+    id: NodeId,
+}
+
+// Children, by their levels.
+type ChildMap = HashMap<RcStr, NodeId>;
+
+/// The children of a node, by their levels. One of them lies in the node itself, since most nodes have
+/// no other, and the others lie in a map.
+#[derive(Drop)]
+pub(crate) struct Children {
+    first: Option<Child>,
+    others: Option<Box<ChildMap>>,
+}
+
+impl Children {
+    /// No children, which take no memory.
+    pub(crate) fn new() -> Children
+        ensures { (l : List ℕ) → child_in l result ≡ None }
+    {
+        Children {
+            first: None,
+            others: None,
+        }
+    }
+
+    /// The child at a level.
+    pub(crate) fn get(&self, level: &str) -> Option<NodeId>
+        ensures { result ≡ child_in level.now self.now }
+    {
+        if let Some(first) = &self.first {
+            if level == first.level.as_str() {
+                return Some(first.id);
+            }
+        }
+        match &self.others {
+            Some(others) => others.get(level).copied(),
+            None => None,
+        }
+    }
+
+    // Whether the child that lies in the node is the one at a level, or there is none.
+    fn is_own(&self, level: &str) -> bool
+        ensures { result ≡ is_own level.now self.now }
+    {
+        match &self.first {
+            Some(first) => level == first.level.as_str(),
+            None => true,
+        }
+    }
+
+    /// Notes the child at a level. The children stay where memory runs out.
+    pub(crate) fn put(
+        &mut self,
+        alloc: Global,
+        level: RcStr,
+        child: NodeId,
+    ) -> Result<(), AllocError>
+        ensures put { OnOk result (ChildIn (rc_str_bytes level) (Some child) self.old self.new) }
+        ensures unchanged { OnErr result ((l : List ℕ) → child_in l self.new ≡ child_in l self.old) }
+    {
+        if self.is_own(level.as_str()) {
+            self.first = Some(Child { level, id: child });
+            return Ok(());
+        }
+        self.put_beside(alloc, level, child)
+    }
+
+    // Notes the child at a level in the map, which is made if there is none.
+    fn put_beside(&mut self, alloc: Global, level: RcStr, child: NodeId) -> Result<(), AllocError>
+        ensures first { self.new.first ≡ self.old.first }
+        ensures same { OnOk result (child_beside (rc_str_bytes level) self.new ≡ Some child) }
+        ensures others { OnOk result ((l : List ℕ) → (l ≡ rc_str_bytes level → ⊥) → child_beside l self.new ≡ child_beside l self.old) }
+        ensures unchanged { OnErr result ((l : List ℕ) → child_beside l self.new ≡ child_beside l self.old) }
+    {
+        match &mut self.others {
+            Some(others) => {
+                others.insert(level, child)?;
+                Ok(())
+            }
+            None => {
+                let mut others = HashMap::new(alloc);
+                others.insert(level, child)?;
+                self.others = Some(Box::new(alloc, others)?);
+                Ok(())
+            }
+        }
+    }
+
+    // Forgets the child that lies in the node, if it is the one at a level.
+    fn take_own(&mut self, level: &str)
+        ensures same { own_child level.now self.new.first ≡ None }
+        ensures others { (l : List ℕ) → (l ≡ level.now → ⊥) → own_child l self.new.first ≡ own_child l self.old.first }
+        ensures beside { self.new.others ≡ self.old.others }
+    {
+        if self.is_own(level) {
+            self.first = None;
+        }
+    }
+
+    // Forgets the child at a level that lies in the map.
+    fn take_beside(&mut self, level: &str)
+        ensures first { self.new.first ≡ self.old.first }
+        ensures same { child_beside level.now self.new ≡ None }
+        ensures others { (l : List ℕ) → (l ≡ level.now → ⊥) → child_beside l self.new ≡ child_beside l self.old }
+    {
+        if let Some(others) = &mut self.others {
+            others.remove(level);
+        }
+    }
+
+    /// Forgets the child at a level. It takes no memory.
+    pub(crate) fn take(&mut self, level: &str)
+        ensures { ChildIn level.now None self.old self.new }
+    {
+        self.take_own(level);
+        self.take_beside(level);
+    }
+
+    /// Whether there is no child.
+    pub(crate) fn is_empty(&self) -> bool
+        ensures { MatchBool result ((l : List ℕ) → child_in l self.now ≡ None) ((l : List ℕ) × IsSome (child_in l self.now)) }
+    {
+        match &self.others {
+            Some(others) => self.first.is_none() && others.is_empty(),
+            None => self.first.is_none(),
+        }
+    }
+}
