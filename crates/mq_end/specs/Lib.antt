@@ -12,3 +12,4 @@ pub mod Resuming
 pub mod Opening
 pub mod Requests
 pub mod Laws
+pub mod Codes

@@ -1,34 +1,55 @@
 //! Why a connection is closed.
 
+ghost use Rattle.std.specs.Prelude.{◌≡◌};
+ghost use Rattle.mq_end.specs.Codes.{close_code};
+
 use mq_decode::DecodeFault;
 use mq_packet::RefusalCode;
 use thiserror::Error;
 
-/// Why an end closed its connection. It displays as its code.
+/// Why an end closed its connection.
 #[derive(Clone, Copy, Debug, PartialEq, Eq, Error)]
 pub enum CloseReason {
     /// Bytes that are no packet (4.8).
-    #[error("C1")]
+    #[error("bytes came that are no packet")]
     Fault(DecodeFault),
     /// A packet that may not come there (4.8).
-    #[error("C2")]
+    #[error("a packet came that may not come there")]
     Unexpected,
     /// CONNECT was refused (3.2.2.3).
-    #[error("C3")]
+    #[error("the connection was refused")]
     Refused(RefusalCode),
     /// The server has no session, where the client has one that it knew of (3.2.2.2).
-    #[error("C4")]
+    #[error("the server lost the session")]
     SessionLost,
     /// Nothing came for one and a half times the keep-alive (3.1.2.10).
-    #[error("C5")]
+    #[error("nothing came for one and a half times the keep-alive")]
     KeepAlive,
     /// Memory ran out.
-    #[error("C6")]
+    #[error("out of memory")]
     Memory,
     /// DISCONNECT was sent or read (3.14).
-    #[error("C7")]
+    #[error("the client disconnected")]
     Left,
     /// A new message of quality of service 2 that does not fit the receiving window (4.8).
-    #[error("C11")]
+    #[error("a new message does not fit the receiving window")]
     Window,
+}
+
+impl CloseReason {
+    /// Its code, `C1` to `C7` or `C11`.
+    pub fn code(self) -> &'static str
+        ensures { result.now ≡ close_code self }
+    {
+        match self {
+            CloseReason::Fault(_) => "C1",
+            CloseReason::Unexpected => "C2",
+            CloseReason::Refused(_) => "C3",
+            CloseReason::SessionLost => "C4",
+            CloseReason::KeepAlive => "C5",
+            CloseReason::Memory => "C6",
+            CloseReason::Left => "C7",
+            CloseReason::Window => "C11",
+        }
+    }
 }

@@ -1,23 +1,41 @@
 //! Why a call of an end's user is refused.
 
+ghost use Rattle.std.specs.Prelude.{◌≡◌};
+ghost use Rattle.mq_end.specs.Codes.{refusal_code};
+
 use thiserror::Error;
 
-/// Why a call of an end's user is refused. It displays as its code.
+/// Why a call of an end's user is refused.
 #[derive(Clone, Copy, Debug, PartialEq, Eq, Error)]
 pub enum PublishRefusal {
     /// There is no connection that is up.
-    #[error("P1")]
+    #[error("not connected")]
     NotConnected,
     /// The server has no session for the client.
-    #[error("P2")]
+    #[error("the server has no session for the client")]
     NoSession,
     /// The packet's remaining length is over the end's own limit.
-    #[error("P3")]
+    #[error("the packet is over the limit")]
     TooLarge,
     /// As many identifiers are in use as there is room for.
-    #[error("P4")]
+    #[error("no packet identifier is free")]
     Full,
     /// Memory ran out.
-    #[error("P5")]
+    #[error("out of memory")]
     Memory,
+}
+
+impl PublishRefusal {
+    /// Its code, `P1` to `P5`.
+    pub fn code(self) -> &'static str
+        ensures { result.now ≡ refusal_code self }
+    {
+        match self {
+            PublishRefusal::NotConnected => "P1",
+            PublishRefusal::NoSession => "P2",
+            PublishRefusal::TooLarge => "P3",
+            PublishRefusal::Full => "P4",
+            PublishRefusal::Memory => "P5",
+        }
+    }
 }

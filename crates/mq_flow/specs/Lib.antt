@@ -9,3 +9,4 @@ pub mod Saved
 pub mod Loading
 pub mod SavedTwo
 pub mod SavedLaws
+pub mod Codes

@@ -5,6 +5,7 @@ ghost use Rattle.std.specs.Prelude.{◌≡◌, ℕ, if◌then◌else◌, ◌↔�
 ghost use Rattle.mq_topic.specs.declared.qos.Qos.TheVariants.{Q0};
 ghost use Rattle.mq_flow.specs.Sender.{IsFree, is_full, uses, blank_book};
 ghost use Rattle.mq_flow.specs.Receiver.{none_received};
+ghost use Rattle.mq_flow.specs.Codes.{load_code};
 ghost use Rattle.mq_flow.specs.Saved.{Saved, IsSession};
 ghost use Rattle.mq_flow.specs.Loading.{Same, Gives, Loads, number_at, count_at, capacity_at, number_within, free_at, qos_at, flag_at, flags_at, topic_at, is_over_limit, payload_at, message_at, entry_at, with_entry_at, entries_at, with_released, with_released_at, released_at, sender_at, next_at, received_at, receiver_at, end_at, session_at, read_session, has_version};
 
@@ -21,27 +22,42 @@ use std::alloc::{AllocError, Global};
 use std::str;
 use thiserror::Error;
 
-/// Why a session was not loaded. It displays as its code.
+/// Why a session was not loaded.
 #[derive(Clone, Copy, Debug, PartialEq, Eq, Error)]
 pub enum LoadError {
     /// The bytes don't begin with `MQS` and a version that is read.
-    #[error("L1")]
+    #[error("these bytes are no saved session of a version that is read")]
     Version,
     /// They are not the saved form of a session.
-    #[error("L2")]
+    #[error("the saved session is malformed at byte {place}")]
     Malformed {
         /// Where the first field that is bad begins, counted from the first byte.
         place: usize,
     },
     /// Memory ran out.
-    #[error("L3")]
+    #[error("out of memory")]
     Memory,
     /// The session was saved for another client (3.1.3.1).
-    #[error("L4")]
+    #[error("the session is that of another client")]
     AnotherClient,
     /// A message of the session is over the limit of the end that is to go on with it (2.2.3).
-    #[error("L5")]
+    #[error("a message of the session is over the limit")]
     TooLarge,
+}
+
+impl LoadError {
+    /// Its code, `L1` to `L5`.
+    pub fn code(self) -> &'static str
+        ensures { result.now ≡ load_code self }
+    {
+        match self {
+            LoadError::Version => "L1",
+            LoadError::Malformed { .. } => "L2",
+            LoadError::Memory => "L3",
+            LoadError::AnotherClient => "L4",
+            LoadError::TooLarge => "L5",
+        }
+    }
 }
 
 /// How many bytes there are from the bad field on.

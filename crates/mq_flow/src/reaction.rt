@@ -1,5 +1,8 @@
 //! What an acknowledgement does to a sender's book, and why a message is refused by a sender or by a receiver.
 
+ghost use Rattle.std.specs.Prelude.{◌≡◌};
+ghost use Rattle.mq_flow.specs.Codes.{sender_code};
+
 use mq_packet::PacketId;
 use thiserror::Error;
 
@@ -14,22 +17,34 @@ pub enum Reaction {
     Stray,
 }
 
-/// Why a sender refuses a message, or gives no identifier. It displays as its code.
+/// Why a sender refuses a message, or gives no identifier.
 #[derive(Clone, Copy, Debug, PartialEq, Eq, Error)]
 pub enum Refusal {
     /// As many identifiers are in use as there is room for.
-    #[error("S1")]
+    #[error("no packet identifier is free")]
     Full,
     /// Memory ran out.
-    #[error("S2")]
+    #[error("out of memory")]
     Memory,
+}
+
+impl Refusal {
+    /// Its code, `S1` or `S2`.
+    pub fn code(self) -> &'static str
+        ensures { result.now ≡ sender_code self }
+    {
+        match self {
+            Refusal::Full => "S1",
+            Refusal::Memory => "S2",
+        }
+    }
 }
 
 /// Why a receiver refuses a message.
 #[derive(Clone, Copy, Debug, PartialEq, Eq, Error)]
 pub enum ReceiveRefusal {
     /// Memory ran out.
-    #[error("memory ran out")]
+    #[error("out of memory")]
     Memory,
     /// As many identifiers are stored as the window has, and this one is not among them.
     #[error("the receiving window is full")]

@@ -6,9 +6,8 @@ use Rattle.mq_packet.specs.declared.message.Message.{Message}
 use Rattle.mq_end.specs.declared.happening.Happening.{Happening}
 use Rattle.mq_end.specs.declared.happening.Happening.TheVariants.{Up, Handed, Subscribe, Unsubscribe, SubAck, UnsubAck, Pong}
 use Rattle.mq_end.specs.declared.reason.CloseReason.{CloseReason}
-use Rattle.mq_end.specs.declared.reason.CloseReason.TheVariants as closes
 use Rattle.mq_end.specs.declared.refusal.PublishRefusal.{PublishRefusal}
-use Rattle.mq_end.specs.declared.refusal.PublishRefusal.TheVariants as refusals
+use Rattle.mq_end.specs.Codes.{close_code, refusal_code}
 use Rattle.mq_world.specs.declared.side.Side.{Side}
 use Rattle.mq_world.specs.declared.side.Side.TheVariants.{Client, Server}
 use Rattle.mq_world.specs.declared.answer.Answer.{Answer}
@@ -18,25 +17,6 @@ use Rattle.mq_world.specs.declared.answer.Opening.{Opening}
 use Rattle.mq_world.specs.declared.answer.Settling.{Settling}
 use Rattle.mq_line.specs.Lines.{escaped, truth}
 use Rattle.mq_schedule.specs.Schedule.{bytes_word, side_word}
-
--- ---- codes
-
-abbrev pub refusal_code : PublishRefusal → List ℕ
-refusal_code refusals.NotConnected = codes "P1"
-refusal_code refusals.NoSession = codes "P2"
-refusal_code refusals.TooLarge = codes "P3"
-refusal_code refusals.Full = codes "P4"
-refusal_code refusals.Memory = codes "P5"
-
-abbrev pub close_code : CloseReason → List ℕ
-close_code (closes.Fault fault) = codes "C1"
-close_code closes.Unexpected = codes "C2"
-close_code (closes.Refused refusal) = codes "C3"
-close_code closes.SessionLost = codes "C4"
-close_code closes.KeepAlive = codes "C5"
-close_code closes.Memory = codes "C6"
-close_code closes.Left = codes "C7"
-close_code closes.Window = codes "C11"
 
 -- ---- one line each: the side, and what comes of it
 

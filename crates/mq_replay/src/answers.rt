@@ -5,7 +5,7 @@ ghost use Rattle.std.specs.List.{flat_map};
 ghost use Rattle.std.specs.Io.KnownBytes.{Appends};
 ghost use Rattle.mq_replay.specs.Printing.{answer_lines, bytes_line, closed_line, delivery_lines, dropped_line, happening_line, idle_line, left_line, lost_line, opening_lines, published_line, refused_line, settling_lines, ticked_line};
 
-use crate::words::{HandedText, IdWord, close_code, refusal_code};
+use crate::words::{HandedText, IdWord};
 use mq_end::{CloseReason, Happening, PublishRefusal};
 use mq_packet::PacketId;
 use mq_schedule::{BytesWord, SideWord};
@@ -25,7 +25,7 @@ fn write_published<W: Write>(
     let side = SideWord(side);
     match outcome {
         Ok(id) => writeln!(output, "{side} accepted {}", IdWord(id)),
-        Err(why) => writeln!(output, "{side} refused {}", refusal_code(why)),
+        Err(why) => writeln!(output, "{side} refused {}", why.code()),
     }
 }
 
@@ -70,7 +70,7 @@ fn write_closed<W: Write>(output: &mut W, side: Side, closed: Option<CloseReason
         (Appends (W.contents output.old) (W.contents output.new) (closed_line side closed)) }
 {
     match closed {
-        Some(why) => writeln!(output, "{} closed {}", SideWord(side), close_code(why)),
+        Some(why) => writeln!(output, "{} closed {}", SideWord(side), why.code()),
         None => Ok(()),
     }
 }
@@ -157,7 +157,7 @@ fn write_left<W: Write>(output: &mut W, outcome: Result<(), PublishRefusal>) -> 
     let client = SideWord(Side::Client);
     match outcome {
         Ok(()) => write_closed(output, Side::Client, Some(CloseReason::Left)),
-        Err(why) => writeln!(output, "{client} refused {}", refusal_code(why)),
+        Err(why) => writeln!(output, "{client} refused {}", why.code()),
     }
 }
 
@@ -172,7 +172,7 @@ fn write_ticked<W: Write>(
 {
     match outcome {
         Ok(closed) => write_closed(output, side, closed),
-        Err(why) => writeln!(output, "{} refused {}", SideWord(side), refusal_code(why)),
+        Err(why) => writeln!(output, "{} refused {}", SideWord(side), why.code()),
     }
 }
 

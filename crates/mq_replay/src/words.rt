@@ -1,9 +1,8 @@
 //! Words of lines.
 
-ghost use Rattle.std.specs.Prelude.{◌≡◌, Some};
-ghost use Rattle.mq_replay.specs.Printing.{close_code, handed_text, id_word, refusal_code};
+ghost use Rattle.std.specs.Prelude.{Some};
+ghost use Rattle.mq_replay.specs.Printing.{handed_text, id_word};
 
-use mq_end::{CloseReason, PublishRefusal};
 use mq_line::Escaped;
 use mq_packet::{Message, PacketId};
 use mq_schedule::BytesWord;
@@ -36,34 +35,5 @@ impl fmt::Display for HandedText<'_> {
         let topic = Escaped(self.0.topic.as_str());
         let payload = BytesWord(self.0.payload.as_slice());
         write!(f, "got {qos} {topic} {payload}")
-    }
-}
-
-/// The code of why a message is refused.
-pub(crate) fn refusal_code(refusal: PublishRefusal) -> &'static str
-    ensures { result.now ≡ refusal_code refusal }
-{
-    match refusal {
-        PublishRefusal::NotConnected => "P1",
-        PublishRefusal::NoSession => "P2",
-        PublishRefusal::TooLarge => "P3",
-        PublishRefusal::Full => "P4",
-        PublishRefusal::Memory => "P5",
-    }
-}
-
-/// The code of why a connection is closed.
-pub(crate) fn close_code(reason: CloseReason) -> &'static str
-    ensures { result.now ≡ close_code reason }
-{
-    match reason {
-        CloseReason::Fault(_) => "C1",
-        CloseReason::Unexpected => "C2",
-        CloseReason::Refused(_) => "C3",
-        CloseReason::SessionLost => "C4",
-        CloseReason::KeepAlive => "C5",
-        CloseReason::Memory => "C6",
-        CloseReason::Left => "C7",
-        CloseReason::Window => "C11",
     }
 }

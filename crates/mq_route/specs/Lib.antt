@@ -1,4 +1,4 @@
-pub mod Closes
+pub mod Codes
 pub mod Copies
 pub mod Routed
 pub mod Hub

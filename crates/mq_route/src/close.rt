@@ -1,58 +1,38 @@
 //! Why a broker closes a connection.
 
-ghost use Rattle.std.specs.Prelude.{◌≡◌, Some};
-ghost use Rattle.mq_route.specs.Closes.{close_code, close_text, reason_code};
+ghost use Rattle.std.specs.Prelude.{◌≡◌};
+ghost use Rattle.mq_route.specs.Codes.{hub_close_code};
 
 use mq_end::CloseReason;
-use std::fmt;
+use thiserror::Error;
 
-/// Why a broker closes a connection. It displays as its code, `C1` to `C11`.
-#[derive(Clone, Copy, Debug, PartialEq, Eq)]
+/// Why a broker closes a connection.
+#[derive(Clone, Copy, Debug, PartialEq, Eq, Error)]
 pub enum HubClose {
     /// Its end closes it, or the broker refuses its CONNECT (3.2.2.3).
+    #[error("{0}")]
     Own(CloseReason),
     /// A session that is to get a message has no identifier free for it (2.3.1).
+    #[error("a session that is to get a message has no packet identifier free")]
     TargetFull,
     /// Its client has come on another connection (3.1.4).
+    #[error("the client has come on another connection")]
     TakenOver,
     /// The other side ended it.
+    #[error("the other side ended the connection")]
     PeerEnded,
 }
 
 impl HubClose {
-    /// The number of its code, from 1 to 11.
-    pub fn code(self) -> u8
-        ensures { result ≡ close_code self }
+    /// Its code, `C1` to `C11`.
+    pub fn code(self) -> &'static str
+        ensures { result.now ≡ hub_close_code self }
     {
         match self {
-            HubClose::Own(reason) => code_of(reason),
-            HubClose::TargetFull => 8,
-            HubClose::TakenOver => 9,
-            HubClose::PeerEnded => 10,
+            HubClose::Own(reason) => reason.code(),
+            HubClose::TargetFull => "C8",
+            HubClose::TakenOver => "C9",
+            HubClose::PeerEnded => "C10",
         }
-    }
-}
-
-// The number of the code of an end's reason.
-fn code_of(reason: CloseReason) -> u8
-    ensures { result ≡ reason_code reason }
-{
-    match reason {
-        CloseReason::Fault(_) => 1,
-        CloseReason::Unexpected => 2,
-        CloseReason::Refused(_) => 3,
-        CloseReason::SessionLost => 4,
-        CloseReason::KeepAlive => 5,
-        CloseReason::Memory => 6,
-        CloseReason::Left => 7,
-        CloseReason::Window => 11,
-    }
-}
-
-impl fmt::Display for HubClose {
-    ghost output = { λ why. Some (close_text why) };
-
-    fn fmt<W: fmt::Write>(&self, f: &mut fmt::Formatter<W>) -> fmt::Result {
-        write!(f, "C{}", self.code())
     }
 }

@@ -89,7 +89,7 @@ fn answers_to_subscriptions_are_copied(rt: HostRuntime) -> Result<(), Fail> {
 }
 
 #[test]
-fn reasons_display_as_their_codes(rt: HostRuntime) -> Result<(), Fail> {
+fn reasons_have_codes(rt: HostRuntime) -> Result<(), Fail> {
     let kind = FaultKind::Nul;
     for (reason, code) in [
         (CloseReason::Fault(DecodeFault { kind, place: 0 }), "C1"),
@@ -100,14 +100,13 @@ fn reasons_display_as_their_codes(rt: HostRuntime) -> Result<(), Fail> {
         (CloseReason::Memory, "C6"),
         (CloseReason::Left, "C7"),
     ] {
-        let text = format!(in rt.alloc(); "{reason}")?;
-        assert_eq!(rt; text.as_str(), code);
+        assert_eq!(rt; reason.code(), code);
     }
     Ok(())
 }
 
 #[test]
-fn refusals_display_as_their_codes(rt: HostRuntime) -> Result<(), Fail> {
+fn refusals_have_codes(rt: HostRuntime) -> Result<(), Fail> {
     for (refusal, code) in [
         (PublishRefusal::NotConnected, "P1"),
         (PublishRefusal::NoSession, "P2"),
@@ -115,8 +114,7 @@ fn refusals_display_as_their_codes(rt: HostRuntime) -> Result<(), Fail> {
         (PublishRefusal::Full, "P4"),
         (PublishRefusal::Memory, "P5"),
     ] {
-        let text = format!(in rt.alloc(); "{refusal}")?;
-        assert_eq!(rt; text.as_str(), code);
+        assert_eq!(rt; refusal.code(), code);
     }
     Ok(())
 }
