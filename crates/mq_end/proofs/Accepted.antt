@@ -8,7 +8,7 @@ use Rattle.mq_packet.specs.Spelling.{Spells}
 use Rattle.mq_flow.specs.Sender.{IsFirstFree}
 use Rattle.mq_end.specs.Both.{publishes_at, has_identifier, answered_identifier}
 use Rattle.mq_end.specs.State.{EndState, PutsOut}
-use Rattle.mq_end.specs.Publishing.{Accepts}
+use Rattle.mq_end.specs.Publishing.{Accepts, room_left}
 use Rattle.mq_end.proofs.Replies.{puts_one}
 
 pub accepts_once : (m : Message) (old new : EndState) (b : List ℕ) → m.qos ≡ Q0 → Spells (packets.Publish (record { message = m; delivery = None })) b → new ≡ record old { output = old.output ++ b } → Accepts None m old new
@@ -17,7 +17,7 @@ accepts_once m old new b zero spelled state = record {
   answered = subst (λ (q : Qos). None ≡ answered_identifier q 0) (sym zero) refl;
   first = subst (λ (q : Qos). has_identifier q ≡ true → IsFirstFree old.end.last old.end.book 0) (sym zero) (λ h. absurd cc);
   out = subst (λ (q : Qos). PutsOut (publishes_at q 0 m old.end).out old.output new.output) (sym zero) (puts_one _ b old.output new.output spelled grown);
-  state = subst (λ (q : Qos). new ≡ record old { end = (publishes_at q 0 m old.end).end; output = new.output }) (sym zero)
+  state = subst (λ (q : Qos). new ≡ record old { end = (publishes_at q 0 m old.end).end; output = new.output; room = room_left q old.room }) (sym zero)
       (state ∙ ap (λ (o : List ℕ). record old { output = o }) (sym grown));
 }
   where

@@ -11,3 +11,4 @@ pub mod Accepted
 pub mod Along
 pub mod Onward
 pub mod Measures
+pub mod Rooms

@@ -6,6 +6,7 @@ use Rattle.std.proofs.lemmas.List.{append-nil}
 use Rattle.mq_packet.specs.declared.packet.Packet.{Packet}
 use Rattle.mq_packet.specs.Spelling.{Spells}
 use Rattle.mq_end.specs.State.{Spelled, PutsOut}
+use Rattle.mq_end.specs.Waiting.{Waiting}
 use Rattle.mq_end.proofs.Replies.{puts_then}
 
 -- what is put out behind the bytes of now for those that are left makes it all, behind those of old
@@ -24,6 +25,10 @@ one_more p left rest all old now new e o k = record {
 
 pub at_last : (left all : List Packet) (old now : List ℕ) → left ≡ [] → Onward left all old now → PutsOut all old now
 at_last left all old now e o = subst (PutsOut all old) (append-nil now) (o.whole [] (subst (λ (ps : List Packet). Spelled ps []) (sym e) refl))
+
+-- the bytes of a packet that was put behind others
+pub bytes_behind : (p : Packet) (old new : Waiting) → (b : List ℕ) × Spells p b × (new ≡ record old { bytes = old.bytes ++ b }) → (b : List ℕ) × Spells p b × (new.bytes ≡ old.bytes ++ b)
+bytes_behind p old new h = (h.0, h.1, ap (λ (w : Waiting). w.bytes) h.2)
 
 -- bytes are put behind others
 pub not_grown : (old : List ℕ) → (rest : List ℕ) × (old ≡ old ++ rest)

@@ -5,7 +5,9 @@ pub mod Both
 pub mod Client
 pub mod Server
 pub mod KeepAlive
+pub mod Waiting
 pub mod State
+pub mod Ready
 pub mod Receiving
 pub mod Publishing
 pub mod Resuming

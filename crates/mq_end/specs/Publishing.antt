@@ -1,11 +1,16 @@
 -- What comes of a message that an end accepts (3.3, 4.3).
-use Rattle.std.specs.Prelude.{◌≡◌, ℕ, Bool, true, Option}
+use Rattle.std.specs.Prelude.{◌≡◌, ℕ, ◌-◌, Bool, true, if◌then◌else◌, Option}
+use Rattle.mq_topic.specs.declared.qos.Qos.{Qos}
 use Rattle.mq_packet.specs.declared.message.Message.{Message}
 use Rattle.mq_packet.specs.declared.connect.Connect.{Connect}
 use Rattle.mq_flow.specs.Sender.{IsFirstFree}
 use Rattle.mq_end.specs.declared.config.ClientConfig.{ClientConfig}
 use Rattle.mq_end.specs.Both.{publishes, has_identifier, answered_identifier}
-use Rattle.mq_end.specs.State.{EndState, PutsOut}
+use Rattle.mq_end.specs.State.{EndState, PutsOut, Room}
+
+-- the room of an end that accepted a message of this quality of service: one with an identifier takes a place
+abbrev pub room_left : Qos → Room → Room
+room_left qos r = record r { messages = if has_identifier qos then r.messages - 1 else r.messages }
 
 -- A message is published, and the call answers its identifier, where it has one: the first that is free after the one that was given
 -- last (2.3.1). It goes out at once where the end is up.
@@ -14,7 +19,7 @@ pub record Accepts (answer : Option ℕ) (m : Message) (old new : EndState) : Ty
   pub answered : answer ≡ answered_identifier m.qos id
   pub first : has_identifier m.qos ≡ true → IsFirstFree old.end.last old.end.book id
   pub out : PutsOut (publishes id m old.end).out old.output new.output
-  pub state : new ≡ record old { end = (publishes id m old.end).end; output = new.output }
+  pub state : new ≡ record old { end = (publishes id m old.end).end; output = new.output; room = room_left m.qos old.room }
 
 -- the CONNECT of a client, with clean session or not (3.1)
 abbrev pub connect_of : ClientConfig → Bool → Connect

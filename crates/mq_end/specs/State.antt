@@ -1,5 +1,5 @@
 -- What contracts see of an end: what it sends and receives, and the bytes of its connection.
-use Rattle.std.specs.Prelude.{◌≡◌, ℕ, Bool, true, false, not, ◌&&◌, if◌then◌else◌, List, [], ◌∷◌, ◌++◌}
+use Rattle.std.specs.Prelude.{◌≡◌, ℕ, Bool, true, false, not, ◌&&◌, if◌then◌else◌, ◌-◌, List, [], ◌∷◌, ◌++◌}
 use Rattle.mq_packet.specs.declared.packet.Packet.{Packet}
 use Rattle.mq_packet.specs.Spelling.{Spells}
 use Rattle.mq_decode.specs.Limits.{Bounds}
@@ -10,11 +10,18 @@ use Rattle.mq_end.specs.declared.reason.CloseReason.TheVariants as reasons
 use Rattle.mq_end.specs.End.{End, Reply, closes, is_up}
 use Rattle.mq_end.specs.Server.{level_refused}
 
+-- What an end has room for without more memory, as reserved: so many messages with an identifier (4.3.2, 4.3.3), and so many bytes that
+-- wait to be written, those that wait already counted in.
+pub record Room : Type 0 where
+  pub messages : ℕ
+  pub bytes : ℕ
+
 -- end: what it sends and receives, and how far its connection is.
 -- capacity: the most packet identifiers in use (2.3.1). limit: the bounds on what is read and published (2.2.3).
 -- held: the bytes of the packet that is not whole. output: the bytes that wait to be written.
 -- moment: in milliseconds, at the client that of its CONNECT or of its last PINGREQ, at the server that of the last whole
 --   packet (3.1.2.10).
+-- room: what it has room for.
 pub record EndState : Type 0 where
   pub end : End
   pub capacity : ℕ
@@ -22,6 +29,19 @@ pub record EndState : Type 0 where
   pub held : List ℕ
   pub output : List ℕ
   pub moment : ℕ
+  pub room : Room
+
+-- no room
+abbrev pub no_room : Room
+no_room = record { messages = 0; bytes = 0 }
+
+-- no byte may wait but with more memory: other bytes are put in the place of those that waited
+abbrev pub no_bytes : Room → Room
+no_bytes r = record r { bytes = 0 }
+
+-- so many bytes are written, and the room that they had is gone
+abbrev pub bytes_less : ℕ → Room → Room
+bytes_less count r = record r { bytes = r.bytes - count }
 
 -- bytes that spell packets, one after another (chapter 3)
 abbrev pub Spelled : List Packet → List ℕ → Type 0

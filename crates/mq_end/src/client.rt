@@ -5,7 +5,7 @@ ghost use Rattle.mq_packet.specs.declared.packet.Packet.TheVariants as packets;
 ghost use Rattle.mq_end.specs.End.{blank_end, is_live, over, resumed};
 ghost use Rattle.mq_end.specs.Both.{publish_refusal};
 ghost use Rattle.mq_end.specs.Client.{connects, subscribes, subscribe_refusal, unsubscribes, unsubscribe_refusal, leaves, leave_refusal};
-ghost use Rattle.mq_end.specs.State.{PutsOut};
+ghost use Rattle.mq_end.specs.State.{PutsOut, bytes_less, no_bytes, no_room};
 ghost use Rattle.mq_end.specs.Receiving.{Acts, ClientReceives};
 ghost use Rattle.mq_end.specs.Publishing.{Accepts, connect_of};
 ghost use Rattle.mq_end.specs.KeepAlive.{pings};
@@ -17,6 +17,7 @@ ghost use Rattle.mq_flow.specs.SavedTwo.{saved_form_two};
 
 use crate::config::ClientConfig;
 use crate::link::Link;
+use crate::output::Output;
 use crate::progress::Progress;
 use crate::queue::ByteQueue;
 use crate::reason::CloseReason;
@@ -62,6 +63,7 @@ impl ClientEnd {
         ensures limit { result.link.limit ≡ config.limits }
         ensures output { result.link.output ≡ [] }
         ensures held { result.link.held ≡ [] }
+        ensures room { result.link.room ≡ no_room }
         ensures config { result.config ≡ config }
     {
         let link = Link::new(alloc, config.limits, config.capacity, config.window);
@@ -168,7 +170,7 @@ impl ClientEnd {
     {
         let connect = self.connect_packet(clean)?;
         let packet = Packet::Connect(BoxedConnect::new(self.link.alloc, connect)?);
-        let mut output = ByteQueue::new(self.link.alloc);
+        let mut output = Output::new(self.link.alloc);
         output.append_packet(&packet)?;
         self.link.output = output;
         self.link.begin(clean, self.config.keep_alive, now);
@@ -273,6 +275,7 @@ impl ClientEnd {
         ensures limit { self.new.link.limit ≡ self.old.link.limit }
         ensures capacity { self.new.link.capacity ≡ self.old.link.capacity }
         ensures moment { self.new.link.moment ≡ self.old.link.moment }
+        ensures room { self.new.link.room ≡ self.old.link.room }
         ensures config { self.new.config ≡ self.old.config }
     {
         self.link.drop_connection();
@@ -288,7 +291,12 @@ impl ClientEnd {
     /// So many bytes were written. It takes no memory.
     pub fn take_output(&mut self, count: usize)
         requires { count ≤ length self.old.link.output }
-        ensures { self.new ≡ record self.old { link = record self.old.link { output = drop count self.old.link.output } } }
+        ensures { self.new ≡ record self.old {
+          link = record self.old.link {
+            output = drop count self.old.link.output;
+            room = bytes_less count self.old.link.room;
+          };
+        } }
     {
         self.link.output.take(count);
     }
@@ -296,14 +304,14 @@ impl ClientEnd {
     /// All bytes that wait to be written, which it gives away. It takes no memory.
     pub fn take_all_output(&mut self) -> ByteQueue
         ensures bytes { result ≡ self.old.link.output }
-        ensures left { self.new ≡ record self.old { link = record self.old.link { output = [] } } }
+        ensures left { self.new ≡ record self.old { link = record self.old.link { output = []; room = no_bytes self.old.link.room } } }
     {
         self.link.take_all_output()
     }
 
     /// Exchanges the bytes that wait to be written for others. It takes no memory.
     pub fn swap_output(&mut self, other: &mut ByteQueue)
-        ensures end { self.new ≡ record self.old { link = record self.old.link { output = other.old } } }
+        ensures end { self.new ≡ record self.old { link = record self.old.link { output = other.old; room = no_bytes self.old.link.room } } }
         ensures other { other.new ≡ self.old.link.output }
     {
         self.link.swap_output(other);

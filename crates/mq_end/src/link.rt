@@ -1,12 +1,15 @@
 //! What both ends have: a session, how far the connection is, and the connection's bytes.
 
-ghost use Rattle.std.specs.Prelude.{◌≡◌, ◌<◌, ◌++◌, ◌∷◌, [], List, ℕ, true, false, OnOk, OnErr};
-ghost use Rattle.mq_packet.specs.Spelling.{Spells};
+ghost use Rattle.std.specs.Prelude.{◌≡◌, ◌+◌, ◌<◌, ◌≤◌, ◌^◌, ◌++◌, ◌∷◌, [], List, ℕ, length, true, false, IsOk, OnOk, OnErr};
+ghost use Rattle.mq_packet.specs.Spelling.{Spells, fields};
 ghost use Rattle.mq_flow.specs.Sender.{blank_book, all_sent};
 ghost use Rattle.mq_flow.specs.Receiver.{none_received};
 ghost use Rattle.mq_end.specs.End.{End, blank_end, over, renewed};
+ghost use Rattle.mq_end.specs.Ready.{whole_size};
+ghost use Rattle.mq_end.specs.State.{no_bytes, no_room};
 ghost use Rattle.mq_end.specs.declared.state.State.TheVariants as states;
 
+use crate::output::Output;
 use crate::queue::ByteQueue;
 use crate::reason::CloseReason;
 use crate::state::State;
@@ -26,12 +29,11 @@ pub(crate) struct Link {
     pub(crate) state: State,
     pub(crate) clean: bool,
     pub(crate) keep_alive: u16,
-    pub(crate) capacity: u16,
     pub(crate) window: Option<u16>,
     pub(crate) limits: Limits,
     pub(crate) moment: u64,
     pub(crate) decoder: Decoder,
-    pub(crate) output: ByteQueue,
+    pub(crate) output: Output,
 }
 
 impl Model for Link {
@@ -59,28 +61,28 @@ impl Model for Link {
       capacity = l.session.sender.capacity;
       limit = l.limits;
       held = l.decoder.held;
-      output = l.output;
+      output = l.output.bytes;
       moment = l.moment;
+      room = record { messages = l.session.sender.room; bytes = l.output.room };
     } };
 
-    ghost invariant = { λ l. (0 < l.capacity) × (l.session.sender.capacity ≡ l.capacity)
-        × (l.decoder.limit ≡ l.limits) × (l.decoder.failed ≡ None) };
+    ghost invariant = { λ l. (l.decoder.limit ≡ l.limits) × (l.decoder.failed ≡ None) };
 }
 
 impl Link {
     /// An end without a session and without a connection.
     pub(crate) fn new(alloc: Global, limits: Limits, capacity: u16, window: Option<u16>) -> Link
         requires { 0 < capacity }
-        ensures { result ≡ record { end = blank_end window; capacity = capacity; limit = limits; held = []; output = []; moment = 0 } }
+        ensures { result ≡ record { end = blank_end window; capacity = capacity; limit = limits; held = []; output = []; moment = 0; room = no_room } }
     {
         Link::with_session(alloc, limits, window, Session::new(alloc, capacity), false)
     }
 
-    /// The session is as new, and not known.
+    /// The session is discarded (3.1.2.4): it is as new, but for its room, and not known.
     fn forget(&mut self)
         ensures { self.new ≡ record self.old { end = record self.old.end { book = blank_book; received = none_received; last = 0; known = false } } }
     {
-        self.session = Session::new(self.alloc, self.capacity);
+        self.session.discard();
         self.known = false;
     }
 
@@ -153,22 +155,26 @@ impl Link {
     /// All bytes that wait to be written, which it gives away.
     pub(crate) fn take_all_output(&mut self) -> ByteQueue
         ensures bytes { result ≡ self.old.output }
-        ensures left { self.new ≡ record self.old { output = [] } }
+        ensures left { self.new ≡ record self.old { output = []; room = no_bytes self.old.room } }
     {
-        mem::replace(&mut self.output, ByteQueue::new(self.alloc))
+        let output = mem::replace(&mut self.output, Output::new(self.alloc));
+        ByteQueue { output }
     }
 
-    /// Exchanges the bytes that wait to be written for others.
+    /// Exchanges the bytes that wait to be written for others, behind which there is no room.
     pub(crate) fn swap_output(&mut self, other: &mut ByteQueue)
-        ensures end { self.new ≡ record self.old { output = other.old } }
+        ensures end { self.new ≡ record self.old { output = other.old; room = no_bytes self.old.room } }
         ensures other { other.new ≡ self.old.output }
     {
-        mem::swap(&mut self.output, other);
+        mem::swap(&mut self.output, &mut other.output);
+        self.output.forget_room();
     }
 
-    /// A packet is put out. Errs where memory runs out, and then nothing changes.
+    /// A packet is put out. Errs where memory runs out, which it doesn't within the room, and then nothing changes.
     pub(crate) fn write(&mut self, packet: &Packet) -> Result<(), AllocError>
         ensures ok { OnOk result ((b : List ℕ) × Spells packet.now b × (self.new ≡ record self.old { output = self.old.output ++ b })) }
+        ensures within { length (fields packet.now) < 2 ^ 28
+            → length self.old.output + whole_size (length (fields packet.now)) ≤ self.old.room.bytes → IsOk result }
         ensures err { OnErr result (self.new ≡ self.old) }
     {
         self.output.append_packet(packet)

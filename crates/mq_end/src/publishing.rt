@@ -1,12 +1,13 @@
 //! Messages that an end's user publishes (3.3, 4.3).
 
-ghost use Rattle.std.specs.Prelude.{◌≡◌, ◌≤◌, ℕ, true, false, nat_lt, IfOk, IfErr, IfSome, IfNone, OnOk, OnErr, Err, None, Some};
+ghost use Rattle.std.specs.Prelude.{◌≡◌, ◌+◌, ◌<◌, ◌≤◌, ◌^◌, ℕ, List, [], ◌∷◌, length, true, false, nat_lt, IsOk, IfOk, IfErr, IfSome, IfNone, OnOk, OnErr, Err, None, Some};
 ghost use Rattle.mq_topic.specs.declared.qos.Qos.TheVariants.{Q0};
 ghost use Rattle.mq_flow.specs.Sender.{is_full};
 ghost use Rattle.mq_end.specs.Both.{publish_refusal, has_identifier, publishes};
 ghost use Rattle.mq_end.specs.Sizes.{publish_size};
 ghost use Rattle.mq_end.specs.State.{PutsOut};
 ghost use Rattle.mq_end.specs.Publishing.{Accepts};
+ghost use Rattle.mq_end.specs.Ready.{HasRoom, size_at_once, whole_size};
 
 use crate::link::Link;
 use crate::refusal::PublishRefusal;
@@ -28,7 +29,8 @@ pub(crate) fn publish_size(message: &Message) -> usize
 impl Link {
     /// Why a message is refused, memory aside.
     pub(crate) fn publish_refusal(&self, message: &Message) -> Option<PublishRefusal>
-        ensures { result ≡ publish_refusal self.now.limit.most self.now.capacity message.now self.now.end }
+        ensures refused { result ≡ publish_refusal self.now.limit.most self.now.capacity message.now self.now.end }
+        ensures most { result ≡ None → self.now.limit.most < 2 ^ 28 }
     {
         let kept = message.qos != Qos::Q0;
         if !kept && self.state != State::Up {
@@ -48,6 +50,8 @@ impl Link {
         requires { message.now.qos ≡ Q0 → ⊥ }
         ensures ok { OnOk result (PutsOut (publishes id message.now self.old.end).out self.old.output self.new.output) }
         ensures state { self.new ≡ record self.old { output = self.new.output } }
+        ensures within { publish_size message.now < 2 ^ 28
+            → length self.old.output + size_at_once self.old.end.state (message.now ∷ []) ≤ self.old.room.bytes → IsOk result }
         ensures err { OnErr result (self.new ≡ self.old) }
     {
         if self.state != State::Up {
@@ -62,6 +66,7 @@ impl Link {
         requires kept { message.qos ≡ Q0 → ⊥ }
         requires room { is_full self.old.capacity self.old.end.book ≡ false }
         ensures ok { IfOk result (λ id. Accepts (Some id) message self.old self.new) }
+        ensures within { publish_size message < 2 ^ 28 → HasRoom (message ∷ []) 0 self.old → IsOk result }
         ensures err { OnErr result (self.new ≡ self.old) }
     {
         let id = self.session.sender.next_id().unwrap();
@@ -81,6 +86,8 @@ impl Link {
     fn send_once(&mut self, message: &Message) -> Result<(), AllocError>
         requires { message.now.qos ≡ Q0 }
         ensures ok { OnOk result (Accepts None message.now self.old self.new) }
+        ensures within { publish_size message.now < 2 ^ 28
+            → length self.old.output + whole_size (publish_size message.now) ≤ self.old.room.bytes → IsOk result }
         ensures err { OnErr result (self.new ≡ self.old) }
     {
         self.output.append_publish(message, None)
@@ -88,8 +95,10 @@ impl Link {
 
     /// Publishes a message that is not refused, and answers its identifier, where it has one.
     fn accept(&mut self, message: Message) -> Result<Option<PacketId>, AllocError>
-        requires { publish_refusal self.old.limit.most self.old.capacity message self.old.end ≡ None }
+        requires accepted { publish_refusal self.old.limit.most self.old.capacity message self.old.end ≡ None }
+        requires most { self.old.limit.most < 2 ^ 28 }
         ensures ok { IfOk result (λ answer. Accepts answer message self.old self.new) }
+        ensures within { HasRoom (message ∷ []) 0 self.old → IsOk result }
         ensures err { OnErr result (self.new ≡ self.old) }
     {
         if message.qos == Qos::Q0 {
@@ -107,6 +116,9 @@ impl Link {
         ensures memory { IfNone (publish_refusal self.old.limit.most self.old.capacity message self.old.end)
             (IfErr result (λ why. why ≡ PublishRefusal.Memory)) }
         ensures ok { IfOk result (λ answer. Accepts answer message self.old self.new) }
+        ensures kept { publish_refusal self.old.limit.most self.old.capacity message self.old.end ≡ None
+            → (rest : List Message) (more : ℕ) → HasRoom (message ∷ rest) more self.old
+            → IsOk result × HasRoom rest more self.new }
         ensures err { OnErr result (self.new ≡ self.old) }
     {
         if let Some(why) = self.publish_refusal(&message) {

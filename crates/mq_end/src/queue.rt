@@ -1,10 +1,11 @@
-//! Bytes that wait to be written.
+//! Bytes that wait.
 
 ghost use Rattle.std.specs.Prelude.{◌≡◌, ℕ, ◌≤◌, ◌==◌, List, [], ◌++◌, length, drop, take, true, OnOk, OnErr};
 ghost use Rattle.mq_packet.specs.Publication.{fits_delivery};
 ghost use Rattle.mq_packet.specs.Spelling.{Spells};
 
-use mq_packet::{Delivery, Message, Packet, encode_into, encode_publish_into};
+use crate::output::Output;
+use mq_packet::{Delivery, Message, Packet};
 use std::alloc::{AllocError, Global};
 use std::marker::Model;
 
@@ -12,19 +13,15 @@ use std::marker::Model;
 /// grows with the bytes and not with what waits. Contracts see them as a list.
 #[derive(Debug, Drop)]
 pub struct ByteQueue {
-    bytes: Vec<u8>,
-    // so many of them are gone
-    gone: usize,
+    pub(crate) output: Output,
 }
 
 impl Model for ByteQueue {
-    ghost use Rattle.std.specs.Prelude.{ℕ, List, ◌≤◌, drop, length};
+    ghost use Rattle.std.specs.Prelude.{ℕ, List};
 
     ghost Value = { List ℕ };
 
-    ghost view = { λ q. drop q.gone q.bytes.items };
-
-    ghost invariant = { λ q. q.gone ≤ length q.bytes.items };
+    ghost view = { λ q. q.output.bytes };
 }
 
 impl ByteQueue {
@@ -33,8 +30,7 @@ impl ByteQueue {
         ensures { result ≡ [] }
     {
         ByteQueue {
-            bytes: Vec::new(alloc),
-            gone: 0,
+            output: Output::new(alloc),
         }
     }
 
@@ -42,15 +38,14 @@ impl ByteQueue {
     pub fn as_slice(&self) -> &[u8]
         ensures { result.now ≡ self.now }
     {
-        let (_, rest) = self.bytes.split_at(self.gone);
-        rest
+        self.output.as_slice()
     }
 
     /// How many bytes wait.
     pub fn len(&self) -> usize
         ensures { result ≡ length self.now }
     {
-        self.bytes.len() - self.gone
+        self.output.len()
     }
 
     /// Whether none waits.
@@ -65,7 +60,7 @@ impl ByteQueue {
         ensures ok { OnOk result (self.new ≡ self.old ++ bytes.now) }
         ensures err { OnErr result (self.new ≡ self.old) }
     {
-        self.bytes.extend_from_slice(bytes)
+        self.output.append(bytes)
     }
 
     /// Appends the bytes of a packet (chapter 3). Errs where memory runs out or the packet is too large, and then
@@ -75,10 +70,7 @@ impl ByteQueue {
             ((b : List ℕ) × Spells packet.now b × (self.new ≡ self.old ++ b)) }
         ensures err { OnErr result (self.new ≡ self.old) }
     {
-        match encode_into(packet, &mut self.bytes) {
-            Ok(()) => Ok(()),
-            Err(_) => Err(AllocError),
-        }
+        self.output.append_packet(packet)
     }
 
     /// Appends the bytes of the PUBLISH of a message (3.3), which stays where it is. It has a delivery exactly where the quality of
@@ -94,10 +86,7 @@ impl ByteQueue {
             × (self.new ≡ self.old ++ b)) }
         ensures err { OnErr result (self.new ≡ self.old) }
     {
-        match encode_publish_into(message, delivery, &mut self.bytes) {
-            Ok(()) => Ok(()),
-            Err(_) => Err(AllocError),
-        }
+        self.output.append_publish(message, delivery)
     }
 
     /// Takes bytes from the front. It takes no memory.
@@ -105,13 +94,7 @@ impl ByteQueue {
         requires { count ≤ length self.old }
         ensures { self.new ≡ drop count self.old }
     {
-        self.gone += count;
-        let left = self.bytes.len() - self.gone;
-        if left <= self.gone {
-            self.bytes.rotate_left(self.gone);
-            self.bytes.truncate(left);
-            self.gone = 0;
-        }
+        self.output.take(count);
     }
 
     /// Keeps the first bytes alone. It takes no memory.
@@ -119,14 +102,13 @@ impl ByteQueue {
         requires { count ≤ length self.old }
         ensures { self.new ≡ take count self.old }
     {
-        self.bytes.truncate(self.gone + count);
+        self.output.truncate(count);
     }
 
     /// Takes all bytes. It takes no memory.
     pub fn clear(&mut self)
         ensures { self.new ≡ [] }
     {
-        self.bytes.clear();
-        self.gone = 0;
+        self.output.clear();
     }
 }

@@ -1,16 +1,20 @@
 //! What an end's user asks of the other end, and answers it (3.8 to 3.12, 3.14).
 
-ghost use Rattle.std.specs.Prelude.{◌≡◌, ◌∷◌, [], true, false, not, if◌then◌else◌, nat_lt, IfOk, IfErr, IfSome, IfNone, OnOk, OnErr, Err, None, Some};
+ghost use Rattle.std.specs.Prelude.{◌≡◌, ℕ, ◌+◌, List, ◌∷◌, [], length, true, false, not, if◌then◌else◌, nat_lt, IsOk, IfOk, IfErr, IfSome, IfNone, OnOk, OnErr, Err, None, Some};
+ghost use Rattle.mq_packet.specs.declared.message.Message.{Message};
+ghost use Rattle.mq_packet.specs.Spelling.{fields};
 ghost use Rattle.mq_flow.specs.Sender.{is_full, claim, IsFree};
 ghost use Rattle.mq_end.specs.declared.refusal.PublishRefusal.TheVariants as refusals;
 ghost use Rattle.mq_end.specs.End.{is_up, puts_out};
-ghost use Rattle.mq_end.specs.Sizes.{subscribe_size, unsubscribe_size};
+ghost use Rattle.mq_end.specs.Sizes.{subscribe_size, unsubscribe_size, suback_size, unsuback_size};
 ghost use Rattle.mq_end.specs.Client.{subscribe_refusal, unsubscribe_refusal, leave_refusal, subscribes, unsubscribes, leaves};
 ghost use Rattle.mq_end.specs.Server.{answer_refusal, suback_refusal, unsuback_refusal, subacks, unsubacks};
 ghost use Rattle.mq_end.specs.KeepAlive.{is_due, is_late, pings, server_ticks};
+ghost use Rattle.mq_end.specs.Ready.{HasRoom, whole_size};
 ghost use Rattle.mq_end.specs.Receiving.{Acts};
 ghost use Rattle.mq_end.specs.Requests.{Requests, Ticks};
 
+use crate::laws::size_laws;
 use crate::link::Link;
 use crate::reason::CloseReason;
 use crate::refusal::PublishRefusal;
@@ -235,10 +239,13 @@ impl Link {
 
     /// Puts out a packet of this remaining length (2.2.3), which answers the other end.
     fn answer(&mut self, size: usize, packet: &Packet) -> Result<(), PublishRefusal>
+        requires { size ≡ length (fields packet.now) }
         ensures refused { IfSome (answer_refusal self.old.limit.most size self.old.end) (λ why. result ≡ Err why) }
         ensures memory { IfNone (answer_refusal self.old.limit.most size self.old.end)
             (IfErr result (λ why. why ≡ PublishRefusal.Memory)) }
         ensures ok { OnOk result (Acts (puts_out (packet.now ∷ []) self.old.end) self.old self.new) }
+        ensures kept { answer_refusal self.old.limit.most size self.old.end ≡ None → (ms : List Message) (more : ℕ)
+            → HasRoom ms (whole_size size + more) self.old → IsOk result × HasRoom ms more self.new }
         ensures err { OnErr result (self.new ≡ self.old) }
     {
         if self.state != State::Up {
@@ -263,8 +270,11 @@ impl Link {
         ensures memory { IfNone (suback_refusal self.old.limit.most codes self.old.end)
             (IfErr result (λ why. why ≡ PublishRefusal.Memory)) }
         ensures ok { OnOk result (Acts (subacks id codes self.old.end) self.old self.new) }
+        ensures kept { suback_refusal self.old.limit.most codes self.old.end ≡ None → (ms : List Message) (more : ℕ)
+            → HasRoom ms (whole_size (suback_size codes) + more) self.old → IsOk result × HasRoom ms more self.new }
         ensures err { OnErr result (self.new ≡ self.old) }
     {
+        size_laws();
         let size = 2 + codes.as_slice().len();
         self.answer(size, &Packet::SubAck { id, codes })
     }
@@ -275,8 +285,11 @@ impl Link {
         ensures memory { IfNone (unsuback_refusal self.old.limit.most self.old.end)
             (IfErr result (λ why. why ≡ PublishRefusal.Memory)) }
         ensures ok { OnOk result (Acts (unsubacks id self.old.end) self.old self.new) }
+        ensures kept { unsuback_refusal self.old.limit.most self.old.end ≡ None → (ms : List Message) (more : ℕ)
+            → HasRoom ms (whole_size unsuback_size + more) self.old → IsOk result × HasRoom ms more self.new }
         ensures err { OnErr result (self.new ≡ self.old) }
     {
+        size_laws();
         self.answer(2, &Packet::UnsubAck(id))
     }
 }

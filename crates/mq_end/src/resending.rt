@@ -8,7 +8,7 @@ ghost use Rattle.mq_flow.specs.Sender.{resent, publish_packet, same_qos};
 ghost use Rattle.mq_end.specs.State.{PutsOut};
 
 use crate::link::Link;
-use crate::queue::ByteQueue;
+use crate::output::Output;
 use mq_flow::{Entries, Releases, Sender};
 use mq_packet::{Delivery, Packet};
 use std::alloc::AllocError;
@@ -31,9 +31,10 @@ impl Link {
 
 // Appends what is sent again; where memory runs out a beginning of it.
 #[tactic(auto, using(crate::proofs::Onward::grown_twice, crate::proofs::Onward::put_grown))]
-fn put_resent(output: &mut ByteQueue, sender: &Sender) -> Result<(), AllocError>
-    ensures ok { OnOk result (PutsOut (resent sender.now.book) output.old output.new) }
-    ensures err { OnErr result ((rest : List ℕ) × (output.new ≡ output.old ++ rest)) }
+fn put_resent(output: &mut Output, sender: &Sender) -> Result<(), AllocError>
+    ensures ok { OnOk result (PutsOut (resent sender.now.book) output.old.bytes output.new.bytes) }
+    ensures room { output.new.room ≡ output.old.room }
+    ensures err { OnErr result ((rest : List ℕ) × (output.new.bytes ≡ output.old.bytes ++ rest)) }
 {
     put_releases(output, sender.releases())?;
     put_messages(output, sender.entries())
@@ -41,9 +42,10 @@ fn put_resent(output: &mut ByteQueue, sender: &Sender) -> Result<(), AllocError>
 
 // Appends a PUBREL for each identifier; where memory runs out a beginning of them.
 #[tactic(auto, using(crate::proofs::Onward::at_first, crate::proofs::Onward::at_last, crate::proofs::Onward::not_grown))]
-fn put_releases(output: &mut ByteQueue, released: Releases<'_>) -> Result<(), AllocError>
-    ensures ok { OnOk result (PutsOut (map packets.PubRel released.entry) output.old output.new) }
-    ensures err { OnErr result ((rest : List ℕ) × (output.new ≡ output.old ++ rest)) }
+fn put_releases(output: &mut Output, released: Releases<'_>) -> Result<(), AllocError>
+    ensures ok { OnOk result (PutsOut (map packets.PubRel released.entry) output.old.bytes output.new.bytes) }
+    ensures room { output.new.room ≡ output.old.room }
+    ensures err { OnErr result ((rest : List ℕ) × (output.new.bytes ≡ output.old.bytes ++ rest)) }
 {
     for id in released {
         output.append_packet(&Packet::PubRel(id))?;
@@ -53,10 +55,11 @@ fn put_releases(output: &mut ByteQueue, released: Releases<'_>) -> Result<(), Al
 
 // Appends a PUBLISH for each message, with DUP where it was sent before (3.3.1.1); where memory runs out a beginning of them.
 #[tactic(auto, using(crate::proofs::Onward::at_first, crate::proofs::Onward::at_last, crate::proofs::Onward::not_grown))]
-fn put_messages(output: &mut ByteQueue, entries: Entries<'_>) -> Result<(), AllocError>
+fn put_messages(output: &mut Output, entries: Entries<'_>) -> Result<(), AllocError>
     requires { list_any (λ e. same_qos Q0 e.message.qos) entries ≡ false }
-    ensures ok { OnOk result (PutsOut (map (λ e. publish_packet e.id e.sent e.message) entries.entry) output.old output.new) }
-    ensures err { OnErr result ((rest : List ℕ) × (output.new ≡ output.old ++ rest)) }
+    ensures ok { OnOk result (PutsOut (map (λ e. publish_packet e.id e.sent e.message) entries.entry) output.old.bytes output.new.bytes) }
+    ensures room { output.new.room ≡ output.old.room }
+    ensures err { OnErr result ((rest : List ℕ) × (output.new.bytes ≡ output.old.bytes ++ rest)) }
 {
     for entry in entries {
         let delivery = Delivery {

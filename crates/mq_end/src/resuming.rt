@@ -5,8 +5,8 @@ ghost use Rattle.mq_end.specs.End.{resumed};
 ghost use Rattle.mq_end.specs.Resuming.{FitsWithin, NamesAnother};
 
 use crate::link::Link;
+use crate::output::Output;
 use crate::publishing::publish_size;
-use crate::queue::ByteQueue;
 use crate::state::State;
 use mq_decode::{Decoder, Limits};
 use mq_flow::Session;
@@ -48,10 +48,10 @@ impl Link {
           held = [];
           output = [];
           moment = 0;
+          room = record { messages = session.sender.room; bytes = 0 };
         } }
     {
         session.sender.free_claims();
-        let capacity = session.sender.capacity();
         Link {
             alloc,
             session,
@@ -59,12 +59,11 @@ impl Link {
             state: State::Closed,
             clean: false,
             keep_alive: 0,
-            capacity,
             window,
             limits,
             moment: 0,
             decoder: Decoder::new(alloc, limits),
-            output: ByteQueue::new(alloc),
+            output: Output::new(alloc),
         }
     }
 }

@@ -1,10 +1,13 @@
 //! The server end.
 
-ghost use Rattle.std.specs.Prelude.{◌≡◌, ◌<◌, ◌≤◌, ◌++◌, ◌↔◌, ℕ, [], true, false, length, drop, IfOk, IfErr, IfSome, IfNone, IsSome, OnOk, OnErr, Err, None, Some};
+ghost use Rattle.std.specs.Prelude.{◌≡◌, ◌+◌, ◌<◌, ◌≤◌, ◌++◌, ◌↔◌, ℕ, List, [], ◌∷◌, true, false, length, drop, IsOk, IfOk, IfErr, IfSome, IfNone, IsSome, OnOk, OnErr, Err, None, Some};
 ghost use Rattle.mq_end.specs.End.{blank_end, is_live, is_up, over, resumed};
-ghost use Rattle.mq_end.specs.Server.{would_hand, opens, server_publish_refusal, subacks, suback_refusal, unsubacks, unsuback_refusal};
+ghost use Rattle.mq_end.specs.Server.{would_hand, opens, ready_refusal, server_gets, server_publish_refusal, subacks, suback_refusal, unsubacks, unsuback_refusal};
 ghost use Rattle.mq_end.specs.Receiving.{Acts, HearsAt, ServerReceives, TakesOne};
 ghost use Rattle.mq_end.specs.Publishing.{Accepts};
+ghost use Rattle.mq_end.specs.Ready.{HasRoom, packets_size, whole_size};
+ghost use Rattle.mq_end.specs.Sizes.{suback_size, unsuback_size};
+ghost use Rattle.mq_end.specs.State.{bytes_less, no_bytes, no_room};
 ghost use Rattle.mq_end.specs.KeepAlive.{server_ticks};
 ghost use Rattle.mq_end.specs.Laws.{KeepsWindow};
 ghost use Rattle.mq_end.specs.Resuming.{FitsWithin};
@@ -54,6 +57,7 @@ impl ServerEnd {
         ensures limit { result.limit ≡ config.limits }
         ensures output { result.output ≡ [] }
         ensures held { result.held ≡ [] }
+        ensures room { result.room ≡ no_room }
     {
         ServerEnd {
             link: Link::new(alloc, config.limits, config.capacity, config.window),
@@ -72,6 +76,7 @@ impl ServerEnd {
         ensures limit { IfSome result (λ server. server.limit ≡ config.limits) }
         ensures output { IfSome result (λ server. server.output ≡ []) }
         ensures held { IfSome result (λ server. server.held ≡ []) }
+        ensures room { IfSome result (λ server. server.room ≡ record { messages = session.sender.room; bytes = 0 }) }
     {
         if !fits_within(config.limits, &session) {
             return None;
@@ -89,6 +94,7 @@ impl ServerEnd {
         ensures limit { self.new.limit ≡ self.old.limit }
         ensures capacity { self.new.capacity ≡ self.old.capacity }
         ensures moment { self.new.moment ≡ now }
+        ensures room { self.new.room ≡ self.old.room }
     {
         self.link.drop_connection();
         self.link.state = State::Open;
@@ -119,6 +125,8 @@ impl ServerEnd {
         ensures closed { is_live self.old.end.state ≡ false → self.new ≡ self.old }
         ensures nothing { is_live self.old.end.state ≡ false
             → (result.happenings ≡ []) × (result.acknowledged ≡ []) × (result.closed ≡ None) }
+        ensures kept { is_up self.old.end.state ≡ true → (ms : List Message) (more : ℕ)
+            → HasRoom ms (packets_size (server_gets packet self.old.end).out + more) self.old → HasRoom ms more self.new }
     {
         self.link.on_packet(now, packet)
     }
@@ -149,15 +157,33 @@ impl ServerEnd {
         }
     }
 
+    /// Makes room for messages, and for so many bytes that are put out beside their PUBLISHes: then these messages can be
+    /// published, and these bytes be put out, without more memory. Errs with the first refusal that stands for one of them, with
+    /// `Full` where fewer identifiers are free than they need, or where memory runs out; no room that was made before is lost.
+    pub fn ready(&mut self, messages: &[Message], more: usize) -> Result<(), PublishRefusal>
+        ensures refused { IfSome (ready_refusal self.old.limit.most self.old.capacity messages.now self.old.end)
+            (λ why. result ≡ Err why) }
+        ensures memory { IfNone (ready_refusal self.old.limit.most self.old.capacity messages.now self.old.end)
+            (IfErr result (λ why. why ≡ PublishRefusal.Memory)) }
+        ensures room { OnOk result (HasRoom messages.now more self.new) }
+        ensures same { self.new ≡ record self.old { room = self.new.room } }
+        ensures before { (ms : List Message) (n : ℕ) → HasRoom ms n self.old → HasRoom ms n self.new }
+    {
+        self.link.ready(messages, more)
+    }
+
     /// Publishes a message to the client, and answers its packet identifier, where it has one (2.3.1). While the end is
     /// not up, one of quality of service 1 or 2 is kept, and goes out when the end comes up. Errs with the first refusal
-    /// that stands, and then nothing changes.
+    /// that stands, and then nothing changes. Within the room for messages memory doesn't run out.
     pub fn publish(&mut self, message: Message) -> Result<Option<PacketId>, PublishRefusal>
         ensures refused { IfSome (server_publish_refusal self.old.limit.most self.old.capacity message self.old.end)
             (λ why. result ≡ Err why) }
         ensures memory { IfNone (server_publish_refusal self.old.limit.most self.old.capacity message self.old.end)
             (IfErr result (λ why. why ≡ PublishRefusal.Memory)) }
         ensures ok { IfOk result (λ answer. Accepts answer message self.old self.new) }
+        ensures kept { server_publish_refusal self.old.limit.most self.old.capacity message self.old.end ≡ None
+            → (rest : List Message) (more : ℕ) → HasRoom (message ∷ rest) more self.old
+            → IsOk result × HasRoom rest more self.new }
         ensures err { OnErr result (self.new ≡ self.old) }
     {
         if !self.link.known {
@@ -177,6 +203,8 @@ impl ServerEnd {
         ensures memory { IfNone (suback_refusal self.old.limit.most codes self.old.end)
             (IfErr result (λ why. why ≡ PublishRefusal.Memory)) }
         ensures ok { OnOk result (Acts (subacks id codes self.old.end) self.old self.new) }
+        ensures kept { suback_refusal self.old.limit.most codes self.old.end ≡ None → (ms : List Message) (more : ℕ)
+            → HasRoom ms (whole_size (suback_size codes) + more) self.old → IsOk result × HasRoom ms more self.new }
         ensures err { OnErr result (self.new ≡ self.old) }
     {
         self.link.suback(id, codes)
@@ -189,6 +217,8 @@ impl ServerEnd {
         ensures memory { IfNone (unsuback_refusal self.old.limit.most self.old.end)
             (IfErr result (λ why. why ≡ PublishRefusal.Memory)) }
         ensures ok { OnOk result (Acts (unsubacks id self.old.end) self.old self.new) }
+        ensures kept { unsuback_refusal self.old.limit.most self.old.end ≡ None → (ms : List Message) (more : ℕ)
+            → HasRoom ms (whole_size unsuback_size + more) self.old → IsOk result × HasRoom ms more self.new }
         ensures err { OnErr result (self.new ≡ self.old) }
     {
         self.link.unsuback(id)
@@ -211,6 +241,7 @@ impl ServerEnd {
         ensures limit { self.new.limit ≡ self.old.limit }
         ensures capacity { self.new.capacity ≡ self.old.capacity }
         ensures moment { self.new.moment ≡ self.old.moment }
+        ensures room { self.new.room ≡ self.old.room }
     {
         self.link.drop_connection();
     }
@@ -225,7 +256,7 @@ impl ServerEnd {
     /// So many bytes were written. It takes no memory.
     pub fn take_output(&mut self, count: usize)
         requires { count ≤ length self.old.output }
-        ensures { self.new ≡ record self.old { output = drop count self.old.output } }
+        ensures { self.new ≡ record self.old { output = drop count self.old.output; room = bytes_less count self.old.room } }
     {
         self.link.output.take(count);
     }
@@ -233,14 +264,14 @@ impl ServerEnd {
     /// All bytes that wait to be written, which it gives away. It takes no memory.
     pub fn take_all_output(&mut self) -> ByteQueue
         ensures bytes { result ≡ self.old.output }
-        ensures left { self.new ≡ record self.old { output = [] } }
+        ensures left { self.new ≡ record self.old { output = []; room = no_bytes self.old.room } }
     {
         self.link.take_all_output()
     }
 
     /// Exchanges the bytes that wait to be written for others. It takes no memory.
     pub fn swap_output(&mut self, other: &mut ByteQueue)
-        ensures end { self.new ≡ record self.old { output = other.old } }
+        ensures end { self.new ≡ record self.old { output = other.old; room = no_bytes self.old.room } }
         ensures other { other.new ≡ self.old.output }
     {
         self.link.swap_output(other);

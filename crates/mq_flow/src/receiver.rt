@@ -124,6 +124,13 @@ impl Receiver {
         Packet::PubComp(id)
     }
 
+    /// Forgets all identifiers. It takes no memory.
+    pub(crate) fn discard(&mut self)
+        ensures { self.new ≡ none_received }
+    {
+        self.stored.clear();
+    }
+
     /// Whether no identifier is stored. It takes no memory.
     pub fn is_empty(&self) -> bool
         ensures { IsTrue result ↔ (self.now ≡ none_received) }

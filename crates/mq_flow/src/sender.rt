@@ -236,6 +236,15 @@ impl Sender {
         self.claimed.clear();
     }
 
+    /// Discards all that was sent and is not through (3.1.2.4): it is as new, but for its room, which stays. It takes no memory.
+    pub(crate) fn discard(&mut self)
+        ensures { self.new ≡ record self.old { book = blank_book; last = 0 } }
+    {
+        self.free_claims();
+        self.table.clear();
+        self.last = 0;
+    }
+
     /// The identifiers that are in use by SUBSCRIBE and UNSUBSCRIBE, in the order of the claims (2.3.1).
     pub fn pending(&self) -> &[Claimed]
         ensures { result.now ≡ self.now.book.claimed }

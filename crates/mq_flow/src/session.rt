@@ -72,6 +72,16 @@ impl Session {
         self.sender.release_id(id);
     }
 
+    /// Discards the session (3.1.2.4): nothing was sent or received. Its capacity stays, and the room that is reserved. It takes no
+    /// memory.
+    pub fn discard(&mut self)
+        ensures sender { self.new.sender ≡ record self.old.sender { book = blank_book; last = 0 } }
+        ensures received { self.new.receiver ≡ none_received }
+    {
+        self.sender.discard();
+        self.receiver.discard();
+    }
+
     /// The identifiers that are in use by SUBSCRIBE and UNSUBSCRIBE, in the order of the claims (2.3.1).
     pub fn pending(&self) -> &[Claimed]
         ensures { result.now ≡ self.now.sender.book.claimed }

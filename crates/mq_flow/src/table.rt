@@ -204,6 +204,15 @@ impl Table {
         take_out(&mut self.slots, &mut self.places, id);
     }
 
+    /// Keeps nothing any more. It takes no memory.
+    pub(crate) fn clear(&mut self)
+        ensures pairs { self.new.pairs ≡ [] }
+        ensures spare { self.old.spare ≤ self.new.spare }
+    {
+        self.slots.clear();
+        self.places.clear();
+    }
+
     /// Marks each message as sent.
     pub(crate) fn mark_all(&mut self)
         ensures pairs { self.new.pairs ≡ map (λ p. (p.0, gone_out p.1)) self.old.pairs }

@@ -46,7 +46,7 @@ follows_alike law limit capacity m moves w v f a b = record { machine = f.machin
 
 -- a clock shows nothing
 alike_later : (x : WiredSide) (now : ℕ) → Alike x (record x { clock = now })
-alike_later x now = record { end = refl; bytes = λ live. refl; output = refl; bounds = (refl, refl); accepted = refl; handed = refl; freed = refl }
+alike_later x now = record { end = refl; bytes = λ live. refl; output = refl; reserved = refl; bounds = (refl, refl); accepted = refl; handed = refl; freed = refl }
 
 -- the world after the client's clock went on
 abbrev asked : Wired → ℕ → EndState → Wired
@@ -66,6 +66,7 @@ asks law limit capacity w m now false new s up out end held bounds =
       end = end;
       bytes = λ live. ap (λ (b : List ℕ). b ++ w.client.wire) held;
       output = sym s.carries.client.output;
+      reserved = sym s.carries.client.reserved;
       bounds = bounds;
       accepted = refl;
       handed = refl;
@@ -113,6 +114,7 @@ drops_late law limit capacity w m now true closed new s is a =
       end = refl;
       bytes = λ live. ap (λ (c : Option CloseReason). new.held ++ left_on c w.server.wire) is;
       output = quiet;
+      reserved = ap (λ (z : EndState). z.room.bytes) a.state ∙ s.carries.server.reserved;
       bounds = (refl, refl);
       accepted = refl;
       handed = refl;
@@ -127,6 +129,7 @@ drops_late law limit capacity w m now false closed new s is a =
       end = ap (λ (z : EndState). z.end) a.state;
       bytes = λ live. (λ i. held i ++ left_on (is i) w.server.wire);
       output = quiet ∙ sym s.carries.server.output;
+      reserved = ap (λ (z : EndState). z.room.bytes) a.state;
       bounds = (ap (λ (z : EndState). z.limit) a.state, ap (λ (z : EndState). z.capacity) a.state);
       accepted = refl;
       handed = refl;

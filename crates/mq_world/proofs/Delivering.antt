@@ -87,6 +87,7 @@ heard_side limit capacity x h left new happenings acknowledged closed rest r k b
   end = after;
   bytes = λ live. kept_stream limit r.end.state rest (new.held ++ left_on closed left) (bytes live) live;
   output = refl;
+  reserved = refl;
   limits = bounds.0 ∙ k.limits;
   room = bounds.1 ∙ k.room;
   accepted = k.accepted;

@@ -97,8 +97,8 @@ pub blank : (limit : Bounds) (capacity : ℕ) (window : Option ℕ) (c s : EndSt
 blank limit capacity window c s large ce cl cc_ se sl sc = record {
   large = large;
   carries = record {
-    client = record { end = ce; bytes = λ live. cc; output = refl; limits = cl; room = cc_; accepted = refl; handed = refl; freed = refl };
-    server = record { end = se; bytes = λ live. cc; output = refl; limits = sl; room = sc; accepted = refl; handed = refl; freed = refl };
+    client = record { end = ce; bytes = λ live. cc; output = refl; reserved = refl; limits = cl; room = cc_; accepted = refl; handed = refl; freed = refl };
+    server = record { end = se; bytes = λ live. cc; output = refl; reserved = refl; limits = sl; room = sc; accepted = refl; handed = refl; freed = refl };
   };
   reached = (window, [], refl);
 }
@@ -108,6 +108,7 @@ alike_side limit capacity x y h a k = record {
   end = a.end ∙ k.end;
   bytes = λ live. subst (Stream limit h.coming) (sym (a.bytes (ap (λ e. is_live e.state) k.end ∙ live))) (k.bytes live);
   output = a.output ∙ k.output;
+  reserved = a.reserved ∙ k.reserved;
   limits = a.bounds.0 ∙ k.limits;
   room = a.bounds.1 ∙ k.room;
   accepted = a.accepted ∙ k.accepted;
@@ -123,10 +124,10 @@ alike limit capacity w v m k a b = record {
 }
 
 pub alike_itself : (x : WiredSide) → Alike x x
-alike_itself x = record { end = refl; bytes = λ live. refl; output = refl; bounds = (refl, refl); accepted = refl; handed = refl; freed = refl }
+alike_itself x = record { end = refl; bytes = λ live. refl; output = refl; reserved = refl; bounds = (refl, refl); accepted = refl; handed = refl; freed = refl }
 
 unheard_side : (x : WiredSide) (left : List ℕ) → is_live x.state.end.state ≡ false → Alike x (record x { wire = left })
-unheard_side x left off = record { end = refl; bytes = λ live. absurd (true_not (sym live ∙ off)); output = refl; bounds = (refl, refl); accepted = refl; handed = refl; freed = refl }
+unheard_side x left off = record { end = refl; bytes = λ live. absurd (true_not (sym live ∙ off)); output = refl; reserved = refl; bounds = (refl, refl); accepted = refl; handed = refl; freed = refl }
   where
     true_not : true ≡ false → ⊥
     true_not e = cc

@@ -120,6 +120,7 @@ grown limit capacity y h ps c large fit s k = record {
   end = k.end;
   bytes = λ live. subst (Stream limit (joined h.end.state h.coming ps)) (append_assoc y.state.held y.wire c) (joins_stream limit h.end.state h.coming ps (y.state.held ++ y.wire) c large fit s k.bytes live);
   output = k.output;
+  reserved = k.reserved;
   limits = k.limits;
   room = k.room;
   accepted = k.accepted;

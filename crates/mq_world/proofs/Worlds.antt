@@ -54,9 +54,9 @@ same_side x y a t b c d e = λ i. record { state = a i; clock = t i; wire = b i;
 pub same_wired : (v w : Wired) → v.client ≡ w.client → v.server ≡ w.server → v ≡ w
 same_wired v w a b = λ i. record { client = a i; server = b i }
 
--- an end whose output is empty is one whose output is on the wire
-pub written_same : (s : EndState) → s.output ≡ [] → written s ≡ s
-written_same s e = λ i. record s { output = sym e i }
+-- an end whose output is empty, and that has no room for more, is one whose output is on the wire
+pub written_same : (s : EndState) → s.output ≡ [] → s.room.bytes ≡ 0 → written s ≡ s
+written_same s e z = λ i. record s { output = sym e i; room = record s.room { bytes = sym z i } }
 
 -- ---- time
 
@@ -165,8 +165,9 @@ ignored : (limit : Bounds) (capacity : ℕ) (side : Side) (w v : Wired) (m : Mac
 ignored limit capacity side w v m left d new s same none e =
     let x = side_near limit capacity side w m s.carries in
     let quiet : new.output ≡ [] = ap (λ (z : EndState). z.output) same ∙ x.output in
+    let none_kept : new.room.bytes ≡ 0 = ap (λ (z : EndState). z.room.bytes) same ∙ x.reserved in
     let one : hearing left new d.progress.happenings d.progress.acknowledged d.progress.closed (near side w) ≡ record (near side w) { wire = left } = (λ i. record {
-      state = (written_same new quiet ∙ same) i;
+      state = (written_same new quiet none_kept ∙ same) i;
       clock = (near side w).clock;
       wire = left_on (none.2 i) left;
       accepted = (near side w).accepted;
@@ -236,8 +237,8 @@ heard_at law limit capacity side w v m count d piece new out s to bytes whole lo
 
 -- ---- a connection is lost, and opened
 
-pub cut_same : (x : WiredSide) (new : EndState) (wire : List ℕ) → new.output ≡ [] → wire ≡ [] → record x { state = new; wire = wire } ≡ cut_off new x
-cut_same x new wire out gone = λ i. record x { state = sym (written_same new out) i; wire = gone i }
+pub cut_same : (x : WiredSide) (new : EndState) (wire : List ℕ) → new.output ≡ [] → new.room.bytes ≡ 0 → wire ≡ [] → record x { state = new; wire = wire } ≡ cut_off new x
+cut_same x new wire out kept gone = λ i. record x { state = sym (written_same new out kept) i; wire = gone i }
 
 pub on_ok : {A B : Type 0} (r : Result A B) (P : Type 0) → false ≡ is_err r → OnOk r P → P
 on_ok (Ok a) P e h = h
@@ -367,7 +368,7 @@ stands_done law limit capacity events.Open (answers.Settled o) w v m s h = absur
 stands_done law limit capacity (events.Tick side more) (answers.Ticked at (Ok closed)) w v m s h = stands_moved limit capacity w v m (time_moves side (later (near side w).clock more) (near side w).state) s h.1.moves
 stands_done law limit capacity (events.Tick side more) (answers.Ticked at (Err why)) w v m s h =
     let u : Wired = record w { client = record w.client { clock = later w.client.clock more } } in
-    let a : Alike w.client u.client = record { end = refl; bytes = λ live. refl; output = refl; bounds = (refl, refl); accepted = refl; handed = refl; freed = refl } in
+    let a : Alike w.client u.client = record { end = refl; bytes = λ live. refl; output = refl; reserved = refl; bounds = (refl, refl); accepted = refl; handed = refl; freed = refl } in
     (m, subst (λ (z : Wired). Stands limit capacity z m) (sym h.1.world) (law.alike limit capacity w u m s a (alike_itself w.server)), (refl, refl))
 stands_done law limit capacity (events.Tick side more) (answers.Published at id) w v m s h = absurd h
 stands_done law limit capacity (events.Tick side more) (answers.Delivered d) w v m s h = absurd h

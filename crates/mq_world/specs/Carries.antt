@@ -29,12 +29,13 @@ pub record Wired : Type 0 where
   pub client : WiredSide
   pub server : WiredSide
 
--- A side carries that of the machine: the ends and the lists are the same, no byte waits to be written, and where there is a
--- connection, the bytes held followed by those on their way spell the packets of the queue.
+-- A side carries that of the machine: the ends and the lists are the same, no byte waits to be written and no room is kept for one, and
+-- where there is a connection, the bytes held followed by those on their way spell the packets of the queue.
 pub record CarriesSide (limit : Bounds) (capacity : ℕ) (x : WiredSide) (h : Half) : Type 0 where
   pub end : x.state.end ≡ h.end
   pub bytes : is_live h.end.state ≡ true → Stream limit h.coming (x.state.held ++ x.wire)
   pub output : x.state.output ≡ []
+  pub reserved : x.state.room.bytes ≡ 0
   pub limits : x.state.limit ≡ limit
   pub room : x.state.capacity ≡ capacity
   pub accepted : x.accepted ≡ h.accepted

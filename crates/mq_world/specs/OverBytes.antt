@@ -15,7 +15,7 @@ use Rattle.mq_end.specs.Both.{publishes, has_identifier}
 use Rattle.mq_end.specs.Client.{connects, leaves, leave_refusal}
 use Rattle.mq_end.specs.Server.{opens}
 use Rattle.mq_end.specs.Laws.{MayHave}
-use Rattle.mq_end.specs.State.{EndState, PutsOut, client_faulted, server_faulted}
+use Rattle.mq_end.specs.State.{EndState, PutsOut, no_bytes, client_faulted, server_faulted}
 use Rattle.mq_end.specs.Receiving.{Receives, Shows}
 use Rattle.mq_world.specs.declared.side.Side.{Side}
 use Rattle.mq_world.specs.declared.side.Side.TheVariants.{Client, Server}
@@ -56,9 +56,9 @@ facing Server x y = record { client = y; server = x }
 
 -- ---- what becomes of a side
 
--- an end whose output is on the wire
+-- an end whose output is on the wire, with the room that it had
 abbrev pub written : EndState → EndState
-written state = record state { output = [] }
+written state = record state { output = []; room = no_bytes state.room }
 
 -- its bounds stay
 abbrev pub SameBounds : EndState → EndState → Type 0
@@ -130,6 +130,7 @@ pub record Alike (x y : WiredSide) : Type 0 where
   pub end : y.state.end ≡ x.state.end
   pub bytes : is_live x.state.end.state ≡ true → y.state.held ++ y.wire ≡ x.state.held ++ x.wire
   pub output : y.state.output ≡ x.state.output
+  pub reserved : y.state.room.bytes ≡ x.state.room.bytes
   pub bounds : SameBounds x.state y.state
   pub accepted : y.accepted ≡ x.accepted
   pub handed : y.handed ≡ x.handed

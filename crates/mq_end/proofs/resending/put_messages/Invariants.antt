@@ -7,7 +7,8 @@ use Rattle.mq_end.proofs.resending.put_messages.Given as goal
 
 abbrev pub invariant-loop-entry : goal.invariant-loop-entry
 invariant-loop-entry l = record {
-  onward : Onward (map (λ e. publish_packet e.id e.sent e.message) l.entry-iterator) (map (λ e. publish_packet e.id e.sent e.message) l.fn.entries) l.fn.output l.output;
-  grown : (rest : List ℕ) × (l.output ≡ l.fn.output ++ rest);
+  onward : Onward (map (λ e. publish_packet e.id e.sent e.message) l.entry-iterator) (map (λ e. publish_packet e.id e.sent e.message) l.fn.entries) l.fn.output.bytes l.output.bytes;
+  grown : (rest : List ℕ) × (l.output.bytes ≡ l.fn.output.bytes ++ rest);
+  room : l.output.room ≡ l.fn.output.room;
   none : list_any (λ e. same_qos Q0 e.message.qos) l.entry-iterator ≡ false;
 }

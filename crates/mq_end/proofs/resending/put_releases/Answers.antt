@@ -1,14 +1,18 @@
-use Rattle.std.proofs.Common.{◌≡◌, ◌∷◌, map, refl}
+use Rattle.std.proofs.Common.{◌≡◌, ◌∷◌, ◌∙◌, map, refl, ap}
 use Rattle.mq_packet.specs.declared.packet.Packet.TheVariants as packets
-use Rattle.mq_end.proofs.Onward.{one_more, grown_more}
+use Rattle.mq_end.specs.Waiting.{Waiting}
+use Rattle.mq_end.proofs.Onward.{one_more, grown_more, bytes_behind}
 use Rattle.mq_end.proofs.resending.put_releases.Goals as goal
 
 pub loop-id-preserved : goal.loop-id-preserved
 loop-id-preserved c =
     let at = c.loop-id in
+    let wrote = c.in_ok-append_packet.ensures.ok in
+    let behind = bytes_behind (packets.PubRel c.in-Some.id) at.output c.append_packet.new.self wrote in
     let steps : at.id-iterator ≡ c.in-Some.id ∷ c.next.new.self = c.in-Some.ensures.steps in
     record {
-      onward = one_more (packets.PubRel c.in-Some.id) (map packets.PubRel at.id-iterator) (map packets.PubRel c.next.new.self) (map packets.PubRel c.args.released) c.args.output.now at.output c.append_packet.new.self
-          (rw steps refl) at.invariant.onward c.in_ok-append_packet.ensures.ok;
-      grown = grown_more (packets.PubRel c.in-Some.id) c.args.output.now at.output c.append_packet.new.self at.invariant.grown c.in_ok-append_packet.ensures.ok;
+      onward = one_more (packets.PubRel c.in-Some.id) (map packets.PubRel at.id-iterator) (map packets.PubRel c.next.new.self) (map packets.PubRel c.args.released) c.args.output.now.bytes at.output.bytes c.append_packet.new.self.bytes
+          (rw steps refl) at.invariant.onward behind;
+      grown = grown_more (packets.PubRel c.in-Some.id) c.args.output.now.bytes at.output.bytes c.append_packet.new.self.bytes at.invariant.grown behind;
+      room = ap (λ (w : Waiting). w.room) wrote.2 ∙ at.invariant.room;
     }

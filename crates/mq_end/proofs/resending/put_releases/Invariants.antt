@@ -5,6 +5,7 @@ use Rattle.mq_end.proofs.resending.put_releases.Given as goal
 
 abbrev pub invariant-loop-id : goal.invariant-loop-id
 invariant-loop-id l = record {
-  onward : Onward (map packets.PubRel l.id-iterator) (map packets.PubRel l.fn.released) l.fn.output l.output;
-  grown : (rest : List ℕ) × (l.output ≡ l.fn.output ++ rest);
+  onward : Onward (map packets.PubRel l.id-iterator) (map packets.PubRel l.fn.released) l.fn.output.bytes l.output.bytes;
+  grown : (rest : List ℕ) × (l.output.bytes ≡ l.fn.output.bytes ++ rest);
+  room : l.output.room ≡ l.fn.output.room;
 }

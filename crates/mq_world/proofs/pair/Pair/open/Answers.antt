@@ -7,7 +7,7 @@ use Rattle.mq_packet.specs.declared.connect.Connect.{Connect}
 use Rattle.mq_packet.specs.declared.packet.Packet.TheVariants as packets
 use Rattle.mq_end.specs.End.{over}
 use Rattle.mq_end.specs.Client.{connects}
-use Rattle.mq_end.specs.State.{PutsOut}
+use Rattle.mq_end.specs.State.{PutsOut, Room}
 use Rattle.mq_world.specs.Pairs.{wired_of}
 use Rattle.mq_world.specs.declared.answer.Opening.{Opening}
 use Rattle.mq_world.proofs.Worlds.{opened_at, refused_open, cut_same, on_ok, on_err, written_same}
@@ -21,8 +21,8 @@ returns-then-is_err-clause-opened c = λ limit capacity m s.
     let o : Opening = record { client_dropped = c.is_live-client_dropped.result; server_dropped = c.is_live-server_dropped.result; refused = true } in
     let v : Wired = record { client = record w.client { state = a; wire = c.clear.new.self }; server = record w.server { state = b; wire = c.clear-then-is_err.new.self } } in
     let same : c.connect.new.self ≡ c.args.self.now.client = on_err c.connect.result (c.connect.new.self ≡ c.args.self.now.client) c.if-is_err.ensures.value c.connect.ensures.err in
-    let x = cut_same w.client a c.clear.new.self c.dropped.ensures.output c.clear.ensures in
-    let y = cut_same w.server b c.clear-then-is_err.new.self c.dropped-then-is_err.ensures.output c.clear-then-is_err.ensures in
+    let x = cut_same w.client a c.clear.new.self c.dropped.ensures.output (ap (λ (r : Room). r.bytes) c.dropped.ensures.room ∙ ap (λ (z : ClientState). z.link.room.bytes) same ∙ s.carries.client.reserved) c.clear.ensures in
+    let y = cut_same w.server b c.clear-then-is_err.new.self c.dropped-then-is_err.ensures.output (ap (λ (r : Room). r.bytes) c.dropped-then-is_err.ensures.room ∙ s.carries.server.reserved) c.clear-then-is_err.ensures in
     refused_open c.over_bytes.ensures limit capacity w v o a b (c.is_live-client_dropped.ensures ∙ ap is_live c.state.ensures) (c.is_live-server_dropped.ensures ∙ ap is_live c.state-2.ensures) refl
     (c.dropped.ensures.end ∙ ap (λ (z : ClientState). over z.link.end) same)
     (c.dropped.ensures.limit ∙ ap (λ (z : ClientState). z.link.limit) same, c.dropped.ensures.capacity ∙ ap (λ (z : ClientState). z.link.capacity) same)
@@ -47,5 +47,5 @@ returns-clause-opened c = λ limit capacity m s.
     (c.connect.ensures.limit, c.connect.ensures.capacity) c.opened.ensures.end c.opened.ensures.held (c.opened.ensures.limit, c.opened.ensures.capacity) cm c.opened.ensures.moment
     (λ i. record {
       client = record w.client { state = ap (λ (z : ClientState). z.link) c.take_all_output.ensures.left i; wire = c.clear.ensures i };
-      server = record w.server { state = sym (written_same b c.opened.ensures.output) i; wire = c.take_all_output.ensures.bytes i };
+      server = record w.server { state = sym (written_same b c.opened.ensures.output (ap (λ (r : Room). r.bytes) c.opened.ensures.room ∙ s.carries.server.reserved)) i; wire = c.take_all_output.ensures.bytes i };
     })
