@@ -1,0 +1,37 @@
+use Rattle.std.proofs.Common.{◌≡◌, ◌∙◌, ◌≤◌, List, length, nat_eq, sym, ap, subst, arith}
+use Rattle.std.specs.HashMap.{get}
+use Rattle.std.specs.Str.{bytes_eq}
+use Rattle.mq_hub.specs.declared.session.Tenant.{Tenant}
+use Rattle.mq_hub.specs.Sessions.{SessionTable, AreSessions}
+use Rattle.mq_hub.proofs.Tenants.{absent, kept_without, shorter}
+use Rattle.mq_hub.proofs.sessions.Sessions.remove.Goals as goal
+
+pub invariant_of-self : goal.invariant_of-self
+invariant_of-self c =
+    let ts = c.self.inside.tenants.items in
+    subst (λ (rs : List Tenant). AreSessions rs (get bytes_eq c.self.inside.keys))
+    (sym (c.take_at.ensures.tenants ∙ absent c.args.key ts (sym c.take_at.ensures.taken ∙ c.in_err-tenant.was))) c.self.invariant
+
+pub returns-in_err-tenant-clause-room : goal.returns-in_err-tenant-clause-room
+returns-in_err-tenant-clause-room c =
+    let room = ap (λ (v : SessionTable). v.room) c.self.view_is in
+    let fewer = shorter c.args.key c.self.inside.tenants.items in
+    let left = ap length c.take_at.ensures.tenants in
+    let capacity = c.take_at.ensures.capacity in
+    omega arith
+
+pub invariant_of-self-2 : goal.invariant_of-self-2
+invariant_of-self-2 c =
+    let ts = c.self.inside.tenants.items in
+    subst (λ (rs : List Tenant). AreSessions rs (get bytes_eq c.drop_key.new.keys)) (sym c.take_at.ensures.tenants)
+    (kept_without c.args.key c.in_ok-tenant.tenant ts (get bytes_eq c.self.inside.keys) (get bytes_eq c.drop_key.new.keys) c.self.invariant
+    (sym c.take_at.ensures.taken ∙ c.in_ok-tenant.was) c.drop_key.ensures.named)
+
+pub returns-clause-room : goal.returns-clause-room
+returns-clause-room c =
+    let room = ap (λ (v : SessionTable). v.room) c.self.view_is in
+    let fewer = shorter c.args.key c.self.inside.tenants.items in
+    let left = ap length c.take_at.ensures.tenants in
+    let capacity = c.take_at.ensures.capacity in
+    let spare = c.drop_key.ensures.spare in
+    omega arith

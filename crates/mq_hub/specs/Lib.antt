@@ -1,0 +1,3 @@
+pub mod Retained
+pub mod Sessions
+pub mod Welcome

@@ -1,0 +1,69 @@
+//! Copies of messages (3.3.1.3, 3.3.5, 3.8.4).
+
+ghost use Rattle.std.specs.Prelude.{◌≡◌, Some, IfOk};
+ghost use Rattle.std.specs.Option.{option_to_list};
+ghost use Rattle.mq_route.specs.Copies.{lesser, copy, copy_by, is_hidden_name, will_message};
+
+use mq_packet::{Message, Will};
+use mq_topic::{Qos, TopicName};
+use std::alloc::AllocError;
+
+/// The lesser of two qualities of service (3.8.4).
+pub(crate) fn lesser(first: Qos, second: Qos) -> Qos
+    ensures { result ≡ lesser first second }
+{
+    match (first, second) {
+        (Qos::Q0, _) | (_, Qos::Q0) => Qos::Q0,
+        (Qos::Q2, Qos::Q2) => Qos::Q2,
+        _ => Qos::Q1,
+    }
+}
+
+/// Whether a topic name begins with `$`: nothing of it is kept or placed (4.7.2).
+pub(crate) fn is_hidden_name(name: &TopicName) -> bool
+    ensures { result ≡ is_hidden_name name.now }
+{
+    name.as_str().as_bytes().first() == Some(&b'$')
+}
+
+/// A copy of a message: with the lesser quality of service (3.8.4), and this RETAIN (3.3.1.3). It shares the bytes of the
+/// topic and of the payload; none is copied.
+pub(crate) fn copy(message: &Message, qos: Qos, retain: bool) -> Result<Message, AllocError>
+    ensures { IfOk result (λ m. m ≡ copy qos retain message.now) }
+{
+    let Message {
+        topic,
+        payload,
+        qos: published,
+        ..
+    } = message;
+    Ok(Message {
+        topic: topic.clone()?,
+        payload: payload.clone()?,
+        qos: lesser(*published, qos),
+        retain,
+    })
+}
+
+/// The copy of a message for a client, by the greatest quality of service of its subscriptions that match (3.3.5); `None`
+/// where the client is not up and the copy has quality of service 0 (4.3.1).
+pub(crate) fn copy_by(
+    message: &Message,
+    qos: Qos,
+    is_up: bool,
+) -> Result<Option<Message>, AllocError>
+    ensures { IfOk result (λ m. option_to_list m ≡ copy_by is_up message.now (Some qos)) }
+{
+    if !is_up && lesser(message.qos, qos) == Qos::Q0 {
+        return Ok(None);
+    }
+    let copied = copy(message, qos, false)?;
+    Ok(Some(copied))
+}
+
+/// The message of a will (3.1.2.5). It shares the bytes; none is copied.
+pub(crate) fn will_message(will: &Will) -> Result<Message, AllocError>
+    ensures { IfOk result (λ m. m ≡ will_message will.now) }
+{
+    will.message()
+}

@@ -1,0 +1,127 @@
+//! The retained messages (3.3.1.3, 3.8.4).
+
+ghost use Rattle.std.specs.Prelude.{◌≡◌, ◌+◌, ◌≤◌, ◌<◌, ◌++◌, ◌∷◌, [], not, filter, if◌then◌else◌, IfOk, OnOk, IsOk};
+ghost use Rattle.std.specs.List.{list_any};
+ghost use Rattle.indexmap.specs.IndexMap.{spare, values};
+ghost use Rattle.mq_route.specs.Copies.{is_of, kept, replaced, retained_for};
+ghost use Rattle.mq_hub.specs.Retained.{AreKept};
+
+use crate::copies::{copy, is_hidden_name};
+use indexmap::IndexMap;
+use mq_packet::Message;
+use mq_topic::{Qos, TopicFilter, TopicName, matches};
+use std::alloc::{AllocError, Global};
+use std::marker::Model;
+
+// Messages by their topic names, in an order.
+type ByName = IndexMap<TopicName, Message>;
+
+/// The retained messages, each found by its topic name at once, the name that came first in front (3.3.1.3).
+#[derive(Drop)]
+pub(crate) struct Retained {
+    by_name: ByName,
+}
+
+impl Model for Retained {
+    ghost use Rattle.indexmap.specs.IndexMap.{spare, values};
+    ghost use Rattle.mq_hub.specs.Retained.{AreKept, RetainedTable};
+
+    ghost Value = { RetainedTable };
+
+    ghost view = { λ t. record { messages = values t.by_name; room = spare t.by_name } };
+
+    ghost invariant = { λ t. AreKept t.by_name.entries };
+}
+
+// Takes the message of a name away.
+fn take_away(by_name: &mut ByName, name: &TopicName)
+    requires { AreKept by_name.old.entries }
+    ensures kept { AreKept by_name.new.entries }
+    ensures messages { values by_name.new ≡ filter (λ m. not (is_of name.now m)) (values by_name.old) }
+    ensures room { spare by_name.old ≤ spare by_name.new }
+{
+    let _ = by_name.shift_remove(name);
+}
+
+// Puts a message in the place of the one of its name, or last.
+fn put(by_name: &mut ByName, name: TopicName, message: Message)
+    requires kept { AreKept by_name.old.entries }
+    requires name { name ≡ message.topic }
+    requires room { 0 < spare by_name.old }
+    ensures kept { AreKept by_name.new.entries }
+    ensures messages { values by_name.new ≡ (if list_any (is_of message.topic) (values by_name.old)
+        then replaced message (values by_name.old) else values by_name.old ++ message ∷ []) }
+    ensures room { spare by_name.old ≤ spare by_name.new + 1 }
+{
+    let _ = by_name.insert(name, message);
+}
+
+// Copies of the messages that a filter matches.
+fn copies_of(
+    alloc: Global,
+    by_name: &ByName,
+    filter: &TopicFilter,
+    qos: Qos,
+) -> Result<Vec<Message>, AllocError>
+    ensures { IfOk result (λ ms. ms.items ≡ retained_for filter.now qos (values by_name.now)) }
+{
+    let mut copies = Vec::new(alloc);
+    for message in by_name.values() {
+        if matches(filter, &message.topic) {
+            copies.push(copy(message, qos, true)?)?;
+        }
+    }
+    Ok(copies)
+}
+
+impl Retained {
+    /// No retained messages. It takes no memory.
+    pub(crate) fn new(alloc: Global) -> Retained
+        ensures { result.messages ≡ [] }
+    {
+        Retained {
+            by_name: IndexMap::new(alloc),
+        }
+    }
+
+    /// Makes room for so many more messages. Errs where memory runs out. The messages stay.
+    pub(crate) fn reserve(&mut self, count: usize) -> Result<(), AllocError>
+        ensures ok { OnOk result (count ≤ self.new.room) }
+        ensures same { self.new.messages ≡ self.old.messages }
+        ensures room { self.old.room ≤ self.new.room }
+    {
+        self.by_name.reserve(count)
+    }
+
+    /// A message is taken, or a will's is published (3.3.1.3): with RETAIN it takes the place of the one of its name, or goes
+    /// last, and an empty one takes that away. A name that begins with `$` is not kept (4.7.2). It takes no memory.
+    #[tactic(auto, unfolding(mq_route::specs::Copies::kept))]
+    pub(crate) fn keep(&mut self, name: TopicName, message: Message)
+        requires name { name ≡ message.topic }
+        requires room { 0 < self.old.room }
+        ensures messages { self.new.messages ≡ kept message self.old.messages }
+        ensures room { self.old.room ≤ self.new.room + 1 }
+    {
+        if !message.retain || is_hidden_name(&name) {
+            return;
+        }
+        if message.payload.as_slice().is_empty() {
+            take_away(&mut self.by_name, &name);
+        } else {
+            put(&mut self.by_name, name, message);
+        }
+    }
+
+    /// What a new subscription is sent (3.3.1.3, 3.8.4): copies of the messages that its filter matches, in their order,
+    /// with RETAIN. Errs where memory runs out.
+    pub(crate) fn matching(
+        &self,
+        alloc: Global,
+        filter: &TopicFilter,
+        qos: Qos,
+    ) -> Result<Vec<Message>, AllocError>
+        ensures { IfOk result (λ ms. ms.items ≡ retained_for filter.now qos self.now.messages) }
+    {
+        copies_of(alloc, &self.by_name, filter, qos)
+    }
+}

@@ -1,0 +1,194 @@
+//! The sessions of a broker (3.1.2.4, 3.1.3.1).
+
+ghost use Rattle.std.specs.Prelude.{◌≡◌, ◌+◌, ◌≤◌, ◌<◌, ℕ, List, [], ◌∷◌, ◌++◌, Some, None, length, nat_lt, vec_capacity, if◌then◌else◌, OnOk, IsSome, IfSome};
+ghost use Rattle.std.specs.HashMap.{get, spare};
+ghost use Rattle.std.specs.List.{prefix_len};
+ghost use Rattle.std.specs.Str.{bytes_eq};
+ghost use Rattle.std.specs.Option.{option_copied};
+ghost use Rattle.mq_route.specs.Hub.{key_of};
+ghost use Rattle.mq_hub.specs.Sessions.{sessions_of, tenant_of, with_server, without_tenant, AreBelow, AreAscending};
+
+use crate::name::ClientName;
+use crate::session::{Seat, Tenant};
+use mq_end::ServerEnd;
+use mq_topic::ClientKey;
+use std::alloc::{AllocError, Global};
+use std::collections::HashMap;
+use std::marker::Model;
+
+// The keys of sessions by client identifier.
+type Keys = HashMap<ClientName, ClientKey>;
+
+/// The sessions of a broker, by ascending key, each found by its key and by its client identifier at once.
+#[derive(Drop)]
+pub(crate) struct Sessions {
+    tenants: Vec<Seat>,
+    keys: Keys,
+}
+
+impl Model for Sessions {
+    ghost use Rattle.std.specs.Prelude.{◌-◌, min, length, nat_eq, vec_capacity};
+    ghost use Rattle.std.specs.Coded.{codes, coded_ℕ};
+    ghost use Rattle.std.specs.Cmp.Lexicographic.{pointwise};
+    ghost use Rattle.std.specs.FinSet as set;
+    ghost use Rattle.std.specs.HashMap.{get, spare};
+    ghost use Rattle.std.specs.Ordering.{nat_cmp};
+    ghost use Rattle.mq_hub.specs.Sessions.{SessionTable, AreSessions};
+
+    ghost Value = { SessionTable };
+
+    ghost coded = { Prim.hlevel (codes, set.code {R = nat_cmp} coded_ℕ) };
+
+    ghost view = { λ t. record { tenants = t.tenants.items; room = min (vec_capacity t.tenants - length t.tenants.items) (spare t.keys) } };
+
+    ghost invariant = { λ t. AreSessions t.tenants.items (get (pointwise nat_eq) t.keys) };
+}
+
+// How many sessions have a key below this one.
+fn place(tenants: &[Seat], key: ClientKey) -> usize
+    requires { AreAscending tenants.now }
+    ensures value { result ≡ prefix_len (λ t. nat_lt t.key key) tenants.now }
+    ensures bound { result ≤ length tenants.now }
+{
+    tenants.partition_point(
+        |seat: &Seat| -> bool
+            ensures { result ≡ nat_lt seat.now.key key }
+        { seat.tenant().key.get() < key.get() },
+    )
+}
+
+// The session of a key.
+fn tenant_at(tenants: &[Seat], key: ClientKey) -> Option<&Tenant>
+    requires { AreAscending tenants.now }
+    ensures { option_copied result ≡ tenant_of key tenants.now }
+{
+    let at = place(tenants, key);
+    if at == tenants.len() {
+        return None;
+    }
+    let tenant = tenants[at].tenant();
+    if tenant.key == key {
+        Some(tenant)
+    } else {
+        None
+    }
+}
+
+// Exchanges the end of the session of a key for another.
+fn swap_at(tenants: &mut [Seat], key: ClientKey, end: &mut ServerEnd)
+    requires ascending { AreAscending tenants.old }
+    requires there { IsSome (tenant_of key tenants.old) }
+    ensures tenants { tenants.new ≡ with_server key end.old tenants.old }
+    ensures end { IfSome (tenant_of key tenants.old) (λ t. end.new ≡ t.end) }
+{
+    let at = place(tenants, key);
+    tenants[at].swap_end(end);
+}
+
+// Takes the session of a key out.
+fn take_at(tenants: &mut Vec<Seat>, key: ClientKey) -> Option<Tenant>
+    requires { AreAscending tenants.old.items }
+    ensures tenants { tenants.new.items ≡ without_tenant key tenants.old.items }
+    ensures taken { result ≡ tenant_of key tenants.old.items }
+    ensures capacity { vec_capacity tenants.new ≡ vec_capacity tenants.old }
+{
+    if tenant_at(tenants.as_slice(), key).is_none() {
+        return None;
+    }
+    let at = place(tenants.as_slice(), key);
+    Some(tenants.remove(at).into_tenant())
+}
+
+// Writes down the key of an identifier, where there is memory for one more.
+fn write_key(keys: &mut Keys, name: ClientName, key: ClientKey)
+    requires { 0 < spare keys.old }
+    ensures named { (n : List ℕ) → get bytes_eq keys.new n ≡ (if bytes_eq name n then Some key else get bytes_eq keys.old n) }
+    ensures spare { spare keys.old ≤ spare keys.new + 1 }
+{
+    let _ = keys.insert(name, key);
+}
+
+// Strikes an identifier out.
+fn drop_key(keys: &mut Keys, name: &ClientName)
+    ensures named { (n : List ℕ) → get bytes_eq keys.new n ≡ (if bytes_eq name.now n then None else get bytes_eq keys.old n) }
+    ensures spare { spare keys.old ≤ spare keys.new }
+{
+    let _ = keys.remove(name);
+}
+
+impl Sessions {
+    /// No sessions. It takes no memory.
+    pub(crate) fn new(alloc: Global) -> Sessions
+        ensures { result.tenants ≡ [] }
+    {
+        Sessions {
+            tenants: Vec::new(alloc),
+            keys: HashMap::new(alloc),
+        }
+    }
+
+    /// How many there are.
+    pub(crate) fn len(&self) -> usize
+        ensures { result ≡ length self.now.tenants }
+    {
+        self.tenants.len()
+    }
+
+    /// Makes room for so many more. Errs where memory runs out. The sessions stay.
+    pub(crate) fn reserve(&mut self, count: usize) -> Result<(), AllocError>
+        ensures ok { OnOk result (count ≤ self.new.room) }
+        ensures same { self.new.tenants ≡ self.old.tenants }
+        ensures room { self.old.room ≤ self.new.room }
+    {
+        self.tenants.reserve(count)?;
+        self.keys.reserve(count)
+    }
+
+    /// The key of the session of a client (3.1.3.1).
+    pub(crate) fn key_of(&self, client: &ClientName) -> Option<ClientKey>
+        ensures { result ≡ key_of client.now (sessions_of self.now.tenants) }
+    {
+        self.keys.get(client).copied()
+    }
+
+    /// The session of a key.
+    pub(crate) fn get(&self, key: ClientKey) -> Option<&Tenant>
+        ensures { option_copied result ≡ tenant_of key self.now.tenants }
+    {
+        tenant_at(self.tenants.as_slice(), key)
+    }
+
+    /// A session begins, with a key above all that there are, of a client that has none (3.1.2.4). It takes no memory.
+    pub(crate) fn insert(&mut self, name: ClientName, seat: Seat)
+        requires name { name ≡ seat.client }
+        requires key { AreBelow seat.key self.old.tenants }
+        requires client { key_of seat.client (sessions_of self.old.tenants) ≡ None }
+        requires room { 0 < self.old.room }
+        ensures tenants { self.new.tenants ≡ self.old.tenants ++ seat ∷ [] }
+        ensures room { self.old.room ≤ self.new.room + 1 }
+    {
+        write_key(&mut self.keys, name, seat.tenant().key);
+        self.tenants.push_reserved(seat);
+    }
+
+    /// Exchanges the end of the session of a key for another. It takes no memory.
+    pub(crate) fn swap_end(&mut self, key: ClientKey, end: &mut ServerEnd)
+        requires { IsSome (tenant_of key self.old.tenants) }
+        ensures tenants { self.new.tenants ≡ with_server key end.old self.old.tenants }
+        ensures end { IfSome (tenant_of key self.old.tenants) (λ t. end.new ≡ t.end) }
+        ensures room { self.new.room ≡ self.old.room }
+    {
+        swap_at(self.tenants.as_mut_slice(), key, end);
+    }
+
+    /// A session ends (3.1.2.4), which it gives away; `None` where there is none of this key. It takes no memory.
+    pub(crate) fn remove(&mut self, key: ClientKey) -> Option<Tenant>
+        ensures tenants { self.new.tenants ≡ without_tenant key self.old.tenants }
+        ensures taken { result ≡ tenant_of key self.old.tenants }
+        ensures room { self.old.room ≤ self.new.room }
+    {
+        let tenant = take_at(&mut self.tenants, key)?;
+        drop_key(&mut self.keys, &tenant.client);
+        Some(tenant)
+    }
+}
