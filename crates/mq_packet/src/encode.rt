@@ -81,6 +81,22 @@ fn length_of(rest: u32) -> ([u8; 4], usize)
     (bytes, size)
 }
 
+// Appends a remaining length, for which there is room (2.2.3).
+#[tactic(auto, using(crate::proofs::Headers::one_byte))]
+fn put_length(out: &mut Vec<u8>, rest: u32)
+    requires most { rest < 2 ^ 28 }
+    requires room { vec_len out.old + length (length_bytes rest) ≤ vec_capacity out.old }
+    ensures items { out.new.items ≡ out.old.items ++ length_bytes rest }
+    ensures capacity { vec_capacity out.old ≤ vec_capacity out.new }
+{
+    if rest < 128 {
+        out.push_reserved(rest as u8);
+        return;
+    }
+    let (bytes, size) = length_of(rest);
+    put_bytes(out, &bytes[..size]);
+}
+
 // Makes room for a packet whose fields take so many bytes, and appends its first byte and the remaining length.
 fn put_header(out: &mut Vec<u8>, first: u8, rest: u32) -> Result<(), EncodeError>
     requires { rest < 2 ^ 28 }
@@ -92,12 +108,13 @@ fn put_header(out: &mut Vec<u8>, first: u8, rest: u32) -> Result<(), EncodeError
     ensures capacity { vec_capacity out.old ≤ vec_capacity out.new }
     ensures err { OnErr result (out.new.items ≡ out.old.items) }
 {
-    let (bytes, size) = length_of(rest);
+    length_laws();
+    let size = varlen_len(rest).unwrap();
     if out.reserve(1 + size + rest as usize).is_err() {
         return Err(EncodeError::Memory);
     }
     out.push_reserved(first);
-    put_bytes(out, &bytes[..size]);
+    put_length(out, rest);
     Ok(())
 }
 
