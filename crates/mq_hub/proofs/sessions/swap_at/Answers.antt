@@ -1,4 +1,4 @@
-use Rattle.std.proofs.Common.{◌≡◌, ◌∙◌, ◌<◌, ℕ, Option, Some, length, get_or, slice_set, sym, ap, subst}
+use Rattle.std.proofs.Common.{◌≡◌, ◌∙◌, ◌<◌, ℕ, Option, length, get_or, slice_set, sym, ap, subst}
 use Rattle.std.specs.Option.{IfSome}
 use Rattle.mq_hub.specs.declared.session.Tenant.{Tenant}
 use Rattle.mq_hub.proofs.Tenants.{place, in_place, swapped, found_within}

@@ -1,4 +1,4 @@
-use Rattle.std.proofs.Common.{◌≡◌, ◌∙◌, ◌<◌, ℕ, List, Some, length, get_or, sym, ap, subst, arith}
+use Rattle.std.proofs.Common.{◌≡◌, ◌∙◌, ◌<◌, ℕ, List, Some, length, get_or, sym, ap, arith}
 use Rattle.std.specs.List.{remove}
 use Rattle.std.specs.Option.{is_some}
 use Rattle.mq_hub.specs.declared.session.Tenant.{Tenant}

@@ -1,4 +1,4 @@
-use Rattle.std.proofs.Common.{◌≡◌, ◌∙◌, ℕ, List, sym, ap, arith}
+use Rattle.std.proofs.Common.{◌∙◌, ℕ, List, sym, ap, arith}
 use Rattle.std.specs.Option.{is_some}
 use Rattle.mq_route.specs.Hub.{key_of}
 use Rattle.mq_hub.specs.Sessions.{sessions_of}
