@@ -1,6 +1,7 @@
 mod readers;
 mod rows;
 
+use crate::compare::expect_told;
 use crate::decode::rows::{CODES, FIELD_FAULTS, PACKETS};
 use crate::view::{expect_view, expect_view_fault, size_in};
 use mq_decode::FaultKind::{
@@ -45,6 +46,45 @@ pub(crate) fn limits(max_packet: u32) -> Result<Limits, Fail> {
     Ok(Limits::new(max_packet).ok_or("no limits")?)
 }
 
+// What the decoder answers to pieces, and how many packets came.
+pub(crate) fn outcome(
+    alloc: Global,
+    limits: Limits,
+    pieces: &[&[u8]],
+) -> (Result<usize, DecodeError>, usize) {
+    let mut out = Vec::new(alloc);
+    let answer = decode_pieces(alloc, limits, pieces, &mut out);
+    (answer, out.len())
+}
+
+// The decoder's answer to the last of the bytes where they come one at a time; nothing where it does not hold all that came before, or
+// a packet comes.
+fn answer_to_last(
+    decoder: &mut Decoder,
+    out: &mut Vec<Packet>,
+    bytes: &[u8],
+) -> Option<Result<(), DecodeError>> {
+    let mut answer = Ok(());
+    for (fed, byte) in bytes.iter().enumerate() {
+        if answer.is_err() || decoder.held() != fed {
+            return None;
+        }
+        answer = decoder.feed(&[*byte], out);
+    }
+    if out.is_empty() { Some(answer) } else { None }
+}
+
+// The same of a new decoder.
+fn answer_byte_by_byte(
+    alloc: Global,
+    limits: Limits,
+    bytes: &[u8],
+) -> Option<Result<(), DecodeError>> {
+    let mut out = Vec::new(alloc);
+    let mut decoder = Decoder::new(alloc, limits);
+    answer_to_last(&mut decoder, &mut out, bytes)
+}
+
 // The fault of these bytes, which the last of them shows: in place, as a whole, between two packets, and
 // one byte at a time.
 fn expect_fault(
@@ -54,32 +94,29 @@ fn expect_fault(
     bytes: &[u8],
     kind: FaultKind,
     place: usize,
-) -> Result<(), Fail> {
+) {
+    let ping = b"\xc0\x00".as_slice();
     expect_view_fault(rt, limits, bytes, DecodeFault { kind, place });
     let fault = DecodeError::Fault(DecodeFault { kind, place });
-    let mut out = Vec::new(alloc);
-    let answer = decode_pieces(alloc, limits, &[bytes], &mut out);
-    assert!(rt;
-        answer == Err(fault) && out.is_empty(),
-        "{bytes:?} {answer:?}"
-    );
+    let answer = outcome(alloc, limits, &[bytes]);
+    assert!(rt; answer == (Err(fault), 0), "{bytes:?} {answer:?}");
+    let answer = outcome(alloc, limits, &[ping, bytes, ping]);
+    assert!(rt; answer == (Err(fault), 1), "{bytes:?} {answer:?}");
+    let answer = answer_byte_by_byte(alloc, limits, bytes);
+    assert!(rt; answer == Some(Err(fault)), "{bytes:?} {answer:?}");
+}
 
-    let ping = b"\xc0\x00".as_slice();
-    let answer = decode_pieces(alloc, limits, &[ping, bytes, ping], &mut out);
-    assert!(rt;
-        answer == Err(fault) && out.len() == 1,
-        "{bytes:?} {answer:?}"
-    );
-
-    let mut decoder = Decoder::new(alloc, limits);
-    for (fed, byte) in bytes.iter().enumerate() {
-        assert!(rt; decoder.held() == fed, "{bytes:?}");
-        let answer = decoder.feed(&[*byte], &mut out);
-        let is_last = fed + 1 == bytes.len();
-        let expected = if is_last { Err(fault) } else { Ok(()) };
-        assert!(rt; answer == expected, "{bytes:?} {answer:?}");
-    }
-    assert!(rt; out.len() == 1, "{bytes:?}");
+// The same of a row.
+fn expect_row_fault(
+    rt: &impl Abort,
+    alloc: Global,
+    limits: Limits,
+    row: &str,
+    kind: FaultKind,
+    place: usize,
+) -> Result<(), Fail> {
+    let bytes = bytes_of(alloc, row)?;
+    expect_fault(rt, alloc, limits, bytes.as_slice(), kind, place);
     Ok(())
 }
 
@@ -87,8 +124,7 @@ fn expect_fault(
 fn fields_have_faults(rt: HostRuntime) -> Result<(), Fail> {
     let greatest = limits(268_435_455)?;
     for (row, kind, place) in FIELD_FAULTS {
-        let bytes = bytes_of(rt.alloc(), row)?;
-        expect_fault(&rt, rt.alloc(), greatest, &bytes, *kind, *place)?;
+        expect_row_fault(&rt, rt.alloc(), greatest, row, *kind, *place)?;
     }
     Ok(())
 }
@@ -116,35 +152,49 @@ fn first_bytes_have_faults(rt: HostRuntime) -> Result<(), Fail> {
     let greatest = limits(268_435_455)?;
     for first in 0u8..=255 {
         if let Some(kind) = first_byte_fault(first) {
-            expect_fault(&rt, rt.alloc(), greatest, &[first], kind, 0)?;
+            expect_fault(&rt, rt.alloc(), greatest, &[first], kind, 0);
         }
     }
     Ok(())
 }
 
+// Lengths that have a fault whatever the type is, within the limit 64.
+static LENGTHS: [(&[u8], FaultKind, usize); 8] = [
+    (&[0x80, 0x80, 0x80, 0x80], LengthTooLong, 4),
+    (&[0xff, 0xff, 0xff, 0xff], LengthTooLong, 4),
+    (&[0x80, 0x00], LengthOverlong, 2),
+    (&[0xff, 0x80, 0x00], LengthOverlong, 3),
+    (&[0x80, 0xff, 0x80, 0x00], LengthOverlong, 4),
+    (&[0x41], OverLimit, 1),
+    (&[0x80, 0x01], OverLimit, 1),
+    (&[0x80, 0x80, 0x80, 0x01], OverLimit, 1),
+];
+
+// The fault of a first byte with a length behind it.
+fn expect_length_fault(
+    rt: &impl Abort,
+    alloc: Global,
+    first: u8,
+    length: &[u8],
+    kind: FaultKind,
+    place: usize,
+) -> Result<(), Fail> {
+    let least = limits(64)?;
+    let mut bytes = vec![in alloc; first]?;
+    bytes.extend_from_slice(length)?;
+    expect_fault(rt, alloc, least, bytes.as_slice(), kind, place);
+    Ok(())
+}
+
 #[test]
 fn lengths_have_faults(rt: HostRuntime) -> Result<(), Fail> {
-    let alloc = rt.alloc();
-    let least = limits(64)?;
     for first in FIRST_BYTES {
-        for (length, kind, place) in [
-            ("80808080", LengthTooLong, 4),
-            ("ffffffff", LengthTooLong, 4),
-            ("8000", LengthOverlong, 2),
-            ("ff8000", LengthOverlong, 3),
-            ("80ff8000", LengthOverlong, 4),
-            ("41", OverLimit, 1),
-            ("8001", OverLimit, 1),
-            ("80808001", OverLimit, 1),
-        ] {
-            let mut bytes = vec![in alloc; first]?;
-            bytes.extend_from_slice(&bytes_of(alloc, length)?)?;
-            expect_fault(&rt, alloc, least, &bytes, kind, place)?;
+        for (length, kind, place) in &LENGTHS {
+            expect_length_fault(&rt, rt.alloc(), first, *length, *kind, *place)?;
         }
     }
-    let large = bytes_of(alloc, "30 ffffff7f")?;
     let limit = limits(268_435_454)?;
-    expect_fault(&rt, alloc, limit, &large, OverLimit, 1)
+    expect_row_fault(&rt, rt.alloc(), limit, "30 ffffff7f", OverLimit, 1)
 }
 
 // The types of a fixed size: one less, one more, the limit, two bytes of length.
@@ -155,30 +205,45 @@ fn sizes_have_faults(rt: HostRuntime) -> Result<(), Fail> {
     let least = limits(64)?;
     for first in [0x20, 0x40, 0x50, 0x62, 0x70, 0xb0] {
         for length in [0x00, 0x01, 0x03, 0x40] {
-            expect_fault(&rt, alloc, least, &[first, length], WrongSize, 1)?;
+            expect_fault(&rt, alloc, least, &[first, length], WrongSize, 1);
         }
-        expect_fault(&rt, alloc, greatest, &[first, 0x80, 0x01], WrongSize, 1)?;
+        expect_fault(&rt, alloc, greatest, &[first, 0x80, 0x01], WrongSize, 1);
     }
     for first in [0xc0, 0xd0, 0xe0] {
         for length in [0x01, 0x02, 0x40] {
-            expect_fault(&rt, alloc, least, &[first, length], WrongSize, 1)?;
+            expect_fault(&rt, alloc, least, &[first, length], WrongSize, 1);
         }
-        expect_fault(&rt, alloc, greatest, &[first, 0x82, 0x01], WrongSize, 1)?;
+        expect_fault(&rt, alloc, greatest, &[first, 0x82, 0x01], WrongSize, 1);
     }
+    Ok(())
+}
+
+// The fault of a row with zeros behind it, up to this size.
+fn expect_padded_fault(
+    rt: &impl Abort,
+    alloc: Global,
+    row: &str,
+    size: usize,
+    kind: FaultKind,
+    place: usize,
+) -> Result<(), Fail> {
+    let greatest = limits(268_435_455)?;
+    let mut bytes = bytes_of(alloc, row)?;
+    bytes.resize(size, 0)?;
+    expect_fault(rt, alloc, greatest, bytes.as_slice(), kind, place);
     Ok(())
 }
 
 // The bytes of the length count in the place of a field: two of them, and three.
 #[test]
 fn places_count_from_the_first_byte(rt: HostRuntime) -> Result<(), Fail> {
-    let alloc = rt.alloc();
-    let greatest = limits(268_435_455)?;
-    let mut bytes = bytes_of(alloc, "30 8001")?;
-    bytes.resize(3 + 128, 0)?;
-    expect_fault(&rt, alloc, greatest, &bytes, NotTopicName, 3)?;
-    let mut bytes = bytes_of(alloc, "82 808001 0001 000161 00")?;
-    bytes.resize(4 + 16_384, 0)?;
-    expect_fault(&rt, alloc, greatest, &bytes, NotTopicFilter, 10)
+    for (row, size, kind, place) in [
+        ("30 8001", 3 + 128, NotTopicName, 3),
+        ("82 808001 0001 000161 00", 4 + 16_384, NotTopicFilter, 10),
+    ] {
+        expect_padded_fault(&rt, rt.alloc(), row, size, kind, place)?;
+    }
+    Ok(())
 }
 
 // The flags of a CONNECT that are allowed (3.1.2.3): the will, the user name and the password, and the
@@ -187,27 +252,33 @@ const WILL_FLAGS: [u8; 7] = [0, 0x04, 0x0c, 0x14, 0x24, 0x2c, 0x34];
 
 const LOGIN_FLAGS: [u8; 3] = [0, 0x80, 0xc0];
 
+// Whether a CONNECT may have these flags.
+fn are_allowed(flags: u8) -> bool {
+    let will = flags & 0x3c;
+    let login = flags & 0xc0;
+    WILL_FLAGS.contains(&will) && LOGIN_FLAGS.contains(&login) && flags & 1 == 0
+}
+
+// A CONNECT that ends with its flags has a fault there, or its keep-alive is missing.
+fn expect_flags(rt: &impl Abort, alloc: Global, limits: Limits, flags: u8) {
+    let bytes = [0x10, 0x08, 0x00, 0x04, b'M', b'Q', b'T', b'T', 0x04, flags];
+    let (kind, place) = if are_allowed(flags) {
+        (PastEnd, 10)
+    } else {
+        (ForbiddenFlags, 9)
+    };
+    expect_fault(rt, alloc, limits, &bytes, kind, place);
+}
+
 #[test]
 fn connect_has_forbidden_flags(rt: HostRuntime) -> Result<(), Fail> {
-    let alloc = rt.alloc();
     let greatest = limits(268_435_455)?;
-    let mut bytes = bytes_of(alloc, "10 08 00044d515454 04 00")?;
-    let mut right = Vec::new(alloc);
+    let mut allowed = 0u32;
     for flags in 0u8..=255 {
-        let will = flags & 0x3c;
-        let login = flags & 0xc0;
-        let none = WILL_FLAGS.contains(&will) && LOGIN_FLAGS.contains(&login);
-        bytes.pop();
-        bytes.push(flags)?;
-        if none && flags & 1 == 0 {
-            // The keep-alive is missing.
-            expect_fault(&rt, alloc, greatest, &bytes, PastEnd, 10)?;
-            right.push(flags)?;
-        } else {
-            expect_fault(&rt, alloc, greatest, &bytes, ForbiddenFlags, 9)?;
-        }
+        expect_flags(&rt, rt.alloc(), greatest, flags);
+        allowed = allowed.wrapping_add(u32::from(are_allowed(flags)));
     }
-    assert_eq!(rt; right.len(), 42);
+    assert_eq!(rt; allowed, 42);
     Ok(())
 }
 
@@ -220,24 +291,42 @@ fn spelled(alloc: Global, packets: &[Packet]) -> Result<Vec<u8>, Fail> {
     Ok(bytes)
 }
 
+// Whether these are the packets as they are written.
+pub(crate) fn are_spelled(alloc: Global, packets: &[Packet], bytes: &[u8]) -> Result<bool, Fail> {
+    let spelled = spelled(alloc, packets)?;
+    Ok(spelled.as_slice() == bytes)
+}
+
+// Whether all of the first piece is held, and one packet comes with the second.
+fn feeds_in_two(
+    decoder: &mut Decoder,
+    out: &mut Vec<Packet>,
+    front: &[u8],
+    rest: &[u8],
+) -> Result<bool, Fail> {
+    decoder.feed(front, out)?;
+    let is_held = decoder.held() == front.len() && out.is_empty();
+    decoder.feed(rest, out)?;
+    Ok(is_held && decoder.held() == 0 && out.len() == 1)
+}
+
+// The same of a new decoder; and whether the packet is spelled as both pieces.
+fn reads_in_two(alloc: Global, limits: Limits, bytes: &[u8], cut: usize) -> Result<bool, Fail> {
+    let (front, rest) = bytes.split_at_checked(cut).ok_or("too few bytes")?;
+    let mut out = Vec::new(alloc);
+    let mut decoder = Decoder::new(alloc, limits);
+    let is_read = feeds_in_two(&mut decoder, &mut out, front, rest)?;
+    Ok(is_read && are_spelled(alloc, out.as_slice(), bytes)?)
+}
+
 // In place it is whole with its last byte. Cut anywhere it is held, and then it comes out.
 fn expect_packet(rt: &impl Abort, alloc: Global, bytes: &[u8], row: &str) -> Result<(), Fail> {
     let least = limits(64)?;
     expect_view(rt, alloc, least, bytes)?;
     for cut in 0..bytes.len() {
-        let (front, rest) = bytes.split_at(cut);
-        let mut out = Vec::new(alloc);
-        let mut decoder = Decoder::new(alloc, least);
-        decoder.feed(front, &mut out)?;
-        assert!(rt; decoder.held() == cut && out.is_empty(), "{row}");
-        assert_eq!(rt;
-            decode_pieces(alloc, least, &[front], &mut out),
-            Ok(cut),
-            "{row}"
-        );
-        decoder.feed(rest, &mut out)?;
-        assert!(rt; decoder.held() == 0 && out.len() == 1, "{row}");
-        assert!(rt; spelled(alloc, &out)?.as_slice() == bytes, "{row}");
+        let (front, _) = bytes.split_at(cut);
+        assert_eq!(rt; outcome(alloc, least, &[front]), (Ok(cut), 0), "{row}");
+        assert!(rt; reads_in_two(alloc, least, bytes, cut)?, "{row} {cut}");
     }
     Ok(())
 }
@@ -261,38 +350,52 @@ fn stream(alloc: Global) -> Result<Vec<u8>, Fail> {
     Ok(stream)
 }
 
-#[test]
-fn streams_are_read_in_pieces(rt: HostRuntime) -> Result<(), Fail> {
-    let alloc = rt.alloc();
-    let least = limits(64)?;
-    let stream = stream(alloc)?;
-    for size in [1, 2, 3, 5, 16, 100, 1000] {
-        let mut out = Vec::new(alloc);
-        let mut decoder = Decoder::new(alloc, least);
-        for piece in stream.chunks(size) {
-            decoder.feed(piece, &mut out)?;
-        }
-        assert!(rt; decoder.held() == 0 && out.len() == PACKETS.len(), "{size}");
-        assert!(rt; spelled(alloc, &out)? == stream, "{size}");
-    }
-    for cut in 0..stream.len() {
-        let (front, rest) = stream.split_at(cut);
-        let mut out = Vec::new(alloc);
-        assert_eq!(rt;
-            decode_pieces(alloc, least, &[front, b"", rest], &mut out),
-            Ok(0),
-            "{cut}"
-        );
-        assert!(rt; spelled(alloc, &out)? == stream, "{cut}");
+// Feeds the stream in pieces of this size.
+fn feed_pieces(
+    decoder: &mut Decoder,
+    out: &mut Vec<Packet>,
+    stream: &[u8],
+    size: usize,
+) -> Result<(), Fail> {
+    for piece in stream.chunks(size.max(1)) {
+        decoder.feed(piece, out)?;
     }
     Ok(())
 }
 
-fn only_packet(alloc: Global, row: &str) -> Result<Packet, Fail> {
-    let bytes = bytes_of(alloc, row)?;
+// Whether all packets are read in pieces of this size.
+fn reads_pieces(alloc: Global, stream: &[u8], size: usize) -> Result<bool, Fail> {
+    let least = limits(64)?;
     let mut out = Vec::new(alloc);
-    decode_pieces(alloc, limits(268_435_455)?, &[&bytes], &mut out)?;
-    Ok(out.pop().ok_or("no packet")?)
+    let mut decoder = Decoder::new(alloc, least);
+    feed_pieces(&mut decoder, &mut out, stream, size)?;
+    let is_read = decoder.held() == 0 && out.len() == PACKETS.len();
+    Ok(is_read && are_spelled(alloc, out.as_slice(), stream)?)
+}
+
+// Whether they are in two pieces, with nothing between them.
+fn reads_cut(alloc: Global, stream: &[u8], cut: usize) -> Result<bool, Fail> {
+    let least = limits(64)?;
+    let (front, rest) = stream.split_at_checked(cut).ok_or("too few bytes")?;
+    let mut out = Vec::new(alloc);
+    let answer = decode_pieces(alloc, least, &[front, b"", rest], &mut out);
+    Ok(answer == Ok(0) && are_spelled(alloc, out.as_slice(), stream)?)
+}
+
+fn expect_stream(rt: &impl Abort, alloc: Global, stream: &[u8]) -> Result<(), Fail> {
+    for size in [1, 2, 3, 5, 16, 100, 1000] {
+        assert!(rt; reads_pieces(alloc, stream, size)?, "{size}");
+    }
+    for cut in 0..stream.len() {
+        assert!(rt; reads_cut(alloc, stream, cut)?, "{cut}");
+    }
+    Ok(())
+}
+
+#[test]
+fn streams_are_read_in_pieces(rt: HostRuntime) -> Result<(), Fail> {
+    let stream = stream(rt.alloc())?;
+    expect_stream(&rt, rt.alloc(), stream.as_slice())
 }
 
 // The values that the fields stand for, as the packet's line has them.
@@ -315,17 +418,29 @@ static LINES: [(&str, &str); 7] = [
     ("a2 05 0002 000161", "UNSUBSCRIBE id=2 a"),
 ];
 
+// The line of the last packet.
+fn line_of_last(alloc: Global, packets: &[Packet]) -> Result<String, Fail> {
+    match packets.last() {
+        Some(packet) => Ok(format!(in alloc; "{}", Line(packet))?),
+        None => Err("no packet".into()),
+    }
+}
+
 // The line of the packet that these bytes are.
 fn line_of(alloc: Global, row: &str) -> Result<String, Fail> {
-    let packet = only_packet(alloc, row)?;
-    Ok(format!(in alloc; "{}", Line(&packet))?)
+    let greatest = limits(268_435_455)?;
+    let bytes = bytes_of(alloc, row)?;
+    let mut out = Vec::new(alloc);
+    match decode_pieces(alloc, greatest, &[bytes.as_slice()], &mut out) {
+        Ok(_) => line_of_last(alloc, out.as_slice()),
+        Err(_) => Err("no packet".into()),
+    }
 }
 
 #[test]
 fn fields_are_read(rt: HostRuntime) -> Result<(), Fail> {
     for (row, line) in &LINES {
-        let read = line_of(rt.alloc(), *row)?;
-        assert!(rt; read.as_str() == *line, "{row}");
+        expect_told(&rt, line_of(rt.alloc(), *row), *line, *row)?;
     }
     Ok(())
 }
@@ -339,7 +454,23 @@ fn limits_are_from_64(rt: HostRuntime) -> Result<(), Fail> {
     Ok(())
 }
 
-// What comes of a piece: the decoder's answer, how many bytes it holds, and how many packets came so far.
+// What comes of bytes: the decoder's answer, how many bytes it holds, and how many packets came so far.
+fn answered(
+    alloc: Global,
+    decoder: &mut Decoder,
+    bytes: &[u8],
+    out: &mut Vec<Packet>,
+) -> Result<String, Fail> {
+    match decoder.feed(bytes, out) {
+        Ok(()) => Ok(format!(in alloc; "{} {}", decoder.held(), out.len())?),
+        Err(DecodeError::Fault(fault)) => {
+            Ok(format!(in alloc; "{} {} {}", fault.kind, fault.place, out.len())?)
+        }
+        Err(DecodeError::Memory) => Err("no memory".into()),
+    }
+}
+
+// The same of a piece, or of a reset.
 fn fed(
     alloc: Global,
     decoder: &mut Decoder,
@@ -351,20 +482,26 @@ fn fed(
         return Ok(format!(in alloc; "{}", decoder.held())?);
     }
     let bytes = bytes_of(alloc, piece)?;
-    match decoder.feed(bytes.as_slice(), out) {
-        Ok(()) => Ok(format!(in alloc; "{} {}", decoder.held(), out.len())?),
-        Err(DecodeError::Fault(fault)) => {
-            Ok(format!(in alloc; "{} {} {}", fault.kind, fault.place, out.len())?)
-        }
-        Err(DecodeError::Memory) => Err("no memory".into()),
+    answered(alloc, decoder, bytes.as_slice(), out)
+}
+
+// This comes of these pieces.
+fn expect_fed(
+    rt: &impl Abort,
+    alloc: Global,
+    decoder: &mut Decoder,
+    out: &mut Vec<Packet>,
+    rows: &[(&str, &str)],
+) -> Result<(), Fail> {
+    for (piece, told) in rows {
+        expect_told(rt, fed(alloc, decoder, *piece, out), *told, *piece)?;
     }
+    Ok(())
 }
 
 #[test]
 fn a_fault_lasts_until_reset(rt: HostRuntime) -> Result<(), Fail> {
-    let mut out = Vec::new(rt.alloc());
-    let mut decoder = Decoder::new(rt.alloc(), limits(268_435_455)?);
-    for (piece, told) in [
+    let rows = [
         // A PUBREL, and half a PINGREQ. Its length is wrong, and so it stays.
         ("62 02 0001 c0", "1 1"),
         ("80 00", "F6 2 1"),
@@ -376,11 +513,29 @@ fn a_fault_lasts_until_reset(rt: HostRuntime) -> Result<(), Fail> {
         // Less than a packet of the greatest size.
         ("30 ff ff ff 7f", "5 2"),
         ("reset", "0"),
-    ] {
-        let came = fed(rt.alloc(), &mut decoder, piece, &mut out)?;
-        assert!(rt; came.as_str() == told, "{piece}");
+    ];
+    let greatest = limits(268_435_455)?;
+    let mut out = Vec::new(rt.alloc());
+    let mut decoder = Decoder::new(rt.alloc(), greatest);
+    expect_fed(&rt, rt.alloc(), &mut decoder, &mut out, &rows)?;
+    let bytes = b"\x62\x02\x00\x01\xc0\x00";
+    assert!(rt; are_spelled(rt.alloc(), out.as_slice(), bytes)?);
+    Ok(())
+}
+
+// Feeds a piece, or resets.
+fn feed(
+    alloc: Global,
+    decoder: &mut Decoder,
+    piece: &str,
+    out: &mut Vec<Packet>,
+) -> Result<(), Fail> {
+    if piece == "reset" {
+        decoder.reset();
+        return Ok(());
     }
-    assert!(rt; spelled(rt.alloc(), &out)? == bytes_of(rt.alloc(), "62020001c000")?);
+    let bytes = bytes_of(alloc, piece)?;
+    decoder.feed(bytes.as_slice(), out)?;
     Ok(())
 }
 
@@ -392,21 +547,28 @@ fn copied(
     piece: &str,
     out: &mut Vec<Packet>,
 ) -> Result<String, Fail> {
-    if piece == "reset" {
-        decoder.reset();
-    } else {
-        let bytes = bytes_of(alloc, piece)?;
-        decoder.feed(bytes.as_slice(), out)?;
-    }
+    feed(alloc, decoder, piece, out)?;
     Ok(format!(in alloc; "{} {} {}", decoder.held(), out.len(), decoder.copied())?)
+}
+
+// This comes of these pieces.
+fn expect_copied(
+    rt: &impl Abort,
+    alloc: Global,
+    decoder: &mut Decoder,
+    out: &mut Vec<Packet>,
+    rows: &[(&str, &str)],
+) -> Result<(), Fail> {
+    for (piece, told) in rows {
+        expect_told(rt, copied(alloc, decoder, *piece, out), *told, *piece)?;
+    }
+    Ok(())
 }
 
 #[test]
 fn only_what_is_left_over_is_copied(rt: HostRuntime) -> Result<(), Fail> {
-    let mut out = Vec::new(rt.alloc());
-    let mut decoder = Decoder::new(rt.alloc(), limits(64)?);
-    assert_eq!(rt; decoder.copied(), 0);
-    for (piece, told) in [
+    let rows = [
+        ("", "0 0 0"),
         ("c000 c000", "0 2 0"),
         // Less than a PUBLISH; its end, a PINGREQ, and half of one.
         ("30 05 0003 61", "5 2 5"),
@@ -418,18 +580,41 @@ fn only_what_is_left_over_is_copied(rt: HostRuntime) -> Result<(), Fail> {
         ("02", "2 6 2"),
         ("00", "3 6 3"),
         ("01 62 02 0001", "0 8 4"),
-    ] {
-        let came = copied(rt.alloc(), &mut decoder, piece, &mut out)?;
-        assert!(rt; came.as_str() == told, "{piece} {came}");
-    }
+    ];
+    let least = limits(64)?;
+    let mut out = Vec::new(rt.alloc());
+    let mut decoder = Decoder::new(rt.alloc(), least);
+    expect_copied(&rt, rt.alloc(), &mut decoder, &mut out, &rows)
+}
+
+// A fault at the front of these bytes, in place and as they are decoded, whatever follows it.
+fn expect_front_fault(
+    rt: &impl Abort,
+    alloc: Global,
+    row: &str,
+    fault: DecodeFault,
+) -> Result<(), Fail> {
+    let greatest = limits(268_435_455)?;
+    let bytes = bytes_of(alloc, row)?;
+    let viewed = size_in(greatest, bytes.as_slice());
+    let decoded = outcome(alloc, greatest, &[bytes.as_slice()]);
+    expect_both(rt, viewed, decoded, row, fault);
     Ok(())
+}
+
+fn expect_both(
+    rt: &impl Abort,
+    viewed: Result<usize, Option<DecodeFault>>,
+    decoded: (Result<usize, DecodeError>, usize),
+    row: &str,
+    fault: DecodeFault,
+) {
+    assert_eq!(rt; viewed, Err(Some(fault)), "{row}");
+    assert_eq!(rt; decoded, (Err(DecodeError::Fault(fault)), 0), "{row}");
 }
 
 #[test]
 fn what_follows_a_fault_does_not_matter(rt: HostRuntime) -> Result<(), Fail> {
-    let alloc = rt.alloc();
-    let greatest = limits(268_435_455)?;
-    let mut out = Vec::new(alloc);
     for (row, kind, place) in [
         ("60020001", WrongFlags, 0),
         ("f000", ForbiddenType, 0),
@@ -438,25 +623,20 @@ fn what_follows_a_fault_does_not_matter(rt: HostRuntime) -> Result<(), Fail> {
         ("c00100", WrongSize, 1),
         ("3080808080", LengthTooLong, 4),
     ] {
-        let bytes = bytes_of(alloc, row)?;
-        let fault = DecodeFault { kind, place };
-        assert_eq!(rt; size_in(greatest, &bytes), Err(Some(fault)), "{row}");
-        let fault = DecodeError::Fault(fault);
-        assert_eq!(rt;
-            decode_pieces(alloc, greatest, &[&bytes], &mut out),
-            Err(fault),
-            "{row}"
-        );
+        expect_front_fault(&rt, rt.alloc(), row, DecodeFault { kind, place })?;
     }
-    assert!(rt; out.is_empty());
     Ok(())
+}
+
+// What a fault displays as.
+fn displayed(alloc: Global, kind: FaultKind) -> Result<String, Fail> {
+    Ok(format!(in alloc; "{kind}")?)
 }
 
 #[test]
 fn faults_display_as_their_codes(rt: HostRuntime) -> Result<(), Fail> {
     for (kind, code) in CODES {
-        let text = format!(in rt.alloc(); "{kind}")?;
-        assert!(rt; text.as_str() == *code, "{code}");
+        expect_told(&rt, displayed(rt.alloc(), *kind), *code, *code)?;
     }
     Ok(())
 }

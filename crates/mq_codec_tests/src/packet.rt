@@ -1,3 +1,4 @@
+use crate::compare::expect_told;
 use bytes::Bytes;
 use mq_packet::{
     Binary, BoxedConnect, ConnAck, Connect, Delivery, EncodeError, Login, Message, NonEmpty,
@@ -21,9 +22,10 @@ fn binary(bytes: &'static [u8]) -> Result<Binary, Fail> {
 }
 
 fn message(alloc: Global, topic: &str, payload: Bytes, qos: Qos) -> Result<Message, Fail> {
+    let payload = Payload::new(payload).ok_or("no payload")?;
     Ok(Message {
         topic: TopicName::parse(alloc, topic)?,
-        payload: Payload::new(payload).ok_or("no payload")?,
+        payload,
         qos,
         retain: false,
     })
@@ -45,54 +47,74 @@ fn list<T: Drop>(items: Vec<T>) -> Result<NonEmpty<T>, Fail> {
     Ok(NonEmpty::from_vec(items))
 }
 
-// The bytes that a packet adds to a byte that is there.
-fn appended(packet: &Packet, mut out: Vec<u8>) -> Result<Vec<u8>, Fail> {
-    encode_into(packet, &mut out)?;
-    Ok(out)
+// Whether these bytes are others behind the byte 0xff.
+fn are_behind_a_byte(out: &[u8], bytes: &[u8]) -> bool {
+    match out.split_first() {
+        Some((0xff, added)) => added == bytes,
+        _ => false,
+    }
 }
 
-// The bytes that a clone of the packet adds to what is there.
-fn spelled(alloc: Global, packet: &Packet) -> Result<Vec<u8>, Fail> {
+// Whether the packet adds these bytes to a byte that is there.
+fn adds(alloc: Global, packet: &Packet, bytes: &[u8]) -> Result<bool, Fail> {
+    let mut out = vec![in alloc; 0xff]?;
+    encode_into(packet, &mut out)?;
+    Ok(are_behind_a_byte(out.as_slice(), bytes))
+}
+
+// Whether the packet has the size of these bytes, and a clone of it is spelled as they are.
+fn is_spelled(alloc: Global, packet: &Packet, bytes: &[u8]) -> Result<bool, Fail> {
+    let size = encoded_len(packet).ok_or("too large")?;
     let copy = packet.clone()?;
-    let out = appended(&copy, vec![in alloc; 0xff]?)?;
-    match out.split_first() {
-        Some((0xff, bytes)) => Ok(Vec::from_slice(alloc, bytes)?),
-        _ => Err("what was there is lost".into()),
-    }
+    Ok(size as usize == bytes.len() && adds(alloc, &copy, bytes)?)
+}
+
+// The same of a packet that a call answers.
+fn is_spelled_as(alloc: Global, packet: Result<Packet, Fail>, bytes: &[u8]) -> Result<bool, Fail> {
+    let packet = packet?;
+    is_spelled(alloc, &packet, bytes)
 }
 
 // The packet is spelled as these bytes.
 fn expect_spelled(
     rt: &impl Abort,
     alloc: Global,
-    packet: Packet,
+    packet: Result<Packet, Fail>,
     bytes: &[u8],
 ) -> Result<(), Fail> {
-    let size = encoded_len(&packet).ok_or("too large")?;
-    assert!(rt; size as usize == bytes.len(), "{bytes:?}");
-    let spelled = spelled(alloc, &packet)?;
-    assert!(rt; spelled.as_slice() == bytes, "{bytes:?}");
+    assert!(rt; is_spelled_as(alloc, packet, bytes)?, "{bytes:?}");
     Ok(())
+}
+
+fn will(alloc: Global) -> Result<Will, Fail> {
+    let message = binary(b"\x00\xff")?;
+    Ok(Will {
+        topic: TopicName::parse(alloc, "w")?,
+        message,
+        qos: Qos::Q1,
+        retain: true,
+    })
+}
+
+fn login(alloc: Global) -> Result<Login, Fail> {
+    let password = Some(binary(b"p")?);
+    Ok(Login {
+        name: Text::new(alloc, "u")?,
+        password,
+    })
 }
 
 // A CONNECT with all that it may have (3.1).
 fn whole_connect(alloc: Global) -> Result<Packet, Fail> {
-    let will = Will {
-        topic: TopicName::parse(alloc, "w")?,
-        message: binary(b"\x00\xff")?,
-        qos: Qos::Q1,
-        retain: true,
-    };
-    let login = Login {
-        name: Text::new(alloc, "u")?,
-        password: Some(binary(b"p")?),
-    };
+    let client_id = Text::new(alloc, "a")?;
+    let will = Some(will(alloc)?);
+    let login = Some(login(alloc)?);
     let connect = Connect {
-        client_id: Text::new(alloc, "a")?,
+        client_id,
         clean_session: true,
         keep_alive: 10,
-        will: Some(will),
-        login: Some(login),
+        will,
+        login,
     };
     Ok(Packet::Connect(BoxedConnect::new(alloc, connect)?))
 }
@@ -114,22 +136,19 @@ fn connect_is_spelled(rt: HostRuntime) -> Result<(), Fail> {
     let alloc = rt.alloc();
     let whole =
         b"\x10\x1a\x00\x04MQTT\x04\xee\x00\x0a\x00\x01a\x00\x01w\x00\x02\x00\xff\x00\x01u\x00\x01p";
-    expect_spelled(&rt, alloc, whole_connect(alloc)?, whole)?;
+    expect_spelled(&rt, alloc, whole_connect(alloc), whole)?;
     let least = b"\x10\x0d\x00\x04MQTT\x04\x02\x00\x3c\x00\x01a";
-    expect_spelled(&rt, alloc, least_connect(alloc)?, least)
+    expect_spelled(&rt, alloc, least_connect(alloc), least)
 }
 
 // A PUBLISH of quality of service 2, which may have come before.
 fn repeated_publish(alloc: Global) -> Result<Publish, Fail> {
+    let (id, dup) = (id(1)?, true);
     let message = message(alloc, "a/b", Bytes::from_static(b"hi"), Qos::Q2)?;
     if message.qos != Qos::Q2 {
         return Err(Fail::new("another quality of service"));
     }
-    let delivery = Delivery {
-        id: id(1)?,
-        dup: true,
-    };
-    Ok(Publish::new(message, Some(delivery)))
+    Ok(Publish::new(message, Some(Delivery { id, dup })))
 }
 
 fn repeated_packet(alloc: Global) -> Result<Packet, Fail> {
@@ -139,62 +158,67 @@ fn repeated_packet(alloc: Global) -> Result<Packet, Fail> {
 #[test]
 fn publish_is_spelled(rt: HostRuntime) -> Result<(), Fail> {
     let alloc = rt.alloc();
-    let once = publish(alloc, "a/b", Bytes::from_static(b"hi"))?;
+    let once = publish(alloc, "a/b", Bytes::from_static(b"hi"));
     expect_spelled(&rt, alloc, once, b"\x30\x07\x00\x03a/bhi")?;
     let bytes = b"\x3c\x09\x00\x03a/b\x00\x01hi";
-    expect_spelled(&rt, alloc, repeated_packet(alloc)?, bytes)
+    expect_spelled(&rt, alloc, repeated_packet(alloc), bytes)
 }
 
-// A PUBLISH of quality of service 0 behind a byte, whose message stays where it is.
-fn once_in_place(alloc: Global) -> Result<Vec<u8>, Fail> {
+// Whether a message that stays where it is adds these bytes to a byte, as a PUBLISH of quality of service 0.
+fn once_in_place(alloc: Global, bytes: &[u8]) -> Result<bool, Fail> {
+    let mut out = vec![in alloc; 0xff]?;
     let message = message(alloc, "a/b", Bytes::from_static(b"hi"), Qos::Q0)?;
     if message.qos != Qos::Q0 {
         return Err(Fail::new("another quality of service"));
     }
-    let mut out = vec![in alloc; 0xff]?;
     encode_publish_into(&message, None, &mut out)?;
-    Ok(out)
+    Ok(are_behind_a_byte(out.as_slice(), bytes))
 }
 
 // The same of quality of service 2, which may have come before.
-fn repeated_in_place(alloc: Global) -> Result<Vec<u8>, Fail> {
+fn repeated_in_place(alloc: Global, bytes: &[u8]) -> Result<bool, Fail> {
+    let (id, dup) = (id(1)?, true);
+    let mut out = vec![in alloc; 0xff]?;
     let message = message(alloc, "a/b", Bytes::from_static(b"hi"), Qos::Q2)?;
     if message.qos != Qos::Q2 {
         return Err(Fail::new("another quality of service"));
     }
-    let delivery = Delivery {
-        id: id(1)?,
-        dup: true,
-    };
-    let mut out = vec![in alloc; 0xff]?;
-    encode_publish_into(&message, Some(delivery), &mut out)?;
-    Ok(out)
+    encode_publish_into(&message, Some(Delivery { id, dup }), &mut out)?;
+    Ok(are_behind_a_byte(out.as_slice(), bytes))
 }
 
 #[test]
 fn a_message_that_stays_is_spelled(rt: HostRuntime) -> Result<(), Fail> {
-    let once = once_in_place(rt.alloc())?;
-    assert!(rt; once.as_slice() == b"\xff\x30\x07\x00\x03a/bhi".as_slice());
-    let repeated = repeated_in_place(rt.alloc())?;
-    assert!(rt; repeated.as_slice() == b"\xff\x3c\x09\x00\x03a/b\x00\x01hi".as_slice());
+    assert!(rt; once_in_place(rt.alloc(), b"\x30\x07\x00\x03a/bhi")?);
+    assert!(rt; repeated_in_place(rt.alloc(), b"\x3c\x09\x00\x03a/b\x00\x01hi")?);
     Ok(())
 }
 
-// Whether a PUBLISH shows its delivery, and its message in each way.
-fn shows_its_parts(alloc: Global) -> Result<bool, Fail> {
-    let publish = repeated_publish(alloc)?;
+// Whether a PUBLISH shows its delivery and its message's topic.
+fn shows_its_parts(publish: &Publish) -> bool {
     let Some(delivery) = publish.delivery() else {
-        return Ok(false);
+        return false;
     };
-    let topic = publish.message().topic.as_str() == "a/b";
-    let message = publish.clone()?.into_message();
-    let payload = message.payload.as_slice() == b"hi".as_slice();
-    Ok(delivery.id.get() == 1 && delivery.dup && topic && payload)
+    let topic = publish.message().topic.as_str();
+    delivery.id.get() == 1 && delivery.dup && topic == "a/b"
+}
+
+// Whether a clone of a PUBLISH gives its message away.
+fn gives_its_message(publish: &Publish) -> Result<bool, Fail> {
+    let copy = publish.clone()?;
+    let message = copy.into_message();
+    Ok(message.payload.as_slice() == b"hi".as_slice())
+}
+
+// Whether a PUBLISH has its parts in each way.
+fn has_its_parts(alloc: Global) -> Result<bool, Fail> {
+    let publish = repeated_publish(alloc)?;
+    Ok(shows_its_parts(&publish) && gives_its_message(&publish)?)
 }
 
 #[test]
 fn publish_shows_its_parts(rt: HostRuntime) -> Result<(), Fail> {
-    assert!(rt; shows_its_parts(rt.alloc())?);
+    assert!(rt; has_its_parts(rt.alloc())?);
     Ok(())
 }
 
@@ -204,40 +228,37 @@ fn request(alloc: Global, filter: &str, qos: Qos) -> Result<Request, Fail> {
 }
 
 fn subscribe(alloc: Global) -> Result<Packet, Fail> {
+    let id = id(1)?;
     let mut requests = Vec::new(alloc);
     requests.push(request(alloc, "a/+", Qos::Q1)?)?;
     requests.push(request(alloc, "a/#", Qos::Q2)?)?;
-    Ok(Packet::Subscribe {
-        id: id(1)?,
-        requests: list(requests)?,
-    })
+    let requests = list(requests)?;
+    Ok(Packet::Subscribe { id, requests })
 }
 
 fn sub_ack(alloc: Global) -> Result<Packet, Fail> {
+    let id = id(1)?;
     let codes = list(vec![in alloc; SubAckCode::Granted(Qos::Q1), SubAckCode::Failure]?)?;
-    Ok(Packet::SubAck {
-        id: id(1)?,
-        codes: list(codes.into_vec())?,
-    })
+    let codes = list(codes.into_vec())?;
+    Ok(Packet::SubAck { id, codes })
 }
 
 fn unsubscribe(alloc: Global) -> Result<Packet, Fail> {
+    let id = id(1)?;
     let mut filters = Vec::new(alloc);
     filters.push(TopicFilter::parse(alloc, "a")?)?;
-    Ok(Packet::Unsubscribe {
-        id: id(1)?,
-        filters: list(filters)?,
-    })
+    let filters = list(filters)?;
+    Ok(Packet::Unsubscribe { id, filters })
 }
 
 #[test]
 fn lists_are_spelled(rt: HostRuntime) -> Result<(), Fail> {
     let alloc = rt.alloc();
     let bytes = b"\x82\x0e\x00\x01\x00\x03a/+\x01\x00\x03a/#\x02";
-    expect_spelled(&rt, alloc, subscribe(alloc)?, bytes)?;
-    expect_spelled(&rt, alloc, sub_ack(alloc)?, b"\x90\x04\x00\x01\x01\x80")?;
+    expect_spelled(&rt, alloc, subscribe(alloc), bytes)?;
+    expect_spelled(&rt, alloc, sub_ack(alloc), b"\x90\x04\x00\x01\x01\x80")?;
     let bytes = b"\xa2\x05\x00\x01\x00\x01a";
-    expect_spelled(&rt, alloc, unsubscribe(alloc)?, bytes)
+    expect_spelled(&rt, alloc, unsubscribe(alloc), bytes)
 }
 
 #[test]
@@ -249,13 +270,13 @@ fn connack_is_spelled(rt: HostRuntime) -> Result<(), Fail> {
     expect_spelled(
         &rt,
         rt.alloc(),
-        Packet::ConnAck(accepted),
+        Ok(Packet::ConnAck(accepted)),
         b"\x20\x02\x01\x00",
     )?;
     expect_spelled(
         &rt,
         rt.alloc(),
-        Packet::ConnAck(refused),
+        Ok(Packet::ConnAck(refused)),
         b"\x20\x02\x00\x05",
     )
 }
@@ -263,18 +284,28 @@ fn connack_is_spelled(rt: HostRuntime) -> Result<(), Fail> {
 #[test]
 fn identifiers_are_spelled(rt: HostRuntime) -> Result<(), Fail> {
     let id = id(1)?;
-    expect_spelled(&rt, rt.alloc(), Packet::PubAck(id), b"\x40\x02\x00\x01")?;
-    expect_spelled(&rt, rt.alloc(), Packet::PubRec(id), b"\x50\x02\x00\x01")?;
-    expect_spelled(&rt, rt.alloc(), Packet::PubRel(id), b"\x62\x02\x00\x01")?;
-    expect_spelled(&rt, rt.alloc(), Packet::PubComp(id), b"\x70\x02\x00\x01")?;
-    expect_spelled(&rt, rt.alloc(), Packet::UnsubAck(id), b"\xb0\x02\x00\x01")
+    expect_spelled(&rt, rt.alloc(), Ok(Packet::PubAck(id)), b"\x40\x02\x00\x01")?;
+    expect_spelled(&rt, rt.alloc(), Ok(Packet::PubRec(id)), b"\x50\x02\x00\x01")?;
+    expect_spelled(&rt, rt.alloc(), Ok(Packet::PubRel(id)), b"\x62\x02\x00\x01")?;
+    expect_spelled(
+        &rt,
+        rt.alloc(),
+        Ok(Packet::PubComp(id)),
+        b"\x70\x02\x00\x01",
+    )?;
+    expect_spelled(
+        &rt,
+        rt.alloc(),
+        Ok(Packet::UnsubAck(id)),
+        b"\xb0\x02\x00\x01",
+    )
 }
 
 #[test]
 fn packets_of_two_bytes_are_spelled(rt: HostRuntime) -> Result<(), Fail> {
-    expect_spelled(&rt, rt.alloc(), Packet::PingReq, b"\xc0\x00")?;
-    expect_spelled(&rt, rt.alloc(), Packet::PingResp, b"\xd0\x00")?;
-    expect_spelled(&rt, rt.alloc(), Packet::Disconnect, b"\xe0\x00")
+    expect_spelled(&rt, rt.alloc(), Ok(Packet::PingReq), b"\xc0\x00")?;
+    expect_spelled(&rt, rt.alloc(), Ok(Packet::PingResp), b"\xd0\x00")?;
+    expect_spelled(&rt, rt.alloc(), Ok(Packet::Disconnect), b"\xe0\x00")
 }
 
 #[test]
@@ -309,11 +340,24 @@ fn codes_and_bounds_are_those_of_the_standard(rt: HostRuntime) -> Result<(), Fai
     }
     assert_eq!(rt; PacketId::new(0), None);
     assert_eq!(rt; id(65_535)?.get(), 65_535);
-    let bytes = Bytes::from_vec(vec![in rt.alloc(); 0; 65_536]?)?;
-    assert!(rt; Binary::new(bytes.clone()?).is_none());
-    let longest = Binary::new(bytes.slice(..65_535)?).ok_or("no binary field")?;
-    assert_eq!(rt; longest.as_slice().len(), 65_535);
+    let (one_more, longest) = binary_sizes(rt.alloc())?;
+    assert_eq!(rt; (one_more, longest), (None, Some(65_535)));
     Ok(())
+}
+
+// How many bytes a binary field of 65,536 has, and one of 65,535; nothing where it is none.
+fn binary_sizes(alloc: Global) -> Result<(Option<usize>, Option<usize>), Fail> {
+    let bytes = Bytes::from_vec(vec![in alloc; 0; 65_536]?)?;
+    let longest = binary_size(bytes.slice(..65_535)?);
+    Ok((binary_size(bytes), longest))
+}
+
+// How many bytes a binary field of these has.
+fn binary_size(bytes: Bytes) -> Option<usize> {
+    match Binary::new(bytes) {
+        Some(binary) => Some(binary.as_slice().len()),
+        None => None,
+    }
 }
 
 // The size of a PUBLISH to `a` with these bytes.
@@ -324,8 +368,8 @@ fn publish_len(alloc: Global, bytes: Bytes) -> Result<Option<u32>, Fail> {
 
 // Whether it is refused as too large in each way, and the vector is as it was.
 fn is_too_large(alloc: Global, bytes: Bytes) -> Result<bool, Fail> {
-    let packet = publish(alloc, "a", bytes)?;
     let mut out = vec![in alloc; 0xff]?;
+    let packet = publish(alloc, "a", bytes)?;
     let encoded = encode_into(&packet, &mut out) == Err(EncodeError::TooLarge);
     let written = write_packet(alloc, &packet, &mut out).is_err();
     Ok(encoded && written && out.as_slice() == [0xff].as_slice())
@@ -339,18 +383,27 @@ fn first(bytes: &Bytes, count: usize) -> Result<Bytes, Fail> {
     Ok(bytes.slice(..count)?)
 }
 
+// The sizes of a PUBLISH with a payload that is as long as it can be, and of one with a byte more.
+fn sizes_of_publish(alloc: Global, bytes: &Bytes) -> Result<[Option<u32>; 2], Fail> {
+    let longest = publish_len(alloc, first(bytes, 268_435_452)?)?;
+    let longer = publish_len(alloc, first(bytes, 268_435_453)?)?;
+    Ok([longest, longer])
+}
+
+// What comes of 268,435,456 bytes: those sizes, whether the second PUBLISH is refused, and whether all of them are a payload.
+fn greatest_in_short(alloc: Global) -> Result<String, Fail> {
+    let bytes = Bytes::from_vec(vec![in alloc; 0; 268_435_456]?)?;
+    let sizes = sizes_of_publish(alloc, &bytes)?;
+    let is_too_large = is_too_large(alloc, first(&bytes, 268_435_453)?)?;
+    let is_payload = Payload::new(bytes).is_some();
+    Ok(format!(in alloc; "{sizes:?} {is_too_large} {is_payload}")?)
+}
+
 // A remaining length of 268,435,455, and one byte more (2.2.3).
 #[test]
 fn a_remaining_length_has_28_bits(rt: HostRuntime) -> Result<(), Fail> {
-    let alloc = rt.alloc();
-    let bytes = Bytes::from_vec(vec![in alloc; 0; 268_435_456]?)?;
-    let longest = publish_len(alloc, first(&bytes, 268_435_452)?)?;
-    assert_eq!(rt; longest, Some(268_435_460));
-    let longer = publish_len(alloc, first(&bytes, 268_435_453)?)?;
-    assert_eq!(rt; longer, None);
-    assert!(rt; is_too_large(alloc, first(&bytes, 268_435_453)?)?);
-    assert!(rt; Payload::new(bytes).is_none());
-    Ok(())
+    let wanted = "[Some(268435460), None] true false";
+    expect_told(&rt, greatest_in_short(rt.alloc()), wanted, "")
 }
 
 // Takes so many bytes, at most three at a time and each time after a signal, and then fails.
@@ -381,32 +434,42 @@ impl Write for Narrow {
     }
 }
 
-// What a writer with so much room has taken of a PUBLISH, and how the writing ended.
-fn written(alloc: Global, room: usize) -> Result<(Vec<u8>, Option<ErrorKind>), Fail> {
-    let packet = publish(alloc, "a/b", Bytes::from_static(b"hi"))?;
+// How the writing of a packet ended.
+fn write_to(
+    alloc: Global,
+    packet: &Packet,
+    writer: &mut Narrow,
+) -> Result<Option<ErrorKind>, Fail> {
+    match write_packet(alloc, packet, writer) {
+        Ok(()) => Ok(None),
+        Err(WriteError::Io(error)) => Ok(Some(error.kind())),
+        Err(error) => Err(Fail::from(error)),
+    }
+}
+
+// How the writing of a PUBLISH to a writer with so much room ended, where the writer has taken these bytes.
+fn written(alloc: Global, room: usize, bytes: &[u8]) -> Result<Option<ErrorKind>, Fail> {
     let mut writer = Narrow {
         taken: Vec::with_capacity(alloc, 16)?,
         room,
         is_interrupted: false,
     };
-    let error = match write_packet(alloc, &packet, &mut writer) {
-        Ok(()) => None,
-        Err(WriteError::Io(error)) => Some(error.kind()),
-        Err(error) => return Err(Fail::from(error)),
-    };
-    let Narrow { taken, .. } = writer;
-    Ok((taken, error))
+    let packet = publish(alloc, "a/b", Bytes::from_static(b"hi"))?;
+    let error = write_to(alloc, &packet, &mut writer)?;
+    if writer.taken.as_slice() != bytes {
+        return Err("other bytes".into());
+    }
+    Ok(error)
 }
 
 #[test]
 fn a_writer_that_fails_has_a_beginning(rt: HostRuntime) -> Result<(), Fail> {
     let bytes = b"\x30\x07\x00\x03a/bhi".as_slice();
     for room in 0..bytes.len() {
-        let (taken, error) = written(rt.alloc(), room)?;
+        let error = written(rt.alloc(), room, &bytes[..room])?;
         assert!(rt; error == Some(ErrorKind::BrokenPipe), "{room}");
-        assert!(rt; taken.as_slice() == &bytes[..room], "{room}");
     }
-    let (taken, error) = written(rt.alloc(), bytes.len())?;
-    assert!(rt; error.is_none() && taken.as_slice() == bytes);
+    let error = written(rt.alloc(), bytes.len(), bytes)?;
+    assert!(rt; error.is_none());
     Ok(())
 }

@@ -1,54 +1,112 @@
 //! Parts of packets that are given away or shared.
 
+use crate::compare::expect_told;
 use bytes::Bytes;
-use mq_packet::{Binary, BoxedConnect, Connect, Payload, Will};
+use mq_packet::{Binary, BoxedConnect, Connect, Message, Payload, Will};
 use mq_topic::{Qos, TopicName};
 use mq_wire::Text;
 use std::alloc::Global;
 use std::test::Fail;
 
 fn will(alloc: Global) -> Result<Will, Fail> {
+    let message = Binary::new(Bytes::from_static(b"gone")).ok_or("no binary field")?;
     Ok(Will {
         topic: TopicName::parse(alloc, "w")?,
-        message: Binary::new(Bytes::from_static(b"gone")).ok_or("no binary field")?,
+        message,
         qos: Qos::Q1,
         retain: true,
     })
 }
 
-#[test]
-fn a_will_is_a_message(rt: HostRuntime) -> Result<(), Fail> {
-    let will = will(rt.alloc())?;
+// Whether a will's message has what the will has.
+fn is_of_will(will: &Will, message: &Message) -> bool {
+    let payload = message.payload.as_slice();
+    message.topic == will.topic
+        && payload == b"gone".as_slice()
+        && message.qos == Qos::Q1
+        && message.retain
+}
+
+fn is_a_message(alloc: Global) -> Result<bool, Fail> {
+    let will = will(alloc)?;
     let message = will.message()?;
-    assert!(rt; message.topic == will.topic && message.payload.as_slice() == b"gone".as_slice());
-    assert!(rt; message.qos == Qos::Q1 && message.retain);
-    Ok(())
+    Ok(is_of_will(&will, &message))
 }
 
 #[test]
-fn shared_bytes_are_given_back(rt: HostRuntime) -> Result<(), Fail> {
-    let binary = Binary::new(Bytes::from_static(b"ab")).ok_or("no binary field")?;
-    assert!(rt; binary.as_bytes().as_slice() == b"ab".as_slice());
-    assert!(rt; binary.into_bytes().as_slice() == b"ab".as_slice());
-    let payload = Payload::new(Bytes::from_static(b"cd")).ok_or("no payload")?;
-    assert!(rt; payload.as_bytes().as_slice() == b"cd".as_slice());
-    assert!(rt; payload.into_bytes().as_slice() == b"cd".as_slice());
+fn a_will_is_a_message(rt: HostRuntime) -> Result<(), Fail> {
+    assert!(rt; is_a_message(rt.alloc())?);
     Ok(())
+}
+
+// Whether a binary field lends these bytes and gives them away; nothing where they are none.
+fn binary_is(bytes: &'static [u8]) -> Option<bool> {
+    match Binary::new(Bytes::from_static(bytes)) {
+        Some(binary) => {
+            let lends = binary.as_bytes().as_slice() == bytes;
+            Some(lends && binary.into_bytes().as_slice() == bytes)
+        }
+        None => None,
+    }
+}
+
+// The same of a payload.
+fn payload_is(bytes: &'static [u8]) -> Option<bool> {
+    match Payload::new(Bytes::from_static(bytes)) {
+        Some(payload) => {
+            let lends = payload.as_bytes().as_slice() == bytes;
+            Some(lends && payload.into_bytes().as_slice() == bytes)
+        }
+        None => None,
+    }
+}
+
+#[test]
+fn shared_bytes_are_given_back(rt: HostRuntime) {
+    assert_eq!(rt; binary_is(b"ab"), Some(true));
+    assert_eq!(rt; payload_is(b"cd"), Some(true));
+}
+
+fn boxed_connect(alloc: Global) -> Result<BoxedConnect, Fail> {
+    let will = Some(will(alloc)?);
+    let connect = Connect {
+        client_id: Text::new(alloc, "a")?,
+        clean_session: false,
+        keep_alive: 7,
+        will,
+        login: None,
+    };
+    Ok(BoxedConnect::new(alloc, connect)?)
+}
+
+// What a CONNECT has.
+fn connect_in_short(alloc: Global, connect: &Connect) -> Result<String, Fail> {
+    let (id, clean) = (connect.client_id.as_str(), connect.clean_session);
+    let (has_will, has_login) = (connect.will.is_some(), connect.login.is_some());
+    let keep_alive = connect.keep_alive;
+    Ok(format!(in alloc; "{id} {clean} {keep_alive} {has_will} {has_login}")?)
+}
+
+// The same of one in its box.
+fn lent_in_short(alloc: Global) -> Result<String, Fail> {
+    let boxed = boxed_connect(alloc)?;
+    connect_in_short(alloc, boxed.as_connect())
+}
+
+// The same of one that comes out of the clone of its box.
+fn unboxed_in_short(alloc: Global) -> Result<String, Fail> {
+    let boxed = boxed_connect(alloc)?;
+    let connect = boxed.clone()?.into_connect();
+    connect_in_short(alloc, &connect)
 }
 
 #[test]
 fn a_connect_comes_out_of_its_box(rt: HostRuntime) -> Result<(), Fail> {
-    let connect = Connect {
-        client_id: Text::new(rt.alloc(), "a")?,
-        clean_session: false,
-        keep_alive: 7,
-        will: Some(will(rt.alloc())?),
-        login: None,
-    };
-    let boxed = BoxedConnect::new(rt.alloc(), connect)?;
-    assert_eq!(rt; boxed.as_connect().keep_alive, 7);
-    let connect = boxed.clone()?.into_connect();
-    assert!(rt; connect.client_id.as_str() == "a" && !connect.clean_session);
-    assert!(rt; connect.will.is_some() && connect.login.is_none());
-    Ok(())
+    expect_told(&rt, lent_in_short(rt.alloc()), "a false 7 true false", "")?;
+    expect_told(
+        &rt,
+        unboxed_in_short(rt.alloc()),
+        "a false 7 true false",
+        "",
+    )
 }

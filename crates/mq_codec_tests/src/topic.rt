@@ -1,6 +1,7 @@
 ghost use Rattle.std.specs.Prelude.{◌≡◌, IfOk};
 ghost use Rattle.mq_topic.specs.Rows.{matched};
 
+use crate::compare::expect_told;
 use mq_topic::{
     ClientKey, FilterStore, ListStore, Qos, TopicFault, TopicFilter, TopicName, TrieStore,
     is_topic_filter, is_topic_name, matches,
@@ -18,10 +19,16 @@ fn filter_fault(alloc: Global, text: &str) -> Option<TopicFault> {
     TopicFilter::parse(alloc, text).err()
 }
 
-// What a name shows, by way of its clone, or its fault.
+// What a name shows, by way of its clone.
+fn copied_name(alloc: Global, name: &TopicName) -> Result<String, Fail> {
+    let copy = name.clone()?;
+    Ok(copy.as_str().to_string(alloc)?)
+}
+
+// The same, or its fault.
 fn name_in_short(alloc: Global, text: &str) -> Result<String, Fail> {
     match TopicName::parse(alloc, text) {
-        Ok(name) => Ok(name.clone()?.as_str().to_string(alloc)?),
+        Ok(name) => copied_name(alloc, &name),
         Err(fault) => Ok(format!(in alloc; "{fault:?}")?),
     }
 }
@@ -46,16 +53,21 @@ static NAMES: [(&str, &str); 13] = [
 #[test]
 fn names_are_taken_or_refused(rt: HostRuntime) -> Result<(), Fail> {
     for (text, told) in &NAMES {
-        let name = name_in_short(rt.alloc(), *text)?;
-        assert_eq!(rt; name.as_str(), *told);
+        expect_told(&rt, name_in_short(rt.alloc(), *text), *told, *text)?;
     }
     Ok(())
 }
 
-// What a filter shows, by way of its clone, or its fault.
+// What a filter shows, by way of its clone.
+fn copied_filter(alloc: Global, filter: &TopicFilter) -> Result<String, Fail> {
+    let copy = filter.clone()?;
+    Ok(copy.as_str().to_string(alloc)?)
+}
+
+// The same, or its fault.
 fn filter_in_short(alloc: Global, text: &str) -> Result<String, Fail> {
     match TopicFilter::parse(alloc, text) {
-        Ok(filter) => Ok(filter.clone()?.as_str().to_string(alloc)?),
+        Ok(filter) => copied_filter(alloc, &filter),
         Err(fault) => Ok(format!(in alloc; "{fault:?}")?),
     }
 }
@@ -91,8 +103,7 @@ static FILTERS: [(&str, &str); 24] = [
 #[test]
 fn filters_are_taken_or_refused(rt: HostRuntime) -> Result<(), Fail> {
     for (text, told) in &FILTERS {
-        let filter = filter_in_short(rt.alloc(), *text)?;
-        assert_eq!(rt; filter.as_str(), *told);
+        expect_told(&rt, filter_in_short(rt.alloc(), *text), *told, *text)?;
     }
     Ok(())
 }
@@ -105,41 +116,41 @@ fn texts_are_tested_without_memory(rt: HostRuntime) {
     assert!(rt; !is_topic_filter("") && !is_topic_filter("a+") && !is_topic_filter("#/"));
 }
 
+// The faults of 65,535 letters and then this as a name and as a filter.
+fn faults_of_long(alloc: Global, last: &str) -> Result<[Option<TopicFault>; 2], Fail> {
+    let mut text = "a".repeat(alloc, 65_535)?;
+    text.push_str(last)?;
+    let name = name_fault(alloc, text.as_str());
+    Ok([name, filter_fault(alloc, text.as_str())])
+}
+
 #[test]
 fn names_and_filters_have_at_most_65535_bytes(rt: HostRuntime) -> Result<(), Fail> {
-    let longest = "a".repeat(rt.alloc(), 65_535)?;
-    assert_eq!(rt; name_fault(rt.alloc(), longest.as_str()), None);
-    assert_eq!(rt; filter_fault(rt.alloc(), longest.as_str()), None);
-    let mut longer = longest;
-    longer.push('+')?;
-    assert_eq!(rt;
-        name_fault(rt.alloc(), longer.as_str()),
-        Some(TopicFault::TooLong)
-    );
-    assert_eq!(rt;
-        filter_fault(rt.alloc(), longer.as_str()),
-        Some(TopicFault::TooLong)
-    );
-    longer.push('\0')?;
-    assert_eq!(rt;
-        name_fault(rt.alloc(), longer.as_str()),
-        Some(TopicFault::Nul)
-    );
-    assert_eq!(rt;
-        filter_fault(rt.alloc(), longer.as_str()),
-        Some(TopicFault::Nul)
-    );
+    for (last, fault) in [
+        ("", None),
+        ("+", Some(TopicFault::TooLong)),
+        ("+\0", Some(TopicFault::Nul)),
+    ] {
+        let faults = faults_of_long(rt.alloc(), last)?;
+        assert_eq!(rt; faults, [fault, fault], "{last}");
+    }
     Ok(())
+}
+
+// A text as a name and as a filter.
+fn name_and_filter(alloc: Global) -> Result<String, Fail> {
+    let text = Text::new(alloc, "a/b")?;
+    if !is_topic_name(text.as_str()) || !is_topic_filter(text.as_str()) {
+        return Err("no name or no filter".into());
+    }
+    let name = TopicName::from_text(text.clone()?);
+    let filter = TopicFilter::from_text(text);
+    Ok(format!(in alloc; "{} {}", name.as_str(), filter.as_str())?)
 }
 
 #[test]
 fn texts_that_pass_become_names_and_filters(rt: HostRuntime) -> Result<(), Fail> {
-    let text = Text::new(rt.alloc(), "a/b")?;
-    assert!(rt; is_topic_name(text.as_str()) && is_topic_filter(text.as_str()));
-    let name = TopicName::from_text(text.clone()?);
-    let filter = TopicFilter::from_text(text);
-    assert!(rt; name.as_str() == "a/b" && filter.as_str() == "a/b");
-    Ok(())
+    expect_told(&rt, name_and_filter(rt.alloc()), "a/b a/b", "")
 }
 
 // The code of a fault, and what it displays.
@@ -162,8 +173,7 @@ static FAULTS: [(TopicFault, &str); 7] = [
 #[test]
 fn faults_have_codes_and_display_as_sentences(rt: HostRuntime) -> Result<(), Fail> {
     for (fault, wanted) in &FAULTS {
-        let told = fault_in_short(rt.alloc(), *fault)?;
-        assert!(rt; told.as_str() == *wanted, "{wanted}");
+        expect_told(&rt, fault_in_short(rt.alloc(), *fault), wanted, "")?;
     }
     Ok(())
 }
@@ -175,6 +185,13 @@ fn qualities_of_service_have_numbers(rt: HostRuntime) {
     assert_eq!(rt; Qos::Q2.number(), 2);
     assert_eq!(rt; Qos::Q1.greater(Qos::Q2), Qos::Q2);
     assert_eq!(rt; Qos::Q1.greater(Qos::Q0), Qos::Q1);
+}
+
+// Whether a filter matches a name.
+fn is_match(alloc: Global, filter: &str, name: &str) -> Result<bool, Fail> {
+    let filter = TopicFilter::parse(alloc, filter)?;
+    let name = TopicName::parse(alloc, name)?;
+    Ok(matches(&filter, &name))
 }
 
 #[test]
@@ -189,14 +206,14 @@ fn filters_match_names(rt: HostRuntime) -> Result<(), Fail> {
         ("$SYS/#", "$SYS/x", true),
         ("a/+", "a/$x", true),
     ] {
-        let topic_filter = TopicFilter::parse(rt.alloc(), filter)?;
-        let topic_name = TopicName::parse(rt.alloc(), name)?;
-        assert_eq!(rt;
-            matches(&topic_filter, &topic_name),
-            wanted,
-            "{filter} {name}"
-        );
+        let is_match = is_match(rt.alloc(), filter, name)?;
+        assert_eq!(rt; is_match, wanted, "{filter} {name}");
     }
+    Ok(())
+}
+
+#[test]
+fn filters_have_faults(rt: HostRuntime) {
     for (filter, fault) in [
         ("a+", TopicFault::Plus),
         ("a/#/b", TopicFault::Hash),
@@ -205,7 +222,6 @@ fn filters_match_names(rt: HostRuntime) -> Result<(), Fail> {
         assert_eq!(rt; filter_fault(rt.alloc(), filter), Some(fault), "{filter}");
     }
     assert_eq!(rt; name_fault(rt.alloc(), "a/+"), Some(TopicFault::Wildcard));
-    Ok(())
 }
 
 // What a name finds in any store.
@@ -215,18 +231,25 @@ fn found<S: FilterStore>(store: &S, name: &TopicName) -> Result<Vec<(ClientKey, 
     store.matching(name)
 }
 
-// What a name finds in a store, with each client's number.
-pub(crate) fn found_numbers<S: FilterStore>(
+// Adds each client's number, and its quality of service.
+fn add_clients(text: &mut String, clients: &[(ClientKey, Qos)]) -> Result<(), AllocError> {
+    for (client, qos) in clients {
+        write!(text, "{} {qos:?};", client.get())?;
+    }
+    Ok(())
+}
+
+// What a name finds in a store, in order.
+pub(crate) fn found_in_short<S: FilterStore>(
     alloc: Global,
     store: &S,
     name: &str,
-) -> Result<Vec<(u32, Qos)>, Fail> {
+) -> Result<String, Fail> {
     let name = TopicName::parse(alloc, name)?;
-    let mut numbers = Vec::new(alloc);
-    for (client, qos) in &found(store, &name)? {
-        numbers.push((client.get(), *qos))?;
-    }
-    Ok(numbers)
+    let clients = found(store, &name)?;
+    let mut text = String::new(alloc);
+    add_clients(&mut text, clients.as_slice())?;
+    Ok(text)
 }
 
 // The rows that the tests set, in this order.
@@ -238,41 +261,76 @@ static ROWS: [(u32, &str, Qos); 5] = [
     (3, "#", Qos::Q0),
 ];
 
+fn set<S: FilterStore>(
+    alloc: Global,
+    store: &mut S,
+    client: u32,
+    filter: &str,
+    qos: Qos,
+) -> Result<(), Fail> {
+    let filter = TopicFilter::parse(alloc, filter)?;
+    store.set(ClientKey::new(client), filter, qos)?;
+    Ok(())
+}
+
+// Whether there was a row to take away.
+fn remove<S: FilterStore>(
+    alloc: Global,
+    store: &mut S,
+    client: u32,
+    filter: &str,
+) -> Result<bool, Fail> {
+    let filter = TopicFilter::parse(alloc, filter)?;
+    Ok(store.remove(ClientKey::new(client), &filter))
+}
+
+fn get<S: FilterStore>(
+    alloc: Global,
+    store: &S,
+    client: u32,
+    filter: &str,
+) -> Result<Option<Qos>, Fail> {
+    let filter = TopicFilter::parse(alloc, filter)?;
+    Ok(store.get(ClientKey::new(client), &filter))
+}
+
 pub(crate) fn set_rows<S: FilterStore>(alloc: Global, store: &mut S) -> Result<(), Fail> {
     for (client, filter, qos) in &ROWS {
-        let filter = TopicFilter::parse(alloc, *filter)?;
-        store.set(ClientKey::new(*client), filter, *qos)?;
+        set(alloc, store, *client, *filter, *qos)?;
     }
     Ok(())
 }
 
-// What names find in a store with the rows.
-fn finds_clients<S: FilterStore>(rt: &impl Abort, alloc: Global, store: &S) -> Result<(), Fail> {
-    for (name, wanted) in [
-        ("a/b", [(0, Qos::Q2), (1, Qos::Q0), (3, Qos::Q0)].as_slice()),
-        ("a/", &[(0, Qos::Q2), (2, Qos::Q1), (3, Qos::Q0)]),
-        ("a", &[(0, Qos::Q2), (3, Qos::Q0)]),
-        ("$SYS/x", &[]),
-    ] {
-        let numbers = found_numbers(alloc, store, name)?;
-        assert_eq!(rt; numbers.as_slice(), wanted, "{name}");
+// These names find this.
+fn find<S: FilterStore>(
+    rt: &impl Abort,
+    alloc: Global,
+    store: &S,
+    rows: &[(&str, &str)],
+) -> Result<(), Fail> {
+    for (name, wanted) in rows {
+        expect_told(rt, found_in_short(alloc, store, *name), *wanted, *name)?;
     }
     Ok(())
 }
 
-// What they find after one row is taken away.
-fn loses_a_row<S: FilterStore>(rt: &impl Abort, alloc: Global, store: &mut S) -> Result<(), Fail> {
-    let filter = TopicFilter::parse(alloc, "a/#")?;
-    assert!(rt; store.remove(ClientKey::new(0), &filter));
-    assert!(rt; !store.remove(ClientKey::new(0), &filter));
-    for (name, wanted) in [
-        ("a/b", [(0, Qos::Q1), (1, Qos::Q0), (3, Qos::Q0)].as_slice()),
-        ("a", &[(3, Qos::Q0)]),
-    ] {
-        let numbers = found_numbers(alloc, store, name)?;
-        assert_eq!(rt; numbers.as_slice(), wanted, "{name}");
-    }
-    Ok(())
+// What names find in a store with the rows, and after one row is taken away.
+fn finds_clients<S: FilterStore>(
+    rt: &impl Abort,
+    alloc: Global,
+    store: &mut S,
+) -> Result<(), Fail> {
+    let rows = [
+        ("a/b", "0 Q2;1 Q0;3 Q0;"),
+        ("a/", "0 Q2;2 Q1;3 Q0;"),
+        ("a", "0 Q2;3 Q0;"),
+        ("$SYS/x", ""),
+    ];
+    find(rt, alloc, store, &rows)?;
+    assert!(rt; remove(alloc, store, 0, "a/#")?);
+    assert!(rt; !remove(alloc, store, 0, "a/#")?);
+    let rows = [("a/b", "0 Q1;1 Q0;3 Q0;"), ("a", "3 Q0;")];
+    find(rt, alloc, store, &rows)
 }
 
 // What a store answers for a row that is set again, and after its client's rows are taken away.
@@ -281,74 +339,95 @@ fn sets_and_takes<S: FilterStore>(
     alloc: Global,
     store: &mut S,
 ) -> Result<(), Fail> {
-    let filter = TopicFilter::parse(alloc, "a/+")?;
-    let client = ClientKey::new(0);
-    assert_eq!(rt; store.get(client, &filter), Some(Qos::Q1));
-    assert_eq!(rt; store.get(ClientKey::new(1), &filter), None);
-    store.set(client, filter.clone()?, Qos::Q0)?;
-    assert_eq!(rt; store.get(client, &filter), Some(Qos::Q0));
-    store.remove_client(client);
-    assert_eq!(rt; store.get(client, &filter), None);
-    let numbers = found_numbers(alloc, store, "a/b")?;
-    assert_eq!(rt; numbers.as_slice(), [(1, Qos::Q0), (3, Qos::Q0)].as_slice());
-    Ok(())
+    assert_eq!(rt; get(alloc, store, 0, "a/+")?, Some(Qos::Q1));
+    assert_eq!(rt; get(alloc, store, 1, "a/+")?, None);
+    set(alloc, store, 0, "a/+", Qos::Q0)?;
+    assert_eq!(rt; get(alloc, store, 0, "a/+")?, Some(Qos::Q0));
+    store.remove_client(ClientKey::new(0));
+    assert_eq!(rt; get(alloc, store, 0, "a/+")?, None);
+    find(rt, alloc, store, &[("a/b", "1 Q0;3 Q0;")])
 }
 
 #[test]
 fn names_find_clients_in_a_list(rt: HostRuntime) -> Result<(), Fail> {
-    let alloc = rt.alloc();
-    let mut store = ListStore::new(alloc);
-    set_rows(alloc, &mut store)?;
-    finds_clients(&rt, alloc, &store)?;
-    loses_a_row(&rt, alloc, &mut store)
+    let mut store = ListStore::new(rt.alloc());
+    set_rows(rt.alloc(), &mut store)?;
+    finds_clients(&rt, rt.alloc(), &mut store)
 }
 
 #[test]
 fn names_find_clients_in_a_trie(rt: HostRuntime) -> Result<(), Fail> {
-    let alloc = rt.alloc();
-    let mut store = TrieStore::new(alloc);
-    set_rows(alloc, &mut store)?;
-    finds_clients(&rt, alloc, &store)?;
-    loses_a_row(&rt, alloc, &mut store)
+    let mut store = TrieStore::new(rt.alloc());
+    set_rows(rt.alloc(), &mut store)?;
+    finds_clients(&rt, rt.alloc(), &mut store)
 }
 
 #[test]
-fn rows_are_set_and_taken_away(rt: HostRuntime) -> Result<(), Fail> {
-    let alloc = rt.alloc();
-    let mut list = ListStore::new(alloc);
-    set_rows(alloc, &mut list)?;
-    sets_and_takes(&rt, alloc, &mut list)?;
-    let mut trie = TrieStore::new(alloc);
-    set_rows(alloc, &mut trie)?;
-    sets_and_takes(&rt, alloc, &mut trie)
+fn rows_are_set_and_taken_away_in_a_list(rt: HostRuntime) -> Result<(), Fail> {
+    let mut store = ListStore::new(rt.alloc());
+    set_rows(rt.alloc(), &mut store)?;
+    sets_and_takes(&rt, rt.alloc(), &mut store)
+}
+
+#[test]
+fn rows_are_set_and_taken_away_in_a_trie(rt: HostRuntime) -> Result<(), Fail> {
+    let mut store = TrieStore::new(rt.alloc());
+    set_rows(rt.alloc(), &mut store)?;
+    sets_and_takes(&rt, rt.alloc(), &mut store)
+}
+
+// How many nodes a trie has before its rows are set, then, and after its clients' rows are taken away.
+fn node_counts(alloc: Global, store: &mut TrieStore) -> Result<[usize; 3], Fail> {
+    let before = store.nodes();
+    set_rows(alloc, store)?;
+    let with_rows = store.nodes();
+    remove_clients(store);
+    Ok([before, with_rows, store.nodes()])
+}
+
+pub(crate) fn remove_clients(store: &mut TrieStore) {
+    for client in 0..4 {
+        store.remove_client(ClientKey::new(client));
+    }
+}
+
+fn nodes_of_rows(alloc: Global) -> Result<[usize; 3], Fail> {
+    let mut store = TrieStore::new(alloc);
+    node_counts(alloc, &mut store)
 }
 
 #[test]
 fn a_trie_has_the_nodes_of_its_rows(rt: HostRuntime) -> Result<(), Fail> {
-    let alloc = rt.alloc();
-    let mut store = TrieStore::new(alloc);
-    assert_eq!(rt; store.nodes(), 1);
-    set_rows(alloc, &mut store)?;
-    assert!(rt; store.nodes() <= 10);
-    for client in 0..4 {
-        store.remove_client(ClientKey::new(client));
-    }
-    assert_eq!(rt; store.nodes(), 1);
+    let [before, with_rows, after] = nodes_of_rows(rt.alloc())?;
+    assert!(rt;
+        before == 1 && with_rows <= 10 && after == 1,
+        "{before} {with_rows} {after}"
+    );
     Ok(())
+}
+
+// How many nodes a trie has with this filter, what the filter's text finds as a name, and how many nodes are left.
+fn levels_in_short(alloc: Global, store: &mut TrieStore, filter: &str) -> Result<String, Fail> {
+    set(alloc, store, 7, filter, Qos::Q1)?;
+    let nodes = store.nodes();
+    let is_found = is_found(alloc, store, filter)?;
+    let is_removed = remove(alloc, store, 7, filter)?;
+    Ok(format!(in alloc; "{nodes} {is_found} {is_removed} {}", store.nodes())?)
+}
+
+// Whether a name finds the client 7 alone, at quality of service 1.
+fn is_found(alloc: Global, store: &TrieStore, name: &str) -> Result<bool, Fail> {
+    let found = found_in_short(alloc, store, name)?;
+    Ok(found.as_str() == "7 Q1;")
+}
+
+fn levels_of_longest(alloc: Global) -> Result<String, Fail> {
+    let longest = "/".repeat(alloc, 65_535)?;
+    let mut store = TrieStore::new(alloc);
+    levels_in_short(alloc, &mut store, longest.as_str())
 }
 
 #[test]
 fn a_filter_has_65536_levels(rt: HostRuntime) -> Result<(), Fail> {
-    let alloc = rt.alloc();
-    let longest = "/".repeat(alloc, 65_535)?;
-    let filter = TopicFilter::parse(alloc, longest.as_str())?;
-    let client = ClientKey::new(7);
-    let mut store = TrieStore::new(alloc);
-    store.set(client, filter.clone()?, Qos::Q1)?;
-    assert_eq!(rt; store.nodes(), 65_537);
-    let numbers = found_numbers(alloc, &store, longest.as_str())?;
-    assert_eq!(rt; numbers.as_slice(), [(7, Qos::Q1)].as_slice());
-    assert!(rt; store.remove(client, &filter));
-    assert_eq!(rt; store.nodes(), 1);
-    Ok(())
+    expect_told(&rt, levels_of_longest(rt.alloc()), "65537 true true 1", "")
 }

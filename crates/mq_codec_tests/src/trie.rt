@@ -1,28 +1,27 @@
 ghost use Rattle.std.specs.Prelude.{◌<◌};
 
-use crate::topic::found_numbers;
+use crate::compare::expect_told;
+use crate::topic::{found_in_short, remove_clients};
 use mq_topic::{ClientKey, FilterStore, ListStore, Qos, TopicFilter, TrieStore};
-use std::alloc::Global;
+use rand_core::utils::NextWord;
+use rand_pcg::Pcg32;
+use std::alloc::{AllocError, Global};
 use std::process::Abort;
 use std::test::Fail;
 
 // Numbers that look random.
 #[derive(Drop)]
 struct Numbers {
-    state: u64,
+    words: Pcg32,
 }
 
 impl Numbers {
     // The next number below a bound.
-    fn below(&mut self, bound: u64) -> u64
+    fn below(&mut self, bound: u32) -> u32
         requires { 0 < bound }
         ensures { result < bound }
     {
-        self.state = self
-            .state
-            .wrapping_mul(6_364_136_223_846_793_005)
-            .wrapping_add(1_442_695_040_888_963_407);
-        (self.state >> 33) % bound
+        self.words.next_word() % bound
     }
 
     // A level of a filter.
@@ -66,14 +65,53 @@ fn find_alike(
     name: &str,
 ) -> Result<(), Fail> {
     if mq_topic::is_topic_name(name) {
-        let list = found_numbers(alloc, stores.0, name)?;
-        let trie = found_numbers(alloc, stores.1, name)?;
-        assert_eq!(rt; list.as_slice(), trie.as_slice(), "{name}");
+        let list = found_in_short(alloc, stores.0, name)?;
+        expect_told(
+            rt,
+            found_in_short(alloc, stores.1, name),
+            list.as_str(),
+            name,
+        )?;
     }
     Ok(())
 }
 
-// Both stores answer the same to a call, which the number picks.
+// Sets the same row in both stores.
+fn set_alike(
+    list: &mut ListStore,
+    trie: &mut TrieStore,
+    client: ClientKey,
+    filter: &TopicFilter,
+    qos: Qos,
+) -> Result<(), AllocError> {
+    list.set(client, filter.clone()?, qos)?;
+    trie.set(client, filter.clone()?, qos)
+}
+
+// Both stores answer the same to a call with a filter, which the number picks.
+fn call_with(
+    rt: &impl Abort,
+    numbers: &mut Numbers,
+    list: &mut ListStore,
+    trie: &mut TrieStore,
+    client: ClientKey,
+    filter: &TopicFilter,
+) -> Result<(), AllocError> {
+    assert_eq!(rt; list.get(client, filter), trie.get(client, filter));
+    match numbers.below(20) {
+        0 => {
+            list.remove_client(client);
+            trie.remove_client(client);
+        }
+        1..=6 => {
+            assert_eq!(rt; list.remove(client, filter), trie.remove(client, filter));
+        }
+        _ => set_alike(list, trie, client, filter, numbers.qos())?,
+    }
+    Ok(())
+}
+
+// The same with a filter that is made up, where the text is one.
 fn call_alike(
     rt: &impl Abort,
     numbers: &mut Numbers,
@@ -81,43 +119,39 @@ fn call_alike(
     list: &mut ListStore,
     trie: &mut TrieStore,
 ) -> Result<(), Fail> {
-    let client = ClientKey::new(numbers.below(4) as u32);
+    let client = ClientKey::new(numbers.below(4));
     let text = numbers.text(alloc)?;
-    let Ok(filter) = TopicFilter::parse(alloc, text.as_str()) else {
-        return Ok(());
+    if let Ok(filter) = TopicFilter::parse(alloc, text.as_str()) {
+        call_with(rt, numbers, list, trie, client, &filter)?;
+    }
+    Ok(())
+}
+
+// Both stores answer the same to so many calls, and names find the same in them.
+fn walk(
+    rt: &impl Abort,
+    alloc: Global,
+    list: &mut ListStore,
+    trie: &mut TrieStore,
+    calls: u32,
+) -> Result<(), Fail> {
+    let mut numbers = Numbers {
+        words: Pcg32::new(1, 1),
     };
-    assert_eq!(rt; list.get(client, &filter), trie.get(client, &filter));
-    match numbers.below(20) {
-        0 => {
-            list.remove_client(client);
-            trie.remove_client(client);
-        }
-        1..=6 => {
-            assert_eq!(rt; list.remove(client, &filter), trie.remove(client, &filter));
-        }
-        _ => {
-            let qos = numbers.qos();
-            list.set(client, filter.clone()?, qos)?;
-            trie.set(client, filter, qos)?;
-        }
+    for _ in 0..calls {
+        call_alike(rt, &mut numbers, alloc, list, trie)?;
+        let name = numbers.text(alloc)?;
+        find_alike(rt, alloc, (list, trie), name.as_str())?;
     }
     Ok(())
 }
 
 #[test]
 fn a_trie_answers_as_a_list(rt: HostRuntime) -> Result<(), Fail> {
-    let alloc = rt.alloc();
-    let mut numbers = Numbers { state: 1 };
-    let mut list = ListStore::new(alloc);
-    let mut trie = TrieStore::new(alloc);
-    for _ in 0..4_000 {
-        call_alike(&rt, &mut numbers, alloc, &mut list, &mut trie)?;
-        let name = numbers.text(alloc)?;
-        find_alike(&rt, alloc, (&list, &trie), name.as_str())?;
-    }
-    for client in 0..4 {
-        trie.remove_client(ClientKey::new(client));
-    }
+    let mut list = ListStore::new(rt.alloc());
+    let mut trie = TrieStore::new(rt.alloc());
+    walk(&rt, rt.alloc(), &mut list, &mut trie, 4_000)?;
+    remove_clients(&mut trie);
     assert_eq!(rt; trie.nodes(), 1);
     Ok(())
 }

@@ -1,9 +1,13 @@
 //! Packets that lie in bytes.
 
+use crate::compare::expect_told;
 use crate::decode::{bytes_of, limits};
-use mq_decode::{ConnectFields, DecodeFault, Limits, PacketView, PublishView, View, view};
+use mq_decode::{
+    CodesView, ConnectFields, DecodeFault, FiltersView, Limits, PacketView, PublishView,
+    RequestView, RequestsView, View, view,
+};
 use mq_packet::{ConnAck, encode_into};
-use std::alloc::Global;
+use std::alloc::{AllocError, Global};
 use std::process::Abort;
 use std::test::Fail;
 
@@ -25,15 +29,22 @@ pub(crate) fn expect_view_fault(rt: &impl Abort, limits: Limits, bytes: &[u8], f
     assert!(rt; size_in(limits, bytes) == Err(Some(fault)), "{bytes:?}");
 }
 
-// The spelling of the packet of its own that a view gives.
-fn spelled_again(alloc: Global, limits: Limits, bytes: &[u8]) -> Result<Vec<u8>, Fail> {
+// Whether the packet of its own that a view gives is spelled as the bytes.
+fn is_spelled_again(alloc: Global, limits: Limits, bytes: &[u8]) -> Result<bool, Fail> {
+    let mut out = Vec::new(alloc);
     let View::Whole(lent, _) = view(bytes, limits) else {
         return Err("no packet".into());
     };
     let packet = lent.owned(alloc)?;
-    let mut out = Vec::new(alloc);
     encode_into(&packet, &mut out)?;
-    Ok(out)
+    Ok(out.as_slice() == bytes)
+}
+
+// How many bytes the packet at the front takes where others follow.
+fn size_before_others(alloc: Global, limits: Limits, bytes: &[u8]) -> Result<Option<usize>, Fail> {
+    let mut more = bytes.to_vec(alloc)?;
+    more.extend_from_slice(b"\xc0\xff")?;
+    Ok(size_in(limits, more.as_slice()).ok())
 }
 
 /// A packet, whatever follows it: its view is whole with its last byte, and gives it.
@@ -48,92 +59,101 @@ pub(crate) fn expect_view(
         assert!(rt; size_in(limits, front) == Err(None), "{bytes:?} {cut}");
     }
     assert!(rt; size_in(limits, bytes) == Ok(bytes.len()), "{bytes:?}");
-    assert!(rt;
-        spelled_again(alloc, limits, bytes)?.as_slice() == bytes,
-        "{bytes:?}"
-    );
-    let mut more = bytes.to_vec(alloc)?;
-    more.extend_from_slice(b"\xc0\xff")?;
-    assert!(rt; size_in(limits, &more) == Ok(bytes.len()), "{bytes:?}");
+    assert!(rt; is_spelled_again(alloc, limits, bytes)?, "{bytes:?}");
+    let size = size_before_others(alloc, limits, bytes)?;
+    assert!(rt; size == Some(bytes.len()), "{bytes:?}");
     Ok(())
 }
 
-// What the fields of a CONNECT are.
-fn connect_line(alloc: Global, fields: &ConnectFields<'_>) -> Result<String, Fail> {
+// Adds what the fields of a CONNECT are.
+fn add_connect(text: &mut String, fields: &ConnectFields<'_>) -> Result<(), AllocError> {
     let id = fields.client_id.as_str();
-    let mut line = format!(in alloc; "{id} {} {}", fields.clean_session, fields.keep_alive)?;
+    write!(text, "{id} {} {}", fields.clean_session, fields.keep_alive)?;
     if let Some(will) = &fields.will {
         let (topic, message) = (will.topic(), will.message());
-        let will = format!(in alloc; " {topic} {message:?} {:?} {}", will.qos(), will.retain())?;
-        line.push_str(will.as_str())?;
+        write!(
+            text,
+            " {topic} {message:?} {:?} {}",
+            will.qos(),
+            will.retain()
+        )?;
     }
     if let Some(login) = &fields.login {
-        let login = format!(in alloc; " {} {:?}", login.name(), login.password())?;
-        line.push_str(login.as_str())?;
+        write!(text, " {} {:?}", login.name(), login.password())?;
     }
-    Ok(line)
+    Ok(())
 }
 
-// What a PUBLISH says.
-fn publish_line(alloc: Global, publish: &PublishView<'_>) -> Result<String, Fail> {
+// Adds what a PUBLISH says.
+fn add_publish(text: &mut String, publish: &PublishView<'_>) -> Result<(), AllocError> {
     let (topic, payload) = (publish.topic(), publish.payload());
-    let mut line = format!(in alloc;
-        "{topic} {payload:?} {:?} {}",
-        publish.qos(),
-        publish.retain()
-    )?;
+    let (qos, retain) = (publish.qos(), publish.retain());
+    write!(text, "{topic} {payload:?} {qos:?} {retain}")?;
     if let Some(delivery) = publish.delivery() {
-        let delivery = format!(in alloc; " {} {}", delivery.id.get(), delivery.dup)?;
-        line.push_str(delivery.as_str())?;
+        write!(text, " {} {}", delivery.id.get(), delivery.dup)?;
     }
-    Ok(line)
+    Ok(())
 }
 
-// What a view lends: its fields, and the items of its list.
-fn line_of(alloc: Global, packet: &PacketView<'_>) -> Result<String, Fail> {
+// Adds what a SUBSCRIBE asks for.
+fn add_requests(text: &mut String, requests: &RequestsView<'_>) -> Result<(), AllocError> {
+    for request in requests.iter() {
+        write!(text, " {} {:?}", request.filter().as_str(), request.qos())?;
+    }
+    Ok(())
+}
+
+// Adds the codes of a SUBACK.
+fn add_codes(text: &mut String, codes: &CodesView<'_>) -> Result<(), AllocError> {
+    for code in codes.iter() {
+        write!(text, " {}", code.number())?;
+    }
+    Ok(())
+}
+
+// Adds the filters of an UNSUBSCRIBE.
+fn add_filters(text: &mut String, filters: &FiltersView<'_>) -> Result<(), AllocError> {
+    for filter in filters.iter() {
+        write!(text, " {}", filter.as_str())?;
+    }
+    Ok(())
+}
+
+// Adds what a view lends: its fields, and the items of its list.
+fn add_view(text: &mut String, packet: &PacketView<'_>) -> Result<(), AllocError> {
     match packet {
-        PacketView::Connect(connect) => connect_line(alloc, &connect.fields()),
-        PacketView::ConnAck(ConnAck::Refused(code)) => Ok(format!(in alloc; "{}", code.number())?),
-        PacketView::Publish(publish) => publish_line(alloc, publish),
+        PacketView::Connect(connect) => add_connect(text, &connect.fields()),
+        PacketView::ConnAck(ConnAck::Refused(code)) => write!(text, "{}", code.number()),
+        PacketView::Publish(publish) => add_publish(text, publish),
         PacketView::PubAck(id) | PacketView::PubRec(id) | PacketView::UnsubAck(id) => {
-            Ok(format!(in alloc; "{}", id.get())?)
+            write!(text, "{}", id.get())
         }
         PacketView::Subscribe { id, requests } => {
-            let mut line = format!(in alloc; "{}", id.get())?;
-            for request in requests.iter() {
-                let filter = request.filter().as_str();
-                let item = format!(in alloc; " {filter} {:?}", request.qos())?;
-                line.push_str(item.as_str())?;
-            }
-            Ok(line)
+            write!(text, "{}", id.get())?;
+            add_requests(text, requests)
         }
         PacketView::SubAck { id, codes } => {
-            let mut line = format!(in alloc; "{}", id.get())?;
-            for code in codes.iter() {
-                let item = format!(in alloc; " {}", code.number())?;
-                line.push_str(item.as_str())?;
-            }
-            Ok(line)
+            write!(text, "{}", id.get())?;
+            add_codes(text, codes)
         }
         PacketView::Unsubscribe { id, filters } => {
-            let mut line = format!(in alloc; "{}", id.get())?;
-            for filter in filters.iter() {
-                let item = format!(in alloc; " {}", filter.as_str())?;
-                line.push_str(item.as_str())?;
-            }
-            Ok(line)
+            write!(text, "{}", id.get())?;
+            add_filters(text, filters)
         }
-        _ => Err("another packet".into()),
+        _ => text.push_str("another packet"),
     }
 }
 
 // What a view of these bytes lends.
 fn lent_in(alloc: Global, row: &str) -> Result<String, Fail> {
+    let greatest = limits(268_435_455)?;
     let bytes = bytes_of(alloc, row)?;
-    match view(&bytes, limits(268_435_455)?) {
-        View::Whole(packet, _) => line_of(alloc, &packet),
-        _ => Err("no packet".into()),
+    let mut text = String::new(alloc);
+    match view(bytes.as_slice(), greatest) {
+        View::Whole(packet, _) => add_view(&mut text, &packet)?,
+        _ => text.push_str("no packet")?,
     }
+    Ok(text)
 }
 
 // What the views of packets lend.
@@ -164,25 +184,53 @@ static LENT: [(&str, &str); 12] = [
 #[test]
 fn views_lend_the_fields(rt: HostRuntime) -> Result<(), Fail> {
     for (row, line) in &LENT {
-        let lent = lent_in(rt.alloc(), row)?;
-        assert!(rt; lent.as_str() == *line, "{row} {lent}");
+        expect_told(&rt, lent_in(rt.alloc(), *row), *line, *row)?;
     }
     Ok(())
 }
 
-// The items of lists, each a packet's part of its own.
-#[test]
-fn items_are_owned(rt: HostRuntime) -> Result<(), Fail> {
-    let alloc = rt.alloc();
-    let bytes = bytes_of(alloc, "82 0e 0001 0003612f2b 01 0003612f23 02")?;
-    let View::Whole(PacketView::Subscribe { requests, .. }, 16) = view(&bytes, limits(64)?) else {
+// A request of its own, and its filter of its own.
+fn owned_request(alloc: Global, request: &RequestView<'_>) -> Result<String, Fail> {
+    let owned = request.owned(alloc)?;
+    let filter = request.filter().owned(alloc)?;
+    let (own, qos) = (owned.filter.as_str(), owned.qos.number());
+    Ok(format!(in alloc; "{own} {qos} {};", filter.as_str())?)
+}
+
+// The requests, each of its own.
+fn owned_requests(alloc: Global, requests: &RequestsView<'_>) -> Result<String, Fail> {
+    let mut text = String::new(alloc);
+    for request in requests.iter() {
+        let request = owned_request(alloc, &request)?;
+        text.push_str(request.as_str())?;
+    }
+    Ok(text)
+}
+
+// How many there are in a list of its own.
+fn owned_count(alloc: Global, requests: &RequestsView<'_>) -> Result<usize, Fail> {
+    let owned = requests.owned(alloc)?;
+    Ok(owned.as_slice().len())
+}
+
+// The items of a SUBSCRIBE and of a list, each a packet's part of its own.
+fn owned_in(alloc: Global, bytes: &[u8]) -> Result<String, Fail> {
+    let least = limits(64)?;
+    let View::Whole(PacketView::Subscribe { requests, .. }, 16) = view(bytes, least) else {
         return Err("no SUBSCRIBE".into());
     };
-    let mut filters = requests.iter();
-    let first = filters.next().ok_or("no item")?.owned(alloc)?;
-    assert!(rt; first.filter.as_str() == "a/+" && first.qos.number() == 1);
-    let last = filters.next().ok_or("no item")?.filter().owned(alloc)?;
-    assert!(rt; last.as_str() == "a/#" && filters.next().is_none());
-    assert_eq!(rt; requests.owned(alloc)?.as_slice().len(), 2);
-    Ok(())
+    let count = owned_count(alloc, &requests)?;
+    let items = owned_requests(alloc, &requests)?;
+    Ok(format!(in alloc; "{items} {count}")?)
+}
+
+#[test]
+fn items_are_owned(rt: HostRuntime) -> Result<(), Fail> {
+    let bytes = b"\x82\x0e\x00\x01\x00\x03a/+\x01\x00\x03a/#\x02";
+    expect_told(
+        &rt,
+        owned_in(rt.alloc(), bytes),
+        "a/+ 1 a/+;a/# 2 a/#; 2",
+        "",
+    )
 }

@@ -1,3 +1,4 @@
+use crate::compare::{expect_read, expect_told};
 use mq_wire::{
     LengthReading, Text, VarStep, VarlenReader, length_at, number_at, put_number, put_varlen,
     text_at, varlen_len,
@@ -17,23 +18,22 @@ fn pushed(bytes: &[u8]) -> (VarStep, usize) {
     (VarStep::More, bytes.len())
 }
 
-// The bytes of a length, none where it has none; then the buffer is as it was.
-fn length_written(alloc: Global, n: u32) -> Result<Vec<u8>, Fail> {
+// Whether a length is written as these bytes; where it has none, there are none, and the buffer is as it was.
+fn is_written_as(n: u32, bytes: &[u8]) -> bool {
     let mut out = [0xaa; 4];
     let size = put_varlen(n, &mut out);
     if varlen_len(n) != size {
-        return Err("two sizes".into());
+        return false;
     }
     match size {
-        Some(size) => Ok(Vec::from_slice(alloc, &out[..size])?),
-        None if out == [0xaa; 4] => Ok(Vec::new(alloc)),
-        None => Err("a changed buffer".into()),
+        Some(size) => &out[..size] == bytes,
+        None => bytes.is_empty() && out == [0xaa; 4],
     }
 }
 
 // The first and the last number of each size, as the table of 2.2.3 has them, and the first one of none.
 #[test]
-fn lengths_take_one_to_four_bytes(rt: HostRuntime) -> Result<(), Fail> {
+fn lengths_take_one_to_four_bytes(rt: HostRuntime) {
     for (n, bytes) in [
         (0, b"\x00".as_slice()),
         (127, b"\x7f".as_slice()),
@@ -45,34 +45,34 @@ fn lengths_take_one_to_four_bytes(rt: HostRuntime) -> Result<(), Fail> {
         (268_435_455, b"\xff\xff\xff\x7f".as_slice()),
         (268_435_456, b"".as_slice()),
     ] {
-        let written = length_written(rt.alloc(), n)?;
-        assert!(rt; written.as_slice() == bytes, "{n}");
+        assert!(rt; is_written_as(n, bytes), "{n}");
     }
-    Ok(())
+}
+
+// What a length's bytes come to, one after the other and at once; nothing where it has none.
+fn read_again(n: u32) -> Option<(VarStep, usize, LengthReading)> {
+    let mut out = [0xaa; 4];
+    let size = put_varlen(n, &mut out)?;
+    let written = &out[..size];
+    let (step, taken) = pushed(written);
+    Some((step, taken, length_at(written)))
 }
 
 #[test]
-fn lengths_are_read_as_they_are_written(rt: HostRuntime) -> Result<(), Fail> {
-    for n in [
-        0,
-        127,
-        128,
-        16_383,
-        16_384,
-        2_097_151,
-        2_097_152,
-        268_435_455,
+fn lengths_are_read_as_they_are_written(rt: HostRuntime) {
+    for (n, size) in [
+        (0, 1),
+        (127, 1),
+        (128, 2),
+        (16_383, 2),
+        (16_384, 3),
+        (2_097_151, 3),
+        (2_097_152, 4),
+        (268_435_455, 4),
     ] {
-        let written = length_written(rt.alloc(), n)?;
-        let size = written.len();
-        assert_eq!(rt; pushed(written.as_slice()), (VarStep::Done(n), size), "{n}");
-        assert_eq!(rt;
-            length_at(written.as_slice()),
-            LengthReading::Whole(n, size),
-            "{n}"
-        );
+        let wanted = (VarStep::Done(n), size, LengthReading::Whole(n, size));
+        assert_eq!(rt; read_again(n), Some(wanted), "{n}");
     }
-    Ok(())
 }
 
 // What bytes come to, one after the other and at once.
@@ -97,21 +97,28 @@ fn lengths_that_are_none_are_told_apart(rt: HostRuntime) -> Result<(), Fail> {
         ),
         (b"\xc1\x02\x00".as_slice(), "Done(321) 2 Whole(321, 2)"),
     ] {
-        let length = length_in_short(rt.alloc(), bytes)?;
-        assert!(rt; length.as_str() == told, "{bytes:?}");
+        expect_read(&rt, length_in_short(rt.alloc(), bytes), told, bytes)?;
     }
     Ok(())
 }
 
-#[test]
-fn numbers_have_the_high_byte_first(rt: HostRuntime) -> Result<(), Fail> {
-    let mut out = Vec::new(rt.alloc());
+// The bytes of two numbers, and the second one as it is read again.
+fn numbers_in_short(alloc: Global) -> Result<String, Fail> {
+    let mut out = Vec::new(alloc);
     put_number(&mut out, 10)?;
     put_number(&mut out, 0x1234)?;
-    assert_eq!(rt; out.as_slice(), [0x00, 0x0a, 0x12, 0x34].as_slice());
-    assert_eq!(rt; out.len(), 4);
-    assert_eq!(rt; number_at(out.as_slice(), 2), 0x1234);
-    Ok(())
+    let second = number_at(out.as_slice(), 2);
+    Ok(format!(in alloc; "{out:?} {second:x}")?)
+}
+
+#[test]
+fn numbers_have_the_high_byte_first(rt: HostRuntime) -> Result<(), Fail> {
+    expect_told(
+        &rt,
+        numbers_in_short(rt.alloc()),
+        "[0, 10, 18, 52] 1234",
+        "",
+    )
 }
 
 // The text that stands at a place and the place after it, or its fault.
@@ -142,19 +149,22 @@ fn texts_are_read_where_they_stand(rt: HostRuntime) -> Result<(), Fail> {
         (b"\x00\x02\x00\xff".as_slice(), 0, "NotUtf8"),
         (b"\x00\x02a\x00".as_slice(), 0, "Nul"),
     ] {
-        let found = read_at(rt.alloc(), bytes, at)?;
-        assert!(rt; found.as_str() == read, "{bytes:?}");
+        expect_read(&rt, read_at(rt.alloc(), bytes, at), read, bytes)?;
     }
     Ok(())
 }
 
-// What a text shows, by way of its clone and of what it lends, or its fault.
+// What a text shows, by way of its clone and of what it lends.
+fn copied(alloc: Global, text: &Text) -> Result<String, Fail> {
+    let copy = text.clone()?;
+    let copy = copy.as_ref().to_text(alloc)?;
+    Ok(copy.as_str().to_string(alloc)?)
+}
+
+// The same, or its fault.
 fn shown(alloc: Global, text: &str) -> Result<String, Fail> {
     match Text::new(alloc, text) {
-        Ok(text) => {
-            let copy = text.clone()?.as_ref().to_text(alloc)?;
-            Ok(copy.as_str().to_string(alloc)?)
-        }
+        Ok(text) => copied(alloc, &text),
         Err(fault) => Ok(format!(in alloc; "{fault:?}")?),
     }
 }
@@ -166,8 +176,7 @@ fn texts_have_no_nul(rt: HostRuntime) -> Result<(), Fail> {
         ("h\u{e9}\u{feff}", "h\u{e9}\u{feff}"),
         ("a\0", "Nul"),
     ] {
-        let shown = shown(rt.alloc(), text)?;
-        assert!(rt; shown.as_str() == told, "{text}");
+        expect_told(&rt, shown(rt.alloc(), text), told, text)?;
     }
     Ok(())
 }

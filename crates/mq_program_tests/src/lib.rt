@@ -2,6 +2,8 @@
 #![tactic(auto)]
 
 #[cfg(test)]
+mod compare;
+#[cfg(test)]
 mod program;
 #[cfg(test)]
 mod replay;

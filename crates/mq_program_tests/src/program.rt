@@ -3,6 +3,7 @@ mod randoms;
 pub(crate) mod replays;
 mod streams;
 
+use crate::compare::expect_printed;
 use clap::error::ErrorKind;
 use mq_cli::{
     CountEnd, Job, ShowFault, Source, StreamEnd, WordsFault, count_packets, job, perform, shown,
@@ -12,6 +13,13 @@ use std::alloc::Global;
 use std::io;
 use std::io::{Read, Write};
 use std::test::Fail;
+
+// What a job prints of a reader's bytes, with its status.
+fn printed<R: Read>(alloc: Global, job: &Job<'_>, input: &mut R) -> io::Result<(u8, Vec<u8>)> {
+    let mut output = Vec::new(alloc);
+    let status = perform(alloc, job, input, &mut output)?;
+    Ok((status, output))
+}
 
 // The jobs of `show` and `check`, where a length has no more bytes than it needs.
 fn shows(hex: &str) -> Job<'_> {
@@ -161,11 +169,9 @@ static ROWS: [(&str, u8, &str); 59] = [
 #[test]
 fn shows_packets(rt: HostRuntime) -> Result<(), Fail> {
     let alloc = rt.alloc();
-    for (hex, status, printed) in &ROWS {
-        let mut output = Vec::new(alloc);
-        let answer = perform(alloc, &shows(hex), &mut io::empty(), &mut output)?;
-        assert_eq!(rt; output.as_slice(), printed.as_bytes(), "show {hex}");
-        assert_eq!(rt; answer, *status, "show {hex}");
+    for (hex, status, lines) in &ROWS {
+        let answer = printed(alloc, &shows(hex), &mut io::empty());
+        expect_printed(&rt, answer, *status, lines.as_bytes(), hex)?;
     }
     Ok(())
 }
@@ -178,13 +184,22 @@ fn shows_within_a_limit(rt: HostRuntime) -> Result<(), Fail> {
         ("c040", FaultKind::WrongSize),
         ("c041", FaultKind::OverLimit),
     ] {
-        let shown = shown(alloc, hex, limits)?;
         let fault = DecodeFault { kind, place: 1 };
-        assert_eq!(rt; shown.packets.len(), 0);
-        assert_eq!(rt; shown.end, StreamEnd::Fault { fault, start: 0 });
+        let end = StreamEnd::Fault { fault, start: 0 };
+        assert_eq!(rt; shown_in_short(alloc, hex, limits), Ok((0, end)), "{hex}");
     }
-    assert_eq!(rt; shown(alloc, "4", limits).err(), Some(ShowFault::BadHex));
+    assert_eq!(rt; shown_in_short(alloc, "4", limits), Err(ShowFault::BadHex));
     Ok(())
+}
+
+// How many packets are shown, and how the bytes end.
+fn shown_in_short(
+    alloc: Global,
+    hex: &str,
+    limits: Limits,
+) -> Result<(usize, StreamEnd), ShowFault> {
+    let shown = shown(alloc, hex, limits)?;
+    Ok((shown.packets.len(), shown.end))
 }
 
 // What `match` prints of a filter and a name, and its status (4.7).
@@ -208,16 +223,9 @@ static MATCHES: [(&str, &str, u8, &str); 14] = [
 #[test]
 fn matches_filters(rt: HostRuntime) -> Result<(), Fail> {
     let alloc = rt.alloc();
-    for (filter, name, status, printed) in &MATCHES {
-        let mut output = Vec::new(alloc);
-        let job = Job::Match { filter, name };
-        let answer = perform(alloc, &job, &mut io::empty(), &mut output)?;
-        assert_eq!(rt;
-            output.as_slice(),
-            printed.as_bytes(),
-            "match {filter} {name}"
-        );
-        assert_eq!(rt; answer, *status, "match {filter} {name}");
+    for (filter, name, status, lines) in &MATCHES {
+        let answer = printed(alloc, &Job::Match { filter, name }, &mut io::empty());
+        expect_printed(&rt, answer, *status, lines.as_bytes(), filter)?;
     }
     Ok(())
 }
@@ -307,12 +315,10 @@ impl Read for Broken<'_> {
 fn checks_files(rt: HostRuntime) -> Result<(), Fail> {
     let alloc = rt.alloc();
     let job = checks("a file");
-    for (bytes, status, printed) in FILES {
-        let mut output = Vec::new(alloc);
+    for (bytes, status, lines) in FILES {
         let mut input = bytes;
-        let answer = perform(alloc, &job, &mut input, &mut output)?;
-        assert_eq!(rt; output.as_slice(), printed.as_bytes(), "check {bytes:?}");
-        assert_eq!(rt; answer, status, "check {bytes:?}");
+        let answer = printed(alloc, &job, &mut input);
+        expect_printed(&rt, answer, status, lines.as_bytes(), lines)?;
     }
     Ok(())
 }
@@ -339,11 +345,9 @@ fn tells_of_failed_reads(rt: HostRuntime) -> Result<(), Fail> {
     let alloc = rt.alloc();
     let job = checks("a file");
     for at_once in 1..4 {
-        let mut output = Vec::new(alloc);
         let bytes: &[u8] = &[0xc0, 0x00, 0x40, 0x02, 0x00, 0x01, 0xc0];
-        let answer = perform(alloc, &job, &mut Broken { bytes, at_once }, &mut output)?;
-        assert_eq!(rt; output.as_slice(), b"file not read\n".as_slice());
-        assert_eq!(rt; answer, 2);
+        let answer = printed(alloc, &job, &mut Broken { bytes, at_once });
+        expect_printed(&rt, answer, 2, b"file not read\n", "")?;
     }
     Ok(())
 }

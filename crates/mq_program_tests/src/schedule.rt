@@ -1,3 +1,4 @@
+use crate::compare::expect_told;
 use mq_packet::Message;
 use mq_schedule::{Schedule, ScheduleFault, Step, read_schedule, write_schedule};
 use mq_world::{Event, Side};
@@ -189,15 +190,30 @@ fn shown_step(alloc: Global, step: &Step) -> Result<String, AllocError> {
     }
 }
 
+// Adds what steps say.
+fn add_steps(alloc: Global, text: &mut String, steps: &[Step]) -> Result<(), AllocError> {
+    for step in steps {
+        let step = shown_step(alloc, step)?;
+        text.push_str(step.as_str())?;
+    }
+    Ok(())
+}
+
 // What a schedule says.
 fn shown(alloc: Global, schedule: &Schedule) -> Result<String, AllocError> {
     let limit = schedule.limits.max_packet();
     let capacity = schedule.capacity.get();
     let mut all = format!(in alloc; "{limit} {capacity}\n")?;
-    for step in &schedule.steps {
-        all.push_str(shown_step(alloc, step)?.as_str())?;
-    }
+    add_steps(alloc, &mut all, schedule.steps.as_slice())?;
     Ok(all)
+}
+
+// What the schedule of a text says.
+fn read_and_shown(alloc: Global, text: &str) -> Result<String, Fail> {
+    match read_schedule(alloc, text) {
+        Ok(schedule) => Ok(shown(alloc, &schedule)?),
+        Err(_) => Err("no schedule".into()),
+    }
 }
 
 #[test]
@@ -205,12 +221,10 @@ fn reads_what_is_written(rt: HostRuntime) -> Result<(), Fail> {
     let alloc = rt.alloc();
     let text = "world 65536 4\npub c 2 t 78\npubr s 0 a/%25%20b -\npub s 1 %c3%a9 00ff\nto s 7\n\
                 to c all\ndrop c\nleave\ntick s 090000\nopen\nsettle";
-    let schedule = read_schedule(alloc, text).map_err(|_| "no schedule")?;
     let want = "65536 4\npublish Client \"t\" [120] 2 false\npublish Server \"a/% b\" [] 0 true\n\
                 publish Server \"é\" [0, 255] 1 false\ndeliver Server 7\n\
                 deliver Client 18446744073709551615\ndrop Client\nleave\ntick Server 90000\nopen\nsettle\n";
-    assert_eq!(rt; shown(alloc, &schedule)?.as_str(), want);
-    Ok(())
+    expect_told(&rt, read_and_shown(alloc, text), want, "")
 }
 
 // Schedules, and how they are written.
@@ -242,10 +256,10 @@ static WRITTEN: [(&str, &str); 9] = [
 ];
 
 // How the schedule of a text is written.
-fn rewritten(alloc: Global, text: &str) -> Result<String, AllocError> {
+fn rewritten(alloc: Global, text: &str) -> Result<String, Fail> {
     match read_schedule(alloc, text) {
-        Ok(schedule) => write_schedule(alloc, &schedule),
-        Err(_) => format!(in alloc; "no schedule"),
+        Ok(schedule) => Ok(write_schedule(alloc, &schedule)?),
+        Err(_) => Ok(format!(in alloc; "no schedule")?),
     }
 }
 
@@ -253,16 +267,25 @@ fn rewritten(alloc: Global, text: &str) -> Result<String, AllocError> {
 fn writes_schedules(rt: HostRuntime) -> Result<(), Fail> {
     let alloc = rt.alloc();
     for (text, written) in WRITTEN {
-        assert_eq!(rt; rewritten(alloc, text)?.as_str(), written);
-        assert_eq!(rt; rewritten(alloc, written)?.as_str(), written);
+        expect_told(&rt, rewritten(alloc, text), written, text)?;
+        expect_told(&rt, rewritten(alloc, written), written, written)?;
     }
     Ok(())
 }
 
+// What a fault says.
+fn said(alloc: Global, fault: ScheduleFault) -> Result<String, Fail> {
+    Ok(format!(in alloc; "{fault}")?)
+}
+
 #[test]
 fn says_what_is_wrong(rt: HostRuntime) -> Result<(), Fail> {
-    let alloc = rt.alloc();
-    let line = format!(in alloc; "{}, {}", ScheduleFault::Line(12), ScheduleFault::Memory)?;
-    assert_eq!(rt; line.as_str(), "line 12: not an event, out of memory");
-    Ok(())
+    let line = said(rt.alloc(), ScheduleFault::Line(12));
+    expect_told(&rt, line, "line 12: not an event", "")?;
+    expect_told(
+        &rt,
+        said(rt.alloc(), ScheduleFault::Memory),
+        "out of memory",
+        "",
+    )
 }

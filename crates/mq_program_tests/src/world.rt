@@ -8,6 +8,7 @@ mod publish;
 mod run;
 mod window;
 
+use crate::compare::expect_told;
 use crate::world::ask::Ask;
 use crate::world::brief::told_of_copy;
 use bytes::Bytes;
@@ -109,8 +110,7 @@ fn expect(
     rows: &[(Act, &str)],
 ) -> Result<(), Fail> {
     for (act, wanted) in rows {
-        let told = told(alloc, world, *act)?;
-        assert_eq!(rt; told.as_str(), *wanted);
+        expect_told(rt, told(alloc, world, *act), *wanted, "")?;
     }
     Ok(())
 }

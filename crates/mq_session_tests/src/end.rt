@@ -3,6 +3,7 @@ mod client;
 mod late;
 mod packets;
 mod queue;
+mod readme;
 mod requests;
 mod resumed;
 mod saved;
@@ -15,7 +16,7 @@ use mq_end::{ClientConfig, ClientEnd, PublishRefusal, ServerConfig, ServerEnd, S
 use mq_packet::{Message, PacketId, Payload};
 use mq_topic::{Qos, TopicName};
 use mq_wire::Text;
-use std::alloc::{AllocError, Global};
+use std::alloc::Global;
 use std::test::Fail;
 
 // The CONNECT of `w`, with a keep-alive of 60 seconds and clean session 0 (3.1).
@@ -93,18 +94,18 @@ fn message(alloc: Global, qos: Qos, payload: &[u8]) -> Result<Message, Fail> {
 }
 
 // A state in short.
-fn state_in_short(alloc: Global, state: State) -> Result<String, AllocError> {
-    format!(in alloc; "{state:?}")
+fn state_in_short(alloc: Global, state: State) -> Result<String, Fail> {
+    Ok(format!(in alloc; "{state:?}")?)
 }
 
 // The number of the identifier that a message got, if any, or why it was refused.
 fn answer_in_short(
     alloc: Global,
     answer: Result<Option<PacketId>, PublishRefusal>,
-) -> Result<String, AllocError> {
-    match answer {
-        Ok(Some(id)) => format!(in alloc; "published {}", id.get()),
-        Ok(None) => format!(in alloc; "published"),
-        Err(why) => format!(in alloc; "refused {why:?}"),
-    }
+) -> Result<String, Fail> {
+    Ok(match answer {
+        Ok(Some(id)) => format!(in alloc; "published {}", id.get())?,
+        Ok(None) => format!(in alloc; "published")?,
+        Err(why) => format!(in alloc; "refused {why:?}")?,
+    })
 }

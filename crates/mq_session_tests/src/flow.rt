@@ -4,12 +4,13 @@ mod room;
 mod saved;
 mod window;
 
+use crate::compare::{expect_told, expect_told_at};
 use bytes::Bytes;
-use mq_flow::{Claim, LoadError, Session};
+use mq_flow::{Claim, LoadError, Sender, Session};
 use mq_line::Line;
-use mq_packet::{Message, PacketId, Payload};
+use mq_packet::{Message, Packet, PacketId, Payload};
 use mq_topic::{Qos, TopicName};
-use std::alloc::Global;
+use std::alloc::{AllocError, Global};
 use std::process::Abort;
 use std::test::Fail;
 
@@ -77,14 +78,19 @@ fn claimed(
     }
 }
 
+// Adds the lines of packets.
+fn add_lines(text: &mut String, packets: &[Packet]) -> Result<(), AllocError> {
+    for packet in packets {
+        write!(text, "{};", Line(packet))?;
+    }
+    Ok(())
+}
+
 fn resent(alloc: Global, session: &mut Session) -> Result<String, Fail> {
+    let mut text = String::new(alloc);
     let mut packets = Vec::new(alloc);
     session.sender.resend(&mut packets)?;
-    let mut text = String::new(alloc);
-    for packet in &packets {
-        let line = format!(in alloc; "{};", Line(packet))?;
-        text.push_str(line.as_str())?;
-    }
+    add_lines(&mut text, packets.as_slice())?;
     Ok(text)
 }
 
@@ -141,17 +147,21 @@ fn told(alloc: Global, session: &mut Session, act: Act) -> Result<String, Fail> 
 // how much room there is.
 fn book_in_short(alloc: Global, session: &Session) -> Result<String, Fail> {
     let mut text = String::new(alloc);
-    for entry in session.sender.entries() {
-        let sent = if entry.sent { "+" } else { "" };
-        let topic = entry.message.topic.as_str();
-        let line = format!(in alloc; "{}{topic}{sent} ", entry.id.get())?;
-        text.push_str(line.as_str())?;
-    }
+    add_entries(&mut text, &session.sender)?;
     let sender = &session.sender;
     let (released, claims) = (sender.released(), session.pending().len());
-    let rest = format!(in alloc; "{released} {claims} {}", sender.left())?;
-    text.push_str(rest.as_str())?;
+    write!(text, "{released} {claims} {}", sender.left())?;
     Ok(text)
+}
+
+// Adds the messages of a sender.
+fn add_entries(text: &mut String, sender: &Sender) -> Result<(), AllocError> {
+    for entry in sender.entries() {
+        let sent = if entry.sent { "+" } else { "" };
+        let topic = entry.message.topic.as_str();
+        write!(text, "{}{topic}{sent} ", entry.id.get())?;
+    }
+    Ok(())
 }
 
 // A new session with this capacity answers so, and its book is then so.
@@ -165,11 +175,19 @@ fn expect(
         return Err("no room".into());
     }
     let mut session = Session::new(alloc, capacity);
+    walk(rt, alloc, &mut session, rows)
+}
+
+// The session answers so, and its book is then so.
+fn walk(
+    rt: &impl Abort,
+    alloc: Global,
+    session: &mut Session,
+    rows: &[(Act, &str, &str)],
+) -> Result<(), Fail> {
     for (act, words, book) in rows {
-        let told = told(alloc, &mut session, *act)?;
-        assert_eq!(rt; told.as_str(), *words);
-        let now = book_in_short(alloc, &session)?;
-        assert_eq!(rt; now.as_str(), *book, "{words}");
+        expect_told(rt, told(alloc, session, *act), *words, *book)?;
+        expect_told(rt, book_in_short(alloc, session), *book, *words)?;
     }
     Ok(())
 }
@@ -263,11 +281,12 @@ fn claims_have_identifiers_of_the_same_pool(rt: HostRuntime) -> Result<(), Fail>
 // The identifier that comes next in a session of capacity 3 with this one given last, with the identifier 1 in use by a message and 2
 // released.
 fn next_after(alloc: Global, last: u16) -> Result<Option<u16>, Fail> {
-    let mut bytes = Vec::from_slice(alloc, b"MQS\x01\x00\x03")?;
-    bytes.extend_from_slice(&last.to_be_bytes())?;
-    bytes.extend_from_slice(b"\x00\x01\x00\x01\x01\x01\x00\x00\x01t\x00\x00\x00\x00")?;
-    bytes.extend_from_slice(b"\x00\x01\x00\x02\x00\x00")?;
-    let session = Session::load(alloc, bytes.as_slice())?;
+    let [high, low] = last.to_be_bytes();
+    let bytes = [
+        b'M', b'Q', b'S', 1, 0, 3, high, low, 0, 1, 0, 1, 1, 1, 0, 0, 1, b't', 0, 0, 0, 0, 0, 1, 0,
+        2, 0, 0,
+    ];
+    let session = Session::load(alloc, &bytes)?;
     Ok(session.sender.next_id().map(|id| id.get()))
 }
 
@@ -292,19 +311,19 @@ const SAVED: [u8; 27] = [
     0x4d, 0x51, 0x53, 1, 0, 4, 0, 1, 0, 1, 0, 1, 2, 1, 0, 0, 1, 0x74, 0, 0, 0, 1, 0x78, 0, 0, 0, 0,
 ];
 
-// What the bytes are loaded as, saved again.
-fn again(alloc: Global, bytes: &[u8]) -> Result<Vec<u8>, LoadError> {
+// Whether what the bytes are loaded as is saved as the same bytes.
+fn is_same(alloc: Global, bytes: &[u8]) -> Result<bool, LoadError> {
     let session = Session::load(alloc, bytes)?;
     let mut out = Vec::new(alloc);
     session.save(&mut out).map_err(|_| LoadError::Memory)?;
-    Ok(out)
+    Ok(out.as_slice() == bytes)
 }
 
-// What the bytes are loaded as and saved again, in hexadecimal digits, or why they are not loaded.
+// Whether the bytes are loaded and saved again as the same, or why they are not loaded.
 fn loaded(alloc: Global, bytes: &[u8]) -> Result<String, Fail> {
-    match again(alloc, bytes) {
-        Ok(form) if form.as_slice() == bytes => Ok("the same".to_string(alloc)?),
-        Ok(_) => Ok("another".to_string(alloc)?),
+    match is_same(alloc, bytes) {
+        Ok(true) => Ok(format!(in alloc; "the same")?),
+        Ok(false) => Ok(format!(in alloc; "another")?),
         Err(why) => Ok(format!(in alloc; "{why:?}")?),
     }
 }
@@ -319,6 +338,12 @@ fn form_with(alloc: Global, at: usize, bytes: &[u8]) -> Result<Vec<u8>, Fail> {
         all.extend_from_slice(rest)?;
     }
     Ok(all)
+}
+
+// What is loaded of that form, behind the place.
+fn loaded_with(alloc: Global, at: usize, bytes: &[u8]) -> Result<String, Fail> {
+    let form = form_with(alloc, at, bytes)?;
+    loaded(alloc, form.as_slice())
 }
 
 // A place, what stands there in the place of the form's bytes, and what is loaded.
@@ -371,9 +396,7 @@ static FORMS: [(usize, &[u8], &str); 30] = [
 #[test]
 fn forms_are_loaded_or_have_a_bad_field(rt: HostRuntime) -> Result<(), Fail> {
     for (at, bytes, told) in &FORMS {
-        let form = form_with(rt.alloc(), *at, *bytes)?;
-        let loaded = loaded(rt.alloc(), form.as_slice())?;
-        assert_eq!(rt; loaded.as_str(), *told, "{at}");
+        expect_told_at(&rt, loaded_with(rt.alloc(), *at, *bytes), *told, *at as u64)?;
     }
     Ok(())
 }
@@ -388,33 +411,39 @@ fn forms_that_end_early_have_a_bad_field(rt: HostRuntime) -> Result<(), Fail> {
         (26, "Malformed { place: 25 }"),
     ] {
         let (front, _) = SAVED.split_at(length);
-        let loaded = loaded(rt.alloc(), front)?;
-        assert_eq!(rt; loaded.as_str(), told, "{length}");
+        expect_told_at(&rt, loaded(rt.alloc(), front), told, length as u64)?;
     }
     Ok(())
 }
 
-// The form of a session that did this.
-fn saved_after(alloc: Global, acts: &[Act]) -> Result<Vec<u8>, Fail> {
-    let mut session = Session::new(alloc, 4);
+// The session does this.
+fn make(alloc: Global, session: &mut Session, acts: &[Act]) -> Result<(), Fail> {
     for act in acts {
-        told(alloc, &mut session, *act)?;
+        told(alloc, session, *act)?;
     }
+    Ok(())
+}
+
+// Whether this is the form of a session that did this.
+fn is_saved_after(alloc: Global, acts: &[Act], form: &[u8]) -> Result<bool, Fail> {
+    let mut session = Session::new(alloc, 4);
+    make(alloc, &mut session, acts)?;
     let mut out = Vec::new(alloc);
     session.save(&mut out)?;
-    Ok(out)
+    Ok(out.as_slice() == form)
 }
 
 #[test]
 fn a_session_is_saved_as_its_form(rt: HostRuntime) -> Result<(), Fail> {
-    let form = saved_after(rt.alloc(), &[Accept("t", Qos::Q2), MarkSent])?;
-    assert!(rt; form.as_slice() == SAVED.as_slice());
+    let acts = [Accept("t", Qos::Q2), MarkSent];
+    assert!(rt; is_saved_after(rt.alloc(), &acts, &SAVED)?);
     Ok(())
 }
 
 #[test]
 fn claims_are_not_saved(rt: HostRuntime) -> Result<(), Fail> {
-    let form = saved_after(rt.alloc(), &[Act::Claim(Claim::Subscribe, 1)])?;
-    assert!(rt; form.as_slice() == b"MQS\x01\x00\x04\x00\x01\x00\x00\x00\x00\x00\x00".as_slice());
+    let acts = [Act::Claim(Claim::Subscribe, 1)];
+    let form = b"MQS\x01\x00\x04\x00\x01\x00\x00\x00\x00\x00\x00";
+    assert!(rt; is_saved_after(rt.alloc(), &acts, form)?);
     Ok(())
 }

@@ -3,10 +3,11 @@
 use crate::decode::rows::PACKETS;
 use crate::decode::{bytes_of, limits, spelled};
 use mq_decode::{DecodeFault, FaultKind, ReadError, read_packet};
-use mq_packet::Packet;
+use mq_packet::{Packet, encode_into};
 use std::alloc::Global;
 use std::io;
 use std::io::{ErrorKind, Read};
+use std::process::Abort;
 use std::test::Fail;
 
 // A reader of these bytes: each call gives so many at most, and after so many calls it fails. Every
@@ -56,79 +57,129 @@ fn stream(alloc: Global) -> Result<Vec<u8>, Fail> {
     Ok(bytes)
 }
 
-// The next packet, as it is spelled; none at the reader's end.
-fn next(alloc: Global, reader: &mut Slow<'_>) -> Result<Option<Vec<u8>>, Fail> {
-    match read_packet(alloc, reader, limits(64)?) {
-        Ok(Some(packet)) => Ok(Some(spelled(alloc, &[packet])?)),
-        Ok(None) => Ok(None),
+// Whether a packet is spelled as these bytes.
+fn is_spelled(alloc: Global, packet: &Packet, bytes: &[u8]) -> Result<bool, Fail> {
+    let mut out = Vec::new(alloc);
+    encode_into(packet, &mut out)?;
+    Ok(out.as_slice() == bytes)
+}
+
+// Whether the next packet is spelled as these bytes, and the reader gives no more of them.
+fn reads(alloc: Global, reader: &mut Slow<'_>, bytes: &[u8]) -> Result<bool, Fail> {
+    let least = limits(64)?;
+    let left = reader.bytes.len().checked_sub(bytes.len());
+    match read_packet(alloc, reader, least) {
+        Ok(Some(packet)) if Some(reader.bytes.len()) == left => is_spelled(alloc, &packet, bytes),
+        Ok(_) => Ok(false),
         Err(_) => Err("no packet".into()),
     }
 }
 
+// The same of a row.
+fn reads_row(alloc: Global, reader: &mut Slow<'_>, row: &str) -> Result<bool, Fail> {
+    let bytes = bytes_of(alloc, row)?;
+    reads(alloc, reader, bytes.as_slice())
+}
+
+// Whether the reader is at its end.
+fn is_at_end(alloc: Global, reader: &mut Slow<'_>) -> Result<bool, Fail> {
+    let least = limits(64)?;
+    Ok(matches!(read_packet(alloc, reader, least), Ok(None)))
+}
+
+// The reader gives each packet, and then none.
+fn expect_packets(rt: &impl Abort, alloc: Global, reader: &mut Slow<'_>) -> Result<(), Fail> {
+    for row in PACKETS {
+        assert!(rt; reads_row(alloc, reader, row)?, "{row}");
+    }
+    assert!(rt; is_at_end(alloc, reader)?);
+    assert!(rt; is_at_end(alloc, reader)?);
+    Ok(())
+}
+
 #[test]
 fn reads_each_packet_and_no_more(rt: HostRuntime) -> Result<(), Fail> {
-    let alloc = rt.alloc();
-    let all = stream(alloc)?;
+    let all = stream(rt.alloc())?;
     for at_once in [1, 2, 3, 7, 1000] {
-        let mut reader = Slow::new(&all, at_once, 10_000);
-        for row in PACKETS {
-            let bytes = bytes_of(alloc, row)?;
-            let left = reader.bytes.len().checked_sub(bytes.len());
-            assert!(rt; next(alloc, &mut reader)? == Some(bytes), "{row}");
-            assert_eq!(rt; Some(reader.bytes.len()), left, "{row}");
-        }
-        assert!(rt; next(alloc, &mut reader)?.is_none());
-        assert!(rt; next(alloc, &mut reader)?.is_none());
+        let mut reader = Slow::new(all.as_slice(), at_once, 10_000);
+        expect_packets(&rt, rt.alloc(), &mut reader)?;
     }
     Ok(())
 }
 
-// How many bytes of a PUBLISH's payload are 7, and how many the reader has left.
-fn sevens_read(alloc: Global, bytes: &[u8], at_once: usize) -> Result<(usize, usize), Fail> {
-    let mut reader = Slow::new(bytes, at_once, 10_000);
-    let greatest = limits(268_435_455)?;
-    match read_packet(alloc, &mut reader, greatest) {
-        Ok(Some(Packet::Publish(publish))) => {
+// How many bytes of a PUBLISH's payload are 7; nothing where the packet is another one.
+fn sevens_in(packet: &Packet) -> Option<usize> {
+    match packet {
+        Packet::Publish(publish) => {
             let payload = publish.message().payload.as_slice();
-            let sevens = payload.iter().filter(|byte| **byte == 7).count();
-            Ok((sevens, reader.bytes.len()))
+            Some(payload.iter().filter(|byte| **byte == 7).count())
         }
+        _ => None,
+    }
+}
+
+// How many there are in what is read, and how many bytes the reader has left.
+fn sevens_read(
+    alloc: Global,
+    bytes: &[u8],
+    at_once: usize,
+) -> Result<(Option<usize>, usize), Fail> {
+    let greatest = limits(268_435_455)?;
+    let mut reader = Slow::new(bytes, at_once, 10_000);
+    match read_packet(alloc, &mut reader, greatest) {
+        Ok(Some(packet)) => Ok((sevens_in(&packet), reader.bytes.len())),
         _ => Err("no PUBLISH".into()),
     }
 }
 
+// PUBLISH with 20,000 bytes after its topic, and a byte behind it.
+fn large_publish(alloc: Global) -> Result<Vec<u8>, Fail> {
+    let mut bytes = bytes_of(alloc, "30 a5 9c 01 0003 612f62")?;
+    bytes.resize(9 + 20_000, 7)?;
+    bytes.push(0xc0)?;
+    Ok(bytes)
+}
+
 #[test]
 fn a_large_payload_is_read(rt: HostRuntime) -> Result<(), Fail> {
-    let alloc = rt.alloc();
-    // PUBLISH with 20,000 bytes after its topic, and a byte behind it.
-    let mut bytes = bytes_of(alloc, "30 a5 9c 01 0003 612f62")?;
-    bytes.resize(bytes.len() + 20_000, 7)?;
-    bytes.push(0xc0)?;
+    let bytes = large_publish(rt.alloc())?;
     for at_once in [1000, 4095, 4096, 4097, 100_000] {
-        let read = sevens_read(alloc, bytes.as_slice(), at_once)?;
-        assert!(rt; read == (20_000, 1), "{at_once}");
+        let read = sevens_read(rt.alloc(), bytes.as_slice(), at_once)?;
+        assert!(rt; read == (Some(20_000), 1), "{at_once}");
+    }
+    Ok(())
+}
+
+// Whether a reader of these bytes ends within a packet.
+fn ends_within(alloc: Global, bytes: &[u8]) -> Result<bool, Fail> {
+    let least = limits(64)?;
+    let mut reader = Slow::new(bytes, 2, 1000);
+    Ok(matches!(read_packet(alloc, &mut reader, least), Err(ReadError::Cut)))
+}
+
+// A reader of a row that is cut ends within its packet.
+fn expect_cuts(rt: &impl Abort, alloc: Global, row: &str) -> Result<(), Fail> {
+    let bytes = bytes_of(alloc, row)?;
+    for cut in 1..bytes.len() {
+        let (front, _) = bytes.as_slice().split_at(cut);
+        assert!(rt; ends_within(alloc, front)?, "{row} {cut}");
     }
     Ok(())
 }
 
 #[test]
 fn a_reader_may_end_within_a_packet(rt: HostRuntime) -> Result<(), Fail> {
-    let alloc = rt.alloc();
     for row in PACKETS {
-        let bytes = bytes_of(alloc, row)?;
-        for cut in 1..bytes.len() {
-            let (front, _) = bytes.split_at(cut);
-            let answer = read_packet(alloc, &mut Slow::new(front, 2, 1000), limits(64)?);
-            assert!(rt; matches!(answer, Err(ReadError::Cut)), "{row} {cut}");
-        }
+        expect_cuts(&rt, rt.alloc(), row)?;
     }
     Ok(())
 }
 
 // The fault that a reader of these bytes shows.
 fn fault_read(alloc: Global, row: &str) -> Result<DecodeFault, Fail> {
+    let least = limits(64)?;
     let bytes = bytes_of(alloc, row)?;
-    match read_packet(alloc, &mut Slow::new(&bytes, 1, 1000), limits(64)?) {
+    match read_packet(alloc, &mut Slow::new(bytes.as_slice(), 1, 1000), least) {
         Err(ReadError::Fault(fault)) => Ok(fault),
         _ => Err("no fault".into()),
     }
@@ -148,39 +199,63 @@ fn a_reader_may_have_no_packet(rt: HostRuntime) -> Result<(), Fail> {
     Ok(())
 }
 
-// The packets that a reader gives, up to its error.
-fn packets_before_error(
+// Adds the packets that a reader gives, up to its error.
+fn read_up_to_error(
     alloc: Global,
     reader: &mut Slow<'_>,
-) -> Result<(Vec<Packet>, ReadError), Fail> {
-    let mut packets = Vec::new(alloc);
+    packets: &mut Vec<Packet>,
+) -> Result<ErrorKind, Fail> {
+    let least = limits(64)?;
     for _ in 0..4 {
-        match read_packet(alloc, reader, limits(64)?) {
+        match read_packet(alloc, reader, least) {
             Ok(Some(packet)) => packets.push(packet)?,
             Ok(None) => return Err("the reader did not fail".into()),
-            Err(error) => return Ok((packets, error)),
+            Err(ReadError::Io(error)) => return Ok(error.kind()),
+            Err(_) => return Err("another error".into()),
         }
     }
     Err("there are too many packets".into())
 }
 
+// Whether these bytes begin as the packets are written.
+fn begin_with(alloc: Global, bytes: &[u8], packets: &[Packet]) -> Result<bool, Fail> {
+    let spelled = spelled(alloc, packets)?;
+    Ok(bytes.starts_with(spelled.as_slice()))
+}
+
+// How a reader that fails after so many calls fails, and how many packets were whole before; nothing where they are others.
+fn failed_after(
+    alloc: Global,
+    bytes: &[u8],
+    calls: usize,
+) -> Result<(ErrorKind, Option<usize>), Fail> {
+    let mut reader = Slow::new(bytes, 1, calls);
+    let mut packets = Vec::new(alloc);
+    let kind = read_up_to_error(alloc, &mut reader, &mut packets)?;
+    let are_those = begin_with(alloc, bytes, packets.as_slice())?;
+    Ok((kind, are_those.then_some(packets.len())))
+}
+
 // A reader that fails gives its error, or the packets that were whole before.
+fn expect_failures(rt: &impl Abort, alloc: Global, all: &[u8]) -> Result<Option<usize>, Fail> {
+    let mut whole = None;
+    for calls in 0..all.len() {
+        let (kind, packets) = failed_after(alloc, all, calls)?;
+        assert_eq!(rt; kind, ErrorKind::ConnectionReset, "{calls}");
+        assert!(rt; packets.is_some(), "{calls}");
+        whole = packets;
+    }
+    Ok(whole)
+}
+
 #[test]
 fn a_reader_may_fail_at_any_call(rt: HostRuntime) -> Result<(), Fail> {
-    let alloc = rt.alloc();
-    let all = bytes_of(alloc, "c000 30070003612f626869 62020001")?;
-    let mut whole = 0;
-    for calls in 0..all.len() {
-        let mut reader = Slow::new(&all, 1, calls);
-        let (packets, error) = packets_before_error(alloc, &mut reader)?;
-        let ReadError::Io(error) = error else {
-            return Err("another error".into());
-        };
-        let kind = error.kind();
-        assert_eq!(rt; kind, ErrorKind::ConnectionReset);
-        assert!(rt; all.starts_with(&spelled(alloc, &packets)?), "{calls}");
-        whole = packets.len();
-    }
-    assert_eq!(rt; whole, 2);
+    let all = bytes_of(rt.alloc(), "c000 30070003612f626869 62020001")?;
+    let whole = expect_failures(&rt, rt.alloc(), all.as_slice())?;
+    expect_two(&rt, whole);
     Ok(())
+}
+
+fn expect_two(rt: &impl Abort, count: Option<usize>) {
+    assert_eq!(rt; count, Some(2));
 }

@@ -1,13 +1,15 @@
 //! `show` and `check` with `--lenient`.
 
-use mq_cli::{Job, Source, job, perform};
+use super::printed;
+use crate::compare::expect_printed;
+use mq_cli::{Job, Source, job};
 use std::io;
 use std::test::Fail;
 
 #[test]
 fn shows_lengths_with_more_bytes_than_they_need(rt: HostRuntime) -> Result<(), Fail> {
     let alloc = rt.alloc();
-    for (hex, status, printed) in [
+    for (hex, status, lines) in [
         ("c08000", 0, "PINGREQ\n"),
         ("c080808000", 0, "PINGREQ\n"),
         ("c08080808000", 1, "fault F5 at 4 in packet at 0\n"),
@@ -18,15 +20,9 @@ fn shows_lengths_with_more_bytes_than_they_need(rt: HostRuntime) -> Result<(), F
             "PINGREQ\nfault F8 at 1 in packet at 3\n",
         ),
     ] {
-        let mut output = Vec::new(alloc);
         let job = Job::Show { hex, lenient: true };
-        let answer = perform(alloc, &job, &mut io::empty(), &mut output)?;
-        assert_eq!(rt;
-            output.as_slice(),
-            printed.as_bytes(),
-            "show --lenient {hex}"
-        );
-        assert_eq!(rt; answer, status, "show --lenient {hex}");
+        let answer = printed(alloc, &job, &mut io::empty());
+        expect_printed(&rt, answer, status, lines.as_bytes(), hex)?;
     }
     Ok(())
 }
@@ -34,7 +30,7 @@ fn shows_lengths_with_more_bytes_than_they_need(rt: HostRuntime) -> Result<(), F
 #[test]
 fn checks_lengths_with_more_bytes_than_they_need(rt: HostRuntime) -> Result<(), Fail> {
     let alloc = rt.alloc();
-    for (bytes, status, printed) in [
+    for (bytes, status, lines) in [
         (b"\xc0\x80\x00".as_slice(), 0, "packets 1\n"),
         (
             b"\xc0\x80\x00\xc0\x01",
@@ -42,19 +38,13 @@ fn checks_lengths_with_more_bytes_than_they_need(rt: HostRuntime) -> Result<(), 
             "packets 1\nfault F8 at 1 in packet at 3\n",
         ),
     ] {
-        let mut output = Vec::new(alloc);
         let mut input = bytes;
         let job = Job::Check {
             source: Source::File("a file"),
             lenient: true,
         };
-        let answer = perform(alloc, &job, &mut input, &mut output)?;
-        assert_eq!(rt;
-            output.as_slice(),
-            printed.as_bytes(),
-            "check --lenient {bytes:?}"
-        );
-        assert_eq!(rt; answer, status, "check --lenient {bytes:?}");
+        let answer = printed(alloc, &job, &mut input);
+        expect_printed(&rt, answer, status, lines.as_bytes(), lines)?;
     }
     Ok(())
 }

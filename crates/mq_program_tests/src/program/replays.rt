@@ -1,5 +1,7 @@
 //! Schedules that are replayed: what each prints, byte for byte, and its status.
 
+use super::printed;
+use crate::compare::expect_printed;
 use mq_cli::{Job, Source, perform};
 use std::alloc::Global;
 use std::io;
@@ -400,22 +402,17 @@ fn schedules_print_their_replays(rt: HostRuntime) -> Result<(), Fail> {
 #[test]
 fn names_the_first_line_of_no_kind(rt: HostRuntime) -> Result<(), Fail> {
     for (text, printed) in BAD {
-        let (status, output) = replayed(rt.alloc(), text)?;
-        assert_eq!(rt; status, 2);
-        assert_eq!(rt; output.as_slice(), printed.as_bytes());
+        expect_printed(&rt, replayed(rt.alloc(), text), 2, printed.as_bytes(), text)?;
     }
     Ok(())
 }
 
 #[test]
 fn a_schedule_is_utf8(rt: HostRuntime) -> Result<(), Fail> {
-    let alloc = rt.alloc();
-    let mut output = Vec::new(alloc);
     let mut input: &[u8] = b"world 65536 4\npub c 0 \xff 78\n";
     let job = Job::Replay {
         source: Source::File("no text"),
     };
-    assert_eq!(rt; perform(alloc, &job, &mut input, &mut output)?, 2);
-    assert_eq!(rt; output.as_slice(), b"file not read\n".as_slice());
-    Ok(())
+    let answer = printed(rt.alloc(), &job, &mut input);
+    expect_printed(&rt, answer, 2, b"file not read\n", "")
 }

@@ -1,10 +1,11 @@
 //! `show` for files, long files, and what is said where there is no answer.
 
-use super::{Broken, FILES, Full, ROWS, asks_for};
+use super::{Broken, FILES, Full, ROWS, asks_for, printed};
+use crate::compare::{expect_printed, expect_told};
 use mq_cli::{CountFault, Failure, Job, ShowFault, Source, WordsFault, perform};
 use mq_replay::ReplayFault;
 use mq_schedule::ScheduleFault;
-use std::alloc::{AllocError, Global};
+use std::alloc::Global;
 use std::fmt::Display;
 use std::io;
 use std::io::{ErrorKind, Read};
@@ -13,13 +14,6 @@ use std::test::Fail;
 // The job of `show` for a file.
 fn shows(source: Source<'_>, lenient: bool) -> Job<'_> {
     Job::ShowFrom { source, lenient }
-}
-
-// What is printed of a reader's bytes, with its status.
-fn printed<R: Read>(alloc: Global, job: &Job<'_>, input: &mut R) -> io::Result<(u8, Vec<u8>)> {
-    let mut output = Vec::new(alloc);
-    let status = perform(alloc, job, input, &mut output)?;
-    Ok((status, output))
 }
 
 // A reader that gives a byte at a time.
@@ -48,16 +42,10 @@ fn shows_files_as_it_shows_digits(rt: HostRuntime) -> Result<(), Fail> {
     let job = shows(Source::File("a file"), false);
     for (hex, status, lines) in &ROWS {
         if let Some(bytes) = bytes_of(alloc, hex) {
-            let whole = printed(alloc, &job, &mut bytes.as_slice())?;
-            assert_eq!(rt; whole.0, *status, "show {hex}");
-            assert_eq!(rt; whole.1.as_slice(), lines.as_bytes(), "show {hex}");
-            let slow = printed(alloc, &job, &mut Slow(bytes.as_slice()))?;
-            assert_eq!(rt; slow.0, *status, "show {hex}, byte by byte");
-            assert_eq!(rt;
-                slow.1.as_slice(),
-                lines.as_bytes(),
-                "show {hex}, byte by byte"
-            );
+            let whole = printed(alloc, &job, &mut bytes.as_slice());
+            expect_printed(&rt, whole, *status, lines.as_bytes(), hex)?;
+            let slow = printed(alloc, &job, &mut Slow(bytes.as_slice()));
+            expect_printed(&rt, slow, *status, lines.as_bytes(), hex)?;
         }
     }
     Ok(())
@@ -69,12 +57,9 @@ fn shows_what_came_before_a_failed_read(rt: HostRuntime) -> Result<(), Fail> {
     let job = shows(Source::Standard, false);
     for at_once in [2, 3, 8] {
         let bytes: &[u8] = &[0xc0, 0x00, 0x40, 0x02, 0x00, 0x01, 0xc0];
-        let answer = printed(alloc, &job, &mut Broken { bytes, at_once })?;
-        assert_eq!(rt; answer.0, 2);
-        assert_eq!(rt;
-            answer.1.as_slice(),
-            b"PINGREQ\nPUBACK id=1\nfile not read\n".as_slice()
-        );
+        let answer = printed(alloc, &job, &mut Broken { bytes, at_once });
+        let lines = b"PINGREQ\nPUBACK id=1\nfile not read\n";
+        expect_printed(&rt, answer, 2, lines, "")?;
     }
     Ok(())
 }
@@ -83,13 +68,14 @@ fn shows_what_came_before_a_failed_read(rt: HostRuntime) -> Result<(), Fail> {
 fn shows_lenient_lengths_of_files(rt: HostRuntime) -> Result<(), Fail> {
     let job = shows(Source::File("a file"), true);
     let mut input: &[u8] = b"\xc0\x80\x00\xc0\x01";
-    let answer = printed(rt.alloc(), &job, &mut input)?;
-    assert_eq!(rt; answer.0, 1);
-    assert_eq!(rt;
-        answer.1.as_slice(),
-        b"PINGREQ\nfault F8 at 1 in packet at 3\n".as_slice()
-    );
-    Ok(())
+    let answer = printed(rt.alloc(), &job, &mut input);
+    expect_printed(
+        &rt,
+        answer,
+        1,
+        b"PINGREQ\nfault F8 at 1 in packet at 3\n",
+        "",
+    )
 }
 
 #[test]
@@ -189,22 +175,24 @@ fn tells_of_failures(rt: HostRuntime) -> Result<(), Fail> {
     ] {
         let failure = Failure::from(io::Error::from(kind));
         assert_eq!(rt; failure.status(), status);
-        assert_eq!(rt; format!(in alloc; "{failure}")?.as_str(), text);
+        expect_told(&rt, said(alloc, failure), text, "")?;
     }
     let failure = Failure::of_words(io::Error::from(ErrorKind::InvalidData));
     assert_eq!(rt; failure.status(), 2);
-    assert_eq!(rt;
-        format!(in alloc; "{failure}")?.as_str(),
-        "words not read: one is not UTF-8"
-    );
+    expect_told(
+        &rt,
+        said(alloc, failure),
+        "words not read: one is not UTF-8",
+        "",
+    )?;
     let failure = Failure::of_words(io::Error::from(ErrorKind::OutOfMemory));
     assert_eq!(rt; failure, Failure::Memory);
     Ok(())
 }
 
 // What an error says.
-fn said<E: Display + Drop>(alloc: Global, error: E) -> Result<String, AllocError> {
-    format!(in alloc; "{error}")
+fn said<E: Display + Drop>(alloc: Global, error: E) -> Result<String, Fail> {
+    Ok(format!(in alloc; "{error}")?)
 }
 
 #[test]
@@ -212,24 +200,32 @@ fn errors_are_sentences(rt: HostRuntime) -> Result<(), Fail> {
     let alloc = rt.alloc();
     let reset = CountFault::Io(io::Error::from(ErrorKind::ConnectionReset));
     let closed = ReplayFault::Io(io::Error::from(ErrorKind::BrokenPipe));
-    for (text, wanted) in [
-        (said(alloc, ShowFault::BadHex)?, "bad hex"),
-        (said(alloc, ShowFault::Memory)?, "out of memory"),
-        (said(alloc, reset)?, "the reader failed: connection reset"),
-        (said(alloc, CountFault::Memory)?, "out of memory"),
-        (
-            said(alloc, CountFault::TooLong)?,
-            "there are more bytes than can be counted",
-        ),
-        (said(alloc, closed)?, "the output failed: broken pipe"),
-        (said(alloc, ReplayFault::Memory)?, "out of memory"),
-        (said(alloc, ScheduleFault::Line(3))?, "line 3: not an event"),
-        (said(alloc, ScheduleFault::Memory)?, "out of memory"),
-        (said(alloc, WordsFault::Memory)?, "out of memory"),
-    ] {
-        assert_eq!(rt; text.as_str(), wanted);
-    }
-    Ok(())
+    expect_told(
+        &rt,
+        said(alloc, reset),
+        "the reader failed: connection reset",
+        "",
+    )?;
+    expect_told(
+        &rt,
+        said(alloc, closed),
+        "the output failed: broken pipe",
+        "",
+    )?;
+    expect_told(&rt, said(alloc, ShowFault::BadHex), "bad hex", "")?;
+    expect_told(&rt, said(alloc, ShowFault::Memory), "out of memory", "")?;
+    expect_told(&rt, said(alloc, CountFault::Memory), "out of memory", "")?;
+    let too_long = "there are more bytes than can be counted";
+    expect_told(&rt, said(alloc, CountFault::TooLong), too_long, "")?;
+    expect_told(&rt, said(alloc, ReplayFault::Memory), "out of memory", "")?;
+    expect_told(
+        &rt,
+        said(alloc, ScheduleFault::Line(3)),
+        "line 3: not an event",
+        "",
+    )?;
+    expect_told(&rt, said(alloc, ScheduleFault::Memory), "out of memory", "")?;
+    expect_told(&rt, said(alloc, WordsFault::Memory), "out of memory", "")
 }
 
 // A file that is missing can't be told from one that is not read: `perform` is not asked for it.

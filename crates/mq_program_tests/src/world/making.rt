@@ -1,8 +1,8 @@
+use crate::compare::expect_told;
 use crate::world::brief::add_hex;
 use mq_packet::Message;
 use mq_world::{Event, made_up};
 use std::alloc::{AllocError, Global};
-use std::process::Abort;
 use std::test::Fail;
 
 // Adds the quality of service, the topic and the payload of a message.
@@ -28,29 +28,30 @@ fn add_event(text: &mut String, event: &Event) -> Result<(), AllocError> {
     }
 }
 
-// So many events of a start, with semicolons between them.
-fn told(alloc: Global, start: u64, steps: u32) -> Result<String, AllocError> {
-    let mut text = String::new(alloc);
-    for event in made_up(alloc, start, steps)? {
+// Adds events, with semicolons between them.
+fn add_events(text: &mut String, events: &[Event]) -> Result<(), AllocError> {
+    for event in events {
         if !text.is_empty() {
             text.push_str("; ")?;
         }
-        add_event(&mut text, &event)?;
+        add_event(text, event)?;
     }
+    Ok(())
+}
+
+// So many events of a start.
+fn told(alloc: Global, start: u64, steps: u32) -> Result<String, Fail> {
+    let mut text = String::new(alloc);
+    let events = made_up(alloc, start, steps)?;
+    add_events(&mut text, events.as_slice())?;
     Ok(text)
 }
 
-// So many events of a start are these.
-fn expect(
-    rt: &impl Abort,
-    alloc: Global,
-    start: u64,
-    steps: u32,
-    wanted: &str,
-) -> Result<(), Fail> {
-    let told = told(alloc, start, steps)?;
-    assert_eq!(rt; told.as_str(), wanted);
-    Ok(())
+// Whether a longer list of a start begins with a shorter one.
+fn is_longer(alloc: Global, start: u64, steps: u32, more: u32) -> Result<bool, Fail> {
+    let shorter = told(alloc, start, steps)?;
+    let longer = told(alloc, start, more)?;
+    Ok(longer.starts_with(shorter.as_str()))
 }
 
 // The words are those of the reference generator.
@@ -88,7 +89,7 @@ fn the_first_events(rt: HostRuntime) -> Result<(), Fail> {
         (0, 0, ""),
     ];
     for (start, steps, wanted) in rows {
-        expect(&rt, rt.alloc(), start, steps, wanted)?;
+        expect_told(&rt, told(rt.alloc(), start, steps), wanted, "")?;
     }
     Ok(())
 }
@@ -98,9 +99,10 @@ fn the_first_events(rt: HostRuntime) -> Result<(), Fail> {
 fn a_longer_list_is_the_shorter_one_and_more(rt: HostRuntime) -> Result<(), Fail> {
     let rows = [(0, 0, 1), (0, 7, 7), (1, 20, 300), (u64::MAX, 1, 64)];
     for (start, steps, more) in rows {
-        let shorter = told(rt.alloc(), start, steps)?;
-        let longer = told(rt.alloc(), start, more)?;
-        assert!(rt; longer.starts_with(shorter.as_str()));
+        assert!(rt;
+            is_longer(rt.alloc(), start, steps, more)?,
+            "{start} {steps} {more}"
+        );
     }
     Ok(())
 }

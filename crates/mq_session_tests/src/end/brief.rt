@@ -31,95 +31,101 @@ pub(crate) fn bytes_of(alloc: Global, hex: &str) -> Result<Vec<u8>, AllocError> 
     Ok(bytes)
 }
 
-// Bytes as hexadecimal digits.
-pub(crate) fn hex_of(alloc: Global, bytes: &[u8]) -> Result<String, AllocError> {
-    let mut text = String::new(alloc);
+// Adds bytes as hexadecimal digits.
+fn add_hex(text: &mut String, bytes: &[u8]) -> Result<(), AllocError> {
     for byte in bytes {
         write!(text, "{byte:02x}")?;
     }
+    Ok(())
+}
+
+// Bytes as hexadecimal digits.
+pub(crate) fn hex_of(alloc: Global, bytes: &[u8]) -> Result<String, Fail> {
+    let mut text = String::new(alloc);
+    add_hex(&mut text, bytes)?;
     Ok(text)
 }
 
-// The topic and the payload of a message that is handed on.
-fn handed(alloc: Global, message: &Message) -> Result<String, AllocError> {
-    let payload = hex_of(alloc, message.payload.as_slice())?;
+// Adds the topic, the quality of service and the payload of a message that is handed on.
+fn add_handed(text: &mut String, message: &Message) -> Result<(), AllocError> {
     let topic = message.topic.as_str();
     let qos = message.qos.number();
-    format!(in alloc; "handed {topic} {qos} {payload}")
+    write!(text, "handed {topic} {qos} ")?;
+    add_hex(text, message.payload.as_slice())
 }
 
-// A happening in short.
-pub(crate) fn happened(alloc: Global, happening: &Happening) -> Result<String, AllocError> {
+// Adds a happening.
+fn add_happening(text: &mut String, happening: &Happening) -> Result<(), AllocError> {
     match happening {
-        Happening::Up { session_present } => format!(in alloc; "up {session_present}"),
-        Happening::Handed(message) => handed(alloc, message),
+        Happening::Up { session_present } => write!(text, "up {session_present}"),
+        Happening::Handed(message) => add_handed(text, message),
         Happening::Subscribe { id, requests } => {
             let count = requests.as_slice().len();
-            format!(in alloc; "subscribe {} {count}", id.get())
+            write!(text, "subscribe {} {count}", id.get())
         }
         Happening::Unsubscribe { id, filters } => {
             let count = filters.as_slice().len();
-            format!(in alloc; "unsubscribe {} {count}", id.get())
+            write!(text, "unsubscribe {} {count}", id.get())
         }
         Happening::SubAck { id, codes } => {
             let count = codes.as_slice().len();
-            format!(in alloc; "suback {} {count}", id.get())
+            write!(text, "suback {} {count}", id.get())
         }
-        Happening::UnsubAck(id) => format!(in alloc; "unsuback {}", id.get()),
-        Happening::Pong => format!(in alloc; "pong"),
+        Happening::UnsubAck(id) => write!(text, "unsuback {}", id.get()),
+        Happening::Pong => text.push_str("pong"),
     }
 }
 
-// Adds a part to a text, behind a comma where it is not the first.
-fn add(text: &mut String, part: &str) -> Result<(), AllocError> {
-    if !text.is_empty() {
-        text.push_str(", ")?;
-    }
-    text.push_str(part)
-}
-
-fn add_happenings(
-    alloc: Global,
-    text: &mut String,
-    happenings: &[Happening],
-) -> Result<(), AllocError> {
-    for happening in happenings {
-        let part = happened(alloc, happening)?;
-        add(text, part.as_str())?;
-    }
-    Ok(())
-}
-
-fn add_acknowledged(
-    alloc: Global,
-    text: &mut String,
-    acknowledged: &[PacketId],
-) -> Result<(), AllocError> {
-    for id in acknowledged {
-        let part = format!(in alloc; "acknowledged {}", id.get())?;
-        add(text, part.as_str())?;
-    }
-    Ok(())
-}
-
-fn add_closed(alloc: Global, text: &mut String, closed: CloseReason) -> Result<(), AllocError> {
-    let part = format!(in alloc; "closed {closed:?}")?;
-    add(text, part.as_str())
-}
-
-// What came of bytes in short: its happenings, the identifiers that were acknowledged, and why the end closed.
-pub(crate) fn told(alloc: Global, progress: &Progress) -> Result<String, AllocError> {
+// A happening in short.
+pub(crate) fn happened(alloc: Global, happening: &Happening) -> Result<String, Fail> {
     let mut text = String::new(alloc);
-    add_happenings(alloc, &mut text, progress.happenings.as_slice())?;
-    add_acknowledged(alloc, &mut text, progress.acknowledged.as_slice())?;
-    if let Some(closed) = progress.closed {
-        add_closed(alloc, &mut text, closed)?;
-    }
+    add_happening(&mut text, happening)?;
     Ok(text)
 }
 
-// The same of a copy.
-pub(crate) fn told_of_copy(alloc: Global, progress: Progress) -> Result<String, AllocError> {
+// Adds a comma where something stands before it.
+fn add_comma(text: &mut String) -> Result<(), AllocError> {
+    if text.is_empty() {
+        return Ok(());
+    }
+    text.push_str(", ")
+}
+
+fn add_happenings(text: &mut String, happenings: &[Happening]) -> Result<(), AllocError> {
+    for happening in happenings {
+        add_comma(text)?;
+        add_happening(text, happening)?;
+    }
+    Ok(())
+}
+
+fn add_acknowledged(text: &mut String, acknowledged: &[PacketId]) -> Result<(), AllocError> {
+    for id in acknowledged {
+        add_comma(text)?;
+        write!(text, "acknowledged {}", id.get())?;
+    }
+    Ok(())
+}
+
+fn add_closed(text: &mut String, closed: Option<CloseReason>) -> Result<(), AllocError> {
+    if let Some(closed) = closed {
+        add_comma(text)?;
+        write!(text, "closed {closed:?}")?;
+    }
+    Ok(())
+}
+
+// Adds what came of bytes: its happenings, the identifiers that were acknowledged, and why the end closed.
+fn add_progress(text: &mut String, progress: &Progress) -> Result<(), AllocError> {
+    add_happenings(text, progress.happenings.as_slice())?;
+    add_acknowledged(text, progress.acknowledged.as_slice())?;
+    add_closed(text, progress.closed)
+}
+
+// What came of bytes in short, by way of a copy.
+pub(crate) fn told_of_copy(alloc: Global, progress: Progress) -> Result<String, Fail> {
     let copy = progress.clone()?;
-    told(alloc, &copy)
+    let mut text = String::new(alloc);
+    add_progress(&mut text, &copy)?;
+    Ok(text)
 }

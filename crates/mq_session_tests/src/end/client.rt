@@ -1,3 +1,4 @@
+use crate::compare::expect_told;
 use crate::end::Step::{Lose, Open, Publish, Receive};
 use crate::end::brief::{bytes_of, hex_of, told_of_copy};
 use crate::end::{
@@ -5,17 +6,18 @@ use crate::end::{
 };
 use mq_end::ClientEnd;
 use mq_topic::Qos;
-use std::alloc::{AllocError, Global};
+use std::alloc::Global;
 use std::process::Abort;
 use std::test::Fail;
 
-fn open(alloc: Global, client: &mut ClientEnd, clean: bool) -> Result<String, AllocError> {
+fn open(alloc: Global, client: &mut ClientEnd, clean: bool) -> Result<String, Fail> {
     client.connect(0, clean)?;
     state_in_short(alloc, client.state())
 }
 
-fn receive(alloc: Global, client: &mut ClientEnd, bytes: &[u8]) -> Result<String, AllocError> {
-    told_of_copy(alloc, client.receive(0, bytes))
+fn receive(alloc: Global, client: &mut ClientEnd, hex: &str) -> Result<String, Fail> {
+    let bytes = bytes_of(alloc, hex)?;
+    told_of_copy(alloc, client.receive(0, bytes.as_slice()))
 }
 
 fn publish(
@@ -25,26 +27,26 @@ fn publish(
     payload: &[u8],
 ) -> Result<String, Fail> {
     let message = message(alloc, qos, payload)?;
-    Ok(answer_in_short(alloc, client.publish(message))?)
+    answer_in_short(alloc, client.publish(message))
 }
 
-fn lose(alloc: Global, client: &mut ClientEnd) -> Result<String, AllocError> {
+fn lose(alloc: Global, client: &mut ClientEnd) -> Result<String, Fail> {
     client.dropped();
     state_in_short(alloc, client.state())
 }
 
 // What a step of the client tells.
 pub(crate) fn told(alloc: Global, client: &mut ClientEnd, step: Step) -> Result<String, Fail> {
-    Ok(match step {
-        Open(clean) => open(alloc, client, clean)?,
-        Receive(hex) => receive(alloc, client, bytes_of(alloc, hex)?.as_slice())?,
-        Publish(qos, payload) => publish(alloc, client, qos, payload)?,
-        Lose => lose(alloc, client)?,
-    })
+    match step {
+        Open(clean) => open(alloc, client, clean),
+        Receive(hex) => receive(alloc, client, hex),
+        Publish(qos, payload) => publish(alloc, client, qos, payload),
+        Lose => lose(alloc, client),
+    }
 }
 
 // All that the client puts out.
-pub(crate) fn put_out(alloc: Global, client: &mut ClientEnd) -> Result<String, AllocError> {
+pub(crate) fn put_out(alloc: Global, client: &mut ClientEnd) -> Result<String, Fail> {
     let output = client.take_all_output();
     hex_of(alloc, output.as_slice())
 }
@@ -57,10 +59,8 @@ pub(crate) fn expect(
     rows: &[(Step, &str, &str)],
 ) -> Result<(), Fail> {
     for (step, words, bytes) in rows {
-        let told = told(alloc, client, *step)?;
-        assert_eq!(rt; told.as_str(), *words);
-        let put_out = put_out(alloc, client)?;
-        assert_eq!(rt; put_out.as_str(), *bytes, "{words}");
+        expect_told(rt, told(alloc, client, *step), *words, *bytes)?;
+        expect_told(rt, put_out(alloc, client), *bytes, *words)?;
     }
     Ok(())
 }
@@ -179,25 +179,41 @@ fn is_idle(client: &ClientEnd) -> bool {
     }
 }
 
+fn is_idle_when_new(alloc: Global) -> Result<bool, Fail> {
+    let client = new_client(alloc, 2)?;
+    Ok(is_idle(&client))
+}
+
+// After each of these steps the client's session is idle or not.
+fn expect_idle(
+    rt: &impl Abort,
+    alloc: Global,
+    client: &mut ClientEnd,
+    rows: &[(Step, bool)],
+) -> Result<(), Fail> {
+    for (step, idle) in rows {
+        told(alloc, client, *step)?;
+        assert_eq!(rt; is_idle(client), *idle);
+    }
+    Ok(())
+}
+
 #[test]
 fn a_client_has_a_session(rt: HostRuntime) -> Result<(), Fail> {
-    let mut client = new_client(rt.alloc(), 2)?;
-    assert!(rt; is_idle(&client));
-    for (step, idle) in [
+    let rows = [
         (Publish(Qos::Q1, b"x"), false),
         (Open(false), false),
         (Receive("20020000"), false),
         (Receive("40020001"), true),
         (Lose, true),
-    ] {
-        told(rt.alloc(), &mut client, step)?;
-        assert_eq!(rt; is_idle(&client), idle);
-    }
-    Ok(())
+    ];
+    assert!(rt; is_idle_when_new(rt.alloc())?);
+    let mut client = new_client(rt.alloc(), 2)?;
+    expect_idle(&rt, rt.alloc(), &mut client, &rows)
 }
 
 // So many bytes are written, and the others still wait.
-fn left(alloc: Global, client: &mut ClientEnd, written: usize) -> Result<String, AllocError> {
+fn left(alloc: Global, client: &mut ClientEnd, written: usize) -> Result<String, Fail> {
     if written <= client.output().len() {
         client.take_output(written);
     }
@@ -213,8 +229,7 @@ fn expect_left(
 ) -> Result<(), Fail> {
     for (step, written, waits) in rows {
         told(alloc, client, *step)?;
-        let left = left(alloc, client, *written)?;
-        assert_eq!(rt; left.as_str(), *waits);
+        expect_told(rt, left(alloc, client, *written), *waits, "")?;
     }
     Ok(())
 }

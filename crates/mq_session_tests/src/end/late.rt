@@ -1,9 +1,10 @@
 //! The server's keep-alive.
 
+use crate::compare::expect_told_at;
 use crate::end::brief::{bytes_of, told_of_copy};
 use crate::end::{CONNECT, new_server, state_in_short};
 use mq_end::ServerEnd;
-use std::alloc::{AllocError, Global};
+use std::alloc::Global;
 use std::process::Abort;
 use std::test::Fail;
 
@@ -21,42 +22,47 @@ enum Act {
     Tick,
 }
 
-fn open(alloc: Global, server: &mut ServerEnd, now: u64) -> Result<String, AllocError> {
+fn open(alloc: Global, server: &mut ServerEnd, now: u64) -> Result<String, Fail> {
     server.opened(now);
     state_in_short(alloc, server.state())
 }
 
-fn receive(
-    alloc: Global,
-    server: &mut ServerEnd,
-    now: u64,
-    bytes: &[u8],
-) -> Result<String, AllocError> {
-    told_of_copy(alloc, server.receive(now, bytes))
+fn receive(alloc: Global, server: &mut ServerEnd, now: u64, hex: &str) -> Result<String, Fail> {
+    let bytes = bytes_of(alloc, hex)?;
+    told_of_copy(alloc, server.receive(now, bytes.as_slice()))
 }
 
-fn tick(alloc: Global, server: &mut ServerEnd, now: u64) -> Result<String, AllocError> {
+fn tick(alloc: Global, server: &mut ServerEnd, now: u64) -> Result<String, Fail> {
     let closed = server.tick(now);
-    format!(in alloc; "{closed:?}")
+    Ok(format!(in alloc; "{closed:?}")?)
 }
 
 // What the server tells.
-fn told(alloc: Global, server: &mut ServerEnd, now: u64, act: Act) -> Result<String, AllocError> {
+fn told(alloc: Global, server: &mut ServerEnd, now: u64, act: Act) -> Result<String, Fail> {
     match act {
         Act::Open => open(alloc, server, now),
-        Act::Receive(hex) => receive(alloc, server, now, bytes_of(alloc, hex)?.as_slice()),
+        Act::Receive(hex) => receive(alloc, server, now, hex),
         Act::Tick => tick(alloc, server, now),
     }
 }
 
-// A new server does this, each at a moment, and tells this.
-fn expect(rt: &impl Abort, alloc: Global, rows: &[(u64, Act, &str)]) -> Result<(), Fail> {
-    let mut server = new_server(alloc, 2)?;
+// The server does this, each at a moment, and tells this.
+fn walk(
+    rt: &impl Abort,
+    alloc: Global,
+    server: &mut ServerEnd,
+    rows: &[(u64, Act, &str)],
+) -> Result<(), Fail> {
     for (now, act, words) in rows {
-        let told = told(alloc, &mut server, *now, *act)?;
-        assert_eq!(rt; told.as_str(), *words, "{now}");
+        expect_told_at(rt, told(alloc, server, *now, *act), *words, *now)?;
     }
     Ok(())
+}
+
+// The same of a new server.
+fn expect(rt: &impl Abort, alloc: Global, rows: &[(u64, Act, &str)]) -> Result<(), Fail> {
+    let mut server = new_server(alloc, 2)?;
+    walk(rt, alloc, &mut server, rows)
 }
 
 // More than one and a half times the keep-alive, and no less (3.1.2.10).

@@ -1,24 +1,24 @@
 //! Whole packets that come to a server whose receiving window is 1.
 
+use crate::compare::expect_told;
 use crate::end::CONNECT;
 use crate::end::brief::{bytes_of, told_of_copy};
 use crate::end::server::put_out;
-use mq_decode::{Decoder, Limits};
+use mq_decode::{Limits, read_packet};
 use mq_end::{ServerConfig, ServerEnd};
 use mq_packet::Packet;
 use std::alloc::Global;
+use std::process::Abort;
 use std::test::Fail;
 
 // The packet of these bytes.
 fn packet_of(alloc: Global, hex: &str) -> Result<Packet, Fail> {
     let limits = Limits::new(64).ok_or("no limits")?;
     let bytes = bytes_of(alloc, hex)?;
-    let mut packets = Vec::new(alloc);
-    let mut decoder = Decoder::new(alloc, limits);
-    if decoder.feed(bytes.as_slice(), &mut packets).is_err() {
-        return Err("no packet".into());
+    match read_packet(alloc, &mut bytes.as_slice(), limits) {
+        Ok(Some(packet)) => Ok(packet),
+        _ => Err("no packet".into()),
     }
-    Ok(packets.pop().ok_or("no packet")?)
 }
 
 fn new_server(alloc: Global) -> Result<ServerEnd, Fail> {
@@ -39,11 +39,22 @@ fn come(alloc: Global, server: &mut ServerEnd, hex: &str) -> Result<String, Fail
     Ok(format!(in alloc; "{would}; {told}; {bytes}")?)
 }
 
+// These packets come, and this is what comes of each.
+fn expect(
+    rt: &impl Abort,
+    alloc: Global,
+    server: &mut ServerEnd,
+    rows: &[(&str, &str)],
+) -> Result<(), Fail> {
+    for (hex, words) in rows {
+        expect_told(rt, come(alloc, server, *hex), *words, *hex)?;
+    }
+    Ok(())
+}
+
 #[test]
 fn whole_packets_come(rt: HostRuntime) -> Result<(), Fail> {
-    let mut server = new_server(rt.alloc())?;
-    server.opened(0);
-    for (hex, words) in [
+    let rows = [
         (CONNECT, "false; up false; 20020000"),
         ("3406000174000178", "true; handed t 2 78; 50020001"),
         ("3c06000174000178", "false; ; 50020001"),
@@ -52,9 +63,8 @@ fn whole_packets_come(rt: HostRuntime) -> Result<(), Fail> {
         ("3406000174000279", "true; handed t 2 79; 50020002"),
         ("340600017400037a", "false; closed Window; "),
         ("3004000174ff", "false; ; "),
-    ] {
-        let told = come(rt.alloc(), &mut server, hex)?;
-        assert_eq!(rt; told.as_str(), words);
-    }
-    Ok(())
+    ];
+    let mut server = new_server(rt.alloc())?;
+    server.opened(0);
+    expect(&rt, rt.alloc(), &mut server, &rows)
 }

@@ -1,5 +1,6 @@
 //! Subscribing and its answers, leaving, and the client's keep-alive.
 
+use crate::compare::expect_told;
 use crate::end::Step::{Open, Publish, Receive};
 use crate::end::client::{put_out as client_puts_out, told as client_tells};
 use crate::end::server::{put_out as server_puts_out, told as server_tells};
@@ -7,7 +8,7 @@ use crate::end::{CONNECT, Step, new_client, new_server};
 use mq_end::{ClientEnd, PublishRefusal, ServerEnd};
 use mq_packet::{NonEmpty, PacketId, Request, SubAckCode};
 use mq_topic::{Qos, TopicFilter};
-use std::alloc::{AllocError, Global};
+use std::alloc::Global;
 use std::process::Abort;
 use std::test::Fail;
 
@@ -92,38 +93,38 @@ fn id(number: u16) -> Result<PacketId, Fail> {
 }
 
 // The identifier of a request, or why it was refused.
-fn asked(alloc: Global, answer: Result<PacketId, PublishRefusal>) -> Result<String, AllocError> {
-    match answer {
-        Ok(id) => format!(in alloc; "asked {}", id.get()),
-        Err(why) => format!(in alloc; "refused {why:?}"),
-    }
+fn asked(alloc: Global, answer: Result<PacketId, PublishRefusal>) -> Result<String, Fail> {
+    Ok(match answer {
+        Ok(id) => format!(in alloc; "asked {}", id.get())?,
+        Err(why) => format!(in alloc; "refused {why:?}")?,
+    })
 }
 
 // That a call was made, or why it was refused.
-fn done(alloc: Global, answer: Result<(), PublishRefusal>) -> Result<String, AllocError> {
-    match answer {
-        Ok(()) => format!(in alloc; "done"),
-        Err(why) => format!(in alloc; "refused {why:?}"),
-    }
+fn done(alloc: Global, answer: Result<(), PublishRefusal>) -> Result<String, Fail> {
+    Ok(match answer {
+        Ok(()) => format!(in alloc; "done")?,
+        Err(why) => format!(in alloc; "refused {why:?}")?,
+    })
 }
 
 fn subscribe(alloc: Global, client: &mut ClientEnd, filters: &[&str]) -> Result<String, Fail> {
     let requests = requests(alloc, filters)?;
-    Ok(asked(alloc, client.subscribe(requests))?)
+    asked(alloc, client.subscribe(requests))
 }
 
 fn unsubscribe(alloc: Global, client: &mut ClientEnd, texts: &[&str]) -> Result<String, Fail> {
     let filters = filters(alloc, texts)?;
-    Ok(asked(alloc, client.unsubscribe(filters))?)
+    asked(alloc, client.unsubscribe(filters))
 }
 
-fn leave(alloc: Global, client: &mut ClientEnd) -> Result<String, AllocError> {
+fn leave(alloc: Global, client: &mut ClientEnd) -> Result<String, Fail> {
     done(alloc, client.disconnect())
 }
 
-fn tick(alloc: Global, client: &mut ClientEnd, now: u64) -> Result<String, AllocError> {
+fn tick(alloc: Global, client: &mut ClientEnd, now: u64) -> Result<String, Fail> {
     let closed = client.tick(now)?;
-    format!(in alloc; "{closed:?}")
+    Ok(format!(in alloc; "{closed:?}")?)
 }
 
 fn answer(
@@ -132,35 +133,51 @@ fn answer(
     number: u16,
     count: usize,
 ) -> Result<String, Fail> {
+    let id = id(number)?;
     let codes = codes(alloc, count)?;
-    Ok(done(alloc, server.suback(id(number)?, codes))?)
+    done(alloc, server.suback(id, codes))
 }
 
 fn give_up(alloc: Global, server: &mut ServerEnd, number: u16) -> Result<String, Fail> {
-    Ok(done(alloc, server.unsuback(id(number)?))?)
+    let id = id(number)?;
+    done(alloc, server.unsuback(id))
 }
 
 // What a call of a client tells.
 fn called(alloc: Global, client: &mut ClientEnd, call: ClientCall) -> Result<String, Fail> {
-    Ok(match call {
-        ClientCall::Do(step) => client_tells(alloc, client, step)?,
-        ClientCall::Subscribe(filters) => subscribe(alloc, client, filters)?,
-        ClientCall::Unsubscribe(filters) => unsubscribe(alloc, client, filters)?,
-        ClientCall::Leave => leave(alloc, client)?,
-        ClientCall::Tick(now) => tick(alloc, client, now)?,
-    })
+    match call {
+        ClientCall::Do(step) => client_tells(alloc, client, step),
+        ClientCall::Subscribe(filters) => subscribe(alloc, client, filters),
+        ClientCall::Unsubscribe(filters) => unsubscribe(alloc, client, filters),
+        ClientCall::Leave => leave(alloc, client),
+        ClientCall::Tick(now) => tick(alloc, client, now),
+    }
 }
 
 // What a call of a server tells.
 fn answered(alloc: Global, server: &mut ServerEnd, call: ServerCall) -> Result<String, Fail> {
-    Ok(match call {
-        ServerCall::Do(step) => server_tells(alloc, server, step)?,
-        ServerCall::SubAck(number, count) => answer(alloc, server, number, count)?,
-        ServerCall::UnsubAck(number) => give_up(alloc, server, number)?,
-    })
+    match call {
+        ServerCall::Do(step) => server_tells(alloc, server, step),
+        ServerCall::SubAck(number, count) => answer(alloc, server, number, count),
+        ServerCall::UnsubAck(number) => give_up(alloc, server, number),
+    }
 }
 
-// A new client with so much room makes these calls: each tells this, and puts these bytes out.
+// The client makes these calls: each tells this, and puts these bytes out.
+fn walk_client(
+    rt: &impl Abort,
+    alloc: Global,
+    client: &mut ClientEnd,
+    rows: &[(ClientCall, &str, &str)],
+) -> Result<(), Fail> {
+    for (call, words, bytes) in rows {
+        expect_told(rt, called(alloc, client, *call), *words, *bytes)?;
+        expect_told(rt, client_puts_out(alloc, client), *bytes, *words)?;
+    }
+    Ok(())
+}
+
+// The same of a new client with so much room.
 fn expect_of_client(
     rt: &impl Abort,
     alloc: Global,
@@ -168,29 +185,31 @@ fn expect_of_client(
     rows: &[(ClientCall, &str, &str)],
 ) -> Result<(), Fail> {
     let mut client = new_client(alloc, capacity)?;
+    walk_client(rt, alloc, &mut client, rows)
+}
+
+// The server makes these calls: each tells this, and puts these bytes out.
+fn walk_server(
+    rt: &impl Abort,
+    alloc: Global,
+    server: &mut ServerEnd,
+    rows: &[(ServerCall, &str, &str)],
+) -> Result<(), Fail> {
     for (call, words, bytes) in rows {
-        let told = called(alloc, &mut client, *call)?;
-        assert_eq!(rt; told.as_str(), *words);
-        let put_out = client_puts_out(alloc, &mut client)?;
-        assert_eq!(rt; put_out.as_str(), *bytes, "{words}");
+        expect_told(rt, answered(alloc, server, *call), *words, *bytes)?;
+        expect_told(rt, server_puts_out(alloc, server), *bytes, *words)?;
     }
     Ok(())
 }
 
-// A new server makes these calls: each tells this, and puts these bytes out.
+// The same of a new server.
 fn expect_of_server(
     rt: &impl Abort,
     alloc: Global,
     rows: &[(ServerCall, &str, &str)],
 ) -> Result<(), Fail> {
     let mut server = new_server(alloc, 2)?;
-    for (call, words, bytes) in rows {
-        let told = answered(alloc, &mut server, *call)?;
-        assert_eq!(rt; told.as_str(), *words);
-        let put_out = server_puts_out(alloc, &mut server)?;
-        assert_eq!(rt; put_out.as_str(), *bytes, "{words}");
-    }
-    Ok(())
+    walk_server(rt, alloc, &mut server, rows)
 }
 
 #[test]

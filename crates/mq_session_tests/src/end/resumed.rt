@@ -15,23 +15,33 @@ use std::test::Fail;
 // a SUBSCRIBE has the identifier 2.
 fn saved(alloc: Global, payload: &[u8]) -> Result<Session, Fail> {
     let mut session = Session::new(alloc, 2);
+    fill(alloc, &mut session, payload)?;
+    Ok(session)
+}
+
+fn fill(alloc: Global, session: &mut Session, payload: &[u8]) -> Result<(), Fail> {
+    accept(alloc, session, payload)?;
+    session.sender.mark_sent();
+    session.claim_id(Claim::Subscribe, 1)?;
+    Ok(())
+}
+
+fn accept(alloc: Global, session: &mut Session, payload: &[u8]) -> Result<(), Fail> {
     let message = message(alloc, Qos::Q2, payload)?;
     if message.qos == Qos::Q0 {
         return Err(Fail::new("no identifier"));
     }
     session.sender.accept(message)?;
-    session.sender.mark_sent();
-    session.claim_id(Claim::Subscribe, 1)?;
-    Ok(session)
+    Ok(())
 }
 
 // A client, configured with room for one, that goes on with it.
 fn resumed_client(alloc: Global, payload: &[u8]) -> Result<Option<ClientEnd>, Fail> {
+    let session = saved(alloc, payload)?;
     let config = client_config(alloc, 1)?;
     if config.window.is_some() {
         return Err(Fail::new("a window"));
     }
-    let session = saved(alloc, payload)?;
     Ok(ClientEnd::with_session(alloc, config, session))
 }
 

@@ -1,5 +1,6 @@
 //! Clients whose session is saved, and gone on with.
 
+use crate::compare::expect_told;
 use crate::end::Step::{Lose, Open, Publish, Receive};
 use crate::end::brief::{bytes_of, hex_of};
 use crate::end::client::told;
@@ -14,7 +15,7 @@ use std::test::Fail;
 fn form_of(alloc: Global, client: &ClientEnd) -> Result<String, Fail> {
     let mut out = Vec::new(alloc);
     client.save(&mut out)?;
-    Ok(hex_of(alloc, out.as_slice())?)
+    hex_of(alloc, out.as_slice())
 }
 
 // The session of which this is the saved form.
@@ -74,8 +75,15 @@ static FORMS: [(&str, &str); 7] = [
 #[test]
 fn a_client_goes_on_with_what_was_saved(rt: HostRuntime) -> Result<(), Fail> {
     for (form, told) in &FORMS {
-        let gone_on = gone_on(rt.alloc(), *form)?;
-        assert_eq!(rt; gone_on.as_str(), *told);
+        expect_told(&rt, gone_on(rt.alloc(), *form), *told, *form)?;
+    }
+    Ok(())
+}
+
+// The client takes these steps.
+fn take(alloc: Global, client: &mut ClientEnd, steps: &[Step]) -> Result<(), Fail> {
+    for step in steps {
+        told(alloc, client, *step)?;
     }
     Ok(())
 }
@@ -83,9 +91,7 @@ fn a_client_goes_on_with_what_was_saved(rt: HostRuntime) -> Result<(), Fail> {
 // What a new client saves after these steps.
 fn saved_after(alloc: Global, steps: &[Step]) -> Result<String, Fail> {
     let mut client = new_client(alloc, 4)?;
-    for step in steps {
-        told(alloc, &mut client, *step)?;
-    }
+    take(alloc, &mut client, steps)?;
     form_of(alloc, &client)
 }
 
@@ -106,8 +112,7 @@ static STEPS: [(&[Step], &str); 4] = [
 #[test]
 fn a_client_saves_its_session(rt: HostRuntime) -> Result<(), Fail> {
     for (steps, wanted) in &STEPS {
-        let form = saved_after(rt.alloc(), *steps)?;
-        assert_eq!(rt; form.as_str(), *wanted);
+        expect_told(&rt, saved_after(rt.alloc(), *steps), *wanted, "")?;
     }
     Ok(())
 }

@@ -1,3 +1,4 @@
+use crate::compare::expect_told;
 use crate::end::Step::{Lose, Open, Publish, Receive};
 use crate::end::brief::{bytes_of, hex_of, told_of_copy};
 use crate::end::{
@@ -5,17 +6,18 @@ use crate::end::{
 };
 use mq_end::ServerEnd;
 use mq_topic::Qos;
-use std::alloc::{AllocError, Global};
+use std::alloc::Global;
 use std::process::Abort;
 use std::test::Fail;
 
-fn open(alloc: Global, server: &mut ServerEnd) -> Result<String, AllocError> {
+fn open(alloc: Global, server: &mut ServerEnd) -> Result<String, Fail> {
     server.opened(0);
     state_in_short(alloc, server.state())
 }
 
-fn receive(alloc: Global, server: &mut ServerEnd, bytes: &[u8]) -> Result<String, AllocError> {
-    told_of_copy(alloc, server.receive(0, bytes))
+fn receive(alloc: Global, server: &mut ServerEnd, hex: &str) -> Result<String, Fail> {
+    let bytes = bytes_of(alloc, hex)?;
+    told_of_copy(alloc, server.receive(0, bytes.as_slice()))
 }
 
 fn publish(
@@ -25,26 +27,26 @@ fn publish(
     payload: &[u8],
 ) -> Result<String, Fail> {
     let message = message(alloc, qos, payload)?;
-    Ok(answer_in_short(alloc, server.publish(message))?)
+    answer_in_short(alloc, server.publish(message))
 }
 
-fn lose(alloc: Global, server: &mut ServerEnd) -> Result<String, AllocError> {
+fn lose(alloc: Global, server: &mut ServerEnd) -> Result<String, Fail> {
     server.dropped();
     state_in_short(alloc, server.state())
 }
 
 // What a step of the server tells.
 pub(crate) fn told(alloc: Global, server: &mut ServerEnd, step: Step) -> Result<String, Fail> {
-    Ok(match step {
-        Open(_) => open(alloc, server)?,
-        Receive(hex) => receive(alloc, server, bytes_of(alloc, hex)?.as_slice())?,
-        Publish(qos, payload) => publish(alloc, server, qos, payload)?,
-        Lose => lose(alloc, server)?,
-    })
+    match step {
+        Open(_) => open(alloc, server),
+        Receive(hex) => receive(alloc, server, hex),
+        Publish(qos, payload) => publish(alloc, server, qos, payload),
+        Lose => lose(alloc, server),
+    }
 }
 
 // All that the server puts out.
-pub(crate) fn put_out(alloc: Global, server: &mut ServerEnd) -> Result<String, AllocError> {
+pub(crate) fn put_out(alloc: Global, server: &mut ServerEnd) -> Result<String, Fail> {
     let output = server.take_all_output();
     hex_of(alloc, output.as_slice())
 }
@@ -57,10 +59,8 @@ pub(crate) fn expect(
     rows: &[(Step, &str, &str)],
 ) -> Result<(), Fail> {
     for (step, words, bytes) in rows {
-        let told = told(alloc, server, *step)?;
-        assert_eq!(rt; told.as_str(), *words);
-        let put_out = put_out(alloc, server)?;
-        assert_eq!(rt; put_out.as_str(), *bytes, "{words}");
+        expect_told(rt, told(alloc, server, *step), *words, *bytes)?;
+        expect_told(rt, put_out(alloc, server), *bytes, *words)?;
     }
     Ok(())
 }
@@ -196,25 +196,36 @@ fn has_session(server: &ServerEnd) -> bool {
     server.session().is_some()
 }
 
+// After each of these steps the server has a session or not.
+fn expect_session(
+    rt: &impl Abort,
+    alloc: Global,
+    server: &mut ServerEnd,
+    rows: &[(Step, bool)],
+) -> Result<(), Fail> {
+    for (step, there) in rows {
+        told(alloc, server, *step)?;
+        assert_eq!(rt; has_session(server), *there);
+    }
+    Ok(())
+}
+
 #[test]
 fn a_server_has_a_session_from_connect_on(rt: HostRuntime) -> Result<(), Fail> {
-    let mut server = new_server(rt.alloc(), 2)?;
-    for (step, there) in [
+    let rows = [
         (Open(false), false),
         (Receive(CONNECT), true),
         (Lose, true),
         (Open(false), true),
         (Receive(CLEAN_CONNECT), true),
         (Lose, false),
-    ] {
-        told(rt.alloc(), &mut server, step)?;
-        assert_eq!(rt; has_session(&server), there);
-    }
-    Ok(())
+    ];
+    let mut server = new_server(rt.alloc(), 2)?;
+    expect_session(&rt, rt.alloc(), &mut server, &rows)
 }
 
 // So many bytes are written, and the others still wait.
-fn left(alloc: Global, server: &mut ServerEnd, written: usize) -> Result<String, AllocError> {
+fn left(alloc: Global, server: &mut ServerEnd, written: usize) -> Result<String, Fail> {
     if written <= server.output().len() {
         server.take_output(written);
     }
@@ -230,8 +241,7 @@ fn expect_left(
 ) -> Result<(), Fail> {
     for (step, written, waits) in rows {
         told(alloc, server, *step)?;
-        let left = left(alloc, server, *written)?;
-        assert_eq!(rt; left.as_str(), *waits);
+        expect_told(rt, left(alloc, server, *written), *waits, "")?;
     }
     Ok(())
 }

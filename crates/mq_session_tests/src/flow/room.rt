@@ -1,8 +1,9 @@
 // Room that is reserved, and places that move up.
+use crate::compare::expect_told;
 use crate::flow::{id, message};
 use mq_flow::Sender;
 use mq_topic::Qos;
-use std::alloc::{AllocError, Global};
+use std::alloc::Global;
 use std::test::Fail;
 
 // The number of the identifier that a message of quality of service 1 or 2 gets.
@@ -14,55 +15,83 @@ fn accepted(alloc: Global, sender: &mut Sender, topic: &str, qos: Qos) -> Result
     Ok(sender.accept(message).map_err(|_| "refused")?.get())
 }
 
-// The numbers of the identifiers of the messages that are not acknowledged, in order.
-fn numbers_of(alloc: Global, sender: &Sender) -> Result<Vec<u16>, AllocError> {
-    let mut numbers = Vec::new(alloc);
-    for entry in sender.entries() {
-        numbers.push(entry.id.get())?;
+// Accepts so many messages, and adds their identifiers to a text.
+fn accept(
+    alloc: Global,
+    sender: &mut Sender,
+    text: &mut String,
+    count: u16,
+    qos: Qos,
+) -> Result<(), Fail> {
+    for _ in 0..count {
+        let number = accepted(alloc, sender, "t", qos)?;
+        write!(text, "{number} ")?;
     }
-    Ok(numbers)
+    Ok(())
 }
 
-// A sender that accepted so many messages of quality of service 2, all sent.
-fn sender_of(alloc: Global, count: u16) -> Result<Sender, Fail> {
-    let mut sender = Sender::new(alloc, 100);
-    for _ in 0..count {
-        accepted(alloc, &mut sender, "t", Qos::Q2)?;
+// Adds the identifiers of the messages that are not acknowledged, in order.
+fn add_kept(sender: &Sender, text: &mut String) -> Result<(), Fail> {
+    text.push_str("kept ")?;
+    for entry in sender.entries() {
+        write!(text, "{} ", entry.id.get())?;
     }
-    sender.mark_sent();
-    Ok(sender)
+    Ok(())
+}
+
+// Reserves room, and adds the identifiers of three messages, as they are given and as they are kept.
+fn reserve(alloc: Global, sender: &mut Sender, text: &mut String) -> Result<(), Fail> {
+    sender.reserve(3)?;
+    sender.reserve(2)?;
+    accept(alloc, sender, text, 3, Qos::Q1)?;
+    sender.reserve(1)?;
+    add_kept(sender, text)
+}
+
+fn reserved(alloc: Global) -> Result<String, Fail> {
+    let mut text = String::new(alloc);
+    let mut sender = Sender::new(alloc, 5);
+    reserve(alloc, &mut sender, &mut text)?;
+    Ok(text)
 }
 
 #[test]
 fn room_is_reserved(rt: HostRuntime) -> Result<(), Fail> {
-    let mut sender = Sender::new(rt.alloc(), 5);
-    sender.reserve(3)?;
-    sender.reserve(2)?;
-    for number in 1..4 {
-        assert_eq!(rt; accepted(rt.alloc(), &mut sender, "t", Qos::Q1)?, number);
-    }
-    sender.reserve(1)?;
-    let numbers = numbers_of(rt.alloc(), &sender)?;
-    assert!(rt; numbers.as_slice() == [1, 2, 3].as_slice());
-    Ok(())
+    expect_told(&rt, reserved(rt.alloc()), "1 2 3 kept 1 2 3 ", "")
 }
 
-// After PUBREC for each second message of 20, all that follow go last, however often places move up.
-#[test]
-fn order_stays_as_places_move_up(rt: HostRuntime) -> Result<(), Fail> {
-    let mut sender = sender_of(rt.alloc(), 20)?;
+// PUBREC comes for each second one of 20 messages, and PUBCOMP for seven of them.
+fn acknowledge(sender: &mut Sender) -> Result<(), Fail> {
     for number in 1..11 {
         let _ = sender.on_pubrec(id(number * 2)?);
     }
     for number in 1..8 {
         let _ = sender.on_pubcomp(id(number * 2)?);
     }
-    assert_eq!(rt; sender.released(), 3);
-    for number in 21..24 {
-        assert_eq!(rt; accepted(rt.alloc(), &mut sender, "u", Qos::Q1)?, number);
-    }
-    let numbers = numbers_of(rt.alloc(), &sender)?;
-    let left = [1, 3, 5, 7, 9, 11, 13, 15, 17, 19, 21, 22, 23];
-    assert!(rt; numbers.as_slice() == left.as_slice());
     Ok(())
+}
+
+// Adds the identifiers of 20 messages, how many are released then, those of three more messages, and those that are kept.
+fn move_up(alloc: Global, sender: &mut Sender, text: &mut String) -> Result<(), Fail> {
+    accept(alloc, sender, text, 20, Qos::Q2)?;
+    sender.mark_sent();
+    acknowledge(sender)?;
+    write!(text, "released {}, ", sender.released())?;
+    accept(alloc, sender, text, 3, Qos::Q1)?;
+    add_kept(sender, text)
+}
+
+fn moved_up(alloc: Global) -> Result<String, Fail> {
+    let mut text = String::new(alloc);
+    let mut sender = Sender::new(alloc, 100);
+    move_up(alloc, &mut sender, &mut text)?;
+    Ok(text)
+}
+
+// All that follow go last, however often places move up.
+#[test]
+fn order_stays_as_places_move_up(rt: HostRuntime) -> Result<(), Fail> {
+    let wanted = "1 2 3 4 5 6 7 8 9 10 11 12 13 14 15 16 17 18 19 20 released 3, 21 22 23 \
+                  kept 1 3 5 7 9 11 13 15 17 19 21 22 23 ";
+    expect_told(&rt, moved_up(rt.alloc()), wanted, "")
 }

@@ -1,5 +1,6 @@
 //! Sessions that are saved with their client, and loaded.
 
+use crate::compare::expect_told;
 use mq_flow::{LoadError, Saved, Session};
 use mq_wire::Text;
 use std::alloc::Global;
@@ -79,12 +80,16 @@ fn form(alloc: Global, front: &[u8]) -> Result<Vec<u8>, Fail> {
     Ok(form)
 }
 
+// What the rest behind these bytes is loaded as.
+fn loaded_behind(alloc: Global, front: &[u8]) -> Result<String, Fail> {
+    let form = form(alloc, front)?;
+    loaded(alloc, form.as_slice())
+}
+
 #[test]
 fn both_versions_are_loaded_or_have_a_bad_field(rt: HostRuntime) -> Result<(), Fail> {
     for (front, told) in &FORMS {
-        let form = form(rt.alloc(), *front)?;
-        let loaded = loaded(rt.alloc(), form.as_slice())?;
-        assert_eq!(rt; loaded.as_str(), *told);
+        expect_told(&rt, loaded_behind(rt.alloc(), *front), *told, "")?;
     }
     Ok(())
 }
@@ -110,15 +115,17 @@ fn a_form_that_ends_early_is_not_loaded(rt: HostRuntime) -> Result<(), Fail> {
     Ok(())
 }
 
+// Whether the form of a new session is these bytes behind a byte.
+fn is_saved_behind_a_byte(alloc: Global, wanted: &[u8]) -> Result<bool, Fail> {
+    let mut out = vec![in alloc; 7]?;
+    let client = Text::new(alloc, "w")?;
+    Session::new(alloc, 1).save_with_client(&client, true, &mut out)?;
+    Ok(out.as_slice() == wanted)
+}
+
 #[test]
 fn what_is_saved_stands_behind_what_was_there(rt: HostRuntime) -> Result<(), Fail> {
-    let mut out = Vec::new(rt.alloc());
-    out.push(7)?;
-    let client = Text::new(rt.alloc(), "w")?;
-    Session::new(rt.alloc(), 1).save_with_client(&client, true, &mut out)?;
-    assert!(rt;
-        out.as_slice()
-            == b"\x07MQS\x02\x00\x01w\x01\x00\x01\x00\x00\x00\x00\x00\x00\x00\x00".as_slice()
-    );
+    let wanted = b"\x07MQS\x02\x00\x01w\x01\x00\x01\x00\x00\x00\x00\x00\x00\x00\x00";
+    assert!(rt; is_saved_behind_a_byte(rt.alloc(), wanted)?);
     Ok(())
 }

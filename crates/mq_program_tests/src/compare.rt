@@ -1,0 +1,41 @@
+//! Texts that are as they are to be. Nothing else is held where they are compared, so that a walk over rows holds nothing either.
+
+use std::io;
+use std::process::Abort;
+use std::test::Fail;
+
+/// The text is this one; where it isn't, what it is of is told.
+pub(crate) fn expect_text(rt: &impl Abort, told: &str, wanted: &str, of: &str) {
+    assert_eq!(rt; told, wanted, "{of}");
+}
+
+/// The same of a text that a call answers.
+pub(crate) fn expect_told(
+    rt: &impl Abort,
+    told: Result<String, Fail>,
+    wanted: &str,
+    of: &str,
+) -> Result<(), Fail> {
+    let told = told?;
+    expect_text(rt, told.as_str(), wanted, of);
+    Ok(())
+}
+
+// The status and the bytes are these.
+fn expect_output(rt: &impl Abort, told: (u8, &[u8]), wanted: (u8, &[u8]), of: &str) {
+    assert_eq!(rt; told.1, wanted.1, "{of}");
+    assert_eq!(rt; told.0, wanted.0, "{of}");
+}
+
+/// The same of what a job prints, with its status.
+pub(crate) fn expect_printed(
+    rt: &impl Abort,
+    printed: io::Result<(u8, Vec<u8>)>,
+    status: u8,
+    wanted: &[u8],
+    of: &str,
+) -> Result<(), Fail> {
+    let (told, output) = printed?;
+    expect_output(rt, (told, output.as_slice()), (status, wanted), of);
+    Ok(())
+}

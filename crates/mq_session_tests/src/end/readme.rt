@@ -1,0 +1,187 @@
+//! The snippets of README's part "The libraries": each of their calls is made, in functions whose answers are told.
+
+use crate::compare::expect_told;
+use crate::end::brief::{hex_of, told_of_copy};
+use crate::end::{message, new_client};
+use mq_decode::{DecodeError, Decoder, Limits, View, read_packet, view};
+use mq_end::ClientEnd;
+use mq_flow::Session;
+use mq_packet::{NonEmpty, Packet, Request, encode_into, write_packet};
+use mq_topic::{ClientKey, FilterStore, Qos, TopicFilter, TopicName, TrieStore};
+use std::alloc::Global;
+use std::io::Write;
+use std::test::Fail;
+
+// What comes of a piece that is fed.
+fn fed(alloc: Global, piece: &[u8]) -> Result<String, Fail> {
+    let limits = Limits::new(1_048_576).unwrap();
+    let mut decoder = Decoder::new(alloc, limits);
+    let mut packets = Vec::new(alloc);
+    match decoder.feed(piece, &mut packets) {
+        Ok(()) => Ok(format!(in alloc; "{} whole, {} held", packets.len(), decoder.held())?),
+        Err(DecodeError::Fault(fault)) => {
+            Ok(format!(in alloc;
+                "{} at {}, {} whole",
+                fault.kind,
+                fault.place,
+                packets.len()
+            )?)
+        }
+        Err(DecodeError::Memory) => Err("no memory".into()),
+    }
+}
+
+#[test]
+fn a_piece_is_fed(rt: HostRuntime) -> Result<(), Fail> {
+    expect_told(&rt, fed(rt.alloc(), b"\xc0\x00\xc0"), "1 whole, 1 held", "")?;
+    expect_told(
+        &rt,
+        fed(rt.alloc(), b"\xc0\x00\xf0"),
+        "F1 at 0, 1 whole",
+        "",
+    )
+}
+
+// A client's filter is set.
+fn set(alloc: Global, store: &mut TrieStore) -> Result<(), Fail> {
+    store.set(
+        ClientKey::new(7),
+        TopicFilter::parse(alloc, "sport/+")?,
+        Qos::Q1,
+    )?;
+    Ok(())
+}
+
+// How many clients get a message.
+fn count_found(alloc: Global, store: &TrieStore) -> Result<usize, Fail> {
+    let name = TopicName::parse(alloc, "sport/x")?;
+    let found = store.matching(&name)?;
+    Ok(found.len())
+}
+
+fn found(alloc: Global) -> Result<usize, Fail> {
+    let mut store = TrieStore::new(alloc);
+    set(alloc, &mut store)?;
+    count_found(alloc, &store)
+}
+
+#[test]
+fn a_client_is_found(rt: HostRuntime) -> Result<(), Fail> {
+    assert_eq!(rt; found(rt.alloc())?, 1);
+    Ok(())
+}
+
+// The packet at the front of what a reader gives, encoded and written.
+fn read_again(alloc: Global, bytes: &[u8]) -> Result<Packet, Fail> {
+    let limits = Limits::new(1_048_576).unwrap();
+    let mut reader = bytes;
+    match read_packet(alloc, &mut reader, limits)? {
+        Some(next) => Ok(next),
+        None => Err("no packet".into()),
+    }
+}
+
+fn add_spelling(alloc: Global, packet: &Packet, out: &mut Vec<u8>) -> Result<(), Fail> {
+    encode_into(packet, out)?;
+    write_packet(alloc, packet, out)?;
+    Ok(())
+}
+
+fn spelled_twice(alloc: Global) -> Result<String, Fail> {
+    let packet = read_again(alloc, b"\x62\x02\x00\x01")?;
+    let mut out = Vec::new(alloc);
+    add_spelling(alloc, &packet, &mut out)?;
+    hex_of(alloc, out.as_slice())
+}
+
+#[test]
+fn a_packet_is_read_and_written(rt: HostRuntime) -> Result<(), Fail> {
+    expect_told(&rt, spelled_twice(rt.alloc()), "6202000162020001", "")
+}
+
+// What a view of bytes is.
+fn viewed(alloc: Global, bytes: &[u8]) -> Result<String, Fail> {
+    let limits = Limits::new(1_048_576).unwrap();
+    match view(bytes, limits) {
+        View::Whole(packet, size) => {
+            let is_ping = matches!(packet.owned(alloc)?, Packet::PingReq);
+            Ok(format!(in alloc; "PINGREQ {is_ping}, {size}")?)
+        }
+        View::More => Ok(format!(in alloc; "more")?),
+        View::Fault(fault) => Ok(format!(in alloc; "{}", fault.kind)?),
+    }
+}
+
+#[test]
+fn bytes_are_viewed(rt: HostRuntime) -> Result<(), Fail> {
+    expect_told(
+        &rt,
+        viewed(rt.alloc(), b"\xc0\x00\xff"),
+        "PINGREQ true, 2",
+        "",
+    )?;
+    expect_told(&rt, viewed(rt.alloc(), b"\xc0"), "more", "")?;
+    expect_told(&rt, viewed(rt.alloc(), b"\xf0"), "F1", "")
+}
+
+// A message is published, and the bytes that wait are written.
+fn publish(alloc: Global, client: &mut ClientEnd, socket: &mut Vec<u8>) -> Result<(), Fail> {
+    let message = message(alloc, Qos::Q1, b"x")?;
+    client.publish(message)?;
+    socket.write_all(client.output())?;
+    client.take_all_output();
+    Ok(())
+}
+
+fn request(alloc: Global) -> Result<Request, Fail> {
+    Ok(Request {
+        filter: TopicFilter::parse(alloc, "a")?,
+        qos: Qos::Q1,
+    })
+}
+
+fn subscribe(alloc: Global, client: &mut ClientEnd, socket: &mut Vec<u8>) -> Result<(), Fail> {
+    let requests = NonEmpty::from_vec(vec![in alloc; request(alloc)?]?);
+    client.subscribe(requests)?;
+    socket.write_all(client.output())?;
+    Ok(())
+}
+
+// A client connects, publishes, comes up, subscribes, and loses its connection.
+fn converse(alloc: Global, client: &mut ClientEnd, socket: &mut Vec<u8>) -> Result<String, Fail> {
+    client.connect(0, false)?;
+    publish(alloc, client, socket)?;
+    let told = told_of_copy(alloc, client.receive(0, b"\x20\x02\x00\x00"))?;
+    subscribe(alloc, client, socket)?;
+    client.dropped();
+    Ok(told)
+}
+
+// What the client tells, and what it wrote.
+fn conversation(alloc: Global) -> Result<String, Fail> {
+    let mut socket = Vec::new(alloc);
+    let mut client = new_client(alloc, 2)?;
+    let told = converse(alloc, &mut client, &mut socket)?;
+    let written = hex_of(alloc, socket.as_slice())?;
+    Ok(format!(in alloc; "{told} {written}")?)
+}
+
+#[test]
+fn a_client_converses(rt: HostRuntime) -> Result<(), Fail> {
+    let wanted = "up false 100d00044d5154540400003c00017732060001740001788206000200016101";
+    expect_told(&rt, conversation(rt.alloc()), wanted, "")
+}
+
+// How many bytes the saved form of a new session has, and the capacity of what is loaded of it.
+fn saved(alloc: Global) -> Result<String, Fail> {
+    let mut bytes = Vec::new(alloc);
+    let session = Session::new(alloc, 4);
+    session.save(&mut bytes)?;
+    let session = Session::load(alloc, bytes.as_slice())?;
+    Ok(format!(in alloc; "{} {}", bytes.len(), session.sender.capacity())?)
+}
+
+#[test]
+fn a_session_is_saved_and_loaded(rt: HostRuntime) -> Result<(), Fail> {
+    expect_told(&rt, saved(rt.alloc()), "14 4", "")
+}
