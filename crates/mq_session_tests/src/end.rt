@@ -4,6 +4,7 @@ mod late;
 mod packets;
 mod queue;
 mod readme;
+mod ready;
 mod requests;
 mod resumed;
 mod saved;
