@@ -3,6 +3,7 @@ use Rattle.std.proofs.Common.{◌≡◌, ℕ, zero, suc, ◌+◌, ◌-◌, ◌/�
 use Rattle.std.specs.Prelude.{codes, decimal}
 use Rattle.std.specs.Int.{w32, to_be_bytes}
 use Rattle.std.specs.Int.NonZero.{non_zero_u16_get}
+use Rattle.std.specs.declared.num.NonZeroU16.{NonZeroU16}
 use Rattle.std.specs.Io.KnownBytes.{Appends}
 use Rattle.std.specs.List.{All}
 use Rattle.std.proofs.KnownBytes.{Appends-trans}
@@ -24,8 +25,8 @@ use Rattle.mq_schedule.specs.declared.schedule.Step.{Step}
 use Rattle.mq_schedule.specs.declared.schedule.Step.TheVariants.{Event, Settle}
 use Rattle.mq_schedule.specs.Laws.{ScheduleLaws}
 use Rattle.mq_schedule.specs.Parts.{KeepsBounds}
-use Rattle.mq_schedule.specs.Schedule.{IsSchedule, lines_of}
-use Rattle.mq_schedule.specs.Writing.{line_with, schedule_text, step_line}
+use Rattle.mq_schedule.specs.Schedule.{IsSchedule, lines_of, number_of}
+use Rattle.mq_schedule.specs.Writing.{line_with, schedule_text, step_line, window_words}
 use Rattle.mq_cli.specs.Status.{IsMadeUp, IsRandomText}
 
 -- the lines of some events were written, and the generator makes the others
@@ -121,7 +122,9 @@ pub random_text : (laws : ScheduleLaws) (start count : ℕ) (text : List ℕ) �
 random_text laws start count text e = record { lines = e; written = written; reads = reads }
   where
     same : (schedule : Schedule) → IsMadeUp start count schedule → schedule_text schedule ≡ line_with (codes "world" ∷ decimal 65536 ∷ decimal 4 ∷ []) ++ flat_map step_line (map (λ event. Event event) (made_up start count) ++ Settle ∷ [])
-    same schedule made = rw (made.limit, made.capacity, made.all) refl
+    same schedule made =
+        ap (λ (w : Option NonZeroU16). line_with (codes "world" ∷ decimal schedule.limits.most ∷ decimal (non_zero_u16_get schedule.capacity) ∷ window_words (number_of w)) ++ flat_map step_line schedule.steps.items) made.window
+        ∙ rw (made.limit, made.capacity, made.all) refl
 
     written : (schedule : Schedule) → IsMadeUp start count schedule → text ≡ schedule_text schedule
     written schedule made = e ∙ sym (same schedule made)
@@ -135,5 +138,6 @@ random_text laws start count text e = record { lines = e; written = written; rea
       most = rw made.limit (omega arith);
       some = rw made.capacity (omega arith);
       few = rw made.capacity (omega arith);
+      window = rw made.window tt;
       steps = rw made.all kept;
     }))

@@ -108,11 +108,12 @@ abbrev pub IsReplayDone : Option (List ℕ) → ℕ → List ℕ → Type 0
 IsReplayDone left status printed =
     ((text : List ℕ) × IfSome left (λ bytes. bytes ≡ text) × IsTextReplayed text status printed) ⊎ ((status ≡ 2) × (printed ≡ file_not_read)) ⊎ ((status ≡ 3) × (printed ≡ no_memory))
 
--- so many events that are made up from a start, and then all settles: the remaining length of packets is 65,536 at most (2.2.3), and
--- 4 packet identifiers may be in use at a side (2.3.1)
+-- so many events that are made up from a start, and then all settles: the remaining length of packets is 65,536 at most (2.2.3),
+-- 4 packet identifiers may be in use at a side (2.3.1), and no side has a receiving window
 pub record IsMadeUp (start count : ℕ) (schedule : Schedule) : Type 0 where
   pub limit : schedule.limits ≡ strict 65536
   pub capacity : non_zero_u16_get schedule.capacity ≡ 4
+  pub window : schedule.window ≡ None
   pub all : schedule.steps.items ≡ map (λ event. Event event) (made_up start count) ++ Settle ∷ []
 
 -- the lines of such a schedule: the one for the world, one for each event, and `settle`; they are read as it

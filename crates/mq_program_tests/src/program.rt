@@ -2,6 +2,7 @@ mod lenient;
 mod randoms;
 pub(crate) mod replays;
 mod streams;
+mod windows;
 
 use crate::compare::expect_printed;
 use clap::error::ErrorKind;

@@ -22,7 +22,7 @@ static TEXTS: [(&str, usize); 24] = [
     ("world 4294967360 1", 1),
     ("world 65536", 1),
     ("world 65536 4 ", 1),
-    ("world 65536 4 1", 1),
+    ("world 65536 4 1", 0),
     ("world +65536 4", 1),
     ("World 65536 4", 1),
     ("world 65536 4\r\nopen", 1),

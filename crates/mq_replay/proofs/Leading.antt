@@ -1,5 +1,5 @@
 -- Steps that were made, and what was printed of them.
-use Rattle.std.proofs.Common.{◌≡◌, ℕ, ◌+◌, ◌<◌, None, List, [], ◌∷◌, ◌++◌, Option, length, take, drop, get_or, refl, sym, ap, subst, ◌∙◌, take-append-drop}
+use Rattle.std.proofs.Common.{◌≡◌, ℕ, ◌+◌, ◌<◌, List, [], ◌∷◌, ◌++◌, Option, length, take, drop, get_or, refl, sym, ap, subst, ◌∙◌, take-append-drop}
 use Rattle.std.proofs.lemmas.List.{flat_map_more, take_more}
 use Rattle.std.proofs.KnownBytes.{Appends-nil, Appends-trans}
 use Rattle.std.specs.List.{flat_map}
@@ -12,6 +12,7 @@ use Rattle.mq_world.specs.Carries.{Wired}
 use Rattle.mq_world.specs.World.{IsNew}
 use Rattle.mq_schedule.specs.declared.schedule.Step.{Step}
 use Rattle.mq_schedule.specs.declared.schedule.Schedule.{Schedule}
+use Rattle.mq_schedule.specs.Schedule.{number_of}
 use Rattle.mq_replay.specs.declared.run.ReplayFault.{ReplayFault}
 use Rattle.mq_replay.specs.declared.run.ReplayFault.TheVariants.{Io, Memory}
 use Rattle.mq_replay.specs.Fault.{OnMemory}
@@ -53,7 +54,7 @@ next_made limit capacity steps k s a u v w old mid new below at h does prints =
     subst (λ (ss : List Step). IsMade limit capacity ss u w old new) more (one_made limit capacity (take k steps) s a u v w old mid new h does prints)
 
 -- all steps were made, and then the last lines were printed
-pub all_made : (s : Schedule) (start end : Wired) (old mid new : Option (List ℕ)) → IsNew s.limits (non_zero_u16_get s.capacity) None start → IsMade s.limits (non_zero_u16_get s.capacity) s.steps.items start end old mid
+pub all_made : (s : Schedule) (start end : Wired) (old mid new : Option (List ℕ)) → IsNew s.limits (non_zero_u16_get s.capacity) (number_of s.window) start → IsMade s.limits (non_zero_u16_get s.capacity) s.steps.items start end old mid
     → Appends mid new (last_lines end) → Prints old new (IsReplay s)
 all_made s start end old mid new begins h prints = (
   flat_map answer_lines h.answers ++ last_lines end,
@@ -62,7 +63,7 @@ all_made s start end old mid new begins h prints = (
 )
 
 -- the first steps were made, and no more
-pub first_made : (s : Schedule) (k : ℕ) (start end : Wired) (old new : Option (List ℕ)) → IsNew s.limits (non_zero_u16_get s.capacity) None start → IsMade s.limits (non_zero_u16_get s.capacity) (take k s.steps.items) start end old new
+pub first_made : (s : Schedule) (k : ℕ) (start end : Wired) (old new : Option (List ℕ)) → IsNew s.limits (non_zero_u16_get s.capacity) (number_of s.window) start → IsMade s.limits (non_zero_u16_get s.capacity) (take k s.steps.items) start end old new
     → Prints old new (IsCutReplay s)
 first_made s k start end old new begins h = (
   flat_map answer_lines h.answers,
@@ -79,7 +80,7 @@ first_made s k start end old new begins h = (
 )
 
 -- where memory ran out, what came of the first steps stands printed
-pub cut_made : {W : Type 0} (contents : W → Option (List ℕ)) (s : Schedule) (k : ℕ) (start end : Wired) (old mid new : W) (fault : ReplayFault) → IsNew s.limits (non_zero_u16_get s.capacity) None start
+pub cut_made : {W : Type 0} (contents : W → Option (List ℕ)) (s : Schedule) (k : ℕ) (start end : Wired) (old mid new : W) (fault : ReplayFault) → IsNew s.limits (non_zero_u16_get s.capacity) (number_of s.window) start
     → IsMade s.limits (non_zero_u16_get s.capacity) (take k s.steps.items) start end (contents old) (contents mid) → OnMemory fault (new ≡ mid) → OnMemory fault (Prints (contents old) (contents new) (IsCutReplay s))
 cut_made contents s k start end old mid new (Io error) begins h same = tt
 cut_made {W} contents s k start end old mid new Memory begins h same =

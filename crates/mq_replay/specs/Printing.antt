@@ -7,6 +7,7 @@ use Rattle.mq_end.specs.declared.happening.Happening.{Happening}
 use Rattle.mq_end.specs.declared.happening.Happening.TheVariants.{Up, Handed, Subscribe, Unsubscribe, SubAck, UnsubAck, Pong}
 use Rattle.mq_end.specs.declared.reason.CloseReason.{CloseReason}
 use Rattle.mq_end.specs.declared.refusal.PublishRefusal.{PublishRefusal}
+use Rattle.mq_end.specs.declared.reason.CloseReason.TheVariants as closes
 use Rattle.mq_end.specs.Codes.{close_code, refusal_code}
 use Rattle.mq_world.specs.declared.side.Side.{Side}
 use Rattle.mq_world.specs.declared.side.Side.TheVariants.{Client, Server}

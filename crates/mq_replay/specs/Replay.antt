@@ -1,5 +1,5 @@
 -- What a schedule comes to, and what is printed of it.
-use Rattle.std.specs.Prelude.{ℕ, ◌≡◌, if◌then◌else◌, None, List, [], ◌∷◌, ◌++◌, length, codes, decimal}
+use Rattle.std.specs.Prelude.{ℕ, ◌≡◌, if◌then◌else◌, Option, List, [], ◌∷◌, ◌++◌, length, codes, decimal}
 use Rattle.std.specs.List.{flat_map}
 use Rattle.std.specs.Int.NonZero.{non_zero_u16_get}
 use Rattle.mq_topic.specs.declared.qos.Qos.{Qos}
@@ -17,7 +17,7 @@ use Rattle.mq_world.specs.World.{Does, IsNew, Settles}
 use Rattle.mq_schedule.specs.declared.schedule.Step.{Step}
 use Rattle.mq_schedule.specs.declared.schedule.Step.TheVariants.{Event, Settle}
 use Rattle.mq_schedule.specs.declared.schedule.Schedule.{Schedule}
-use Rattle.mq_schedule.specs.Schedule.{side_word}
+use Rattle.mq_schedule.specs.Schedule.{number_of, side_word}
 use Rattle.mq_replay.specs.Printing.{answer_lines}
 
 -- ---- what the steps come to
@@ -35,9 +35,9 @@ StepsLead limit capacity [] (a ∷ rest) old new = ⊥
 StepsLead limit capacity (s ∷ ss) [] old new = ⊥
 
 -- from a new world
-pub record Comes (limit : Bounds) (capacity : ℕ) (steps : List Step) (answers : List Answer) (end : Wired) : Type 0 where
+pub record Comes (limit : Bounds) (capacity : ℕ) (window : Option ℕ) (steps : List Step) (answers : List Answer) (end : Wired) : Type 0 where
   pub start : Wired
-  pub new : IsNew limit capacity None start
+  pub new : IsNew limit capacity window start
   pub leads : StepsLead limit capacity steps answers start end
 
 -- ---- the last lines: of each direction and quality of service, how many messages were accepted, handed on, and are held
@@ -60,7 +60,7 @@ last_lines w = total_line Client Server Q1 w ++ (total_line Client Server Q2 w +
 pub record IsReplay (s : Schedule) (text : List ℕ) : Type 0 where
   pub answers : List Answer
   pub end : Wired
-  pub comes : Comes s.limits (non_zero_u16_get s.capacity) s.steps.items answers end
+  pub comes : Comes s.limits (non_zero_u16_get s.capacity) (number_of s.window) s.steps.items answers end
   pub text_is : text ≡ flat_map answer_lines answers ++ last_lines end
 
 -- what it prints where memory runs out: the answers of its first steps
@@ -70,5 +70,5 @@ pub record IsCutReplay (s : Schedule) (text : List ℕ) : Type 0 where
   pub steps : s.steps.items ≡ done ++ left
   pub answers : List Answer
   pub end : Wired
-  pub comes : Comes s.limits (non_zero_u16_get s.capacity) done answers end
+  pub comes : Comes s.limits (non_zero_u16_get s.capacity) (number_of s.window) done answers end
   pub text_is : text ≡ flat_map answer_lines answers

@@ -1,12 +1,13 @@
 //! Schedules that are run.
 
-ghost use Rattle.std.specs.Prelude.{◌≡◌, None, IfErr, IfOk, OnOk};
+ghost use Rattle.std.specs.Prelude.{◌≡◌, ◌<◌, IfErr, IfOk, IfSome, OnOk};
 ghost use Rattle.std.specs.Int.NonZero.{non_zero_u16_get};
 ghost use Rattle.std.specs.Io.KnownBytes.{Appends};
 ghost use Rattle.mq_line.specs.Lines.{Prints};
 ghost use Rattle.mq_world.specs.declared.answer.Answer.{Answer};
 ghost use Rattle.mq_world.specs.Carries.{Wired};
 ghost use Rattle.mq_world.specs.World.{IsNew};
+ghost use Rattle.mq_schedule.specs.Schedule.{number_of};
 ghost use Rattle.mq_replay.specs.Printing.{answer_lines};
 ghost use Rattle.mq_replay.specs.Replay.{IsCutReplay, IsReplay, StepDoes};
 ghost use Rattle.mq_replay.specs.Fault.{OnMemory};
@@ -19,6 +20,7 @@ use mq_world::{Answer, World, over_bytes};
 use std::alloc::{AllocError, Global};
 use std::io;
 use std::io::Write;
+use std::num::NonZeroU16;
 use thiserror::Error;
 
 /// Why a replay stops before its end.
@@ -54,12 +56,42 @@ impl From<AllocError> for ReplayFault {
     }
 }
 
-// There is a new world within these bounds, also where memory does not suffice to make it.
-fn begins(limits: Limits, capacity: u16)
-    ensures { (start : Wired) × IsNew limits capacity None start }
+// There is a new world of these bounds, also where memory does not suffice to make it.
+fn begins(limits: Limits, capacity: u16, window: Option<u16>)
+    ensures { (start : Wired) × IsNew limits capacity window start }
 {
     over_bytes();
     let _least = limits.max_packet();
+}
+
+// A new world of these bounds.
+fn new_world(
+    alloc: Global,
+    limits: Limits,
+    capacity: u16,
+    window: Option<u16>,
+) -> Result<World, AllocError>
+    requires capacity { 0 < capacity }
+    requires window { IfSome window (λ n. 0 < n) }
+    ensures new { IfOk result (λ world. IsNew limits capacity window world.wired) }
+    ensures limit { IfOk result (λ world. world.limit ≡ limits) }
+    ensures capacity { IfOk result (λ world. world.capacity ≡ capacity) }
+{
+    match window {
+        Some(window) => World::with_window(alloc, limits, capacity, window),
+        None => World::new(alloc, limits, capacity),
+    }
+}
+
+// The number of places of a receiving window, if there is one.
+fn places(window: Option<NonZeroU16>) -> Option<u16>
+    ensures places { result ≡ number_of window }
+    ensures some { IfSome result (λ n. 0 < n) }
+{
+    match window {
+        Some(window) => Some(window.get()),
+        None => None,
+    }
 }
 
 // Makes a step, and answers what came of it.
@@ -90,7 +122,7 @@ fn advance<W: Write>(world: &mut World, step: &Step, output: &mut W) -> Result<(
 
 // Runs a schedule in a world that is new.
 fn run<W: Write>(world: &mut World, schedule: &Schedule, output: &mut W) -> Result<(), ReplayFault>
-    requires new { IsNew schedule.now.limits (non_zero_u16_get schedule.now.capacity) None world.old.wired }
+    requires new { IsNew schedule.now.limits (non_zero_u16_get schedule.now.capacity) (number_of schedule.now.window) world.old.wired }
     requires limit { world.old.limit ≡ schedule.now.limits }
     requires capacity { world.old.capacity ≡ non_zero_u16_get schedule.now.capacity }
     ensures printed { OnOk result
@@ -121,7 +153,8 @@ pub fn replay<W: Write>(
         (Prints (W.contents output.old) (W.contents output.new) (IsCutReplay schedule.now))) }
 {
     let capacity = schedule.capacity.get();
-    begins(schedule.limits, capacity);
-    let mut world = World::new(alloc, schedule.limits, capacity)?;
+    let window = places(schedule.window);
+    begins(schedule.limits, capacity, window);
+    let mut world = new_world(alloc, schedule.limits, capacity, window)?;
     run(&mut world, schedule, output)
 }

@@ -1,5 +1,5 @@
 -- Lines that are put out as words, and read back.
-use Rattle.std.proofs.Common.{◌≡◌, ℕ, suc, ◌+◌, ◌/◌, ◌%◌, ◌^◌, ◌≤◌, ◌<◌, Bool, true, false, ◌==◌, nat_lt, List, [], ◌∷◌, ◌++◌, length, map, take, get_or, flat_map, refl, sym, ap, subst, inl, ◌∙◌, append_assoc, arith, lit<}
+use Rattle.std.proofs.Common.{◌≡◌, ℕ, suc, ◌+◌, ◌/◌, ◌%◌, ◌^◌, ◌≤◌, ◌<◌, Bool, true, false, ◌==◌, nat_lt, Option, Some, None, List, [], ◌∷◌, ◌++◌, length, map, take, get_or, flat_map, refl, sym, ap, subst, inl, ◌∙◌, append_assoc, arith, lit<}
 use Rattle.std.specs.Prelude.{⊤, decimal}
 use Rattle.std.specs.Fmt.{digit_glyph}
 use Rattle.std.specs.List.{All, AllZip, join_with_byte, list_all, slice_split}
@@ -24,9 +24,10 @@ use Rattle.mq_line.specs.Lines.{byte_digits, escaped_byte}
 use Rattle.mq_schedule.specs.declared.schedule.Step.{Step}
 use Rattle.mq_schedule.specs.declared.schedule.Step.TheVariants.{Event, Settle}
 use Rattle.mq_schedule.specs.declared.schedule.Schedule.{Schedule}
-use Rattle.mq_schedule.specs.Schedule.{IsNumber, IsSchedule, IsWorldLine, Writes, bytes_word, lines_of, publish_word, side_word, words_of}
+use Rattle.mq_schedule.specs.Schedule.{IsNumber, IsSchedule, IsWindow, IsWorldLine, Writes, bytes_word, lines_of, number_of, publish_word, side_word, words_of}
 use Rattle.mq_schedule.specs.Parts.{KeepsBounds, is_plain}
-use Rattle.mq_schedule.specs.Writing.{line_with, schedule_text, step_line, step_words, world_words}
+use Rattle.mq_schedule.specs.Writing.{line_with, schedule_text, step_line, step_words, window_words, world_words}
+use Rattle.mq_schedule.specs.Laws.{KeepsWindow}
 use Rattle.mq_schedule.proofs.Codes.{escaped_other, escaped_plain, two_digits}
 use Rattle.mq_schedule.proofs.Cuts.{strip_feed}
 use Rattle.mq_schedule.proofs.Octets.{name_bytes}
@@ -208,21 +209,32 @@ steps_lack (step ∷ steps) h = (lacks_feed (step_words step) (step_solid step (
 -- ---- schedules
 
 -- the words of a world
-pub world_is : (s : Schedule) → (64 ≤ s.limits.most) → s.limits.most < 2 ^ 28 → (1 ≤ non_zero_u16_get s.capacity) → non_zero_u16_get s.capacity < 2 ^ 16 → IsWorldLine s.limits.most (non_zero_u16_get s.capacity) (world_words s)
-world_is s least most one room = record {
+window_is : (n : Option ℕ) → KeepsWindow n → IsWindow n (window_words n)
+window_is None bounds = refl
+window_is (Some n) bounds = (decimal n, number n (omega (arith, bounds.1)), bounds.0, omega (arith, bounds.1), refl)
+
+pub world_is : (s : Schedule) → (64 ≤ s.limits.most) → s.limits.most < 2 ^ 28 → (1 ≤ non_zero_u16_get s.capacity) → non_zero_u16_get s.capacity < 2 ^ 16 → KeepsWindow (number_of s.window)
+    → IsWorldLine s.limits.most (non_zero_u16_get s.capacity) (number_of s.window) (world_words s)
+world_is s least most one room window = record {
   most = decimal s.limits.most;
   room = decimal (non_zero_u16_get s.capacity);
+  last = window_words (number_of s.window);
   limit_is = number s.limits.most (omega (arith, most));
   capacity_is = number (non_zero_u16_get s.capacity) (omega (arith, room));
   least_limit = least;
   most_limit = omega (arith, most);
   least_capacity = one;
   most_capacity = omega (arith, room);
+  window_is = window_is (number_of s.window) window;
   words_are = refl;
 }
 
-world_solid : (s : Schedule) → IsWorldLine s.limits.most (non_zero_u16_get s.capacity) (world_words s) → AllSolid (world_words s)
-world_solid s h = (refl, (solid_number s.limits.most h.limit_is.bound, (solid_number (non_zero_u16_get s.capacity) h.capacity_is.bound, tt)))
+window_solid : (n : Option ℕ) (words : List (List ℕ)) → IsWindow n words → AllSolid (window_words n)
+window_solid None words h = tt
+window_solid (Some n) words h = (solid_number n h.1.bound, tt)
+
+world_solid : (s : Schedule) → IsWorldLine s.limits.most (non_zero_u16_get s.capacity) (number_of s.window) (world_words s) → AllSolid (world_words s)
+world_solid s h = (refl, (solid_number s.limits.most h.limit_is.bound, (solid_number (non_zero_u16_get s.capacity) h.capacity_is.bound, window_solid (number_of s.window) h.last h.window_is)))
 
 -- lines, each with its end, are lines that line feeds join, and one at the end
 joined : (words : List (List ℕ)) (steps : List Step) → line_with words ++ flat_map step_line steps ≡ join_with_byte 10 (join_with_byte 32 words ∷ map bare_line steps) ++ 10 ∷ []
@@ -240,7 +252,7 @@ line_more words steps k step old new below at before e =
     e ∙ ap (λ (t : List ℕ). t ++ step_line step) before ∙ flat_map_more step_line (line_with words) (take k steps) step ∙ ap (λ (ss : List Step). line_with words ++ flat_map step_line ss) more
 
 -- what is put out is read as the schedule
-pub schedule_back : (s : Schedule) (text : List ℕ) → text ≡ schedule_text s → IsWorldLine s.limits.most (non_zero_u16_get s.capacity) (world_words s) → All KeepsBounds s.steps.items → IsSchedule (lines_of text) s
+pub schedule_back : (s : Schedule) (text : List ℕ) → text ≡ schedule_text s → IsWorldLine s.limits.most (non_zero_u16_get s.capacity) (number_of s.window) (world_words s) → All KeepsBounds s.steps.items → IsSchedule (lines_of text) s
 schedule_back s text e world bounds =
     let first = join_with_byte 32 (world_words s) in
     let others = map bare_line s.steps.items in
@@ -250,6 +262,6 @@ schedule_back s text e world bounds =
       first = first;
       others = others;
       lines_are = ap (slice_split (λ b. b == 10)) stripped ∙ parted 10 first others (lacks_feed (world_words s) solid, steps_lack s.steps.items bounds);
-      world = subst (IsWorldLine s.limits.most (non_zero_u16_get s.capacity)) (sym (line_words _ _ solid)) world;
+      world = subst (IsWorldLine s.limits.most (non_zero_u16_get s.capacity) (number_of s.window)) (sym (line_words _ _ solid)) world;
       steps = steps_back s.steps.items bounds;
     }

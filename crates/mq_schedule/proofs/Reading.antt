@@ -8,7 +8,7 @@ use Rattle.std.specs.declared.num.NonZeroU16.{NonZeroU16}
 use Rattle.std.proofs.Math.Seq.{split_at}
 use Rattle.std.proofs.lemmas.List.{map-append}
 use Rattle.mq_decode.specs.Limits.{Bounds}
-use Rattle.mq_schedule.specs.Schedule.{IsBadLine, IsWorldLine, Writes, words_of}
+use Rattle.mq_schedule.specs.Schedule.{IsBadLine, IsWorldLine, Writes, number_of, words_of}
 use Rattle.mq_schedule.specs.Parts.{AreSteps, StopsAt}
 use Rattle.mq_schedule.specs.declared.read.ScheduleFault.{ScheduleFault}
 use Rattle.mq_schedule.specs.declared.read.ScheduleFault.TheVariants.{Line}
@@ -58,9 +58,9 @@ stops all steps yielded line count n read front here size number none = record {
 }
 
 -- the same behind the line for a world
-pub stops_after : (all others : List (List ℕ)) (first : List ℕ) (limits : Bounds) (capacity : NonZeroU16) (n : ℕ) → all ≡ first ∷ others → limits.lenient ≡ false → IsWorldLine limits.most (non_zero_u16_get capacity) (words_of first) → StopsAt others n → IsBadLine all n
-stops_after all others first limits capacity n e strict world stop = inr (record {
-  schedule = record { limits = limits; capacity = capacity; steps = stop.steps; strict = strict };
+pub stops_after : (all others : List (List ℕ)) (first : List ℕ) (limits : Bounds) (capacity : NonZeroU16) (window : Option NonZeroU16) (n : ℕ) → all ≡ first ∷ others → limits.lenient ≡ false → IsWorldLine limits.most (non_zero_u16_get capacity) (number_of window) (words_of first) → StopsAt others n → IsBadLine all n
+stops_after all others first limits capacity window n e strict world stop = inr (record {
+  schedule = record { limits = limits; capacity = capacity; window = window; steps = stop.steps; strict = strict };
   front = first ∷ stop.front;
   line = stop.line;
   others = stop.others;

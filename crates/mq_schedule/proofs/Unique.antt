@@ -1,5 +1,5 @@
 -- Texts that are at most one schedule.
-use Rattle.std.proofs.Common.{◌≡◌, ◌≢◌, ℕ, ◌/◌, ◌%◌, ◌<◌, Bool, true, false, List, [], ◌∷◌, ◌++◌, get_or, codes, refl, sym, ap, subst, inl, inr, ◌∙◌, arith}
+use Rattle.std.proofs.Common.{◌≡◌, ◌≢◌, ℕ, ◌/◌, ◌%◌, ◌<◌, Bool, true, false, Option, Some, None, List, [], ◌∷◌, ◌++◌, get_or, codes, refl, sym, ap, subst, inl, inr, ◌∙◌, arith}
 use Rattle.std.specs.Int.NonZero.{non_zero_u16_get}
 use Rattle.std.specs.Fmt.{digit_glyph}
 use Rattle.std.specs.Str.Parse.{IsNumeral, digits_value}
@@ -17,7 +17,7 @@ use Rattle.mq_line.specs.Lines.{byte_digits, escaped, escaped_byte, hex_of}
 use Rattle.mq_schedule.specs.declared.schedule.Step.{Step}
 use Rattle.mq_schedule.specs.declared.schedule.Step.TheVariants.{Event, Settle}
 use Rattle.mq_schedule.specs.declared.schedule.Schedule.{Schedule}
-use Rattle.mq_schedule.specs.Schedule.{HasNoStep, HasNoWorld, IsAmount, IsBadLine, IsNumber, IsPublication, IsSchedule, IsWorldLine, Writes, bytes_word, lines_of, publish_word, side_word, words_of}
+use Rattle.mq_schedule.specs.Schedule.{HasNoStep, HasNoWorld, IsAmount, IsBadLine, IsNumber, IsPublication, IsSchedule, IsWindow, IsWorldLine, Writes, bytes_word, lines_of, number_of, publish_word, side_word, words_of}
 use Rattle.mq_schedule.specs.Parts.{AreSteps}
 use Rattle.mq_schedule.specs.Writing.{schedule_text}
 use Rattle.mq_schedule.specs.Laws.{InBounds, SameSchedule, ScheduleLaws}
@@ -185,6 +185,16 @@ same_bounds a b most one two =
     let lenient : a.lenient ≡ b.lenient = one ∙ sym two in
     λ i. record { most = most i; lenient = lenient i }
 
+-- words are at most one window
+same_window : (a b : Option ℕ) (words : List (List ℕ)) → IsWindow a words → IsWindow b words → a ≡ b
+same_window None None words h k = refl
+same_window None (Some n) words h k = let clash = sym h ∙ k.4 in absurd cc
+same_window (Some n) None words h k = let clash = sym k ∙ h.4 in absurd cc
+same_window (Some m) (Some n) words h k =
+    let same = sym h.4 ∙ k.4 in
+    let word : h.0 ≡ k.0 = cc same in
+    ap (λ (x : ℕ). Some x) (same_number m n h.0 k.0 word h.1 k.1)
+
 -- lines are at most one schedule
 one_schedule : (lines : List (List ℕ)) (s t : Schedule) → IsSchedule lines s → IsSchedule lines t → SameSchedule s t
 one_schedule lines s t h k =
@@ -194,9 +204,11 @@ one_schedule lines s t h k =
     let words = sym h.world.words_are ∙ ap words_of firsts ∙ k.world.words_are in
     let most : h.world.most ≡ k.world.most = cc words in
     let room : h.world.room ≡ k.world.room = cc words in
+    let last : h.world.last ≡ k.world.last = cc words in
     record {
       limits = same_bounds s.limits t.limits (same_number s.limits.most t.limits.most h.world.most k.world.most most h.world.limit_is k.world.limit_is) s.strict t.strict;
       capacity = same_number (non_zero_u16_get s.capacity) (non_zero_u16_get t.capacity) h.world.room k.world.room room h.world.capacity_is k.world.capacity_is;
+      window = same_window (number_of s.window) (number_of t.window) k.world.last (subst (IsWindow (number_of s.window)) last h.world.window_is) k.world.window_is;
       steps = same_steps s.steps.items t.steps.items k.others (subst (AreSteps s.steps.items) others h.steps) k.steps;
     }
 
@@ -212,7 +224,8 @@ no_world : (lines : List (List ℕ)) (s : Schedule) → IsSchedule lines s → �
 no_world lines s h bad =
     let same = sym h.lines_are ∙ bad.lines_are in
     let firsts : h.first ≡ bad.first = cc same in
-    bad.no_world s.limits.most (non_zero_u16_get s.capacity) (subst (λ (line : List ℕ). IsWorldLine s.limits.most (non_zero_u16_get s.capacity) (words_of line)) firsts h.world)
+    bad.no_world s.limits.most (non_zero_u16_get s.capacity) (number_of s.window)
+    (subst (λ (line : List ℕ). IsWorldLine s.limits.most (non_zero_u16_get s.capacity) (number_of s.window) (words_of line)) firsts h.world)
 
 -- the others are steps
 no_bad_step : (lines : List (List ℕ)) (s : Schedule) (n : ℕ) → IsSchedule lines s → ¬ HasNoStep lines n
@@ -228,7 +241,7 @@ not_both lines s n h (inr bad) = no_bad_step lines s n h bad
 
 -- what is written of a schedule
 read_back : (s : Schedule) → InBounds s → IsSchedule (lines_of (schedule_text s)) s
-read_back s bounds = schedule_back s (schedule_text s) refl (world_is s bounds.least bounds.most bounds.some bounds.few) bounds.steps
+read_back s bounds = schedule_back s (schedule_text s) refl (world_is s bounds.least bounds.most bounds.some bounds.few bounds.window) bounds.steps
 
 pub laws : ScheduleLaws
 laws = record { one_schedule = one_schedule; not_both = not_both; read_back = read_back }

@@ -1,24 +1,31 @@
 -- What a text says as a schedule.
-use Rattle.std.specs.Prelude.{◌≡◌, ℕ, ◌^◌, ◌≤◌, ◌<◌, List}
+use Rattle.std.specs.Prelude.{◌≡◌, ⊤, ℕ, Option, Some, None, ◌^◌, ◌≤◌, ◌<◌, List}
 use Rattle.std.specs.List.{All}
 use Rattle.std.specs.Int.NonZero.{non_zero_u16_get}
 use Rattle.mq_schedule.specs.declared.schedule.Schedule.{Schedule}
-use Rattle.mq_schedule.specs.Schedule.{IsBadLine, IsSchedule, lines_of}
+use Rattle.mq_schedule.specs.Schedule.{IsBadLine, IsSchedule, lines_of, number_of}
 use Rattle.mq_schedule.specs.Parts.{KeepsBounds}
 use Rattle.mq_schedule.specs.Writing.{schedule_text}
 
--- two schedules with the same limit, capacity and steps
+-- two schedules with the same limit, capacity, window and steps
 pub record SameSchedule (s t : Schedule) : Type 0 where
   pub limits : s.limits ≡ t.limits
   pub capacity : non_zero_u16_get s.capacity ≡ non_zero_u16_get t.capacity
+  pub window : number_of s.window ≡ number_of t.window
   pub steps : s.steps.items ≡ t.steps.items
 
--- the limit is one (2.2.3), identifiers may be in use (2.3.1), and each step keeps its bounds
+-- a receiving window, if there is one, has room, and so few places that two bytes count them
+abbrev pub KeepsWindow : Option ℕ → Type 0
+KeepsWindow None = ⊤
+KeepsWindow (Some n) = (1 ≤ n) × (n < 2 ^ 16)
+
+-- the limit is one (2.2.3), identifiers may be in use (2.3.1), and the window and each step keep their bounds
 pub record InBounds (s : Schedule) : Type 0 where
   pub least : 64 ≤ s.limits.most
   pub most : s.limits.most < 2 ^ 28
   pub some : 1 ≤ non_zero_u16_get s.capacity
   pub few : non_zero_u16_get s.capacity < 2 ^ 16
+  pub window : KeepsWindow (number_of s.window)
   pub steps : All KeepsBounds s.steps.items
 
 -- what a reader of lines may rely on

@@ -19,6 +19,11 @@ abbrev pub parts_left : ℕ → Option (Bor (List ℕ)) → List (List ℕ)
 parts_left by None = []
 parts_left by (Some text) = parts by text.now
 
+-- the last word, if there is one
+abbrev pub last_word : Option (Bor (List ℕ)) → List (List ℕ)
+last_word None = []
+last_word (Some word) = word.now ∷ []
+
 -- a value of which this holds, or none where it holds of none
 abbrev pub Finds : {A : Type 0} → (A → Type 0) → Option A → Type 0
 Finds {A} P None = (value : A) → ¬ P value

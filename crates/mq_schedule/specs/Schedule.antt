@@ -1,7 +1,9 @@
 -- Schedules as they are written: a line for the world, and one for each step.
-use Rattle.std.specs.Prelude.{◌≡◌, ◌⊎◌, ℕ, ◌+◌, ◌-◌, ◌^◌, ◌≤◌, ◌<◌, ◌==◌, Bool, true, false, List, [], ◌∷◌, ◌++◌, length, codes}
+use Rattle.std.specs.Prelude.{◌≡◌, ◌⊎◌, ℕ, ◌+◌, ◌-◌, ◌^◌, ◌≤◌, ◌<◌, ◌==◌, Bool, true, false, List, [], ◌∷◌, ◌++◌, length, codes, Option, Some, None}
 use Rattle.std.specs.List.{AllZip, slice_split}
 use Rattle.std.specs.Int.NonZero.{non_zero_u16_get}
+use Rattle.std.specs.Option.{option_map}
+use Rattle.std.specs.declared.num.NonZeroU16.{NonZeroU16}
 use Rattle.std.specs.Io.BufRead.{strip_last}
 use Rattle.std.specs.Str.Parse.{IsNumeral, digits_value}
 use Rattle.hex.specs.Hex.{IsBytes}
@@ -73,24 +75,36 @@ Writes Settle words = words ≡ codes "settle" ∷ []
 
 -- ---- schedules
 
--- the bound on the remaining length (2.2.3), and how many packet identifiers may be in use at a side (2.3.1)
-pub record IsWorldLine (limit capacity : ℕ) (words : List (List ℕ)) : Type 0 where
+-- the number that there may be
+abbrev pub number_of : Option NonZeroU16 → Option ℕ
+number_of n = option_map non_zero_u16_get n
+
+-- a word for the receiving window (4.3.3), and no word where there is none
+abbrev pub IsWindow : Option ℕ → List (List ℕ) → Type 0
+IsWindow None words = words ≡ []
+IsWindow (Some n) words = (word : List ℕ) × IsNumber n word × (1 ≤ n) × (n ≤ 65535) × (words ≡ word ∷ [])
+
+-- the bound on the remaining length (2.2.3), how many packet identifiers may be in use at a side (2.3.1), and how many messages of
+-- quality of service 2 a side has in its receiving window at most, if it has one
+pub record IsWorldLine (limit capacity : ℕ) (window : Option ℕ) (words : List (List ℕ)) : Type 0 where
   pub most : List ℕ
   pub room : List ℕ
+  pub last : List (List ℕ)
   pub limit_is : IsNumber limit most
   pub capacity_is : IsNumber capacity room
   pub least_limit : 64 ≤ limit
   pub most_limit : limit ≤ 268435455
   pub least_capacity : 1 ≤ capacity
   pub most_capacity : capacity ≤ 65535
-  pub words_are : words ≡ codes "world" ∷ most ∷ room ∷ []
+  pub window_is : IsWindow window last
+  pub words_are : words ≡ codes "world" ∷ most ∷ room ∷ last
 
 -- the line for the world, and then a line for each step
 pub record IsSchedule (lines : List (List ℕ)) (s : Schedule) : Type 0 where
   pub first : List ℕ
   pub others : List (List ℕ)
   pub lines_are : lines ≡ first ∷ others
-  pub world : IsWorldLine s.limits.most (non_zero_u16_get s.capacity) (words_of first)
+  pub world : IsWorldLine s.limits.most (non_zero_u16_get s.capacity) (number_of s.window) (words_of first)
   pub steps : AllZip (λ step line. Writes step (words_of line)) s.steps.items others
 
 -- the first line is none for a world
@@ -98,7 +112,7 @@ pub record HasNoWorld (lines : List (List ℕ)) : Type 0 where
   pub first : List ℕ
   pub others : List (List ℕ)
   pub lines_are : lines ≡ first ∷ others
-  pub no_world : (limit capacity : ℕ) → ¬ IsWorldLine limit capacity (words_of first)
+  pub no_world : (limit capacity : ℕ) (window : Option ℕ) → ¬ IsWorldLine limit capacity window (words_of first)
 
 -- the lines before this one, counted from 1, are a schedule, and this one is no step
 pub record HasNoStep (lines : List (List ℕ)) (n : ℕ) : Type 0 where

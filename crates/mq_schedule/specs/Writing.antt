@@ -1,5 +1,5 @@
 -- Schedules as they are put out: of the ways to write each step one, and each line with its end.
-use Rattle.std.specs.Prelude.{ℕ, List, [], ◌∷◌, ◌++◌, codes, decimal}
+use Rattle.std.specs.Prelude.{ℕ, Option, Some, None, List, [], ◌∷◌, ◌++◌, codes, decimal}
 use Rattle.std.specs.List.{flat_map}
 use Rattle.std.specs.Int.NonZero.{non_zero_u16_get}
 use Rattle.mq_topic.specs.Qos.{qos_number}
@@ -8,7 +8,7 @@ use Rattle.mq_line.specs.Lines.{escaped}
 use Rattle.mq_schedule.specs.declared.schedule.Step.{Step}
 use Rattle.mq_schedule.specs.declared.schedule.Step.TheVariants.{Event, Settle}
 use Rattle.mq_schedule.specs.declared.schedule.Schedule.{Schedule}
-use Rattle.mq_schedule.specs.Schedule.{bytes_word, publish_word, side_word}
+use Rattle.mq_schedule.specs.Schedule.{bytes_word, number_of, publish_word, side_word}
 
 -- words, one space between each two, and the end of the line
 abbrev pub line_with : List (List ℕ) → List ℕ
@@ -16,8 +16,13 @@ line_with [] = codes "\n"
 line_with (word ∷ []) = word ++ codes "\n"
 line_with (word ∷ next ∷ words) = word ++ (codes " " ++ line_with (next ∷ words))
 
+-- a word for the receiving window where there is one
+abbrev pub window_words : Option ℕ → List (List ℕ)
+window_words None = []
+window_words (Some n) = decimal n ∷ []
+
 abbrev pub world_words : Schedule → List (List ℕ)
-world_words s = codes "world" ∷ decimal s.limits.most ∷ decimal (non_zero_u16_get s.capacity) ∷ []
+world_words s = codes "world" ∷ decimal s.limits.most ∷ decimal (non_zero_u16_get s.capacity) ∷ window_words (number_of s.window)
 
 -- numbers have no zeros in front, and a delivery always has one
 abbrev pub step_words : Step → List (List ℕ)

@@ -1,13 +1,13 @@
 //! What single words stand for.
 
-ghost use Rattle.std.specs.Prelude.{◌≡◌, ◌<◌, ◌^◌, ℕ, false, length, IfOk, IfSome, IsErr, MatchOption};
+ghost use Rattle.std.specs.Prelude.{◌≡◌, ◌<◌, ◌^◌, ℕ, false, length, IfOk, IfSome, IsErr, MatchOption, Option};
 ghost use Rattle.std.specs.Int.NonZero.{non_zero_u16_get};
 ghost use Rattle.hex.specs.Hex.{IsBytes};
 ghost use Rattle.mq_topic.specs.Qos.{qos_number};
 ghost use Rattle.mq_topic.specs.Topic.{IsTopicName};
 ghost use Rattle.mq_line.specs.Lines.{escaped};
-ghost use Rattle.mq_schedule.specs.Schedule.{IsAmount, IsNumber, bytes_word, side_word};
-ghost use Rattle.mq_schedule.specs.Parts.{Finds, IsCapacity, IsLimit};
+ghost use Rattle.mq_schedule.specs.Schedule.{IsAmount, IsNumber, IsWindow, bytes_word, number_of, side_word};
+ghost use Rattle.mq_schedule.specs.Parts.{Finds, IsCapacity, IsLimit, last_word};
 
 use crate::printed::{hex_bytes, unescaped};
 use bytes::Bytes;
@@ -71,6 +71,17 @@ pub(crate) fn capacity(word: &str) -> Option<NonZeroU16>
         (λ capacity. IsCapacity (non_zero_u16_get capacity) word.now) }
 {
     NonZeroU16::new(u16::try_from(number(word)?).ok()?)
+}
+
+// A receiving window, or none (4.3.3).
+pub(crate) fn window(word: Option<&str>) -> Option<Option<NonZeroU16>>
+    ensures { MatchOption result ((n : Option ℕ) → ¬ IsWindow n (last_word word.entry))
+        (λ window. IsWindow (number_of window) (last_word word.entry)) }
+{
+    match word {
+        Some(word) => Some(Some(capacity(word)?)),
+        None => Some(None),
+    }
 }
 
 // What a fault of a text says: that it is no name, or that memory ran out.

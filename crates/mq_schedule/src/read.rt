@@ -70,7 +70,7 @@ pub fn read_schedule(alloc: Global, text: &str) -> Result<Schedule, ScheduleFaul
         → IsBadLine (lines_of text.now) n }
 {
     let (first, others) = first_part(without_feed(text), '\n');
-    let (limits, capacity) = world(first).ok_or(ScheduleFault::Line(1))?;
+    let (limits, capacity, window) = world(first).ok_or(ScheduleFault::Line(1))?;
     let steps = match others {
         Some(lines) => read_steps(alloc, lines)?,
         None => Vec::new(alloc),
@@ -78,6 +78,7 @@ pub fn read_schedule(alloc: Global, text: &str) -> Result<Schedule, ScheduleFaul
     Ok(Schedule {
         limits,
         capacity,
+        window,
         steps,
     })
 }

@@ -22,6 +22,8 @@ pub struct Schedule {
     pub limits: Limits,
     /// How many packet identifiers may be in use at a side (2.3.1).
     pub capacity: NonZeroU16,
+    /// How many messages of quality of service 2 a side has in its receiving window at most, if it has one (4.3.3).
+    pub window: Option<NonZeroU16>,
     /// The steps, in order.
     pub steps: Vec<Step>,
     pub ghost strict: { limits.lenient ≡ false },

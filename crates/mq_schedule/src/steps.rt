@@ -1,11 +1,11 @@
 //! What single lines stand for.
 
-ghost use Rattle.std.specs.Prelude.{◌≡◌, ◌∷◌, ℕ, false, IfOk, IfSome, MatchOption, codes};
+ghost use Rattle.std.specs.Prelude.{◌≡◌, ◌∷◌, ℕ, false, IfOk, IfSome, MatchOption, Option, codes};
 ghost use Rattle.std.specs.Int.NonZero.{non_zero_u16_get};
-ghost use Rattle.mq_schedule.specs.Schedule.{IsWorldLine, Writes, publish_word, words_of};
+ghost use Rattle.mq_schedule.specs.Schedule.{IsWorldLine, Writes, number_of, publish_word, words_of};
 ghost use Rattle.mq_schedule.specs.Parts.{Finds};
 
-use crate::fields::{amount, capacity, limits, number, payload, qos, side, topic};
+use crate::fields::{amount, capacity, limits, number, payload, qos, side, topic, window};
 use crate::schedule::Step;
 use crate::words::{Words, first_word};
 use mq_decode::Limits;
@@ -14,19 +14,19 @@ use mq_world::Event;
 use std::alloc::{AllocError, Global};
 use std::num::NonZeroU16;
 
-// The world of a line.
-pub(crate) fn world(line: &str) -> Option<(Limits, NonZeroU16)>
+// The bounds, the capacity and the window of a line for a world.
+pub(crate) fn world(line: &str) -> Option<(Limits, NonZeroU16, Option<NonZeroU16>)>
     ensures world { MatchOption result
-        ((limit capacity : ℕ) → ¬ IsWorldLine limit capacity (words_of line.now))
-        (λ world. IsWorldLine world.0.most (non_zero_u16_get world.1) (words_of line.now)) }
+        ((limit capacity : ℕ) (window : Option ℕ) → ¬ IsWorldLine limit capacity window (words_of line.now))
+        (λ world. IsWorldLine world.0.most (non_zero_u16_get world.1) (number_of world.2) (words_of line.now)) }
     ensures strict { IfSome result (λ world. world.0.lenient ≡ false) }
 {
     let (command, words) = first_word(line);
     if command != "world" {
         return None;
     }
-    let (most, room) = words.two()?;
-    Some((limits(most)?, capacity(room)?))
+    let (most, room, last) = words.two_or_three()?;
+    Some((limits(most)?, capacity(room)?, window(last)?))
 }
 
 // The publication of the words after `pub` or `pubr`.

@@ -1,7 +1,7 @@
 //! Texts that are taken apart from the left.
 
 ghost use Rattle.std.specs.Prelude.{◌≡◌, ◌≢◌, ◌<◌, ◌∷◌, [], length, IfSome, IfNone, IsTrue, ◌↔◌};
-ghost use Rattle.mq_schedule.specs.Parts.{parts, parts_left};
+ghost use Rattle.mq_schedule.specs.Parts.{last_word, parts, parts_left};
 
 use std::marker::Model;
 
@@ -74,6 +74,19 @@ impl<'a> Words<'a> {
     {
         let first = self.next()?;
         Some((first, self.one()?))
+    }
+
+    // The words, where two are left, and a third that there may be.
+    pub(crate) fn two_or_three(mut self) -> Option<(&'a str, &'a str, Option<&'a str>)>
+        ensures some { IfSome result (λ three. self.entry ≡ three.0.now ∷ three.1.now ∷ last_word three.2) }
+        ensures none { IfNone result ((length self.entry ≢ 2) × (length self.entry ≢ 3)) }
+    {
+        let first = self.next()?;
+        let second = self.next()?;
+        if self.is_empty() {
+            return Some((first, second, None));
+        }
+        Some((first, second, Some(self.one()?)))
     }
 
     // The words, where four are left.

@@ -5,7 +5,7 @@ ghost use Rattle.std.specs.Int.NonZero.{non_zero_u16_get};
 ghost use Rattle.std.specs.String.{string_bytes};
 ghost use Rattle.hex.specs.Hex.{IsBytes};
 ghost use Rattle.mq_schedule.specs.declared.schedule.Step.TheVariants as steps;
-ghost use Rattle.mq_schedule.specs.Schedule.{IsSchedule, IsWorldLine, bytes_word, lines_of, side_word};
+ghost use Rattle.mq_schedule.specs.Schedule.{IsSchedule, IsWorldLine, bytes_word, lines_of, number_of, side_word};
 ghost use Rattle.mq_schedule.specs.Parts.{KeepsBounds};
 ghost use Rattle.mq_schedule.specs.Writing.{line_with, schedule_text, step_line, world_words};
 
@@ -51,11 +51,14 @@ impl fmt::Display for BytesWord<'_> {
 fn write_world(text: &mut String, schedule: &Schedule) -> Result<(), AllocError>
     ensures text { OnOk result (string_bytes text.new ≡ string_bytes text.old ++ line_with (world_words schedule.now)) }
     ensures world { IsWorldLine schedule.now.limits.most (non_zero_u16_get schedule.now.capacity)
-        (world_words schedule.now) }
+        (number_of schedule.now.window) (world_words schedule.now) }
 {
     let most = schedule.limits.max_packet();
     let room = schedule.capacity.get();
-    writeln!(text, "world {most} {room}")
+    match schedule.window {
+        Some(window) => writeln!(text, "world {most} {room} {}", window.get()),
+        None => writeln!(text, "world {most} {room}"),
+    }
 }
 
 // Bytes as they are written.

@@ -1,4 +1,4 @@
-use Rattle.std.proofs.Common.{ℕ, None, subst}
+use Rattle.std.proofs.Common.{ℕ, Option, subst}
 use Rattle.std.proofs.lemmas.Result.{err_from_is_err_and}
 use Rattle.std.specs.Int.NonZero.{non_zero_u16_get}
 use Rattle.mq_world.specs.World.{IsNew}
@@ -11,6 +11,7 @@ returns-in_err-world-clause-memory g c =
     let s = c.args.schedule.now in
     let w = g.W.Write.contents c.args.output.now in
     let start = c.begins.ensures.0 in
-    let new = subst (λ (n : ℕ). IsNew s.limits n None start) c.get-capacity.ensures.value c.begins.ensures.1 in
+    let counted = subst (λ (n : ℕ). IsNew s.limits n c.places-window.result start) c.get-capacity.ensures.value c.begins.ensures.1 in
+    let new = subst (λ (n : Option ℕ). IsNew s.limits (non_zero_u16_get s.capacity) n start) c.places-window.ensures.places counted in
     let p = err_from_is_err_and c.from_residual.result c.from_residual.ensures.1 in
     rw (p.1, p.2) (first_made s 0 start start w w new (none_made s.limits (non_zero_u16_get s.capacity) start w))

@@ -11,4 +11,4 @@ returns-in_err-steps-in-Some-clause-line c = λ n e.
     let lines = ap (parts 10) (sym c.without_feed.ensures) ∙ behind in
     let world = rw c.in_ok-limits.ensures.ok_part at c.world.ensures.world in
     let strict = rw c.in_ok-limits.ensures.ok_part at c.world.ensures.strict in
-    stops_after (parts 10 (strip_last 10 c.args.text.now)) (parts 10 c.in-Some.lines.now) c.first_part.result.0.now c.in_ok-limits.limits c.in_ok-limits.capacity n lines strict world (c.in_err-steps-in-Some.ensures.line n (ap Err fault))
+    stops_after (parts 10 (strip_last 10 c.args.text.now)) (parts 10 c.in-Some.lines.now) c.first_part.result.0.now c.in_ok-limits.limits c.in_ok-limits.capacity c.in_ok-limits.window n lines strict world (c.in_err-steps-in-Some.ensures.line n (ap Err fault))
