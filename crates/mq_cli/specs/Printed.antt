@@ -4,8 +4,8 @@ use Rattle.std.specs.List.{flat_map}
 use Rattle.mq_packet.specs.declared.packet.Packet.{Packet}
 use Rattle.mq_decode.specs.declared.fault.DecodeFault.{DecodeFault}
 use Rattle.mq_decode.specs.Fault.{fault_code}
+use Rattle.mq_topic.specs.Fault.{topic_code}
 use Rattle.mq_topic.specs.declared.fault.TopicFault.{TopicFault}
-use Rattle.mq_topic.specs.declared.fault.TopicFault.TheVariants.{Empty, Nul, TooLong, Wildcard, Plus, Hash, Memory}
 use Rattle.mq_cli.specs.declared.stream.StreamEnd.{StreamEnd}
 use Rattle.mq_cli.specs.declared.stream.StreamEnd.TheVariants.{Whole, Held, Fault}
 use Rattle.mq_cli.specs.declared.count.PacketCount.{PacketCount}
@@ -55,16 +55,6 @@ abbrev pub count_lines : PacketCount → List ℕ
 count_lines count = packets_line count.packets ++ count_end_lines count.end
 
 -- ---- match
-
--- the codes of what is wrong with a topic filter, or with a topic name
-abbrev pub topic_code : TopicFault → List ℕ
-topic_code Empty = codes "N1"
-topic_code Nul = codes "N2"
-topic_code TooLong = codes "N3"
-topic_code Wildcard = codes "N4"
-topic_code Plus = codes "N5"
-topic_code Hash = codes "N6"
-topic_code Memory = codes "N7"
 
 -- what the text should be, and the fault's code
 abbrev pub topic_line : List ℕ → TopicFault → List ℕ

@@ -5,7 +5,7 @@ ghost use Rattle.std.specs.List.{flat_map};
 ghost use Rattle.std.specs.Io.KnownBytes.{Appends};
 ghost use Rattle.mq_topic.specs.Matching.{is_match};
 ghost use Rattle.mq_line.specs.Lines.{Prints};
-ghost use Rattle.mq_cli.specs.Printed.{bad_hex, count_end_lines, count_lines, end_lines, fault_line, file_not_read, match_line, no_memory, packet_line, packets_line, shown_lines, topic_code, topic_line};
+ghost use Rattle.mq_cli.specs.Printed.{bad_hex, count_end_lines, count_lines, end_lines, fault_line, file_not_read, match_line, no_memory, packet_line, packets_line, shown_lines, topic_line};
 ghost use Rattle.mq_cli.specs.Status.{IsCheckDone, IsDone, IsMatchDone, IsShowDone, count_status, end_status, match_status, widest};
 
 use crate::count::{CountEnd, CountFault, PacketCount, count_packets};
@@ -186,28 +186,13 @@ fn check<R: Read, W: Write>(
     }
 }
 
-// The code of what is wrong with a filter or a name.
-fn topic_code(fault: TopicFault) -> &'static str
-    ensures { result.now ≡ topic_code fault }
-{
-    match fault {
-        TopicFault::Empty => "N1",
-        TopicFault::Nul => "N2",
-        TopicFault::TooLong => "N3",
-        TopicFault::Wildcard => "N4",
-        TopicFault::Plus => "N5",
-        TopicFault::Hash => "N6",
-        TopicFault::Memory => "N7",
-    }
-}
-
 // Writes that a text is not of this kind: no filter, or no name.
 fn write_topic_fault<W: Write>(output: &mut W, kind: &str, fault: TopicFault) -> io::Result<u8>
     ensures status { IfOk result (λ status. status ≡ BAD_INPUT) }
     ensures printed { OnOk result
         (Appends (W.contents output.old) (W.contents output.new) (topic_line kind.now fault)) }
 {
-    let code = topic_code(fault);
+    let code = fault.code();
     writeln!(output, "{kind} {code}")?;
     Ok(BAD_INPUT)
 }
