@@ -22,6 +22,15 @@ loop-count-preserved-then-not-is_due g c =
     let more = more_read c.widest-limits.result (g.R.Read.remaining c.args.input.now) (g.R.Read.remaining c.loop-count.input) (g.R.Read.remaining c.fill.new.reader) (g.W.Write.contents c.args.output.now) (g.W.Write.contents c.loop-count.output) c.loop-count.bytes c.fill.new.bytes read.0 c.loop-count.total c.in-Some.sum c.in-Ok.count c.loop-count.invariant read.1 read.2 read.3 added.1 in
     more
 
+pub overflow_sub-total : goal.overflow_sub-total
+overflow_sub-total g c =
+    let read = c.in-Ok.ensures.bytes in
+    let added = rw c.in-Some.is at c.checked_add.ensures in
+    let more = more_read c.widest-limits.result (g.R.Read.remaining c.args.input.now) (g.R.Read.remaining c.loop-count.input) (g.R.Read.remaining c.fill.new.reader) (g.W.Write.contents c.args.output.now) (g.W.Write.contents c.loop-count.output) c.loop-count.bytes c.fill.new.bytes read.0 c.loop-count.total c.in-Some.sum c.in-Ok.count c.loop-count.invariant read.1 read.2 read.3 added.1 in
+    let printed = rw c.in-Ok-Some.field-0-is at c.in-Ok-Some.ensures.ok in
+    let all = more_printed c.widest-limits.result (g.R.Read.remaining c.args.input.now) (g.R.Read.remaining c.fill.new.reader) (g.W.Write.contents c.args.output.now) (g.W.Write.contents c.loop-count.output) (g.W.Write.contents c.print_front.new.output) c.fill.new.bytes c.print_front.new.bytes printed.0 (Some c.in-Ok-Some.fault) c.in-Some.sum more printed.1 printed.2 in
+    omega (arith, c.len.ensures, all.size)
+
 pub returns-in-Ok-Some : goal.returns-in-Ok-Some
 returns-in-Ok-Some g c =
     let read = c.in-Ok.ensures.bytes in
