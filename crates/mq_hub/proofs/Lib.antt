@@ -1,4 +1,5 @@
 pub mod Bytes
 pub mod Checks
+pub mod Connections
 pub mod Retaining
 pub mod Tenants

@@ -1,3 +1,4 @@
+pub mod Lines
 pub mod Retained
 pub mod Sessions
 pub mod Welcome

@@ -3,8 +3,9 @@
 //! So far it has the tables that a broker stands on, and what it asks of a CONNECT.
 #![tactic(auto)]
 
+mod connection;
 mod copies;
-mod name;
+mod lines;
 mod retained;
 mod session;
 mod sessions;

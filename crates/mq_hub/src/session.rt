@@ -2,9 +2,9 @@
 
 ghost use Rattle.std.specs.Prelude.{◌≡◌, IfOk};
 
-use crate::name::ClientName;
 use mq_end::ServerEnd;
 use mq_topic::ClientKey;
+use mq_wire::Text;
 use std::alloc::{AllocError, Global};
 use std::marker::Model;
 use std::mem;
@@ -13,7 +13,7 @@ use std::mem;
 #[derive(Debug, Drop)]
 pub(crate) struct Tenant {
     /// The client identifier.
-    pub(crate) client: ClientName,
+    pub(crate) client: Text,
     /// The key that the session was given.
     pub(crate) key: ClientKey,
     /// The end that serves it.

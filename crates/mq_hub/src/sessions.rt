@@ -8,16 +8,16 @@ ghost use Rattle.std.specs.Option.{option_copied};
 ghost use Rattle.mq_route.specs.Hub.{key_of};
 ghost use Rattle.mq_hub.specs.Sessions.{sessions_of, tenant_of, with_server, without_tenant, AreBelow, AreAscending};
 
-use crate::name::ClientName;
 use crate::session::{Seat, Tenant};
 use mq_end::ServerEnd;
 use mq_topic::ClientKey;
+use mq_wire::Text;
 use std::alloc::{AllocError, Global};
 use std::collections::HashMap;
 use std::marker::Model;
 
 // The keys of sessions by client identifier.
-type Keys = HashMap<ClientName, ClientKey>;
+type Keys = HashMap<Text, ClientKey>;
 
 /// The sessions of a broker, by ascending key, each found by its key and by its client identifier at once.
 #[derive(Drop)]
@@ -100,7 +100,7 @@ fn take_at(tenants: &mut Vec<Seat>, key: ClientKey) -> Option<Tenant>
 }
 
 // Writes down the key of an identifier, where there is memory for one more.
-fn write_key(keys: &mut Keys, name: ClientName, key: ClientKey)
+fn write_key(keys: &mut Keys, name: Text, key: ClientKey)
     requires { 0 < spare keys.old }
     ensures named { (n : List ℕ) → get bytes_eq keys.new n ≡ (if bytes_eq name n then Some key else get bytes_eq keys.old n) }
     ensures spare { spare keys.old ≤ spare keys.new + 1 }
@@ -109,7 +109,7 @@ fn write_key(keys: &mut Keys, name: ClientName, key: ClientKey)
 }
 
 // Strikes an identifier out.
-fn drop_key(keys: &mut Keys, name: &ClientName)
+fn drop_key(keys: &mut Keys, name: &Text)
     ensures named { (n : List ℕ) → get bytes_eq keys.new n ≡ (if bytes_eq name.now n then None else get bytes_eq keys.old n) }
     ensures spare { spare keys.old ≤ spare keys.new }
 {
@@ -145,7 +145,7 @@ impl Sessions {
     }
 
     /// The key of the session of a client (3.1.3.1).
-    pub(crate) fn key_of(&self, client: &ClientName) -> Option<ClientKey>
+    pub(crate) fn key_of(&self, client: &Text) -> Option<ClientKey>
         ensures { result ≡ key_of client.now (sessions_of self.now.tenants) }
     {
         self.keys.get(client).copied()
@@ -159,7 +159,7 @@ impl Sessions {
     }
 
     /// A session begins, with a key above all that there are, of a client that has none (3.1.2.4). It takes no memory.
-    pub(crate) fn insert(&mut self, name: ClientName, seat: Seat)
+    pub(crate) fn insert(&mut self, name: Text, seat: Seat)
         requires name { name ≡ seat.client }
         requires key { AreBelow seat.key self.old.tenants }
         requires client { key_of seat.client (sessions_of self.old.tenants) ≡ None }

@@ -7,7 +7,6 @@ ghost use Rattle.mq_hub.specs.Welcome.{IsCounted, IsStanding};
 ghost use Rattle.mq_route.specs.Welcome.{client_of, has_password, is_one_of, is_unavailable, login_refusal, made_up, made_up_from, refusal};
 ghost use Rattle.mq_hub.specs.Sessions.{sessions_of};
 
-use crate::name::ClientName;
 use crate::sessions::Sessions;
 use mq_packet::{Connect, Login, RefusalCode};
 use mq_route::{HubConfig, User};
@@ -15,19 +14,19 @@ use mq_wire::Text;
 use std::alloc::{AllocError, Global};
 
 // The identifier that the broker makes up of a number (3.1.3.1).
-fn made_up(alloc: Global, number: usize) -> Result<ClientName, AllocError>
+fn made_up(alloc: Global, number: usize) -> Result<Text, AllocError>
     ensures { IfOk result (λ name. name ≡ made_up number) }
 {
     let mut text = String::new(alloc);
     write!(text, "auto-{}", number)?;
     match Text::new(alloc, text.as_str()) {
-        Ok(text) => Ok(ClientName::new(text)),
+        Ok(text) => Ok(text),
         Err(_) => Err(AllocError),
     }
 }
 
 // The identifier with the least number that no session has (3.1.3.1).
-fn least_made_up(alloc: Global, sessions: &Sessions) -> Result<ClientName, AllocError>
+fn least_made_up(alloc: Global, sessions: &Sessions) -> Result<Text, AllocError>
     ensures { IfOk result (λ name. name
         ≡ made_up_from (length (sessions_of sessions.now.tenants)) 0 (sessions_of sessions.now.tenants)) }
 {
@@ -46,13 +45,13 @@ pub(crate) fn client_of(
     alloc: Global,
     connect: &Connect,
     sessions: &Sessions,
-) -> Result<ClientName, AllocError>
+) -> Result<Text, AllocError>
     ensures { IfOk result (λ name. name ≡ client_of connect.now (sessions_of sessions.now.tenants)) }
 {
     if connect.client_id.as_str().is_empty() {
         return least_made_up(alloc, sessions);
     }
-    Ok(ClientName::new(connect.client_id.clone()?))
+    connect.client_id.clone()
 }
 
 // Whether one of these users has this name and this password (3.1.3.4, 3.1.3.5).

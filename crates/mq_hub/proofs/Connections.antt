@@ -1,0 +1,654 @@
+-- The table of connections: a name's connection, and the connection on which a client is up.
+use Rattle.std.proofs.Common.{◌≡◌, ℕ, ◌+◌, Bool, true, false, ◌&&◌, ◌||◌, cond, List, [], ◌∷◌, ◌++◌, Option, Some, None, refl, sym, ap, ap₂, subst, ◌∙◌, arith, zero-add, eqb, eqb-true, eq-eqb, true≢false}
+use Rattle.std.proofs.lemmas.Bool.{cond-true, cond-false, and_parts, or_parts}
+use Rattle.std.proofs.lemmas.List.Sums.{sum_by-cons}
+use Rattle.std.proofs.lemmas.Map.{keys-set_value}
+use Rattle.std.specs.List.{AllByRecursion, IsDistinct, count_by}
+use Rattle.std.specs.Map.{keys_of, lookup, remove_entry, set_value}
+use Rattle.std.specs.Option.{is_some}
+use Rattle.mq_decode.specs.Limits.{Bounds}
+use Rattle.mq_route.specs.declared.conn.Conn.{Conn}
+use Rattle.mq_route.specs.declared.stage.Stage.{Stage}
+use Rattle.mq_route.specs.declared.stage.Stage.TheVariants.{Fresh, UpFor, Shut}
+use Rattle.mq_route.specs.Arrives.{heard}
+use Rattle.mq_route.specs.Hub.{Line, is_for, is_line, key_on, knows, stage_of, up_on, with_line, without_line}
+use Rattle.mq_route.specs.Routed.{same_conn}
+use Rattle.mq_route.specs.Welcome.{up_count}
+use Rattle.mq_hub.specs.declared.connection.Connection.{Connection}
+use Rattle.mq_hub.specs.Lines.{lines_of, line_of, ups_of, up_in, has_key, AreUpOnce, IsServed, IsReading, AreLines}
+
+abbrev pub Entry : Type 0
+Entry = Conn × Connection
+
+abbrev pub Up : Type 0
+Up = Conn × Option ℕ
+
+abbrev pub IsNamed : Entry → Type 0
+IsNamed e = e.0 ≡ e.1.conn
+
+abbrev pub AreNamed : List Entry → Type 0
+AreNamed es = AllByRecursion IsNamed es
+
+pub are_named : (limits : Bounds) (es : List Entry) → AllByRecursion (IsServed limits) es → AreNamed es
+are_named limits [] served = tt
+are_named limits (e ∷ es) served = (served.0.0, are_named limits es served.1)
+
+-- ---- names
+
+pub one_conn : (a b : Conn) → same_conn a b ≡ true → a ≡ b
+one_conn a b e =
+    let p = and_parts (eqb a.worker b.worker) (eqb a.nth b.nth) e in
+    λ i. record { worker = eqb-true a.worker b.worker p.0 i; nth = eqb-true a.nth b.nth p.1 i }
+
+pub itself : (a : Conn) → same_conn a a ≡ true
+itself a = λ i. eq-eqb a.worker a.worker refl i && eq-eqb a.nth a.nth refl i
+
+pub symm : (a b : Conn) → same_conn a b ≡ same_conn b a
+symm a b = go (same_conn a b) refl (same_conn b a) refl
+  where
+    go : (c : Bool) → same_conn a b ≡ c → (d : Bool) → same_conn b a ≡ d → same_conn a b ≡ same_conn b a
+    go true e true f = e ∙ sym f
+    go true e false f = absurd (true≢false (sym (itself b) ∙ ap (λ (x : Conn). same_conn b x) (sym (one_conn a b e)) ∙ f))
+    go false e true f = absurd (true≢false (sym (itself a) ∙ ap (λ (x : Conn). same_conn a x) (sym (one_conn b a f)) ∙ e))
+    go false e false f = e ∙ sym f
+
+-- whether the first entry has the name
+pub first_is : (k : Conn) (e : Entry) → IsNamed e → is_line k (line_of e.1) ≡ same_conn k e.0
+first_is k e named = symm e.1.conn k ∙ ap (same_conn k) (sym named)
+
+-- ---- the connection of a name
+
+pub known : (k : Conn) (es : List Entry) → AreNamed es → is_some (lookup (same_conn k) es) ≡ knows k (lines_of es)
+known k [] named = refl
+known k (e ∷ es) named = go (same_conn k e.0) refl (known k es named.1)
+  where
+    go : (b : Bool) → same_conn k e.0 ≡ b → is_some (lookup (same_conn k) es) ≡ knows k (lines_of es) → is_some (lookup (same_conn k) (e ∷ es)) ≡ knows k (lines_of (e ∷ es))
+    go true same rest = rw (first_is k e named.0, same) refl
+    go false same rest = rw (first_is k e named.0, same) rest
+
+-- what a look-up by name gives of the lines is of the connection that is found
+module _ {X : Type 0} (p : Line → X) (k : Conn) (g : List Line → X) (step : (x : Line) (xs : List Line) → g (x ∷ xs) ≡ cond (is_line k x) (p x) (g xs)) where
+  pub found_by : (es : List Entry) (c : Connection) → AreNamed es → lookup (same_conn k) es ≡ Some c → g (lines_of es) ≡ p (line_of c)
+  found_by [] c named there = absurd cc
+  found_by (e ∷ es) c named there = go (same_conn k e.0) refl (found_by es c named.1)
+    where
+      go : (b : Bool) → same_conn k e.0 ≡ b → (lookup (same_conn k) es ≡ Some c → g (lines_of es) ≡ p (line_of c)) → g (lines_of (e ∷ es)) ≡ p (line_of c)
+      go true same rest =
+          let w : Some e.1 ≡ Some c = sym (cond-true (same_conn k e.0) (Some e.1) (lookup (same_conn k) es) same) ∙ there in
+          let is : e.1 ≡ c = cc in
+          step (line_of e.1) (lines_of es) ∙ cond-true (is_line k (line_of e.1)) (p (line_of e.1)) (g (lines_of es)) (first_is k e named.0 ∙ same)
+          ∙ ap (λ (x : Connection). p (line_of x)) is
+      go false same rest =
+          step (line_of e.1) (lines_of es) ∙ cond-false (is_line k (line_of e.1)) (p (line_of e.1)) (g (lines_of es)) (first_is k e named.0 ∙ same)
+          ∙ rest (sym (cond-false (same_conn k e.0) (Some e.1) (lookup (same_conn k) es) same) ∙ there)
+
+-- a connection that isn't known is not changed
+pub unknown : (f : Line → Line) (k : Conn) (xs : List Line) → knows k xs ≡ false → with_line f k xs ≡ xs
+unknown f k [] h = refl
+unknown f k (x ∷ xs) h =
+    let p = or_parts (is_line k x) (knows k xs) h in
+    ap₂ (λ (y : Line) (ys : List Line). y ∷ ys) (cond-false (is_line k x) (f x) x p.0) (unknown f k xs p.1)
+
+pub not_taken : (k : Conn) (xs : List Line) → knows k xs ≡ false → without_line k xs ≡ xs
+not_taken k [] h = refl
+not_taken k (x ∷ xs) h =
+    let p = or_parts (is_line k x) (knows k xs) h in
+    rw p.0 (ap (λ (ys : List Line). x ∷ ys) (not_taken k xs p.1))
+
+-- the first one has the name: no other has
+pub others : (k : Conn) (e : Entry) (es : List Entry) → same_conn k e.0 ≡ true → AreNamed es → AllByRecursion (λ q. same_conn e.0 q ≡ false) (keys_of es) → knows k (lines_of es) ≡ false
+others k e [] same named apart = refl
+others k e (d ∷ es) same named apart =
+    let one : k ≡ e.0 = one_conn k e.0 same in
+    let other : is_line k (line_of d.1) ≡ false = first_is k d named.0 ∙ ap (λ (x : Conn). same_conn x d.0) one ∙ apart.0 in
+    ap₂ (λ (a b : Bool). a || b) other (others k e es same named.1 apart.1)
+
+-- what is written to the connection of a name is the change of its line
+pub changed : (f : Line → Line) (k : Conn) (es : List Entry) (c w : Connection) → AreNamed es → IsDistinct same_conn (keys_of es) → lookup (same_conn k) es ≡ Some c
+    → line_of w ≡ f (line_of c) → lines_of (set_value (same_conn k) es w) ≡ with_line f k (lines_of es)
+unfolding IsDistinct
+changed f k [] c w named distinct there says = refl
+changed f k (e ∷ es) c w named distinct there says = go (same_conn k e.0) refl (changed f k es c w named.1 distinct.1)
+  where
+    go : (b : Bool) → same_conn k e.0 ≡ b
+        → (lookup (same_conn k) es ≡ Some c → line_of w ≡ f (line_of c) → lines_of (set_value (same_conn k) es w) ≡ with_line f k (lines_of es))
+        → lines_of (set_value (same_conn k) (e ∷ es) w) ≡ with_line f k (lines_of (e ∷ es))
+    go true same rest =
+        let v : Some e.1 ≡ Some c = sym (cond-true (same_conn k e.0) (Some e.1) (lookup (same_conn k) es) same) ∙ there in
+        let is : e.1 ≡ c = cc in
+        let head : line_of w ≡ f (line_of e.1) = says ∙ ap (λ (x : Connection). f (line_of x)) (sym is) in
+        ap lines_of (cond-true (same_conn k e.0) ((e.0, w) ∷ es) (e ∷ set_value (same_conn k) es w) same)
+        ∙ ap₂ (λ (y : Line) (ys : List Line). y ∷ ys)
+        (head ∙ sym (cond-true (is_line k (line_of e.1)) (f (line_of e.1)) (line_of e.1) (first_is k e named.0 ∙ same)))
+        (sym (unknown f k (lines_of es) (others k e es same named.1 distinct.0)))
+    go false same rest =
+        ap lines_of (cond-false (same_conn k e.0) ((e.0, w) ∷ es) (e ∷ set_value (same_conn k) es w) same)
+        ∙ ap₂ (λ (y : Line) (ys : List Line). y ∷ ys)
+        (sym (cond-false (is_line k (line_of e.1)) (f (line_of e.1)) (line_of e.1) (first_is k e named.0 ∙ same)))
+        (rest (sym (cond-false (same_conn k e.0) (Some e.1) (lookup (same_conn k) es) same) ∙ there) says)
+
+-- the connection of a name is taken out
+pub taken_out : (k : Conn) (es : List Entry) → AreNamed es → IsDistinct same_conn (keys_of es) → lines_of (remove_entry (same_conn k) es) ≡ without_line k (lines_of es)
+unfolding IsDistinct
+taken_out k [] named distinct = refl
+taken_out k (e ∷ es) named distinct = go (same_conn k e.0) refl (taken_out k es named.1 distinct.1)
+  where
+    go : (b : Bool) → same_conn k e.0 ≡ b → lines_of (remove_entry (same_conn k) es) ≡ without_line k (lines_of es)
+        → lines_of (remove_entry (same_conn k) (e ∷ es)) ≡ without_line k (lines_of (e ∷ es))
+    go true same rest =
+        let there = first_is k e named.0 ∙ same in
+        rw (same, there) (sym (not_taken k (lines_of es) (others k e es same named.1 distinct.0)))
+    go false same rest =
+        let apart = first_is k e named.0 ∙ same in
+        rw (same, apart) (ap (λ (ys : List Line). line_of e.1 ∷ ys) rest)
+
+-- ---- each stands under its name, with its decoder
+
+pub served_set : (limits : Bounds) (k : Conn) (es : List Entry) (c w : Connection) → AllByRecursion (IsServed limits) es → lookup (same_conn k) es ≡ Some c
+    → w.conn ≡ c.conn → IsReading limits w → AllByRecursion (IsServed limits) (set_value (same_conn k) es w)
+served_set limits k [] c w served there same reading = tt
+served_set limits k (e ∷ es) c w served there same reading = go (same_conn k e.0) refl (served_set limits k es c w served.1)
+  where
+    go : (b : Bool) → same_conn k e.0 ≡ b
+        → (lookup (same_conn k) es ≡ Some c → w.conn ≡ c.conn → IsReading limits w → AllByRecursion (IsServed limits) (set_value (same_conn k) es w))
+        → AllByRecursion (IsServed limits) (set_value (same_conn k) (e ∷ es) w)
+    go true here rest =
+        let v : Some e.1 ≡ Some c = sym (cond-true (same_conn k e.0) (Some e.1) (lookup (same_conn k) es) here) ∙ there in
+        let is : e.1 ≡ c = cc in
+        rw here ((served.0.0 ∙ ap (λ (x : Connection). x.conn) is ∙ sym same, reading), served.1)
+    go false here rest =
+        rw here (served.0, rest (sym (cond-false (same_conn k e.0) (Some e.1) (lookup (same_conn k) es) here) ∙ there) same reading)
+
+pub served_at : (limits : Bounds) (k : Conn) (es : List Entry) (c : Connection) → AllByRecursion (IsServed limits) es → lookup (same_conn k) es ≡ Some c → IsReading limits c
+served_at limits k [] c served there = absurd cc
+served_at limits k (e ∷ es) c served there = go (same_conn k e.0) refl (served_at limits k es c served.1)
+  where
+    go : (b : Bool) → same_conn k e.0 ≡ b → (lookup (same_conn k) es ≡ Some c → IsReading limits c) → IsReading limits c
+    go true here rest =
+        let v : Some e.1 ≡ Some c = sym (cond-true (same_conn k e.0) (Some e.1) (lookup (same_conn k) es) here) ∙ there in
+        let is : e.1 ≡ c = cc in
+        subst (λ (x : Connection). IsReading limits x) is served.0.1
+    go false here rest = rest (sym (cond-false (same_conn k e.0) (Some e.1) (lookup (same_conn k) es) here) ∙ there)
+
+pub served_last : (limits : Bounds) (e : Entry) (es : List Entry) → AllByRecursion (IsServed limits) es → IsServed limits e → AllByRecursion (IsServed limits) (es ++ e ∷ [])
+served_last limits e [] served own = (own, tt)
+served_last limits e (d ∷ es) served own = (served.0, served_last limits e es served.1 own)
+
+pub served_without : (limits : Bounds) (k : Conn) (es : List Entry) → AllByRecursion (IsServed limits) es → AllByRecursion (IsServed limits) (remove_entry (same_conn k) es)
+served_without limits k [] served = tt
+served_without limits k (e ∷ es) served = go (same_conn k e.0) (served_without limits k es served.1)
+  where
+    go : (b : Bool) → AllByRecursion (IsServed limits) (remove_entry (same_conn k) es) → AllByRecursion (IsServed limits) (cond b es (e ∷ remove_entry (same_conn k) es))
+    go true rest = served.1
+    go false rest = (served.0, rest)
+
+-- ---- the connection on which a client is up
+
+for_key : (key : ℕ) (s : Stage) → is_for key s ≡ has_key key (key_on s)
+for_key key Fresh = refl
+for_key key (UpFor other terms moment) = refl
+for_key key Shut = refl
+
+pub up_is : (key : ℕ) (es : List Entry) → up_on key (lines_of es) ≡ up_in key (ups_of es)
+up_is key [] = refl
+up_is key (e ∷ es) = ap₂ (λ (b : Bool) (o : Option Conn). cond b (Some e.1.conn) o) (for_key key e.1.stage) (up_is key es)
+
+count_cons : {X : Type 0} (p : X → Bool) (x : X) (xs : List X) → count_by p (x ∷ xs) ≡ cond (p x) 1 0 + count_by p xs
+count_cons p x xs = sum_by-cons (λ y. cond (p y) 1 0) x xs
+
+pub count_is : (es : List Entry) → up_count (lines_of es) ≡ count_by (λ (u : Up). is_some u.1) (ups_of es)
+count_is [] = refl
+count_is (e ∷ es) =
+    count_cons (λ (x : Line). is_some (key_on x.stage)) (line_of e.1) (lines_of es)
+    ∙ ap (λ (n : ℕ). cond (is_some (key_on e.1.stage)) 1 0 + n) (count_is es)
+    ∙ sym (count_cons (λ (u : Up). is_some u.1) (e.1.conn, key_on e.1.stage) (ups_of es))
+
+-- ---- one connection has another key, or none
+
+-- the first connection of a name is up for this
+abbrev pub first_up : Conn → Option ℕ → List Up → List Up
+first_up k o [] = []
+first_up k o (u ∷ us) = cond (same_conn k u.0) ((u.0, o) ∷ us) (u ∷ first_up k o us)
+
+-- the key for which the first connection of a name is up
+abbrev pub key_in : Conn → List Up → Option ℕ
+key_in k [] = None
+key_in k (u ∷ us) = cond (same_conn k u.0) u.1 (key_in k us)
+
+abbrev pub ups_count : List Up → ℕ
+ups_count us = count_by (λ (u : Up). is_some u.1) us
+
+one_count : (u : Up) (us : List Up) → ups_count (u ∷ us) ≡ cond (is_some u.1) 1 0 + ups_count us
+one_count u us = count_cons (λ (v : Up). is_some v.1) u us
+
+pub key_there : (k : Conn) (es : List Entry) (c : Connection) → AreNamed es → lookup (same_conn k) es ≡ Some c → key_in k (ups_of es) ≡ key_on c.stage
+key_there k [] c named there = absurd cc
+key_there k (e ∷ es) c named there = go (same_conn k e.0) refl (key_there k es c named.1)
+  where
+    go : (b : Bool) → same_conn k e.0 ≡ b → (lookup (same_conn k) es ≡ Some c → key_in k (ups_of es) ≡ key_on c.stage) → key_in k (ups_of (e ∷ es)) ≡ key_on c.stage
+    go true same rest =
+        let v : Some e.1 ≡ Some c = sym (cond-true (same_conn k e.0) (Some e.1) (lookup (same_conn k) es) same) ∙ there in
+        let is : e.1 ≡ c = cc in
+        cond-true (same_conn k e.1.conn) (key_on e.1.stage) (key_in k (ups_of es)) (ap (same_conn k) (sym named.0) ∙ same) ∙ ap (λ (x : Connection). key_on x.stage) is
+    go false same rest =
+        cond-false (same_conn k e.1.conn) (key_on e.1.stage) (key_in k (ups_of es)) (ap (same_conn k) (sym named.0) ∙ same)
+        ∙ rest (sym (cond-false (same_conn k e.0) (Some e.1) (lookup (same_conn k) es) same) ∙ there)
+
+pub ups_set : (k : Conn) (es : List Entry) (c w : Connection) → AreNamed es → lookup (same_conn k) es ≡ Some c → w.conn ≡ c.conn
+    → ups_of (set_value (same_conn k) es w) ≡ first_up k (key_on w.stage) (ups_of es)
+ups_set k [] c w named there same = refl
+ups_set k (e ∷ es) c w named there same = go (same_conn k e.0) refl (ups_set k es c w named.1)
+  where
+    go : (b : Bool) → same_conn k e.0 ≡ b
+        → (lookup (same_conn k) es ≡ Some c → w.conn ≡ c.conn → ups_of (set_value (same_conn k) es w) ≡ first_up k (key_on w.stage) (ups_of es))
+        → ups_of (set_value (same_conn k) (e ∷ es) w) ≡ first_up k (key_on w.stage) (ups_of (e ∷ es))
+    go true here rest =
+        let v : Some e.1 ≡ Some c = sym (cond-true (same_conn k e.0) (Some e.1) (lookup (same_conn k) es) here) ∙ there in
+        let is : e.1 ≡ c = cc in
+        ap ups_of (cond-true (same_conn k e.0) ((e.0, w) ∷ es) (e ∷ set_value (same_conn k) es w) here)
+        ∙ ap (λ (x : Conn). (x, key_on w.stage) ∷ ups_of es) (same ∙ sym (ap (λ (x : Connection). x.conn) is))
+        ∙ sym (cond-true (same_conn k e.1.conn) ((e.1.conn, key_on w.stage) ∷ ups_of es) ((e.1.conn, key_on e.1.stage) ∷ first_up k (key_on w.stage) (ups_of es)) (ap (same_conn k) (sym named.0) ∙ here))
+    go false here rest =
+        ap ups_of (cond-false (same_conn k e.0) ((e.0, w) ∷ es) (e ∷ set_value (same_conn k) es w) here)
+        ∙ ap (λ (us : List Up). (e.1.conn, key_on e.1.stage) ∷ us) (rest (sym (cond-false (same_conn k e.0) (Some e.1) (lookup (same_conn k) es) here) ∙ there) same)
+        ∙ sym (cond-false (same_conn k e.1.conn) ((e.1.conn, key_on w.stage) ∷ ups_of es) ((e.1.conn, key_on e.1.stage) ∷ first_up k (key_on w.stage) (ups_of es)) (ap (same_conn k) (sym named.0) ∙ here))
+
+pub ups_removed : (k : Conn) (es : List Entry) → AreNamed es → key_in k (ups_of es) ≡ None → (key : ℕ) → up_in key (ups_of (remove_entry (same_conn k) es)) ≡ up_in key (ups_of es)
+ups_removed k [] named none key = refl
+ups_removed k (e ∷ es) named none key = go (same_conn k e.0) refl (ups_removed k es named.1)
+  where
+    go : (b : Bool) → same_conn k e.0 ≡ b → (key_in k (ups_of es) ≡ None → (key : ℕ) → up_in key (ups_of (remove_entry (same_conn k) es)) ≡ up_in key (ups_of es))
+        → up_in key (ups_of (remove_entry (same_conn k) (e ∷ es))) ≡ up_in key (ups_of (e ∷ es))
+    go true same rest =
+        let own : key_on e.1.stage ≡ None = sym (cond-true (same_conn k e.1.conn) (key_on e.1.stage) (key_in k (ups_of es)) (ap (same_conn k) (sym named.0) ∙ same)) ∙ none in
+        ap (λ (rs : List Entry). up_in key (ups_of rs)) (cond-true (same_conn k e.0) es (e ∷ remove_entry (same_conn k) es) same)
+        ∙ sym (ap (λ (o : Option ℕ). cond (has_key key o) (Some e.1.conn) (up_in key (ups_of es))) own)
+    go false same rest =
+        let later = sym (cond-false (same_conn k e.1.conn) (key_on e.1.stage) (key_in k (ups_of es)) (ap (same_conn k) (sym named.0) ∙ same)) ∙ none in
+        ap (λ (rs : List Entry). up_in key (ups_of rs)) (cond-false (same_conn k e.0) es (e ∷ remove_entry (same_conn k) es) same)
+        ∙ ap (λ (o : Option Conn). cond (has_key key (key_on e.1.stage)) (Some e.1.conn) o) (rest later key)
+
+pub count_removed : (k : Conn) (es : List Entry) → AreNamed es → key_in k (ups_of es) ≡ None → ups_count (ups_of (remove_entry (same_conn k) es)) ≡ ups_count (ups_of es)
+count_removed k [] named none = refl
+count_removed k (e ∷ es) named none = go (same_conn k e.0) refl (count_removed k es named.1)
+  where
+    go : (b : Bool) → same_conn k e.0 ≡ b → (key_in k (ups_of es) ≡ None → ups_count (ups_of (remove_entry (same_conn k) es)) ≡ ups_count (ups_of es))
+        → ups_count (ups_of (remove_entry (same_conn k) (e ∷ es))) ≡ ups_count (ups_of (e ∷ es))
+    go true same rest =
+        let own : key_on e.1.stage ≡ None = sym (cond-true (same_conn k e.1.conn) (key_on e.1.stage) (key_in k (ups_of es)) (ap (same_conn k) (sym named.0) ∙ same)) ∙ none in
+        ap (λ (rs : List Entry). ups_count (ups_of rs)) (cond-true (same_conn k e.0) es (e ∷ remove_entry (same_conn k) es) same)
+        ∙ sym (one_count (e.1.conn, key_on e.1.stage) (ups_of es) ∙ ap (λ (o : Option ℕ). cond (is_some o) 1 0 + ups_count (ups_of es)) own ∙ zero-add (ups_count (ups_of es)))
+    go false same rest =
+        let later = sym (cond-false (same_conn k e.1.conn) (key_on e.1.stage) (key_in k (ups_of es)) (ap (same_conn k) (sym named.0) ∙ same)) ∙ none in
+        ap (λ (rs : List Entry). ups_count (ups_of rs)) (cond-false (same_conn k e.0) es (e ∷ remove_entry (same_conn k) es) same)
+        ∙ one_count (e.1.conn, key_on e.1.stage) (ups_of (remove_entry (same_conn k) es))
+        ∙ ap (λ (n : ℕ). cond (is_some (key_on e.1.stage)) 1 0 + n) (rest later)
+        ∙ sym (one_count (e.1.conn, key_on e.1.stage) (ups_of es))
+
+pub singly_removed : (k : Conn) (es : List Entry) → AreNamed es → key_in k (ups_of es) ≡ None → AreUpOnce (ups_of es) → AreUpOnce (ups_of (remove_entry (same_conn k) es))
+singly_removed k [] named none once = tt
+singly_removed k (e ∷ es) named none once = go (same_conn k e.0) refl (singly_removed k es named.1)
+  where
+    go : (b : Bool) → same_conn k e.0 ≡ b → (key_in k (ups_of es) ≡ None → AreUpOnce (ups_of es) → AreUpOnce (ups_of (remove_entry (same_conn k) es)))
+        → AreUpOnce (ups_of (remove_entry (same_conn k) (e ∷ es)))
+    go true same rest = rw same once.1
+    go false same rest =
+        let later = sym (cond-false (same_conn k e.1.conn) (key_on e.1.stage) (key_in k (ups_of es)) (ap (same_conn k) (sym named.0) ∙ same)) ∙ none in
+        rw same ((λ key is. ups_removed k es named.1 later key ∙ once.0 key is), rest later once.1)
+
+-- the same key again
+pub first_same : (k : Conn) (us : List Up) → first_up k (key_in k us) us ≡ us
+first_same k [] = refl
+first_same k (u ∷ us) = go (same_conn k u.0) refl (first_same k us)
+  where
+    go : (b : Bool) → same_conn k u.0 ≡ b → first_up k (key_in k us) us ≡ us → first_up k (key_in k (u ∷ us)) (u ∷ us) ≡ u ∷ us
+    go true same rest =
+        ap (λ (o : Option ℕ). first_up k o (u ∷ us)) (cond-true (same_conn k u.0) u.1 (key_in k us) same)
+        ∙ cond-true (same_conn k u.0) (u ∷ us) (u ∷ first_up k u.1 us) same
+    go false same rest =
+        ap (λ (o : Option ℕ). first_up k o (u ∷ us)) (cond-false (same_conn k u.0) u.1 (key_in k us) same)
+        ∙ cond-false (same_conn k u.0) ((u.0, key_in k us) ∷ us) (u ∷ first_up k (key_in k us) us) same
+        ∙ ap (λ (vs : List Up). u ∷ vs) rest
+
+-- ---- one comes up, or goes down
+
+has_itself : (key : ℕ) → has_key key (Some key) ≡ true
+has_itself key = eq-eqb key key refl
+
+-- no connection is up for a key that the first one hasn't
+pub not_first : (key : ℕ) (u : Up) (us : List Up) → up_in key (u ∷ us) ≡ None → (has_key key u.1 ≡ false) × (up_in key us ≡ None)
+not_first key u us none = go (has_key key u.1) refl
+  where
+    go : (b : Bool) → has_key key u.1 ≡ b → (has_key key u.1 ≡ false) × (up_in key us ≡ None)
+    go true e = let w : Some u.0 ≡ None = sym (cond-true (has_key key u.1) (Some u.0) (up_in key us) e) ∙ none in absurd cc
+    go false e = (e, sym (cond-false (has_key key u.1) (Some u.0) (up_in key us) e) ∙ none)
+
+-- a connection of that name stands among them
+abbrev pub stands : Conn → List Up → Bool
+stands k [] = false
+stands k (u ∷ us) = same_conn k u.0 || stands k us
+
+pub stands_there : (k : Conn) (es : List Entry) (c : Connection) → AreNamed es → lookup (same_conn k) es ≡ Some c → stands k (ups_of es) ≡ true
+stands_there k [] c named there = absurd cc
+stands_there k (e ∷ es) c named there = go (same_conn k e.0) refl (stands_there k es c named.1)
+  where
+    go : (b : Bool) → same_conn k e.0 ≡ b → (lookup (same_conn k) es ≡ Some c → stands k (ups_of es) ≡ true) → stands k (ups_of (e ∷ es)) ≡ true
+    go true same rest = ap (λ (b : Bool). b || stands k (ups_of es)) (ap (same_conn k) (sym named.0) ∙ same)
+    go false same rest =
+        ap (λ (b : Bool). b || stands k (ups_of es)) (ap (same_conn k) (sym named.0) ∙ same)
+        ∙ rest (sym (cond-false (same_conn k e.0) (Some e.1) (lookup (same_conn k) es) same) ∙ there)
+
+-- two keys of which one connection has both are one
+same_keys : (a b : ℕ) (o : Option ℕ) → has_key a o ≡ true → o ≡ Some b → a ≡ b
+same_keys a b o has is =
+    let w : eqb b a ≡ true = ap (has_key a) (sym is) ∙ has in
+    sym (eqb-true b a w)
+
+pub up_rise : (k : Conn) (key n : ℕ) (us : List Up) → stands k us ≡ true → key_in k us ≡ None → up_in key us ≡ None
+    → up_in n (first_up k (Some key) us) ≡ cond (eqb key n) (Some k) (up_in n us)
+up_rise k key n [] there fresh none = absurd (true≢false (sym there))
+up_rise k key n (u ∷ us) there fresh none = go (same_conn k u.0) refl (up_rise k key n us)
+  where
+    go : (b : Bool) → same_conn k u.0 ≡ b
+        → (stands k us ≡ true → key_in k us ≡ None → up_in key us ≡ None → up_in n (first_up k (Some key) us) ≡ cond (eqb key n) (Some k) (up_in n us))
+        → up_in n (first_up k (Some key) (u ∷ us)) ≡ cond (eqb key n) (Some k) (up_in n (u ∷ us))
+    go true same rest =
+        let own : u.1 ≡ None = sym (cond-true (same_conn k u.0) u.1 (key_in k us) same) ∙ fresh in
+        ap (up_in n) (cond-true (same_conn k u.0) ((u.0, Some key) ∷ us) (u ∷ first_up k (Some key) us) same)
+        ∙ ap (λ (x : Conn). cond (eqb key n) (Some x) (up_in n us)) (sym (one_conn k u.0 same))
+        ∙ ap (λ (o : Option ℕ). cond (eqb key n) (Some k) (cond (has_key n o) (Some u.0) (up_in n us))) (sym own)
+    go false same rest =
+        let later = rest (sym (ap (λ (b : Bool). b || stands k us) same) ∙ there) (sym (cond-false (same_conn k u.0) u.1 (key_in k us) same) ∙ fresh) (not_first key u us none).1 in
+        ap (up_in n) (cond-false (same_conn k u.0) ((u.0, Some key) ∷ us) (u ∷ first_up k (Some key) us) same)
+        ∙ ap (λ (o : Option Conn). cond (has_key n u.1) (Some u.0) o) later
+        ∙ turn (eqb key n) refl
+      where
+        turn : (c : Bool) → eqb key n ≡ c → cond (has_key n u.1) (Some u.0) (cond (eqb key n) (Some k) (up_in n us)) ≡ cond (eqb key n) (Some k) (cond (has_key n u.1) (Some u.0) (up_in n us))
+        turn true e =
+            let apart : has_key n u.1 ≡ false = subst (λ (m : ℕ). has_key m u.1 ≡ false) (eqb-true key n e) (not_first key u us none).0 in
+            cond-false (has_key n u.1) (Some u.0) (cond (eqb key n) (Some k) (up_in n us)) apart
+            ∙ cond-true (eqb key n) (Some k) (up_in n us) e
+            ∙ sym (cond-true (eqb key n) (Some k) (cond (has_key n u.1) (Some u.0) (up_in n us)) e)
+        turn false e = rw e refl
+
+pub singly_rise : (k : Conn) (key : ℕ) (us : List Up) → stands k us ≡ true → key_in k us ≡ None → up_in key us ≡ None → AreUpOnce us → AreUpOnce (first_up k (Some key) us)
+singly_rise k key [] there fresh none once = tt
+singly_rise k key (u ∷ us) there fresh none once = go (same_conn k u.0) refl (singly_rise k key us)
+  where
+    go : (b : Bool) → same_conn k u.0 ≡ b → (stands k us ≡ true → key_in k us ≡ None → up_in key us ≡ None → AreUpOnce us → AreUpOnce (first_up k (Some key) us))
+        → AreUpOnce (first_up k (Some key) (u ∷ us))
+    go true same rest =
+        rw same ((λ n is. let w : key ≡ n = cc in subst (λ (m : ℕ). up_in m us ≡ None) w (not_first key u us none).1), once.1)
+    go false same rest =
+        let more = sym (ap (λ (b : Bool). b || stands k us) same) ∙ there in
+        let free = sym (cond-false (same_conn k u.0) u.1 (key_in k us) same) ∙ fresh in
+        let left = not_first key u us none in
+        rw same ((λ n is. up_rise k key n us more free left.1 ∙ apart n is left.0 (eqb key n) refl (once.0 n is)), rest more free left.1 once.1)
+      where
+        apart : (n : ℕ) → u.1 ≡ Some n → has_key key u.1 ≡ false → (c : Bool) → eqb key n ≡ c → up_in n us ≡ None → cond (eqb key n) (Some k) (up_in n us) ≡ None
+        apart n is other true e left =
+            absurd (true≢false (sym (ap (has_key key) is ∙ ap (λ (m : ℕ). eqb m key) (sym (eqb-true key n e)) ∙ has_itself key) ∙ other))
+        apart n is other false e left = cond-false (eqb key n) (Some k) (up_in n us) e ∙ left
+
+pub count_rise : (k : Conn) (key : ℕ) (us : List Up) → stands k us ≡ true → key_in k us ≡ None → ups_count (first_up k (Some key) us) ≡ ups_count us + 1
+count_rise k key [] there fresh = absurd (true≢false (sym there))
+count_rise k key (u ∷ us) there fresh = go (same_conn k u.0) refl (count_rise k key us)
+  where
+    go : (b : Bool) → same_conn k u.0 ≡ b → (stands k us ≡ true → key_in k us ≡ None → ups_count (first_up k (Some key) us) ≡ ups_count us + 1)
+        → ups_count (first_up k (Some key) (u ∷ us)) ≡ ups_count (u ∷ us) + 1
+    go true same rest =
+        let own : u.1 ≡ None = sym (cond-true (same_conn k u.0) u.1 (key_in k us) same) ∙ fresh in
+        let none : ups_count (u ∷ us) ≡ 0 + ups_count us = one_count u us ∙ ap (λ (o : Option ℕ). cond (is_some o) 1 0 + ups_count us) own in
+        let first : ups_count (first_up k (Some key) (u ∷ us)) ≡ 1 + ups_count us =
+        ap ups_count (cond-true (same_conn k u.0) ((u.0, Some key) ∷ us) (u ∷ first_up k (Some key) us) same) ∙ one_count (u.0, Some key) us in
+        omega (arith, none, first)
+    go false same rest =
+        let more = sym (ap (λ (b : Bool). b || stands k us) same) ∙ there in
+        let free = sym (cond-false (same_conn k u.0) u.1 (key_in k us) same) ∙ fresh in
+        let later = rest more free in
+        let first : ups_count (first_up k (Some key) (u ∷ us)) ≡ cond (is_some u.1) 1 0 + ups_count (first_up k (Some key) us) =
+        ap ups_count (cond-false (same_conn k u.0) ((u.0, Some key) ∷ us) (u ∷ first_up k (Some key) us) same) ∙ one_count u (first_up k (Some key) us) in
+        let own = one_count u us in
+        omega (arith, later, first, own)
+
+-- a connection that is up is found
+pub up_there : (k : Conn) (key : ℕ) (us : List Up) → key_in k us ≡ Some key → is_some (up_in key us) ≡ true
+up_there k key [] e = absurd cc
+up_there k key (u ∷ us) e = go (same_conn k u.0) refl (up_there k key us)
+  where
+    by : (c : Bool) → is_some (up_in key us) ≡ true → is_some (cond c (Some u.0) (up_in key us)) ≡ true
+    by true h = refl
+    by false h = h
+
+    go : (b : Bool) → same_conn k u.0 ≡ b → (key_in k us ≡ Some key → is_some (up_in key us) ≡ true) → is_some (up_in key (u ∷ us)) ≡ true
+    go true same rest =
+        let own : u.1 ≡ Some key = sym (cond-true (same_conn k u.0) u.1 (key_in k us) same) ∙ e in
+        ap is_some (cond-true (has_key key u.1) (Some u.0) (up_in key us) (ap (has_key key) own ∙ has_itself key))
+    go false same rest = by (has_key key u.1) (rest (sym (cond-false (same_conn k u.0) u.1 (key_in k us) same) ∙ e))
+
+pub up_shut : (k : Conn) (key n : ℕ) (us : List Up) → key_in k us ≡ Some key → AreUpOnce us → up_in n (first_up k None us) ≡ cond (eqb key n) None (up_in n us)
+up_shut k key n [] up once = absurd cc
+up_shut k key n (u ∷ us) up once = go (same_conn k u.0) refl (up_shut k key n us)
+  where
+    go : (b : Bool) → same_conn k u.0 ≡ b → (key_in k us ≡ Some key → AreUpOnce us → up_in n (first_up k None us) ≡ cond (eqb key n) None (up_in n us))
+        → up_in n (first_up k None (u ∷ us)) ≡ cond (eqb key n) None (up_in n (u ∷ us))
+    go true same rest =
+        let own : u.1 ≡ Some key = sym (cond-true (same_conn k u.0) u.1 (key_in k us) same) ∙ up in
+        ap (up_in n) (cond-true (same_conn k u.0) ((u.0, None) ∷ us) (u ∷ first_up k None us) same)
+        ∙ left (eqb key n) refl own
+        ∙ ap (λ (o : Option ℕ). cond (eqb key n) None (cond (has_key n o) (Some u.0) (up_in n us))) (sym own)
+      where
+        left : (c : Bool) → eqb key n ≡ c → u.1 ≡ Some key → up_in n us ≡ cond (eqb key n) None (cond (eqb key n) (Some u.0) (up_in n us))
+        left true e own =
+            subst (λ (m : ℕ). up_in m us ≡ None) (eqb-true key n e) (once.0 key own)
+            ∙ sym (cond-true (eqb key n) None (cond (eqb key n) (Some u.0) (up_in n us)) e)
+        left false e own = rw e refl
+    go false same rest =
+        let later = sym (cond-false (same_conn k u.0) u.1 (key_in k us) same) ∙ up in
+        ap (up_in n) (cond-false (same_conn k u.0) ((u.0, None) ∷ us) (u ∷ first_up k None us) same)
+        ∙ ap (λ (o : Option Conn). cond (has_key n u.1) (Some u.0) o) (rest later once.1)
+        ∙ turn later (eqb key n) refl (has_key n u.1) refl
+      where
+        owner : (o : Option ℕ) → has_key n o ≡ true → o ≡ Some n
+        owner None has = absurd (true≢false (sym has))
+        owner (Some m) has = ap (λ (x : ℕ). Some x) (eqb-true m n has)
+
+        turn : key_in k us ≡ Some key → (c : Bool) → eqb key n ≡ c → (d : Bool) → has_key n u.1 ≡ d
+            → cond (has_key n u.1) (Some u.0) (cond (eqb key n) None (up_in n us)) ≡ cond (eqb key n) None (cond (has_key n u.1) (Some u.0) (up_in n us))
+        turn later true e true h =
+            let gone : up_in key us ≡ None = subst (λ (m : ℕ). up_in m us ≡ None) (sym (eqb-true key n e)) (once.0 n (owner u.1 h)) in
+            absurd (true≢false (sym (up_there k key us later) ∙ ap is_some gone))
+        turn later true e false h = rw (e, h) refl
+        turn later false e d h = rw e refl
+
+pub singly_shut : (k : Conn) (key : ℕ) (us : List Up) → key_in k us ≡ Some key → AreUpOnce us → AreUpOnce (first_up k None us)
+singly_shut k key [] up once = tt
+singly_shut k key (u ∷ us) up once = go (same_conn k u.0) refl (singly_shut k key us)
+  where
+    gone : (c : Bool) (o : Option Conn) → o ≡ None → cond c None o ≡ None
+    gone true o none = refl
+    gone false o none = none
+
+    go : (b : Bool) → same_conn k u.0 ≡ b → (key_in k us ≡ Some key → AreUpOnce us → AreUpOnce (first_up k None us)) → AreUpOnce (first_up k None (u ∷ us))
+    go true same rest = rw same ((λ n is. absurd cc), once.1)
+    go false same rest =
+        let later = sym (cond-false (same_conn k u.0) u.1 (key_in k us) same) ∙ up in
+        rw same ((λ n is. up_shut k key n us later once.1 ∙ gone (eqb key n) (up_in n us) (once.0 n is)), rest later once.1)
+
+pub count_shut : (k : Conn) (key : ℕ) (us : List Up) → key_in k us ≡ Some key → ups_count (first_up k None us) + 1 ≡ ups_count us
+count_shut k key [] up = absurd cc
+count_shut k key (u ∷ us) up = go (same_conn k u.0) refl (count_shut k key us)
+  where
+    go : (b : Bool) → same_conn k u.0 ≡ b → (key_in k us ≡ Some key → ups_count (first_up k None us) + 1 ≡ ups_count us) → ups_count (first_up k None (u ∷ us)) + 1 ≡ ups_count (u ∷ us)
+    go true same rest =
+        let own : u.1 ≡ Some key = sym (cond-true (same_conn k u.0) u.1 (key_in k us) same) ∙ up in
+        let all : ups_count (u ∷ us) ≡ 1 + ups_count us = one_count u us ∙ ap (λ (o : Option ℕ). cond (is_some o) 1 0 + ups_count us) own in
+        let first : ups_count (first_up k None (u ∷ us)) ≡ 0 + ups_count us =
+        ap ups_count (cond-true (same_conn k u.0) ((u.0, None) ∷ us) (u ∷ first_up k None us) same) ∙ one_count (u.0, None) us in
+        omega (arith, all, first)
+    go false same rest =
+        let later = rest (sym (cond-false (same_conn k u.0) u.1 (key_in k us) same) ∙ up) in
+        let first : ups_count (first_up k None (u ∷ us)) ≡ cond (is_some u.1) 1 0 + ups_count (first_up k None us) =
+        ap ups_count (cond-false (same_conn k u.0) ((u.0, None) ∷ us) (u ∷ first_up k None us) same) ∙ one_count u (first_up k None us) in
+        let own = one_count u us in
+        omega (arith, later, first, own)
+
+-- ---- one goes last
+
+pub up_last : (key : ℕ) (k : Conn) (us : List Up) → up_in key (us ++ (k, None) ∷ []) ≡ up_in key us
+up_last key k [] = refl
+up_last key k (u ∷ us) = ap (λ (o : Option Conn). cond (has_key key u.1) (Some u.0) o) (up_last key k us)
+
+pub singly_last : (k : Conn) (us : List Up) → AreUpOnce us → AreUpOnce (us ++ (k, None) ∷ [])
+singly_last k [] once = ((λ key is. absurd cc), tt)
+singly_last k (u ∷ us) once = ((λ key is. up_last key k us ∙ once.0 key is), singly_last k us once.1)
+
+pub count_last : (k : Conn) (us : List Up) → ups_count (us ++ (k, None) ∷ []) ≡ ups_count us
+count_last k [] = refl
+count_last k (u ∷ us) = one_count u (us ++ (k, None) ∷ []) ∙ ap (λ (n : ℕ). cond (is_some u.1) 1 0 + n) (count_last k us) ∙ sym (one_count u us)
+
+pub ups_last : (e : Entry) (es : List Entry) → ups_of (es ++ e ∷ []) ≡ ups_of es ++ (e.1.conn, key_on e.1.stage) ∷ []
+ups_last e [] = refl
+ups_last e (d ∷ es) = ap (λ (us : List Up). (d.1.conn, key_on d.1.stage) ∷ us) (ups_last e es)
+
+pub lines_last : (e : Entry) (es : List Entry) → lines_of (es ++ e ∷ []) ≡ lines_of es ++ line_of e.1 ∷ []
+lines_last e [] = refl
+lines_last e (d ∷ es) = ap (λ (xs : List Line). line_of d.1 ∷ xs) (lines_last e es)
+
+-- ---- what the table keeps true
+
+distinct_set : (k : Conn) (es : List Entry) (w : Connection) → IsDistinct same_conn (keys_of es) → IsDistinct same_conn (keys_of (set_value (same_conn k) es w))
+distinct_set k es w distinct = subst (λ (ks : List Conn). IsDistinct same_conn ks) (sym (keys-set_value (same_conn k) es w)) distinct
+
+-- a connection is up for what it was up for
+pub kept_same : (limits : Bounds) (k : Conn) (es : List Entry) (c w : Connection) (find : ℕ → Option Conn) (count : ℕ) → AreLines limits es find count
+    → lookup (same_conn k) es ≡ Some c → w.conn ≡ c.conn → IsReading limits w → key_on w.stage ≡ key_on c.stage → AreLines limits (set_value (same_conn k) es w) find count
+kept_same limits k es c w find count kept there same reading still =
+    let named = are_named limits es kept.served in
+    let ups : ups_of (set_value (same_conn k) es w) ≡ ups_of es =
+    ups_set k es c w named there same ∙ ap (λ (o : Option ℕ). first_up k o (ups_of es)) (still ∙ sym (key_there k es c named there)) ∙ first_same k (ups_of es) in
+    record {
+      served = served_set limits k es c w kept.served there same reading;
+      distinct = distinct_set k es w kept.distinct;
+      singly = subst (λ (us : List Up). AreUpOnce us) (sym ups) kept.singly;
+      found = λ key. kept.found key ∙ ap (up_in key) (sym ups);
+      counted = kept.counted ∙ ap ups_count (sym ups);
+    }
+
+-- it comes up
+pub kept_rise : (limits : Bounds) (k : Conn) (key : ℕ) (es : List Entry) (c w : Connection) (find after : ℕ → Option Conn) (count more : ℕ) → AreLines limits es find count
+    → lookup (same_conn k) es ≡ Some c → w.conn ≡ c.conn → IsReading limits w → key_on c.stage ≡ None → key_on w.stage ≡ Some key → up_in key (ups_of es) ≡ None
+    → ((n : ℕ) → after n ≡ cond (eqb key n) (Some k) (find n)) → more ≡ count + 1 → AreLines limits (set_value (same_conn k) es w) after more
+kept_rise limits k key es c w find after count more kept there same reading fresh up none says one =
+    let named = are_named limits es kept.served in
+    let us = ups_of es in
+    let stand = stands_there k es c named there in
+    let free = key_there k es c named there ∙ fresh in
+    let ups : ups_of (set_value (same_conn k) es w) ≡ first_up k (Some key) us = ups_set k es c w named there same ∙ ap (λ (o : Option ℕ). first_up k o us) up in
+    record {
+      served = served_set limits k es c w kept.served there same reading;
+      distinct = distinct_set k es w kept.distinct;
+      singly = subst (λ (vs : List Up). AreUpOnce vs) (sym ups) (singly_rise k key us stand free none kept.singly);
+      found = λ n. says n ∙ ap (λ (o : Option Conn). cond (eqb key n) (Some k) o) (kept.found n) ∙ sym (up_rise k key n us stand free none) ∙ ap (up_in n) (sym ups);
+      counted = one ∙ ap (λ (n : ℕ). n + 1) kept.counted ∙ sym (count_rise k key us stand free) ∙ ap ups_count (sym ups);
+    }
+
+-- it goes down
+pub kept_shut : (limits : Bounds) (k : Conn) (key : ℕ) (es : List Entry) (c w : Connection) (find after : ℕ → Option Conn) (count less : ℕ) → AreLines limits es find count
+    → lookup (same_conn k) es ≡ Some c → w.conn ≡ c.conn → IsReading limits w → key_on c.stage ≡ Some key → key_on w.stage ≡ None
+    → ((n : ℕ) → after n ≡ cond (eqb key n) None (find n)) → less + 1 ≡ count → AreLines limits (set_value (same_conn k) es w) after less
+kept_shut limits k key es c w find after count less kept there same reading up down says one =
+    let named = are_named limits es kept.served in
+    let us = ups_of es in
+    let own = key_there k es c named there ∙ up in
+    let ups : ups_of (set_value (same_conn k) es w) ≡ first_up k None us = ups_set k es c w named there same ∙ ap (λ (o : Option ℕ). first_up k o us) down in
+    let fewer = count_shut k key us own in
+    let all = kept.counted in
+    let last : less ≡ ups_count (first_up k None us) = omega (arith, fewer, all, one) in
+    record {
+      served = served_set limits k es c w kept.served there same reading;
+      distinct = distinct_set k es w kept.distinct;
+      singly = subst (λ (vs : List Up). AreUpOnce vs) (sym ups) (singly_shut k key us own kept.singly);
+      found = λ n. says n ∙ ap (λ (o : Option Conn). cond (eqb key n) None o) (kept.found n) ∙ sym (up_shut k key n us own kept.singly) ∙ ap (up_in n) (sym ups);
+      counted = last ∙ ap ups_count (sym ups);
+    }
+
+-- one is found that is up
+pub is_found : (limits : Bounds) (k : Conn) (key : ℕ) (es : List Entry) (c : Connection) (find : ℕ → Option Conn) (count : ℕ) → AreLines limits es find count
+    → lookup (same_conn k) es ≡ Some c → key_on c.stage ≡ Some key → is_some (find key) ≡ true
+is_found limits k key es c find count kept there up =
+    ap is_some (kept.found key) ∙ up_there k key (ups_of es) (key_there k es c (are_named limits es kept.served) there ∙ up)
+
+-- one is opened
+pub kept_last : (limits : Bounds) (c : Connection) (es : List Entry) (find : ℕ → Option Conn) (count : ℕ) → AreLines limits es find count
+    → c.stage ≡ Fresh → IsReading limits c → IsDistinct same_conn (keys_of (es ++ (c.conn, c) ∷ [])) → AreLines limits (es ++ (c.conn, c) ∷ []) find count
+kept_last limits c es find count kept fresh reading distinct =
+    let us = ups_of es in
+    let ups : ups_of (es ++ (c.conn, c) ∷ []) ≡ us ++ (c.conn, None) ∷ [] = ups_last (c.conn, c) es ∙ ap (λ (s : Stage). us ++ (c.conn, key_on s) ∷ []) fresh in
+    record {
+      served = served_last limits (c.conn, c) es kept.served (refl, reading);
+      distinct = distinct;
+      singly = subst (λ (vs : List Up). AreUpOnce vs) (sym ups) (singly_last c.conn us kept.singly);
+      found = λ key. kept.found key ∙ sym (up_last key c.conn us) ∙ ap (up_in key) (sym ups);
+      counted = kept.counted ∙ sym (count_last c.conn us) ∙ ap ups_count (sym ups);
+    }
+
+-- the key for which a connection is up, in the lines
+pub key_is : (k : Conn) (es : List Entry) → AreNamed es → key_in k (ups_of es) ≡ key_on (stage_of k (lines_of es))
+key_is k [] named = refl
+key_is k (e ∷ es) named = go (is_line k (line_of e.1)) refl (key_is k es named.1)
+  where
+    go : (b : Bool) → is_line k (line_of e.1) ≡ b → key_in k (ups_of es) ≡ key_on (stage_of k (lines_of es)) → key_in k (ups_of (e ∷ es)) ≡ key_on (stage_of k (lines_of (e ∷ es)))
+    go true same rest =
+        cond-true (same_conn k e.1.conn) (key_on e.1.stage) (key_in k (ups_of es)) (symm k e.1.conn ∙ same)
+        ∙ ap key_on (sym (cond-true (is_line k (line_of e.1)) e.1.stage (stage_of k (lines_of es)) same))
+    go false same rest =
+        cond-false (same_conn k e.1.conn) (key_on e.1.stage) (key_in k (ups_of es)) (symm k e.1.conn ∙ same)
+        ∙ rest ∙ ap key_on (sym (cond-false (is_line k (line_of e.1)) e.1.stage (stage_of k (lines_of es)) same))
+
+-- one that isn't up is over
+pub kept_without : (limits : Bounds) (k : Conn) (es : List Entry) (find : ℕ → Option Conn) (count : ℕ) → AreLines limits es find count
+    → key_on (stage_of k (lines_of es)) ≡ None → IsDistinct same_conn (keys_of (remove_entry (same_conn k) es)) → AreLines limits (remove_entry (same_conn k) es) find count
+kept_without limits k es find count kept down distinct =
+    let named = are_named limits es kept.served in
+    let none = key_is k es named ∙ down in
+    record {
+      served = served_without limits k es kept.served;
+      distinct = distinct;
+      singly = singly_removed k es named none kept.singly;
+      found = λ key. kept.found key ∙ sym (ups_removed k es named none key);
+      counted = kept.counted ∙ sym (count_removed k es named none);
+    }
+
+-- the map of those that are up says the same
+pub kept_found : (limits : Bounds) (es : List Entry) (find after : ℕ → Option Conn) (count again : ℕ) → AreLines limits es find count
+    → ((n : ℕ) → after n ≡ find n) → again ≡ count → AreLines limits es after again
+kept_found limits es find after count again kept says same = record {
+  served = kept.served;
+  distinct = kept.distinct;
+  singly = kept.singly;
+  found = λ key. says key ∙ kept.found key;
+  counted = same ∙ kept.counted;
+}
+
+-- ---- what calls show
+
+pub heard_key : (now : ℕ) (s : Stage) → key_on (heard now s) ≡ key_on s
+heard_key now Fresh = refl
+heard_key now (UpFor key terms moment) = refl
+heard_key now Shut = refl
+
+pub not_some : {X : Type 0} (o : Option X) → is_some o ≡ false → o ≡ None
+not_some None e = refl
+not_some (Some x) e = absurd (true≢false e)
+
+-- no connection of that name
+pub lacks : (k : Conn) (es : List Entry) → AreNamed es → None ≡ lookup (same_conn k) es → knows k (lines_of es) ≡ false
+lacks k es named none = sym (known k es named) ∙ ap is_some (sym none)
+
+pub has : (k : Conn) (es : List Entry) (c : Connection) → AreNamed es → Some c ≡ lookup (same_conn k) es → knows k (lines_of es) ≡ true
+has k es c named there = sym (known k es named) ∙ ap is_some (sym there)
+
+-- and then none is changed
+pub still_all : (f : Line → Line) (k : Conn) (es : List Entry) → AreNamed es → None ≡ lookup (same_conn k) es → lines_of es ≡ with_line f k (lines_of es)
+still_all f k es named none = sym (unknown f k (lines_of es) (lacks k es named none))

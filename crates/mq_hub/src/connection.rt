@@ -1,0 +1,126 @@
+//! A connection at a broker (4.2).
+
+ghost use Rattle.std.specs.Prelude.{◌≡◌, [], None, IfOk};
+ghost use Rattle.mq_route.specs.Arrives.{heard};
+ghost use Rattle.mq_route.specs.Hub.{key_on};
+ghost use Rattle.mq_hub.specs.Lines.{line_of, IsReading};
+
+use mq_decode::{Decoder, Limits};
+use mq_end::ByteQueue;
+use mq_route::{Conn, Stage, Terms};
+use mq_topic::ClientKey;
+use std::alloc::{AllocError, Global};
+use std::marker::Model;
+use std::mem;
+
+/// A connection, with what of it no session has (4.2).
+#[derive(Debug, Drop)]
+pub(crate) struct Connection {
+    /// Its name.
+    pub(crate) conn: Conn,
+    /// How far it is.
+    pub(crate) stage: Stage,
+    /// Reads what comes, and holds the bytes of the packet that isn't whole.
+    pub(crate) decoder: Decoder,
+    /// The bytes that wait to be written while it isn't up.
+    pub(crate) waiting: ByteQueue,
+}
+
+/// A connection behind a box, so that a table of them moves few bytes. Contracts see the connection.
+#[derive(Debug, Drop)]
+pub(crate) struct BoxedConnection {
+    connection: Box<Connection>,
+}
+
+impl Model for BoxedConnection {
+    ghost use Rattle.mq_hub.specs.declared.connection.Connection.{Connection};
+
+    ghost Value = { Connection };
+
+    ghost view = { λ b. b.connection.value };
+}
+
+impl BoxedConnection {
+    /// A connection that is opened (4.2): nothing came, and nothing waits. Errs where memory runs out.
+    pub(crate) fn new(
+        alloc: Global,
+        conn: Conn,
+        limits: Limits,
+    ) -> Result<BoxedConnection, AllocError>
+        ensures line { IfOk result (λ c. line_of c ≡ record { conn = conn; stage = Stage.Fresh; held = []; waiting = [] }) }
+        ensures reading { IfOk result (λ c. IsReading limits c) }
+    {
+        let connection = Connection {
+            conn,
+            stage: Stage::Fresh,
+            decoder: Decoder::new(alloc, limits),
+            waiting: ByteQueue::new(alloc),
+        };
+        let connection = Box::new(alloc, connection)?;
+        Ok(BoxedConnection { connection })
+    }
+
+    /// The connection.
+    pub(crate) fn connection(&self) -> &Connection
+        ensures { result.now ≡ self.now }
+    {
+        &self.connection
+    }
+
+    /// The key of the session for which it is up.
+    pub(crate) fn key(&self) -> Option<ClientKey>
+        ensures { result ≡ key_on self.now.stage }
+    {
+        match &self.connection.stage {
+            Stage::UpFor(key, _, _) => Some(*key),
+            Stage::Fresh | Stage::Shut => None,
+        }
+    }
+
+    /// It is closed: what it holds of a packet is gone, what waits stays (4.8).
+    pub(crate) fn shut(&mut self)
+        ensures line { line_of self.new ≡ record (line_of self.old) { stage = Stage.Shut; held = [] } }
+        ensures limit { self.new.decoder.limit ≡ self.old.decoder.limit }
+        ensures failed { self.new.decoder.failed ≡ None }
+    {
+        let connection = &mut *self.connection;
+        connection.stage = Stage::Shut;
+        connection.decoder.reset();
+    }
+
+    /// It is up for the session of this key (3.1.4).
+    pub(crate) fn rise(&mut self, key: ClientKey, terms: Terms, now: u64)
+        ensures { self.new ≡ record self.old { stage = Stage.UpFor key terms now } }
+    {
+        let connection = &mut *self.connection;
+        connection.stage = Stage::UpFor(key, terms, now);
+    }
+
+    /// The moment of its last whole packet is this (3.1.2.10).
+    pub(crate) fn heard(&mut self, now: u64)
+        ensures { self.new ≡ record self.old { stage = heard now self.old.stage } }
+    {
+        let connection = &mut *self.connection;
+        if let Stage::UpFor(_, _, moment) = &mut connection.stage {
+            *moment = now;
+        }
+    }
+
+    /// Exchanges its decoder for another. It takes no memory.
+    pub(crate) fn swap_decoder(&mut self, decoder: &mut Decoder)
+        ensures own { self.new ≡ record self.old { decoder = decoder.old } }
+        ensures other { decoder.new ≡ self.old.decoder }
+    {
+        let connection = &mut *self.connection;
+        mem::swap(&mut connection.decoder, decoder);
+    }
+
+    /// Exchanges the bytes that wait for others. It takes no memory.
+    pub(crate) fn swap_waiting(&mut self, waiting: &mut ByteQueue)
+        ensures own { self.new ≡ record self.old { waiting = waiting.old } }
+        ensures other { waiting.new ≡ self.old.waiting }
+    {
+        let connection = &mut *self.connection;
+        mem::swap(&mut connection.waiting, waiting);
+    }
+}

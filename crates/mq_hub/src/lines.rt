@@ -1,0 +1,241 @@
+//! The connections of a broker (4.2).
+
+ghost use Rattle.std.specs.Prelude.{◌≡◌, ◌+◌, ◌≤◌, ◌<◌, ℕ, [], ◌∷◌, ◌++◌, Some, None, nat_eq, true, false, is_some, if◌then◌else◌, OnOk, IfSome};
+ghost use Rattle.std.specs.HashMap.{get, hash_map_len, spare};
+ghost use Rattle.std.specs.List.{IsDistinct};
+ghost use Rattle.std.specs.Map.{keys_of, remove_entry};
+ghost use Rattle.mq_route.specs.Arrives.{heard};
+ghost use Rattle.mq_route.specs.Hub.{held_on, key_on, knows, stage_of, up_on, waiting_on, with_line, without_line};
+ghost use Rattle.mq_route.specs.Routed.{same_conn};
+ghost use Rattle.mq_route.specs.Welcome.{up_count};
+ghost use Rattle.mq_hub.specs.Lines.{line_of, IsReading};
+
+use crate::connection::BoxedConnection;
+use indexmap::IndexMap;
+use mq_decode::{Decoder, Limits};
+use mq_end::ByteQueue;
+use mq_route::{Conn, Stage, Terms};
+use mq_topic::ClientKey;
+use std::alloc::{AllocError, Global};
+use std::collections::HashMap;
+use std::marker::Model;
+
+// Connections by their names, in an order.
+type ByConn = IndexMap<Conn, BoxedConnection>;
+
+// The connection on which each client is up.
+type Ups = HashMap<ClientKey, Conn>;
+
+/// The connections of a broker in the order in which they were opened, each found by its name at once, and those that are up by the key of
+/// their session.
+#[derive(Drop)]
+pub(crate) struct Lines {
+    limits: Limits,
+    by_conn: ByConn,
+    ups: Ups,
+}
+
+impl Model for Lines {
+    ghost use Rattle.std.specs.Prelude.{nat_eq};
+    ghost use Rattle.std.specs.HashMap.{get, hash_map_len, spare};
+    ghost use Rattle.mq_hub.specs.Lines.{AreLines, LineTable, lines_of};
+
+    ghost Value = { LineTable };
+
+    ghost view = { λ t. record { lines = lines_of t.by_conn.entries; limits = t.limits; room = spare t.by_conn; rises = spare t.ups } };
+
+    ghost invariant = { λ t. AreLines t.limits t.by_conn.entries (get nat_eq t.ups) (hash_map_len t.ups) };
+}
+
+// Writes down on which connection a client is up, where there is memory for one more.
+fn note_up(ups: &mut Ups, key: ClientKey, conn: Conn)
+    requires room { 0 < spare ups.old }
+    requires absent { get nat_eq ups.old key ≡ None }
+    ensures found { (n : ℕ) → get nat_eq ups.new n ≡ (if nat_eq key n then Some conn else get nat_eq ups.old n) }
+    ensures len { hash_map_len ups.new ≡ hash_map_len ups.old + 1 }
+    ensures spare { spare ups.old ≤ spare ups.new + 1 }
+{
+    let _ = ups.insert(key, conn);
+}
+
+// Strikes a client out.
+fn note_down(ups: &mut Ups, key: ClientKey)
+    requires { is_some (get nat_eq ups.old key) ≡ true }
+    ensures found { (n : ℕ) → get nat_eq ups.new n ≡ (if nat_eq key n then None else get nat_eq ups.old n) }
+    ensures len { hash_map_len ups.new + 1 ≡ hash_map_len ups.old }
+    ensures spare { spare ups.old ≤ spare ups.new }
+{
+    let _ = ups.remove(&key);
+}
+
+// Takes the connection of a name out, and moves up those behind it.
+fn take_out(by_conn: &mut ByConn, conn: Conn)
+    ensures entries { by_conn.new.entries ≡ remove_entry (same_conn conn) by_conn.old.entries }
+    ensures distinct { IsDistinct same_conn (keys_of by_conn.new.entries) }
+    ensures room { spare by_conn.old ≤ spare by_conn.new }
+{
+    let _ = by_conn.shift_remove(&conn);
+}
+
+impl Lines {
+    /// No connections; packets are read within these limits on each. It takes no memory.
+    pub(crate) fn new(alloc: Global, limits: Limits) -> Lines
+        ensures lines { result.lines ≡ [] }
+        ensures limits { result.limits ≡ limits }
+    {
+        Lines {
+            limits,
+            by_conn: IndexMap::new(alloc),
+            ups: HashMap::new(alloc),
+        }
+    }
+
+    /// Makes room for so many more to be opened, and to come up. Errs where memory runs out. The connections stay.
+    pub(crate) fn reserve(&mut self, count: usize) -> Result<(), AllocError>
+        ensures ok { OnOk result ((count ≤ self.new.room) × (count ≤ self.new.rises)) }
+        ensures same { self.new.lines ≡ self.old.lines }
+        ensures limits { self.new.limits ≡ self.old.limits }
+        ensures room { self.old.room ≤ self.new.room }
+        ensures rises { self.old.rises ≤ self.new.rises }
+    {
+        self.by_conn.reserve(count)?;
+        self.ups.reserve(count)
+    }
+
+    /// Whether a connection of this name is known.
+    pub(crate) fn knows(&self, conn: Conn) -> bool
+        ensures { result ≡ knows conn self.now.lines }
+    {
+        self.by_conn.contains_key(&conn)
+    }
+
+    /// How far a connection is; `None` where it isn't known.
+    pub(crate) fn stage(&self, conn: Conn) -> Option<&Stage>
+        ensures known { is_some result ≡ knows conn self.now.lines }
+        ensures stage { IfSome result (λ s. s.now ≡ stage_of conn self.now.lines) }
+    {
+        match self.by_conn.get(&conn) {
+            Some(boxed) => Some(&boxed.connection().stage),
+            None => None,
+        }
+    }
+
+    /// The connection on which the client of a session is up.
+    pub(crate) fn up_on(&self, key: ClientKey) -> Option<Conn>
+        ensures { result ≡ up_on key self.now.lines }
+    {
+        self.ups.get(&key).copied()
+    }
+
+    /// How many are up.
+    pub(crate) fn up_count(&self) -> usize
+        ensures { result ≡ up_count self.now.lines }
+    {
+        self.ups.len()
+    }
+
+    /// A connection is opened, whose name isn't known (4.2): it goes last. It takes no memory.
+    pub(crate) fn open(&mut self, boxed: BoxedConnection)
+        requires name { knows boxed.conn self.old.lines ≡ false }
+        requires stage { boxed.stage ≡ Stage.Fresh }
+        requires reading { IsReading self.old.limits boxed }
+        requires room { 0 < self.old.room }
+        ensures lines { self.new.lines ≡ self.old.lines ++ line_of boxed ∷ [] }
+        ensures limits { self.new.limits ≡ self.old.limits }
+        ensures room { self.old.room ≤ self.new.room + 1 }
+        ensures rises { self.new.rises ≡ self.old.rises }
+    {
+        let conn = boxed.connection().conn;
+        let _ = self.by_conn.insert(conn, boxed);
+    }
+
+    /// A connection is closed: what it holds of a packet is gone, what waits stays (4.8). It takes no memory.
+    pub(crate) fn shut(&mut self, conn: Conn)
+        ensures lines { self.new.lines ≡ with_line (λ x. record x { stage = Stage.Shut; held = [] }) conn self.old.lines }
+        ensures limits { self.new.limits ≡ self.old.limits }
+        ensures room { self.new.room ≡ self.old.room }
+        ensures rises { self.old.rises ≤ self.new.rises }
+    {
+        let Some(boxed) = self.by_conn.get_mut(&conn) else {
+            return;
+        };
+        let up = boxed.key();
+        boxed.shut();
+        if let Some(key) = up {
+            note_down(&mut self.ups, key);
+        }
+    }
+
+    /// A connection that waits for its CONNECT comes up for the session of a client that is up on no other (3.1.4). It takes no memory.
+    pub(crate) fn rise(&mut self, conn: Conn, key: ClientKey, terms: Terms, now: u64)
+        requires stage { stage_of conn self.old.lines ≡ Stage.Fresh }
+        requires client { up_on key self.old.lines ≡ None }
+        requires room { 0 < self.old.rises }
+        ensures lines { self.new.lines ≡ with_line (λ x. record x { stage = Stage.UpFor key terms now }) conn self.old.lines }
+        ensures limits { self.new.limits ≡ self.old.limits }
+        ensures room { self.new.room ≡ self.old.room }
+        ensures rises { self.old.rises ≤ self.new.rises + 1 }
+    {
+        let Some(boxed) = self.by_conn.get_mut(&conn) else {
+            return;
+        };
+        boxed.rise(key, terms, now);
+        note_up(&mut self.ups, key, conn);
+    }
+
+    /// The moment of the last whole packet of a connection is this (3.1.2.10). It takes no memory.
+    pub(crate) fn heard(&mut self, conn: Conn, now: u64)
+        ensures lines { self.new.lines ≡ with_line (λ x. record x { stage = heard now x.stage }) conn self.old.lines }
+        ensures limits { self.new.limits ≡ self.old.limits }
+        ensures room { self.new.room ≡ self.old.room }
+        ensures rises { self.new.rises ≡ self.old.rises }
+    {
+        let Some(boxed) = self.by_conn.get_mut(&conn) else {
+            return;
+        };
+        boxed.heard(now);
+    }
+
+    /// Exchanges the decoder of a connection for another. It takes no memory.
+    pub(crate) fn swap_decoder(&mut self, conn: Conn, decoder: &mut Decoder)
+        requires known { knows conn self.old.lines ≡ true }
+        requires reading { (decoder.old.limit ≡ self.old.limits) × (decoder.old.failed ≡ None) }
+        ensures lines { self.new.lines ≡ with_line (λ x. record x { held = decoder.old.held }) conn self.old.lines }
+        ensures held { decoder.new.held ≡ held_on conn self.old.lines }
+        ensures reading { (decoder.new.limit ≡ self.old.limits) × (decoder.new.failed ≡ None) }
+        ensures limits { self.new.limits ≡ self.old.limits }
+        ensures room { self.new.room ≡ self.old.room }
+        ensures rises { self.new.rises ≡ self.old.rises }
+    {
+        let Some(boxed) = self.by_conn.get_mut(&conn) else {
+            return;
+        };
+        boxed.swap_decoder(decoder);
+    }
+
+    /// Exchanges the waiting bytes of a connection for others. It takes no memory.
+    pub(crate) fn swap_waiting(&mut self, conn: Conn, waiting: &mut ByteQueue)
+        requires known { knows conn self.old.lines ≡ true }
+        ensures lines { self.new.lines ≡ with_line (λ x. record x { waiting = waiting.old }) conn self.old.lines }
+        ensures waiting { waiting.new ≡ waiting_on conn self.old.lines }
+        ensures limits { self.new.limits ≡ self.old.limits }
+        ensures room { self.new.room ≡ self.old.room }
+        ensures rises { self.new.rises ≡ self.old.rises }
+    {
+        let Some(boxed) = self.by_conn.get_mut(&conn) else {
+            return;
+        };
+        boxed.swap_waiting(waiting);
+    }
+
+    /// A connection that isn't up is over, and not known any more (4.2). It takes no memory.
+    pub(crate) fn remove(&mut self, conn: Conn)
+        requires { key_on (stage_of conn self.old.lines) ≡ None }
+        ensures lines { self.new.lines ≡ without_line conn self.old.lines }
+        ensures limits { self.new.limits ≡ self.old.limits }
+        ensures room { self.old.room ≤ self.new.room }
+        ensures rises { self.new.rises ≡ self.old.rises }
+    {
+        take_out(&mut self.by_conn, conn);
+    }
+}
