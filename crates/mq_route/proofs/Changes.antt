@@ -1,8 +1,9 @@
 -- The changes of which a step of a broker is made, one by one; and what they keep true of its sessions and connections.
-use Rattle.std.proofs.Common.{◌≡◌, ℕ, ◌≤◌, Bool, true, false, List, [], ◌∷◌, ◌++◌, map, Option, Some, None, refl, sym, ap, subst, ◌∙◌, eqb, eq-eqb, ne_eqb, arith, le_refl}
+use Rattle.std.proofs.Common.{◌≡◌, ℕ, ◌≤◌, Bool, true, false, ◌&&◌, List, [], ◌∷◌, ◌++◌, map, Option, Some, None, refl, sym, ap, subst, ◌∙◌, eqb, eq-eqb, ne_eqb, arith, le_refl}
 use Rattle.std.proofs.lemmas.Bool.{cond-true, cond-false, cond_both}
 use Rattle.mq_topic.specs.declared.qos.Qos.{Qos}
 use Rattle.mq_topic.specs.Rows.{with_row, without_row}
+use Rattle.mq_packet.specs.declared.connect.Will.{Will}
 use Rattle.mq_packet.specs.declared.message.Message.{Message}
 use Rattle.mq_packet.specs.declared.packet.Packet.{Packet}
 use Rattle.mq_packet.specs.Spelling.{spellings}
@@ -18,10 +19,11 @@ use Rattle.mq_route.specs.declared.close.HubClose.TheVariants.{Own, TakenOver, P
 use Rattle.mq_route.specs.declared.stage.Stage.TheVariants.{UpFor, Shut}
 use Rattle.mq_route.specs.declared.stage.Terms.{Terms}
 use Rattle.mq_route.specs.Routed.{same_conn}
-use Rattle.mq_route.specs.Copies.{kept, retained_for}
+use Rattle.mq_route.specs.Copies.{kept, retained_for, will_message}
 use Rattle.mq_route.specs.Hub.{HubState, HubSession, Line, no_end, new_end, end_of, with_end, changed, with_line, without_session, is_for, for_key, knows, stage_of, up_on, copies_of}
-use Rattle.mq_route.specs.Work.{Work, said, with_lines, with_sessions, staged, shut, put_on, put_where, does, remove, remove_if}
+use Rattle.mq_route.specs.Work.{Work, said, with_lines, with_sessions, staged, shut, put_on, put_where, does, have_room, remove, remove_if, will_after}
 use Rattle.mq_route.specs.Arrives.{new_session}
+use Rattle.mq_route.specs.Dropped.{when_over}
 use Rattle.mq_route.proofs.Lines.{Mild, Names, Ups, upper, names_changed, ups_changed, upper_map, grown, same_conn-itself}
 use Rattle.mq_route.proofs.Uppers.{Apart, IsIdle, apart_map, unless, upper_closed, apart_closed, upper_at, unless_other, upper_risen, apart_risen}
 use Rattle.mq_route.proofs.Sessions.{has, has_with, has_without, has_new, each_there, each_with, each_without, each_new}
@@ -56,8 +58,7 @@ unsubscribing key f w = said (acts.Unsubscribed key f) (record w { hub = record 
 
 -- a connection that is up is closed, and its session ends where it is to
 abbrev pub closing : Conn → HubClose → ℕ → Terms → Work → Work
-closing k why key terms w =
-    remove_if terms.clean_session key (with_sessions (with_end key (over (end_of key w.hub.sessions))) (said (acts.Closed k why) (shut k w)))
+closing k why key terms w = when_over k why key terms w
 
 -- a connection is up for a session, which does this
 abbrev pub rising : Conn → ℕ → Terms → ℕ → (End → Reply) → Bool → Work → Work
@@ -70,7 +71,6 @@ pub record Inner (R : Debt → Work → Type 0) : Type 0 where
   pub took : (key : ℕ) (m : Message) (t : List (ℕ × Message)) (n : List (ℕ × Packet)) (w : Work) → R (owes [] ((key, m) ∷ t) n) w → R (owes (copies_of m w.hub) t n) (retaining (acts.Took key m) m w)
   pub willed : (key : ℕ) (m : Message) (w : Work) → R nothing w → R (owes (copies_of m w.hub) [] []) (retaining (acts.Will key m) m w)
   pub placed : (key : ℕ) (m : Message) (c t : List (ℕ × Message)) (n : List (ℕ × Packet)) (w : Work) → R (owes ((key, m) ∷ c) t n) w → R (owes c t n) (said (acts.Placed key m) w)
-  pub dropped : (key : ℕ) (w : Work) → R nothing w → R nothing (said (acts.WillDropped key) w)
   pub subscribed : (key : ℕ) (f : List ℕ) (q : Qos) (c t : List (ℕ × Message)) (n : List (ℕ × Packet)) (w : Work)
       → R (owes c t n) w → R (owes (c ++ for_key key (retained_for f q w.hub.retained)) t n) (subscribing key f q w)
   pub unsubscribed : (key : ℕ) (f : List ℕ) (o : Debt) (w : Work) → R o w → R o (unsubscribing key f w)
@@ -91,14 +91,20 @@ pub record Orderly (lines : List Line) (next : ℕ) (sessions : List HubSession)
 abbrev pub Sound : HubState → Type 0
 Sound h = Orderly h.lines h.next_key h.sessions
 
--- What is kept where packets and connections come and go, and a connection is closed only for what may close it.
-pub record Outer (R : Debt → Work → Type 0) (May : HubClose → Type 0) : Type 0 where
+-- A will that there is no memory for, or no room for its copies.
+abbrev pub IsShort : Will → Bool → Work → Type 0
+IsShort m fits w = (fits && have_room (copies_of (will_message m) w.hub) w.hub) ≡ false
+
+-- What is kept where packets and connections come and go, and a connection is closed only for what may close it, and only near a work.
+pub record Outer (R : Debt → Work → Type 0) (May : HubClose → Type 0) (Near : Bool → Work → Type 0) : Type 0 where
   pub mild : (f : Line → Line) (k : Conn) (o : Debt) (w : Work) → Mild f → R o w → R o (with_lines (with_line f k) w)
   pub gets : (key : ℕ) (p : Packet) (w : Work) → Sound w.hub → has key w.hub.sessions ≡ true → (end_of key w.hub.sessions).state ≡ Up → GoesOn key p (end_of key w.hub.sessions) (server_gets p (end_of key w.hub.sessions))
       → R nothing w → R (owes [] (takings key (server_gets p (end_of key w.hub.sessions)).happenings) ((key, p) ∷ [])) (with_sessions (with_end key (server_gets p (end_of key w.hub.sessions)).end) w)
   pub noted : (n : List (ℕ × Packet)) (w : Work) → R (owes [] [] n) w → R nothing (record w { came = w.came ++ n })
   pub shuts : (k : Conn) (why : HubClose) (w : Work) → May why → Sound w.hub → IsIdle (stage_of k w.hub.lines) → R nothing w → R nothing (said (acts.Closed k why) (shut k w))
   pub closes : (k : Conn) (why : HubClose) (key : ℕ) (terms : Terms) (moment : ℕ) (w : Work) → May why → Sound w.hub → stage_of k w.hub.lines ≡ UpFor key terms moment → R nothing w → R nothing (closing k why key terms w)
+  pub drops : (k : Conn) (why : HubClose) (key : ℕ) (terms : Terms) (moment : ℕ) (fits : Bool) (w : Work) → Near fits w → stage_of k w.hub.lines ≡ UpFor key terms moment
+      → (m : Will) → will_after why terms.will ≡ Some m → IsShort m fits (closing k why key terms w) → R nothing (closing k why key terms w) → R nothing (said (acts.WillDropped key) (closing k why key terms w))
   pub removes : (key : ℕ) (w : Work) → Sound w.hub → upper key w.hub.lines ≡ None → R nothing w → R nothing (remove key w)
   pub begins : (client : List ℕ) (w : Work) → Sound w.hub → R nothing w → R nothing (new_session client w)
   pub rises : (k : Conn) (key : ℕ) (terms : Terms) (moment : ℕ) (move : End → Reply) (present : Bool) (w : Work) → Sound w.hub → knows k w.hub.lines ≡ true → IsIdle (stage_of k w.hub.lines)
@@ -114,6 +120,18 @@ pub record Ways (May : HubClose → Type 0) : Type 0 where
 -- anything may
 abbrev pub Freely : HubClose → Type 0
 Freely why = Unit {0}
+
+-- anywhere
+abbrev pub Anywhere : Bool → Work → Type 0
+Anywhere fits w = Unit {0}
+
+-- What is near stays near where packets are put out and where connections change.
+pub record Nearby (Near : Bool → Work → Type 0) : Type 0 where
+  pub put : (fits : Bool) (k : Conn) (ps : List Packet) (w : Work) → Near fits w → Near fits (put_on k ps w)
+  pub lines : (fits : Bool) (change : List Line → List Line) (w : Work) → Near fits w → Near fits (with_lines change w)
+
+pub anywhere : Nearby Anywhere
+anywhere = record { put = λ fits k ps w n. tt; lines = λ fits change w n. tt }
 
 pub freely : Ways Freely
 freely = record { own = λ reason. tt; over = tt; peer = tt }
@@ -189,7 +207,6 @@ sound_inner = record {
   took = λ key m t n w s. s;
   willed = λ key m w s. s;
   placed = λ key m c t n w s. s;
-  dropped = λ key w s. s;
   subscribed = λ key f q c t n w s. s;
   unsubscribed = λ key f o w s. s;
 }

@@ -27,7 +27,7 @@ use Rattle.mq_route.specs.Work.{Work, begin, said, with_sessions, staged, shut, 
 use Rattle.mq_route.specs.Arrives.{due, new_session, heard_on, takes}
 use Rattle.mq_route.specs.Step.{holding, Comes, Arrives, Waits, Breaks, Starves, LetsGo, Does, told}
 use Rattle.mq_route.specs.Full.{if_full, full_by, full_closes, IsRouted, IsTooMuch, ComesTooMuch, IsFullEvent, FullLaws}
-use Rattle.mq_route.proofs.Changes.{Debt, nothing, Inner, Outer, Ways, Sound, rising}
+use Rattle.mq_route.proofs.Changes.{Anywhere, anywhere, Debt, nothing, Inner, Outer, Ways, Sound, closing, rising}
 use Rattle.mq_route.proofs.Walk.{put_where_keeps}
 use Rattle.mq_route.proofs.Steps.{takes_both, breaks_both, close_both, holding_both, ticks_both, ended_both}
 use Rattle.mq_route.proofs.Events.{sound_new}
@@ -63,7 +63,6 @@ module _ (X : Type 0) where
     took = λ key m t n w r. few_more w.did (acts.Took key m) refl r;
     willed = λ key m w r. few_more w.did (acts.Will key m) refl r;
     placed = λ key m c t n w r. few_more w.did (acts.Placed key m) refl r;
-    dropped = λ key w r. few_more w.did (acts.WillDropped key) refl r;
     subscribed = λ key f q c t n w r. few_more w.did (acts.Subscribed key f q) refl r;
     unsubscribed = λ key f o w r. few_more w.did (acts.Unsubscribed key f) refl r;
   }
@@ -72,6 +71,10 @@ module _ (X : Type 0) where
   unfolding full_by
   closed_few k why did (inl none) r = few_more did (acts.Closed k why) (none k) r
   closed_few k why did (inr x) r = inr x
+
+  drops_few : (key : ℕ) (w : Work) → Few nothing w → Few nothing (said (acts.WillDropped key) w)
+  unfolding full_by
+  drops_few key w r = few_more w.did (acts.WillDropped key) refl r
 
   removes_few : (key : ℕ) (w : Work) → Few nothing w → Few nothing (remove key w)
   unfolding remove full_by
@@ -94,7 +97,7 @@ module _ (X : Type 0) where
       let d = put_where (up_on key v.hub.lines) (move e).out u in
       few_more d.did (acts.Up k key present) refl (put_where_keeps Few inner (up_on key v.hub.lines) (move e).out nothing u r)
 
-  outer : Outer Few May
+  outer : Outer Few May Anywhere
   outer = record {
     mild = λ f k o w m r. r;
     gets = λ key p w s there up g r. r;
@@ -102,6 +105,7 @@ module _ (X : Type 0) where
     shuts = λ k why w may s free r. closed_few k why w.did may r;
     closes = λ k why key terms moment w may s e r.
         remove_if_few terms.clean_session key (with_sessions (with_end key (over (end_of key w.hub.sessions))) (said (acts.Closed k why) (shut k w))) (closed_few k why w.did may r);
+    drops = λ k why key terms moment fits w near stage m has short r. drops_few key (closing k why key terms w) r;
     removes = λ key w s none r. removes_few key w r;
     begins = λ client w s r. begins_few client w r;
     rises = λ k key terms moment move present w s known free none there up clean received r. rises_few k key terms moment move present w r;
@@ -136,7 +140,7 @@ few_comes : (limits : Bounds) (k : Conn) (b : List ℕ) (w w2 : Work) (c : Comes
 few_comes limits k b w w2 (Arrives p first rest g v v2 on reads more) s none =
     let X : Type 0 = IsTooMuch k p (heard_on k v) in
     let u = heard_on k v in
-    let t = takes_both (Few X) (May X) (inner X) (outer X) (ways X) k p g v
+    let t = takes_both (Few X) (May X) Anywhere (inner X) (outer X) (ways X) anywhere k p g v tt
     (λ key up state short. inr (record { key = key; up = up; routed = routed_up key u.hub p (end_of key u.hub.sessions) state short; short = short })) (s, inl none) in
     go t.0 t.1 (λ s2 none. few_comes limits k rest (takes k p g v) v2 more s2 none)
   where
@@ -150,18 +154,18 @@ few_comes limits k b w w2 (Arrives p first rest g v v2 on reads more) s none =
         later (inl e) = inl e
         later (inr x) = inr (inr x)
 few_comes limits k b w w2 (Waits c v on pending) s none = inl none
-few_comes limits k b w w2 (Breaks c fault fits v on faulty) s none = (breaks_both (Few ⊥) (May ⊥) (inner ⊥) (outer ⊥) (ways ⊥) k fault fits v (s, inl none)).1
-few_comes limits k b w w2 (Starves c fits v on some) s none = (close_both (Few ⊥) (May ⊥) (inner ⊥) (outer ⊥) (ways ⊥) k (Own reasons.Memory) fits v (inl (λ k. refl)) (s, inl none)).1
+few_comes limits k b w w2 (Breaks c fault fits v on faulty) s none = (breaks_both (Few ⊥) (May ⊥) Anywhere (inner ⊥) (outer ⊥) (ways ⊥) anywhere k fault fits v tt (s, inl none)).1
+few_comes limits k b w w2 (Starves c fits v on some) s none = (close_both (Few ⊥) (May ⊥) Anywhere (inner ⊥) (outer ⊥) (ways ⊥) anywhere k (Own reasons.Memory) fits v tt (inl (λ k. refl)) (s, inl none)).1
 few_comes limits k b w w2 (LetsGo c v closed) s none = inl none
 
 few_event : (h : HubState) (e : HubEvent) (r : HubReply) (w : Work) (d : Does h e r w) → Sound h → (full_closes w.did ≡ []) ⊎ IsFullEvent h e r w d
 few_event h (Opened k) r w d s = inl (ap (λ (w : Work). full_closes w.did) d.0)
 few_event h (Bytes k piece) r w d s =
-    let start = holding_both (Few ⊥) (May ⊥) (inner ⊥) (outer ⊥) (ways ⊥) k [] (begin h) (s, inl refl) in
+    let start = holding_both (Few ⊥) (May ⊥) Anywhere (inner ⊥) (outer ⊥) (ways ⊥) anywhere k [] (begin h) (s, inl refl) in
     few_comes h.config.limits k (held_on k h.lines ++ piece) (holding k [] (begin h)) w d.0 start.0 refl
 few_event h (Ended k) r w d s =
-    subst (λ (w : Work). (full_closes w.did ≡ []) ⊎ ⊥) (sym d.1) (ended_both (Few ⊥) (May ⊥) (inner ⊥) (outer ⊥) (ways ⊥) k (is_open (stage_of k h.lines)) d.0 (begin h) (s, inl refl)).1
-few_event h (Tick now) r w d s = (ticks_both (Few ⊥) (May ⊥) (inner ⊥) (outer ⊥) (ways ⊥) (max h.clock now) h.lines (begin (told now h)) w d.0 (s, inl refl)).1
+    subst (λ (w : Work). (full_closes w.did ≡ []) ⊎ ⊥) (sym d.1) (ended_both (Few ⊥) (May ⊥) Anywhere (inner ⊥) (outer ⊥) (ways ⊥) anywhere k (is_open (stage_of k h.lines)) d.0 (begin h) tt (s, inl refl)).1
+few_event h (Tick now) r w d s = (ticks_both (Few ⊥) (May ⊥) Anywhere (inner ⊥) (outer ⊥) (ways ⊥) anywhere (λ fits w. tt) (max h.clock now) h.lines (begin (told now h)) w d.0 (s, inl refl)).1
 few_event h (Collect k) r w d s = inl (ap (λ (w : Work). full_closes w.did) d.0)
 
 pub laws : FullLaws

@@ -41,7 +41,6 @@ module _ {A : Type 0} (F : List Line → A) (firm : Firm F) (v : A) where
     took = λ key m t n w h. h;
     willed = λ key m w h. h;
     placed = λ key m c t n w h. h;
-    dropped = λ key w h. h;
     subscribed = λ key f q c t n w h. h;
     unsubscribed = λ key f o w h. h;
   }
@@ -56,7 +55,7 @@ module _ {A : Type 0} (F : List Line → A) (firm : Firm F) (v : A) where
   lines_left why fits Fresh w h = h
   lines_left why fits (UpFor key terms moment) w h =
       let u = with_sessions (with_end key (over (end_of key w.hub.sessions))) w in
-      last_will_keeps (λ o w. F w.hub.lines ≡ v) lines_inner key (will_after why terms.will) fits (remove_if terms.clean_session key u) (lines_removed terms.clean_session key u h)
+      last_will_keeps (λ o w. F w.hub.lines ≡ v) lines_inner key (will_after why terms.will) fits (remove_if terms.clean_session key u) (λ m is short h. h) (lines_removed terms.clean_session key u h)
   lines_left why fits Shut w h = h
 
   -- what a close leaves
@@ -86,7 +85,6 @@ has_inner c b = record {
   took = λ key m t n w h. h;
   willed = λ key m w h. h;
   placed = λ key m c t n w h. h;
-  dropped = λ key w h. h;
   subscribed = λ key f q c t n w h. h;
   unsubscribed = λ key f o w h. h;
 }
@@ -98,7 +96,7 @@ module _ (c : ℕ) (b : Bool) where
   has_left why fits (UpFor key terms moment) w clean h =
       let u = with_sessions (with_end key (over (end_of key w.hub.sessions))) w in
       let kept : has c u.hub.sessions ≡ b = has_with key (over (end_of key w.hub.sessions)) c w.hub.sessions ∙ h in
-      last_will_keeps (λ o w. has c w.hub.sessions ≡ b) (has_inner c b) key (will_after why terms.will) fits (remove_if terms.clean_session key u)
+      last_will_keeps (λ o w. has c w.hub.sessions ≡ b) (has_inner c b) key (will_after why terms.will) fits (remove_if terms.clean_session key u) (λ m is short h. h)
       (subst (λ (t : Bool). has c (remove_if t key u).hub.sessions ≡ b) (sym clean) kept)
   has_left why fits Shut w clean h = h
 

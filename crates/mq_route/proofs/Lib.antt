@@ -12,3 +12,4 @@ mod Routing
 mod Taking
 mod Rows
 mod Filling
+mod Losing

@@ -21,7 +21,7 @@ use Rattle.mq_route.specs.Runs.{Episode, Follows, Stays, ends_it, collects, writ
 use Rattle.mq_route.specs.Laws.{OutputLaws}
 use Rattle.mq_route.proofs.Lines.{one_conn, Names, Bytes as BytesStay, grown, names_changed, bytes_changed, knows_map, waiting_map, put_here, put_there}
 use Rattle.mq_route.proofs.Uppers.{newcomer, risen}
-use Rattle.mq_route.proofs.Changes.{Freely, freely, Debt, nothing, Inner, Outer, Sound, names_grown, closed_line}
+use Rattle.mq_route.proofs.Changes.{Anywhere, anywhere, Freely, freely, Debt, nothing, Inner, Outer, Sound, names_grown, closed_line}
 use Rattle.mq_route.proofs.Walk.{put_where_keeps}
 use Rattle.mq_route.proofs.Steps.{comes_both, holding_both, ticks_both, ended_both}
 use Rattle.mq_route.proofs.Events.{sound_new, not_known, sound_opened, sound_collected, sound_without, ended_idle, emptied}
@@ -81,7 +81,6 @@ module _ (n : Conn) (base : List ℕ) where
     took = λ key m t c w r. r;
     willed = λ key m w r. r;
     placed = λ key m d t c w r. r;
-    dropped = λ key w r. r;
     subscribed = λ key f q d t c w r. r;
     unsubscribed = λ key f o w r. r;
   }
@@ -109,13 +108,14 @@ module _ (n : Conn) (base : List ℕ) where
       put_where_keeps Grows inner (up_on key v.hub.lines) (move e).out nothing (with_sessions (with_end key (move e).end) v)
       (quiet (changed (risen k key terms moment) k) w (names_changed (risen k key terms moment) k (λ x. refl)) (bytes_changed (risen k key terms moment) k (λ x. refl)) nothing r)
 
-  pub outer : Outer Grows Freely
+  pub outer : Outer Grows Freely Anywhere
   outer = record {
     mild = λ f k o w m r. quiet (changed f k) w (names_changed f k (λ x. (m x).0)) (bytes_changed f k (λ x. (m x).1)) o r;
     gets = λ key p w s there up g r. r;
     noted = λ c w r. r;
     shuts = λ k why w may s free r. shut_grows k w r;
     closes = λ k why key terms moment w may s e r. remove_if_grows terms.clean_session key (with_sessions (with_end key (over (end_of key w.hub.sessions))) (said (acts.Closed k why) (shut k w))) (shut_grows k w r);
+    drops = λ k why key terms moment fits w near stage m has short r. r;
     removes = λ key w s none r. remove_grows key w r;
     begins = λ client w s r. begins_grows client w r;
     rises = λ k key terms moment move present w s known free none there up clean received r. rises_grows k key terms moment move w r;
@@ -146,18 +146,18 @@ any_inner = record {
   took = λ key m t c w r. tt;
   willed = λ key m w r. tt;
   placed = λ key m d t c w r. tt;
-  dropped = λ key w r. tt;
   subscribed = λ key f q d t c w r. tt;
   unsubscribed = λ key f o w r. tt;
 }
 
-pub any_outer : Outer Any Freely
+pub any_outer : Outer Any Freely Anywhere
 any_outer = record {
   mild = λ f k o w m r. tt;
   gets = λ key p w s there up g r. tt;
   noted = λ c w r. tt;
   shuts = λ k why w may s free r. tt;
   closes = λ k why key terms moment w may s e r. tt;
+  drops = λ k why key terms moment fits w near stage m has short r. tt;
   removes = λ key w s none r. tt;
   begins = λ client w s r. tt;
   rises = λ k key terms moment move present w s known free none there up clean received r. tt;
@@ -230,20 +230,20 @@ leaves n h (Opened k) r w right d stays s known =
     (knows_opened n k h.lines known, waiting_opened n k h.lines known ∙ sym (append-nil (waiting_on n h.lines))))
 leaves n h (Bytes k piece) r w right d stays s known =
     let base = waiting_on n h.lines in
-    let start = holding_both (Grows n base) Freely (inner n base) (outer n base) freely k [] (begin h) (s, begins_at n h known) in
-    let end = comes_both (Grows n base) Freely (inner n base) (outer n base) freely tt h.config.limits k (held_on k h.lines ++ piece) (holding k [] (begin h)) w d.0 start in
+    let start = holding_both (Grows n base) Freely Anywhere (inner n base) (outer n base) freely anywhere k [] (begin h) (s, begins_at n h known) in
+    let end = comes_both (Grows n base) Freely Anywhere (inner n base) (outer n base) freely anywhere (λ fits w. tt) tt h.config.limits k (held_on k h.lines ++ piece) (holding k [] (begin h)) w d.0 start in
     grew n h (Bytes k piece) r w refl end.0 end.1
 leaves n h (Ended k) r w right d stays s known =
     let base = waiting_on n h.lines in
     let fits = d.0 in
-    let end = ended_both (Grows n base) Freely (inner n base) (outer n base) freely k (is_open (stage_of k h.lines)) fits (begin h) (s, begins_at n h known) in
+    let end = ended_both (Grows n base) Freely Anywhere (inner n base) (outer n base) freely anywhere k (is_open (stage_of k h.lines)) fits (begin h) tt (s, begins_at n h known) in
     let v = ended_open k (is_open (stage_of k h.lines)) fits (begin h) in
     let kept = kept_line n k stays v.hub.lines in
     subst (Leaves n h (Ended k) r) (sym d.1)
     (grew n h (Ended k) r (ended k fits h) refl (sound_without k v (ended_idle k fits (begin h)) end.0) (kept.0 ∙ end.1.0, kept.1 ∙ end.1.1))
 leaves n h (Tick now) r w right d stays s known =
     let base = waiting_on n h.lines in
-    let end = ticks_both (Grows n base) Freely (inner n base) (outer n base) freely (max h.clock now) h.lines (begin (told now h)) w d.0 (s, begins_at n h known) in
+    let end = ticks_both (Grows n base) Freely Anywhere (inner n base) (outer n base) freely anywhere (λ fits w. tt) (max h.clock now) h.lines (begin (told now h)) w d.0 (s, begins_at n h known) in
     grew n h (Tick now) r w refl end.0 end.1
 leaves n h (Collect k) r w right d stays s known =
     subst (Leaves n h (Collect k) r) (sym d.0) (collected_leaves n k h r (ap (λ (r : HubReply). r.output) d.1) s known)
@@ -253,11 +253,11 @@ leaves n h (Collect k) r w right d stays s known =
 -- what a run keeps of sessions and connections
 pub sound_event : (h : HubState) (e : HubEvent) (r : HubReply) (w : Work) → event_refusal e h ≡ None → Does h e r w → Sound h → Sound w.hub
 sound_event h (Opened k) r w right d s = subst (λ (w : Work). Sound w.hub) (sym d.0) (sound_opened k h (not_known k h right) s)
-sound_event h (Bytes k piece) r w right d s = (comes_both Any Freely any_inner any_outer freely tt h.config.limits k (held_on k h.lines ++ piece) (holding k [] (begin h)) w d.0 (holding_both Any Freely any_inner any_outer freely k [] (begin h) (s, tt))).0
+sound_event h (Bytes k piece) r w right d s = (comes_both Any Freely Anywhere any_inner any_outer freely anywhere (λ fits w. tt) tt h.config.limits k (held_on k h.lines ++ piece) (holding k [] (begin h)) w d.0 (holding_both Any Freely Anywhere any_inner any_outer freely anywhere k [] (begin h) (s, tt))).0
 sound_event h (Ended k) r w right d s =
     let v = ended_open k (is_open (stage_of k h.lines)) d.0 (begin h) in
-    subst (λ (w : Work). Sound w.hub) (sym d.1) (sound_without k v (ended_idle k d.0 (begin h)) (ended_both Any Freely any_inner any_outer freely k (is_open (stage_of k h.lines)) d.0 (begin h) (s, tt)).0)
-sound_event h (Tick now) r w right d s = (ticks_both Any Freely any_inner any_outer freely (max h.clock now) h.lines (begin (told now h)) w d.0 (s, tt)).0
+    subst (λ (w : Work). Sound w.hub) (sym d.1) (sound_without k v (ended_idle k d.0 (begin h)) (ended_both Any Freely Anywhere any_inner any_outer freely anywhere k (is_open (stage_of k h.lines)) d.0 (begin h) tt (s, tt)).0)
+sound_event h (Tick now) r w right d s = (ticks_both Any Freely Anywhere any_inner any_outer freely anywhere (λ fits w. tt) (max h.clock now) h.lines (begin (told now h)) w d.0 (s, tt)).0
 sound_event h (Collect k) r w right d s = subst (λ (w : Work). Sound w.hub) (sym d.0) (sound_collected k h s)
 
 pub sound_run : (es : List Episode) (h h2 : HubState) → Follows h es h2 → Sound h → Sound h2

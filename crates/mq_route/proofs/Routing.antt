@@ -35,7 +35,7 @@ use Rattle.mq_route.specs.Runs.{Episode, Follows, acts_of}
 use Rattle.mq_route.specs.Laws.{RoutingLaws, for_client}
 use Rattle.mq_route.proofs.Lines.{grown, upper, conn_in, up_is, up_map, names_changed, ups_changed}
 use Rattle.mq_route.proofs.Uppers.{IsIdle, unless_is, upper_risen, upper_opened, upper_without}
-use Rattle.mq_route.proofs.Changes.{Freely, freely, Debt, nothing, Inner, Outer, Sound, rising, names_grown, ups_grown, upper_shut}
+use Rattle.mq_route.proofs.Changes.{Anywhere, anywhere, Freely, freely, Debt, nothing, Inner, Outer, Sound, closing, rising, names_grown, ups_grown, upper_shut}
 use Rattle.mq_route.proofs.Steps.{comes_both, holding_both, ticks_both, ended_both}
 use Rattle.mq_route.proofs.Events.{sound_new, ended_idle, emptied, emptied_names, emptied_ups}
 use Rattle.mq_route.proofs.Output.{sound_event}
@@ -250,7 +250,6 @@ module _ (store : StoreLaws) where
       took = λ key m t n w a. took_tells key m w a;
       willed = λ key m w a. willed_tells key m w a;
       placed = λ key m due t n w a. placed_tells key m due w a;
-      dropped = λ key w a. dropped_tells key w a;
       subscribed = λ key f q due t n w a. subscribed_tells key f q due w a;
       unsubscribed = λ key f o w a. unsubscribed_tells key f o.copies w a;
     }
@@ -311,7 +310,7 @@ module _ (store : StoreLaws) where
             ∙ ap (λ (o : Option (Conn × Bool)). record { rows = w.hub.rows; up = conn_in o; retained = w.hub.retained }) (sym (upper_risen k key terms moment w.hub.lines s.apart known free none c))
             ∙ ap (λ (o : Option Conn). record { rows = w.hub.rows; up = o; retained = w.hub.retained }) (sym (up_is c (staged k (UpFor key terms moment) w).hub.lines))
 
-    pub outer : Outer Tells Freely
+    pub outer : Outer Tells Freely Anywhere
     outer = record {
       mild = λ f k o w m a. looks (log ++ w.did) w.hub (record w.hub { lines = with_line f k w.hub.lines }) o.copies
           (lines_as w.hub (with_line f k w.hub.lines) (λ c. up_map (changed f k) (names_changed f k (λ x. (m x).0)) (ups_changed f k (λ x. ((m x).2, (m x).3))) c w.hub.lines)) a;
@@ -319,6 +318,7 @@ module _ (store : StoreLaws) where
       noted = λ n w a. a;
       shuts = λ k why w may s free a. shut_tells k why w s a;
       closes = λ k why key terms moment w may s e a. remove_if_tells terms.clean_session key (with_sessions (with_end key (over (end_of key w.hub.sessions))) (said (acts.Closed k why) (shut k w))) (shut_tells k why w s a);
+      drops = λ k why key terms moment fits w near stage m has short a. dropped_tells key (closing k why key terms w) a;
       removes = λ key w s none a. removes_tells key w a;
       begins = λ client w s a. begins_tells client w a;
       rises = λ k key terms moment move present w s known free none there up clean received a. rises_tells k key terms moment move present w s known free none a;
@@ -342,18 +342,18 @@ module _ (store : StoreLaws) where
       acted log h r w (acts_in _ _ d.1)
       (subst (λ (w : Work). Agrees (log ++ w.did) w.hub []) (sym d.0) (looks [] (log ++ []) h (opened k h) [] (lines_as [] h (opened k h).lines same) (starts log h a)))
   tells_event log h (Bytes k piece) r w right d s a =
-      let start = holding_both (Tells log) Freely (inner log) (outer log) freely k [] (begin h) (s, starts log h a) in
-      let end = comes_both (Tells log) Freely (inner log) (outer log) freely tt h.config.limits k (held_on k h.lines ++ piece) (holding k [] (begin h)) w d.0 start in
+      let start = holding_both (Tells log) Freely Anywhere (inner log) (outer log) freely anywhere k [] (begin h) (s, starts log h a) in
+      let end = comes_both (Tells log) Freely Anywhere (inner log) (outer log) freely anywhere (λ fits w. tt) tt h.config.limits k (held_on k h.lines ++ piece) (holding k [] (begin h)) w d.0 start in
       acted log h r w (acts_in _ _ d.1) end.1
   tells_event log h (Ended k) r w right d s a =
       let v = ended_open k (is_open (stage_of k h.lines)) d.0 (begin h) in
-      let end = ended_both (Tells log) Freely (inner log) (outer log) freely k (is_open (stage_of k h.lines)) d.0 (begin h) (s, starts log h a) in
+      let end = ended_both (Tells log) Freely Anywhere (inner log) (outer log) freely anywhere k (is_open (stage_of k h.lines)) d.0 (begin h) tt (s, starts log h a) in
       let same : (c : ℕ) → up_on c (without_line k v.hub.lines) ≡ up_on c v.hub.lines =
       (λ c. up_is c (without_line k v.hub.lines) ∙ ap conn_in (upper_without k v.hub.lines end.0.apart (ended_idle k d.0 (begin h)) c) ∙ sym (up_is c v.hub.lines)) in
       acted log h r w (acts_in _ _ d.2)
       (subst (λ (w : Work). Agrees (log ++ w.did) w.hub []) (sym d.1) (looks [] (log ++ v.did) v.hub (ended k d.0 h).hub [] (lines_as [] v.hub (without_line k v.hub.lines) same) end.1))
   tells_event log h (Tick now) r w right d s a =
-      let end = ticks_both (Tells log) Freely (inner log) (outer log) freely (max h.clock now) h.lines (begin (told now h)) w d.0 (s, starts log h a) in
+      let end = ticks_both (Tells log) Freely Anywhere (inner log) (outer log) freely anywhere (λ fits w. tt) (max h.clock now) h.lines (begin (told now h)) w d.0 (s, starts log h a) in
       acted log h r w (acts_in _ _ d.1) end.1
   tells_event log h (Collect k) r w right d s a =
       let same : (c : ℕ) → up_on c (collected k h).lines ≡ up_on c h.lines = λ c. up_map (changed emptied k) (names_changed emptied k emptied_names) (ups_changed emptied k emptied_ups) c h.lines in

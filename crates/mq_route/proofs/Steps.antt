@@ -33,7 +33,7 @@ use Rattle.mq_route.proofs.Lines.{one_conn, upper, up_is, upper_none, conn_in, M
 use Rattle.mq_route.proofs.Uppers.{IsIdle, unless, upper_at, upper_stage}
 use Rattle.mq_route.proofs.Sessions.{has, has_new, end_new, key_there}
 use Rattle.mq_route.proofs.Ends.{stays_up, greets, takings}
-use Rattle.mq_route.proofs.Changes.{Debt, owes, nothing, Inner, Outer, Ways, Sound, closing, not_up, is_tied, is_idle, sound_inner, sound_mild, sound_gets, sound_shuts, sound_closes, sound_removes, sound_begins, sound_rises, upper_shut, unless_itself}
+use Rattle.mq_route.proofs.Changes.{Debt, owes, nothing, Inner, Outer, Ways, Nearby, Sound, closing, not_up, is_tied, is_idle, sound_inner, sound_mild, sound_gets, sound_shuts, sound_closes, sound_removes, sound_begins, sound_rises, upper_shut, unless_itself}
 use Rattle.mq_route.proofs.Walk.{put_where_keeps, last_will_keeps, answers_all_keeps}
 use Rattle.mq_route.proofs.Frames.{stage_firm, upper_firm, lines_inner, lines_closed, closed_shut, closed_other, has_closed}
 
@@ -79,7 +79,7 @@ abbrev pub Fills : (HubClose → Type 0) → Conn → Packet → Work → Type 0
 Fills May k p w = (key : ℕ) → key_on (stage_of k w.hub.lines) ≡ Some key → (end_of key w.hub.sessions).state ≡ Up
     → have_room (due key w.hub (server_gets p (end_of key w.hub.sessions)).happenings) w.hub ≡ false → May TargetFull
 
-module _ (R : Debt → Work → Type 0) (May : HubClose → Type 0) (inner : Inner R) (outer : Outer R May) (ways : Ways May) where
+module _ (R : Debt → Work → Type 0) (May : HubClose → Type 0) (Near : Bool → Work → Type 0) (inner : Inner R) (outer : Outer R May Near) (ways : Ways May) (nearby : Nearby Near) where
   abbrev pub Both : Debt → Work → Type 0
   Both o w = Sound w.hub × R o w
 
@@ -90,7 +90,6 @@ module _ (R : Debt → Work → Type 0) (May : HubClose → Type 0) (inner : Inn
     took = λ key m t n w h. (h.0, inner.took key m t n w h.1);
     willed = λ key m w h. (h.0, inner.willed key m w h.1);
     placed = λ key m c t n w h. (h.0, inner.placed key m c t n w h.1);
-    dropped = λ key w h. (h.0, inner.dropped key w h.1);
     subscribed = λ key f q c t n w h. (h.0, inner.subscribed key f q c t n w h.1);
     unsubscribed = λ key f o w h. (h.0, inner.unsubscribed key f o w h.1);
   }
@@ -100,20 +99,22 @@ module _ (R : Debt → Work → Type 0) (May : HubClose → Type 0) (inner : Inn
 
   -- ---- a connection is closed
 
-  leaves_both : (k : Conn) (why : HubClose) (fits : Bool) (s : Stage) (w : Work) → May why → stage_of k w.hub.lines ≡ s → Both nothing w → Both nothing (leaves_behind why fits s (said (acts.Closed k why) (shut k w)))
+  leaves_both : (k : Conn) (why : HubClose) (fits : Bool) (s : Stage) (w : Work) → Near fits w → May why → stage_of k w.hub.lines ≡ s → Both nothing w → Both nothing (leaves_behind why fits s (said (acts.Closed k why) (shut k w)))
   unfolding leaves_behind
-  leaves_both k why fits Fresh w may e h =
+  leaves_both k why fits Fresh w near may e h =
       let free : IsIdle (stage_of k w.hub.lines) = subst IsIdle (sym e) (λ c. refl) in
       (sound_shuts k w h.0 free, outer.shuts k why w may h.0 free h.1)
-  leaves_both k why fits (UpFor key terms moment) w may e h =
-      last_will_keeps Both both key (will_after why terms.will) fits (closing k why key terms w) (sound_closes k why key terms moment w h.0 e, outer.closes k why key terms moment w may h.0 e h.1)
-  leaves_both k why fits Shut w may e h =
+  leaves_both k why fits (UpFor key terms moment) w near may e h =
+      last_will_keeps Both both key (will_after why terms.will) fits (closing k why key terms w)
+      (λ m has short g. (g.0, outer.drops k why key terms moment fits w near e m has short g.1))
+      (sound_closes k why key terms moment w h.0 e, outer.closes k why key terms moment w may h.0 e h.1)
+  leaves_both k why fits Shut w near may e h =
       let free : IsIdle (stage_of k w.hub.lines) = subst IsIdle (sym e) (λ c. refl) in
       (sound_shuts k w h.0 free, outer.shuts k why w may h.0 free h.1)
 
-  pub close_both : (k : Conn) (why : HubClose) (fits : Bool) (w : Work) → May why → Both nothing w → Both nothing (close k why fits w)
+  pub close_both : (k : Conn) (why : HubClose) (fits : Bool) (w : Work) → Near fits w → May why → Both nothing w → Both nothing (close k why fits w)
   unfolding close
-  close_both k why fits w may h = leaves_both k why fits (stage_of k w.hub.lines) w may refl h
+  close_both k why fits w near may h = leaves_both k why fits (stage_of k w.hub.lines) w near may refl h
 
   -- ---- a packet on a connection that is up
 
@@ -125,16 +126,16 @@ module _ (R : Debt → Work → Type 0) (May : HubClose → Type 0) (inner : Inn
   none_noted None p = refl
   none_noted (Some key) p = refl
 
-  after_closed : (on : Option ℕ) (k : Conn) (p : Packet) (why : HubClose) (fits : Bool) (w : Work) → May why → Both nothing w → After on k p (close k why fits w)
-  after_closed on k p why fits w may h =
+  after_closed : (on : Option ℕ) (k : Conn) (p : Packet) (why : HubClose) (fits : Bool) (w : Work) → Near fits w → May why → Both nothing w → After on k p (close k why fits w)
+  after_closed on k p why fits w near may h =
       let v = close k why fits w in
       let none : noted on (is_open (stage_of k v.hub.lines)) p ≡ [] = ap (λ (s : Stage). noted on (is_open s) p) (closed_shut k why fits w) ∙ none_noted on p in
-      subst (λ (n : List (ℕ × Packet)). Both (owes [] [] n) v) (sym none) (close_both k why fits w may h)
+      subst (λ (n : List (ℕ × Packet)). Both (owes [] [] n) v) (sym none) (close_both k why fits w near may h)
 
   after_open : (k : Conn) (key : ℕ) (terms : Terms) (moment : ℕ) (p : Packet) (v : Work) → stage_of k v.hub.lines ≡ UpFor key terms moment → Both (owes [] [] ((key, p) ∷ [])) v → After (Some key) k p v
   after_open k key terms moment p v e h = subst (λ (s : Stage). Both (owes [] [] (noted (Some key) (is_open s) p)) v) (sym e) h
 
-  module _ (k : Conn) (key : ℕ) (terms : Terms) (moment : ℕ) (p : Packet) (fits : Bool) (w : Work) (stage : stage_of k w.hub.lines ≡ UpFor key terms moment) (h : Both nothing w)
+  module _ (k : Conn) (key : ℕ) (terms : Terms) (moment : ℕ) (p : Packet) (fits : Bool) (w : Work) (near : Near fits w) (stage : stage_of k w.hub.lines ≡ UpFor key terms moment) (h : Both nothing w)
       (full : have_room (due key w.hub (server_gets p (end_of key w.hub.sessions)).happenings) w.hub ≡ false → May TargetFull) where
     abbrev e : End
     e = end_of key w.hub.sessions
@@ -159,10 +160,10 @@ module _ (R : Debt → Work → Type 0) (May : HubClose → Type 0) (inner : Inn
 
     after_replies : (c : Option CloseReason) → (server_gets p e).close ≡ c → After (Some key) k p (replies k key (server_gets p) c fits w)
     unfolding replies
-    after_replies (Some reason) is = after_closed (Some key) k p (Own reason) fits (put_on k (server_gets p e).out w) (ways.own reason) (both.put k (server_gets p e).out nothing w h)
+    after_replies (Some reason) is = after_closed (Some key) k p (Own reason) fits (put_on k (server_gets p e).out w) (nearby.put fits k (server_gets p e).out w near) (ways.own reason) (both.put k (server_gets p e).out nothing w h)
     after_replies None is =
         cond_both (have_room (due key w.hub (server_gets p e).happenings) w.hub) (answers_all k key (server_gets p e).happenings (does key (server_gets p) w)) (close k TargetFull fits w) (After (Some key) k p)
-        (λ room. after_gets is) (λ short. after_closed (Some key) k p TargetFull fits w (full short) h)
+        (λ room. after_gets is) (λ short. after_closed (Some key) k p TargetFull fits w near (full short) h)
 
   -- ---- CONNECT
 
@@ -207,86 +208,88 @@ module _ (R : Debt → Work → Type 0) (May : HubClose → Type 0) (inner : Inn
   conn_up k None e = absurd cc
   conn_up k (Some u) e = let same : u.0 ≡ k = cc in (u.1, ap (λ (n : Conn). Some (n, u.1)) same)
 
-  over_both : (k : Conn) (c : Connect) (client : List ℕ) (key : ℕ) (fits : Bool) (w : Work) → stage_of k w.hub.lines ≡ Fresh → (not c.clean_session && eqb (length c.client_id) 0) ≡ false → Both nothing w
+  over_both : (k : Conn) (c : Connect) (client : List ℕ) (key : ℕ) (fits : Bool) (w : Work) → Near fits w → stage_of k w.hub.lines ≡ Fresh → (not c.clean_session && eqb (length c.client_id) 0) ≡ false → Both nothing w
       → has key w.hub.sessions ≡ true → (o : Option Conn) → up_on key w.hub.lines ≡ o → Both nothing (goes_on k c client key (ends_on o w.hub.lines) (take_over o fits w))
-  over_both k c client key fits w fresh ok h there None e = goes_on_both k c client key false w fresh ok h (upper_none key w.hub.lines e) (λ keeps. there)
-  over_both k c client key fits w fresh ok h there (Some old) e =
+  over_both k c client key fits w near fresh ok h there None e = goes_on_both k c client key false w fresh ok h (upper_none key w.hub.lines e) (λ keeps. there)
+  over_both k c client key fits w near fresh ok h there (Some old) e =
       let u = conn_up old (upper key w.hub.lines) (sym (up_is key w.hub.lines) ∙ e) in
       let for_key : is_for key (stage_of old w.hub.lines) ≡ true = upper_stage key (old, u.0) w.hub.lines h.0.apart u.1 in
       let far : same_conn old k ≡ false = false_from_ne_true (same_conn old k) (λ same. true≢false (sym for_key ∙ ap (λ (n : Conn). is_for key (stage_of n w.hub.lines)) (one_conn old k same) ∙ ap (is_for key) fresh)) in
       let none : upper key (shut old w).hub.lines ≡ None = upper_shut old key w h.0.apart ∙ ap (unless old) u.1 ∙ unless_itself old u.0 in
-      goes_on_both k c client key (is_clean (stage_of old w.hub.lines)) (close old TakenOver fits w) (closed_other old k TakenOver fits w far ∙ fresh) ok (close_both old TakenOver fits w ways.over h)
+      goes_on_both k c client key (is_clean (stage_of old w.hub.lines)) (close old TakenOver fits w) (closed_other old k TakenOver fits w far ∙ fresh) ok (close_both old TakenOver fits w near ways.over h)
       (lines_closed (upper key) (upper_firm key) None old TakenOver fits w none) (λ keeps. has_closed key true old TakenOver fits w keeps there)
 
-  admit_both : (k : Conn) (c : Connect) (client : List ℕ) (fits : Bool) (w : Work) → stage_of k w.hub.lines ≡ Fresh → (not c.clean_session && eqb (length c.client_id) 0) ≡ false → Both nothing w
+  admit_both : (k : Conn) (c : Connect) (client : List ℕ) (fits : Bool) (w : Work) → Near fits w → stage_of k w.hub.lines ≡ Fresh → (not c.clean_session && eqb (length c.client_id) 0) ≡ false → Both nothing w
       → (o : Option ℕ) → key_of client w.hub.sessions ≡ o → Both nothing (admit k c client o fits w)
-  admit_both k c client fits w fresh ok h None e = greet_new_both k c client w fresh ok h
-  admit_both k c client fits w fresh ok h (Some key) e = over_both k c client key fits w fresh ok h (key_there client key w.hub.sessions e) (up_on key w.hub.lines) refl
+  admit_both k c client fits w near fresh ok h None e = greet_new_both k c client w fresh ok h
+  admit_both k c client fits w near fresh ok h (Some key) e = over_both k c client key fits w near fresh ok h (key_there client key w.hub.sessions e) (up_on key w.hub.lines) refl
 
-  welcomes_both : (k : Conn) (c : Connect) (fits : Bool) (w : Work) → stage_of k w.hub.lines ≡ Fresh → Both nothing w → (code : Option RefusalCode) → refusal c w.hub ≡ code → Both nothing (welcomes k c code fits w)
+  welcomes_both : (k : Conn) (c : Connect) (fits : Bool) (w : Work) → Near fits w → stage_of k w.hub.lines ≡ Fresh → Both nothing w → (code : Option RefusalCode) → refusal c w.hub ≡ code → Both nothing (welcomes k c code fits w)
   unfolding welcomes
-  welcomes_both k c fits w fresh h (Some code) e =
+  welcomes_both k c fits w near fresh h (Some code) e =
       let out = packets.ConnAck (connacks.Refused code) ∷ [] in
-      close_both k (Own (reasons.Refused code)) fits (put_on k out w) (ways.own (reasons.Refused code)) (both.put k out nothing w h)
-  welcomes_both k c fits w fresh h None e =
-      admit_both k c (client_of c w.hub.sessions) fits w fresh (accepted c w.hub e) h (key_of (client_of c w.hub.sessions) w.hub.sessions) refl
+      close_both k (Own (reasons.Refused code)) fits (put_on k out w) (nearby.put fits k out w near) (ways.own (reasons.Refused code)) (both.put k out nothing w h)
+  welcomes_both k c fits w near fresh h None e =
+      admit_both k c (client_of c w.hub.sessions) fits w near fresh (accepted c w.hub e) h (key_of (client_of c w.hub.sessions) w.hub.sessions) refl
 
-  at_first_both : (k : Conn) (p : Packet) (fits : Bool) (w : Work) → stage_of k w.hub.lines ≡ Fresh → Both nothing w → Both nothing (at_first k p fits w)
+  at_first_both : (k : Conn) (p : Packet) (fits : Bool) (w : Work) → Near fits w → stage_of k w.hub.lines ≡ Fresh → Both nothing w → Both nothing (at_first k p fits w)
   unfolding at_first
-  at_first_both k (packets.Connect c) fits w fresh h = welcomes_both k c fits w fresh h (refusal c w.hub) refl
-  at_first_both k p fits w fresh h = close_both k (Own reasons.Unexpected) fits w (ways.own reasons.Unexpected) h
+  at_first_both k (packets.Connect c) fits w near fresh h = welcomes_both k c fits w near fresh h (refusal c w.hub) refl
+  at_first_both k p fits w near fresh h = close_both k (Own reasons.Unexpected) fits w near (ways.own reasons.Unexpected) h
 
   -- ---- any packet
 
-  comes_in_both : (now : ℕ) (k : Conn) (p : Packet) (fits : Bool) (s : Stage) (w : Work) → Fills May k p w → stage_of k w.hub.lines ≡ heard now s → Both nothing w → After (key_on s) k p (comes_in k p fits s w)
+  comes_in_both : (now : ℕ) (k : Conn) (p : Packet) (fits : Bool) (s : Stage) (w : Work) → Near fits w → Fills May k p w → stage_of k w.hub.lines ≡ heard now s → Both nothing w → After (key_on s) k p (comes_in k p fits s w)
   unfolding comes_in
-  comes_in_both now k p fits Fresh w full e h = at_first_both k p fits w e h
-  comes_in_both now k p fits (UpFor key terms moment) w full e h =
-      after_replies k key terms now p fits w e h
+  comes_in_both now k p fits Fresh w near full e h = at_first_both k p fits w near e h
+  comes_in_both now k p fits (UpFor key terms moment) w near full e h =
+      after_replies k key terms now p fits w near e h
       (full key (ap key_on e) (is_tied key (k, terms.clean_session) w.hub h.0 (upper_at k key terms now w.hub.lines h.0.apart e)).1) (server_gets p (end_of key w.hub.sessions)).close refl
-  comes_in_both now k p fits Shut w full e h = h
+  comes_in_both now k p fits Shut w near full e h = h
 
-  arrives_both : (k : Conn) (p : Packet) (g : Growth) (w : Work) → Fills May k p (heard_on k w) → Both nothing w → After (key_on (stage_of k w.hub.lines)) k p (arrives k p g w)
+  arrives_both : (k : Conn) (p : Packet) (g : Growth) (w : Work) → Near g.will_fits w → Fills May k p (heard_on k w) → Both nothing w → After (key_on (stage_of k w.hub.lines)) k p (arrives k p g w)
   unfolding arrives
-  arrives_both k p g w full h =
+  arrives_both k p g w near full h =
       let on = key_on (stage_of k w.hub.lines) in
       cond_both g.fits (comes_in k p g.will_fits (stage_of k w.hub.lines) (heard_on k w)) (close k (Own reasons.Memory) g.will_fits w) (After on k p)
-      (λ fits. comes_in_both w.hub.clock k p g.will_fits (stage_of k w.hub.lines) (heard_on k w) full (stage_heard k w) (mild_both (λ x. record x { stage = heard w.hub.clock x.stage }) k nothing w (heard_mild w.hub.clock) h))
-      (λ starved. after_closed on k p (Own reasons.Memory) g.will_fits w (ways.own reasons.Memory) h)
+      (λ fits. comes_in_both w.hub.clock k p g.will_fits (stage_of k w.hub.lines) (heard_on k w)
+      (nearby.lines g.will_fits (with_line (λ x. record x { stage = heard w.hub.clock x.stage }) k) w near) full (stage_heard k w) (mild_both (λ x. record x { stage = heard w.hub.clock x.stage }) k nothing w (heard_mild w.hub.clock) h))
+      (λ starved. after_closed on k p (Own reasons.Memory) g.will_fits w near (ways.own reasons.Memory) h)
 
-  pub takes_both : (k : Conn) (p : Packet) (g : Growth) (w : Work) → Fills May k p (heard_on k w) → Both nothing w → Both nothing (takes k p g w)
+  pub takes_both : (k : Conn) (p : Packet) (g : Growth) (w : Work) → Near g.will_fits w → Fills May k p (heard_on k w) → Both nothing w → Both nothing (takes k p g w)
   unfolding takes
-  takes_both k p g w full h =
-      let a = arrives_both k p g w full h in
+  takes_both k p g w near full h =
+      let a = arrives_both k p g w near full h in
       let v = arrives k p g w in
       (a.0, outer.noted (noted (key_on (stage_of k w.hub.lines)) (is_open (stage_of k v.hub.lines)) p) v a.1)
 
-  pub breaks_both : (k : Conn) (fault : DecodeFault) (fits : Bool) (w : Work) → Both nothing w → Both nothing (breaks k fault fits w)
+  pub breaks_both : (k : Conn) (fault : DecodeFault) (fits : Bool) (w : Work) → Near fits w → Both nothing w → Both nothing (breaks k fault fits w)
   unfolding breaks
-  breaks_both k fault fits w h = go (broken k fault w).close
+  breaks_both k fault fits w near h = go (broken k fault w).close
     where
       go : (c : Option CloseReason) → Both nothing (closes_by k c fits (put_on k (broken k fault w).out w))
       go None = both.put k (broken k fault w).out nothing w h
-      go (Some reason) = close_both k (Own reason) fits (put_on k (broken k fault w).out w) (ways.own reason) (both.put k (broken k fault w).out nothing w h)
+      go (Some reason) = close_both k (Own reason) fits (put_on k (broken k fault w).out w) (nearby.put fits k (broken k fault w).out w near) (ways.own reason) (both.put k (broken k fault w).out nothing w h)
 
   -- ---- bytes, time, the end of a connection
 
-  pub comes_both : May TargetFull → (limits : Bounds) (k : Conn) (b : List ℕ) (w w2 : Work) → Comes limits k b w w2 → Both nothing w → Both nothing w2
-  comes_both full limits k b w w2 (Arrives p first rest g v v2 on reads more) h = comes_both full limits k rest (takes k p g v) v2 more (takes_both k p g v (λ key up state short. full) h)
-  comes_both full limits k b w w2 (Waits c v on pending) h = mild_both (λ x. record x { held = c }) k nothing v (holding_mild c) h
-  comes_both full limits k b w w2 (Breaks c fault fits v on faulty) h = breaks_both k fault fits v h
-  comes_both full limits k b w w2 (Starves c fits v on some) h = close_both k (Own reasons.Memory) fits v (ways.own reasons.Memory) h
-  comes_both full limits k b w w2 (LetsGo c v closed) h = h
+  pub comes_both : ((fits : Bool) (w : Work) → Near fits w) → May TargetFull → (limits : Bounds) (k : Conn) (b : List ℕ) (w w2 : Work) → Comes limits k b w w2 → Both nothing w → Both nothing w2
+  comes_both near full limits k b w w2 (Arrives p first rest g v v2 on reads more) h = comes_both near full limits k rest (takes k p g v) v2 more (takes_both k p g v (near g.will_fits v) (λ key up state short. full) h)
+  comes_both near full limits k b w w2 (Waits c v on pending) h = mild_both (λ x. record x { held = c }) k nothing v (holding_mild c) h
+  comes_both near full limits k b w w2 (Breaks c fault fits v on faulty) h = breaks_both k fault fits v (near fits v) h
+  comes_both near full limits k b w w2 (Starves c fits v on some) h = close_both k (Own reasons.Memory) fits v (near fits v) (ways.own reasons.Memory) h
+  comes_both near full limits k b w w2 (LetsGo c v closed) h = h
 
   pub holding_both : (k : Conn) (b : List ℕ) (w : Work) → Both nothing w → Both nothing (holding k b w)
   holding_both k b w h = mild_both (λ x. record x { held = b }) k nothing w (holding_mild b) h
 
-  pub ticks_both : (now : ℕ) (xs : List Line) (w w2 : Work) → Ticks now xs w w2 → Both nothing w → Both nothing w2
-  ticks_both now xs w w2 (Done v) h = h
-  ticks_both now xs w w2 (InTime x ys v v2 soon more) h = ticks_both now ys v v2 more h
-  ticks_both now xs w w2 (Late x ys fits v v2 late more) h = ticks_both now ys (close x.conn (Own reasons.KeepAlive) fits v) v2 more (close_both x.conn (Own reasons.KeepAlive) fits v (ways.own reasons.KeepAlive) h)
-  ticks_both now xs w w2 (Later x ys v late) h = h
+  pub ticks_both : ((fits : Bool) (w : Work) → Near fits w) → (now : ℕ) (xs : List Line) (w w2 : Work) → Ticks now xs w w2 → Both nothing w → Both nothing w2
+  ticks_both near now xs w w2 (Done v) h = h
+  ticks_both near now xs w w2 (InTime x ys v v2 soon more) h = ticks_both near now ys v v2 more h
+  ticks_both near now xs w w2 (Late x ys fits v v2 late more) h =
+      ticks_both near now ys (close x.conn (Own reasons.KeepAlive) fits v) v2 more (close_both x.conn (Own reasons.KeepAlive) fits v (near fits v) (ways.own reasons.KeepAlive) h)
+  ticks_both near now xs w w2 (Later x ys v late) h = h
 
-  pub ended_both : (k : Conn) (alive fits : Bool) (w : Work) → Both nothing w → Both nothing (ended_open k alive fits w)
-  ended_both k true fits w h = close_both k PeerEnded fits w ways.peer h
-  ended_both k false fits w h = h
+  pub ended_both : (k : Conn) (alive fits : Bool) (w : Work) → Near fits w → Both nothing w → Both nothing (ended_open k alive fits w)
+  ended_both k true fits w near h = close_both k PeerEnded fits w near ways.peer h
+  ended_both k false fits w near h = h

@@ -27,7 +27,7 @@ use Rattle.mq_route.specs.Laws.{TakingLaws, for_client}
 use Rattle.mq_route.proofs.Uppers.{upper_at}
 use Rattle.mq_route.proofs.Sessions.{has, has_with, has_without, end_without, end_with_other, each_there, each_with, each_new}
 use Rattle.mq_route.proofs.Ends.{GoesOn, takings}
-use Rattle.mq_route.proofs.Changes.{Freely, freely, Debt, owes, nothing, Inner, Outer, Sound, is_tied, closing, rising}
+use Rattle.mq_route.proofs.Changes.{Anywhere, anywhere, Freely, freely, Debt, owes, nothing, Inner, Outer, Sound, is_tied, closing, rising}
 use Rattle.mq_route.proofs.Walk.{put_where_keeps}
 use Rattle.mq_route.proofs.Steps.{comes_both, holding_both, ticks_both, ended_both}
 use Rattle.mq_route.proofs.Events.{sound_new}
@@ -143,7 +143,6 @@ module _ (log : List Act) (before : List (ℕ × Packet)) where
     took = λ key m t n w r. took_hands key m t ((before ++ w.came) ++ n) w.did w.hub r;
     willed = λ key m w r. idle_act (acts.Will key m) ((before ++ w.came) ++ []) [] w.did w.hub (λ c. refl) r;
     placed = λ key m d t n w r. idle_act (acts.Placed key m) ((before ++ w.came) ++ n) t w.did w.hub (λ c. refl) r;
-    dropped = λ key w r. idle_act (acts.WillDropped key) ((before ++ w.came) ++ []) [] w.did w.hub (λ c. refl) r;
     subscribed = λ key f q d t n w r. idle_act (acts.Subscribed key f q) ((before ++ w.came) ++ n) t w.did w.hub (λ c. refl) r;
     unsubscribed = λ key f o w r. idle_act (acts.Unsubscribed key f) ((before ++ w.came) ++ o.came) o.taken w.did w.hub (λ c. refl) r;
   }
@@ -214,6 +213,10 @@ module _ (log : List Act) (before : List (ℕ × Packet)) where
   removes_hands : (key : ℕ) (w : Work) → Hands nothing w → Hands nothing (remove key w)
   removes_hands key w r = remove_hands key w (λ c apart there. r.1 c there) r.0 r.2
 
+  drops_hands : (key : ℕ) (w : Work) → Hands nothing w → Hands nothing (said (acts.WillDropped key) w)
+  unfolding taken_by
+  drops_hands key w r = idle_act (acts.WillDropped key) ((before ++ w.came) ++ []) [] w.did w.hub (λ c. refl) r
+
   shut_hands : (k : Conn) (why : HubClose) (w : Work) → Hands nothing w → Hands nothing (said (acts.Closed k why) (shut k w))
   unfolding taken_by
   shut_hands k why w r = idle_act (acts.Closed k why) ((before ++ w.came) ++ []) [] w.did w.hub (λ c. refl) r
@@ -260,13 +263,14 @@ module _ (log : List Act) (before : List (ℕ × Packet)) where
       let q = put_where_keeps Hands inner (up_on key v.hub.lines) (move e).out nothing u (ends_hands key (move e).end xs [] (log ++ w.did) v.hub same r) in
       idle_act (acts.Up k key present) ((before ++ d.came) ++ []) [] d.did d.hub (λ c. refl) q
 
-  pub outer : Outer Hands Freely
+  pub outer : Outer Hands Freely Anywhere
   outer = record {
     mild = λ f k o w m r. r;
     gets = λ key p w s there up g r. gets_hands key p w s there g r;
     noted = noted_hands;
     shuts = λ k why w may s free r. shut_hands k why w r;
     closes = λ k why key terms moment w may s e r. closes_hands k why key terms moment w s e r;
+    drops = λ k why key terms moment fits w near stage m has short r. drops_hands key (closing k why key terms w) r;
     removes = λ key w s none r. removes_hands key w r;
     begins = begins_hands;
     rises = λ k key terms moment move present w s known free none there up clean received r. rises_hands k key terms moment move present w received r;
@@ -294,14 +298,14 @@ hands_event log before h (Opened k) r w right d s a =
     subst (λ (w : Work). r.acts ≡ w.did → Kept (log ++ r.acts) (before ++ w.came) w.hub) (sym d.0) (λ same. ends log before r (begin (opened k h)) same (starts log before h a)) (acts_in _ _ d.1)
 hands_event log before h (Bytes k piece) r w right d s a =
     let R = Hands log before in
-    let start = holding_both R Freely (inner log before) (outer log before) freely k [] (begin h) (s, starts log before h a) in
-    let end = comes_both R Freely (inner log before) (outer log before) freely tt h.config.limits k (held_on k h.lines ++ piece) (holding k [] (begin h)) w d.0 start in
+    let start = holding_both R Freely Anywhere (inner log before) (outer log before) freely anywhere k [] (begin h) (s, starts log before h a) in
+    let end = comes_both R Freely Anywhere (inner log before) (outer log before) freely anywhere (λ fits w. tt) tt h.config.limits k (held_on k h.lines ++ piece) (holding k [] (begin h)) w d.0 start in
     ends log before r w (acts_in _ _ d.1) end.1
 hands_event log before h (Ended k) r w right d s a =
-    let end = ended_both (Hands log before) Freely (inner log before) (outer log before) freely k (is_open (stage_of k h.lines)) d.0 (begin h) (s, starts log before h a) in
+    let end = ended_both (Hands log before) Freely Anywhere (inner log before) (outer log before) freely anywhere k (is_open (stage_of k h.lines)) d.0 (begin h) tt (s, starts log before h a) in
     subst (λ (w : Work). r.acts ≡ w.did → Kept (log ++ r.acts) (before ++ w.came) w.hub) (sym d.1) (λ same. ends log before r (ended k d.0 h) same end.1) (acts_in _ _ d.2)
 hands_event log before h (Tick now) r w right d s a =
-    let end = ticks_both (Hands log before) Freely (inner log before) (outer log before) freely (max h.clock now) h.lines (begin (told now h)) w d.0 (s, starts log before h a) in
+    let end = ticks_both (Hands log before) Freely Anywhere (inner log before) (outer log before) freely anywhere (λ fits w. tt) (max h.clock now) h.lines (begin (told now h)) w d.0 (s, starts log before h a) in
     ends log before r w (acts_in _ _ d.1) end.1
 hands_event log before h (Collect k) r w right d s a =
     subst (λ (w : Work). r.acts ≡ w.did → Kept (log ++ r.acts) (before ++ w.came) w.hub) (sym d.0) (λ same. ends log before r (begin (collected k h)) same (starts log before h a))

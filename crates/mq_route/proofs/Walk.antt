@@ -1,5 +1,5 @@
 -- What the changes of a step keep, a step keeps.
-use Rattle.std.proofs.Common.{ℕ, Bool, ◌&&◌, List, [], ◌∷◌, ◌++◌, Option, Some, None, refl, sym, subst, append_assoc, append-nil}
+use Rattle.std.proofs.Common.{◌≡◌, ℕ, Bool, ◌&&◌, List, [], ◌∷◌, ◌++◌, Option, Some, None, refl, sym, subst, append_assoc, append-nil}
 use Rattle.std.proofs.lemmas.Bool.{cond_both}
 use Rattle.mq_packet.specs.declared.connect.Will.{Will}
 use Rattle.mq_packet.specs.declared.message.Message.{Message}
@@ -17,7 +17,7 @@ use Rattle.mq_route.specs.Hub.{end_of, with_end, up_on, for_key, copies_of}
 use Rattle.mq_route.specs.Work.{Work, said, with_sessions, put_where, does, publishes_next, place, place_all, have_room, share, last_will, subscribed, unsubscribed, retained_copies}
 use Rattle.mq_route.specs.Arrives.{answers, answers_all, granted}
 use Rattle.mq_route.proofs.Ends.{Alike, publishes_alike, taking, takings, NoUp, NoUps}
-use Rattle.mq_route.proofs.Changes.{owes, nothing, Debt, Inner, retaining, subscribing, unsubscribing}
+use Rattle.mq_route.proofs.Changes.{owes, nothing, Debt, Inner, IsShort, retaining, subscribing, unsubscribing}
 
 module _ (R : Debt → Work → Type 0) (inner : Inner R) where
   pub put_where_keeps : (to : Option Conn) (ps : List Packet) (o : Debt) (w : Work) → R o w → R o (put_where to ps w)
@@ -49,12 +49,16 @@ module _ (R : Debt → Work → Type 0) (inner : Inner R) where
   unfolding share
   willed_keeps key m w h = place_all_keeps (copies_of m w.hub) [] [] (retaining (acts.Will key m) m w) (inner.willed key m w h)
 
-  pub last_will_keeps : (key : ℕ) (will : Option Will) (fits : Bool) (w : Work) → R nothing w → R nothing (last_will key will fits w)
+  -- what a will that is dropped keeps
+  abbrev pub Drops : ℕ → Option Will → Bool → Work → Type 0
+  Drops key will fits w = (m : Will) → will ≡ Some m → IsShort m fits w → R nothing w → R nothing (said (acts.WillDropped key) w)
+
+  pub last_will_keeps : (key : ℕ) (will : Option Will) (fits : Bool) (w : Work) → Drops key will fits w → R nothing w → R nothing (last_will key will fits w)
   unfolding last_will
-  last_will_keeps key None fits w h = h
-  last_will_keeps key (Some will) fits w h =
+  last_will_keeps key None fits w drops h = h
+  last_will_keeps key (Some will) fits w drops h =
       cond_both (fits && have_room (copies_of (will_message will) w.hub) w.hub) (share (acts.Will key (will_message will)) (will_message will) w) (said (acts.WillDropped key) w) (R nothing)
-      (λ e. willed_keeps key (will_message will) w h) (λ e. inner.dropped key w h)
+      (λ e. willed_keeps key (will_message will) w h) (λ e. drops will refl e h)
 
   subscribed_keeps : (key : ℕ) (rs : List Request) (c t : List (ℕ × Message)) (n : List (ℕ × Packet)) (w : Work) → R (owes c t n) w → R (owes (c ++ retained_copies key rs w.hub.retained) t n) (subscribed key rs w)
   subscribed_keeps key [] c t n w h = subst (λ (l : List (ℕ × Message)). R (owes l t n) w) (sym (append-nil c)) h

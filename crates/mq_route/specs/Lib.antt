@@ -11,3 +11,4 @@ pub mod Taken
 pub mod Laws
 pub mod Examples
 pub mod Full
+pub mod Dropped

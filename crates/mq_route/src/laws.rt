@@ -1,5 +1,6 @@
 //! The laws of every run of a broker.
 
+ghost use Rattle.mq_route.specs.Dropped.{WillLaws};
 ghost use Rattle.mq_route.specs.Examples.{Examples};
 ghost use Rattle.mq_route.specs.Full.{FullLaws};
 ghost use Rattle.mq_route.specs.Laws.{OutputLaws, RoutingLaws, TakingLaws};
@@ -30,6 +31,12 @@ pub fn taking_laws()
 /// and makes copies due for which some session has too few identifiers free (2.3.1).
 pub fn full_laws()
     ensures { FullLaws }
+{}
+
+/// At each step of a run, a will is dropped only where memory runs out for it, or where a session that a copy of it is due for has
+/// too few identifiers free (3.1.2.5, 2.3.1).
+pub fn will_laws()
+    ensures { WillLaws }
 {}
 
 /// Worked runs, with their acts and the bytes that wait.
