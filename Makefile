@@ -3,8 +3,9 @@
 RT ?= rt
 PREFIX ?= /usr/local
 ARGS ?= --help
+STREAMS ?= small publish16 publish1024 publish65536 mixed
 
-.PHONY: all bin/mqtt test install try clean
+.PHONY: all bin/mqtt test install try bench-c clean
 
 # Proves the program and everything below it, builds it, and runs it once.
 all: bin/mqtt
@@ -30,6 +31,13 @@ install: bin/mqtt
 try:
 	@echo 'This proves nothing: the program is built as it is written, which takes a minute or two, and runs.' >&2
 	cd crates/mqtt && $(RT) try -- $(ARGS)
+
+# Measures plain C that makes the same tests as `view`, over the streams of mq_bench: make bench-c STREAMS=small
+bench-c:
+	@command -v $(CC) >/dev/null || { echo 'There is no C compiler here called $(CC): name one, as make bench-c CC=clang.' >&2; exit 1; }
+	mkdir -p bin
+	$(CC) -std=c11 -O3 -o bin/same_tests bench/same_tests.c
+	bin/same_tests $(STREAMS)
 
 clean:
 	rm -rf bin

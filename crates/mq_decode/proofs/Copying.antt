@@ -1,95 +1,59 @@
 -- What of a piece is copied into the decoder's own buffer.
 use Rattle.std.proofs.Common.{◌≡◌, ℕ, ◌+◌, ◌-◌, ◌^◌, ◌<◌, ◌≤◌, min, List, [], ◌∷◌, ◌++◌, length, take, drop, refl, sym, ap, subst, ◌∙◌, arith, inl, inr}
 use Rattle.std.proofs.lemmas.Bool.{cases_lt}
-use Rattle.std.proofs.lemmas.List.{append-nil, nil_from_length, length-append, length-take, length-drop, take-append-drop}
+use Rattle.std.proofs.lemmas.List.{append-nil, nil_from_length, length-take, length-drop, take-append-drop, take_all}
 use Rattle.mq_packet.specs.declared.packet.Packet.{Packet}
 use Rattle.mq_decode.specs.Limits.{Bounds}
 use Rattle.mq_decode.specs.Grammar.{ReadsWithin, Pending, Goes, IsAlone}
-use Rattle.mq_decode.specs.Copied.{Adds, Copies, StaysOrGoes, counted_more}
-use Rattle.mq_decode.proofs.Streams.{next_bytes, pending_nil}
-
--- ---- the packet that is held
-
--- a packet that nothing follows is all of the bytes
-pub goes_alone : (limit : Bounds) (b : List ℕ) (p : Packet) (n : ℕ) (rest : List ℕ) → IsAlone limit b → (n ≤ length b) × ReadsWithin limit p (take n b) → rest ≡ [] → StaysOrGoes limit b rest
-goes_alone limit b p n rest alone h none =
-    let parts : b ≡ take n b ++ drop n b = sym (take-append-drop n b) in
-    let ended : drop n b ≡ [] = alone p (take n b) (drop n b) h.1 parts in
-    let all : b ≡ take n b = parts ∙ (ap (λ (t : List ℕ). take n b ++ t) ended ∙ append-nil (take n b)) in
-    inr (none, (p, subst (λ (s : List ℕ). ReadsWithin limit p s) (sym all) h.1))
+use Rattle.mq_decode.specs.Copied.{Adds, Copies, counted_more}
+use Rattle.mq_decode.proofs.Streams.{pending_nil}
 
 -- ---- a count that stops
 
 more_than : (most old used n c d : ℕ) → c ≡ min (old + used) most → d ≡ min (c + n) most → d ≡ min (old + (used + n)) most
 more_than most old used n c d e f = omega arith
 
-none_more : (most old used c : ℕ) → c ≡ old → used ≡ 0 → c ≤ most → c ≡ min (old + used) most
-none_more most old used c e zero_is le = omega arith
-
-first_more : (most old used n c d : ℕ) → c ≡ old → used ≡ 0 → d ≡ min (c + n) most → d ≡ min (old + (used + n)) most
-first_more most old used n c d e zero_is f = omega arith
-
--- so many in all
-pub counts_all : (old used c : ℕ) → (used ≡ 0 → c ≡ old) → (0 < used → c ≡ counted_more old used) → c < 2 ^ 64 → c ≡ counted_more old used
-counts_all old used c none more few =
-    elim (cases_lt 0 used) [
-      | inl lt ↦ more lt
-      | inr le ↦ let zero_is : used ≡ 0 = omega arith in none_more (2 ^ 64 - 1) old used c (none zero_is) zero_is (omega arith)
-    ]
-
 pub counts_then : (old used n c d : ℕ) → c ≡ counted_more old used → d ≡ counted_more c n → d ≡ counted_more old (used + n)
 counts_then old used n c d e f = more_than (2 ^ 64 - 1) old used n c d e f
 
+-- so many of a list that has as many
+pub counts_part : (old used n c d : ℕ) (part : List ℕ) → length part ≡ n → c ≡ counted_more old used → d ≡ counted_more c (length part) → d ≡ counted_more old (used + n)
+counts_part old used n c d part size e f = counts_then old used n c d e (f ∙ ap (counted_more c) size)
+
+none_more : (most c : ℕ) → c ≤ most → c ≡ min (c + 0) most
+none_more most c le = omega arith
+
+-- none more
+pub counts_none : (c : ℕ) → c < 2 ^ 64 → c ≡ counted_more c 0
+counts_none c lt = none_more (2 ^ 64 - 1) c (omega arith)
+
 -- ---- filling up what is held
 
--- so many bytes of the piece went to what was held, and this is held now
-pub record Filled (limit : Bounds) (held piece : List ℕ) (used old c : ℕ) (now : List ℕ) : Type 0 where
-  pub start : held ≡ [] → used ≡ 0
-  pub stays : StaysOrGoes limit (held ++ take used piece) now
-  pub none : used ≡ 0 → c ≡ old
-  pub more : 0 < used → c ≡ counted_more old used
+-- a packet that nothing follows is all of the bytes
+pub alone_reads : (limit : Bounds) (b : List ℕ) (p : Packet) (n : ℕ) → IsAlone limit b → (n ≤ length b) × ReadsWithin limit p (take n b) → ReadsWithin limit p b
+alone_reads limit b p n alone h =
+    let parts : b ≡ take n b ++ drop n b = sym (take-append-drop n b) in
+    let ended : drop n b ≡ [] = alone p (take n b) (drop n b) h.1 parts in
+    let all : b ≡ take n b = parts ∙ (ap (λ (t : List ℕ). take n b ++ t) ended ∙ append-nil (take n b)) in
+    subst (λ (s : List ℕ). ReadsWithin limit p s) (sym all) h.1
 
-pub filled_start : (limit : Bounds) (held piece : List ℕ) (old : ℕ) → Pending limit held → Filled limit held piece 0 old old held
-filled_start limit held piece old pending =
-    let same : held ++ take 0 piece ≡ held = append-nil held in
-    record { start = λ e. refl; stays = inl (sym same, subst (Pending limit) (sym same) pending); none = λ e. refl; more = λ lt. absurd (omega arith) }
+-- the piece was too short for what is held
+pub pending_adds : (limit : Bounds) (held piece : List ℕ) → 0 < length held → Pending limit (held ++ piece) → Adds limit held (take (length piece) piece) (drop (length piece) piece)
+pending_adds limit [] piece some pending = absurd (omega arith)
+pending_adds limit (b ∷ held) piece some pending = inl (
+  subst (λ (t : List ℕ). Pending limit ((b ∷ held) ++ t)) (sym (take_all (length piece) piece (omega arith))) pending,
+  nil_from_length (drop (length piece) piece) (omega (arith, length-drop (length piece) piece)),
+)
 
--- what is held, where there is something
-still : (limit : Bounds) (b now : List ℕ) → 0 < length now → StaysOrGoes limit b now → now ≡ b
-still limit b now left (inl s) = s.0
-still limit b now left (inr s) = absurd (omega (arith, ap length s.0))
+-- or what is held is whole with these
+pub packet_adds : (limit : Bounds) (held piece : List ℕ) (p : Packet) (n : ℕ) → 0 < length held → ReadsWithin limit p (held ++ take n piece) → Adds limit held (take n piece) (drop n piece)
+packet_adds limit [] piece p n some h = absurd (omega arith)
+packet_adds limit (b ∷ held) piece p n some h = inr (p, h)
 
-pub filled_next : (limit : Bounds) (held piece now next new : List ℕ) (used n old c d : ℕ) → 0 < length now → 0 < n → n ≤ length (drop used piece) → next ≡ now ++ take n (drop used piece)
-    → d ≡ counted_more c (length (take n (drop used piece))) → StaysOrGoes limit next new → Filled limit held piece used old c now → Filled limit held piece (used + n) old d new
-filled_next limit held piece now next new used n old c d left some few next_is count stays f =
-    let now_is : now ≡ held ++ take used piece = still limit (held ++ take used piece) now left f.stays in
-    let all : next ≡ held ++ take (used + n) piece = next_is ∙ (ap (λ (t : List ℕ). t ++ take n (drop used piece)) now_is ∙ next_bytes held piece used n) in
-    let size : length (take n (drop used piece)) ≡ n = omega (arith, length-take n (drop used piece)) in
-    let grown : d ≡ counted_more c n = count ∙ ap (counted_more c) size in
-    record {
-      start = λ e. absurd (omega (arith, left, ap length now_is, length-append held (take used piece), ap length e, length-take used piece, f.start e));
-      stays = subst (λ (b : List ℕ). StaysOrGoes limit b new) all stays;
-      none = λ e. absurd (omega arith);
-      more = λ lt. elim (cases_lt 0 used) [
-        | inl before ↦ counts_then old used n c d (f.more before) grown
-        | inr le ↦ let zero_is : used ≡ 0 = omega arith in first_more (2 ^ 64 - 1) old used n c d (f.none zero_is) zero_is grown
-      ];
-    }
-
-pub filled_adds : (limit : Bounds) (held piece : List ℕ) (used old c : ℕ) (now : List ℕ) → (used < length piece → now ≡ []) → Filled limit held piece used old c now → Adds limit held (take used piece) (drop used piece)
-filled_adds limit [] piece used old c now all f = ap (λ (n : ℕ). take n piece) (f.start refl)
-filled_adds limit (b ∷ held) piece used old c now all f = ends f.stays
-  where
-    whole : now ≡ (b ∷ held) ++ take used piece → length piece ≤ used
-    whole e =
-        elim (cases_lt used (length piece)) [
-          | inl lt ↦ absurd (omega (arith, ap length (sym (all lt) ∙ e), length-append (b ∷ held) (take used piece)))
-          | inr le ↦ le
-        ]
-
-    ends : StaysOrGoes limit ((b ∷ held) ++ take used piece) now → Adds limit (b ∷ held) (take used piece) (drop used piece)
-    ends (inl s) = inl (s.1, nil_from_length (drop used piece) (omega (arith, length-drop used piece, whole s.0)))
-    ends (inr s) = inr s.1
+-- or nothing is held
+pub nothing_adds : (limit : Bounds) (held piece : List ℕ) → held ≡ [] → Adds limit held (take 0 piece) (drop 0 piece)
+nothing_adds limit [] piece e = refl
+nothing_adds limit (b ∷ held) piece e = absurd cc
 
 -- ---- a piece
 

@@ -1,9 +1,10 @@
 -- Streams: one after another, cut anywhere, and read in one way.
 use Rattle.std.proofs.Common.{◌≡◌, ℕ, ◌+◌, ◌-◌, ◌<◌, ◌≤◌, Bool, true, eqb, List, [], ◌∷◌, ◌++◌, length, take, drop, get_or, Option, Some, None, Ok, Err, refl, sym, ap, subst, ◌∙◌, append_assoc, arith, inl, inr}
 use Rattle.std.proofs.lemmas.Bool.{cases_lt, eqb-true}
-use Rattle.std.proofs.lemmas.List.{nil_from_length, append-nil, length-append, length-take, length-drop, take-append-drop, take-append-le, take-take, drop-take, take_at, take_more}
+use Rattle.std.proofs.lemmas.List.{nil_from_length, append-nil, length-append, length-take, length-drop, take-append-drop, take-append-le, take-take, drop-take, take_at, take_more, take_all}
 use Rattle.std.proofs.lemmas.List.Concat.{flat_map-append}
 use Rattle.std.specs.List.{flat_map}
+use Rattle.std.specs.Prelude.{IfNone, IfSome, OnOk, Result}
 use Rattle.bytes.proofs.Ranges.{take-append_past}
 use Rattle.mq_packet.specs.declared.packet.Packet.{Packet}
 use Rattle.mq_decode.specs.declared.fault.FaultKind.{FaultKind}
@@ -13,6 +14,7 @@ use Rattle.mq_decode.specs.declared.fault.DecodeError.{DecodeError}
 use Rattle.mq_decode.specs.declared.fault.DecodeError.TheVariants as errors
 use Rattle.mq_decode.specs.Limits.{Bounds}
 use Rattle.mq_decode.specs.Grammar.{ReadsWithin, Stream, BadLength, Faulty, AtFirst, AtLength, AtSize, AtField, Pending, Reading, Goes, Stops, IsFront, IsAlone, Wants}
+use Rattle.mq_decode.specs.Laws.{ReadsOn}
 use Rattle.mq_decode.proofs.FrontLaws.{parts_of}
 
 -- ---- one stream after another
@@ -113,15 +115,6 @@ stops_then limit b more old mid new rest errors.Memory h k = (
 pub goes_none : (limit : Bounds) (held : List ℕ) (old : List Packet) → Pending limit held → Goes limit (held ++ []) old old held
 goes_none limit held old h = ([], sym (append-nil old), record { front = []; stream = refl; parts = append-nil held; ends = h })
 
--- memory ran out before anything of the rest was read
-pub stops_memory : (limit : Bounds) (b more : List ℕ) (old mid : List Packet) (rest : List ℕ) → Goes limit b old mid rest → 0 < length rest + length more → Stops limit (b ++ more) old mid errors.Memory
-stops_memory limit b more old mid rest h left =
-    (h.0, h.1, record { front = h.2.front; stream = h.2.stream; rest = rest ++ more; parts = ap (λ (t : List ℕ). t ++ more) h.2.parts ∙ append_assoc h.2.front rest more; left = omega (arith, length-append rest more) })
-
--- what is read of a rest is pending
-pub goes_pending : (limit : Bounds) (b : List ℕ) (old new : List Packet) (rest : List ℕ) → Goes limit b old new rest → Pending limit rest
-goes_pending limit b old new rest h = h.2.ends
-
 -- ---- packets from the front of bytes
 
 -- the packets taken so far, from so many bytes
@@ -162,40 +155,17 @@ next_bytes held piece used n = append_assoc held (take used piece) (take n (drop
 all_bytes : (held piece : List ℕ) (used : ℕ) → (held ++ take used piece) ++ drop used piece ≡ held ++ piece
 all_bytes held piece used = append_assoc held (take used piece) (drop used piece) ∙ ap (λ (t : List ℕ). held ++ t) (take-append-drop used piece)
 
-pub filled_more : (limit : Bounds) (held piece now next : List ℕ) (used n : ℕ) (old mid new : List Packet) (rest : List ℕ) → next ≡ now ++ take n (drop used piece)
-    → Goes limit (held ++ take used piece) old mid now → Goes limit next mid new rest → Goes limit (held ++ take (used + n) piece) old new rest
-filled_more limit held piece now next used n old mid new rest e h k =
-    subst (λ (b : List ℕ). Goes limit b old new rest) (next_bytes held piece used n)
-    (goes_then limit (held ++ take used piece) (take n (drop used piece)) old mid new now rest h (subst (λ (b : List ℕ). Goes limit b mid new rest) e k))
-
 pub filled_all : (limit : Bounds) (held piece now : List ℕ) (used : ℕ) (old mid new : List Packet) (rest : List ℕ) → now ≡ []
     → Goes limit (held ++ take used piece) old mid now → Goes limit (drop used piece) mid new rest → Goes limit (held ++ piece) old new rest
 filled_all limit held piece now used old mid new rest e h k =
     subst (λ (b : List ℕ). Goes limit b old new rest) (all_bytes held piece used)
     (goes_then limit (held ++ take used piece) (drop used piece) old mid new now rest h (subst (λ (t : List ℕ). Goes limit (t ++ drop used piece) mid new rest) (sym e) k))
 
--- a stop within the piece
-pub filled_stops : (limit : Bounds) (held piece now next : List ℕ) (used n : ℕ) (old mid new : List Packet) (e : DecodeError) → next ≡ now ++ take n (drop used piece)
-    → Goes limit (held ++ take used piece) old mid now → Stops limit next mid new e → Stops limit (held ++ piece) old new e
-filled_stops limit held piece now next used n old mid new e next_is h k =
-    let stopped = stops_then limit (held ++ take used piece) (take n (drop used piece)) old mid new now e h (subst (λ (b : List ℕ). Stops limit b mid new e) next_is k) in
-    let more = stops_more limit ((held ++ take used piece) ++ take n (drop used piece)) (drop n (drop used piece)) old new e stopped in
-    subst (λ (b : List ℕ). Stops limit b old new e)
-    (append_assoc (held ++ take used piece) (take n (drop used piece)) (drop n (drop used piece)) ∙ (ap (λ (t : List ℕ). (held ++ take used piece) ++ t) (take-append-drop n (drop used piece)) ∙ all_bytes held piece used))
-    more
-
 pub filled_stops_all : (limit : Bounds) (held piece now : List ℕ) (used : ℕ) (old mid new : List Packet) (e : DecodeError) → now ≡ []
     → Goes limit (held ++ take used piece) old mid now → Stops limit (drop used piece) mid new e → Stops limit (held ++ piece) old new e
 filled_stops_all limit held piece now used old mid new e now_is h k =
     subst (λ (b : List ℕ). Stops limit b old new e) (all_bytes held piece used)
     (stops_then limit (held ++ take used piece) (drop used piece) old mid new now e h (subst (λ (t : List ℕ). Stops limit (t ++ drop used piece) mid new e) (sym now_is) k))
-
--- memory ran out before the rest of the piece was held
-pub filled_memory : (limit : Bounds) (held piece now : List ℕ) (used : ℕ) (old mid : List Packet) (e : DecodeError) → e ≡ errors.Memory → used < length piece
-    → Goes limit (held ++ take used piece) old mid now → Stops limit (held ++ piece) old mid e
-filled_memory limit held piece now used old mid e is left h =
-    rw is (subst (λ (b : List ℕ). Stops limit b old mid errors.Memory) (all_bytes held piece used)
-    (stops_memory limit (held ++ take used piece) (drop used piece) old mid now h (omega (arith, length-drop used piece))))
 
 -- memory ran out before what is left was held
 pub left_memory : (limit : Bounds) (bytes : List ℕ) (n : ℕ) (old mid : List Packet) (left : List ℕ) (e : DecodeError) → e ≡ errors.Memory → 0 < length left → Goes limit bytes old mid left → Stops limit bytes old mid e
@@ -245,14 +215,32 @@ pending_nil limit = record { not_whole = λ p first rest h e. no_bytes p first r
     no_fault k place (AtSize h) = let e : [] ≡ h.first ∷ (h.len ++ h.rest) = h.bytes in absurd cc
     no_fault k place (AtField h) = let e : [] ≡ h.first ∷ (h.len ++ (h.body ++ h.rest)) = h.bytes in absurd cc
 
-pub alone_goes : (limit : Bounds) (b : List ℕ) (p : Packet) (n : ℕ) (old new : List Packet) (rest : List ℕ) → IsAlone limit b → (n ≤ length b) × ReadsWithin limit p (take n b) → new ≡ old ++ p ∷ [] → rest ≡ [] → Goes limit b old new rest
-alone_goes limit b p n old new rest alone h e none =
-    let parts : b ≡ take n b ++ drop n b = sym (take-append-drop n b) in
-    let ended : drop n b ≡ [] = alone p (take n b) (drop n b) h.1 parts in
-    rw none (p ∷ [], e, record { front = take n b; stream = stream_one limit p (take n b) h.1; parts = parts ∙ ap (λ (t : List ℕ). take n b ++ t) ended; ends = pending_nil limit })
-
 pub front_stops : (limit : Bounds) (b : List ℕ) (old : List Packet) (e : DecodeError) → IsFront limit b (Err e) → Stops limit b old old e
 front_stops limit b old e h = taken_stops limit b 0 old old e (taken_none limit b old) h
+
+-- a fault, or want of memory, at the front of more bytes
+pub front_more : (limit : Bounds) (b more : List ℕ) (e : DecodeError) → IsFront limit b (Err e) → IsFront limit (b ++ more) (Err e)
+front_more limit b more (errors.Fault fault) h = faulty_more limit b more fault.kind fault.place h
+front_more limit b more errors.Memory h = omega (arith, length-append b more, h)
+
+-- at the front of what is held and a piece, of which so many bytes were put behind it
+pub front_piece : (limit : Bounds) (held piece now next : List ℕ) (used n : ℕ) (e : DecodeError) → next ≡ now ++ take n (drop used piece) → now ≡ held ++ take used piece
+    → IsFront limit next (Err e) → IsFront limit (held ++ piece) (Err e)
+front_piece limit held piece now next used n e next_is now_is h =
+    let all : next ≡ held ++ take (used + n) piece = next_is ∙ (ap (λ (t : List ℕ). t ++ take n (drop used piece)) now_is ∙ next_bytes held piece used n) in
+    let more = front_more limit (held ++ take (used + n) piece) (drop (used + n) piece) e (subst (λ (b : List ℕ). IsFront limit b (Err e)) all h) in
+    subst (λ (b : List ℕ). IsFront limit b (Err e)) (all_bytes held piece (used + n)) more
+
+-- one packet, and nothing after it
+pub one_goes : (limit : Bounds) (b : List ℕ) (p : Packet) (old new : List Packet) (rest : List ℕ) → ReadsWithin limit p b → new ≡ old ++ p ∷ [] → rest ≡ [] → Goes limit b old new rest
+one_goes limit b p old new rest h e none = rw none (p ∷ [], e, record { front = b; stream = stream_one limit p b h; parts = sym (append-nil b); ends = pending_nil limit })
+
+-- nothing but what is pending
+pub none_goes : (limit : Bounds) (held piece : List ℕ) (old : List Packet) (rest : List ℕ) → Pending limit (held ++ piece) → rest ≡ held ++ piece → Goes limit (held ++ take (length piece) piece) old old rest
+none_goes limit held piece old rest h e =
+    let all : take (length piece) piece ≡ piece = take_all (length piece) piece (omega arith) in
+    let whole : Goes limit (held ++ piece) old old (held ++ piece) = ([], sym (append-nil old), record { front = []; stream = refl; parts = refl; ends = h }) in
+    rw (all, e) whole
 
 -- what is less than something pending is pending
 pub pending_less : (limit : Bounds) (b more : List ℕ) → Pending limit (b ++ more) → Pending limit b
@@ -291,3 +279,51 @@ before_more limit b more wanted pending wants few n lt =
 pub held_alone : (limit : Bounds) (now piece next : List ℕ) (used n wanted : ℕ) → next ≡ now ++ take n (drop used piece) → n ≤ wanted → Wants limit now wanted → Pending limit now → IsAlone limit next
 held_alone limit now piece next used n wanted e few wants pending =
     subst (IsAlone limit) (sym e) (before_alone limit (now ++ take n (drop used piece)) (before_more limit now (take n (drop used piece)) wanted pending wants (omega (arith, length-take n (drop used piece), few))))
+
+-- what is held after a step is pending: nothing, where a packet came
+pub next_pending : {X : Type 0} (limit : Bounds) (o : Option X) (b new : List ℕ) → IfSome o (λ x. new ≡ []) → IfNone o (Pending limit b) → IfNone o (new ≡ b) → Pending limit new
+next_pending limit (Some x) b new taken less holds = rw taken (pending_nil limit)
+next_pending limit None b new taken less holds = rw holds less
+
+-- nothing is said of an error where there is none
+pub nothing_failed : {X : Type 0} (o : Option X) (held : List ℕ) → o ≡ None → IfSome o (λ e. held ≡ [])
+nothing_failed o held is = rw is tt
+
+-- ---- a packet, and then the rest of the piece
+
+pub reads_on : ReadsOn
+reads_on limits held piece p n ps rest end h k = record {
+  front = (held ++ take n piece) ++ k.front;
+  stream = (held ++ take n piece, k.front, h, k.stream, refl);
+  parts = sym (all_bytes held piece n) ∙ (ap (λ (t : List ℕ). (held ++ take n piece) ++ t) k.parts ∙ sym (append_assoc (held ++ take n piece) k.front rest));
+  ends = k.ends;
+}
+
+-- ---- what is wanted
+
+-- nothing
+pub wants_nothing : (limit : Bounds) (b : List ℕ) (w : ℕ) → w ≡ 0 → Wants limit b w
+wants_nothing limit b w none pending more few = absurd (omega (arith, few))
+
+-- so many less, where so many came
+pub wants_less : (limit : Bounds) (b more next : List ℕ) (w left : ℕ) → next ≡ b ++ more → left ≡ w - length more → Wants limit b w → Wants limit next left
+wants_less limit b more next w left e left_is h =
+    subst (λ (t : List ℕ). Wants limit t left) (sym e)
+    (λ pending later few. subst (Pending limit) (sym (append_assoc b more later)) (h (pending_less limit b more pending) (more ++ later) (omega (arith, length-append more later, few, left_is))))
+
+-- less than is wanted: all of the piece
+pub wanted_more : (limit : Bounds) (held piece now : List ℕ) (used w : ℕ) → now ≡ held ++ take used piece → Wants limit now w → Pending limit now → length (drop used piece) < w → Pending limit (held ++ piece)
+wanted_more limit held piece now used w now_is h pending few =
+    subst (Pending limit) (ap (λ (t : List ℕ). t ++ drop used piece) now_is ∙ all_bytes held piece used) (h pending (drop used piece) few)
+
+pub rest_held : (held piece now : List ℕ) (used : ℕ) → now ≡ held ++ take used piece → now ++ drop used piece ≡ held ++ piece
+rest_held held piece now used now_is = ap (λ (t : List ℕ). t ++ drop used piece) now_is ∙ all_bytes held piece used
+
+-- memory ran out, and nothing was appended
+pub memory_stops : (limit : Bounds) (b : List ℕ) (old new : List Packet) (e : DecodeError) → e ≡ errors.Memory → new ≡ old → 0 < length b → Stops limit b old new e
+memory_stops limit b old new e is same some = rw (is, same) (front_stops limit b old errors.Memory some)
+
+-- two things that a call ensures where it succeeds
+pub on_ok_both : {X E P Q R : Type 0} (r : Result X E) → (P → Q → R) → OnOk r P → OnOk r Q → OnOk r R
+on_ok_both (Ok x) f p q = f p q
+on_ok_both (Err e) f p q = tt

@@ -1,5 +1,5 @@
 -- What of a piece goes into a decoder's own buffer: what doesn't belong to a packet that lies whole in the piece.
-use Rattle.std.specs.Prelude.{◌≡◌, ℕ, ◌+◌, ◌-◌, ◌^◌, min, List, [], ◌∷◌, ◌++◌, length, Option, None, ◌⊎◌}
+use Rattle.std.specs.Prelude.{◌≡◌, ℕ, ◌+◌, ◌-◌, ◌^◌, min, List, [], ◌∷◌, ◌++◌, length, None, ◌⊎◌}
 use Rattle.mq_packet.specs.declared.packet.Packet.{Packet}
 use Rattle.mq_decode.specs.Limits.{Bounds}
 use Rattle.mq_decode.specs.Grammar.{ReadsWithin, Pending, Reading}
@@ -30,6 +30,8 @@ counted_more count n = min (count + n) (2 ^ 64 - 1)
 abbrev pub Copies : Bounds → List ℕ → List ℕ → ℕ → ℕ → Type 0
 Copies limits held piece old new = (n : ℕ) × LeftOver limits held piece n × (new ≡ counted_more old n)
 
--- bytes stay, as less than a packet, or they are one packet and nothing stays
-abbrev pub StaysOrGoes : Bounds → List ℕ → List ℕ → Type 0
-StaysOrGoes limits b rest = ((rest ≡ b) × Pending limits b) ⊎ ((rest ≡ []) × ((p : Packet) × ReadsWithin limits p b))
+-- the count after a packet of which so many bytes are the piece's: they are put behind those that are held, and a packet of which none are held
+-- is read where it lies
+abbrev pub counted_next : List ℕ → ℕ → ℕ → ℕ
+counted_next [] count n = count
+counted_next (b ∷ held) count n = counted_more count n

@@ -1,5 +1,5 @@
 -- Reading what stands at the front of bytes: a packet, less than a whole one, or the first fault.
-use Rattle.std.specs.Prelude.{◌≡◌, ℕ, ◌+◌, ◌-◌, List, [], ◌∷◌, length, take, drop, Option, Some, None, Result, Ok, Err, nat_lt, if◌then◌else◌}
+use Rattle.std.specs.Prelude.{ℕ, ◌+◌, ◌-◌, List, [], ◌∷◌, length, take, drop, Option, Some, None, Result, Ok, Err, nat_lt, if◌then◌else◌}
 use Rattle.mq_wire.specs.declared.reading.LengthReading.{LengthReading}
 use Rattle.mq_wire.specs.declared.reading.LengthReading.TheVariants.{Whole, Unfinished, TooLong, Overlong}
 use Rattle.mq_wire.specs.Reading.{read_length}

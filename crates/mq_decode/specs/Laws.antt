@@ -1,5 +1,5 @@
 -- Laws of the grammar.
-use Rattle.std.specs.Prelude.{◌≡◌, ℕ, ◌+◌, ◌<◌, ◌≤◌, List, ◌++◌, length, Option}
+use Rattle.std.specs.Prelude.{◌≡◌, ℕ, ◌+◌, ◌<◌, ◌≤◌, List, ◌∷◌, ◌++◌, length, take, drop, Option}
 use Rattle.mq_wire.specs.Bytes.{AreBytes}
 use Rattle.mq_packet.specs.declared.packet.Packet.{Packet}
 use Rattle.mq_packet.specs.Spelling.{Spells, fields}
@@ -31,3 +31,8 @@ pub record ReadsAgain : Type 0 where
   pub some : (limits : Bounds) (p : Packet) (s : List ℕ) → ReadsWithin limits p s → 0 < length s
   -- and is no fault
   pub right : (limits : Bounds) (p : Packet) (s rest : List ℕ) (k : FaultKind) (place : ℕ) → ReadsWithin limits p s → Faulty limits (s ++ rest) k place → ⊥
+
+-- a packet of what is held and the front of a piece, and then a reading of the rest of the piece, are a reading of both
+abbrev pub ReadsOn : Type 0
+ReadsOn = (limits : Bounds) (held piece : List ℕ) (p : Packet) (n : ℕ) (ps : List Packet) (rest : List ℕ) (end : Option DecodeFault)
+    → ReadsWithin limits p (held ++ take n piece) → Reading limits (drop n piece) ps rest end → Reading limits (held ++ piece) (p ∷ ps) rest end

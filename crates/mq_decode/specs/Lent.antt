@@ -1,5 +1,5 @@
 -- What bytes that were tested stand for.
-use Rattle.std.specs.Prelude.{◌≡◌, ℕ, ◌+◌, ◌-◌, ◌<◌, ◌≤◌, ◌^◌, true, false, List, [], length, drop, slice_range, Option, Some, None, Result, Ok, Err, IsOk}
+use Rattle.std.specs.Prelude.{◌≡◌, ℕ, ◌+◌, ◌<◌, ◌≤◌, ◌^◌, true, false, List, [], length, slice_range, Option, Some, None, Result, Ok, Err, IsOk}
 use Rattle.mq_topic.specs.declared.qos.Qos.{Qos}
 use Rattle.mq_topic.specs.Topic.{is_topic_name}
 use Rattle.mq_packet.specs.declared.connect.Connect.{Connect}

@@ -11,7 +11,8 @@ pub record State : Type 0 where
   pub failed : Option DecodeError
   pub copied : ℕ
 
--- the bytes that are held, and how many were put there
+-- the bytes that are held, how many more their packet wants at least (0 where that wasn't asked), and how many were put there
 pub record HeldBytes : Type 0 where
   pub bytes : List ℕ
+  pub wants : ℕ
   pub copied : ℕ

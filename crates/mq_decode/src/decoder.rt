@@ -1,16 +1,16 @@
 //! A decoder over pieces of a stream.
 
-ghost use Rattle.std.specs.Prelude.{◌≡◌, ◌+◌, ◌≤◌, ◌++◌, ℕ, List, [], length, Option, Some, None, IfOk, IfErr, IfSome, OnErr, OnOk};
+ghost use Rattle.std.specs.Prelude.{◌≡◌, ◌+◌, ◌≤◌, ◌++◌, ℕ, List, [], length, take, Option, Some, None, Err, IfOk, IfErr, IfSome, IfNone, OnErr, OnOk};
 ghost use Rattle.std.specs.Result.{result_err};
 ghost use Rattle.std.specs.List.{flat_map};
-ghost use Rattle.mq_decode.specs.Copied.{Copies};
-ghost use Rattle.mq_decode.specs.Grammar.{Goes, Pending, Stops};
+ghost use Rattle.mq_decode.specs.Copied.{Copies, counted_more, counted_next};
+ghost use Rattle.mq_decode.specs.Grammar.{Goes, IsFront, Pending, ReadsWithin, Stops};
 
 use crate::fault::DecodeError;
 use crate::held::Held;
 use crate::laws::pending_is_short;
 use crate::limits::Limits;
-use crate::take::take_piece;
+use crate::take::{take_next, take_piece};
 use mq_packet::Packet;
 use std::alloc::Global;
 use std::marker::Model;
@@ -29,7 +29,7 @@ pub struct Decoder {
 impl Model for Decoder {
     ghost use Rattle.std.specs.Prelude.{◌≡◌, [], IfSome};
     ghost use Rattle.mq_decode.specs.State.{State};
-    ghost use Rattle.mq_decode.specs.Grammar.{Pending};
+    ghost use Rattle.mq_decode.specs.Grammar.{Pending, Wants};
 
     ghost Value = { State };
 
@@ -42,6 +42,7 @@ impl Model for Decoder {
 
     ghost invariant = { λ d. record {
       pending : Pending d.limits d.held.bytes;
+      wants : Wants d.limits d.held.bytes d.held.wants;
       gone : IfSome d.failed (λ _. d.held.bytes ≡ []);
     } };
 }
@@ -89,10 +90,51 @@ impl Decoder {
         match take_piece(self.alloc, self.limits, &mut self.held, piece, out) {
             Ok(()) => Ok(()),
             Err(error) => {
-                self.held.clear(self.alloc);
-                self.failed = Some(error);
+                stop(self.alloc, &mut self.held, &mut self.failed, error);
                 Err(error)
             }
+        }
+    }
+
+    /// Takes the next whole packet of the stream, and answers it with the number of bytes of the piece
+    /// that it used. Returns `None` where what is held and the piece are less than a whole packet, and
+    /// then all of the piece is held.
+    pub fn next_packet(&mut self, piece: &[u8]) -> Result<Option<(Packet, usize)>, DecodeError>
+        // What is held and the front of the piece are the packet, and nothing is held after it.
+        ensures within { IfOk result (λ o. IfSome o (λ x. x.1 ≤ length piece.now)) }
+        ensures packet { IfOk result (λ o. IfSome o
+            (λ x. ReadsWithin self.old.limit x.0 (self.old.held ++ take x.1 piece.now))) }
+        ensures taken { IfOk result (λ o. IfSome o (λ x. self.new.held ≡ [])) }
+        // What is held and the piece are less than a packet, and are held.
+        ensures less { IfOk result (λ o. IfNone o
+            (Pending self.old.limit (self.old.held ++ piece.now))) }
+        ensures holds { IfOk result (λ o. IfNone o
+            (self.new.held ≡ self.old.held ++ piece.now)) }
+        // They begin with a fault, or memory ran out, which is wanted for no byte.
+        ensures err { self.old.failed ≡ None → IfErr result
+            (λ e. IsFront self.old.limit (self.old.held ++ piece.now) (Err e)) }
+        // After an error it stands still.
+        ensures goes_on { OnOk result (self.old.failed ≡ None) }
+        ensures again { IfSome self.old.failed (λ e. result ≡ Err e) }
+        ensures failed { self.new.failed ≡ result_err result }
+        // After an error nothing is held.
+        ensures gone { OnErr result (self.new.held ≡ []) }
+        ensures limit { self.new.limit ≡ self.old.limit }
+        // A packet that lies whole in the piece is not copied; else all that is taken of the piece is.
+        ensures counted { IfOk result (λ o. IfSome o
+            (λ x. self.new.copied ≡ counted_next self.old.held self.old.copied x.1)) }
+        ensures counted_all { IfOk result (λ o. IfNone o
+            (self.new.copied ≡ counted_more self.old.copied (length piece.now))) }
+    {
+        match self.failed {
+            Some(error) => Err(error),
+            None => match take_next(self.alloc, self.limits, &mut self.held, piece) {
+                Ok(next) => Ok(next),
+                Err(error) => {
+                    stop(self.alloc, &mut self.held, &mut self.failed, error);
+                    Err(error)
+                }
+            },
         }
     }
 
@@ -122,6 +164,17 @@ impl Decoder {
         self.held.reset(self.alloc);
         self.failed = None;
     }
+}
+
+// Lets go of what is held, and keeps the error.
+fn stop(alloc: Global, held: &mut Held, failed: &mut Option<DecodeError>, error: DecodeError)
+    ensures held { held.new.bytes ≡ [] }
+    ensures wants { held.new.wants ≡ 0 }
+    ensures copied { held.new.copied ≡ held.old.copied }
+    ensures failed { failed.new ≡ Some error }
+{
+    held.clear(alloc);
+    *failed = Some(error);
 }
 
 // How many bytes are held, which are few where they are less than a packet.

@@ -1,21 +1,22 @@
 //! The bytes that a decoder holds.
 
-ghost use Rattle.std.specs.Prelude.{◌≡◌, ◌<◌, ◌^◌, ◌++◌, [], length, true, IfErr, IfNone, IfOk, IfSome, OnOk, ◌==◌};
+ghost use Rattle.std.specs.Prelude.{◌≡◌, ◌-◌, ◌<◌, ◌^◌, ◌++◌, [], length, true, IfErr, IfNone, IfOk, IfSome, OnOk, ◌==◌};
 ghost use Rattle.mq_decode.specs.Copied.{counted_more};
-ghost use Rattle.mq_decode.specs.Grammar.{IsFront};
+ghost use Rattle.mq_decode.specs.Grammar.{IsFront, Wants};
 
 use crate::fault::DecodeError;
 use crate::limits::Limits;
-use crate::take::take_held;
+use crate::take::{take_held, wanted};
 use mq_packet::Packet;
 use std::alloc::Global;
 use std::marker::Model;
 
-/// The bytes of the packet that is not whole, and how many bytes were ever put here. Contracts see
-/// both.
+/// The bytes of the packet that is not whole, how many more it wants at least, as far as that was
+/// asked, and how many bytes were ever put here. Contracts see all three.
 #[derive(Debug, Drop)]
 pub(crate) struct Held {
     bytes: Vec<u8>,
+    wants: usize,
     copied: u64,
 }
 
@@ -24,30 +25,34 @@ impl Model for Held {
 
     ghost Value = { HeldBytes };
 
-    ghost view = { λ h. record { bytes = h.bytes.items; copied = h.copied } };
+    ghost view = { λ h. record { bytes = h.bytes.items; wants = h.wants; copied = h.copied } };
 }
 
 impl Held {
     /// No bytes, and none were put here. It takes no memory.
     pub(crate) fn new(alloc: Global) -> Held
         ensures bytes { result.bytes ≡ [] }
+        ensures wants { result.wants ≡ 0 }
         ensures copied { result.copied ≡ 0 }
     {
         Held {
             bytes: Vec::new(alloc),
+            wants: 0,
             copied: 0,
         }
     }
 
-    /// Appends bytes, and counts them.
+    /// Appends bytes, and counts them. Of what is wanted there are so many less.
     pub(crate) fn hold(&mut self, bytes: &[u8]) -> Result<(), DecodeError>
         ensures ok { OnOk result (self.new.bytes ≡ self.old.bytes ++ bytes.now) }
+        ensures wants { OnOk result (self.new.wants ≡ self.old.wants - length bytes.now) }
         ensures copied { OnOk result
             (self.new.copied ≡ counted_more self.old.copied (length bytes.now)) }
         ensures err { IfErr result (λ e. e ≡ DecodeError.Memory) }
     {
         match self.bytes.extend_from_slice(bytes) {
             Ok(()) => {
+                self.wants = self.wants.saturating_sub(bytes.len());
                 self.copied = self.copied.saturating_add(bytes.len() as u64);
                 Ok(())
             }
@@ -60,6 +65,21 @@ impl Held {
         ensures { result.now ≡ self.now.bytes }
     {
         self.bytes.as_slice()
+    }
+
+    /// How many bytes the packet wants at least. The header is read where that isn't known.
+    pub(crate) fn want(&mut self, limits: Limits) -> usize
+        requires { Wants limits self.old.bytes self.old.wants }
+        ensures some { 0 < result }
+        ensures exact { Wants limits self.new.bytes result }
+        ensures wants { self.new.wants ≡ result }
+        ensures bytes { self.new.bytes ≡ self.old.bytes }
+        ensures copied { self.new.copied ≡ self.old.copied }
+    {
+        if self.wants == 0 {
+            self.wants = wanted(limits, self.bytes.as_slice());
+        }
+        self.wants
     }
 
     /// Whether there are none.
@@ -81,14 +101,17 @@ impl Held {
     /// Lets go of the bytes and of their memory. The count stays.
     pub(crate) fn clear(&mut self, alloc: Global)
         ensures bytes { self.new.bytes ≡ [] }
+        ensures wants { self.new.wants ≡ 0 }
         ensures copied { self.new.copied ≡ self.old.copied }
     {
         self.bytes = Vec::new(alloc);
+        self.wants = 0;
     }
 
     /// Lets go of the bytes, of their memory and of the count.
     pub(crate) fn reset(&mut self, alloc: Global)
         ensures bytes { self.new.bytes ≡ [] }
+        ensures wants { self.new.wants ≡ 0 }
         ensures copied { self.new.copied ≡ 0 }
     {
         self.clear(alloc);
@@ -104,6 +127,7 @@ impl Held {
     ) -> Result<Option<(Packet, usize)>, DecodeError>
         ensures front { IsFront limits self.old.bytes result }
         ensures kept { IfOk result (λ o. IfNone o (self.new.bytes ≡ self.old.bytes)) }
+        ensures wants { self.new.wants ≡ self.old.wants }
         ensures copied { self.new.copied ≡ self.old.copied }
     {
         take_held(alloc, limits, &mut self.bytes)

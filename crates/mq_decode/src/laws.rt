@@ -1,6 +1,6 @@
 //! Laws of the grammar.
 
-ghost use Rattle.mq_decode.specs.Laws.{EachReads, OneReading, PendingIsShort, ReadsAgain};
+ghost use Rattle.mq_decode.specs.Laws.{EachReads, OneReading, PendingIsShort, ReadsAgain, ReadsOn};
 
 use mq_wire::{length_laws, number_laws, text_laws};
 
@@ -40,3 +40,9 @@ pub fn reads_again()
     text_laws();
     length_laws();
 }
+
+/// A packet that `Decoder::next_packet` takes, and then a reading of what is left of the piece, are a
+/// reading of what was held and the piece.
+pub fn reads_on()
+    ensures { ReadsOn }
+{}

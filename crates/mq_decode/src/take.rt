@@ -1,8 +1,8 @@
 //! Packets from the front of bytes, one after another.
 
-ghost use Rattle.std.specs.Prelude.{◌≡◌, ◌+◌, ◌<◌, ◌≤◌, ◌++◌, [], ◌∷◌, length, take, drop, IfOk, IfErr, IfNone, IfSome, IsTrue, OnOk};
-ghost use Rattle.mq_decode.specs.Copied.{Adds, Copies, StaysOrGoes, counted_more};
-ghost use Rattle.mq_decode.specs.Grammar.{Goes, IsAlone, IsFront, Pending, Stops, Wants};
+ghost use Rattle.std.specs.Prelude.{◌≡◌, ◌+◌, ◌<◌, ◌≤◌, ◌^◌, ◌++◌, [], ◌∷◌, length, take, drop, Err, IfOk, IfErr, IfNone, IfSome, IsTrue, OnOk};
+ghost use Rattle.mq_decode.specs.Copied.{Adds, Copies, counted_more, counted_next};
+ghost use Rattle.mq_decode.specs.Grammar.{Goes, IsFront, Pending, ReadsWithin, Stops, Wants};
 ghost use Rattle.mq_decode.specs.Views.{packet_of};
 
 use crate::fault::DecodeError;
@@ -129,62 +129,119 @@ pub(crate) fn take_held(
     }
 }
 
-// Takes the packet that is held, if it is whole; it has no bytes after it.
-fn take_one(
+/// Fills up the packet that is held with the bytes of `piece`, up to its end, and takes it once it is
+/// whole. Answers it with how many bytes of the piece went in; `None` where all of them did and it is
+/// not whole.
+pub(crate) fn fill_up(
     alloc: Global,
     limits: Limits,
     held: &mut Held,
-    out: &mut Vec<Packet>,
-) -> Result<(), DecodeError>
-    requires { IsAlone limits held.old.bytes }
-    ensures ok { OnOk result (Goes limits held.old.bytes out.old.items out.new.items held.new.bytes) }
-    ensures stays { OnOk result (StaysOrGoes limits held.old.bytes held.new.bytes) }
-    ensures copied { held.new.copied ≡ held.old.copied }
-    ensures err { IfErr result (Stops limits held.old.bytes out.old.items out.new.items) }
+    piece: &[u8],
+) -> Result<Option<(Packet, usize)>, DecodeError>
+    requires pending { Pending limits held.old.bytes }
+    requires wants { Wants limits held.old.bytes held.old.wants }
+    requires count { held.old.copied < 2 ^ 64 }
+    ensures within { IfOk result (λ o. IfSome o (λ x. x.1 ≤ length piece.now)) }
+    ensures packet { IfOk result (λ o. IfSome o
+        (λ x. ReadsWithin limits x.0 (held.old.bytes ++ take x.1 piece.now))) }
+    ensures taken { IfOk result (λ o. IfSome o (λ x. held.new.bytes ≡ [])) }
+    ensures counted { IfOk result (λ o. IfSome o
+        (λ x. held.new.copied ≡ counted_more held.old.copied x.1)) }
+    ensures less { IfOk result (λ o. IfNone o (Pending limits (held.old.bytes ++ piece.now))) }
+    ensures holds { IfOk result (λ o. IfNone o (held.new.bytes ≡ held.old.bytes ++ piece.now)) }
+    ensures counted_all { IfOk result (λ o. IfNone o
+        (held.new.copied ≡ counted_more held.old.copied (length piece.now))) }
+    ensures wants { OnOk result (Wants limits held.new.bytes held.new.wants) }
+    ensures err { IfErr result (λ e. IsFront limits (held.old.bytes ++ piece.now) (Err e)) }
 {
-    match held.take(alloc, limits) {
-        Ok(None) => Ok(()),
-        Ok(Some(found)) => {
-            append(out, found.0)?;
-            held.clear(alloc);
-            Ok(())
+    let mut used = 0;
+    while used < piece.len() {
+        let (_, rest) = piece.split_at(used);
+        let wanted = held.want(limits);
+        if rest.len() < wanted {
+            held.hold(rest)?;
+            return Ok(None);
         }
-        Err(error) => Err(error),
+        let (next, _) = rest.split_at(wanted);
+        held.hold(next)?;
+        used += wanted;
+        if let Some(found) = held.take(alloc, limits)? {
+            held.clear(alloc);
+            return Ok(Some((found.0, used)));
+        }
     }
+    Ok(None)
 }
 
-/// Fills up the packet that is held with the bytes of `piece`, and takes it once it is whole. Answers
-/// how many bytes of the piece went in: all of them, or nothing is held any more.
-pub(crate) fn fill_up(
+// Takes the packet that is held, with as many bytes of a piece as it wants. Answers how many bytes of
+// the piece went in: all of them, or nothing is held any more.
+fn take_first(
     alloc: Global,
     limits: Limits,
     held: &mut Held,
     piece: &[u8],
     out: &mut Vec<Packet>,
 ) -> Result<usize, DecodeError>
-    requires { Pending limits held.old.bytes }
+    requires pending { Pending limits held.old.bytes }
+    requires wants { Wants limits held.old.bytes held.old.wants }
     ensures within { IfOk result (λ n. n ≤ length piece.now) }
     ensures used { IfOk result (λ n. n < length piece.now → held.new.bytes ≡ []) }
     ensures ok { IfOk result (λ n. Goes limits (held.old.bytes ++ take n piece.now)
         out.old.items out.new.items held.new.bytes) }
     ensures adds { IfOk result
         (λ n. Adds limits held.old.bytes (take n piece.now) (drop n piece.now)) }
-    ensures none { IfOk result (λ n. n ≡ 0 → held.new.copied ≡ held.old.copied) }
-    ensures copied { IfOk result
-        (λ n. 0 < n → held.new.copied ≡ counted_more held.old.copied n) }
+    ensures copied { IfOk result (λ n. held.new.copied ≡ counted_more held.old.copied n) }
+    ensures wants { OnOk result (Wants limits held.new.bytes held.new.wants) }
     ensures err { IfErr result
         (Stops limits (held.old.bytes ++ piece.now) out.old.items out.new.items) }
 {
-    let mut used = 0;
-    while used < piece.len() && !held.is_empty() {
-        let (_, rest) = piece.split_at(used);
-        let n = wanted(limits, held.as_slice()).min(rest.len());
-        let (next, _) = rest.split_at(n);
-        held.hold(next)?;
-        take_one(alloc, limits, held, out)?;
-        used += n;
+    if held.is_empty() {
+        return Ok(0);
     }
-    Ok(used)
+    match fill_up(alloc, limits, held, piece)? {
+        None => Ok(piece.len()),
+        Some(found) => {
+            append(out, found.0)?;
+            Ok(found.1)
+        }
+    }
+}
+
+/// Takes the next packet of what is held and a piece that follows it, and answers it with how many
+/// bytes of the piece it took; `None` where they are less than a whole packet, and then all of the
+/// piece is held.
+pub(crate) fn take_next(
+    alloc: Global,
+    limits: Limits,
+    held: &mut Held,
+    piece: &[u8],
+) -> Result<Option<(Packet, usize)>, DecodeError>
+    requires pending { Pending limits held.old.bytes }
+    requires wants { Wants limits held.old.bytes held.old.wants }
+    ensures within { IfOk result (λ o. IfSome o (λ x. x.1 ≤ length piece.now)) }
+    ensures packet { IfOk result (λ o. IfSome o
+        (λ x. ReadsWithin limits x.0 (held.old.bytes ++ take x.1 piece.now))) }
+    ensures taken { IfOk result (λ o. IfSome o (λ x. held.new.bytes ≡ [])) }
+    ensures counted { IfOk result (λ o. IfSome o
+        (λ x. held.new.copied ≡ counted_next held.old.bytes held.old.copied x.1)) }
+    ensures less { IfOk result (λ o. IfNone o (Pending limits (held.old.bytes ++ piece.now))) }
+    ensures holds { IfOk result (λ o. IfNone o (held.new.bytes ≡ held.old.bytes ++ piece.now)) }
+    ensures counted_all { IfOk result (λ o. IfNone o
+        (held.new.copied ≡ counted_more held.old.copied (length piece.now))) }
+    ensures wants { OnOk result (Wants limits held.new.bytes held.new.wants) }
+    ensures err { IfErr result (λ e. IsFront limits (held.old.bytes ++ piece.now) (Err e)) }
+{
+    if !held.is_empty() {
+        return fill_up(alloc, limits, held, piece);
+    }
+    match front(alloc, limits, None, piece)? {
+        Some(found) => Ok(Some(found)),
+        None if piece.is_empty() => Ok(None),
+        None => {
+            held.hold(piece)?;
+            Ok(None)
+        }
+    }
 }
 
 /// Takes the packets of a piece that follows what is held.
@@ -195,15 +252,17 @@ pub(crate) fn take_piece(
     piece: &[u8],
     out: &mut Vec<Packet>,
 ) -> Result<(), DecodeError>
-    requires { Pending limits held.old.bytes }
+    requires pending { Pending limits held.old.bytes }
+    requires wants { Wants limits held.old.bytes held.old.wants }
     ensures ok { OnOk result (Goes limits (held.old.bytes ++ piece.now) out.old.items
         out.new.items held.new.bytes) }
     ensures copied { OnOk result
         (Copies limits held.old.bytes piece.now held.old.copied held.new.copied) }
+    ensures wants { OnOk result (Wants limits held.new.bytes held.new.wants) }
     ensures err { IfErr result
         (Stops limits (held.old.bytes ++ piece.now) out.old.items out.new.items) }
 {
-    let used = fill_up(alloc, limits, held, piece, out)?;
+    let used = take_first(alloc, limits, held, piece, out)?;
     if !held.is_empty() {
         return Ok(());
     }

@@ -1,5 +1,3 @@
-use Rattle.std.proofs.Common.{sym, subst, Result, Option}
-use Rattle.std.specs.Prelude.{IfOk, IfErr, IfNone, IfSome}
 use Rattle.mq_decode.proofs.Readers.{answers, sized_packet, sized_none, sized_err}
 use Rattle.mq_decode.proofs.read.read_packet.Goals as goal
 

@@ -1,0 +1,515 @@
+/*
+ * Control packets of MQTT 3.1.1 in plain C, beside which `mq_bench` can be held: each packet of the streams that
+ * `mq_bench` goes through is found and tested as `view` tests it, and nothing of it is owned. Tested are the type and
+ * its flags, the remaining length, UTF-8 and U+0000 of every text, wildcards of names and filters, identifiers, the
+ * flags of CONNECT, codes, lists, and that a packet has no bytes left. Nothing is proved of it.
+ *
+ *     make bench-c
+ *
+ * A scan (the sum of all bytes) is timed in the same run, as `mq_bench` does it, so that ratios can be held against
+ * each other although two programs measured them.
+ */
+#include <stdbool.h>
+#include <stdint.h>
+#include <stdio.h>
+#include <stdlib.h>
+#include <string.h>
+#include <time.h>
+
+#define STREAM 64000000u
+#define ROUNDS 5
+#define LIMIT 268435455u
+
+/* ---- reading */
+
+/* The bytes of a packet that are still to be read. */
+struct fields {
+    const uint8_t *at;
+    size_t left;
+};
+
+/* A text or binary data that lies in a packet. */
+struct part {
+    const uint8_t *at;
+    size_t size;
+};
+
+/* What lies in a packet: nothing of it is copied. */
+struct packet {
+    uint8_t first;
+    uint16_t id;
+    struct part name;
+    struct part rest;
+    size_t size;
+};
+
+static bool take_byte(struct fields *fields, uint8_t *byte)
+{
+    if (fields->left < 1)
+        return false;
+    *byte = fields->at[0];
+    fields->at += 1;
+    fields->left -= 1;
+    return true;
+}
+
+static bool take_number(struct fields *fields, uint16_t *number)
+{
+    if (fields->left < 2)
+        return false;
+    *number = (uint16_t)(fields->at[0] << 8 | fields->at[1]);
+    fields->at += 2;
+    fields->left -= 2;
+    return true;
+}
+
+static bool take_id(struct fields *fields, uint16_t *id)
+{
+    return take_number(fields, id) && *id != 0;
+}
+
+static bool take_part(struct fields *fields, struct part *part)
+{
+    uint16_t size;
+    if (!take_number(fields, &size) || fields->left < size)
+        return false;
+    part->at = fields->at;
+    part->size = size;
+    fields->at += size;
+    fields->left -= size;
+    return true;
+}
+
+/* How many bytes the code point at the front has (Unicode 3.9, table 3-7); 0 where none stands there, or U+0000. */
+static size_t code_point(const uint8_t *at, size_t left)
+{
+    uint8_t first = at[0], least = 0x80, most = 0xbf;
+    size_t size, i;
+    if (first < 0x80)
+        return first != 0;
+    if (first < 0xc2 || first > 0xf4)
+        return 0;
+    size = first < 0xe0 ? 2 : first < 0xf0 ? 3 : 4;
+    if (left < size)
+        return 0;
+    if (first == 0xe0)
+        least = 0xa0;
+    if (first == 0xed)
+        most = 0x9f;
+    if (first == 0xf0)
+        least = 0x90;
+    if (first == 0xf4)
+        most = 0x8f;
+    if (at[1] < least || at[1] > most)
+        return 0;
+    for (i = 2; i < size; i++)
+        if ((at[i] & 0xc0) != 0x80)
+            return 0;
+    return size;
+}
+
+/* Whether these are UTF-8 without U+0000, and, in a name, without wildcards: one after another. */
+static bool is_text_slowly(struct part part, bool is_name)
+{
+    size_t i = 0, size;
+    while (i < part.size) {
+        if (is_name && (part.at[i] == '+' || part.at[i] == '#'))
+            return false;
+        size = code_point(part.at + i, part.size - i);
+        if (size == 0)
+            return false;
+        i += size;
+    }
+    return true;
+}
+
+/* Of eight bytes at once: the high bit of each that is not ASCII, or this one. */
+static uint64_t equal_or_high(uint64_t bytes, uint8_t one)
+{
+    uint64_t other = bytes ^ 0x0101010101010101u * one;
+    uint64_t no = (other & 0x7f7f7f7f7f7f7f7fu) + 0x7f7f7f7f7f7f7f7fu;
+    return (bytes | ~(no | other)) & 0x8080808080808080u;
+}
+
+/* The same as above; what is plain ASCII is passed over eight bytes at a time. */
+static bool is_text(struct part part, bool is_name)
+{
+    uint64_t bytes, odd = 0;
+    size_t i;
+    if (part.size < 8)
+        return is_text_slowly(part, is_name);
+    for (i = 0; i < part.size; i += 8) {
+        memcpy(&bytes, part.at + (i + 8 <= part.size ? i : part.size - 8), 8);
+        odd |= equal_or_high(bytes, 0);
+        if (is_name)
+            odd |= equal_or_high(bytes, '+') | equal_or_high(bytes, '#');
+    }
+    return odd == 0 || is_text_slowly(part, is_name);
+}
+
+static bool take_text(struct fields *fields, struct part *text)
+{
+    return take_part(fields, text) && is_text(*text, false);
+}
+
+static bool take_name(struct fields *fields, struct part *name)
+{
+    return take_part(fields, name) && name->size > 0 && is_text(*name, true);
+}
+
+/* A filter (4.7.1): `+` fills its level, and `#` the last one. */
+static bool take_filter(struct fields *fields)
+{
+    struct part filter;
+    size_t i;
+    if (!take_text(fields, &filter) || filter.size == 0)
+        return false;
+    for (i = 0; i < filter.size; i++) {
+        bool is_first = i == 0 || filter.at[i - 1] == '/';
+        bool is_end = i + 1 == filter.size;
+        if (filter.at[i] == '+' && !(is_first && (is_end || filter.at[i + 1] == '/')))
+            return false;
+        if (filter.at[i] == '#' && !(is_first && is_end))
+            return false;
+    }
+    return true;
+}
+
+static bool take_connect(struct fields *fields, struct packet *packet)
+{
+    struct part part;
+    uint8_t level, flags;
+    uint16_t keep_alive;
+    if (!take_text(fields, &part) || part.size != 4 || memcmp(part.at, "MQTT", 4) != 0)
+        return false;
+    if (!take_byte(fields, &level) || level != 4 || !take_byte(fields, &flags) || (flags & 1))
+        return false;
+    if ((flags & 4) ? (flags >> 3 & 3) == 3 : (flags & 0x38) != 0)
+        return false;
+    if (!(flags & 0x80) && (flags & 0x40))
+        return false;
+    if (!take_number(fields, &keep_alive) || !take_text(fields, &packet->name))
+        return false;
+    if ((flags & 4) && !(take_name(fields, &part) && take_part(fields, &part)))
+        return false;
+    if ((flags & 0x80) && !take_text(fields, &part))
+        return false;
+    if ((flags & 0x40) && !take_part(fields, &part))
+        return false;
+    packet->id = keep_alive;
+    return fields->left == 0;
+}
+
+static bool take_connack(struct fields *fields, struct packet *packet)
+{
+    uint8_t present, code;
+    if (!take_byte(fields, &present) || present > 1 || !take_byte(fields, &code))
+        return false;
+    packet->id = code;
+    return code <= (present ? 0 : 5);
+}
+
+static bool take_publish(struct fields *fields, struct packet *packet)
+{
+    if (!take_name(fields, &packet->name))
+        return false;
+    if ((packet->first & 6) && !take_id(fields, &packet->id))
+        return false;
+    packet->rest.at = fields->at;
+    packet->rest.size = fields->left;
+    return true;
+}
+
+/* SUBSCRIBE, SUBACK and UNSUBSCRIBE: an identifier, and at least one item. */
+static bool take_list(struct fields *fields, struct packet *packet)
+{
+    uint8_t code = 0;
+    if (!take_id(fields, &packet->id) || fields->left == 0)
+        return false;
+    packet->rest.at = fields->at;
+    packet->rest.size = fields->left;
+    while (fields->left > 0) {
+        if (packet->first != 0x90 && !take_filter(fields))
+            return false;
+        if (packet->first != 0xa2 && !take_byte(fields, &code))
+            return false;
+        if (code > 2 && !(packet->first == 0x90 && code == 0x80))
+            return false;
+    }
+    return true;
+}
+
+/* Whether these are all the fields of the packet. */
+static bool take_fields(struct fields *fields, struct packet *packet)
+{
+    switch (packet->first) {
+    case 0x10:
+        return take_connect(fields, packet);
+    case 0x20:
+        return fields->left == 2 && take_connack(fields, packet);
+    case 0x40: case 0x50: case 0x62: case 0x70: case 0xb0:
+        return fields->left == 2 && take_id(fields, &packet->id);
+    case 0x82: case 0x90: case 0xa2:
+        return take_list(fields, packet);
+    case 0xc0: case 0xd0: case 0xe0:
+        return fields->left == 0;
+    default:
+        /* PUBLISH (3.3.1): no quality of service of 3, and no DUP without one */
+        if (packet->first >> 4 != 3 || (packet->first & 6) == 6 || (packet->first & 14) == 8)
+            return false;
+        return take_publish(fields, packet);
+    }
+}
+
+/* The packet at the front; no size where it is not whole or has a fault. */
+static struct packet packet_at(const uint8_t *bytes, size_t count)
+{
+    struct packet packet = {0}, none = {0};
+    struct fields fields;
+    uint32_t size = 0;
+    size_t at = 1, digit = 0;
+    do {
+        if (digit == 4 || at == count)
+            return none;
+        size |= (uint32_t)(bytes[at] & 127) << 7 * digit++;
+    } while (bytes[at++] >= 128);
+    if ((digit > 1 && bytes[at - 1] == 0) || size > LIMIT || count - at < size)
+        return none;
+    packet.first = bytes[0];
+    fields.at = bytes + at;
+    fields.left = size;
+    if (!take_fields(&fields, &packet))
+        return none;
+    packet.size = at + size;
+    return packet;
+}
+
+/* How many packets there are, all of them whole; what lies in them goes into a sum, so that it is read. */
+static __attribute__((noinline)) uint64_t read_all(const uint8_t *bytes, size_t count, uint64_t *sum)
+{
+    uint64_t packets = 0;
+    while (count > 0) {
+        struct packet packet = packet_at(bytes, count);
+        if (packet.size == 0)
+            break;
+        *sum += packet.first + packet.id + packet.name.size + packet.rest.size;
+        bytes += packet.size;
+        count -= packet.size;
+        packets++;
+    }
+    return count == 0 ? packets : 0;
+}
+
+static __attribute__((noinline)) uint64_t scan(const uint8_t *bytes, size_t count)
+{
+    uint64_t sum = 0;
+    for (size_t i = 0; i < count; i++)
+        sum += bytes[i];
+    return sum;
+}
+
+/* ---- the streams, as `mq_bench` makes them up */
+
+struct buffer {
+    uint8_t *bytes;
+    size_t count, room;
+    uint64_t packets;
+};
+
+static void put(struct buffer *out, const void *bytes, size_t count)
+{
+    if (out->room - out->count < count) {
+        fputs("a turn is too long\n", stderr);
+        exit(1);
+    }
+    memcpy(out->bytes + out->count, bytes, count);
+    out->count += count;
+}
+
+static void put_byte(struct buffer *out, unsigned byte)
+{
+    uint8_t one = (uint8_t)byte;
+    put(out, &one, 1);
+}
+
+static void put_number(struct buffer *out, unsigned number)
+{
+    put_byte(out, number >> 8 & 255);
+    put_byte(out, number & 255);
+}
+
+static void put_header(struct buffer *out, unsigned first, size_t size)
+{
+    put_byte(out, first);
+    do {
+        put_byte(out, (unsigned)(size & 127) | (size > 127 ? 128 : 0));
+        size >>= 7;
+    } while (size > 0);
+    out->packets++;
+}
+
+static void put_text(struct buffer *out, const char *text)
+{
+    put_number(out, (unsigned)strlen(text));
+    put(out, text, strlen(text));
+}
+
+static void put_made_up(struct buffer *out, size_t size)
+{
+    for (size_t place = 0; place < size; place++)
+        put_byte(out, (unsigned)(place % 251));
+}
+
+static void put_with_id(struct buffer *out, unsigned first, unsigned id)
+{
+    put_header(out, first, 2);
+    put_number(out, id);
+}
+
+static void put_publish(struct buffer *out, unsigned id, size_t size)
+{
+    static const char topic[] = "greenhouse/4/north/temperature/c";
+    put_header(out, 0x32, 2 + strlen(topic) + 2 + size);
+    put_text(out, topic);
+    put_number(out, id);
+    put_made_up(out, size);
+}
+
+static void put_publishes(struct buffer *out, unsigned count, size_t size, bool is_acknowledged)
+{
+    for (unsigned id = 1; id <= count; id++) {
+        put_publish(out, id, size);
+        if (is_acknowledged)
+            put_with_id(out, 0x40, id);
+    }
+}
+
+static void put_small(struct buffer *out)
+{
+    for (unsigned id = 1; id <= 1024; id++) {
+        put_with_id(out, 0x40, id);
+        put_with_id(out, 0x50, id);
+        put_with_id(out, 0x62, id);
+        put_with_id(out, 0x70, id);
+        put_header(out, 0xc0, 0);
+        put_header(out, 0xd0, 0);
+        put_header(out, 0xe0, 0);
+    }
+}
+
+static void put_session(struct buffer *out)
+{
+    static const char *const filters[] = {"greenhouse/+/north/#", "greenhouse/4/+/temperature/c", "alarm/#"};
+    put_header(out, 0x10, 10 + 20 + 19 + 18 + 12 + 26);
+    put_text(out, "MQTT");
+    put_byte(out, 4);
+    put_byte(out, 0xee);
+    put_number(out, 60);
+    put_text(out, "greenhouse-4-north");
+    put_text(out, "greenhouse/4/gone");
+    put_number(out, 16);
+    put_made_up(out, 16);
+    put_text(out, "greenhouse");
+    put_number(out, 24);
+    put_made_up(out, 24);
+    put_header(out, 0x20, 2);
+    put_number(out, 0);
+    put_header(out, 0x82, 2 + 23 + 31 + 10);
+    put_number(out, 1);
+    for (size_t i = 0; i < 3; i++) {
+        put_text(out, filters[i]);
+        put_byte(out, 1);
+    }
+    put_header(out, 0x90, 5);
+    put_number(out, 1);
+    for (size_t i = 0; i < 3; i++)
+        put_byte(out, 1);
+}
+
+static bool put_turn(struct buffer *out, const char *name)
+{
+    if (strcmp(name, "small") == 0)
+        put_small(out);
+    else if (strcmp(name, "publish16") == 0)
+        put_publishes(out, 1024, 16, false);
+    else if (strcmp(name, "publish1024") == 0)
+        put_publishes(out, 64, 1024, false);
+    else if (strcmp(name, "publish65536") == 0)
+        put_publishes(out, 1, 65536, false);
+    else if (strcmp(name, "mixed") == 0) {
+        put_session(out);
+        put_publishes(out, 256, 16, true);
+        put_publishes(out, 32, 1024, true);
+        put_publishes(out, 1, 65536, true);
+    } else
+        return false;
+    return true;
+}
+
+/* ---- measuring */
+
+static double now(void)
+{
+    struct timespec time;
+    timespec_get(&time, TIME_UTC);
+    return (double)time.tv_sec + (double)time.tv_nsec * 1e-9;
+}
+
+static int compare(const void *a, const void *b)
+{
+    double x = *(const double *)a, y = *(const double *)b;
+    return (x > y) - (x < y);
+}
+
+static bool measure(struct buffer *stream, const char *name)
+{
+    double scans[ROUNDS], reads[ROUNDS];
+    uint64_t sum = 0, packets;
+    size_t turn, turns;
+    stream->count = 0;
+    stream->packets = 0;
+    if (!put_turn(stream, name)) {
+        fprintf(stderr, "same_tests: cannot measure %s\n", name);
+        return false;
+    }
+    turn = stream->count;
+    turns = STREAM / turn;
+    packets = stream->packets * turns;
+    for (size_t i = 1; i < turns; i++)
+        put(stream, stream->bytes, turn);
+    for (int round = 0; round < ROUNDS; round++) {
+        double start = now();
+        sum += scan(stream->bytes, stream->count);
+        scans[round] = now() - start;
+    }
+    for (int round = 0; round < ROUNDS; round++) {
+        double start = now();
+        if (read_all(stream->bytes, stream->count, &sum) != packets) {
+            fprintf(stderr, "same_tests: %s is not read to its end\n", name);
+            return false;
+        }
+        reads[round] = now() - start;
+    }
+    qsort(scans, ROUNDS, sizeof *scans, compare);
+    qsort(reads, ROUNDS, sizeof *reads, compare);
+    printf("%-14s %8.2f ns a packet %8.0f MB/s %12.0f packets/s   %.3f of its scan   (sum %llu)\n", name,
+           reads[ROUNDS / 2] * 1e9 / (double)packets, (double)stream->count / reads[ROUNDS / 2] / 1e6,
+           (double)packets / reads[ROUNDS / 2], scans[ROUNDS / 2] / reads[ROUNDS / 2], (unsigned long long)sum);
+    return true;
+}
+
+int main(int count, char **words)
+{
+    static const char *const all[] = {"small", "publish16", "publish1024", "publish65536", "mixed"};
+    struct buffer stream = {malloc(STREAM + 200000), 0, STREAM + 200000, 0};
+    bool is_done = true;
+    if (stream.bytes == NULL)
+        return 3;
+    if (count == 1)
+        for (size_t i = 0; i < 5; i++)
+            is_done &= measure(&stream, all[i]);
+    for (int i = 1; i < count; i++)
+        is_done &= measure(&stream, words[i]);
+    free(stream.bytes);
+    return is_done ? 0 : 1;
+}
