@@ -1,11 +1,12 @@
 -- What is found in a node: its children, and its clients.
 use Rattle.std.proofs.Common.{◌≡◌, ℕ, Bool, true, false, cond, List, [], ◌∷◌, length, Option, Some, None, IsSome, is_some, Global, IsTrue, ◌↔◌, refl, sym, ap, ◌∙◌, arith}
+use Rattle.std.specs.Arc.{arc_str_bytes}
 use Rattle.std.specs.Bool.{MatchBool}
 use Rattle.std.specs.Map.{lookup}
 use Rattle.std.specs.Option.{option_map_or, option_or}
-use Rattle.std.specs.Rc.{rc_str_bytes}
 use Rattle.std.specs.Str.{bytes_eq}
-use Rattle.std.specs.declared.rc.RcStr.{RcStr}
+use Rattle.std.specs.String.{string_bytes}
+use Rattle.std.specs.declared.string.String.{String}
 use Rattle.mq_topic.specs.NodeView.{ChildIn, child_beside, own_child}
 use Rattle.mq_topic.specs.declared.children.Child.{Child}
 use Rattle.mq_topic.specs.declared.children.Children.{Children}
@@ -17,13 +18,13 @@ use Rattle.mq_topic.proofs.Standard.{bytes_eq-itself, same_bytes}
 -- ---- the child that lies in the node
 
 abbrev pub own_test : List ℕ → Option Child → Bool
-own_test l first = option_map_or (λ (c : Child). bytes_eq l (rc_str_bytes c.level)) first true
+own_test l first = option_map_or (λ (c : Child). bytes_eq l (arc_str_bytes c.level)) first true
 
 -- where it is the one at a level, or there is none, no child lies there at another level
 pub other_own : (first : Option Child) (level l : List ℕ) → own_test level first ≡ true → (l ≡ level → ⊥) → own_child l first ≡ None
 other_own None level l own ne = refl
 other_own (Some c) level l own ne =
-    ap (λ b. cond b (Some c.id) None) (bytes_differ l (rc_str_bytes c.level) (λ e. ne (e ∙ sym (same_bytes level (rc_str_bytes c.level) own))))
+    ap (λ b. cond b (Some c.id) None) (bytes_differ l (arc_str_bytes c.level) (λ e. ne (e ∙ sym (same_bytes level (arc_str_bytes c.level) own))))
 
 pub not_own : (first : Option Child) (level : List ℕ) → own_test level first ≡ false → own_child level first ≡ None
 not_own None level other = absurd cc
@@ -58,15 +59,15 @@ empty : {A : Type 0} (xs : List A) → length xs ≡ 0 → xs ≡ []
 empty [] e = refl
 empty (x ∷ xs) e = absurd (omega arith)
 
-first_child : (es : List (RcStr Global × NodeId)) → (length es ≡ 0 → ⊥) → (l : List ℕ) × IsSome (lookup (has_bytes l) es)
+first_child : (es : List (String Global × NodeId)) → (length es ≡ 0 → ⊥) → (l : List ℕ) × IsSome (lookup (has_bytes l) es)
 first_child [] ne = absurd (ne refl)
-first_child (e ∷ es) ne = (rc_str_bytes e.0, rw (bytes_eq-itself (rc_str_bytes e.0)) refl)
+first_child (e ∷ es) ne = (string_bytes e.0, rw (bytes_eq-itself (string_bytes e.0)) refl)
 
 first_client : (es : List (ℕ × Qos)) → (length es ≡ 0 → ⊥) → (c : ℕ) × IsSome (lookup (is_client c) es)
 first_client [] ne = absurd (ne refl)
 first_client (e ∷ es) ne = (e.0, rw (is_client-itself e.0) refl)
 
-pub no_children : (first : Option Child) (es : List (RcStr Global × NodeId)) (r : Bool) → is_some first ≡ false → IsTrue r ↔ (length es ≡ 0)
+pub no_children : (first : Option Child) (es : List (String Global × NodeId)) (r : Bool) → is_some first ≡ false → IsTrue r ↔ (length es ≡ 0)
     → MatchBool r ((l : List ℕ) → option_or (own_child l first) (lookup (has_bytes l) es) ≡ None) ((l : List ℕ) × IsSome (option_or (own_child l first) (lookup (has_bytes l) es)))
 no_children None es true n h = λ l. ap (lookup (has_bytes l)) (empty es (h.0 refl))
 no_children None es false n h = first_child es (λ e. let no : false ≡ true = h.1 e in cc)

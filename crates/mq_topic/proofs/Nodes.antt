@@ -1,12 +1,13 @@
 -- What can be asked of the nodes after one of them was changed.
 use Rattle.std.proofs.Common.{◌≡◌, inl, inr, ℕ, Bool, true, false, List, Option, Some, None, IsSome, refl, sym, ap, subst, ◌∙◌}
+use Rattle.std.specs.Arc.{arc_str_bytes}
 use Rattle.std.specs.Bool.{MatchBool}
 use Rattle.std.specs.Map.{KeepsOthers, lookup}
 use Rattle.std.specs.Option.{option_map, option_map_or}
 use Rattle.std.specs.Ordering.{is_eq, nat_cmp}
-use Rattle.std.specs.Rc.{rc_str_bytes}
 use Rattle.std.specs.Str.{bytes_eq}
-use Rattle.std.specs.declared.rc.RcStr.{RcStr}
+use Rattle.std.specs.String.{string_bytes}
+use Rattle.std.specs.declared.string.String.{String}
 use Rattle.std.proofs.lemmas.Bool.{ne_eqb}
 use Rattle.std.proofs.lemmas.Cmp.{nat_cmp_total, tied_itself}
 use Rattle.slab.specs.Slab.{Slab, Updates, get, with_value}
@@ -32,19 +33,19 @@ pub bytes_differ : (l m : List ℕ) → (l ≡ m → ⊥) → bytes_eq l m ≡ f
 bytes_differ l m ne = bytes_differ-by l m (bytes_eq l m) refl ne
 
 -- the test of a key by its bytes
-abbrev pub has_bytes : {Z : Type 0} → List ℕ → RcStr Z → Bool
-has_bytes l k = bytes_eq l (rc_str_bytes k)
+abbrev pub has_bytes : {Z : Type 0} → List ℕ → String Z → Bool
+has_bytes l k = bytes_eq l (string_bytes k)
 
-abbrev pub same_text : {Z : Type 0} → RcStr Z → RcStr Z → Bool
-same_text x y = bytes_eq (rc_str_bytes x) (rc_str_bytes y)
+abbrev pub same_text : {Z : Type 0} → String Z → String Z → Bool
+same_text x y = bytes_eq (string_bytes x) (string_bytes y)
 
-pub other_level : {Z X : Type 0} (level l : List ℕ) (old new : List (RcStr Z × X)) → KeepsOthers same_text (has_bytes level) old new → (l ≡ level → ⊥)
+pub other_level : {Z X : Type 0} (level l : List ℕ) (old new : List (String Z × X)) → KeepsOthers same_text (has_bytes level) old new → (l ≡ level → ⊥)
     → lookup (has_bytes l) new ≡ lookup (has_bytes l) old
 unfolding KeepsOthers
 other_level level l old new keeps ne =
     keeps (has_bytes l)
-    (λ x y e. ap (λ z. bytes_eq z (rc_str_bytes y)) (same_bytes l (rc_str_bytes x) e))
-    (λ k e. bytes_differ l (rc_str_bytes k) (λ same. ne (same ∙ sym (same_bytes level (rc_str_bytes k) e))))
+    (λ x y e. ap (λ z. bytes_eq z (string_bytes y)) (same_bytes l (string_bytes x) e))
+    (λ k e. bytes_differ l (string_bytes k) (λ same. ne (same ∙ sym (same_bytes level (string_bytes k) e))))
 
 -- the test of a client
 abbrev pub is_client : ℕ → ℕ → Bool
@@ -216,7 +217,7 @@ module _ (old mid : Trie) (k : NodeId) (n : Node) (top : mid.top ≡ old.top) (a
 -- ---- a node less
 
 pub cut_is : (old mid new : Trie) (k : NodeId) (n : Node) → Some n ≡ node_of old k → mid.top ≡ old.top → Updates old.nodes mid.nodes k.0 None → IsBare (tree old) k
-    → ChildIs n.parent (rc_str_bytes n.level) None (tree mid) (tree new) → Cut n.parent (rc_str_bytes n.level) k (tree old) (tree new)
+    → ChildIs n.parent (arc_str_bytes n.level) None (tree mid) (tree new) → Cut n.parent (arc_str_bytes n.level) k (tree old) (tree new)
 cut_is old mid new k n was top u bare g = record {
   link = g.link k ∙ ap (option_map link_in) u.changed;
   links = λ j ne. g.link j ∙ ap (option_map link_in) (u.others j.0 (λ e. ne (λ i. record { 0 = e i })));

@@ -1,10 +1,11 @@
 -- What can be asked of a node of a trie: of its children, and of its clients.
 use Rattle.std.specs.Prelude.{◌≡◌, ℕ, Bool, true, List, Option, Some, None, if◌then◌else◌}
+use Rattle.std.specs.Arc.{arc_str_bytes}
 use Rattle.std.specs.Map.{lookup}
 use Rattle.std.specs.Option.{option_map_or, option_or}
 use Rattle.std.specs.Ordering.{is_eq, nat_cmp}
-use Rattle.std.specs.Rc.{rc_str_bytes}
 use Rattle.std.specs.Str.{bytes_eq}
+use Rattle.std.specs.String.{string_bytes}
 use Rattle.mq_topic.specs.declared.children.Child.{Child}
 use Rattle.mq_topic.specs.declared.children.Children.{Children}
 use Rattle.mq_topic.specs.declared.clients.Clients.{Clients}
@@ -14,16 +15,16 @@ use Rattle.mq_topic.specs.declared.trie_nodes.NodeId.{NodeId}
 
 -- the child in the node is at this level, or there is none
 abbrev pub is_own : List ℕ → Children → Bool
-is_own l n = option_map_or (λ (c : Child). bytes_eq l (rc_str_bytes c.level)) n.first true
+is_own l n = option_map_or (λ (c : Child). bytes_eq l (arc_str_bytes c.level)) n.first true
 
 -- the child at a level, if it lies in the node
 abbrev pub own_child : List ℕ → Option Child → Option NodeId
 own_child l None = None
-own_child l (Some c) = if bytes_eq l (rc_str_bytes c.level) then Some c.id else None
+own_child l (Some c) = if bytes_eq l (arc_str_bytes c.level) then Some c.id else None
 
 -- the child at a level, if it lies in the map
 abbrev pub child_beside : List ℕ → Children → Option NodeId
-child_beside l n = option_map_or (λ b. lookup (λ k. bytes_eq l (rc_str_bytes k)) b.value.entries) n.others None
+child_beside l n = option_map_or (λ b. lookup (λ k. bytes_eq l (string_bytes k)) b.value.entries) n.others None
 
 -- the child at a level
 abbrev pub child_in : List ℕ → Children → Option NodeId

@@ -1,7 +1,7 @@
 -- What can be asked of the nodes of a trie.
 use Rattle.std.specs.Prelude.{ℕ, List, Option, Some, None}
+use Rattle.std.specs.Arc.{arc_str_bytes}
 use Rattle.std.specs.Option.{option_map, option_map_or}
-use Rattle.std.specs.Rc.{rc_str_bytes}
 use Rattle.slab.specs.Slab.{get}
 use Rattle.mq_topic.specs.NodeView.{child_in, client_in}
 use Rattle.mq_topic.specs.Tree.{Tree}
@@ -21,7 +21,7 @@ child_of t None l = child_in l t.top
 child_of t (Some k) l = option_map_or (child_at l) (node_of t k) None
 
 abbrev pub link_in : Node → Option NodeId × List ℕ
-link_in n = (n.parent, rc_str_bytes n.level)
+link_in n = (n.parent, arc_str_bytes n.level)
 
 abbrev pub client_at : ℕ → Node → Option Qos
 client_at c n = client_in c n.clients

@@ -3,24 +3,24 @@
 ghost use Rattle.std.specs.Prelude.{◌≡◌, ℕ, List, None, Some, true, IsSome, OnOk, OnErr};
 ghost use Rattle.std.specs.Bool.{MatchBool};
 ghost use Rattle.std.specs.Option.{option_map_or};
-ghost use Rattle.std.specs.Rc.{rc_str_bytes};
+ghost use Rattle.std.specs.Arc.{arc_str_bytes};
 ghost use Rattle.std.specs.Str.{bytes_eq};
 ghost use Rattle.mq_topic.specs.NodeView.{ChildIn, child_beside, child_in, is_own, own_child};
 
 use crate::trie_nodes::NodeId;
 use std::alloc::{AllocError, Global};
 use std::collections::HashMap;
-use std::rc::RcStr;
+use std::sync::ArcStr;
 
 // A child, and its level.
 #[derive(Drop)]
 struct Child {
-    level: RcStr,
+    level: ArcStr,
     id: NodeId,
 }
 
-// Children, by their levels.
-type ChildMap = HashMap<RcStr, NodeId>;
+// Children, by their levels. Each key has its own bytes, since it is looked up by a `&str`.
+type ChildMap = HashMap<String, NodeId>;
 
 /// The children of a node, by their levels. One of them lies in the node itself, since most nodes have
 /// no other, and the others lie in a map.
@@ -70,10 +70,10 @@ impl Children {
     pub(crate) fn put(
         &mut self,
         alloc: Global,
-        level: RcStr,
+        level: ArcStr,
         child: NodeId,
     ) -> Result<(), AllocError>
-        ensures put { OnOk result (ChildIn (rc_str_bytes level) (Some child) self.old self.new) }
+        ensures put { OnOk result (ChildIn (arc_str_bytes level) (Some child) self.old self.new) }
         ensures unchanged { OnErr result ((l : List ℕ) → child_in l self.new ≡ child_in l self.old) }
     {
         if self.is_own(level.as_str()) {
@@ -84,20 +84,21 @@ impl Children {
     }
 
     // Notes the child at a level in the map, which is made if there is none.
-    fn put_beside(&mut self, alloc: Global, level: RcStr, child: NodeId) -> Result<(), AllocError>
+    fn put_beside(&mut self, alloc: Global, level: ArcStr, child: NodeId) -> Result<(), AllocError>
         ensures first { self.new.first ≡ self.old.first }
-        ensures same { OnOk result (child_beside (rc_str_bytes level) self.new ≡ Some child) }
-        ensures others { OnOk result ((l : List ℕ) → (l ≡ rc_str_bytes level → ⊥) → child_beside l self.new ≡ child_beside l self.old) }
+        ensures same { OnOk result (child_beside (arc_str_bytes level) self.new ≡ Some child) }
+        ensures others { OnOk result ((l : List ℕ) → (l ≡ arc_str_bytes level → ⊥) → child_beside l self.new ≡ child_beside l self.old) }
         ensures unchanged { OnErr result ((l : List ℕ) → child_beside l self.new ≡ child_beside l self.old) }
     {
+        let key = String::from_str(alloc, level.as_str())?;
         match &mut self.others {
             Some(others) => {
-                others.insert(level, child)?;
+                others.insert(key, child)?;
                 Ok(())
             }
             None => {
                 let mut others = HashMap::new(alloc);
-                others.insert(level, child)?;
+                others.insert(key, child)?;
                 self.others = Some(Box::new(alloc, others)?);
                 Ok(())
             }

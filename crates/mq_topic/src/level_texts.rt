@@ -1,11 +1,11 @@
-//! The texts of levels, shared by the filters that have them.
+//! The texts of levels, shared by the nodes that have them.
 
 ghost use Rattle.std.specs.Prelude.{◌≡◌, IfOk};
-ghost use Rattle.std.specs.Rc.{rc_str_bytes};
+ghost use Rattle.std.specs.Arc.{arc_str_bytes};
 
 use std::alloc::{AllocError, Global};
-use std::collections::HashSet;
-use std::rc::RcStr;
+use std::collections::HashMap;
+use std::sync::ArcStr;
 
 // The most texts that are kept to be shared.
 const MOST: usize = 4_096;
@@ -18,7 +18,7 @@ const LONGEST: usize = 64;
 #[derive(Drop)]
 pub(crate) struct LevelTexts {
     alloc: Global,
-    texts: HashSet<RcStr>,
+    texts: HashMap<String, ArcStr>,
 }
 
 impl LevelTexts {
@@ -26,30 +26,33 @@ impl LevelTexts {
     pub(crate) fn new(alloc: Global) -> LevelTexts {
         LevelTexts {
             alloc,
-            texts: HashSet::new(alloc),
+            texts: HashMap::new(alloc),
         }
     }
 
     /// The text of a level, that of an earlier one if it is still kept.
-    pub(crate) fn share(&mut self, level: &str) -> Result<RcStr, AllocError>
-        ensures { IfOk result (λ text. rc_str_bytes text ≡ level.now) }
+    pub(crate) fn share(&mut self, level: &str) -> Result<ArcStr, AllocError>
+        ensures { IfOk result (λ text. arc_str_bytes text ≡ level.now) }
     {
         if let Some(text) = self.texts.get(level) {
-            return text.clone();
+            if level == text.as_str() {
+                return text.clone();
+            }
         }
-        let text = RcStr::from_str(self.alloc, level)?;
+        let text = ArcStr::from_str(self.alloc, level)?;
         if level.len() <= LONGEST {
-            self.keep(text.clone()?)?;
+            self.keep(level, text.clone()?)?;
         }
         Ok(text)
     }
 
     // Keeps a text to be shared. Where there are too many the others go.
-    fn keep(&mut self, text: RcStr) -> Result<(), AllocError> {
+    fn keep(&mut self, level: &str, text: ArcStr) -> Result<(), AllocError> {
         if self.texts.len() >= MOST {
             self.texts.clear();
         }
-        self.texts.insert(text)?;
+        let key = String::from_str(self.alloc, level)?;
+        self.texts.insert(key, text)?;
         Ok(())
     }
 }

@@ -2,7 +2,7 @@
 
 ghost use Rattle.std.specs.Prelude.{◌≡◌, ◌+◌, ℕ, Some, None, IsSome, IfOk, OnOk, OnErr, MatchOption, List};
 ghost use Rattle.std.specs.Bool.{MatchBool};
-ghost use Rattle.std.specs.Rc.{rc_str_bytes};
+ghost use Rattle.std.specs.Arc.{arc_str_bytes};
 ghost use Rattle.slab.specs.Slab.{slab_len};
 ghost use Rattle.mq_topic.specs.NodeView.{client_in};
 ghost use Rattle.mq_topic.specs.Tree.{ChildIs, ClientIs, Cut, Grown, IsBare, IsPlace, IsTrieOf, IsUsed, SameTree, client_from};
@@ -15,7 +15,7 @@ use crate::level_texts::LevelTexts;
 use crate::qos::Qos;
 use slab::Slab;
 use std::alloc::{AllocError, Global};
-use std::rc::RcStr;
+use std::sync::ArcStr;
 
 /// The number of a node.
 #[derive(Clone, Copy, Debug, PartialEq, Eq)]
@@ -28,7 +28,7 @@ pub(crate) struct Node {
     children: Children,
     clients: Clients,
     parent: Option<NodeId>,
-    level: RcStr,
+    level: ArcStr,
 }
 
 /// The nodes: below the root, which `None` stands for, each filter's levels lead to the node that has
@@ -78,11 +78,11 @@ impl Trie {
     fn put_child(
         &mut self,
         at: Option<NodeId>,
-        level: RcStr,
+        level: ArcStr,
         child: NodeId,
     ) -> Result<(), AllocError>
         requires { IsPlace (tree self.old) at }
-        ensures put { OnOk result (ChildIs at (rc_str_bytes level) (Some child) (tree self.old) (tree self.new)) }
+        ensures put { OnOk result (ChildIs at (arc_str_bytes level) (Some child) (tree self.old) (tree self.new)) }
         ensures unchanged { OnErr result (SameTree (tree self.old) (tree self.new)) }
     {
         match at {

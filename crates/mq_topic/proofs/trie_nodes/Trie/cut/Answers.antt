@@ -1,6 +1,6 @@
 use Rattle.std.proofs.Common.{None, sym, refl, ap, subst}
 use Rattle.std.specs.Option.{option_map}
-use Rattle.std.specs.Rc.{rc_str_bytes}
+use Rattle.std.specs.Arc.{arc_str_bytes}
 use Rattle.mq_topic.specs.Tree.{ChildIs}
 use Rattle.mq_topic.specs.TrieView.{link_in, tree}
 use Rattle.mq_topic.specs.declared.trie_nodes.Trie.{Trie}
@@ -15,4 +15,4 @@ returns-in-Some-clause-cut c =
     let new = c.take_child.new.self in
     let taken = subst (λ l. ChildIs node.parent l None (tree mid) (tree new)) c.as_str.ensures.value c.take_child.ensures.taken in
     let was = c.in-Some.ensures.value in
-    (rc_str_bytes node.level, (sym (ap (option_map link_in) was), cut_is old mid new c.args.id node was refl c.try_remove.ensures.updates c.requires.bare taken))
+    (arc_str_bytes node.level, (sym (ap (option_map link_in) was), cut_is old mid new c.args.id node was refl c.try_remove.ensures.updates c.requires.bare taken))

@@ -1,5 +1,5 @@
 use Rattle.std.proofs.Common.{sym, refl}
-use Rattle.std.specs.Rc.{rc_str_bytes}
+use Rattle.std.specs.Arc.{arc_str_bytes}
 use Rattle.mq_topic.proofs.Nodes.{child_is, put_node, same_is, top_is, top_same, written}
 use Rattle.mq_topic.proofs.Placing.{on_err}
 use Rattle.mq_topic.proofs.trie_nodes.Trie.put_child.Goals as goal
@@ -24,7 +24,7 @@ returns-in_ok-put-in-None-clause-put c =
     let h = c.in_ok-put-in-None.ensures.put in
     let trie = c.args.self.now in
     rw c.in-None.is
-    (top_is trie (record trie { top = c.put.new.self }) refl (rc_str_bytes c.args.level) _ h.same h.others)
+    (top_is trie (record trie { top = c.put.new.self }) refl (arc_str_bytes c.args.level) _ h.same h.others)
 
 pub returns-in_ok-put-in-Some-clause-put : goal.returns-in_ok-put-in-Some-clause-put
 returns-in_ok-put-in-Some-clause-put c =
@@ -35,4 +35,4 @@ returns-in_ok-put-in-Some-clause-put c =
     let node = c.in-Some-get_mut.node.now in
     let new = record node { children = c.put-in-Some-get_mut.new.self } in
     rw c.in-Some.is
-    (child_is trie (put_node trie id new) id node new (sym was) (written trie id node new was) refl refl refl (rc_str_bytes c.args.level) _ h.same h.others)
+    (child_is trie (put_node trie id new) id node new (sym was) (written trie id node new was) refl refl refl (arc_str_bytes c.args.level) _ h.same h.others)
