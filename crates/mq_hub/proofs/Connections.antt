@@ -89,6 +89,13 @@ unknown f k (x ∷ xs) h =
     let p = or_parts (is_line k x) (knows k xs) h in
     ap₂ (λ (y : Line) (ys : List Line). y ∷ ys) (cond-false (is_line k x) (f x) x p.0) (unknown f k xs p.1)
 
+-- and it is closed
+pub unknown_shut : (k : Conn) (xs : List Line) → knows k xs ≡ false → stage_of k xs ≡ Shut
+unknown_shut k [] h = refl
+unknown_shut k (x ∷ xs) h =
+    let p = or_parts (is_line k x) (knows k xs) h in
+    cond-false (is_line k x) x.stage (stage_of k xs) p.0 ∙ unknown_shut k xs p.1
+
 pub not_taken : (k : Conn) (xs : List Line) → knows k xs ≡ false → without_line k xs ≡ xs
 not_taken k [] h = refl
 not_taken k (x ∷ xs) h =

@@ -1,5 +1,11 @@
 pub mod Bytes
+pub mod Changing
 pub mod Checks
+pub mod Collecting
 pub mod Connections
+pub mod Going
+pub mod Keeping
 pub mod Retaining
+pub mod Seeing
+pub mod Serving
 pub mod Tenants

@@ -296,7 +296,7 @@ distinct_with key e (t ∷ ts) distinct = go (eqb t.key key) (named_with t.clien
     go true none rest = (none, rest)
     go false none rest = (none, rest)
 
-with_above : (key low : ℕ) (e : EndState) (ts : List Tenant) → key ≤ low → AllByRecursion (λ s. low < s.key) ts → with_server key e ts ≡ ts
+pub with_above : (key low : ℕ) (e : EndState) (ts : List Tenant) → key ≤ low → AllByRecursion (λ s. low < s.key) ts → with_server key e ts ≡ ts
 with_above key low e [] le all = refl
 with_above key low e (t ∷ ts) le all =
     let l = all.0 in

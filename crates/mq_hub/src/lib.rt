@@ -1,12 +1,17 @@
 //! A broker: bytes, moments and connections go in, what it did and bytes come out (3.1 to 3.14, 4.3).
 //!
-//! So far it has the tables that a broker stands on, and what it asks of a CONNECT.
+//! So far it has the tables that a broker stands on, what it asks of a CONNECT, the broker over its tables, and the first of its events.
 #![tactic(auto)]
 
+mod collected;
 mod connection;
 mod copies;
+mod doings;
+mod hub;
 mod lines;
+mod opened;
 mod retained;
 mod session;
 mod sessions;
+mod tables;
 mod welcome;

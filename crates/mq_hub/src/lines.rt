@@ -102,6 +102,13 @@ impl Lines {
         self.ups.reserve(count)
     }
 
+    /// The limits within which packets are read on each.
+    pub(crate) fn limits(&self) -> Limits
+        ensures { result ≡ self.now.limits }
+    {
+        self.limits
+    }
+
     /// Whether a connection of this name is known.
     pub(crate) fn knows(&self, conn: Conn) -> bool
         ensures { result ≡ knows conn self.now.lines }
@@ -116,6 +123,27 @@ impl Lines {
     {
         match self.by_conn.get(&conn) {
             Some(boxed) => Some(&boxed.connection().stage),
+            None => None,
+        }
+    }
+
+    /// The key of the session for which a connection is up.
+    pub(crate) fn key(&self, conn: Conn) -> Option<ClientKey>
+        ensures { result ≡ key_on (stage_of conn self.now.lines) }
+    {
+        match self.by_conn.get(&conn) {
+            Some(boxed) => boxed.key(),
+            None => None,
+        }
+    }
+
+    /// The bytes that wait on a connection while it isn't up; `None` where it isn't known.
+    pub(crate) fn waiting(&self, conn: Conn) -> Option<&ByteQueue>
+        ensures known { is_some result ≡ knows conn self.now.lines }
+        ensures waiting { IfSome result (λ b. b.now ≡ waiting_on conn self.now.lines) }
+    {
+        match self.by_conn.get(&conn) {
+            Some(boxed) => Some(&boxed.connection().waiting),
             None => None,
         }
     }

@@ -6,7 +6,7 @@ ghost use Rattle.std.specs.List.{prefix_len};
 ghost use Rattle.std.specs.Str.{bytes_eq};
 ghost use Rattle.std.specs.Option.{option_copied};
 ghost use Rattle.mq_route.specs.Hub.{key_of};
-ghost use Rattle.mq_hub.specs.Sessions.{sessions_of, tenant_of, with_server, without_tenant, AreBelow, AreAscending};
+ghost use Rattle.mq_hub.specs.Sessions.{drained, sessions_of, tenant_of, with_server, without_tenant, AreBelow, AreAscending};
 
 use crate::session::{Seat, Tenant};
 use mq_end::ServerEnd;
@@ -179,6 +179,18 @@ impl Sessions {
         ensures room { self.new.room ≡ self.old.room }
     {
         swap_at(self.tenants.as_mut_slice(), key, end);
+    }
+
+    /// The bytes that wait in the end of the session of a key are taken; `blank` is put in its place for that while. It takes no memory.
+    pub(crate) fn drain(&mut self, key: ClientKey, blank: ServerEnd)
+        requires { IsSome (tenant_of key self.old.tenants) }
+        ensures tenants { IfSome (tenant_of key self.old.tenants) (λ t. self.new.tenants ≡ with_server key (drained t.end) self.old.tenants) }
+        ensures room { self.new.room ≡ self.old.room }
+    {
+        let mut end = blank;
+        self.swap_end(key, &mut end);
+        let _ = end.take_all_output();
+        self.swap_end(key, &mut end);
     }
 
     /// A session ends (3.1.2.4), which it gives away; `None` where there is none of this key. It takes no memory.

@@ -1,0 +1,146 @@
+-- What a broker keeps true, over changes of its tables.
+use Rattle.std.proofs.Common.{◌≡◌, ◌||◌, ℕ, Bool, true, false, cond, List, [], ◌∷◌, ◌++◌, map, Option, Some, None, refl, sym, ap, ap₂, subst, ◌∙◌}
+use Rattle.std.proofs.lemmas.Bool.{or_parts}
+use Rattle.std.specs.List.{AllByRecursion}
+use Rattle.std.specs.Option.{is_some}
+use Rattle.mq_end.specs.declared.state.State.{State}
+use Rattle.mq_end.specs.declared.state.State.TheVariants.{Closed, Up}
+use Rattle.mq_route.specs.declared.config.HubConfig.{HubConfig}
+use Rattle.mq_route.specs.declared.conn.Conn.{Conn}
+use Rattle.mq_route.specs.declared.stage.Stage.{Stage}
+use Rattle.mq_route.specs.declared.stage.Stage.TheVariants.{Fresh}
+use Rattle.mq_route.specs.Hub.{Line, is_clean, is_for, knows, up_on}
+use Rattle.mq_route.specs.Routed.{same_conn}
+use Rattle.mq_topic.specs.Rows.{Row}
+use Rattle.mq_packet.specs.declared.message.Message.{Message}
+use Rattle.mq_hub.specs.declared.session.Tenant.{Tenant}
+use Rattle.mq_hub.specs.Keeps.{AreApart, HubKeeps, IsHoused, IsSeated, IsWithin, Stands, stage_for}
+use Rattle.mq_hub.specs.Seen.{HubTables}
+use Rattle.mq_hub.specs.Sessions.{AreAscending, AreBelow}
+use Rattle.mq_hub.proofs.Connections.{symm}
+
+-- ---- tables that are seen as the same
+
+pub kept_by : (config : HubConfig) (next : ℕ) (t u : HubTables) → HubKeeps config next t → u.rows ≡ t.rows → u.retained.messages ≡ t.retained.messages
+    → u.sessions.tenants ≡ t.sessions.tenants → u.lines.lines ≡ t.lines.lines → u.lines.limits ≡ t.lines.limits → HubKeeps config next u
+kept_by config next t u kept rows retained tenants lines limits = record {
+  capacity = kept.capacity;
+  window = kept.window;
+  limits = limits ∙ kept.limits;
+  apart = subst AreApart (sym lines) kept.apart;
+  housed =
+      subst (λ (xs : List Line). AllByRecursion (λ x. IsHoused config.limits.most u.sessions.tenants x.stage) xs) (sym lines)
+      (subst (λ (ts : List Tenant). AllByRecursion (λ x. IsHoused config.limits.most ts x.stage) t.lines.lines) (sym tenants) kept.housed);
+  seated =
+      subst (λ (ts : List Tenant). AllByRecursion (IsSeated config u.lines.lines) ts) (sym tenants)
+      (subst (λ (xs : List Line). AllByRecursion (IsSeated config xs) t.sessions.tenants) (sym lines) kept.seated);
+  ascending = subst AreAscending (sym tenants) kept.ascending;
+  below = subst (AreBelow next) (sym tenants) kept.below;
+  next = kept.next;
+  owned =
+      subst (λ (rs : List Row). AllByRecursion (λ r. Stands u.sessions.tenants r.0.0) rs) (sym rows)
+      (subst (λ (ts : List Tenant). AllByRecursion (λ r. Stands ts r.0.0) t.rows) (sym tenants) kept.owned);
+  retained = subst (λ (ms : List Message). AllByRecursion (IsWithin config.limits.most) ms) (sym retained) kept.retained;
+}
+
+-- ---- sessions while other connections come and go
+
+-- a session stands as before where its client is up as before
+pub seated_same : (config : HubConfig) (xs ys : List Line) → ((key : ℕ) → up_on key ys ≡ up_on key xs) → ((key : ℕ) → stage_for key ys ≡ stage_for key xs) → (t : Tenant)
+    → IsSeated config xs t → IsSeated config ys t
+seated_same config xs ys up stage t seat = record {
+  capacity = seat.capacity;
+  limit = seat.limit;
+  window = seat.window;
+  known = seat.known;
+  state = seat.state ∙ ap (λ (o : Option Conn). cond (is_some o) Up Closed) (sym (up t.key));
+  clean = seat.clean ∙ ap is_clean (sym (stage t.key));
+  away = λ none. seat.away (sym (up t.key) ∙ none);
+}
+
+pub all_seated_same : (config : HubConfig) (xs ys : List Line) → ((key : ℕ) → up_on key ys ≡ up_on key xs) → ((key : ℕ) → stage_for key ys ≡ stage_for key xs) → (ts : List Tenant)
+    → AllByRecursion (IsSeated config xs) ts → AllByRecursion (IsSeated config ys) ts
+all_seated_same config xs ys up stage [] all = tt
+all_seated_same config xs ys up stage (t ∷ ts) all = (seated_same config xs ys up stage t all.0, all_seated_same config xs ys up stage ts all.1)
+
+-- ---- a connection that is opened
+
+module _ (x : Line) (fresh : x.stage ≡ Fresh) where
+  not_for : (key : ℕ) → is_for key x.stage ≡ false
+  not_for key = ap (is_for key) fresh
+
+  pub up_opened : (key : ℕ) (xs : List Line) → up_on key (xs ++ x ∷ []) ≡ up_on key xs
+  up_opened key [] = ap (λ (b : Bool). cond b (Some x.conn) None) (not_for key)
+  up_opened key (y ∷ ys) = ap (λ (o : Option Conn). cond (is_for key y.stage) (Some y.conn) o) (up_opened key ys)
+
+  pub stage_opened : (key : ℕ) (xs : List Line) → stage_for key (xs ++ x ∷ []) ≡ stage_for key xs
+  stage_opened key [] = ap (λ (b : Bool). cond b x.stage (stage_for key [])) (not_for key)
+  stage_opened key (y ∷ ys) = ap (λ (s : Stage). cond (is_for key y.stage) y.stage s) (stage_opened key ys)
+
+  known_opened : (k : Conn) (xs : List Line) → knows k xs ≡ false → same_conn x.conn k ≡ false → knows k (xs ++ x ∷ []) ≡ false
+  known_opened k [] none other = ap (λ (b : Bool). b || false) other
+  known_opened k (y ∷ ys) none other =
+      let p = or_parts (same_conn y.conn k) (knows k ys) none in
+      ap₂ (λ (a b : Bool). a || b) p.0 (known_opened k ys p.1 other)
+
+  pub apart_opened : (xs : List Line) → knows x.conn xs ≡ false → AreApart xs → AreApart (xs ++ x ∷ [])
+  apart_opened [] none apart = (refl, λ key e. refl, tt)
+  apart_opened (y ∷ ys) none apart =
+      let p = or_parts (same_conn y.conn x.conn) (knows x.conn ys) none in
+      (known_opened y.conn ys apart.0 (symm x.conn y.conn ∙ p.0), λ key e. up_opened key ys ∙ apart.1 key e, apart_opened ys p.1 apart.2)
+
+  pub housed_opened : (most : ℕ) (ts : List Tenant) (xs : List Line) → AllByRecursion (λ y. IsHoused most ts y.stage) xs
+      → AllByRecursion (λ y. IsHoused most ts y.stage) (xs ++ x ∷ [])
+  housed_opened most ts [] all = (subst (IsHoused most ts) (sym fresh) tt, tt)
+  housed_opened most ts (y ∷ ys) all = (all.0, housed_opened most ts ys all.1)
+
+  pub kept_opened : (config : HubConfig) (next : ℕ) (t u : HubTables) → HubKeeps config next t → knows x.conn t.lines.lines ≡ false → u.rows ≡ t.rows
+      → u.retained.messages ≡ t.retained.messages → u.sessions.tenants ≡ t.sessions.tenants → u.lines.lines ≡ t.lines.lines ++ x ∷ [] → u.lines.limits ≡ t.lines.limits
+      → HubKeeps config next u
+  kept_opened config next t u kept none rows retained tenants lines limits =
+      let xs = t.lines.lines in
+      let ts = t.sessions.tenants in
+      let v : HubTables = record t { lines = record t.lines { lines = xs ++ x ∷ [] } } in
+      let k : HubKeeps config next v = record {
+        capacity = kept.capacity;
+        window = kept.window;
+        limits = kept.limits;
+        apart = apart_opened xs none kept.apart;
+        housed = housed_opened config.limits.most ts xs kept.housed;
+        seated = all_seated_same config xs (xs ++ x ∷ []) (λ key. up_opened key xs) (λ key. stage_opened key xs) ts kept.seated;
+        ascending = kept.ascending;
+        below = kept.below;
+        next = kept.next;
+        owned = kept.owned;
+        retained = kept.retained;
+      } in
+      kept_by config next v u k rows retained tenants lines limits
+
+-- ---- connections that stay as far as they are
+
+-- names and stages stay
+module _ (g : Line → Line) (stages : (x : Line) → (g x).stage ≡ x.stage) where
+  pub stage_same : (key : ℕ) (xs : List Line) → stage_for key (map g xs) ≡ stage_for key xs
+  stage_same key [] = refl
+  stage_same key (x ∷ xs) = λ i. cond (is_for key (stages x i)) (stages x i) (stage_same key xs i)
+
+  pub housed_same : (most : ℕ) (ts : List Tenant) (xs : List Line) → AllByRecursion (λ y. IsHoused most ts y.stage) xs → AllByRecursion (λ y. IsHoused most ts y.stage) (map g xs)
+  housed_same most ts [] all = tt
+  housed_same most ts (x ∷ xs) all = (subst (IsHoused most ts) (sym (stages x)) all.0, housed_same most ts xs all.1)
+
+module _ (g : Line → Line) (names : (x : Line) → (g x).conn ≡ x.conn) (stages : (x : Line) → (g x).stage ≡ x.stage) where
+  pub up_same : (key : ℕ) (xs : List Line) → up_on key (map g xs) ≡ up_on key xs
+  up_same key [] = refl
+  up_same key (x ∷ xs) = λ i. cond (is_for key (stages x i)) (Some (names x i)) (up_same key xs i)
+
+  pub known_same : (k : Conn) (xs : List Line) → knows k (map g xs) ≡ knows k xs
+  known_same k [] = refl
+  known_same k (x ∷ xs) = λ i. same_conn (names x i) k || known_same k xs i
+
+  pub apart_same : (xs : List Line) → AreApart xs → AreApart (map g xs)
+  apart_same [] apart = tt
+  apart_same (x ∷ xs) apart = (
+    known_same (g x).conn xs ∙ ap (λ (n : Conn). knows n xs) (names x) ∙ apart.0,
+    λ key e. up_same key xs ∙ apart.1 key (ap (is_for key) (sym (stages x)) ∙ e),
+    apart_same xs apart.2,
+  )

@@ -1,0 +1,48 @@
+-- What the broker's definition sees of a broker's tables.
+use Rattle.std.specs.Prelude.{ℕ, ◌==◌, List, [], ◌∷◌, map, if◌then◌else◌}
+use Rattle.mq_topic.specs.Rows.{Row}
+use Rattle.mq_route.specs.declared.config.HubConfig.{HubConfig}
+use Rattle.mq_route.specs.declared.stage.Stage.{Stage}
+use Rattle.mq_route.specs.declared.stage.Stage.TheVariants.{Fresh, UpFor, Shut}
+use Rattle.mq_route.specs.Hub.{HubState, Line}
+use Rattle.mq_hub.specs.declared.session.Tenant.{Tenant}
+use Rattle.mq_hub.specs.Lines.{LineTable}
+use Rattle.mq_hub.specs.Retained.{RetainedTable}
+use Rattle.mq_hub.specs.Sessions.{SessionTable, sessions_of}
+
+-- The tables of a broker: the rows of its subscriptions (3.8.4), the retained messages (3.3.1.3), the sessions (3.1.2.4) and the
+-- connections (4.2).
+pub record HubTables : Type 0 where
+  pub rows : List Row
+  pub retained : RetainedTable
+  pub sessions : SessionTable
+  pub lines : LineTable
+
+-- the bytes that wait in the end of the session of a key
+abbrev pub output_of : ℕ → List Tenant → List ℕ
+output_of key [] = []
+output_of key (t ∷ ts) = if t.key == key then t.end.output else output_of key ts
+
+-- the bytes that wait on a connection: while it is up its session's end has them, else its own are they
+abbrev pub waiting_by : Stage → List Tenant → List ℕ → List ℕ
+waiting_by Fresh ts own = own
+waiting_by (UpFor key terms moment) ts own = output_of key ts
+waiting_by Shut ts own = own
+
+abbrev pub seen : List Tenant → Line → Line
+seen ts x = record x { waiting = waiting_by x.stage ts x.waiting }
+
+abbrev pub all_seen : List Tenant → List Line → List Line
+all_seen ts xs = map (seen ts) xs
+
+-- the broker that has these tables
+abbrev pub hub_of : HubConfig → ℕ → ℕ → HubTables → HubState
+hub_of config clock next_key t = record {
+  config = config;
+  clock = clock;
+  next_key = next_key;
+  rows = t.rows;
+  retained = t.retained.messages;
+  sessions = sessions_of t.sessions.tenants;
+  lines = all_seen t.sessions.tenants t.lines.lines;
+}

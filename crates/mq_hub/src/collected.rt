@@ -1,0 +1,68 @@
+//! What waits to be written on a connection is taken from a broker (4.2).
+
+ghost use Rattle.std.specs.Prelude.{◌≡◌, true, IfOk, IfErr, OnErr};
+ghost use Rattle.mq_route.specs.Hub.{is_open, knows, stage_of, waiting_on};
+ghost use Rattle.mq_route.specs.Step.{HubStep, collected};
+
+use crate::hub::HubOver;
+use bytes::Bytes;
+use mq_end::{Items, ServerConfig, ServerEnd};
+use mq_route::{Conn, HubEvent, HubRefusal, HubReply};
+use mq_topic::FilterStore;
+
+impl<S: FilterStore> HubOver<S> {
+    // The bytes that wait on a connection.
+    fn output(&self, conn: Conn) -> &[u8]
+        ensures { result.now ≡ waiting_on conn self.now.lines }
+    {
+        self.tables.output(conn)
+    }
+
+    // Whether a connection is open.
+    fn is_open(&self, conn: Conn) -> bool
+        ensures { result ≡ is_open (stage_of conn self.now.lines) }
+    {
+        self.tables.is_open(conn)
+    }
+
+    // An end to put in the place of a session's for a while. It takes no memory.
+    fn blank(&self) -> ServerEnd {
+        let config = ServerConfig {
+            limits: self.config.limits,
+            capacity: self.config.capacity,
+            window: self.config.window,
+        };
+        ServerEnd::new(self.alloc, config)
+    }
+
+    // No byte waits on a connection that is known any more. It takes no memory.
+    fn empty(&mut self, conn: Conn)
+        requires { knows conn self.old.lines ≡ true }
+        ensures { self.new ≡ collected conn self.old }
+    {
+        let blank = self.blank();
+        match self.tables.key(conn) {
+            Some(key) => self.tables.drain(key, blank),
+            None => self.tables.empty(self.alloc, conn),
+        }
+    }
+
+    /// What waits to be written on a connection that is known is taken. Errs where memory runs out, and then nothing changes.
+    pub(crate) fn collected(&mut self, conn: Conn) -> Result<HubReply, HubRefusal>
+        requires { knows conn self.old.lines ≡ true }
+        ensures step { IfOk result (λ reply. HubStep self.old (HubEvent.Collect conn) reply self.new) }
+        ensures memory { IfErr result (λ why. why ≡ HubRefusal.Memory) }
+        ensures err { OnErr result (self.new ≡ self.old) }
+    {
+        let Ok(output) = Bytes::copy_from_slice(self.alloc, self.output(conn)) else {
+            return Err(HubRefusal::Memory);
+        };
+        let alive = self.is_open(conn);
+        self.empty(conn);
+        Ok(HubReply {
+            acts: Items::from_vec(Vec::new(self.alloc)),
+            output,
+            alive,
+        })
+    }
+}

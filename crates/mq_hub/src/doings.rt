@@ -1,0 +1,65 @@
+//! What a broker does in a step, as it is said.
+
+ghost use Rattle.std.specs.Prelude.{◌≡◌, ◌+◌, ◌≤◌, ◌<◌, [], ◌∷◌, ◌++◌, OnOk};
+
+use bytes::Bytes;
+use mq_end::Items;
+use mq_route::{Act, HubReply};
+use std::alloc::{AllocError, Global};
+use std::marker::Model;
+
+/// What a broker did in a step so far, with room for more.
+#[derive(Drop)]
+pub(crate) struct Doings {
+    acts: Vec<Act>,
+}
+
+impl Model for Doings {
+    ghost use Rattle.std.specs.Prelude.{◌-◌, length, vec_capacity};
+    ghost use Rattle.mq_hub.specs.Doings.{ActList};
+
+    ghost Value = { ActList };
+
+    ghost view = { λ d. record { acts = d.acts.items; room = vec_capacity d.acts - length d.acts.items } };
+}
+
+impl Doings {
+    /// Nothing is done yet. It takes no memory.
+    pub(crate) fn new(alloc: Global) -> Doings
+        ensures { result.acts ≡ [] }
+    {
+        Doings {
+            acts: Vec::new(alloc),
+        }
+    }
+
+    /// Makes room for so many more acts. Errs where memory runs out. The acts stay.
+    pub(crate) fn reserve(&mut self, count: usize) -> Result<(), AllocError>
+        ensures ok { OnOk result (count ≤ self.new.room) }
+        ensures same { self.new.acts ≡ self.old.acts }
+        ensures room { self.old.room ≤ self.new.room }
+    {
+        self.acts.reserve(count)
+    }
+
+    /// One act more. It takes no memory.
+    pub(crate) fn say(&mut self, act: Act)
+        requires { 0 < self.old.room }
+        ensures acts { self.new.acts ≡ self.old.acts ++ act ∷ [] }
+        ensures room { self.old.room ≤ self.new.room + 1 }
+    {
+        self.acts.push_reserved(act);
+    }
+
+    /// What comes of a step that did this and takes no bytes; `alive` says that the event's connection is open. It takes no memory.
+    pub(crate) fn into_reply(self, alive: bool) -> HubReply
+        ensures { result ≡ record { acts = self.acts; output = []; alive = alive } }
+    {
+        let Doings { acts } = self;
+        HubReply {
+            acts: Items::from_vec(acts),
+            output: Bytes::new(),
+            alive,
+        }
+    }
+}

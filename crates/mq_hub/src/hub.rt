@@ -1,0 +1,92 @@
+//! A broker over a store of subscriptions.
+
+ghost use Rattle.std.specs.Prelude.{◌≡◌, ◌<◌, [], IfSome};
+ghost use Rattle.mq_route.specs.Hub.{knows, new_hub};
+ghost use Rattle.mq_route.specs.Step.{event_refusal};
+
+use crate::tables::Tables;
+use mq_route::{Conn, HubConfig, HubEvent, HubRefusal};
+use mq_topic::{FilterStore, TrieStore};
+use std::alloc::Global;
+use std::marker::Model;
+
+/// A broker over a store of subscriptions. Contracts see it as plain records.
+#[derive(Drop)]
+pub(crate) struct HubOver<S: FilterStore> {
+    pub(crate) alloc: Global,
+    pub(crate) config: HubConfig,
+    pub(crate) clock: u64,
+    pub(crate) next_key: u64,
+    pub(crate) tables: Tables<S>,
+}
+
+impl<S: FilterStore> Model for HubOver<S> {
+    ghost use Rattle.std.specs.Coded.{codes, coded_ℕ};
+    ghost use Rattle.std.specs.FinSet as set;
+    ghost use Rattle.std.specs.Ordering.{nat_cmp};
+    ghost use Rattle.mq_route.specs.Hub.{HubState};
+    ghost use Rattle.mq_hub.specs.Keeps.{HubKeeps};
+    ghost use Rattle.mq_hub.specs.Seen.{hub_of};
+
+    ghost Value = { HubState };
+
+    ghost coded = { Prim.hlevel (codes, set.code {R = nat_cmp} coded_ℕ) };
+
+    ghost view = { λ h. hub_of h.config h.clock h.next_key h.tables };
+
+    ghost invariant = { λ h. HubKeeps h.config h.next_key h.tables };
+}
+
+impl HubOver<TrieStore> {
+    /// A broker to which nothing has happened. It takes no memory.
+    pub(crate) fn new(alloc: Global, config: HubConfig) -> HubOver<TrieStore>
+        requires capacity { 0 < config.capacity }
+        requires window { IfSome config.window (λ window. 0 < window) }
+        ensures { result ≡ new_hub config }
+    {
+        HubOver::with_store(alloc, config, TrieStore::new(alloc))
+    }
+}
+
+impl<S: FilterStore> HubOver<S> {
+    /// A broker over a store without rows, to which nothing has happened. It takes no memory.
+    pub(crate) fn with_store(alloc: Global, config: HubConfig, store: S) -> HubOver<S>
+        requires store { S.rows store ≡ [] }
+        requires capacity { 0 < config.capacity }
+        requires window { IfSome config.window (λ window. 0 < window) }
+        ensures { result ≡ new_hub config }
+    {
+        let tables = Tables::new(alloc, config.limits, store);
+        HubOver {
+            alloc,
+            config,
+            clock: 0,
+            next_key: 0,
+            tables,
+        }
+    }
+
+    /// Whether a connection is known: it was opened, and is not over. It takes no memory.
+    pub(crate) fn knows(&self, conn: Conn) -> bool
+        ensures { result ≡ knows conn self.now.lines }
+    {
+        self.tables.lines.knows(conn)
+    }
+
+    /// Why an event is refused, memory aside. It takes no memory.
+    pub(crate) fn refusal(&self, event: &HubEvent) -> Option<HubRefusal>
+        ensures { result ≡ event_refusal event.now self.now }
+    {
+        match event {
+            HubEvent::Opened(conn) if self.knows(*conn) => Some(HubRefusal::ConnInUse),
+            HubEvent::Opened(_) | HubEvent::Tick(_) => None,
+            HubEvent::Bytes(conn, _) | HubEvent::Ended(conn) | HubEvent::Collect(conn) => {
+                if self.knows(*conn) {
+                    None
+                } else {
+                    Some(HubRefusal::UnknownConn)
+                }
+            }
+        }
+    }
+}
