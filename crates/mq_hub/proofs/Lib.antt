@@ -3,6 +3,7 @@ pub mod Changing
 pub mod Checks
 pub mod Collecting
 pub mod Connections
+pub mod DueCopies
 pub mod Going
 pub mod Keeping
 pub mod Retaining

@@ -1,4 +1,5 @@
 pub mod Lines
+pub mod Placing
 pub mod Retained
 pub mod Sessions
 pub mod Welcome

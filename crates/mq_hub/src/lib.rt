@@ -10,6 +10,7 @@ mod doings;
 mod hub;
 mod lines;
 mod opened;
+mod placing;
 mod retained;
 mod session;
 mod sessions;

@@ -1,0 +1,28 @@
+use Rattle.std.proofs.Common.{◌≡◌, ◌∙◌, List, ℕ, sym, ap, subst}
+use Rattle.mq_topic.specs.Rows.{Row, matched}
+use Rattle.mq_packet.specs.declared.message.Message.{Message}
+use Rattle.mq_hub.specs.Placing.{AreApart, copies_found}
+use Rattle.std.proofs.lemmas.Float.{T_from_true}
+use Rattle.mq_hub.proofs.DueCopies.{found_alike, found_is, found_apart, hidden_none, if_ok}
+use Rattle.mq_hub.proofs.placing.copies_of.Goals as goal
+
+pub returns-then-is_hidden_name-clause-copies : goal.returns-then-is_hidden_name-clause-copies
+returns-then-is_hidden_name-clause-copies g c = λ h rows alike.
+    c.new.ensures.items ∙ hidden_none c.args.message.now h (sym c.is_hidden_name.ensures ∙ c.if-is_hidden_name.true)
+
+pub returns-clause-copies : goal.returns-clause-copies
+returns-clause-copies g c =
+    let m = c.args.message.now in
+    let xs = c.args.lines.now.lines in
+    if_ok c.copies_found.result c.copies_found.ensures (λ copies e h rows alike.
+    e ∙ ap (copies_found xs m) c.in_ok-found.ensures.value
+    ∙ ap (λ (rs : List Row). copies_found xs m (matched m.topic rs)) (sym rows)
+    ∙ found_alike h.lines xs m (matched m.topic h.rows) alike
+    ∙ found_is m h (sym c.is_hidden_name.ensures ∙ c.if-is_hidden_name.false))
+
+pub returns-clause-apart : goal.returns-clause-apart
+returns-clause-apart g c =
+    let m = c.args.message.now in
+    let xs = c.args.lines.now.lines in
+    if_ok c.copies_found.result c.copies_found.ensures (λ copies e.
+    subst (λ (cs : List (ℕ × Message)). AreApart cs) (sym e) (found_apart xs m c.in_ok-found.found.items (T_from_true _ c.in_ok-found.ensures.greatest.ascending)))
