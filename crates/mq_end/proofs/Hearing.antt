@@ -1,5 +1,5 @@
 -- What an end does with the bytes that come to it.
-use Rattle.std.proofs.Common.{◌≡◌, inl, inr, ℕ, ◌==◌, Bool, true, false, cond, not, List, [], ◌∷◌, ◌++◌, length, Option, Some, None, Result, Ok, Err, OnOk, IfErr, refl, sym, ap, subst, ◌∙◌, append_assoc}
+use Rattle.std.proofs.Common.{◌≡◌, inl, inr, ℕ, ◌==◌, Bool, true, false, cond, not, List, [], ◌∷◌, ◌++◌, length, Option, Some, None, Result, Ok, Err, OnOk, IfErr, refl, sym, ap, subst, ◌∙◌, ◌&&◌, append_assoc}
 use Rattle.std.proofs.Math.Dec.{eqb-suc-zero}
 use Rattle.mq_packet.specs.declared.packet.Packet.{Packet}
 use Rattle.mq_decode.specs.declared.fault.DecodeFault.{DecodeFault}
@@ -14,10 +14,11 @@ use Rattle.mq_end.specs.declared.role.Role.{Role}
 use Rattle.mq_end.specs.declared.role.Role.TheVariants.{Client, Server}
 use Rattle.mq_end.specs.declared.happening.Happening.{Happening}
 use Rattle.mq_end.specs.declared.told.Told.{Told}
-use Rattle.mq_end.specs.End.{End, Reply, is_live, first_reason, followed, closes}
-use Rattle.mq_end.specs.State.{EndState, PutsOut}
-use Rattle.mq_end.specs.Receiving.{Receives, ReceivesAs, Shows, Makes, Taken, Hears, HearsAt, HeardAs, IsBreak, held_after, heard_as, gets_as, faulted_as}
-use Rattle.mq_end.proofs.Replies.{makes_then}
+use Rattle.mq_end.specs.End.{End, Reply, is_live, is_up, first_reason, followed, closes}
+use Rattle.mq_end.specs.Server.{level_refused}
+use Rattle.mq_end.specs.State.{EndState, PutsOut, is_level}
+use Rattle.mq_end.specs.Receiving.{Acts, Receives, ReceivesAs, Shows, Makes, Taken, Hears, HearsAt, HeardAs, IsBreak, held_after, heard_as, gets_as, faulted_as}
+use Rattle.mq_end.proofs.Replies.{makes_then, quiet}
 use Rattle.mq_end.proofs.Received.{received_shut, received_all, received_fault, received_fault_starved, received_starved}
 
 -- the end after its packets were taken out of the bytes
@@ -136,6 +137,21 @@ hears_starved role now piece old mid new h t u v r ps begins taken m none k =
     (subst (λ (hs : List ℕ). Receives old.limit (gets_as role) (faulted_as role) (old.held ++ piece) old.end (followed r x) hs) (sym (held_none old new h t v (followed r x) reasons.Memory both (sym (close_is r x reasons.Memory none refl))))
     (received_starved old.limit (gets_as role) (faulted_as role) ps (old.held ++ piece) old.end r begins taken (sym none)))
     both refl (heard_shut role now (old.held ++ piece) reasons.Memory old new (moment_is old new h t v (followed r x) both)) (close_is r x reasons.Memory none refl)
+
+-- bytes that are no packet tell nothing
+faulted_quiet : (role : Role) (fault : DecodeFault) (e : End) → ((faulted_as role fault e).happenings ≡ []) × ((faulted_as role fault e).freed ≡ [])
+faulted_quiet Client fault e = (refl, refl)
+faulted_quiet Server fault e = by (not (is_up e.state) && is_level fault.kind)
+  where
+    by : (b : Bool) → ((cond b (level_refused e) (closes (reasons.Fault fault) e)).happenings ≡ []) × ((cond b (level_refused e) (closes (reasons.Fault fault) e)).freed ≡ [])
+    by true = (refl, refl)
+    by false = (refl, refl)
+
+pub break_made : (role : Role) (fault : DecodeFault) (old new : EndState) (t : Told) (r : Reply) → IsBreak role fault old.end r → Acts r old new → Makes r old new t t
+break_made role fault old new t r (inl e) a =
+    let q = faulted_quiet role fault old.end in
+    quiet r old new t a (ap (λ (x : Reply). x.happenings) e ∙ q.0) (ap (λ (x : Reply). x.freed) e ∙ q.1)
+break_made role fault old new t r (inr e) a = quiet r old new t a (ap (λ (x : Reply). x.happenings) e) (ap (λ (x : Reply). x.freed) e)
 
 pub hears_fault : (role : Role) (now : ℕ) (piece : List ℕ) (old mid new : EndState) (h : List ℕ) (t u v : Told) (r x : Reply) (ps : List Packet) (rest : List ℕ) (fault : DecodeFault) (reason : CloseReason)
     → Reading old.limit (old.held ++ piece) ps rest (Some fault) → Taken (gets_as role) ps old.end r → Makes r (with_held old h) mid t u → None ≡ r.close

@@ -3,6 +3,7 @@ pub mod Lateness
 pub mod Closing
 pub mod Windows
 pub mod OnePacket
+pub mod Outcomes
 pub mod Replies
 pub mod Received
 pub mod Hearing
@@ -12,3 +13,5 @@ pub mod Along
 pub mod Onward
 pub mod Measures
 pub mod Rooms
+pub mod Readiness
+pub mod Rises

@@ -1,5 +1,5 @@
 -- The room of an end, and what is put out within it.
-use Rattle.std.proofs.Common.{◌≡◌, ◌⊎◌, inl, inr, ◌≤◌, ◌<◌, ◌+◌, ◌-◌, ℕ, Bool, true, false, not, ◌&&◌, ◌||◌, eqb, cond, List, [], ◌∷◌, ◌++◌, length, filter, Option, Some, None, refl, sym, ap, subst, ◌∙◌, arith}
+use Rattle.std.proofs.Common.{◌≡◌, ◌⊎◌, inl, inr, ◌≤◌, ◌<◌, ◌+◌, ◌-◌, ℕ, Bool, true, false, not, ◌&&◌, ◌||◌, eqb, cond, List, [], ◌∷◌, ◌++◌, map, length, filter, Option, Some, None, refl, sym, ap, subst, ◌∙◌, arith}
 use Rattle.std.specs.List.{list_any}
 use Rattle.std.proofs.Math.Dec.{eqb-suc-zero}
 use Rattle.std.proofs.lemmas.List.{length-append}
@@ -10,6 +10,7 @@ use Rattle.mq_packet.specs.declared.packet.Packet.{Packet}
 use Rattle.mq_packet.specs.declared.packet.Packet.TheVariants as packets
 use Rattle.mq_packet.specs.Publication.{fits_delivery}
 use Rattle.mq_packet.specs.Spelling.{Spells, fields}
+use Rattle.mq_flow.specs.declared.entry.Entry.{Entry}
 use Rattle.mq_flow.specs.Sender.{publish_packet}
 use Rattle.mq_end.specs.declared.state.State.{State}
 use Rattle.mq_end.specs.declared.state.State.TheVariants.{Closed, Open, Up}
@@ -18,7 +19,7 @@ use Rattle.mq_end.specs.Both.{has_identifier, publishes_at}
 use Rattle.mq_end.specs.Sizes.{publish_size}
 use Rattle.mq_end.specs.State.{EndState, Room, Spelled, PutsOut}
 use Rattle.mq_end.specs.Publishing.{Accepts, room_left}
-use Rattle.mq_end.specs.Ready.{HasRoom, whole_size, packets_size, publishes_size, size_at_once}
+use Rattle.mq_end.specs.Ready.{AreSpellable, HasRoom, whole_size, packets_size, publishes_size, size_at_once}
 use Rattle.mq_end.specs.declared.happening.Happening.{Happening}
 use Rattle.mq_end.specs.declared.reason.CloseReason.{CloseReason}
 use Rattle.mq_end.specs.declared.reason.CloseReason.TheVariants as reasons
@@ -67,11 +68,30 @@ all_within (p ∷ ps) b h =
     let rest = all_within ps h.1 h.3 in
     omega arith
 
-put_within : (ps : List Packet) (old new : List ℕ) → PutsOut ps old new → length new ≤ length old + packets_size ps
+pub put_within : (ps : List Packet) (old new : List ℕ) → PutsOut ps old new → length new ≤ length old + packets_size ps
 put_within ps old new h =
     let e = ap length h.2 ∙ length-append old h.0 in
     let few = all_within ps h.0 h.1 in
     omega arith
+
+-- the bytes of a packet behind others
+pub behind_within : (p : Packet) (old new : List ℕ) → (b : List ℕ) × Spells p b × (new ≡ old ++ b) → length new ≤ length old + whole_size (length (fields p))
+behind_within p old new h =
+    let e = ap length h.2 ∙ length-append old h.0 in
+    let few = spelled_within p h.0 h.1 in
+    omega arith
+
+pub sizes_joined : (ps qs : List Packet) → packets_size (ps ++ qs) ≡ packets_size ps + packets_size qs
+sizes_joined [] qs = omega arith
+sizes_joined (p ∷ ps) qs = let rest = sizes_joined ps qs in omega arith
+
+pub second_spellable : (ps qs : List Packet) → AreSpellable (ps ++ qs) → AreSpellable qs
+second_spellable [] qs h = h
+second_spellable (p ∷ ps) qs h = second_spellable ps qs h.1
+
+-- the PUBLISHes of messages that are kept
+abbrev pub published : List Entry → List Packet
+published es = map (λ (e : Entry). publish_packet e.id e.sent e.message) es
 
 pub at_most_all : (s : State) (ms : List Message) → size_at_once s ms ≤ publishes_size ms
 at_most_all Closed ms = omega arith

@@ -14,4 +14,5 @@ pub mod Resuming
 pub mod Opening
 pub mod Requests
 pub mod Laws
+pub mod ReadyLaws
 pub mod Codes

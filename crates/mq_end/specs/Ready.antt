@@ -1,10 +1,16 @@
 -- What an end that is ready for messages has room for.
-use Rattle.std.specs.Prelude.{ℕ, ◌+◌, ◌≤◌, if◌then◌else◌, List, [], ◌∷◌, length, filter}
+use Rattle.std.specs.Prelude.{◌≡◌, ℕ, ◌+◌, ◌<◌, ◌≤◌, ◌^◌, Bool, false, if◌then◌else◌, List, [], ◌∷◌, length, filter}
+use Rattle.mq_topic.specs.declared.qos.Qos.TheVariants.{Q2}
+use Rattle.mq_packet.specs.declared.connect.Connect.{Connect}
 use Rattle.mq_packet.specs.declared.message.Message.{Message}
 use Rattle.mq_packet.specs.declared.packet.Packet.{Packet}
+use Rattle.mq_packet.specs.declared.packet.Packet.TheVariants as packets
 use Rattle.mq_packet.specs.Spelling.{fields}
+use Rattle.mq_flow.specs.Sender.{same_qos}
 use Rattle.mq_end.specs.declared.state.State.{State}
+use Rattle.mq_end.specs.declared.state.State.TheVariants.{Open}
 use Rattle.mq_end.specs.End.{is_up}
+use Rattle.mq_end.specs.Server.{opens, server_gets}
 use Rattle.mq_end.specs.Both.{has_identifier}
 use Rattle.mq_end.specs.Sizes.{publish_size}
 use Rattle.mq_end.specs.State.{EndState}
@@ -31,3 +37,30 @@ size_at_once state ms = if is_up state then publishes_size ms else 0
 pub record HasRoom (ms : List Message) (more : ℕ) (s : EndState) : Type 0 where
   pub messages : length (filter (λ m. has_identifier m.qos) ms) ≤ s.room.messages
   pub bytes : length s.output + (size_at_once s.end.state ms + more) ≤ s.room.bytes
+
+-- the packet is a PUBLISH of quality of service 2, whose identifier is stored (4.3.3)
+abbrev pub is_exactly_once : Packet → Bool
+is_exactly_once (packets.Publish p) = same_qos Q2 p.message.qos
+is_exactly_once p = false
+
+-- each of these packets has a remaining length that can be spelled (2.2.3)
+abbrev pub AreSpellable : List Packet → Type 0
+AreSpellable [] = Unit {0}
+AreSpellable (p ∷ ps) = (length (fields p) < 2 ^ 28) × AreSpellable ps
+
+-- An end has room for these packets to be put out: it takes no more memory for their bytes.
+abbrev pub FitsRoom : List Packet → EndState → Type 0
+FitsRoom ps s = length s.output + packets_size ps ≤ s.room.bytes
+
+-- An end has room to come up by this CONNECT on a new connection: for CONNACK and for all that is sent again (3.2, 4.4); and then for
+-- these messages to be published, and for so many bytes more.
+pub record HasRise (c : Connect) (ms : List Message) (more : ℕ) (s : EndState) : Type 0 where
+  pub messages : length (filter (λ m. has_identifier m.qos) ms) ≤ s.room.messages
+  pub bytes : packets_size (server_gets (packets.Connect c) (opens s.end).end).out + (publishes_size ms + more) ≤ s.room.bytes
+  pub spellable : AreSpellable (server_gets (packets.Connect c) (opens s.end).end).out
+
+-- An end waits for a CONNECT on a connection that was opened, and nothing was put out on it (3.1).
+pub record CanRise (s : EndState) : Type 0 where
+  pub state : s.end.state ≡ Open
+  pub clean : s.end.clean ≡ false
+  pub output : s.output ≡ []

@@ -1,11 +1,12 @@
 -- What comes of bytes that an open end receives, cut anywhere (4.2, 4.6, 4.8).
-use Rattle.std.specs.Prelude.{◌≡◌, ◌⊎◌, ℕ, Bool, false, not, ◌&&◌, if◌then◌else◌, ◌<◌, List, [], ◌∷◌, ◌++◌, length, Option, Some, None, IsSome}
+use Rattle.std.specs.Prelude.{◌≡◌, ◌⊎◌, ℕ, Bool, false, not, ◌&&◌, if◌then◌else◌, ◌<◌, List, [], ◌∷◌, ◌++◌, length, Option, Some, None, IsSome, option_to_list}
 use Rattle.mq_packet.specs.declared.packet.Packet.{Packet}
 use Rattle.mq_decode.specs.declared.fault.DecodeFault.{DecodeFault}
 use Rattle.mq_decode.specs.Limits.{Bounds}
 use Rattle.mq_decode.specs.Grammar.{Stream, Pending, Faulty}
 use Rattle.mq_end.specs.declared.happening.Happening.{Happening}
 use Rattle.mq_end.specs.declared.reason.CloseReason.{CloseReason}
+use Rattle.mq_end.specs.declared.outcome.Outcome.{Outcome}
 use Rattle.mq_end.specs.declared.role.Role.{Role}
 use Rattle.mq_end.specs.declared.role.Role.TheVariants.{Client, Server}
 use Rattle.mq_end.specs.declared.told.Told.{Told}
@@ -87,6 +88,14 @@ pub record Acts (r : Reply) (old new : EndState) : Type 0 where
   pub out : PutsOut r.out old.output new.output
   pub state : new ≡ record old { end = r.end; output = new.output; held = held_after r.close old.held }
 
+-- A reply is made: the end after it, its packets put out; and the outcome says what it tells.
+pub record Gives (r : Reply) (o : Outcome) (old new : EndState) : Type 0 where
+  pub out : PutsOut r.out old.output new.output
+  pub state : new ≡ record old { end = r.end; output = new.output; held = held_after r.close old.held }
+  pub happening : option_to_list o.happening ≡ r.happenings
+  pub acknowledged : option_to_list o.acknowledged ≡ r.freed
+  pub close : o.closed ≡ r.close
+
 -- A reply is made: the end after it, its packets put out, and what it tells behind what was told before.
 pub record Makes (r : Reply) (old new : EndState) (told now : Told) : Type 0 where
   pub out : PutsOut r.out old.output new.output
@@ -152,3 +161,21 @@ pub record TakesOne (now : ℕ) (p : Packet) (old new : EndState) (happenings : 
   pub does : (reply ≡ server_gets p old.end) ⊎ (reply ≡ closes reasons.Memory old.end)
   pub shows : Shows reply old new happenings acknowledged closed
   pub state : new ≡ record old { end = reply.end; output = new.output; held = held_after reply.close old.held; moment = heard_one reply.close now old.moment }
+
+-- A whole packet came to a server end with a connection, and this came of it: what is put out, all of the new state, and what the
+-- outcome tells.
+pub record TakesPacket (now : ℕ) (p : Packet) (o : Outcome) (old new : EndState) : Type 0 where
+  pub out : PutsOut (server_gets p old.end).out old.output new.output
+  pub state : new ≡ record old {
+    end = (server_gets p old.end).end;
+    output = new.output;
+    held = held_after (server_gets p old.end).close old.held;
+    moment = heard_one (server_gets p old.end).close now old.moment;
+  }
+  pub happening : option_to_list o.happening ≡ (server_gets p old.end).happenings
+  pub acknowledged : option_to_list o.acknowledged ≡ (server_gets p old.end).freed
+  pub close : o.closed ≡ (server_gets p old.end).close
+
+-- nothing came of it
+abbrev pub no_outcome : Outcome
+no_outcome = record { happening = None; acknowledged = None; closed = None }

@@ -1,16 +1,17 @@
 //! The packets of a message's flow, which both ends take in alike (4.3).
 
-ghost use Rattle.std.specs.Prelude.{◌≡◌, IfOk, OnOk, OnErr, None, Some};
+ghost use Rattle.std.specs.Prelude.{◌≡◌, false, IsOk, IfOk, OnOk, OnErr, None, Some};
 ghost use Rattle.mq_topic.specs.declared.qos.Qos.TheVariants.{Q1, Q2};
 ghost use Rattle.mq_packet.specs.declared.packet.Packet.TheVariants as packets;
 ghost use Rattle.mq_flow.specs.Receiver.{on_pubrel};
 ghost use Rattle.mq_end.specs.Both.{flow_gets, publish_gets, stores};
-ghost use Rattle.mq_end.specs.Receiving.{Acts, Makes, Stays};
+ghost use Rattle.mq_end.specs.Ready.{FitsRoom, is_exactly_once};
+ghost use Rattle.mq_end.specs.Receiving.{Acts, Gives};
 
 use crate::happening::Happening;
 use crate::link::Link;
+use crate::outcome::Outcome;
 use crate::reason::CloseReason;
-use crate::told::Told;
 use mq_flow::Receiver;
 use mq_packet::{Delivery, Message, Packet, PacketId, Publish};
 use mq_topic::Qos;
@@ -24,29 +25,18 @@ fn forget(receiver: &mut Receiver, id: PacketId)
 }
 
 impl Link {
-    /// A message is handed on (4.3.1).
-    fn hand_on(&mut self, message: Message, told: &mut Told) -> Result<(), AllocError>
-        ensures ok { OnOk result (Makes (publish_gets Qos.Q0 None message self.old.end) self.old self.new told.old told.new) }
-        ensures err { OnErr result (Stays self.old self.new told.old told.new) }
-    {
-        told.happenings.push(Happening::Handed(message))?;
-        Ok(())
-    }
-
     /// A message of quality of service 1: it is handed on, and PUBACK answers (4.3.2).
     fn take_at_least_once(
         &mut self,
         delivery: Delivery,
         message: Message,
-        told: &mut Told,
-    ) -> Result<(), AllocError>
-        ensures ok { OnOk result (Makes (publish_gets Q1 (Some delivery) message self.old.end) self.old self.new told.old told.new) }
-        ensures err { OnErr result (Stays self.old self.new told.old told.new) }
+    ) -> Result<Outcome, AllocError>
+        ensures ok { IfOk result (λ outcome. Gives (publish_gets Q1 (Some delivery) message self.old.end) outcome self.old self.new) }
+        ensures within { FitsRoom (publish_gets Q1 (Some delivery) message self.old.end).out self.old → IsOk result }
+        ensures err { OnErr result (self.new ≡ self.old) }
     {
-        told.happenings.reserve(1)?;
         self.write(&Packet::PubAck(delivery.id))?;
-        told.happenings.push_reserved(Happening::Handed(message));
-        Ok(())
+        Ok(Outcome::tells(Happening::Handed(message)))
     }
 
     /// A message of quality of service 2: its identifier is stored, and PUBREC answers; it is handed on where the
@@ -55,23 +45,20 @@ impl Link {
         &mut self,
         delivery: Delivery,
         message: Message,
-        told: &mut Told,
-    ) -> Result<(), AllocError>
-        ensures ok { OnOk result (Makes (stores delivery.id message self.old.end) self.old self.new told.old told.new) }
-        ensures err { OnErr result (Stays self.old self.new told.old told.new) }
+    ) -> Result<Outcome, AllocError>
+        ensures ok { IfOk result (λ outcome. Gives (stores delivery.id message self.old.end) outcome self.old self.new) }
+        ensures err { OnErr result (self.new ≡ self.old) }
     {
-        told.happenings.reserve(1)?;
         let before = self.output.len();
         self.write(&Packet::PubRec(delivery.id))?;
         match self.session.receiver.store(delivery.id) {
-            Ok(true) => told.happenings.push_reserved(Happening::Handed(message)),
-            Ok(false) => {}
+            Ok(true) => Ok(Outcome::tells(Happening::Handed(message))),
+            Ok(false) => Ok(Outcome::nothing()),
             Err(error) => {
                 self.output.truncate(before);
-                return Err(error);
+                Err(error)
             }
         }
-        Ok(())
     }
 
     /// A message of quality of service 2: where it doesn't fit the window the end closes (4.3.3, 4.8).
@@ -79,54 +66,47 @@ impl Link {
         &mut self,
         delivery: Delivery,
         message: Message,
-        told: &mut Told,
-    ) -> Result<Option<CloseReason>, AllocError>
-        ensures closed { IfOk result (λ closed. closed ≡ (publish_gets Q2 (Some delivery) message self.old.end).close) }
-        ensures ok { OnOk result (Makes (publish_gets Q2 (Some delivery) message self.old.end) self.old self.new told.old told.new) }
-        ensures err { OnErr result (Stays self.old self.new told.old told.new) }
+    ) -> Result<Outcome, AllocError>
+        ensures ok { IfOk result (λ outcome. Gives (publish_gets Q2 (Some delivery) message self.old.end) outcome self.old self.new) }
+        ensures err { OnErr result (self.new ≡ self.old) }
     {
         if !self.session.receiver.fits(delivery.id, self.window) {
-            return Ok(Some(self.close(CloseReason::Window)));
+            return Ok(Outcome::closes(self.close(CloseReason::Window)));
         }
-        self.take_exactly_once(delivery, message, told)?;
-        Ok(None)
+        self.take_exactly_once(delivery, message)
     }
 
     /// PUBLISH (3.3, 4.3).
-    fn take_publish(
-        &mut self,
-        publish: Publish,
-        told: &mut Told,
-    ) -> Result<Option<CloseReason>, AllocError>
-        ensures closed { IfOk result (λ closed. closed ≡ (flow_gets (packets.Publish publish) self.old.end).close) }
-        ensures ok { OnOk result (Makes (flow_gets (packets.Publish publish) self.old.end) self.old self.new told.old told.new) }
-        ensures err { OnErr result (Stays self.old self.new told.old told.new) }
+    fn take_publish(&mut self, publish: Publish) -> Result<Outcome, AllocError>
+        ensures ok { IfOk result (λ outcome. Gives (flow_gets (packets.Publish publish) self.old.end) outcome self.old self.new) }
+        ensures within { is_exactly_once (packets.Publish publish) ≡ false
+            → FitsRoom (flow_gets (packets.Publish publish) self.old.end).out self.old → IsOk result }
+        ensures err { OnErr result (self.new ≡ self.old) }
     {
         let delivery = publish.delivery();
         let message = publish.into_message();
         match (message.qos, delivery) {
-            (Qos::Q1, Some(delivery)) => self.take_at_least_once(delivery, message, told)?,
-            (Qos::Q2, Some(delivery)) => return self.take_within_window(delivery, message, told),
-            _ => self.hand_on(message, told)?,
+            (Qos::Q1, Some(delivery)) => self.take_at_least_once(delivery, message),
+            (Qos::Q2, Some(delivery)) => self.take_within_window(delivery, message),
+            _ => Ok(Outcome::tells(Happening::Handed(message))),
         }
-        Ok(None)
     }
 
     /// PUBACK (3.4, 4.3.2).
-    fn take_puback(&mut self, id: PacketId, told: &mut Told) -> Result<(), AllocError>
-        ensures ok { OnOk result (Makes (flow_gets (packets.PubAck id) self.old.end) self.old self.new told.old told.new) }
-        ensures err { OnErr result (Stays self.old self.new told.old told.new) }
+    fn take_puback(&mut self, id: PacketId) -> Outcome
+        ensures { Gives (flow_gets (packets.PubAck id) self.old.end) result self.old self.new }
     {
-        if self.session.sender.awaits_puback(id) {
-            told.acknowledged.push(id)?;
-            let _ = self.session.sender.on_puback(id);
+        if !self.session.sender.awaits_puback(id) {
+            return Outcome::nothing();
         }
-        Ok(())
+        let _ = self.session.sender.on_puback(id);
+        Outcome::acknowledges(id)
     }
 
     /// PUBREC, which PUBREL answers (3.5, 4.3.3).
     fn take_pubrec(&mut self, id: PacketId) -> Result<(), AllocError>
         ensures ok { OnOk result (Acts (flow_gets (packets.PubRec id) self.old.end) self.old self.new) }
+        ensures within { FitsRoom (flow_gets (packets.PubRec id) self.old.end).out self.old → IsOk result }
         ensures err { OnErr result (self.new ≡ self.old) }
     {
         if self.session.sender.awaits_pubrec(id) {
@@ -139,6 +119,7 @@ impl Link {
     /// PUBREL, which PUBCOMP answers (3.6, 4.3.3).
     fn take_pubrel(&mut self, id: PacketId) -> Result<(), AllocError>
         ensures ok { OnOk result (Acts (flow_gets (packets.PubRel id) self.old.end) self.old self.new) }
+        ensures within { FitsRoom (flow_gets (packets.PubRel id) self.old.end).out self.old → IsOk result }
         ensures err { OnErr result (self.new ≡ self.old) }
     {
         self.write(&Packet::PubComp(id))?;
@@ -153,26 +134,22 @@ impl Link {
         let _ = self.session.sender.on_pubcomp(id);
     }
 
-    /// A packet of a message's flow comes to an end that is up; any other closes it (4.3, 4.8). Answers why it closed,
-    /// where it did. Errs where memory runs out, and then nothing changes.
-    #[tactic(auto, using(crate::proofs::Replies::quiet))]
-    pub(crate) fn take_flow(
-        &mut self,
-        packet: Packet,
-        told: &mut Told,
-    ) -> Result<Option<CloseReason>, AllocError>
-        ensures closed { IfOk result (λ closed. closed ≡ (flow_gets packet self.old.end).close) }
-        ensures ok { OnOk result (Makes (flow_gets packet self.old.end) self.old self.new told.old told.new) }
-        ensures err { OnErr result (Stays self.old self.new told.old told.new) }
+    /// A packet of a message's flow comes to an end that is up; any other closes it (4.3, 4.8). Errs where memory runs out,
+    /// which it does within the room only where an identifier is stored, and then nothing changes.
+    #[tactic(auto, using(crate::proofs::Outcomes::quiet))]
+    pub(crate) fn take_flow(&mut self, packet: Packet) -> Result<Outcome, AllocError>
+        ensures ok { IfOk result (λ outcome. Gives (flow_gets packet self.old.end) outcome self.old self.new) }
+        ensures within { is_exactly_once packet ≡ false → FitsRoom (flow_gets packet self.old.end).out self.old → IsOk result }
+        ensures err { OnErr result (self.new ≡ self.old) }
     {
         match packet {
-            Packet::Publish(publish) => return self.take_publish(publish, told),
-            Packet::PubAck(id) => self.take_puback(id, told)?,
+            Packet::Publish(publish) => return self.take_publish(publish),
+            Packet::PubAck(id) => return Ok(self.take_puback(id)),
             Packet::PubRec(id) => self.take_pubrec(id)?,
             Packet::PubRel(id) => self.take_pubrel(id)?,
             Packet::PubComp(id) => self.take_pubcomp(id),
-            _ => return Ok(Some(self.close(CloseReason::Unexpected))),
+            _ => return Ok(Outcome::closes(self.close(CloseReason::Unexpected))),
         }
-        Ok(None)
+        Ok(Outcome::nothing())
     }
 }

@@ -1,6 +1,7 @@
 //! The laws of what an end does.
 
 ghost use Rattle.mq_end.specs.SizeLaws.{SizeLaws};
+ghost use Rattle.mq_end.specs.ReadyLaws.{ReadyLaws};
 ghost use Rattle.mq_end.specs.Laws.{ClosingLaws, SoundLaws, WindowLaws};
 ghost use Rattle.mq_end.specs.KeepAlive.{KeepAliveLaws};
 
@@ -30,4 +31,10 @@ pub fn size_laws()
 /// were stored before (4.3.3).
 pub fn window_laws()
     ensures { WindowLaws }
+{}
+
+/// A server end that is ready for messages accepts them one after another, memory aside, whatever packets come between and do not
+/// close it.
+pub fn ready_laws()
+    ensures { ReadyLaws }
 {}

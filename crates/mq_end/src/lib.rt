@@ -11,6 +11,7 @@ mod items;
 mod laws;
 mod link;
 mod opening;
+mod outcome;
 mod output;
 mod progress;
 mod publishing;
@@ -22,6 +23,7 @@ mod refusal;
 mod requesting;
 mod resending;
 mod resuming;
+mod rising;
 mod role;
 mod server;
 mod state;
@@ -32,7 +34,10 @@ pub use crate::client::ClientEnd;
 pub use crate::config::{ClientConfig, ServerConfig};
 pub use crate::happening::Happening;
 pub use crate::items::Items;
-pub use crate::laws::{closing_laws, keep_alive_laws, size_laws, sound_laws, window_laws};
+pub use crate::laws::{
+    closing_laws, keep_alive_laws, ready_laws, size_laws, sound_laws, window_laws,
+};
+pub use crate::outcome::Outcome;
 pub use crate::progress::Progress;
 pub use crate::queue::ByteQueue;
 pub use crate::reason::CloseReason;

@@ -6,6 +6,7 @@ ghost use Rattle.mq_flow.specs.Sender.{blank_book, all_sent};
 ghost use Rattle.mq_flow.specs.Receiver.{none_received};
 ghost use Rattle.mq_end.specs.End.{End, blank_end, over, renewed};
 ghost use Rattle.mq_end.specs.Ready.{whole_size};
+ghost use Rattle.mq_end.specs.Server.{opens};
 ghost use Rattle.mq_end.specs.State.{no_bytes, no_room};
 ghost use Rattle.mq_end.specs.declared.state.State.TheVariants as states;
 
@@ -134,6 +135,15 @@ impl Link {
     {
         self.end_connection();
         self.output.clear();
+    }
+
+    /// A connection is opened, at this moment; one that is open is lost first (4.2).
+    pub(crate) fn open_connection(&mut self, now: u64)
+        ensures { self.new ≡ record self.old { end = (opens self.old.end).end; held = []; output = []; moment = now } }
+    {
+        self.drop_connection();
+        self.state = State::Open;
+        self.moment = now;
     }
 
     /// A client's connection begins, with this clean session and keep-alive, at this moment; one that is open is over

@@ -1,6 +1,6 @@
 //! The first packet of a connection (3.1, 3.2), and what is sent again when an end comes up (4.4).
 
-ghost use Rattle.std.specs.Prelude.{◌≡◌, ◌∷◌, [], IfOk, OnOk, OnErr};
+ghost use Rattle.std.specs.Prelude.{◌≡◌, ◌∷◌, [], IsOk, IfOk, OnOk, OnErr};
 ghost use Rattle.mq_packet.specs.declared.packet.Packet.TheVariants as packets;
 ghost use Rattle.mq_packet.specs.declared.connack.ConnAck.TheVariants as connacks;
 ghost use Rattle.mq_flow.specs.Sender.{resent};
@@ -8,13 +8,14 @@ ghost use Rattle.mq_end.specs.Client.{client_open_gets, connack_gets};
 ghost use Rattle.mq_end.specs.Server.{server_open_gets, refuses};
 ghost use Rattle.mq_end.specs.End.{comes_up, renewed};
 ghost use Rattle.mq_end.specs.Opening.{accepts_connect, connack_in, terms_get, terms_in, terms_of};
-ghost use Rattle.mq_end.specs.Receiving.{Makes, Stays};
+ghost use Rattle.mq_end.specs.Ready.{AreSpellable, FitsRoom};
+ghost use Rattle.mq_end.specs.Receiving.{Acts, Gives};
 ghost use Rattle.mq_end.specs.State.{PutsOut};
 
 use crate::happening::Happening;
 use crate::link::Link;
+use crate::outcome::Outcome;
 use crate::reason::CloseReason;
-use crate::told::Told;
 use mq_packet::{ConnAck, Connect, Packet, RefusalCode};
 use std::alloc::AllocError;
 
@@ -59,70 +60,55 @@ fn terms_of(connect: &Connect) -> Terms
 
 impl Link {
     /// The client is up (4.4).
-    fn come_up(&mut self, session_present: bool, told: &mut Told) -> Result<(), AllocError>
-        ensures ok { OnOk result (Makes (comes_up [] session_present self.old.end) self.old self.new told.old told.new) }
-        ensures err { OnErr result (Stays self.old self.new told.old told.new) }
+    fn come_up(&mut self, session_present: bool) -> Result<Outcome, AllocError>
+        ensures ok { IfOk result (λ outcome. Gives (comes_up [] session_present self.old.end) outcome self.old self.new) }
+        ensures err { OnErr result (self.new ≡ self.old) }
     {
-        told.happenings.reserve(1)?;
         self.write_resent()?;
-        told.happenings
-            .push_reserved(Happening::Up { session_present });
         self.rise();
-        Ok(())
+        Ok(Outcome::tells(Happening::Up { session_present }))
     }
 
     /// CONNACK comes to a client that waits for it (3.2).
-    fn take_connack(
-        &mut self,
-        answer: ConnAck,
-        told: &mut Told,
-    ) -> Result<Option<CloseReason>, AllocError>
-        ensures closed { IfOk result (λ closed. closed ≡ (connack_gets answer self.old.end).close) }
-        ensures ok { OnOk result (Makes (connack_gets answer self.old.end) self.old self.new told.old told.new) }
-        ensures err { OnErr result (Stays self.old self.new told.old told.new) }
+    fn take_connack(&mut self, answer: ConnAck) -> Result<Outcome, AllocError>
+        ensures ok { IfOk result (λ outcome. Gives (connack_gets answer self.old.end) outcome self.old self.new) }
+        ensures err { OnErr result (self.new ≡ self.old) }
     {
         let session_present = match answer {
-            ConnAck::Refused(code) => return Ok(Some(self.close(CloseReason::Refused(code)))),
+            ConnAck::Refused(code) => {
+                return Ok(Outcome::closes(self.close(CloseReason::Refused(code))));
+            }
             ConnAck::Accepted { session_present } => session_present,
         };
         if self.clean && session_present {
-            return Ok(Some(self.close(CloseReason::Unexpected)));
+            return Ok(Outcome::closes(self.close(CloseReason::Unexpected)));
         }
         if !self.clean && self.known && !session_present {
-            return Ok(Some(self.close(CloseReason::SessionLost)));
+            return Ok(Outcome::closes(self.close(CloseReason::SessionLost)));
         }
-        self.come_up(session_present, told)?;
-        Ok(None)
+        self.come_up(session_present)
     }
 
     /// The first packet comes to the client (3.2).
-    pub(crate) fn open_client(
-        &mut self,
-        packet: Packet,
-        told: &mut Told,
-    ) -> Result<Option<CloseReason>, AllocError>
-        ensures closed { IfOk result (λ closed. closed ≡ (client_open_gets packet self.old.end).close) }
-        ensures ok { OnOk result (Makes (client_open_gets packet self.old.end) self.old self.new told.old told.new) }
-        ensures err { OnErr result (Stays self.old self.new told.old told.new) }
+    pub(crate) fn open_client(&mut self, packet: Packet) -> Result<Outcome, AllocError>
+        ensures ok { IfOk result (λ outcome. Gives (client_open_gets packet self.old.end) outcome self.old self.new) }
+        ensures err { OnErr result (self.new ≡ self.old) }
     {
         match connack_in(packet) {
-            Some(answer) => self.take_connack(answer, told),
-            None => Ok(Some(self.close(CloseReason::Unexpected))),
+            Some(answer) => self.take_connack(answer),
+            None => Ok(Outcome::closes(self.close(CloseReason::Unexpected))),
         }
     }
 
-    /// CONNECT is refused: CONNACK says why, and the end closes (3.2.2.3).
-    pub(crate) fn refuse(
-        &mut self,
-        code: RefusalCode,
-        told: &mut Told,
-    ) -> Result<Option<CloseReason>, AllocError>
-        ensures closed { IfOk result (λ closed. closed ≡ (refuses code self.old.end).close) }
-        ensures ok { OnOk result (Makes (refuses code self.old.end) self.old self.new told.old told.new) }
-        ensures err { OnErr result (Stays self.old self.new told.old told.new) }
+    /// CONNECT is refused: CONNACK says why, and the end closes, for this reason (3.2.2.3).
+    pub(crate) fn refuse(&mut self, code: RefusalCode) -> Result<CloseReason, AllocError>
+        ensures reason { IfOk result (λ reason. reason ≡ CloseReason.Refused code) }
+        ensures ok { OnOk result (Acts (refuses code self.old.end) self.old self.new) }
+        ensures within { FitsRoom (refuses code self.old.end).out self.old → IsOk result }
+        ensures err { OnErr result (self.new ≡ self.old) }
     {
         self.write(&Packet::ConnAck(ConnAck::Refused(code)))?;
-        Ok(Some(self.close(CloseReason::Refused(code))))
+        Ok(self.close(CloseReason::Refused(code)))
     }
 
     /// Puts out what answers a CONNECT that is accepted: CONNACK, and what is sent again (3.2, 4.4). Errs where memory runs
@@ -131,6 +117,9 @@ impl Link {
         ensures ok { OnOk result (PutsOut (packets.ConnAck (connacks.Accepted session_present)
             ∷ resent (renewed clean self.old.end).book) self.old.output self.new.output) }
         ensures state { self.new ≡ record self.old { output = self.new.output } }
+        ensures within { AreSpellable (resent (renewed clean self.old.end).book)
+            → FitsRoom (packets.ConnAck (connacks.Accepted session_present) ∷ resent (renewed clean self.old.end).book) self.old
+            → IsOk result }
         ensures err { OnErr result (self.new ≡ self.old) }
     {
         let before = self.output.len();
@@ -146,56 +135,44 @@ impl Link {
     }
 
     /// CONNECT is accepted (3.1.4).
-    fn accept_connect(
-        &mut self,
-        terms: Terms,
-        session_present: bool,
-        told: &mut Told,
-    ) -> Result<(), AllocError>
-        ensures ok { OnOk result (Makes (accepts_connect terms session_present self.old.end) self.old self.new told.old told.new) }
-        ensures err { OnErr result (Stays self.old self.new told.old told.new) }
+    fn accept_connect(&mut self, terms: Terms, session_present: bool) -> Result<Outcome, AllocError>
+        ensures ok { IfOk result (λ outcome. Gives (accepts_connect terms session_present self.old.end) outcome self.old self.new) }
+        ensures within { AreSpellable (resent (renewed terms.clean self.old.end).book)
+            → FitsRoom (accepts_connect terms session_present self.old.end).out self.old → IsOk result }
+        ensures err { OnErr result (self.new ≡ self.old) }
     {
-        told.happenings.reserve(1)?;
         self.write_accepted(terms.clean, session_present)?;
-        told.happenings
-            .push_reserved(Happening::Up { session_present });
         self.renew(terms.clean);
         self.keep_alive = terms.keep_alive;
         self.rise();
-        Ok(())
+        Ok(Outcome::tells(Happening::Up { session_present }))
     }
 
     /// CONNECT comes to a server that waits for it (3.1.4).
-    fn take_connect(
-        &mut self,
-        terms: Terms,
-        told: &mut Told,
-    ) -> Result<Option<CloseReason>, AllocError>
-        ensures closed { IfOk result (λ closed. closed ≡ (terms_get terms self.old.end).close) }
-        ensures ok { OnOk result (Makes (terms_get terms self.old.end) self.old self.new told.old told.new) }
-        ensures err { OnErr result (Stays self.old self.new told.old told.new) }
+    fn take_connect(&mut self, terms: Terms) -> Result<Outcome, AllocError>
+        ensures ok { IfOk result (λ outcome. Gives (terms_get terms self.old.end) outcome self.old self.new) }
+        ensures within { AreSpellable (terms_get terms self.old.end).out → FitsRoom (terms_get terms self.old.end).out self.old
+            → IsOk result }
+        ensures err { OnErr result (self.new ≡ self.old) }
     {
         if !terms.clean && terms.anonymous {
-            return self.refuse(RefusalCode::IdentifierRejected, told);
+            let reason = self.refuse(RefusalCode::IdentifierRejected)?;
+            return Ok(Outcome::closes(reason));
         }
         let session_present = !terms.clean && self.known;
-        self.accept_connect(terms, session_present, told)?;
-        Ok(None)
+        self.accept_connect(terms, session_present)
     }
 
     /// The first packet comes to the server (3.1).
-    pub(crate) fn open_server(
-        &mut self,
-        packet: Packet,
-        told: &mut Told,
-    ) -> Result<Option<CloseReason>, AllocError>
-        ensures closed { IfOk result (λ closed. closed ≡ (server_open_gets packet self.old.end).close) }
-        ensures ok { OnOk result (Makes (server_open_gets packet self.old.end) self.old self.new told.old told.new) }
-        ensures err { OnErr result (Stays self.old self.new told.old told.new) }
+    pub(crate) fn open_server(&mut self, packet: Packet) -> Result<Outcome, AllocError>
+        ensures ok { IfOk result (λ outcome. Gives (server_open_gets packet self.old.end) outcome self.old self.new) }
+        ensures within { AreSpellable (server_open_gets packet self.old.end).out
+            → FitsRoom (server_open_gets packet self.old.end).out self.old → IsOk result }
+        ensures err { OnErr result (self.new ≡ self.old) }
     {
         match terms_in(packet) {
-            Some(terms) => self.take_connect(terms, told),
-            None => Ok(Some(self.close(CloseReason::Unexpected))),
+            Some(terms) => self.take_connect(terms),
+            None => Ok(Outcome::closes(self.close(CloseReason::Unexpected))),
         }
     }
 }

@@ -41,8 +41,8 @@ fn has_too_large(messages: &[Message], limit: u32) -> bool
     false
 }
 
-// How many of the messages get an identifier (2.3.1).
-fn count_identified(messages: &[Message]) -> usize
+/// How many of the messages get an identifier (2.3.1).
+pub(crate) fn count_identified(messages: &[Message]) -> usize
     ensures { result ≡ length (filter (λ m. has_identifier m.qos) messages.now) }
 {
     let mut count = 0;
@@ -54,8 +54,8 @@ fn count_identified(messages: &[Message]) -> usize
     count
 }
 
-// The most bytes of their PUBLISHes, `None` where a machine can't count them.
-fn size_of_all(messages: &[Message]) -> Option<usize>
+/// The most bytes of their PUBLISHes, `None` where a machine can't count them.
+pub(crate) fn size_of_all(messages: &[Message]) -> Option<usize>
     ensures { IfSome result (λ size. size ≡ publishes_size messages.now) }
 {
     let mut size: usize = 0;

@@ -1,12 +1,16 @@
 //! Bytes that come to an end (4.2, 4.8).
 
-ghost use Rattle.std.specs.Prelude.{◌≡◌, ◌++◌, [], true, false, IfErr, OnOk, None, Some};
+ghost use Rattle.std.specs.Prelude.{◌≡◌, ◌++◌, [], true, false, IsOk, IfOk, IfErr, OnOk, OnErr, Ok, None, Some};
 ghost use Rattle.mq_decode.specs.Grammar.{Goes, Stops};
-ghost use Rattle.mq_end.specs.End.{Reply, is_live};
+ghost use Rattle.mq_end.specs.declared.state.State.TheVariants as states;
+ghost use Rattle.mq_end.specs.End.{Reply, is_live, is_up};
 ghost use Rattle.mq_end.specs.Laws.{KeepsWindow};
-ghost use Rattle.mq_end.specs.Receiving.{HeardAs, Hears, IsBreak, Makes, ReceivesAs, TakesOne, heard_as, is_answered};
+ghost use Rattle.mq_end.specs.Ready.{AreSpellable, FitsRoom, is_exactly_once};
+ghost use Rattle.mq_end.specs.Server.{server_gets};
+ghost use Rattle.mq_end.specs.Receiving.{Acts, HeardAs, Hears, IsBreak, ReceivesAs, TakesOne, TakesPacket, heard_as, is_answered, no_outcome};
 
 use crate::link::Link;
+use crate::outcome::Outcome;
 use crate::progress::Progress;
 use crate::reason::CloseReason;
 use crate::role::Role;
@@ -14,6 +18,7 @@ use crate::state::State;
 use crate::told::Told;
 use mq_decode::{DecodeError, DecodeFault, FaultKind, reads_again};
 use mq_packet::{Packet, RefusalCode};
+use std::alloc::AllocError;
 
 impl Link {
     /// Takes the whole packets out of what is held and a piece. After an error nothing is held.
@@ -44,15 +49,14 @@ impl Link {
     }
 
     /// Bytes that are no packet came (4.8).
-    fn break_off(&mut self, role: Role, fault: DecodeFault, told: &mut Told) -> CloseReason
-        ensures { (r : Reply) × IsBreak role fault self.old.end r × (Some result ≡ r.close)
-            × Makes r self.old self.new told.old told.new }
+    fn break_off(&mut self, role: Role, fault: DecodeFault) -> CloseReason
+        ensures { (r : Reply) × IsBreak role fault self.old.end r × (Some result ≡ r.close) × Acts r self.old self.new }
     {
         if !self.is_answered(role, fault) {
             return self.close(CloseReason::Fault(fault));
         }
-        match self.refuse(RefusalCode::UnacceptableProtocolVersion, told) {
-            Ok(_) => CloseReason::Refused(RefusalCode::UnacceptableProtocolVersion),
+        match self.refuse(RefusalCode::UnacceptableProtocolVersion) {
+            Ok(reason) => reason,
             Err(_) => self.close(CloseReason::Memory),
         }
     }
@@ -88,9 +92,29 @@ impl Link {
                     None
                 }
                 Err(DecodeError::Memory) => Some(self.close(CloseReason::Memory)),
-                Err(DecodeError::Fault(fault)) => Some(self.break_off(role, fault, told)),
+                Err(DecodeError::Fault(fault)) => Some(self.break_off(role, fault)),
             },
         }
+    }
+
+    /// A whole packet comes to the server, at this moment. Without a connection it is ignored. Errs where memory runs out, which it
+    /// does within the room only where an identifier is stored, and then nothing changes.
+    pub(crate) fn take_packet(&mut self, now: u64, packet: Packet) -> Result<Outcome, AllocError>
+        ensures open { is_live self.old.end.state ≡ true → IfOk result (λ outcome. TakesPacket now packet outcome self.old self.new) }
+        ensures closed { is_live self.old.end.state ≡ false → self.new ≡ self.old }
+        ensures nothing { is_live self.old.end.state ≡ false → result ≡ Ok no_outcome }
+        ensures up { is_up self.old.end.state ≡ true → is_exactly_once packet ≡ false
+            → FitsRoom (server_gets packet self.old.end).out self.old → IsOk result }
+        ensures rises { self.old.end.state ≡ states.Open → AreSpellable (server_gets packet self.old.end).out
+            → FitsRoom (server_gets packet self.old.end).out self.old → IsOk result }
+        ensures err { OnErr result (self.new ≡ self.old) }
+    {
+        if self.state == State::Closed {
+            return Ok(Outcome::nothing());
+        }
+        let outcome = self.take_server(packet)?;
+        self.hear(Role::Server, now, outcome.closed.is_none());
+        Ok(outcome)
     }
 
     /// A whole packet comes to the server, at this moment. Without a connection it is ignored.

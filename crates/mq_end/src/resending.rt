@@ -1,10 +1,11 @@
 //! What is sent again when an end comes up (4.4).
 
-ghost use Rattle.std.specs.Prelude.{◌≡◌, ◌++◌, false, List, ℕ, map, OnOk, OnErr};
+ghost use Rattle.std.specs.Prelude.{◌≡◌, ◌+◌, ◌≤◌, ◌++◌, false, List, ℕ, length, map, IsOk, OnOk, OnErr};
 ghost use Rattle.std.specs.List.{list_any};
 ghost use Rattle.mq_topic.specs.declared.qos.Qos.TheVariants.{Q0};
 ghost use Rattle.mq_packet.specs.declared.packet.Packet.TheVariants as packets;
 ghost use Rattle.mq_flow.specs.Sender.{resent, publish_packet, same_qos};
+ghost use Rattle.mq_end.specs.Ready.{AreSpellable, FitsRoom, packets_size};
 ghost use Rattle.mq_end.specs.State.{PutsOut};
 
 use crate::link::Link;
@@ -18,6 +19,7 @@ impl Link {
     pub(crate) fn write_resent(&mut self) -> Result<(), AllocError>
         ensures ok { OnOk result (PutsOut (resent self.old.end.book) self.old.output self.new.output) }
         ensures state { self.new ≡ record self.old { output = self.new.output } }
+        ensures within { AreSpellable (resent self.old.end.book) → FitsRoom (resent self.old.end.book) self.old → IsOk result }
         ensures err { OnErr result (self.new ≡ self.old) }
     {
         let before = self.output.len();
@@ -34,6 +36,8 @@ impl Link {
 fn put_resent(output: &mut Output, sender: &Sender) -> Result<(), AllocError>
     ensures ok { OnOk result (PutsOut (resent sender.now.book) output.old.bytes output.new.bytes) }
     ensures room { output.new.room ≡ output.old.room }
+    ensures within { AreSpellable (resent sender.now.book)
+        → length output.old.bytes + packets_size (resent sender.now.book) ≤ output.old.room → IsOk result }
     ensures err { OnErr result ((rest : List ℕ) × (output.new.bytes ≡ output.old.bytes ++ rest)) }
 {
     put_releases(output, sender.releases())?;
@@ -45,6 +49,7 @@ fn put_resent(output: &mut Output, sender: &Sender) -> Result<(), AllocError>
 fn put_releases(output: &mut Output, released: Releases<'_>) -> Result<(), AllocError>
     ensures ok { OnOk result (PutsOut (map packets.PubRel released.entry) output.old.bytes output.new.bytes) }
     ensures room { output.new.room ≡ output.old.room }
+    ensures within { length output.old.bytes + packets_size (map packets.PubRel released.entry) ≤ output.old.room → IsOk result }
     ensures err { OnErr result ((rest : List ℕ) × (output.new.bytes ≡ output.old.bytes ++ rest)) }
 {
     for id in released {
@@ -59,6 +64,9 @@ fn put_messages(output: &mut Output, entries: Entries<'_>) -> Result<(), AllocEr
     requires { list_any (λ e. same_qos Q0 e.message.qos) entries ≡ false }
     ensures ok { OnOk result (PutsOut (map (λ e. publish_packet e.id e.sent e.message) entries.entry) output.old.bytes output.new.bytes) }
     ensures room { output.new.room ≡ output.old.room }
+    ensures within { AreSpellable (map (λ e. publish_packet e.id e.sent e.message) entries.entry)
+        → length output.old.bytes + packets_size (map (λ e. publish_packet e.id e.sent e.message) entries.entry) ≤ output.old.room
+        → IsOk result }
     ensures err { OnErr result ((rest : List ℕ) × (output.new.bytes ≡ output.old.bytes ++ rest)) }
 {
     for entry in entries {

@@ -1,11 +1,11 @@
 //! The server end.
 
-ghost use Rattle.std.specs.Prelude.{◌≡◌, ◌+◌, ◌<◌, ◌≤◌, ◌++◌, ◌↔◌, ℕ, List, [], ◌∷◌, true, false, length, drop, IsOk, IfOk, IfErr, IfSome, IfNone, IsSome, OnOk, OnErr, Err, None, Some};
+ghost use Rattle.std.specs.Prelude.{◌≡◌, ◌+◌, ◌<◌, ◌≤◌, ◌++◌, ◌↔◌, ℕ, List, [], ◌∷◌, true, false, length, drop, IsOk, IfOk, IfErr, IfSome, IfNone, IsSome, OnOk, OnErr, Ok, Err, None, Some};
 ghost use Rattle.mq_end.specs.End.{blank_end, is_live, is_up, over, resumed};
 ghost use Rattle.mq_end.specs.Server.{would_hand, opens, ready_refusal, server_gets, server_publish_refusal, subacks, suback_refusal, unsubacks, unsuback_refusal};
-ghost use Rattle.mq_end.specs.Receiving.{Acts, HearsAt, ServerReceives, TakesOne};
+ghost use Rattle.mq_end.specs.Receiving.{Acts, HearsAt, ServerReceives, TakesOne, TakesPacket, no_outcome};
 ghost use Rattle.mq_end.specs.Publishing.{Accepts};
-ghost use Rattle.mq_end.specs.Ready.{HasRoom, packets_size, whole_size};
+ghost use Rattle.mq_end.specs.Ready.{CanRise, FitsRoom, HasRise, HasRoom, is_exactly_once, packets_size, whole_size};
 ghost use Rattle.mq_end.specs.Sizes.{suback_size, unsuback_size};
 ghost use Rattle.mq_end.specs.State.{bytes_less, no_bytes, no_room};
 ghost use Rattle.mq_end.specs.KeepAlive.{server_ticks};
@@ -14,6 +14,7 @@ ghost use Rattle.mq_end.specs.Resuming.{FitsWithin};
 
 use crate::config::ServerConfig;
 use crate::link::Link;
+use crate::outcome::Outcome;
 use crate::progress::Progress;
 use crate::queue::ByteQueue;
 use crate::reason::CloseReason;
@@ -22,9 +23,9 @@ use crate::resuming::fits_within;
 use crate::role::Role;
 use crate::state::State;
 use mq_flow::Session;
-use mq_packet::{Message, NonEmpty, Packet, PacketId, Publish, SubAckCode};
+use mq_packet::{Connect, Message, NonEmpty, Packet, PacketId, Publish, SubAckCode};
 use mq_topic::Qos;
-use std::alloc::Global;
+use std::alloc::{AllocError, Global};
 use std::marker::Model;
 
 /// The server end of one client's connections, one after another, with the client's session (3.1.2.4). Bytes go in, and
@@ -95,10 +96,10 @@ impl ServerEnd {
         ensures capacity { self.new.capacity ≡ self.old.capacity }
         ensures moment { self.new.moment ≡ now }
         ensures room { self.new.room ≡ self.old.room }
+        ensures waits { CanRise self.new }
+        ensures rise { (c : Connect) (ms : List Message) (more : ℕ) → HasRise c ms more self.old → HasRise c ms more self.new }
     {
-        self.link.drop_connection();
-        self.link.state = State::Open;
-        self.link.moment = now;
+        self.link.open_connection(now);
     }
 
     /// Bytes come from the client, at this moment. Without a connection they are ignored. The whole packets among them
@@ -129,6 +130,42 @@ impl ServerEnd {
             → HasRoom ms (packets_size (server_gets packet self.old.end).out + more) self.old → HasRoom ms more self.new }
     {
         self.link.on_packet(now, packet)
+    }
+
+    /// A whole packet comes from the client, at this moment: as `on_packet`, but no list is made of what comes of it, and where memory
+    /// runs out nothing changes. Without a connection the packet is ignored. Within the room that an end has that is up, memory runs
+    /// out only where an identifier is stored, of a message of quality of service 2 (4.3.3); and not where an end that has room to rise
+    /// takes the CONNECT in.
+    pub fn take_packet(&mut self, now: u64, packet: Packet) -> Result<Outcome, AllocError>
+        ensures open { is_live self.old.end.state ≡ true → IfOk result (λ outcome. TakesPacket now packet outcome self.old self.new) }
+        ensures closed { is_live self.old.end.state ≡ false → self.new ≡ self.old }
+        ensures nothing { is_live self.old.end.state ≡ false → result ≡ Ok no_outcome }
+        ensures within { is_up self.old.end.state ≡ true → is_exactly_once packet ≡ false
+            → FitsRoom (server_gets packet self.old.end).out self.old → IsOk result }
+        ensures kept { is_up self.old.end.state ≡ true → (ms : List Message) (more : ℕ)
+            → HasRoom ms (packets_size (server_gets packet self.old.end).out + more) self.old → HasRoom ms more self.new }
+        ensures rises { (c : Connect) → packet ≡ Packet.Connect c → CanRise self.old → (ms : List Message) (more : ℕ)
+            → HasRise c ms more self.old → IsOk result × HasRoom ms more self.new }
+        ensures err { OnErr result (self.new ≡ self.old) }
+    {
+        self.link.take_packet(now, packet)
+    }
+
+    /// Makes room to come up by this CONNECT on a new connection: for CONNACK and for all that is sent again, and then for messages to
+    /// be published and for so many bytes more (3.2, 4.4). So `opened` and a `take_packet` of the CONNECT are not refused. Errs where
+    /// memory runs out; no room that was made before is lost.
+    pub fn ready_to_rise(
+        &mut self,
+        connect: &Connect,
+        messages: &[Message],
+        more: usize,
+    ) -> Result<(), AllocError>
+        ensures room { OnOk result (HasRise connect.now messages.now more self.new) }
+        ensures same { self.new ≡ record self.old { room = self.new.room } }
+        ensures before { (ms : List Message) (n : ℕ) → HasRoom ms n self.old → HasRoom ms n self.new }
+        ensures rise { (c : Connect) (ms : List Message) (n : ℕ) → HasRise c ms n self.old → HasRise c ms n self.new }
+    {
+        self.link.ready_to_rise(connect, messages, more)
     }
 
     /// Whether a packet that comes now hands a message on, memory aside (4.3). It takes no memory.
@@ -242,6 +279,7 @@ impl ServerEnd {
         ensures capacity { self.new.capacity ≡ self.old.capacity }
         ensures moment { self.new.moment ≡ self.old.moment }
         ensures room { self.new.room ≡ self.old.room }
+        ensures rise { (c : Connect) (ms : List Message) (more : ℕ) → HasRise c ms more self.old → HasRise c ms more self.new }
     {
         self.link.drop_connection();
     }

@@ -1,13 +1,16 @@
 //! Packets that come to an end, one after another (4.6).
 
-ghost use Rattle.std.specs.Prelude.{◌≡◌, IfOk, OnOk, OnErr};
-ghost use Rattle.mq_end.specs.End.{Reply};
+ghost use Rattle.std.specs.Prelude.{◌≡◌, true, false, IsOk, IfOk, OnOk, OnErr};
+ghost use Rattle.mq_end.specs.declared.state.State.TheVariants as states;
+ghost use Rattle.mq_end.specs.End.{Reply, is_up};
 ghost use Rattle.mq_end.specs.Client.{client_gets, client_up_gets};
 ghost use Rattle.mq_end.specs.Server.{server_gets, server_up_gets};
-ghost use Rattle.mq_end.specs.Receiving.{Makes, Stays, Taken, gets_as};
+ghost use Rattle.mq_end.specs.Ready.{AreSpellable, FitsRoom, is_exactly_once};
+ghost use Rattle.mq_end.specs.Receiving.{Gives, Makes, Stays, Taken, gets_as};
 
 use crate::happening::Happening;
 use crate::link::Link;
+use crate::outcome::Outcome;
 use crate::reason::CloseReason;
 use crate::role::Role;
 use crate::state::State;
@@ -17,91 +20,106 @@ use std::alloc::AllocError;
 
 impl Link {
     /// SUBACK comes to the client (3.9).
-    fn take_suback(
-        &mut self,
-        id: PacketId,
-        codes: NonEmpty<SubAckCode>,
-        told: &mut Told,
-    ) -> Result<Option<CloseReason>, AllocError>
-        ensures closed { IfOk result (λ closed. closed ≡ (client_up_gets (Packet.SubAck id codes) self.old.end).close) }
-        ensures ok { OnOk result (Makes (client_up_gets (Packet.SubAck id codes) self.old.end) self.old self.new told.old told.new) }
-        ensures err { OnErr result (Stays self.old self.new told.old told.new) }
+    fn take_suback(&mut self, id: PacketId, codes: NonEmpty<SubAckCode>) -> Outcome
+        ensures { Gives (client_up_gets (Packet.SubAck id codes) self.old.end) result self.old self.new }
     {
         let count = codes.as_slice().len();
         if !self.session.sender.awaits_suback(id, count) {
-            return Ok(Some(self.close(CloseReason::Unexpected)));
+            return Outcome::closes(self.close(CloseReason::Unexpected));
         }
-        told.happenings.push(Happening::SubAck { id, codes })?;
         self.session.sender.release_id(id);
-        Ok(None)
+        Outcome::tells(Happening::SubAck { id, codes })
     }
 
     /// UNSUBACK comes to the client (3.11).
-    fn take_unsuback(
-        &mut self,
-        id: PacketId,
-        told: &mut Told,
-    ) -> Result<Option<CloseReason>, AllocError>
-        ensures closed { IfOk result (λ closed. closed ≡ (client_up_gets (Packet.UnsubAck id) self.old.end).close) }
-        ensures ok { OnOk result (Makes (client_up_gets (Packet.UnsubAck id) self.old.end) self.old self.new told.old told.new) }
-        ensures err { OnErr result (Stays self.old self.new told.old told.new) }
+    fn take_unsuback(&mut self, id: PacketId) -> Outcome
+        ensures { Gives (client_up_gets (Packet.UnsubAck id) self.old.end) result self.old self.new }
     {
         if !self.session.sender.awaits_unsuback(id) {
-            return Ok(Some(self.close(CloseReason::Unexpected)));
+            return Outcome::closes(self.close(CloseReason::Unexpected));
         }
-        told.happenings.push(Happening::UnsubAck(id))?;
         self.session.sender.release_id(id);
-        Ok(None)
+        Outcome::tells(Happening::UnsubAck(id))
     }
 
     /// A packet comes to a client that is up.
-    fn take_up_client(
-        &mut self,
-        packet: Packet,
-        told: &mut Told,
-    ) -> Result<Option<CloseReason>, AllocError>
-        ensures closed { IfOk result (λ closed. closed ≡ (client_up_gets packet self.old.end).close) }
-        ensures ok { OnOk result (Makes (client_up_gets packet self.old.end) self.old self.new told.old told.new) }
-        ensures err { OnErr result (Stays self.old self.new told.old told.new) }
+    fn take_up_client(&mut self, packet: Packet) -> Result<Outcome, AllocError>
+        ensures ok { IfOk result (λ outcome. Gives (client_up_gets packet self.old.end) outcome self.old self.new) }
+        ensures err { OnErr result (self.new ≡ self.old) }
     {
         match packet {
-            Packet::SubAck { id, codes } => self.take_suback(id, codes, told),
-            Packet::UnsubAck(id) => self.take_unsuback(id, told),
-            Packet::PingResp => {
-                told.happenings.push(Happening::Pong)?;
-                Ok(None)
-            }
-            packet => self.take_flow(packet, told),
+            Packet::SubAck { id, codes } => Ok(self.take_suback(id, codes)),
+            Packet::UnsubAck(id) => Ok(self.take_unsuback(id)),
+            Packet::PingResp => Ok(Outcome::tells(Happening::Pong)),
+            packet => self.take_flow(packet),
         }
     }
 
     /// A packet comes to a server that is up.
-    fn take_up_server(
-        &mut self,
-        packet: Packet,
-        told: &mut Told,
-    ) -> Result<Option<CloseReason>, AllocError>
-        ensures closed { IfOk result (λ closed. closed ≡ (server_up_gets packet self.old.end).close) }
-        ensures ok { OnOk result (Makes (server_up_gets packet self.old.end) self.old self.new told.old told.new) }
-        ensures err { OnErr result (Stays self.old self.new told.old told.new) }
+    fn take_up_server(&mut self, packet: Packet) -> Result<Outcome, AllocError>
+        ensures ok { IfOk result (λ outcome. Gives (server_up_gets packet self.old.end) outcome self.old self.new) }
+        ensures within { is_exactly_once packet ≡ false → FitsRoom (server_up_gets packet self.old.end).out self.old → IsOk result }
+        ensures err { OnErr result (self.new ≡ self.old) }
     {
         match packet {
             Packet::Subscribe { id, requests } => {
-                told.happenings.push(Happening::Subscribe { id, requests })?;
+                Ok(Outcome::tells(Happening::Subscribe { id, requests }))
             }
             Packet::Unsubscribe { id, filters } => {
-                told.happenings
-                    .push(Happening::Unsubscribe { id, filters })?;
+                Ok(Outcome::tells(Happening::Unsubscribe { id, filters }))
             }
-            Packet::PingReq => self.write(&Packet::PingResp)?,
-            Packet::Disconnect => return Ok(Some(self.close(CloseReason::Left))),
-            packet => return self.take_flow(packet, told),
+            Packet::PingReq => {
+                self.write(&Packet::PingResp)?;
+                Ok(Outcome::nothing())
+            }
+            Packet::Disconnect => Ok(Outcome::closes(self.close(CloseReason::Left))),
+            packet => self.take_flow(packet),
         }
-        Ok(None)
     }
 
-    /// A packet comes to the end. Answers why it closed, where it did. Errs where memory runs out, and then nothing
-    /// changes.
+    /// A packet comes to a client.
+    fn take_client(&mut self, packet: Packet) -> Result<Outcome, AllocError>
+        ensures ok { IfOk result (λ outcome. Gives (client_gets packet self.old.end) outcome self.old self.new) }
+        ensures err { OnErr result (self.new ≡ self.old) }
+    {
+        match self.state {
+            State::Closed => Ok(Outcome::nothing()),
+            State::Open => self.open_client(packet),
+            State::Up => self.take_up_client(packet),
+        }
+    }
+
+    /// A packet comes to a server. Errs where memory runs out, which it does within the room only where an identifier is stored,
+    /// and then nothing changes.
+    pub(crate) fn take_server(&mut self, packet: Packet) -> Result<Outcome, AllocError>
+        ensures ok { IfOk result (λ outcome. Gives (server_gets packet self.old.end) outcome self.old self.new) }
+        ensures up { is_up self.old.end.state ≡ true → is_exactly_once packet ≡ false
+            → FitsRoom (server_gets packet self.old.end).out self.old → IsOk result }
+        ensures rises { self.old.end.state ≡ states.Open → AreSpellable (server_gets packet self.old.end).out
+            → FitsRoom (server_gets packet self.old.end).out self.old → IsOk result }
+        ensures err { OnErr result (self.new ≡ self.old) }
+    {
+        match self.state {
+            State::Closed => Ok(Outcome::nothing()),
+            State::Open => self.open_server(packet),
+            State::Up => self.take_up_server(packet),
+        }
+    }
+
+    /// A packet comes to the end. Errs where memory runs out, and then nothing changes.
+    fn take_one(&mut self, role: Role, packet: Packet) -> Result<Outcome, AllocError>
+        ensures ok { IfOk result (λ outcome. Gives (gets_as role packet self.old.end) outcome self.old self.new) }
+        ensures err { OnErr result (self.new ≡ self.old) }
+    {
+        match role {
+            Role::Client => self.take_client(packet),
+            Role::Server => self.take_server(packet),
+        }
+    }
+
+    /// A packet comes to the end, and what comes of it is told. Answers why it closed, where it did. Errs where memory runs out,
+    /// and then nothing changes.
+    #[tactic(auto, using(crate::proofs::Outcomes::told_behind))]
     pub(crate) fn take(
         &mut self,
         role: Role,
@@ -112,13 +130,9 @@ impl Link {
         ensures ok { OnOk result (Makes (gets_as role packet self.old.end) self.old self.new told.old told.new) }
         ensures err { OnErr result (Stays self.old self.new told.old told.new) }
     {
-        match (self.state, role) {
-            (State::Closed, _) => Ok(None),
-            (State::Open, Role::Client) => self.open_client(packet, told),
-            (State::Open, Role::Server) => self.open_server(packet, told),
-            (State::Up, Role::Client) => self.take_up_client(packet, told),
-            (State::Up, Role::Server) => self.take_up_server(packet, told),
-        }
+        told.reserve()?;
+        let outcome = self.take_one(role, packet)?;
+        Ok(told.add(outcome))
     }
 
     /// Packets come to the end, up to one at which it closes. Answers why it closed, where it did.

@@ -1,6 +1,7 @@
 mod brief;
 mod client;
 mod late;
+mod one;
 mod packets;
 mod queue;
 mod readme;

@@ -1,6 +1,6 @@
 //! Bytes and what came of them, as short texts.
 
-use mq_end::{CloseReason, Happening, Progress};
+use mq_end::{CloseReason, Happening, Outcome, Progress};
 use mq_packet::{Message, PacketId};
 use std::alloc::{AllocError, Global};
 use std::test::Fail;
@@ -127,5 +127,24 @@ pub(crate) fn told_of_copy(alloc: Global, progress: Progress) -> Result<String, 
     let copy = progress.clone()?;
     let mut text = String::new(alloc);
     add_progress(&mut text, &copy)?;
+    Ok(text)
+}
+
+// Adds what came of one packet.
+fn add_outcome(text: &mut String, outcome: &Outcome) -> Result<(), AllocError> {
+    if let Some(happening) = &outcome.happening {
+        add_happening(text, happening)?;
+    }
+    if let Some(id) = outcome.acknowledged {
+        add_comma(text)?;
+        write!(text, "acknowledged {}", id.get())?;
+    }
+    add_closed(text, outcome.closed)
+}
+
+// What came of one packet in short.
+pub(crate) fn told_of_outcome(alloc: Global, outcome: &Outcome) -> Result<String, Fail> {
+    let mut text = String::new(alloc);
+    add_outcome(&mut text, outcome)?;
     Ok(text)
 }

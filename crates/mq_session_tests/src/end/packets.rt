@@ -12,7 +12,7 @@ use std::process::Abort;
 use std::test::Fail;
 
 // The packet of these bytes.
-fn packet_of(alloc: Global, hex: &str) -> Result<Packet, Fail> {
+pub(crate) fn packet_of(alloc: Global, hex: &str) -> Result<Packet, Fail> {
     let limits = Limits::new(64).ok_or("no limits")?;
     let bytes = bytes_of(alloc, hex)?;
     match read_packet(alloc, &mut bytes.as_slice(), limits) {
@@ -21,7 +21,8 @@ fn packet_of(alloc: Global, hex: &str) -> Result<Packet, Fail> {
     }
 }
 
-fn new_server(alloc: Global) -> Result<ServerEnd, Fail> {
+// A server for four identifiers.
+pub(crate) fn new_server(alloc: Global) -> Result<ServerEnd, Fail> {
     let config = ServerConfig {
         limits: Limits::new(64).ok_or("no limits")?,
         capacity: 4,

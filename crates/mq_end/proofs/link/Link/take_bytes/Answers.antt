@@ -6,7 +6,7 @@ use Rattle.mq_end.specs.declared.reason.CloseReason.TheVariants as reasons
 use Rattle.mq_end.specs.End.{End, closes}
 use Rattle.mq_end.specs.Receiving.{Hears, IsBreak, Makes, heard_as, gets_as}
 use Rattle.mq_end.proofs.Along.{closes_made}
-use Rattle.mq_end.proofs.Hearing.{front_of, bring, goes_from, begins_from, broken_from, hears_shut, hears_all, hears_starved, hears_fault}
+use Rattle.mq_end.proofs.Hearing.{break_made, front_of, bring, goes_from, begins_from, broken_from, hears_shut, hears_all, hears_starved, hears_fault}
 use Rattle.mq_end.proofs.Replies.{makes_end}
 use Rattle.mq_end.proofs.link.Link.take_bytes.Goals as goal
 
@@ -65,4 +65,5 @@ returns-in-Err-Fault c =
     (subst (λ (r : Result _ DecodeError). IfErr r (Stops old.limit (old.held ++ c.args.piece.now) c.new-packets.result.items ps)) c.in-Err-Fault.is c.decode-decoded.ensures.err) in
     let broken = broken_from old.limit (old.held ++ c.args.piece.now) c.new-packets.result.items ps c.in-Err-Fault.fault c.new-packets.ensures.items stops in
     let breaks = subst (λ (e : End). IsBreak c.args.role c.in-Err-Fault.fault e y.0) (makes_end x.0 mid took c.args.told.now c.take_all.new.told x.3) y.1 in
-    hears_fault c.args.role c.args.now c.args.piece.now old took c.break_off.new.self mid.held c.args.told.now c.take_all.new.told c.break_off.new.told x.0 y.0 ps broken.rest c.in-Err-Fault.fault c.break_off.result broken.reading b.taken b.makes x.2 breaks y.2 y.3
+    hears_fault c.args.role c.args.now c.args.piece.now old took c.break_off.new.self mid.held c.args.told.now c.take_all.new.told c.take_all.new.told x.0 y.0 ps broken.rest c.in-Err-Fault.fault c.break_off.result broken.reading b.taken b.makes x.2 breaks y.2
+    (break_made c.args.role c.in-Err-Fault.fault took c.break_off.new.self c.take_all.new.told y.0 y.1 y.3)
