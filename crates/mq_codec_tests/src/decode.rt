@@ -8,10 +8,13 @@ use mq_decode::FaultKind::{
     DupWithoutDelivery, ForbiddenFlags, ForbiddenQos, ForbiddenType, LengthOverlong, LengthTooLong,
     NotTopicFilter, NotTopicName, OverLimit, PastEnd, WrongFlags, WrongSize,
 };
-use mq_decode::{DecodeError, DecodeFault, Decoder, FaultKind, Limits, decode_pieces};
+use mq_decode::{DecodeError, DecodeFault, Decoder, FaultKind, Limits, ReadError, decode_pieces};
 use mq_line::Line;
 use mq_packet::{Packet, encode_into};
 use std::alloc::Global;
+use std::fmt::Display;
+use std::io;
+use std::io::ErrorKind;
 use std::process::Abort;
 use std::test::Fail;
 
@@ -631,6 +634,51 @@ fn what_follows_a_fault_does_not_matter(rt: HostRuntime) -> Result<(), Fail> {
 // What a fault displays as.
 fn displayed(alloc: Global, kind: FaultKind) -> Result<String, Fail> {
     Ok(format!(in alloc; "{kind}")?)
+}
+
+// What an error displays as.
+fn said<E: Display + Drop>(alloc: Global, error: E) -> Result<String, Fail> {
+    Ok(format!(in alloc; "{error}")?)
+}
+
+// Where the first byte of a packet is no type's.
+const FIRST_BYTE: DecodeFault = DecodeFault {
+    kind: ForbiddenType,
+    place: 0,
+};
+
+// Errors of the decoder, and what each displays.
+static DECODE_ERRORS: [(DecodeError, &str); 2] = [
+    (
+        DecodeError::Fault(FIRST_BYTE),
+        "the bytes are no packet: F1 at byte 0",
+    ),
+    (DecodeError::Memory, "out of memory"),
+];
+
+#[test]
+fn errors_of_the_decoder_display_as_sentences(rt: HostRuntime) -> Result<(), Fail> {
+    for (error, wanted) in &DECODE_ERRORS {
+        expect_told(&rt, said(rt.alloc(), *error), wanted, "")?;
+    }
+    Ok(())
+}
+
+#[test]
+fn errors_of_a_reader_display_as_sentences(rt: HostRuntime) -> Result<(), Fail> {
+    let reset = io::Error::from(ErrorKind::ConnectionReset);
+    for (error, wanted) in [
+        (ReadError::Cut, "the input ends within a packet"),
+        (ReadError::Io(reset), "the reader failed: connection reset"),
+        (
+            ReadError::Fault(FIRST_BYTE),
+            "the bytes are no packet: F1 at byte 0",
+        ),
+        (ReadError::Memory, "out of memory"),
+    ] {
+        expect_told(&rt, said(rt.alloc(), error), wanted, "")?;
+    }
+    Ok(())
 }
 
 #[test]

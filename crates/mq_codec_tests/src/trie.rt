@@ -146,6 +146,15 @@ fn walk(
     Ok(())
 }
 
+// A value that may go to another thread, and from there to others.
+fn crosses<T: Send>(_value: &T) {}
+
+#[test]
+fn a_trie_crosses_threads(rt: HostRuntime) {
+    let trie = TrieStore::new(rt.alloc());
+    crosses(&trie);
+}
+
 #[test]
 fn a_trie_answers_as_a_list(rt: HostRuntime) -> Result<(), Fail> {
     let mut list = ListStore::new(rt.alloc());
