@@ -7,3 +7,5 @@ mod compare;
 mod end;
 #[cfg(test)]
 mod flow;
+#[cfg(test)]
+mod sentences;
