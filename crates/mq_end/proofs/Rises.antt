@@ -1,6 +1,7 @@
 -- Room to come up by a CONNECT, and what is put out then.
 use Rattle.std.proofs.Common.{◌≡◌, ℕ, ◌+◌, ◌*◌, ◌<◌, ◌≤◌, ◌^◌, Bool, true, false, not, ◌&&◌, ◌||◌, eqb, cond, List, [], ◌∷◌, ◌++◌, map, length, filter, Option, Some, None, IfSome, Result, Ok, Err, IsOk, IfOk, OnErr, refl, sym, ap, subst, ◌∙◌, arith}
 use Rattle.std.specs.List.{list_any}
+use Rattle.std.specs.Option.{SomeIff}
 use Rattle.mq_topic.specs.declared.qos.Qos.{Qos}
 use Rattle.mq_topic.specs.declared.qos.Qos.TheVariants.{Q0, Q1, Q2}
 use Rattle.mq_packet.specs.declared.connack.ConnAck.{ConnAck}
@@ -186,6 +187,11 @@ resent_by b es count size is counted sized =
     let whole = resent_size b in
     let same = ap (λ (es : List Entry). packets_size (published es)) is in
     omega arith
+
+-- what a sum that a machine can count is
+pub sum_is : (o : Option ℕ) (P : Type 0) (v w : ℕ) → SomeIff o P v → v ≡ w → IfSome o (λ x. x ≡ w)
+sum_is (Some x) P v w h e = h.1 ∙ e
+sum_is None P v w h e = tt
 
 pub always : {A : Type 0} (o : Option A) (P : Type 0) → P → IfSome o (λ x. P)
 always (Some x) P h = h
