@@ -1,8 +1,11 @@
 mod readers;
 mod rows;
+mod steps;
 
 use crate::compare::expect_told;
 use crate::decode::rows::{CODES, FIELD_FAULTS, PACKETS};
+pub(crate) use crate::decode::steps::stepped;
+use crate::decode::steps::{WAYS, Way, stepped_by_bytes};
 use crate::view::{expect_view, expect_view_fault, size_in};
 use mq_decode::FaultKind::{
     DupWithoutDelivery, ForbiddenFlags, ForbiddenQos, ForbiddenType, LengthOverlong, LengthTooLong,
@@ -107,6 +110,27 @@ fn expect_fault(
     assert!(rt; answer == (Err(fault), 1), "{bytes:?} {answer:?}");
     let answer = answer_byte_by_byte(alloc, limits, bytes);
     assert!(rt; answer == Some(Err(fault)), "{bytes:?} {answer:?}");
+    expect_stepped_fault(rt, alloc, limits, bytes, fault);
+}
+
+// The same where packets are taken one at a time, and in all cuttings in two.
+fn expect_stepped_fault(
+    rt: &impl Abort,
+    alloc: Global,
+    limits: Limits,
+    bytes: &[u8],
+    fault: DecodeError,
+) {
+    let ping = b"\xc0\x00".as_slice();
+    let answer = stepped(alloc, limits, &[ping, bytes, ping]);
+    assert!(rt; answer == (Err(fault), 1), "{bytes:?} {answer:?}");
+    let answer = stepped_by_bytes(alloc, limits, bytes);
+    assert!(rt; answer == (Err(fault), 0), "{bytes:?} {answer:?}");
+    for cut in 0..=bytes.len() {
+        let (front, rest) = bytes.split_at(cut);
+        let answer = stepped(alloc, limits, &[front, rest]);
+        assert!(rt; answer == (Err(fault), 0), "{bytes:?} {cut} {answer:?}");
+    }
 }
 
 // The same of a row.
@@ -302,23 +326,30 @@ pub(crate) fn are_spelled(alloc: Global, packets: &[Packet], bytes: &[u8]) -> Re
 
 // Whether all of the first piece is held, and one packet comes with the second.
 fn feeds_in_two(
+    way: Way,
     decoder: &mut Decoder,
     out: &mut Vec<Packet>,
     front: &[u8],
     rest: &[u8],
 ) -> Result<bool, Fail> {
-    decoder.feed(front, out)?;
+    way.take(decoder, front, out)?;
     let is_held = decoder.held() == front.len() && out.is_empty();
-    decoder.feed(rest, out)?;
+    way.take(decoder, rest, out)?;
     Ok(is_held && decoder.held() == 0 && out.len() == 1)
 }
 
 // The same of a new decoder; and whether the packet is spelled as both pieces.
-fn reads_in_two(alloc: Global, limits: Limits, bytes: &[u8], cut: usize) -> Result<bool, Fail> {
+fn reads_in_two(
+    way: Way,
+    alloc: Global,
+    limits: Limits,
+    bytes: &[u8],
+    cut: usize,
+) -> Result<bool, Fail> {
     let (front, rest) = bytes.split_at_checked(cut).ok_or("too few bytes")?;
     let mut out = Vec::new(alloc);
     let mut decoder = Decoder::new(alloc, limits);
-    let is_read = feeds_in_two(&mut decoder, &mut out, front, rest)?;
+    let is_read = feeds_in_two(way, &mut decoder, &mut out, front, rest)?;
     Ok(is_read && are_spelled(alloc, out.as_slice(), bytes)?)
 }
 
@@ -329,7 +360,12 @@ fn expect_packet(rt: &impl Abort, alloc: Global, bytes: &[u8], row: &str) -> Res
     for cut in 0..bytes.len() {
         let (front, _) = bytes.split_at(cut);
         assert_eq!(rt; outcome(alloc, least, &[front]), (Ok(cut), 0), "{row}");
-        assert!(rt; reads_in_two(alloc, least, bytes, cut)?, "{row} {cut}");
+        for way in WAYS {
+            assert!(rt;
+                reads_in_two(way, alloc, least, bytes, cut)?,
+                "{row} {cut} {way:?}"
+            );
+        }
     }
     Ok(())
 }
@@ -353,26 +389,13 @@ fn stream(alloc: Global) -> Result<Vec<u8>, Fail> {
     Ok(stream)
 }
 
-// Feeds the stream in pieces of this size.
-fn feed_pieces(
-    decoder: &mut Decoder,
-    out: &mut Vec<Packet>,
-    stream: &[u8],
-    size: usize,
-) -> Result<(), Fail> {
-    for piece in stream.chunks(size.max(1)) {
-        decoder.feed(piece, out)?;
-    }
-    Ok(())
-}
-
 // Whether all packets are read in pieces of this size.
-fn reads_pieces(alloc: Global, stream: &[u8], size: usize) -> Result<bool, Fail> {
+fn reads_pieces(way: Way, alloc: Global, stream: &[u8], size: usize) -> Result<bool, Fail> {
     let least = limits(64)?;
     let mut out = Vec::new(alloc);
     let mut decoder = Decoder::new(alloc, least);
-    feed_pieces(&mut decoder, &mut out, stream, size)?;
-    let is_read = decoder.held() == 0 && out.len() == PACKETS.len();
+    let held = way.take_pieces(&mut decoder, stream, size, &mut out)?;
+    let is_read = held == 0 && out.len() == PACKETS.len();
     Ok(is_read && are_spelled(alloc, out.as_slice(), stream)?)
 }
 
@@ -382,12 +405,16 @@ fn reads_cut(alloc: Global, stream: &[u8], cut: usize) -> Result<bool, Fail> {
     let (front, rest) = stream.split_at_checked(cut).ok_or("too few bytes")?;
     let mut out = Vec::new(alloc);
     let answer = decode_pieces(alloc, least, &[front, b"", rest], &mut out);
-    Ok(answer == Ok(0) && are_spelled(alloc, out.as_slice(), stream)?)
+    let count = out.len();
+    let is_same = stepped(alloc, least, &[front, b"", rest]) == (answer, count);
+    Ok(is_same && answer == Ok(0) && are_spelled(alloc, out.as_slice(), stream)?)
 }
 
 fn expect_stream(rt: &impl Abort, alloc: Global, stream: &[u8]) -> Result<(), Fail> {
     for size in [1, 2, 3, 5, 16, 100, 1000] {
-        assert!(rt; reads_pieces(alloc, stream, size)?, "{size}");
+        for way in WAYS {
+            assert!(rt; reads_pieces(way, alloc, stream, size)?, "{size} {way:?}");
+        }
     }
     for cut in 0..stream.len() {
         assert!(rt; reads_cut(alloc, stream, cut)?, "{cut}");
@@ -459,12 +486,13 @@ fn limits_are_from_64(rt: HostRuntime) -> Result<(), Fail> {
 
 // What comes of bytes: the decoder's answer, how many bytes it holds, and how many packets came so far.
 fn answered(
+    way: Way,
     alloc: Global,
     decoder: &mut Decoder,
     bytes: &[u8],
     out: &mut Vec<Packet>,
 ) -> Result<String, Fail> {
-    match decoder.feed(bytes, out) {
+    match way.take(decoder, bytes, out) {
         Ok(()) => Ok(format!(in alloc; "{} {}", decoder.held(), out.len())?),
         Err(DecodeError::Fault(fault)) => {
             Ok(format!(in alloc; "{} {} {}", fault.kind, fault.place, out.len())?)
@@ -475,6 +503,7 @@ fn answered(
 
 // The same of a piece, or of a reset.
 fn fed(
+    way: Way,
     alloc: Global,
     decoder: &mut Decoder,
     piece: &str,
@@ -485,19 +514,20 @@ fn fed(
         return Ok(format!(in alloc; "{}", decoder.held())?);
     }
     let bytes = bytes_of(alloc, piece)?;
-    answered(alloc, decoder, bytes.as_slice(), out)
+    answered(way, alloc, decoder, bytes.as_slice(), out)
 }
 
 // This comes of these pieces.
 fn expect_fed(
     rt: &impl Abort,
+    way: Way,
     alloc: Global,
     decoder: &mut Decoder,
     out: &mut Vec<Packet>,
     rows: &[(&str, &str)],
 ) -> Result<(), Fail> {
     for (piece, told) in rows {
-        expect_told(rt, fed(alloc, decoder, *piece, out), *told, *piece)?;
+        expect_told(rt, fed(way, alloc, decoder, *piece, out), *told, *piece)?;
     }
     Ok(())
 }
@@ -517,17 +547,31 @@ fn a_fault_lasts_until_reset(rt: HostRuntime) -> Result<(), Fail> {
         ("30 ff ff ff 7f", "5 2"),
         ("reset", "0"),
     ];
+    for way in WAYS {
+        expect_rows_fed(&rt, way, rt.alloc(), &rows)?;
+    }
+    Ok(())
+}
+
+// This comes of these pieces of a new decoder: a PUBREL and a PINGREQ.
+fn expect_rows_fed(
+    rt: &impl Abort,
+    way: Way,
+    alloc: Global,
+    rows: &[(&str, &str)],
+) -> Result<(), Fail> {
     let greatest = limits(268_435_455)?;
-    let mut out = Vec::new(rt.alloc());
-    let mut decoder = Decoder::new(rt.alloc(), greatest);
-    expect_fed(&rt, rt.alloc(), &mut decoder, &mut out, &rows)?;
+    let mut out = Vec::new(alloc);
+    let mut decoder = Decoder::new(alloc, greatest);
+    expect_fed(rt, way, alloc, &mut decoder, &mut out, rows)?;
     let bytes = b"\x62\x02\x00\x01\xc0\x00";
-    assert!(rt; are_spelled(rt.alloc(), out.as_slice(), bytes)?);
+    assert!(rt; are_spelled(alloc, out.as_slice(), bytes)?);
     Ok(())
 }
 
 // Feeds a piece, or resets.
 fn feed(
+    way: Way,
     alloc: Global,
     decoder: &mut Decoder,
     piece: &str,
@@ -538,32 +582,40 @@ fn feed(
         return Ok(());
     }
     let bytes = bytes_of(alloc, piece)?;
-    decoder.feed(bytes.as_slice(), out)?;
+    way.take(decoder, bytes.as_slice(), out)?;
     Ok(())
 }
 
 // What comes of a piece: how many bytes are held, how many packets came so far, and how many bytes were
 // copied.
 fn copied(
+    way: Way,
     alloc: Global,
     decoder: &mut Decoder,
     piece: &str,
     out: &mut Vec<Packet>,
 ) -> Result<String, Fail> {
-    feed(alloc, decoder, piece, out)?;
+    feed(way, alloc, decoder, piece, out)?;
     Ok(format!(in alloc; "{} {} {}", decoder.held(), out.len(), decoder.copied())?)
 }
 
 // This comes of these pieces.
 fn expect_copied(
     rt: &impl Abort,
+    way: Way,
     alloc: Global,
-    decoder: &mut Decoder,
-    out: &mut Vec<Packet>,
     rows: &[(&str, &str)],
 ) -> Result<(), Fail> {
+    let least = limits(64)?;
+    let mut out = Vec::new(alloc);
+    let mut decoder = Decoder::new(alloc, least);
     for (piece, told) in rows {
-        expect_told(rt, copied(alloc, decoder, *piece, out), *told, *piece)?;
+        expect_told(
+            rt,
+            copied(way, alloc, &mut decoder, *piece, &mut out),
+            *told,
+            *piece,
+        )?;
     }
     Ok(())
 }
@@ -584,10 +636,10 @@ fn only_what_is_left_over_is_copied(rt: HostRuntime) -> Result<(), Fail> {
         ("00", "3 6 3"),
         ("01 62 02 0001", "0 8 4"),
     ];
-    let least = limits(64)?;
-    let mut out = Vec::new(rt.alloc());
-    let mut decoder = Decoder::new(rt.alloc(), least);
-    expect_copied(&rt, rt.alloc(), &mut decoder, &mut out, &rows)
+    for way in WAYS {
+        expect_copied(&rt, way, rt.alloc(), &rows)?;
+    }
+    Ok(())
 }
 
 // A fault at the front of these bytes, in place and as they are decoded, whatever follows it.

@@ -1,5 +1,6 @@
 //! Remaining lengths with more bytes than they need.
 
+use crate::decode::stepped;
 use crate::view::size_in;
 use mq_decode::FaultKind::{LengthOverlong, LengthTooLong};
 use mq_decode::{
@@ -12,10 +13,18 @@ use std::test::Fail;
 // How many packets pieces have, or their fault.
 fn outcome(alloc: Global, limits: Limits, pieces: &[&[u8]]) -> Result<usize, Option<DecodeFault>> {
     let mut out = Vec::new(alloc);
-    match decode_pieces(alloc, limits, pieces, &mut out) {
-        Ok(_) => Ok(out.len()),
-        Err(DecodeError::Fault(fault)) => Err(Some(fault)),
-        Err(DecodeError::Memory) => Err(None),
+    let answer = decode_pieces(alloc, limits, pieces, &mut out);
+    count_or_fault((answer, out.len()))
+}
+
+// How many packets came, or the fault.
+fn count_or_fault(
+    outcome: (Result<usize, DecodeError>, usize),
+) -> Result<usize, Option<DecodeFault>> {
+    match outcome {
+        (Ok(_), count) => Ok(count),
+        (Err(DecodeError::Fault(fault)), _) => Err(Some(fault)),
+        (Err(DecodeError::Memory), _) => Err(None),
     }
 }
 
@@ -53,6 +62,8 @@ fn expect(
     for at in 0..bytes.len() {
         let (front, back) = bytes.split_at(at);
         let answer = outcome(alloc, limits, &[front, back]);
+        assert!(rt; answer == expected, "{bytes:?} at {at} {answer:?}");
+        let answer = count_or_fault(stepped(alloc, limits, &[front, back]));
         assert!(rt; answer == expected, "{bytes:?} at {at} {answer:?}");
     }
 }
