@@ -24,7 +24,7 @@ stage_seen k ts [] = refl
 stage_seen k ts (x ∷ xs) = ap (λ (s : Stage). cond (is_line k x) x.stage s) (stage_seen k ts xs)
 
 -- the first one has the name: no other has
-rest_unknown : (k : Conn) (x : Line) (xs : List Line) → is_line k x ≡ true → knows x.conn xs ≡ false → knows k xs ≡ false
+pub rest_unknown : (k : Conn) (x : Line) (xs : List Line) → is_line k x ≡ true → knows x.conn xs ≡ false → knows k xs ≡ false
 rest_unknown k x xs same none = subst (λ (n : Conn). knows n xs ≡ false) (one_conn x.conn k same) none
 
 -- a client is up where a connection is
@@ -172,3 +172,9 @@ module _ (key : ℕ) (e : EndState) where
 
   pub seen_served : (ts : List Tenant) (x : Line) → is_for key x.stage ≡ false → seen (with_server key e ts) x ≡ seen ts x
   seen_served ts x apart = ap (λ (b : List ℕ). record x { waiting = b }) (waiting_other x.stage ts x.waiting apart)
+
+-- ---- the connection on which a client is up
+
+pub up_seen : (key : ℕ) (ts : List Tenant) (xs : List Line) → up_on key (all_seen ts xs) ≡ up_on key xs
+up_seen key ts [] = refl
+up_seen key ts (x ∷ xs) = ap (λ (o : Option Conn). cond (is_for key x.stage) (Some x.conn) o) (up_seen key ts xs)

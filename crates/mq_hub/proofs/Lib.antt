@@ -6,7 +6,9 @@ pub mod Connections
 pub mod DueCopies
 pub mod Going
 pub mod Keeping
+pub mod Removing
 pub mod Retaining
 pub mod Seeing
 pub mod Serving
+pub mod Shutting
 pub mod Tenants

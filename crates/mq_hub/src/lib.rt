@@ -3,6 +3,7 @@
 //! So far it has the tables that a broker stands on, what it asks of a CONNECT, the broker over its tables, and the first of its events.
 #![tactic(auto)]
 
+mod closed;
 mod collected;
 mod connection;
 mod copies;
@@ -11,6 +12,7 @@ mod hub;
 mod lines;
 mod opened;
 mod placing;
+mod removed;
 mod retained;
 mod session;
 mod sessions;

@@ -125,6 +125,15 @@ impl<S: FilterStore> Tables<S> {
         self.lines.swap_waiting(conn, &mut none);
     }
 
+    /// A connection is closed: what it holds of a packet is gone, what waits stays (4.8). It takes no memory.
+    pub(crate) fn shut(&mut self, conn: Conn)
+        ensures lines { self.new.lines.lines ≡ with_line (λ x. record x { stage = Stage.Shut; held = [] }) conn self.old.lines.lines }
+        ensures limits { self.new.lines.limits ≡ self.old.lines.limits }
+        ensures rest { self.new ≡ record self.old { lines = self.new.lines } }
+    {
+        self.lines.shut(conn);
+    }
+
     /// A session ends, and its subscriptions (3.1.2.4). It takes no memory.
     pub(crate) fn remove(&mut self, key: ClientKey)
         ensures rows { self.new.rows ≡ without_client key self.old.rows }

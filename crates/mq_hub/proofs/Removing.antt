@@ -1,0 +1,157 @@
+-- A session that is up on no connection ends.
+use Rattle.std.proofs.Common.{◌≡◌, ℕ, ◌<◌, Bool, true, false, not, cond, List, [], ◌∷◌, ◌++◌, Option, Some, None, refl, sym, ap, subst, ◌∙◌, eqb, eqb-true, eq-eqb, true≢false}
+use Rattle.std.proofs.lemmas.Bool.{cond-true, cond-false, ne_eqb}
+use Rattle.std.specs.List.{AllByRecursion}
+use Rattle.std.specs.Option.{is_some}
+use Rattle.mq_topic.specs.Rows.{Row, without_client}
+use Rattle.mq_route.specs.declared.act.Act.{Act}
+use Rattle.mq_route.specs.declared.act.Act.TheVariants as acts
+use Rattle.mq_route.specs.declared.config.HubConfig.{HubConfig}
+use Rattle.mq_route.specs.declared.stage.Stage.{Stage}
+use Rattle.mq_route.specs.declared.stage.Stage.TheVariants.{Fresh, UpFor, Shut}
+use Rattle.mq_route.specs.Hub.{HubState, HubSession, Line, is_for, up_on, without_session}
+use Rattle.mq_route.specs.Work.{Work, remove}
+use Rattle.mq_hub.specs.declared.session.Tenant.{Tenant}
+use Rattle.mq_hub.specs.Does.{GoesBy}
+use Rattle.mq_hub.specs.Keeps.{HubKeeps, IsHoused, IsSeated, Stands}
+use Rattle.mq_hub.specs.Seen.{HubTables, all_seen, hub_of, output_of, seen, waiting_by}
+use Rattle.mq_hub.specs.Sessions.{session_of, sessions_of, tenant_of, without_tenant, AreBelow}
+use Rattle.mq_hub.proofs.Changing.{seen_others}
+use Rattle.mq_hub.proofs.Keeping.{kept_by}
+use Rattle.mq_hub.proofs.Tenants.{ascending_without}
+
+module _ (key : ℕ) where
+  far_key : (s : Tenant) (c : ℕ) → eqb s.key key ≡ true → eqb c key ≡ false → eqb s.key c ≡ false
+  far_key s c own apart = ne_eqb s.key c (λ w. true≢false (sym (eq-eqb c key (sym w ∙ eqb-true s.key key own)) ∙ apart))
+
+  -- ---- the other sessions
+
+  found_without : (c : ℕ) (ts : List Tenant) → eqb c key ≡ false → tenant_of c (without_tenant key ts) ≡ tenant_of c ts
+  found_without c [] apart = refl
+  found_without c (s ∷ ts) apart = go (eqb s.key key) refl (found_without c ts apart)
+    where
+      go : (b : Bool) → eqb s.key key ≡ b → tenant_of c (without_tenant key ts) ≡ tenant_of c ts → tenant_of c (without_tenant key (s ∷ ts)) ≡ tenant_of c (s ∷ ts)
+      go true own rest =
+          let left : without_tenant key (s ∷ ts) ≡ without_tenant key ts = rw own refl in
+          ap (tenant_of c) left ∙ rest ∙ sym (cond-false (eqb s.key c) (Some s) (tenant_of c ts) (far_key s c own apart))
+      go false own rest =
+          let left : without_tenant key (s ∷ ts) ≡ s ∷ without_tenant key ts = rw own refl in
+          ap (tenant_of c) left ∙ ap (λ (o : Option Tenant). cond (eqb s.key c) (Some s) o) rest
+
+  output_without : (c : ℕ) (ts : List Tenant) → eqb c key ≡ false → output_of c (without_tenant key ts) ≡ output_of c ts
+  output_without c [] apart = refl
+  output_without c (s ∷ ts) apart = go (eqb s.key key) refl (output_without c ts apart)
+    where
+      go : (b : Bool) → eqb s.key key ≡ b → output_of c (without_tenant key ts) ≡ output_of c ts → output_of c (without_tenant key (s ∷ ts)) ≡ output_of c (s ∷ ts)
+      go true own rest =
+          let left : without_tenant key (s ∷ ts) ≡ without_tenant key ts = rw own refl in
+          ap (output_of c) left ∙ rest ∙ sym (cond-false (eqb s.key c) s.end.output (output_of c ts) (far_key s c own apart))
+      go false own rest =
+          let left : without_tenant key (s ∷ ts) ≡ s ∷ without_tenant key ts = rw own refl in
+          ap (output_of c) left ∙ ap (λ (b : List ℕ). cond (eqb s.key c) s.end.output b) rest
+
+  pub seen_without : (ts : List Tenant) (x : Line) → is_for key x.stage ≡ false → seen (without_tenant key ts) x ≡ seen ts x
+  seen_without ts x apart = ap (λ (b : List ℕ). record x { waiting = b }) (of x.stage apart)
+    where
+      of : (s : Stage) → is_for key s ≡ false → waiting_by s (without_tenant key ts) x.waiting ≡ waiting_by s ts x.waiting
+      of Fresh e = refl
+      of (UpFor c terms moment) e = output_without c ts e
+      of Shut e = refl
+
+  pub sessions_without : (ts : List Tenant) → sessions_of (without_tenant key ts) ≡ without_session key (sessions_of ts)
+  sessions_without [] = refl
+  sessions_without (s ∷ ts) = go (eqb s.key key) refl (sessions_without ts)
+    where
+      go : (b : Bool) → eqb s.key key ≡ b → sessions_of (without_tenant key ts) ≡ without_session key (sessions_of ts)
+          → sessions_of (without_tenant key (s ∷ ts)) ≡ without_session key (sessions_of (s ∷ ts))
+      go true own rest = rw own rest
+      go false own rest = rw own (ap (λ (ss : List HubSession). session_of s ∷ ss) rest)
+
+  all_without : (P : Tenant → Type 0) (ts : List Tenant) → AllByRecursion P ts → AllByRecursion P (without_tenant key ts)
+  all_without P [] all = tt
+  all_without P (s ∷ ts) all = go (not (eqb s.key key)) (all_without P ts all.1)
+    where
+      go : (b : Bool) → AllByRecursion P (without_tenant key ts) → AllByRecursion P (cond b (s ∷ without_tenant key ts) (without_tenant key ts))
+      go true rest = (all.0, rest)
+      go false rest = rest
+
+  stands_without : (c : ℕ) (ts : List Tenant) → eqb c key ≡ false → Stands ts c → Stands (without_tenant key ts) c
+  stands_without c ts apart stands = ap is_some (found_without c ts apart) ∙ stands
+
+  owned_without : (ts : List Tenant) (rs : List Row) → AllByRecursion (λ r. Stands ts r.0.0) rs → AllByRecursion (λ r. Stands (without_tenant key ts) r.0.0) (without_client key rs)
+  owned_without ts [] all = tt
+  owned_without ts (r ∷ rs) all = go (eqb r.0.0 key) refl (owned_without ts rs all.1)
+    where
+      go : (b : Bool) → eqb r.0.0 key ≡ b → AllByRecursion (λ q. Stands (without_tenant key ts) q.0.0) (without_client key rs)
+          → AllByRecursion (λ q. Stands (without_tenant key ts) q.0.0) (without_client key (r ∷ rs))
+      go true own rest =
+          let left : without_client key (r ∷ rs) ≡ without_client key rs = rw own refl in
+          subst (λ (qs : List Row). AllByRecursion (λ q. Stands (without_tenant key ts) q.0.0) qs) (sym left) rest
+      go false own rest =
+          let left : without_client key (r ∷ rs) ≡ r ∷ without_client key rs = rw own refl in
+          subst (λ (qs : List Row). AllByRecursion (λ q. Stands (without_tenant key ts) q.0.0) qs) (sym left) (stands_without r.0.0 ts own all.0, rest)
+
+  housed_without : (most : ℕ) (ts : List Tenant) (xs : List Line) → up_on key xs ≡ None → AllByRecursion (λ x. IsHoused most ts x.stage) xs
+      → AllByRecursion (λ x. IsHoused most (without_tenant key ts) x.stage) xs
+  housed_without most ts [] none all = tt
+  housed_without most ts (x ∷ xs) none all = go (is_for key x.stage) refl (housed_without most ts xs)
+    where
+      of : (s : Stage) → is_for key s ≡ false → IsHoused most ts s → IsHoused most (without_tenant key ts) s
+      of Fresh e housed = tt
+      of (UpFor c terms moment) e housed = (stands_without c ts e housed.0, housed.1)
+      of Shut e housed = tt
+
+      go : (b : Bool) → is_for key x.stage ≡ b
+          → (up_on key xs ≡ None → AllByRecursion (λ y. IsHoused most ts y.stage) xs → AllByRecursion (λ y. IsHoused most (without_tenant key ts) y.stage) xs)
+          → AllByRecursion (λ y. IsHoused most (without_tenant key ts) y.stage) (x ∷ xs)
+      go true up rest = let w : Some x.conn ≡ None = sym (cond-true (is_for key x.stage) (Some x.conn) (up_on key xs) up) ∙ none in absurd cc
+      go false down rest = (of x.stage down all.0, rest (sym (cond-false (is_for key x.stage) (Some x.conn) (up_on key xs) down) ∙ none) all.1)
+
+  -- ---- the broker
+
+  module _ (config : HubConfig) (next : ℕ) (t u : HubTables) (kept : HubKeeps config next t) (none : up_on key t.lines.lines ≡ None) (rows : u.rows ≡ without_client key t.rows)
+      (retained : u.retained.messages ≡ t.retained.messages) (tenants : u.sessions.tenants ≡ without_tenant key t.sessions.tenants) (lines : u.lines.lines ≡ t.lines.lines) where
+    pub kept_removed : u.lines.limits ≡ t.lines.limits → HubKeeps config next u
+    kept_removed limits =
+        let ts = t.sessions.tenants in
+        let v : HubTables = record t { rows = without_client key t.rows; sessions = record t.sessions { tenants = without_tenant key ts } } in
+        let k : HubKeeps config next v = record {
+          capacity = kept.capacity;
+          window = kept.window;
+          limits = kept.limits;
+          apart = kept.apart;
+          housed = housed_without config.limits.most ts t.lines.lines none kept.housed;
+          seated = all_without (IsSeated config t.lines.lines) ts kept.seated;
+          ascending = ascending_without key ts kept.ascending;
+          below = all_without (λ s. s.key < next) ts kept.below;
+          next = kept.next;
+          owned = owned_without ts t.rows kept.owned;
+          retained = kept.retained;
+        } in
+        kept_by config next v u k rows retained tenants lines limits
+
+    pub hub_removed : (clock : ℕ) → hub_of config clock next u
+        ≡ record (hub_of config clock next t) { rows = without_client key t.rows; sessions = without_session key (sessions_of t.sessions.tenants) }
+    hub_removed clock =
+        let ts = t.sessions.tenants in
+        let xs = t.lines.lines in
+        let sessions : sessions_of u.sessions.tenants ≡ without_session key (sessions_of ts) = ap sessions_of tenants ∙ sessions_without ts in
+        let waits : all_seen u.sessions.tenants u.lines.lines ≡ all_seen ts xs = (λ i. all_seen (tenants i) (lines i)) ∙ seen_others key ts (without_tenant key ts) (seen_without ts) xs none in
+        λ i. record {
+          config = config;
+          clock = clock;
+          next_key = next;
+          rows = rows i;
+          retained = retained i;
+          sessions = sessions i;
+          lines = waits i;
+        }
+
+  -- the change of the definition
+  pub goes_removed : (h g : HubState) (said says : List Act) → g ≡ record h { rows = without_client key h.rows; sessions = without_session key h.sessions }
+      → says ≡ said ++ acts.Removed key ∷ [] → GoesBy (remove key) h said g says
+  unfolding remove
+  goes_removed h g said says is did = record {
+    hub = λ w e f. ap (λ (a : HubState). record a { rows = without_client key a.rows; sessions = without_session key a.sessions }) e ∙ sym is;
+    did = λ w e f. ap (λ (a : List Act). a ++ acts.Removed key ∷ []) f ∙ sym did;
+  }

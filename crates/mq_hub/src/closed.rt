@@ -1,0 +1,24 @@
+//! A connection is closed at a broker (4.8).
+
+ghost use Rattle.std.specs.Prelude.{◌≡◌, ◌+◌, ◌≤◌, ◌<◌, Bool, None};
+ghost use Rattle.mq_route.specs.Hub.{key_on, stage_of};
+ghost use Rattle.mq_route.specs.Work.{close};
+ghost use Rattle.mq_hub.specs.Does.{GoesBy};
+
+use crate::doings::Doings;
+use crate::hub::HubOver;
+use mq_route::{Act, Conn, HubClose};
+use mq_topic::FilterStore;
+
+impl<S: FilterStore> HubOver<S> {
+    /// A connection on which no client is up is closed (4.8): what it holds of a packet is gone, and what waits stays. It takes no memory.
+    pub(crate) fn close_idle(&mut self, conn: Conn, why: HubClose, doings: &mut Doings)
+        requires idle { key_on (stage_of conn self.old.lines) ≡ None }
+        requires room { 0 < doings.old.room }
+        ensures goes { (fits : Bool) → GoesBy (close conn why fits) self.old doings.old.acts self.new doings.new.acts }
+        ensures room { doings.old.room ≤ doings.new.room + 1 }
+    {
+        self.tables.shut(conn);
+        doings.say(Act::Closed(conn, why));
+    }
+}
