@@ -6,9 +6,13 @@ pub mod Connections
 pub mod DueCopies
 pub mod Going
 pub mod Keeping
+pub mod Owing
+pub mod Publishing
+pub mod Readiness
 pub mod Removing
 pub mod Retaining
 pub mod Seeing
 pub mod Serving
 pub mod Shutting
 pub mod Tenants
+pub mod Tied

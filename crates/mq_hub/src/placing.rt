@@ -1,16 +1,28 @@
 //! Copies of messages that are placed for clients (3.3.5, 3.8.4).
 
-ghost use Rattle.std.specs.Prelude.{◌≡◌, ℕ, IfOk};
+ghost use Rattle.std.specs.Prelude.{◌≡◌, ◌≤◌, ◌++◌, ◌&&◌, ℕ, List, true, false, IfOk, Ok};
+ghost use Rattle.mq_packet.specs.declared.message.Message.{Message};
 ghost use Rattle.mq_route.specs.Hub.{HubState, copies_of, for_key};
-ghost use Rattle.mq_route.specs.Work.{retained_copies};
-ghost use Rattle.mq_hub.specs.Placing.{copies_found, AreApart, AreUpAlike};
+ghost use Rattle.mq_route.specs.declared.act.Act.{Act};
+ghost use Rattle.mq_route.specs.declared.config.HubConfig.{HubConfig};
+ghost use Rattle.mq_route.specs.Work.{have_room, place_all, retained_copies};
+ghost use Rattle.mq_end.specs.Sizes.{publish_size};
+ghost use Rattle.mq_hub.specs.Does.{GoesBy};
+ghost use Rattle.mq_hub.specs.Keeps.{HubKeeps};
+ghost use Rattle.mq_hub.specs.Placing.{copies_found, is_among, placed_all, AreApart, AreFor, AreReady, AreSameButRoom, AreStillReady, AreUpAlike};
+ghost use Rattle.mq_hub.specs.Placing.{placed_acts, with_tenants, CanPlace, HasSessions, IsFor, IsReadyAt};
+ghost use Rattle.mq_hub.specs.Seen.{HubTables, hub_of};
 
 use crate::copies::{copy_by, is_hidden_name};
 use crate::lines::Lines;
 use crate::retained::Retained;
+use crate::sessions::Sessions;
+use mq_end::PublishRefusal;
 use mq_packet::{Message, Request};
+use mq_route::Act;
 use mq_topic::{ClientKey, FilterStore, Qos};
 use std::alloc::{AllocError, Global};
+use std::slice;
 
 /// A copy of a message that is due: the key of the client for which it is, and the message.
 pub(crate) type Due = (ClientKey, Message);
@@ -45,6 +57,8 @@ pub(crate) fn copies_of<S: FilterStore>(
     ensures copies { IfOk result (λ copies. (h : HubState) → h.rows ≡ S.rows store.now → AreUpAlike h.lines lines.now.lines
         → copies.items ≡ copies_of message.now h) }
     ensures apart { IfOk result (λ copies. AreApart copies.items) }
+    ensures due { IfOk result (λ copies. (config : HubConfig) (next_key : ℕ) (t : HubTables) → t.rows ≡ S.rows store.now → t.lines ≡ lines.now
+        → HubKeeps config next_key t → publish_size message.now ≤ config.limits.most → AreFor t.sessions.tenants copies.items) }
 {
     if is_hidden_name(&message.topic) {
         return Ok(Vec::new(alloc));
@@ -68,4 +82,109 @@ pub(crate) fn retained_copies(
         messages.append(&mut found)?;
     }
     Ok(messages)
+}
+
+/// Makes the session of a client ready for messages that may go to it, and for so many bytes more that are put out beside their
+/// PUBLISHes. `false` where fewer identifiers are free than the messages need (2.3.1). Errs where memory runs out.
+pub(crate) fn make_room_for(
+    sessions: &mut Sessions,
+    key: ClientKey,
+    messages: &[Message],
+    more: usize,
+) -> Result<bool, AllocError>
+    requires { IsFor key messages.now sessions.old.tenants }
+    ensures enough { IfOk result (λ enough. (cs : List (ℕ × Message)) (h : HubState) → HasSessions sessions.old.tenants h
+        → is_among key cs ≡ false → have_room (for_key key messages.now ++ cs) h ≡ (enough && have_room cs h)) }
+    ensures ready { result ≡ Ok true → IsReadyAt key messages.now more sessions.new.tenants }
+    ensures same { AreSameButRoom sessions.old.tenants sessions.new.tenants }
+    ensures still { AreStillReady sessions.old.tenants sessions.new.tenants }
+    ensures room { sessions.new.room ≡ sessions.old.room }
+{
+    match sessions.ready(key, messages, more) {
+        Ok(()) => Ok(true),
+        Err(PublishRefusal::Full) => Ok(false),
+        Err(_) => Err(AllocError),
+    }
+}
+
+/// Makes the session of each copy ready for it, and for so many bytes more. `false` where one has no identifier free for its
+/// copy (2.3.1). Errs where memory runs out.
+pub(crate) fn make_room(
+    sessions: &mut Sessions,
+    copies: &[Due],
+    more: usize,
+) -> Result<bool, AllocError>
+    requires apart { AreApart copies.now }
+    requires due { AreFor sessions.old.tenants copies.now }
+    ensures enough { IfOk result (λ enough. (h : HubState) → HasSessions sessions.old.tenants h → enough ≡ have_room copies.now h) }
+    ensures ready { result ≡ Ok true → AreReady more sessions.new.tenants copies.now }
+    ensures same { AreSameButRoom sessions.old.tenants sessions.new.tenants }
+    ensures still { AreStillReady sessions.old.tenants sessions.new.tenants }
+    ensures room { sessions.new.room ≡ sessions.old.room }
+{
+    for due in copies {
+        if !make_room_for(sessions, due.0, slice::from_ref(&due.1), more)? {
+            return Ok(false);
+        }
+    }
+    Ok(true)
+}
+
+// The session of a client publishes messages, one after another.
+fn publish_for(sessions: &mut Sessions, key: ClientKey, messages: Vec<Message>)
+    requires { IsReadyAt key messages.items 0 sessions.old.tenants }
+    ensures tenants { sessions.new.tenants ≡ placed_all (for_key key messages.items) sessions.old.tenants }
+    ensures room { sessions.new.room ≡ sessions.old.room }
+{
+    for message in messages {
+        sessions.publish(key, message);
+    }
+}
+
+// Each copy is published by the session that it is for, one after another.
+fn publish_all(sessions: &mut Sessions, copies: Vec<Due>)
+    requires apart { AreApart copies.items }
+    requires ready { AreReady 0 sessions.old.tenants copies.items }
+    ensures tenants { sessions.new.tenants ≡ placed_all copies.items sessions.old.tenants }
+    ensures room { sessions.new.room ≡ sessions.old.room }
+{
+    for (key, message) in copies {
+        sessions.publish(key, message);
+    }
+}
+
+/// Messages are placed for a client, whose session is ready for them (3.3.5): the step goes on so. It takes no memory.
+pub(crate) fn place_for(sessions: &mut Sessions, key: ClientKey, messages: Vec<Message>)
+    requires { IsReadyAt key messages.items 0 sessions.old.tenants }
+    ensures goes { (config : HubConfig) (clock : ℕ) (next_key : ℕ) (t : HubTables) (said : List Act) → t.sessions.tenants ≡ sessions.old.tenants → CanPlace t
+        → GoesBy (place_all (for_key key messages.items)) (hub_of config clock next_key t) said
+        (hub_of config clock next_key (with_tenants sessions.new.tenants t)) (said ++ placed_acts (for_key key messages.items)) }
+    ensures tenants { sessions.new.tenants ≡ placed_all (for_key key messages.items) sessions.old.tenants }
+    ensures room { sessions.new.room ≡ sessions.old.room }
+{
+    publish_for(sessions, key, messages);
+}
+
+/// Copies are placed, each for the client whose session is ready for it (3.3.5): the step goes on so. It takes no memory.
+pub(crate) fn place_all(sessions: &mut Sessions, copies: Vec<Due>)
+    requires apart { AreApart copies.items }
+    requires ready { AreReady 0 sessions.old.tenants copies.items }
+    ensures goes { (config : HubConfig) (clock : ℕ) (next_key : ℕ) (t : HubTables) (said : List Act) → t.sessions.tenants ≡ sessions.old.tenants → CanPlace t
+        → GoesBy (place_all copies.items) (hub_of config clock next_key t) said
+        (hub_of config clock next_key (with_tenants sessions.new.tenants t)) (said ++ placed_acts copies.items) }
+    ensures tenants { sessions.new.tenants ≡ placed_all copies.items sessions.old.tenants }
+    ensures room { sessions.new.room ≡ sessions.old.room }
+{
+    publish_all(sessions, copies);
+}
+
+/// The acts that say that copies are placed. They share the messages' bytes. Errs where memory runs out.
+pub(crate) fn placed_acts(alloc: Global, copies: &[Due]) -> Result<Vec<Act>, AllocError>
+    ensures { IfOk result (λ acts. acts.items ≡ placed_acts copies.now) }
+{
+    let mut acts = Vec::new(alloc);
+    for due in copies {
+        acts.push(Act::Placed(due.0, due.1.clone()?))?;
+    }
+    Ok(acts)
 }

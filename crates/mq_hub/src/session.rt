@@ -1,8 +1,12 @@
 //! The session of a client at a broker.
 
-ghost use Rattle.std.specs.Prelude.{◌≡◌, IfOk};
+ghost use Rattle.std.specs.Prelude.{◌≡◌, ℕ, List, [], ◌∷◌, IfOk};
+ghost use Rattle.mq_packet.specs.declared.message.Message.{Message};
+ghost use Rattle.mq_hub.specs.Placing.{published, IsReady, Readies};
 
-use mq_end::ServerEnd;
+use mq_end::{PublishRefusal, ServerEnd};
+use mq_flow::next_laws;
+use mq_packet::{Message, spelling_laws};
 use mq_topic::ClientKey;
 use mq_wire::Text;
 use std::alloc::{AllocError, Global};
@@ -71,4 +75,38 @@ impl Seat {
         let tenant = &mut *self.tenant;
         mem::swap(&mut tenant.end, end);
     }
+}
+
+impl Seat {
+    /// Makes its end ready for messages, and for so many bytes more.
+    pub(crate) fn ready(&mut self, messages: &[Message], more: usize) -> Result<(), PublishRefusal>
+        ensures end { Readies messages.now more result self.old.end self.new.end }
+        ensures tenant { self.new ≡ record self.old { end = self.new.end } }
+    {
+        let tenant = &mut *self.tenant;
+        tenant.end.ready(messages, more)
+    }
+
+    /// Its end publishes a message, for which it is ready.
+    pub(crate) fn publish(&mut self, message: Message)
+        requires { IsReady (message ∷ []) 0 self.old.end }
+        ensures tenant { self.new ≡ record self.old { end = published message self.old.end } }
+        ensures left { (rest : List Message) (more : ℕ) → IsReady (message ∷ rest) more self.old.end
+            → IsReady rest more (published message self.old.end) }
+    {
+        let tenant = &mut *self.tenant;
+        publish_ready(&mut tenant.end, message);
+    }
+}
+
+// An end publishes a message, for which it is ready.
+fn publish_ready(end: &mut ServerEnd, message: Message)
+    requires { IsReady (message ∷ []) 0 end.old }
+    ensures end { end.new ≡ published message end.old }
+    ensures left { (rest : List Message) (more : ℕ) → IsReady (message ∷ rest) more end.old
+        → IsReady rest more (published message end.old) }
+{
+    next_laws();
+    spelling_laws();
+    let _ = end.publish(message);
 }

@@ -6,10 +6,13 @@ ghost use Rattle.std.specs.List.{prefix_len};
 ghost use Rattle.std.specs.Str.{bytes_eq};
 ghost use Rattle.std.specs.Option.{option_copied};
 ghost use Rattle.mq_route.specs.Hub.{key_of};
+ghost use Rattle.mq_packet.specs.declared.message.Message.{Message};
+ghost use Rattle.mq_hub.specs.Placing.{placed_at, IsReadyAt, ReadiesAt};
 ghost use Rattle.mq_hub.specs.Sessions.{drained, sessions_of, tenant_of, with_server, without_tenant, AreBelow, AreAscending};
 
 use crate::session::{Seat, Tenant};
-use mq_end::ServerEnd;
+use mq_end::{PublishRefusal, ServerEnd};
+use mq_packet::Message;
 use mq_topic::ClientKey;
 use mq_wire::Text;
 use std::alloc::{AllocError, Global};
@@ -202,5 +205,60 @@ impl Sessions {
         let tenant = take_at(&mut self.tenants, key)?;
         drop_key(&mut self.keys, &tenant.client);
         Some(tenant)
+    }
+}
+
+// Makes the end of the session of a key ready for messages, and for so many bytes more.
+fn ready_at(
+    tenants: &mut [Seat],
+    key: ClientKey,
+    messages: &[Message],
+    more: usize,
+) -> Result<(), PublishRefusal>
+    requires ascending { AreAscending tenants.old }
+    requires there { IsSome (tenant_of key tenants.old) }
+    ensures { ReadiesAt key messages.now more result tenants.old tenants.new }
+{
+    let at = place(tenants, key);
+    tenants[at].ready(messages, more)
+}
+
+// The end of the session of a key publishes a message, for which it is ready.
+fn publish_at(tenants: &mut [Seat], key: ClientKey, message: Message)
+    requires ascending { AreAscending tenants.old }
+    requires ready { IsReadyAt key (message ∷ []) 0 tenants.old }
+    ensures tenants { tenants.new ≡ placed_at key message tenants.old }
+    ensures left { (rest : List Message) (more : ℕ) → IsReadyAt key (message ∷ rest) more tenants.old
+        → IsReadyAt key rest more (placed_at key message tenants.old) }
+{
+    let at = place(tenants, key);
+    tenants[at].publish(message);
+}
+
+impl Sessions {
+    /// Makes the end of the session of a key ready for messages, and for so many bytes that are put out beside their PUBLISHes.
+    pub(crate) fn ready(
+        &mut self,
+        key: ClientKey,
+        messages: &[Message],
+        more: usize,
+    ) -> Result<(), PublishRefusal>
+        requires { IsSome (tenant_of key self.old.tenants) }
+        ensures readies { ReadiesAt key messages.now more result self.old.tenants self.new.tenants }
+        ensures ascending { AreAscending self.old.tenants }
+        ensures room { self.new.room ≡ self.old.room }
+    {
+        ready_at(self.tenants.as_mut_slice(), key, messages, more)
+    }
+
+    /// The end of the session of a key publishes a message, for which it is ready. It takes no memory.
+    pub(crate) fn publish(&mut self, key: ClientKey, message: Message)
+        requires { IsReadyAt key (message ∷ []) 0 self.old.tenants }
+        ensures tenants { self.new.tenants ≡ placed_at key message self.old.tenants }
+        ensures left { (rest : List Message) (more : ℕ) → IsReadyAt key (message ∷ rest) more self.old.tenants
+            → IsReadyAt key rest more self.new.tenants }
+        ensures room { self.new.room ≡ self.old.room }
+    {
+        publish_at(self.tenants.as_mut_slice(), key, message);
     }
 }

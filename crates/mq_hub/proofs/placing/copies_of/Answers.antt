@@ -1,7 +1,9 @@
 use Rattle.std.proofs.Common.{◌≡◌, ◌∙◌, List, ℕ, sym, ap, subst}
 use Rattle.mq_topic.specs.Rows.{Row, matched}
 use Rattle.mq_packet.specs.declared.message.Message.{Message}
-use Rattle.mq_hub.specs.Placing.{AreApart, copies_found}
+use Rattle.mq_hub.specs.Placing.{AreApart, AreFor, copies_found}
+use Rattle.mq_hub.specs.Lines.{LineTable}
+use Rattle.mq_hub.proofs.Owing.{due_for}
 use Rattle.std.proofs.lemmas.Float.{T_from_true}
 use Rattle.mq_hub.proofs.DueCopies.{found_alike, found_is, found_apart, hidden_none, if_ok}
 use Rattle.mq_hub.proofs.placing.copies_of.Goals as goal
@@ -26,3 +28,18 @@ returns-clause-apart g c =
     let xs = c.args.lines.now.lines in
     if_ok c.copies_found.result c.copies_found.ensures (λ copies e.
     subst (λ (cs : List (ℕ × Message)). AreApart cs) (sym e) (found_apart xs m c.in_ok-found.found.items (T_from_true _ c.in_ok-found.ensures.greatest.ascending)))
+
+pub returns-then-is_hidden_name-clause-due : goal.returns-then-is_hidden_name-clause-due
+returns-then-is_hidden_name-clause-due g c = λ config next_key t rows lines keeps fits.
+    subst (λ (cs : List (ℕ × Message)). AreFor t.sessions.tenants cs) (sym c.new.ensures.items) tt
+
+pub returns-clause-due : goal.returns-clause-due
+returns-clause-due g c =
+    let m = c.args.message.now in
+    let xs = c.args.lines.now.lines in
+    if_ok c.copies_found.result c.copies_found.ensures (λ copies e config next_key t rows lines keeps fits.
+    subst (λ (cs : List (ℕ × Message)). AreFor t.sessions.tenants cs)
+    (sym (e ∙ ap (copies_found xs m) c.in_ok-found.ensures.value
+    ∙ ap (λ (rs : List Row). copies_found xs m (matched m.topic rs)) (sym rows)
+    ∙ ap (λ (ls : LineTable). copies_found ls.lines m (matched m.topic t.rows)) (sym lines)))
+    (due_for config next_key t m keeps fits))

@@ -1,0 +1,110 @@
+-- The copies that are due are for sessions that stand, to which they may go.
+use Rattle.std.proofs.Common.{◌≡◌, ℕ, ◌+◌, ◌≤◌, Bool, true, false, cond, not, ◌&&◌, List, [], ◌∷◌, ◌++◌, length, Option, Some, None, is_some, refl, sym, ap, subst, ◌∙◌, arith, true≢false}
+use Rattle.std.specs.FinMap.{put}
+use Rattle.std.specs.FinMap.Entries.{by_order}
+use Rattle.std.specs.List.{AllByRecursion}
+use Rattle.std.specs.Ordering.{nat_cmp}
+use Rattle.std.specs.declared.cmp.Ordering.{Ordering}
+use Rattle.std.specs.declared.cmp.Ordering.TheVariants.{Less, Equal, Greater}
+use Rattle.mq_topic.specs.declared.qos.Qos.{Qos}
+use Rattle.mq_topic.specs.declared.qos.Qos.TheVariants.{Q0, Q1, Q2}
+use Rattle.mq_topic.specs.Matching.{is_match}
+use Rattle.mq_topic.specs.Rows.{Row, greater_of, matched, qos_of}
+use Rattle.mq_packet.specs.declared.message.Message.{Message}
+use Rattle.mq_decode.specs.Limits.{Bounds}
+use Rattle.mq_end.specs.declared.state.State.TheVariants.{Closed, Up}
+use Rattle.mq_end.specs.Both.{has_identifier}
+use Rattle.mq_end.specs.End.{is_up}
+use Rattle.mq_end.specs.Sizes.{identifier_size, publish_size}
+use Rattle.mq_route.specs.declared.config.HubConfig.{HubConfig}
+use Rattle.mq_route.specs.Copies.{copy, copy_by, lesser}
+use Rattle.mq_route.specs.Hub.{Line, for_key, up_on}
+use Rattle.mq_hub.specs.declared.session.Tenant.{Tenant}
+use Rattle.mq_hub.specs.Keeps.{HubKeeps, IsSeated, Stands}
+use Rattle.mq_hub.specs.Placing.{AreFor, IsFor, MayGo, copies_found}
+use Rattle.mq_hub.specs.Seen.{HubTables}
+use Rattle.mq_hub.specs.Sessions.{tenant_of}
+use Rattle.mq_hub.proofs.Readiness.{all_there, key_there}
+
+-- ---- clients that are found have rows
+
+all_put : (P : ℕ → Type 0) (k : ℕ) (q : Qos) (es : List (ℕ × Qos)) → P k → AllByRecursion (λ e. P e.0) es → AllByRecursion (λ e. P e.0) (put nat_cmp k q es)
+all_put P k q [] p all = (p, tt)
+all_put P k q (e ∷ es) p all = go (nat_cmp k e.0) (all_put P k q es p all.1)
+  where
+    go : (o : Ordering) → AllByRecursion (λ e. P e.0) (put nat_cmp k q es) → AllByRecursion (λ e. P e.0) (by_order o ((k, q) ∷ e ∷ es) ((e.0, q) ∷ es) (e ∷ put nat_cmp k q es))
+    go Less rest = (p, (all.0, all.1))
+    go Equal rest = (all.0, all.1)
+    go Greater rest = (all.0, rest)
+
+found_owned : (P : ℕ → Type 0) (name : List ℕ) (rows : List Row) → AllByRecursion (λ r. P r.0.0) rows → AllByRecursion (λ e. P e.0) (matched name rows)
+found_owned P name [] all = tt
+found_owned P name (r ∷ rows) all = go (is_match r.0.1 name) (found_owned P name rows all.1)
+  where
+    go : (b : Bool) → AllByRecursion (λ e. P e.0) (matched name rows)
+        → AllByRecursion (λ e. P e.0) (cond b (put nat_cmp r.0.0 (greater_of r.1 (qos_of r.0.0 (matched name rows))) (matched name rows)) (matched name rows))
+    go true rest = all_put P r.0.0 (greater_of r.1 (qos_of r.0.0 (matched name rows))) (matched name rows) all.0 rest
+    go false rest = rest
+
+-- ---- a copy is no longer than its message
+
+lesser_size : (a b : Qos) → identifier_size (lesser a b) ≤ identifier_size a
+lesser_size Q0 q = omega arith
+lesser_size Q1 Q0 = omega arith
+lesser_size Q1 Q1 = omega arith
+lesser_size Q1 Q2 = omega arith
+lesser_size Q2 Q0 = omega arith
+lesser_size Q2 Q1 = omega arith
+lesser_size Q2 Q2 = omega arith
+
+copy_size : (q : Qos) (retain : Bool) (m : Message) → publish_size (copy q retain m) ≤ publish_size m
+copy_size q retain m = let less = lesser_size m.qos q in omega arith
+
+-- ---- the copies
+
+up_where : (b : Bool) → is_up (cond b Up Closed) ≡ b
+up_where true = refl
+up_where false = refl
+
+stands_there : (key : ℕ) (ts : List Tenant) → Stands ts key → (s : Tenant) × (tenant_of key ts ≡ Some s)
+stands_there key ts stands = go (tenant_of key ts) refl
+  where
+    go : (o : Option Tenant) → tenant_of key ts ≡ o → (s : Tenant) × (tenant_of key ts ≡ Some s)
+    go (Some s) e = (s, e)
+    go None e = absurd (true≢false (sym stands ∙ ap is_some e))
+
+one_for : (key : ℕ) (m : Message) (up : Bool) (ts : List Tenant) (rest : List (ℕ × Message)) → ((has_identifier m.qos ≡ false → up ≡ true) → IsFor key (m ∷ []) ts) → AreFor ts rest
+    → AreFor ts (for_key key (cond (not (has_identifier m.qos) && not up) [] (m ∷ [])) ++ rest)
+one_for key m up ts rest for all = go (has_identifier m.qos) up refl refl
+  where
+    go : (a b : Bool) → has_identifier m.qos ≡ a → up ≡ b → AreFor ts (for_key key (cond (not a && not b) [] (m ∷ [])) ++ rest)
+    go true b ea eb = (for (λ none. absurd (true≢false (sym ea ∙ none))), all)
+    go false true ea eb = (for (λ none. eb), all)
+    go false false ea eb = all
+
+pub due_for : (config : HubConfig) (next_key : ℕ) (t : HubTables) (m : Message) → HubKeeps config next_key t → publish_size m ≤ config.limits.most
+    → AreFor t.sessions.tenants (copies_found t.lines.lines m (matched m.topic t.rows))
+due_for config next_key t m keeps fits = go (matched m.topic t.rows) (found_owned (Stands t.sessions.tenants) m.topic t.rows keeps.owned)
+  where
+    go : (found : List (ℕ × Qos)) → AllByRecursion (λ e. Stands t.sessions.tenants e.0) found → AreFor t.sessions.tenants (copies_found t.lines.lines m found)
+    go [] all = tt
+    go (f ∷ found) all =
+        let s = stands_there f.0 t.sessions.tenants all.0 in
+        let seat = all_there (IsSeated config t.lines.lines) f.0 s.0 t.sessions.tenants keeps.seated s.1 in
+        let key = key_there f.0 s.0 t.sessions.tenants s.1 in
+        let size = copy_size f.1 false m in
+        let limit = ap (λ (b : Bounds). b.most) seat.limit in
+        one_for f.0 (copy f.1 false m) (is_some (up_on f.0 t.lines.lines)) t.sessions.tenants (copies_found t.lines.lines m found)
+        (λ up. record {
+          tenant = s.0;
+          there = s.1;
+          may_go = (
+            record {
+              known = seat.known;
+              up = λ none. ap is_up seat.state ∙ up_where (is_some (up_on s.0.key t.lines.lines)) ∙ ap (λ (k : ℕ). is_some (up_on k t.lines.lines)) key ∙ up none;
+              fits = omega arith;
+            },
+            tt,
+          );
+        })
+        (go found all.1)
