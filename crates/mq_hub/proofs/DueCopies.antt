@@ -1,8 +1,7 @@
 -- Copies that are due, and sessions that are ready for them.
-use Rattle.std.proofs.Common.{◌≡◌, ℕ, ◌<◌, ◌+◌, Bool, true, false, cond, ◌&&◌, List, [], ◌∷◌, ◌++◌, Option, Some, None, is_some, Result, Ok, Err, IfOk, T, refl, sym, ap, ap₂, subst, ◌∙◌, append_assoc, append-nil, eqb, ne_eqb, arith}
+use Rattle.std.proofs.Common.{◌≡◌, ℕ, ◌<◌, Bool, true, false, cond, ◌&&◌, List, [], ◌∷◌, ◌++◌, Option, Some, is_some, Result, Ok, Err, IfOk, T, refl, sym, ap, ap₂, ◌∙◌, append_assoc, eqb, ne_eqb, arith}
 use Rattle.std.specs.FinMap.{is_sorted}
 use Rattle.std.specs.FinMap.Entries.{below_all}
-use Rattle.std.specs.List.{flat_map, list_any}
 use Rattle.std.specs.Option.{option_to_list}
 use Rattle.std.specs.Ordering.{nat_cmp, is_lt}
 use Rattle.std.specs.declared.cmp.Ordering.{Ordering}
@@ -12,8 +11,7 @@ use Rattle.mq_topic.specs.declared.qos.Qos.{Qos}
 use Rattle.mq_topic.specs.Rows.{matched}
 use Rattle.mq_packet.specs.declared.message.Message.{Message}
 use Rattle.mq_packet.specs.declared.packet.Request.{Request}
-use Rattle.mq_end.specs.Both.{has_identifier}
-use Rattle.mq_route.specs.Copies.{copy, copy_by, is_hidden_name, may_go, retained_for}
+use Rattle.mq_route.specs.Copies.{copy, copy_by, is_hidden_name, retained_for}
 use Rattle.mq_route.specs.Hub.{HubState, Line, copies_of, for_key, up_on}
 use Rattle.mq_route.specs.Work.{retained_copies}
 use Rattle.mq_hub.specs.Placing.{AreApart, AreUpAlike, copies_found, is_among}

@@ -1,5 +1,5 @@
 -- The copies that are due are for sessions that stand, to which they may go.
-use Rattle.std.proofs.Common.{◌≡◌, ℕ, ◌+◌, ◌≤◌, Bool, true, false, cond, not, ◌&&◌, List, [], ◌∷◌, ◌++◌, length, Option, Some, None, is_some, refl, sym, ap, subst, ◌∙◌, arith, true≢false}
+use Rattle.std.proofs.Common.{◌≡◌, ℕ, ◌≤◌, Bool, true, false, cond, not, ◌&&◌, List, [], ◌∷◌, ◌++◌, Option, Some, None, is_some, refl, sym, ap, ◌∙◌, arith, true≢false}
 use Rattle.std.specs.FinMap.{put}
 use Rattle.std.specs.FinMap.Entries.{by_order}
 use Rattle.std.specs.List.{AllByRecursion}
@@ -17,11 +17,11 @@ use Rattle.mq_end.specs.Both.{has_identifier}
 use Rattle.mq_end.specs.End.{is_up}
 use Rattle.mq_end.specs.Sizes.{identifier_size, publish_size}
 use Rattle.mq_route.specs.declared.config.HubConfig.{HubConfig}
-use Rattle.mq_route.specs.Copies.{copy, copy_by, lesser}
-use Rattle.mq_route.specs.Hub.{Line, for_key, up_on}
+use Rattle.mq_route.specs.Copies.{copy, lesser}
+use Rattle.mq_route.specs.Hub.{for_key, up_on}
 use Rattle.mq_hub.specs.declared.session.Tenant.{Tenant}
 use Rattle.mq_hub.specs.Keeps.{HubKeeps, IsSeated, Stands}
-use Rattle.mq_hub.specs.Placing.{AreFor, IsFor, MayGo, copies_found}
+use Rattle.mq_hub.specs.Placing.{AreFor, IsFor, copies_found}
 use Rattle.mq_hub.specs.Seen.{HubTables}
 use Rattle.mq_hub.specs.Sessions.{tenant_of}
 use Rattle.mq_hub.proofs.Readiness.{all_there, key_there}

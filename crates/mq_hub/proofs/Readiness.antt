@@ -1,7 +1,7 @@
 -- Sessions whose ends are made ready for messages.
-use Rattle.std.proofs.Common.{◌≡◌, ℕ, zero, suc, ◌+◌, ◌-◌, ◌<◌, ◌≤◌, Bool, true, false, cond, not, ◌&&◌, ◌||◌, List, [], ◌∷◌, ◌++◌, map, filter, length, take, drop, get_or, Option, Some, None, IfSome, IfNone, Result, Ok, Err, OnOk, IfErr, refl, sym, ap, ap₂, subst, ◌∙◌, arith, eqb, ltb, nat_le, eqb-true, eq-eqb, ltb-true, ltb-false, lt-ltb, true≢false, zero-add}
+use Rattle.std.proofs.Common.{◌≡◌, ℕ, zero, suc, ◌+◌, ◌-◌, ◌<◌, ◌≤◌, Bool, true, false, cond, not, ◌&&◌, ◌||◌, List, [], ◌∷◌, ◌++◌, map, filter, length, take, drop, get_or, Option, Some, None, IfSome, IfNone, Result, Ok, Err, OnOk, IfErr, refl, sym, ap, ap₂, subst, ◌∙◌, arith, eqb, ltb, nat_le, eqb-true, eq-eqb, ltb-true, ltb-false, true≢false, zero-add}
 use Rattle.std.specs.Prelude.{⊤}
-use Rattle.std.proofs.lemmas.Bool.{cond-true, cond-false, ne_eqb, eqb-false, le-leb, lt-leb}
+use Rattle.std.proofs.lemmas.Bool.{cond-true, cond-false, ne_eqb, le-leb, lt-leb}
 use Rattle.std.proofs.lemmas.List.Sums.{sum_by-append}
 use Rattle.std.specs.List.{AllByRecursion, list_all, list_any}
 use Rattle.mq_packet.specs.declared.message.Message.{Message}
@@ -9,16 +9,16 @@ use Rattle.mq_flow.specs.Sender.{uses}
 use Rattle.mq_end.specs.declared.refusal.PublishRefusal.{PublishRefusal}
 use Rattle.mq_end.specs.declared.refusal.PublishRefusal.TheVariants as refusals
 use Rattle.mq_end.specs.Both.{has_identifier}
-use Rattle.mq_end.specs.End.{End, is_up}
+use Rattle.mq_end.specs.End.{is_up}
 use Rattle.mq_end.specs.Ready.{HasRoom}
 use Rattle.mq_end.specs.Server.{ready_refusal}
 use Rattle.mq_end.specs.Sizes.{publish_size}
-use Rattle.mq_end.specs.State.{EndState, Room, no_room}
+use Rattle.mq_end.specs.State.{EndState, Room}
 use Rattle.mq_route.specs.Hub.{HubState, HubSession, for_key}
 use Rattle.mq_route.specs.Work.{have_room, needs}
 use Rattle.mq_hub.specs.declared.session.Tenant.{Tenant}
-use Rattle.mq_hub.specs.Sessions.{AreAscending, sessions_of, session_of, tenant_of, served_by, with_server}
-use Rattle.mq_hub.specs.Placing.{AreApart, AreFor, AreReady, AreSameButRoom, AreStillReady, HasSessions, IsFor, IsReadyAt, MayGo, Readies, ReadiesAt, is_among, placed_at, published, roomless}
+use Rattle.mq_hub.specs.Sessions.{AreAscending, sessions_of, session_of, tenant_of, with_server}
+use Rattle.mq_hub.specs.Placing.{AreApart, AreFor, AreReady, AreSameButRoom, AreStillReady, HasSessions, IsFor, IsReadyAt, MayGo, ReadiesAt, is_among, placed_at, published, roomless}
 
 some_none : {X : Type 0} {x : X} → Some x ≡ None → ⊥
 some_none e = absurd cc
@@ -321,7 +321,8 @@ module _ (key : ℕ) (ms : List Message) (more : ℕ) (answer : Result ⊤ Publi
           let is : was.tenant ≡ r.tenant = some_same (sym there ∙ r.there) in
           record {
             tenant = record was.tenant { end = rooming r.end.room was.tenant.end };
-            there = subst (λ (x : ℕ). tenant_of x (changed_at (rooming r.end.room) key old) ≡ Some (record was.tenant { end = rooming r.end.room was.tenant.end })) same (changed_own (rooming r.end.room) key was.tenant old there);
+            there = subst (λ (x : ℕ). tenant_of x (changed_at (rooming r.end.room) key old) ≡ Some (record was.tenant { end = rooming r.end.room was.tenant.end })) same
+                (changed_own (rooming r.end.room) key was.tenant old there);
             ready = record {
               accepted = was.ready.accepted;
               room = subst (λ (x : Tenant). HasRoom others n (rooming r.end.room x.end)) (sym is)

@@ -1,5 +1,5 @@
 -- Copies that are placed on a broker's tables are placed as the step's definition says.
-use Rattle.std.proofs.Common.{◌≡◌, ℕ, Bool, true, false, cond, ◌||◌, ◌<◌, List, [], ◌∷◌, ◌++◌, map, Option, Some, None, refl, sym, ap, ap₂, subst, ◌∙◌, append_assoc, append-nil, eqb, eqb-true, eq-eqb, true≢false}
+use Rattle.std.proofs.Common.{◌≡◌, ℕ, Bool, true, false, cond, ◌||◌, ◌<◌, List, [], ◌∷◌, ◌++◌, Option, Some, None, refl, sym, ap, ap₂, subst, ◌∙◌, append_assoc, append-nil, eqb, eqb-true, eq-eqb, true≢false}
 use Rattle.std.proofs.lemmas.Bool.{cond-true, cond-false, ne_eqb}
 use Rattle.std.specs.List.{AllByRecursion}
 use Rattle.mq_packet.specs.declared.message.Message.{Message}
@@ -12,13 +12,14 @@ use Rattle.mq_route.specs.declared.config.HubConfig.{HubConfig}
 use Rattle.mq_route.specs.declared.conn.Conn.{Conn}
 use Rattle.mq_route.specs.declared.stage.Stage.{Stage}
 use Rattle.mq_route.specs.declared.stage.Stage.TheVariants.{Fresh, UpFor, Shut}
-use Rattle.mq_route.specs.Hub.{HubState, HubSession, Line, end_of, for_key, is_for, is_line, knows, up_on, with_end, with_line}
+use Rattle.mq_route.specs.Copies.{kept}
+use Rattle.mq_route.specs.Hub.{HubState, HubSession, Line, copies_of, end_of, for_key, is_for, is_line, knows, up_on, with_end, with_line}
 use Rattle.mq_route.specs.Routed.{same_conn}
-use Rattle.mq_route.specs.Work.{Work, does, place, place_all, publishes_next, put_on, put_where, said, with_sessions}
+use Rattle.mq_route.specs.Work.{Work, does, place, place_all, publishes_next, put_on, put_where, said, share, with_sessions}
 use Rattle.mq_hub.specs.declared.session.Tenant.{Tenant}
 use Rattle.mq_hub.specs.Keeps.{AreApart, HubKeeps}
 use Rattle.mq_hub.specs.Does.{GoesBy}
-use Rattle.mq_hub.specs.Placing.{AreReady, CanPlace, IsReadyAt, placed_acts, placed_all, placed_at, published, with_tenants}
+use Rattle.mq_hub.specs.Placing.{AreReady, CanPlace, IsReadyAt, placed_acts, placed_all, placed_at, published, with_retained, with_tenants}
 use Rattle.mq_hub.specs.Seen.{HubTables, all_seen, hub_of, output_of, seen, waiting_by}
 use Rattle.mq_hub.specs.Sessions.{AreAscending, session_of, sessions_of, tenant_of}
 use Rattle.mq_hub.proofs.Connections.{itself, one_conn}
@@ -208,7 +209,8 @@ module _ (config : HubConfig) (clock next_key : ℕ) (t : HubTables) (key : ℕ)
 pub place_did : (key : ℕ) (m : Message) (w : Work) → (place key m w).did ≡ w.did ++ acts.Placed key m ∷ []
 unfolding place does
 place_did key m w =
-    ap (λ (did : List Act). did ++ acts.Placed key m ∷ []) (put_did (up_on key w.hub.lines) (publishes_next m (end_of key w.hub.sessions)).out (with_sessions (with_end key (publishes_next m (end_of key w.hub.sessions)).end) w))
+    ap (λ (did : List Act). did ++ acts.Placed key m ∷ []) (put_did (up_on key w.hub.lines) (publishes_next m (end_of key w.hub.sessions)).out
+    (with_sessions (with_end key (publishes_next m (end_of key w.hub.sessions)).end) w))
 
 -- ---- copies, one after another
 
@@ -289,4 +291,34 @@ goes config clock next_key t said cs old new same can all is = record {
       ∙ ap (λ (ts : List Tenant). hub_of config clock next_key (with_tenants ts t)) (ap (placed_all cs) same ∙ sym is);
   did = λ w at did. (placed_goes config clock next_key t cs can.ascending can.apart (subst (λ (ts : List Tenant). ArePlaceable ts cs) (sym same) all) w at).1
       ∙ ap (λ (did : List Act). did ++ placed_acts cs) did;
+}
+
+-- ---- a message that is shared
+
+abbrev retaining : Act → Message → Work → Work
+retaining act m w = said act (record w { hub = record w.hub { retained = kept m w.hub.retained } })
+
+retained_at : (config : HubConfig) (clock next_key : ℕ) (t : HubTables) (act : Act) (m : Message) (ms : List Message) → ms ≡ kept m t.retained.messages
+    → (w : Work) → w.hub ≡ hub_of config clock next_key t
+    → (retaining act m w).hub ≡ hub_of config clock next_key (with_retained ms t)
+retained_at config clock next_key t act m ms keeps w at =
+    ap (λ (h : HubState). record h { retained = kept m h.retained }) at
+    ∙ ap (λ (xs : List Message). record (hub_of config clock next_key t) { retained = xs }) (sym keeps)
+
+-- a message that is shared: retained, said, and its copies placed
+pub shares : (config : HubConfig) (clock next_key : ℕ) (t : HubTables) (said_before says : List Act) (act : Act) (m : Message) (cs : List (ℕ × Message)) (old new : List Tenant) (ms : List Message)
+    → t.sessions.tenants ≡ old → ms ≡ kept m t.retained.messages → CanPlace t → copies_of m (hub_of config clock next_key t) ≡ cs → ArePlaceable old cs
+    → new ≡ placed_all cs old → says ≡ (said_before ++ act ∷ []) ++ placed_acts cs
+    → GoesBy (share act m) (hub_of config clock next_key t) said_before (hub_of config clock next_key (with_tenants new (with_retained ms t))) says
+unfolding share
+shares config clock next_key t said_before says act m cs old new ms same keeps can due all is says_is = record {
+  hub = λ w at did.
+      ap (λ (xs : List (ℕ × Message)). (place_all xs (retaining act m w)).hub) (ap (copies_of m) at ∙ due)
+      ∙ (goes config clock next_key (with_retained ms t) (said_before ++ act ∷ []) cs old new same (record { ascending = can.ascending; apart = can.apart }) all is).hub (retaining act m w)
+      (retained_at config clock next_key t act m ms keeps w at) (ap (λ (xs : List Act). xs ++ act ∷ []) did);
+  did = λ w at did.
+      ap (λ (xs : List (ℕ × Message)). (place_all xs (retaining act m w)).did) (ap (copies_of m) at ∙ due)
+      ∙ (goes config clock next_key (with_retained ms t) (said_before ++ act ∷ []) cs old new same (record { ascending = can.ascending; apart = can.apart }) all is).did (retaining act m w)
+      (retained_at config clock next_key t act m ms keeps w at) (ap (λ (xs : List Act). xs ++ act ∷ []) did)
+      ∙ sym says_is;
 }

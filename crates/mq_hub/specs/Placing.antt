@@ -1,5 +1,5 @@
 -- Copies of messages that are placed for clients (3.3.5, 3.8.4).
-use Rattle.std.specs.Prelude.{◌≡◌, ⊤, ℕ, ◌≤◌, ◌==◌, Bool, true, false, if◌then◌else◌, List, [], ◌∷◌, ◌++◌, map, Option, Some, None, is_some, IfSome, IfNone, Result, Err, OnOk, IfErr}
+use Rattle.std.specs.Prelude.{◌≡◌, ⊤, ℕ, ◌≤◌, ◌==◌, Bool, true, false, if◌then◌else◌, List, [], ◌∷◌, ◌++◌, map, Some, None, is_some, IfSome, IfNone, Result, Err, OnOk, IfErr}
 use Rattle.std.specs.List.{AllByRecursion, flat_map, list_any}
 use Rattle.mq_topic.specs.declared.qos.Qos.{Qos}
 use Rattle.mq_packet.specs.declared.message.Message.{Message}
@@ -145,3 +145,7 @@ pub record CanPlace (t : HubTables) : Type 0 where
 -- the tables with other sessions
 abbrev pub with_tenants : List Tenant → HubTables → HubTables
 with_tenants ts t = record t { sessions = record t.sessions { tenants = ts } }
+
+-- and with other retained messages
+abbrev pub with_retained : List Message → HubTables → HubTables
+with_retained ms t = record t { retained = record t.retained { messages = ms } }

@@ -16,5 +16,6 @@ mod removed;
 mod retained;
 mod session;
 mod sessions;
+mod sharing;
 mod tables;
 mod welcome;

@@ -1,4 +1,4 @@
-use Rattle.std.proofs.Common.{◌≡◌, ◌∙◌, List, ℕ, sym, ap, subst}
+use Rattle.std.proofs.Common.{◌∙◌, List, ℕ, sym, ap, subst}
 use Rattle.mq_topic.specs.Rows.{Row, matched}
 use Rattle.mq_packet.specs.declared.message.Message.{Message}
 use Rattle.mq_hub.specs.Placing.{AreApart, AreFor, copies_found}

@@ -1,4 +1,4 @@
-use Rattle.std.proofs.Common.{◌≡◌, ◌∙◌, ◌+◌, ◌<◌, ◌∷◌, ◌++◌, ◌&&◌, [], ℕ, suc, List, Bool, false, Ok, length, take, drop, get_or, sym, ap, subst, add-one, arith}
+use Rattle.std.proofs.Common.{◌≡◌, ◌∙◌, ◌+◌, ◌<◌, ◌∷◌, ◌++◌, ◌&&◌, [], ℕ, suc, List, Bool, false, Ok, length, take, drop, sym, ap, subst, add-one, arith}
 use Rattle.mq_packet.specs.declared.message.Message.{Message}
 use Rattle.mq_route.specs.Hub.{for_key}
 use Rattle.mq_route.specs.Work.{have_room}
@@ -50,7 +50,8 @@ loop-due-preserved c =
     let front = drop_at cs i d l ∙ ap (λ (x : ℕ × Message). x ∷ rest) (sym c.due-item.is) in
     let enough = c.if-not-branch.false in
     let own = c.in_ok-make_room_for.ensures.ready (ap (λ (b : Bool). Ok b) enough) in
-    let own_ready = subst (λ (x : ℕ × Message). IsReadyAt x.0 (x.1 ∷ []) c.args.more new) c.due-item.is (subst (λ (ms : List Message). IsReadyAt d.0 ms c.args.more new) c.from_ref.ensures.value own) in
+    let own_ready = subst (λ (x : ℕ × Message). IsReadyAt x.0 (x.1 ∷ []) c.args.more new) c.due-item.is
+    (subst (λ (ms : List Message). IsReadyAt d.0 ms c.args.more new) c.from_ref.ensures.value own) in
     record {
       due = are_for_same old new cs c.make_room_for.ensures.same c.loop-due.invariant.due;
       enough = λ h has.

@@ -1,4 +1,4 @@
-use Rattle.std.proofs.Common.{[], sym, subst}
+use Rattle.std.proofs.Common.{[], subst}
 use Rattle.mq_end.specs.Ready.{HasRoom}
 use Rattle.mq_end.specs.State.{EndState}
 use Rattle.mq_hub.proofs.Publishing.{first_of, rest_of, published_is, in_ok}

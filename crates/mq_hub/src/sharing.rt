@@ -1,0 +1,77 @@
+//! A message that is shared: it is retained, and placed for all that match (3.3.1.3, 3.3.5).
+
+ghost use Rattle.std.specs.Prelude.{◌≡◌, ◌≤◌, ◌<◌, ◌++◌, ℕ, length};
+ghost use Rattle.mq_route.specs.declared.config.HubConfig.{HubConfig};
+ghost use Rattle.mq_route.specs.Hub.{copies_of};
+ghost use Rattle.mq_route.specs.Work.{share};
+ghost use Rattle.mq_hub.specs.Does.{GoesBy};
+ghost use Rattle.mq_hub.specs.Placing.{placed_acts, with_retained, with_tenants, AreApart, AreReady, CanPlace};
+ghost use Rattle.mq_hub.specs.Seen.{HubTables, hub_of};
+
+use crate::doings::Doings;
+use crate::placing::{Due, place_all};
+use crate::retained::Retained;
+use crate::sessions::Sessions;
+use mq_packet::Message;
+use mq_route::Act;
+use mq_topic::TopicName;
+
+/// A message that is to be shared, with all that this takes.
+#[derive(Drop)]
+pub(crate) struct Sharing {
+    /// Its topic name.
+    pub(crate) name: TopicName,
+    /// The message.
+    pub(crate) message: Message,
+    /// What says that it is taken, or that it is a will's.
+    pub(crate) act: Act,
+    /// The copies that are due.
+    pub(crate) copies: Vec<Due>,
+    /// The acts that say that these are placed.
+    pub(crate) acts: Vec<Act>,
+}
+
+// Says acts, for which there is room.
+fn say_all(doings: &mut Doings, acts: Vec<Act>)
+    requires { length acts.items ≤ doings.old.room }
+    ensures { doings.new.acts ≡ doings.old.acts ++ acts.items }
+{
+    for act in acts {
+        doings.say(act);
+    }
+}
+
+impl Sharing {
+    /// The message is retained (3.3.1.3) and its copies are placed (3.3.5), after the act that says so: the step goes on so. It
+    /// takes no memory.
+    pub(crate) fn perform(
+        self,
+        retained: &mut Retained,
+        sessions: &mut Sessions,
+        doings: &mut Doings,
+    )
+        requires name { self.name ≡ self.message.topic }
+        requires retained { 0 < retained.old.room }
+        requires apart { AreApart self.copies.items }
+        requires ready { AreReady 0 sessions.old.tenants self.copies.items }
+        requires acts { self.acts.items ≡ placed_acts self.copies.items }
+        requires room { length self.acts.items < doings.old.room }
+        ensures goes { (config : HubConfig) (clock : ℕ) (next_key : ℕ) (t : HubTables) → t.sessions.tenants ≡ sessions.old.tenants
+            → t.retained.messages ≡ retained.old.messages → CanPlace t → copies_of self.message (hub_of config clock next_key t) ≡ self.copies.items
+            → GoesBy (share self.act self.message) (hub_of config clock next_key t) doings.old.acts
+            (hub_of config clock next_key (with_tenants sessions.new.tenants (with_retained retained.new.messages t))) doings.new.acts }
+        ensures room { sessions.new.room ≡ sessions.old.room }
+    {
+        let Sharing {
+            name,
+            message,
+            act,
+            copies,
+            acts,
+        } = self;
+        retained.keep(name, message);
+        doings.say(act);
+        say_all(doings, acts);
+        place_all(sessions, copies);
+    }
+}
