@@ -36,6 +36,11 @@ impl Figures {
         per_second(self.packets, self.nanoseconds)
     }
 
+    /// Nanoseconds a packet.
+    pub(crate) fn nanoseconds_per_packet(self) -> Ratio {
+        Ratio::new(self.nanoseconds, self.packets)
+    }
+
     /// How fast it is as against another.
     pub(crate) fn ratio_to(self, other: Figures) -> Ratio {
         Ratio::new(self.bytes_per_second(), other.bytes_per_second())

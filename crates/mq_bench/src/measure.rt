@@ -15,6 +15,9 @@ const STREAM: usize = 64_000_000;
 /// How often each work is done. The middle one of its times counts.
 const ROUNDS: usize = 5;
 
+/// How long the pieces are in which a stream is decoded: a byte, little, what a packet of a network carries, and much.
+const PIECES: [usize; 4] = [1, 64, 1_500, 65_536];
+
 /// How many nanoseconds a work takes.
 fn time_once(
     rt: &impl Clock,
@@ -62,7 +65,8 @@ fn print_row(
     let packets = figures.packets_per_second();
     let of_scan = figures.ratio_to(plain.scan).to_string(alloc)?;
     let of_copy = figures.ratio_to(plain.copy).to_string(alloc)?;
-    println!(rt; "  {name:<26} {megabytes:>8} {packets:>12} {of_scan:>8} {of_copy:>8}")?;
+    let each = figures.nanoseconds_per_packet();
+    println!(rt; "  {name:<26} {megabytes:>8} {packets:>12} {each:>8} {of_scan:>8} {of_copy:>8}")?;
     Ok(())
 }
 
@@ -84,7 +88,7 @@ fn print_heading(rt: &impl Print, subject: Subject, stream: &Stream<'_>) -> anyh
     let bytes = stream.byte_count();
     let packets = stream.packet_count();
     println!(rt; "{name}: {bytes} bytes, {packets} packets")?;
-    println!(rt; "                                 MB/s    packets/s  of scan  of copy")?;
+    println!(rt; "                                 MB/s    packets/s ns/packet of scan  of copy")?;
     Ok(())
 }
 
@@ -103,9 +107,11 @@ fn measure_stream(
     };
     print_row(rt, alloc, Work::Scan, plain.scan, plain)?;
     print_row(rt, alloc, Work::Copy, plain.copy, plain)?;
-    measure_work(rt, alloc, Work::Decode(1), &stream, plain)?;
-    measure_work(rt, alloc, Work::Decode(64), &stream, plain)?;
-    measure_work(rt, alloc, Work::Decode(65_536), &stream, plain)?;
+    measure_work(rt, alloc, Work::View, &stream, plain)?;
+    for piece in PIECES {
+        measure_work(rt, alloc, Work::Decode(piece), &stream, plain)?;
+    }
+    measure_work(rt, alloc, Work::Step(65_536), &stream, plain)?;
     measure_work(rt, alloc, Work::Encode, &stream, plain)
 }
 
