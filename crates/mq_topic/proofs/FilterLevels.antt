@@ -18,7 +18,7 @@ or_no : (a : Bool) → (a || false) ≡ true → a ≡ true
 or_no true e = refl
 or_no false e = absurd cc
 
-any_wildcard : (l : List ℕ) → list_any is_wildcard l ≡ (list_any is_plus l || list_any is_hash l)
+pub any_wildcard : (l : List ℕ) → list_any is_wildcard l ≡ (list_any is_plus l || list_any is_hash l)
 any_wildcard [] = refl
 any_wildcard (b ∷ l) = ap (λ (r : Bool). is_wildcard b || r) (any_wildcard l) ∙ or_swap (is_plus b) (is_hash b) (list_any is_plus l) (list_any is_hash l)
 

@@ -12,6 +12,7 @@ pub mod Leaving
 pub mod Levels
 pub mod Nodes
 pub mod Inside
+pub mod Mapping
 pub mod Noting
 pub mod Placing
 pub mod Searching

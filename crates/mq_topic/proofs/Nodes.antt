@@ -2,12 +2,9 @@
 use Rattle.std.proofs.Common.{◌≡◌, inl, inr, ℕ, Bool, true, false, List, Option, Some, None, IsSome, refl, sym, ap, subst, ◌∙◌}
 use Rattle.std.specs.Arc.{arc_str_bytes}
 use Rattle.std.specs.Bool.{MatchBool}
-use Rattle.std.specs.Map.{KeepsOthers, lookup}
 use Rattle.std.specs.Option.{option_map, option_map_or}
 use Rattle.std.specs.Ordering.{is_eq, nat_cmp}
 use Rattle.std.specs.Str.{bytes_eq}
-use Rattle.std.specs.String.{string_bytes}
-use Rattle.std.specs.declared.string.String.{String}
 use Rattle.std.proofs.lemmas.Bool.{ne_eqb}
 use Rattle.std.proofs.lemmas.Cmp.{nat_cmp_total, tied_itself}
 use Rattle.slab.specs.Slab.{Slab, Updates, get, with_value}
@@ -23,7 +20,7 @@ use Rattle.mq_topic.proofs.Keys.{nat_ties}
 use Rattle.mq_topic.proofs.Paths.{same_number}
 use Rattle.mq_topic.proofs.Standard.{same_bytes}
 
--- ---- maps with levels and clients as keys
+-- ---- levels, and clients as keys
 
 bytes_differ-by : (l m : List ℕ) (r : Bool) → bytes_eq l m ≡ r → (l ≡ m → ⊥) → r ≡ false
 bytes_differ-by l m true e ne = absurd (ne (same_bytes l m e))
@@ -31,21 +28,6 @@ bytes_differ-by l m false e ne = refl
 
 pub bytes_differ : (l m : List ℕ) → (l ≡ m → ⊥) → bytes_eq l m ≡ false
 bytes_differ l m ne = bytes_differ-by l m (bytes_eq l m) refl ne
-
--- the test of a key by its bytes
-abbrev pub has_bytes : {Z : Type 0} → List ℕ → String Z → Bool
-has_bytes l k = bytes_eq l (string_bytes k)
-
-abbrev pub same_text : {Z : Type 0} → String Z → String Z → Bool
-same_text x y = bytes_eq (string_bytes x) (string_bytes y)
-
-pub other_level : {Z X : Type 0} (level l : List ℕ) (old new : List (String Z × X)) → KeepsOthers same_text (has_bytes level) old new → (l ≡ level → ⊥)
-    → lookup (has_bytes l) new ≡ lookup (has_bytes l) old
-unfolding KeepsOthers
-other_level level l old new keeps ne =
-    keeps (has_bytes l)
-    (λ x y e. ap (λ z. bytes_eq z (string_bytes y)) (same_bytes l (string_bytes x) e))
-    (λ k e. bytes_differ l (string_bytes k) (λ same. ne (same ∙ sym (same_bytes level (string_bytes k) e))))
 
 -- the test of a client
 abbrev pub is_client : ℕ → ℕ → Bool

@@ -2,6 +2,7 @@ pub mod ClientRows
 pub mod Fault
 pub mod Found
 pub mod Laws
+pub mod LevelNumber
 pub mod Match
 pub mod Matching
 pub mod NodeView

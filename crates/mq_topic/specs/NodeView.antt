@@ -1,30 +1,45 @@
 -- What can be asked of a node of a trie: of its children, and of its clients.
-use Rattle.std.specs.Prelude.{◌≡◌, ℕ, Bool, true, List, Option, Some, None, if◌then◌else◌}
+use Rattle.std.specs.Prelude.{◌≡◌, ◌==◌, ℕ, Bool, true, List, Option, Some, None, if◌then◌else◌}
 use Rattle.std.specs.Arc.{arc_str_bytes}
+use Rattle.std.specs.Cmp.Lexicographic.{slice_cmp}
 use Rattle.std.specs.Map.{lookup}
 use Rattle.std.specs.Option.{option_map_or, option_or}
 use Rattle.std.specs.Ordering.{is_eq, nat_cmp}
 use Rattle.std.specs.Str.{bytes_eq}
 use Rattle.std.specs.String.{string_bytes}
-use Rattle.mq_topic.specs.declared.children.Child.{Child}
+use Rattle.mq_topic.specs.LevelNumber.{level_number}
 use Rattle.mq_topic.specs.declared.children.Children.{Children}
 use Rattle.mq_topic.specs.declared.clients.Clients.{Clients}
 use Rattle.mq_topic.specs.declared.clients.Clients.TheVariants.{Nobody, One, Several}
+use Rattle.mq_topic.specs.declared.level_map.Child.{Child}
+use Rattle.mq_topic.specs.declared.level_map.LevelMap.{LevelMap}
 use Rattle.mq_topic.specs.declared.qos.Qos.{Qos}
 use Rattle.mq_topic.specs.declared.trie_nodes.NodeId.{NodeId}
 
--- the child in the node is at this level, or there is none
-abbrev pub is_own : List ℕ → Children → Bool
-is_own l n = option_map_or (λ (c : Child). bytes_eq l (arc_str_bytes c.level)) n.first true
+-- this child is at a level, or there is none
+abbrev pub is_own : List ℕ → Option Child → Bool
+is_own l first = option_map_or (λ (c : Child). bytes_eq l (arc_str_bytes c.level)) first true
 
--- the child at a level, if it lies in the node
+-- the child at a level, if it is this one
 abbrev pub own_child : List ℕ → Option Child → Option NodeId
 own_child l None = None
 own_child l (Some c) = if bytes_eq l (arc_str_bytes c.level) then Some c.id else None
 
+-- the child that a map has at a number
+abbrev pub child_numbered : ℕ → LevelMap → Option Child
+child_numbered n m = lookup (λ k. n == k) m.numbered.entries
+
+-- the child at a level whose number another child has
+abbrev pub child_collided : List ℕ → LevelMap → Option NodeId
+child_collided l m = lookup (λ k. is_eq (slice_cmp nat_cmp l (string_bytes k))) m.collided.entries
+
+-- the child that a map has at a level
+abbrev pub mapped_child : List ℕ → LevelMap → Option NodeId
+mapped_child l m = option_or (own_child l (child_numbered (level_number l) m)) (child_collided l m)
+
 -- the child at a level, if it lies in the map
 abbrev pub child_beside : List ℕ → Children → Option NodeId
-child_beside l n = option_map_or (λ b. lookup (λ k. bytes_eq l (string_bytes k)) b.value.entries) n.others None
+child_beside l n = option_map_or (λ b. mapped_child l b.value) n.others None
 
 -- the child at a level
 abbrev pub child_in : List ℕ → Children → Option NodeId

@@ -1,33 +1,21 @@
 //! The children of a node of a trie.
 
-ghost use Rattle.std.specs.Prelude.{◌≡◌, ℕ, List, None, Some, true, IsSome, OnOk, OnErr};
+ghost use Rattle.std.specs.Prelude.{◌≡◌, ℕ, List, None, Some, IsSome, OnOk, OnErr};
 ghost use Rattle.std.specs.Bool.{MatchBool};
-ghost use Rattle.std.specs.Option.{option_map_or};
 ghost use Rattle.std.specs.Arc.{arc_str_bytes};
-ghost use Rattle.std.specs.Str.{bytes_eq};
 ghost use Rattle.mq_topic.specs.NodeView.{ChildIn, child_beside, child_in, is_own, own_child};
 
+use crate::level_map::{Child, LevelMap};
 use crate::trie_nodes::NodeId;
 use std::alloc::{AllocError, Global};
-use std::collections::HashMap;
 use std::sync::ArcStr;
-
-// A child, and its level.
-#[derive(Drop)]
-struct Child {
-    level: ArcStr,
-    id: NodeId,
-}
-
-// Children, by their levels. Each key has its own bytes, since it is looked up by a `&str`.
-type ChildMap = HashMap<String, NodeId>;
 
 /// The children of a node, by their levels. One of them lies in the node itself, since most nodes have
 /// no other, and the others lie in a map.
 #[derive(Drop)]
 pub(crate) struct Children {
     first: Option<Child>,
-    others: Option<Box<ChildMap>>,
+    others: Option<Box<LevelMap>>,
 }
 
 impl Children {
@@ -51,14 +39,14 @@ impl Children {
             }
         }
         match &self.others {
-            Some(others) => others.get(level).copied(),
+            Some(others) => others.get(level),
             None => None,
         }
     }
 
     // Whether the child that lies in the node is the one at a level, or there is none.
     fn is_own(&self, level: &str) -> bool
-        ensures { result ≡ is_own level.now self.now }
+        ensures { result ≡ is_own level.now self.now.first }
     {
         match &self.first {
             Some(first) => level == first.level.as_str(),
@@ -90,15 +78,11 @@ impl Children {
         ensures others { OnOk result ((l : List ℕ) → (l ≡ arc_str_bytes level → ⊥) → child_beside l self.new ≡ child_beside l self.old) }
         ensures unchanged { OnErr result ((l : List ℕ) → child_beside l self.new ≡ child_beside l self.old) }
     {
-        let key = String::from_str(alloc, level.as_str())?;
         match &mut self.others {
-            Some(others) => {
-                others.insert(key, child)?;
-                Ok(())
-            }
+            Some(others) => others.put(alloc, level, child),
             None => {
-                let mut others = HashMap::new(alloc);
-                others.insert(key, child)?;
+                let mut others = LevelMap::new(alloc);
+                others.put(alloc, level, child)?;
                 self.others = Some(Box::new(alloc, others)?);
                 Ok(())
             }
@@ -123,7 +107,7 @@ impl Children {
         ensures others { (l : List ℕ) → (l ≡ level.now → ⊥) → child_beside l self.new ≡ child_beside l self.old }
     {
         if let Some(others) = &mut self.others {
-            others.remove(level);
+            others.take(level);
         }
     }
 

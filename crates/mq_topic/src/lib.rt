@@ -10,6 +10,7 @@ mod comparing;
 mod fault;
 mod filter;
 mod level;
+mod level_map;
 mod level_texts;
 mod list_store;
 mod matching;

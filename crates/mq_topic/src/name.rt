@@ -40,7 +40,7 @@ pub fn is_topic_name(text: &str) -> bool
 fn has_wildcard(text: &str) -> bool
     ensures { result ≡ list_any is_wildcard text.now }
 {
-    text.as_bytes().iter().any(|b| *b == b'+' || *b == b'#')
+    text.as_bytes().contains(&b'+') || text.as_bytes().contains(&b'#')
 }
 
 // What keeps a text from being a topic name.

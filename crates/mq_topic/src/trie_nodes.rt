@@ -22,7 +22,7 @@ use std::sync::ArcStr;
 pub(crate) struct NodeId(usize);
 
 // A node: the place where the filters that begin with the same levels go on. What is read on the way
-// along a name stands first. Its level's bytes are shared with the key by which its parent finds it.
+// along a name stands first. Its level's text is shared with what its parent finds it by.
 #[derive(Drop)]
 pub(crate) struct Node {
     children: Children,
