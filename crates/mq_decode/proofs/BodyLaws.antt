@@ -41,7 +41,7 @@ use Rattle.mq_decode.proofs.KindLaws.{IsKind, dup_of, kind_of}
 nothing_some : {A : Type 0} {a : A} → None ≡ Some a → ⊥
 nothing_some e = cc
 
-refusal_exact : (n : ℕ) (c : RefusalCode) → refusal_from n ≡ Some c → n ≡ refusal_number c
+pub refusal_exact : (n : ℕ) (c : RefusalCode) → refusal_from n ≡ Some c → n ≡ refusal_number c
 refusal_exact n c e =
     elim (chosen (eqb n 1) (Some UnacceptableProtocolVersion) (cond (eqb n 2) (Some IdentifierRejected) (cond (eqb n 3) (Some ServerUnavailable) (cond (eqb n 4) (Some BadUserNameOrPassword) (cond (eqb n 5) (Some NotAuthorized) (None))))) (Some c) e) [
       | inl h0 ↦ eqb-true n 1 h0.0 ∙ ap refusal_number (some_is h0.1)
@@ -65,14 +65,14 @@ refusal_exact n c e =
           ]
     ]
 
-refusal_back : (c : RefusalCode) → refusal_from (refusal_number c) ≡ Some c
+pub refusal_back : (c : RefusalCode) → refusal_from (refusal_number c) ≡ Some c
 refusal_back UnacceptableProtocolVersion = refl
 refusal_back IdentifierRejected = refl
 refusal_back ServerUnavailable = refl
 refusal_back BadUserNameOrPassword = refl
 refusal_back NotAuthorized = refl
 
-some_code : (c : RefusalCode) → eqb (refusal_number c) 0 ≡ false
+pub some_code : (c : RefusalCode) → eqb (refusal_number c) 0 ≡ false
 some_code UnacceptableProtocolVersion = refl
 some_code IdentifierRejected = refl
 some_code ServerUnavailable = refl
@@ -82,7 +82,7 @@ some_code NotAuthorized = refl
 abbrev AnswerFound : Bool → List ℕ → ConnAck × List ℕ → Type 0
 AnswerFound present bytes x = bit present ∷ bytes ≡ connack_fields x.0 ++ x.1
 
-answer_found : (present : Bool) (bytes : List ℕ) (c : ConnAck) (rest : List ℕ) → answer_at present bytes ≡ Ok (c, rest) → AnswerFound present bytes (c, rest)
+pub answer_found : (present : Bool) (bytes : List ℕ) (c : ConnAck) (rest : List ℕ) → answer_at present bytes ≡ Ok (c, rest) → AnswerFound present bytes (c, rest)
 answer_found present [] c rest e = absurd cc
 answer_found false (b ∷ bytes) c rest e =
     elim (chosen (eqb b 0) (Ok (Accepted false, bytes)) (refusal_or_fault (refusal_from b) b bytes) (Ok (c, rest)) e) [
@@ -102,7 +102,7 @@ answer_found true (b ∷ bytes) c rest e =
     let made : ConnAck × List ℕ = (Accepted true, bytes) in
     subst (AnswerFound true (b ∷ bytes)) {x = made} g.1 (rw (eqb-true b 0 g.0) refl)
 
-present_found : (bytes : List ℕ) (present : Bool) (rest : List ℕ) → present_at bytes ≡ Ok (present, rest) → bytes ≡ bit present ∷ rest
+pub present_found : (bytes : List ℕ) (present : Bool) (rest : List ℕ) → present_at bytes ≡ Ok (present, rest) → bytes ≡ bit present ∷ rest
 present_found [] present rest e = absurd cc
 present_found (b ∷ bytes) present rest e =
     elim (chosen (eqb b 0) (Ok (false, bytes)) (cond (eqb b 1) (Ok (true, bytes)) (Err (bad_at ForbiddenFlags (b ∷ bytes)))) (Ok (present, rest)) e) [

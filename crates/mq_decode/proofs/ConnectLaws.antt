@@ -20,6 +20,7 @@ use Rattle.mq_decode.specs.declared.fault.FaultKind.TheVariants.{ProtocolName, P
 use Rattle.mq_decode.specs.declared.flags.ConnectFlags.{ConnectFlags}
 use Rattle.mq_decode.specs.declared.flags.WillFlags.{WillFlags}
 use Rattle.mq_decode.specs.Gives.{◌>>=◌}
+use Rattle.mq_decode.specs.Layout.{will_bits, login_bits, flags_byte}
 use Rattle.mq_decode.specs.Fields.{bad_at, number_at, text_at, name_at, binary_at, end_at}
 use Rattle.mq_decode.specs.Connects.{will_with, will_from, login_from, flags_with, flags_from, flags_or_fault, flags_at, is_protocol, protocol_at, level_at, will_at, password_at, login_at, connect_at}
 use Rattle.mq_decode.proofs.FieldLaws.{Wire, bind_ok, test_ok, ok_is, Takes, takes, Takes-then, number_found, number_again, text_found, text_again, name_found, name_again, binary_found, binary_again, end_found}
@@ -27,19 +28,7 @@ use Rattle.mq_decode.proofs.ListLaws.{chosen, some_is, qos_exact}
 
 -- ---- the flags
 
-abbrev will_byte : Option WillFlags → ℕ
-will_byte None = 0
-will_byte (Some w) = 4 + 8 * qos_number w.qos + 32 * bit w.retain
-
-abbrev login_byte : Option Bool → ℕ
-login_byte None = 0
-login_byte (Some b) = 128 + 64 * bit b
-
--- the byte of flags
-abbrev pub byte_of : ConnectFlags → ℕ
-byte_of f = 2 * bit f.clean_session + will_byte f.will + login_byte f.password
-
-flags_none : (clean : Bool) (login : Option Bool) → flags_from (2 * bit clean + 0 + login_byte login) ≡ Some (record { clean_session = clean; will = None; password = login })
+flags_none : (clean : Bool) (login : Option Bool) → flags_from (2 * bit clean + 0 + login_bits login) ≡ Some (record { clean_session = clean; will = None; password = login })
 flags_none false None = refl
 flags_none false (Some false) = refl
 flags_none false (Some true) = refl
@@ -48,7 +37,7 @@ flags_none true (Some false) = refl
 flags_none true (Some true) = refl
 
 flags_some : (clean : Bool) (qos : Qos) (retain : Bool) (login : Option Bool)
-    → flags_from (2 * bit clean + (4 + 8 * qos_number qos + 32 * bit retain) + login_byte login) ≡ Some (record { clean_session = clean; will = Some (record { qos = qos; retain = retain }); password = login })
+    → flags_from (2 * bit clean + (4 + 8 * qos_number qos + 32 * bit retain) + login_bits login) ≡ Some (record { clean_session = clean; will = Some (record { qos = qos; retain = retain }); password = login })
 flags_some false Q0 false None = refl
 flags_some false Q0 false (Some false) = refl
 flags_some false Q0 false (Some true) = refl
@@ -86,7 +75,7 @@ flags_some true Q2 true None = refl
 flags_some true Q2 true (Some false) = refl
 flags_some true Q2 true (Some true) = refl
 
-flags_back : (clean : Bool) (will : Option WillFlags) (login : Option Bool) → flags_from (2 * bit clean + will_byte will + login_byte login) ≡ Some (record { clean_session = clean; will = will; password = login })
+flags_back : (clean : Bool) (will : Option WillFlags) (login : Option Bool) → flags_from (2 * bit clean + will_bits will + login_bits login) ≡ Some (record { clean_session = clean; will = will; password = login })
 flags_back clean None login = flags_none clean login
 flags_back clean (Some w) login = flags_some clean w.qos w.retain login
 
@@ -102,7 +91,7 @@ will_with_is : (q : Option Qos) (retain : Bool) (will : Option WillFlags) → wi
 will_with_is None retain will e = absurd (nothing_some e)
 will_with_is (Some qos) retain will e = (qos, refl, sym (some_is e))
 
-will_exact : (x : ℕ) (will : Option WillFlags) → x < 256 → will_from x ≡ Some will → will_byte will ≡ 4 * (x / 4 % 2) + 8 * (x / 8 % 4) + 32 * (x / 32 % 2)
+will_exact : (x : ℕ) (will : Option WillFlags) → x < 256 → will_from x ≡ Some will → will_bits will ≡ 4 * (x / 4 % 2) + 8 * (x / 8 % 4) + 32 * (x / 32 % 2)
 will_exact x will lt e =
     elim (chosen (eqb (x / 4 % 2) 1) (will_with (qos_from (x / 8 % 4)) (eqb (x / 32 % 2) 1)) (cond (eqb (x / 8 % 8) 0) (Some None) None) (Some will) e) [
       | inl h ↦
@@ -121,7 +110,7 @@ will_exact x will lt e =
       ]
     ]
 
-login_exact : (x : ℕ) (login : Option Bool) → x < 256 → login_from x ≡ Some login → login_byte login ≡ 64 * (x / 64 % 2) + 128 * (x / 128)
+login_exact : (x : ℕ) (login : Option Bool) → x < 256 → login_from x ≡ Some login → login_bits login ≡ 64 * (x / 64 % 2) + 128 * (x / 128)
 login_exact x login lt e =
     elim (chosen (eqb (x / 128) 1) (Some (Some (eqb (x / 64 % 2) 1))) (cond (eqb (x / 64 % 2) 0) (Some None) None) (Some login) e) [
       | inl h ↦
@@ -147,7 +136,7 @@ flags_parts clean (Some will) (Some login) f e =
     let is = some_is e in
     (ap (λ (g : ConnectFlags). g.clean_session) (sym is), ap (λ (g : ConnectFlags). Some g.will) is, ap (λ (g : ConnectFlags). Some g.password) is)
 
-flags_exact : (x : ℕ) (f : ConnectFlags) → x < 256 → flags_from x ≡ Some f → x ≡ byte_of f
+flags_exact : (x : ℕ) (f : ConnectFlags) → x < 256 → flags_from x ≡ Some f → x ≡ flags_byte f
 flags_exact x f lt e =
     elim (chosen (eqb (x % 2) 0) (flags_with (eqb (x / 2 % 2) 1) (will_from x) (login_from x)) None (Some f) e) [
       | inl h ↦
@@ -160,21 +149,21 @@ flags_exact x f lt e =
       | inr h ↦ absurd (nothing_some h.1)
     ]
 
-flags_found_at : (bytes : List ℕ) (f : ConnectFlags) (rest : List ℕ) → AreBytes bytes → flags_at bytes ≡ Ok (f, rest) → Takes bytes (byte_of f ∷ []) rest
+pub flags_found_at : (bytes : List ℕ) (f : ConnectFlags) (rest : List ℕ) → AreBytes bytes → flags_at bytes ≡ Ok (f, rest) → Takes bytes (flags_byte f ∷ []) rest
 unfolding flags_at
 flags_found_at [] f rest h e = absurd cc
 flags_found_at (b ∷ bytes) f rest h e = go (flags_from b) refl e
   where
-    go : (o : Option ConnectFlags) → flags_from b ≡ o → flags_or_fault o b bytes ≡ Ok (f, rest) → Takes (b ∷ bytes) (byte_of f ∷ []) rest
+    go : (o : Option ConnectFlags) → flags_from b ≡ o → flags_or_fault o b bytes ≡ Ok (f, rest) → Takes (b ∷ bytes) (flags_byte f ∷ []) rest
     go None is e = absurd cc
     go (Some g) is e =
         let whole = ok_is (g, bytes) (f, rest) e in
         let flags_is : g ≡ f = ap (λ (p : ConnectFlags × List ℕ). p.0) whole in
         let rest_is : bytes ≡ rest = ap (λ (p : ConnectFlags × List ℕ). p.1) whole in
-        let byte_is : b ≡ byte_of f = flags_exact b g (h 0) is ∙ ap byte_of flags_is in
-        takes (b ∷ bytes) (byte_of f ∷ []) rest h (rw (byte_is, rest_is) refl)
+        let byte_is : b ≡ flags_byte f = flags_exact b g (h 0) is ∙ ap flags_byte flags_is in
+        takes (b ∷ bytes) (flags_byte f ∷ []) rest h (rw (byte_is, rest_is) refl)
 
-flags_again_at : (f : ConnectFlags) (rest : List ℕ) → flags_at (byte_of f ∷ rest) ≡ Ok (f, rest)
+pub flags_again_at : (f : ConnectFlags) (rest : List ℕ) → flags_at (flags_byte f ∷ rest) ≡ Ok (f, rest)
 unfolding flags_at
 flags_again_at f rest = rw (flags_back f.clean_session f.will f.password) refl
 
@@ -205,7 +194,7 @@ is_mqtt (a ∷ b ∷ c ∷ d ∷ []) e =
     rw (eqb-true a 77 p.0, eqb-true b 81 q.0, eqb-true c 84 r.0, eqb-true d 84 r.1) refl
 is_mqtt (a ∷ b ∷ c ∷ d ∷ x ∷ name) e = absurd cc
 
-protocol_found : (w : Wire) (bytes rest : List ℕ) → AreBytes bytes → protocol_at bytes ≡ Ok rest → Takes bytes (counted mqtt) rest
+pub protocol_found : (w : Wire) (bytes rest : List ℕ) → AreBytes bytes → protocol_at bytes ≡ Ok rest → Takes bytes (counted mqtt) rest
 unfolding protocol_at
 protocol_found w bytes rest h e =
     let b = bind_ok (text_at bytes) (λ name. cond (is_protocol name.0) (Ok name.1) (Err (bad_at ProtocolName bytes))) rest e in
@@ -214,11 +203,11 @@ protocol_found w bytes rest h e =
     let name_is : b.0.0 ≡ mqtt = is_mqtt b.0.0 g.0 in
     subst (λ (r : List ℕ). Takes bytes (counted mqtt) r) g.1 (subst (λ (t : List ℕ). Takes bytes (counted t) b.0.1) name_is l.0)
 
-protocol_again : (w : Wire) (rest : List ℕ) → protocol_at (counted mqtt ++ rest) ≡ Ok rest
+pub protocol_again : (w : Wire) (rest : List ℕ) → protocol_at (counted mqtt ++ rest) ≡ Ok rest
 unfolding protocol_at
 protocol_again w rest = rw (text_again w mqtt rest mqtt_text) refl
 
-level_found : (bytes rest : List ℕ) → AreBytes bytes → level_at bytes ≡ Ok rest → Takes bytes (4 ∷ []) rest
+pub level_found : (bytes rest : List ℕ) → AreBytes bytes → level_at bytes ≡ Ok rest → Takes bytes (4 ∷ []) rest
 level_found [] rest h e = absurd cc
 level_found (b ∷ bytes) rest h e =
     let g = test_ok (eqb b 4) (bad_at ProtocolLevel (b ∷ bytes)) bytes rest e in
@@ -310,30 +299,30 @@ login_again w (Some login) rest is =
 abbrev flags_view : Connect → ConnectFlags
 flags_view c = record { clean_session = c.clean_session; will = will_view c.will; password = login_view c.login }
 
-will_byte-view : (will : Option Will) → will_byte (will_view will) ≡ will_flags will
-will_byte-view None = refl
-will_byte-view (Some w) = refl
+will_bits-view : (will : Option Will) → will_bits (will_view will) ≡ will_flags will
+will_bits-view None = refl
+will_bits-view (Some w) = refl
 
-login_byte-view : (login : Option Login) → login_byte (login_view login) ≡ login_flags login
-login_byte-view None = refl
-login_byte-view (Some l) = password_is l.password
+login_bits-view : (login : Option Login) → login_bits (login_view login) ≡ login_flags login
+login_bits-view None = refl
+login_bits-view (Some l) = password_is l.password
   where
     password_is : (p : Option (List ℕ)) → 128 + 64 * bit (password_view p) ≡ 128 + password_flag p
     password_is None = refl
     password_is (Some p) = refl
 
-byte_of-view : (c : Connect) → byte_of (flags_view c) ≡ connect_flags c
-byte_of-view c = rw (will_byte-view c.will, login_byte-view c.login) refl
+flags_byte-view : (c : Connect) → flags_byte (flags_view c) ≡ connect_flags c
+flags_byte-view c = rw (will_bits-view c.will, login_bits-view c.login) refl
 
 -- the fields, one after another
-spelled : (c : Connect) → connect_fields c ≡ counted mqtt ++ (4 ∷ (byte_of (flags_view c) ∷ (number c.keep_alive ++ (counted c.client_id ++ (will_fields c.will ++ login_fields c.login)))))
-spelled c = rw byte_of-view refl
+spelled : (c : Connect) → connect_fields c ≡ counted mqtt ++ (4 ∷ (flags_byte (flags_view c) ∷ (number c.keep_alive ++ (counted c.client_id ++ (will_fields c.will ++ login_fields c.login)))))
+spelled c = rw flags_byte-view refl
 
 same_flags : (c : Connect) (flags : ConnectFlags) → c.clean_session ≡ flags.clean_session → will_view c.will ≡ flags.will → login_view c.login ≡ flags.password → flags ≡ flags_view c
 same_flags c flags clean will login = rw (clean, will, login) refl
 
 -- the fields that were read, put together
-joined : (c : Connect) (flags : ConnectFlags) (bytes a b f k t m l : List ℕ) → bytes ≡ counted mqtt ++ a → a ≡ (4 ∷ []) ++ b → b ≡ (byte_of flags ∷ []) ++ f → f ≡ number c.keep_alive ++ k
+joined : (c : Connect) (flags : ConnectFlags) (bytes a b f k t m l : List ℕ) → bytes ≡ counted mqtt ++ a → a ≡ (4 ∷ []) ++ b → b ≡ (flags_byte flags ∷ []) ++ f → f ≡ number c.keep_alive ++ k
     → k ≡ counted c.client_id ++ t → t ≡ will_fields c.will ++ m → m ≡ login_fields c.login ++ l → l ≡ [] → flags ≡ flags_view c → bytes ≡ connect_fields c
 joined c flags bytes a b f k t m l ea eb ef ek et em el ez flags_is =
     let tail : m ≡ login_fields c.login = el ∙ (ap (λ (r : List ℕ). login_fields c.login ++ r) ez ∙ append-nil (login_fields c.login)) in
@@ -385,7 +374,7 @@ unfolding connect_at
 connect_again w c is =
     let tail : login_at (login_view c.login) (login_fields c.login) ≡ Ok (c.login, []) = ap (λ (b : List ℕ). login_at (login_view c.login) b) (sym (append-nil (login_fields c.login))) ∙ login_again w c.login [] is.login in
     ap connect_at (spelled c) ∙ rw (
-      protocol_again w (4 ∷ (byte_of (flags_view c) ∷ (number c.keep_alive ++ (counted c.client_id ++ (will_fields c.will ++ login_fields c.login))))),
+      protocol_again w (4 ∷ (flags_byte (flags_view c) ∷ (number c.keep_alive ++ (counted c.client_id ++ (will_fields c.will ++ login_fields c.login))))),
       flags_again_at (flags_view c) (number c.keep_alive ++ (counted c.client_id ++ (will_fields c.will ++ login_fields c.login))),
       number_again w c.keep_alive (counted c.client_id ++ (will_fields c.will ++ login_fields c.login)),
       text_again w c.client_id (will_fields c.will ++ login_fields c.login) is.client_id,

@@ -44,7 +44,7 @@ is_whole w limit p s rest h =
     let fits : length s ≤ length (s ++ rest) = omega (arith, length-append s rest) in
     subst (FrontFound limit (s ++ rest)) (sym (whole_again w limit p s rest h)) (fits, rw front h)
 
-AreBytes-front : (front rest : List ℕ) → AreBytes (front ++ rest) → AreBytes front
+pub AreBytes-front : (front rest : List ℕ) → AreBytes (front ++ rest) → AreBytes front
 AreBytes-front [] rest bytes i = omega arith
 AreBytes-front (b ∷ front) rest bytes zero = bytes 0
 AreBytes-front (b ∷ front) rest bytes (suc i) = AreBytes-front front rest (λ j. bytes (suc j)) i

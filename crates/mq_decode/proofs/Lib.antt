@@ -6,10 +6,13 @@ pub mod FrontFound
 pub mod FrontLaws
 pub mod Items
 pub mod KindLaws
+pub mod LayoutBodies
+pub mod LayoutLaws
 pub mod ListLaws
 pub mod Loops
 pub mod Streams
 pub mod Uniqueness
+pub mod Waiting
 pub mod Wanting
 pub mod Filling
 pub mod Readers

@@ -119,7 +119,7 @@ filter_laws w = record {
 same_pair : {A : Type 0} (a c : A) (x y : List ℕ) → (let p : A × List ℕ = (c, x) in let q : A × List ℕ = (a, y) in done p ≡ done q) → (c ≡ a) × (x ≡ y)
 same_pair {A} a c x y e = (ap (λ (p : A × List ℕ). p.0) (ok_is (c, x) (a, y) e), ap (λ (p : A × List ℕ). p.1) (ok_is (c, x) (a, y) e))
 
-code_found : {A : Type 0} (from : ℕ → Option A) (number_of : A → ℕ) → ((n : ℕ) (a : A) → from n ≡ Some a → n ≡ number_of a)
+pub code_found : {A : Type 0} (from : ℕ → Option A) (number_of : A → ℕ) → ((n : ℕ) (a : A) → from n ≡ Some a → n ≡ number_of a)
     → (bytes : List ℕ) (a : A) (rest : List ℕ) → AreBytes bytes → code_byte_at from bytes ≡ Ok (a, rest) → Takes bytes (number_of a ∷ []) rest
 code_found from number_of exact [] a rest h e = absurd cc
 code_found {A} from number_of exact (b ∷ bytes) a rest h e = go (from b) refl e
@@ -131,7 +131,7 @@ code_found {A} from number_of exact (b ∷ bytes) a rest h e = go (from b) refl 
         let number_is : b ≡ number_of a = exact b c is ∙ ap number_of p.0 in
         takes (b ∷ bytes) (number_of a ∷ []) rest h (rw (number_is, p.1) refl)
 
-code_again : {A : Type 0} (from : ℕ → Option A) (number_of : A → ℕ) (a : A) (rest : List ℕ) → from (number_of a) ≡ Some a → code_byte_at from (number_of a ∷ rest) ≡ Ok (a, rest)
+pub code_again : {A : Type 0} (from : ℕ → Option A) (number_of : A → ℕ) (a : A) (rest : List ℕ) → from (number_of a) ≡ Some a → code_byte_at from (number_of a ∷ rest) ≡ Ok (a, rest)
 code_again from number_of a rest e = rw e refl
 
 -- which way a test went
@@ -160,7 +160,7 @@ qos_back Q0 = refl
 qos_back Q1 = refl
 qos_back Q2 = refl
 
-code_exact : (n : ℕ) (c : SubAckCode) → code_from n ≡ Some c → n ≡ code_number c
+pub code_exact : (n : ℕ) (c : SubAckCode) → code_from n ≡ Some c → n ≡ code_number c
 code_exact n c e =
     elim (chosen (eqb n 0) (Some (Granted Q0)) (cond (eqb n 1) (Some (Granted Q1)) (cond (eqb n 2) (Some (Granted Q2)) (cond (eqb n 128) (Some Failure) None))) (Some c) e) [
       | inl h ↦ eqb-true n 0 h.0 ∙ ap code_number (some_is h.1)
@@ -176,7 +176,7 @@ code_exact n c e =
       ]
     ]
 
-code_back : (c : SubAckCode) → code_from (code_number c) ≡ Some c
+pub code_back : (c : SubAckCode) → code_from (code_number c) ≡ Some c
 code_back (Granted Q0) = refl
 code_back (Granted Q1) = refl
 code_back (Granted Q2) = refl

@@ -7,6 +7,7 @@ pub mod Front
 pub mod Gives
 pub mod Grammar
 pub mod Kind
+pub mod Layout
 pub mod Laws
 pub mod Lent
 pub mod Limits

@@ -10,7 +10,7 @@ use crate::fault::DecodeError;
 use crate::held::Held;
 use crate::laws::pending_is_short;
 use crate::limits::Limits;
-use crate::take::{take_next, take_piece};
+use crate::take::{take_in, take_next};
 use mq_packet::Packet;
 use std::alloc::Global;
 use std::marker::Model;
@@ -65,6 +65,7 @@ impl Decoder {
 
     /// Takes the next piece of the stream, and appends each packet that is whole now. Packets before
     /// an error are appended and stand.
+    #[inline]
     pub fn feed(&mut self, piece: &[u8], out: &mut Vec<Packet>) -> Result<(), DecodeError>
         // The bytes held before and the piece are these packets, and what is held now.
         ensures ok { OnOk result (Goes self.old.limit (self.old.held ++ piece.now)
@@ -87,7 +88,7 @@ impl Decoder {
         if let Some(error) = self.failed {
             return Err(error);
         }
-        match take_piece(self.alloc, self.limits, &mut self.held, piece, out) {
+        match take_in(self.alloc, self.limits, &mut self.held, piece, out) {
             Ok(()) => Ok(()),
             Err(error) => {
                 stop(self.alloc, &mut self.held, &mut self.failed, error);

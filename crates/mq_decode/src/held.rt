@@ -1,6 +1,6 @@
 //! The bytes that a decoder holds.
 
-ghost use Rattle.std.specs.Prelude.{◌≡◌, ◌-◌, ◌<◌, ◌^◌, ◌++◌, [], length, true, IfErr, IfNone, IfOk, IfSome, OnOk, ◌==◌};
+ghost use Rattle.std.specs.Prelude.{◌≡◌, ◌-◌, ◌<◌, ◌≤◌, ◌^◌, ◌++◌, [], length, true, IfErr, IfNone, IfOk, IfSome, IsFalse, IsTrue, OnOk, ◌==◌};
 ghost use Rattle.mq_decode.specs.Copied.{counted_more};
 ghost use Rattle.mq_decode.specs.Grammar.{IsFront, Wants};
 
@@ -10,6 +10,9 @@ use crate::take::{take_held, wanted};
 use mq_packet::Packet;
 use std::alloc::Global;
 use std::marker::Model;
+
+/// The most memory that a buffer without bytes keeps for the next packet.
+const KEPT: usize = 4096;
 
 /// The bytes of the packet that is not whole, how many more it wants at least, as far as that was
 /// asked, and how many bytes were ever put here. Contracts see all three.
@@ -98,17 +101,31 @@ impl Held {
         self.copied
     }
 
-    /// Lets go of the bytes and of their memory. The count stays.
+    /// Whether a piece has bytes, and fewer than the packet is known to want.
+    #[inline(always)]
+    pub(crate) fn wants_over(&self, piece: &[u8]) -> bool
+        ensures some { IsTrue result → 0 < length piece.now }
+        ensures over { IsTrue result → length piece.now < self.now.wants }
+        ensures no { IsFalse result → 0 < length piece.now → self.now.wants ≤ length piece.now }
+    {
+        !piece.is_empty() && piece.len() < self.wants
+    }
+
+    /// Lets go of the bytes, and of their memory where that is much. The count stays.
     pub(crate) fn clear(&mut self, alloc: Global)
         ensures bytes { self.new.bytes ≡ [] }
         ensures wants { self.new.wants ≡ 0 }
         ensures copied { self.new.copied ≡ self.old.copied }
     {
-        self.bytes = Vec::new(alloc);
+        if self.bytes.capacity() > KEPT {
+            self.bytes = Vec::new(alloc);
+        } else {
+            self.bytes.clear();
+        }
         self.wants = 0;
     }
 
-    /// Lets go of the bytes, of their memory and of the count.
+    /// Lets go of the bytes and of the count.
     pub(crate) fn reset(&mut self, alloc: Global)
         ensures bytes { self.new.bytes ≡ [] }
         ensures wants { self.new.wants ≡ 0 }

@@ -1,5 +1,6 @@
 //! Laws of the grammar.
 
+ghost use Rattle.mq_decode.specs.Layout.{FaultyFields};
 ghost use Rattle.mq_decode.specs.Laws.{EachReads, OneReading, PendingIsShort, ReadsAgain, ReadsOn};
 
 use mq_wire::{length_laws, number_laws, text_laws};
@@ -46,3 +47,14 @@ pub fn reads_again()
 pub fn reads_on()
     ensures { ReadsOn }
 {}
+
+/// A fault of a field stands at the first field that is not of its kind: the fields before it are each of
+/// their kind, in the order in which the packet's type has them (chapter 3), and none that may come next
+/// stands there.
+pub fn faulty_fields()
+    ensures { FaultyFields }
+{
+    number_laws();
+    text_laws();
+    length_laws();
+}

@@ -107,8 +107,12 @@ fn is_complete(limits: Limits, held: &[u8]) -> bool
     }
 }
 
+/// The fewest bytes of a packet that takes the buffer in which it was held; of a shorter one the parts
+/// are copied, and the buffer stays for the next.
+const SHARED: usize = 1024;
+
 /// The packet that stands at the front of a buffer, and how many bytes it takes. A packet that fills the
-/// buffer takes it, and its payload shares it.
+/// buffer and is not short takes it, and its payload shares it.
 pub(crate) fn take_held(
     alloc: Global,
     limits: Limits,
@@ -119,7 +123,7 @@ pub(crate) fn take_held(
     ensures short { IfOk result (λ o. IfNone o (length held.new.items ≤ 5 + limits.most)) }
     ensures kept { IfOk result (λ o. IfNone o (held.new.items ≡ held.old.items)) }
 {
-    if !is_complete(limits, held) {
+    if held.len() < SHARED || !is_complete(limits, held) {
         return front(alloc, limits, None, held);
     }
     let buffer = mem::replace(held, Vec::new(alloc));
@@ -170,6 +174,8 @@ pub(crate) fn fill_up(
             return Ok(Some((found.0, used)));
         }
     }
+    // So that a short piece that follows is put behind these at once.
+    held.want(limits);
     Ok(None)
 }
 
@@ -207,10 +213,10 @@ fn take_first(
     }
 }
 
-/// Takes the next packet of what is held and a piece that follows it, and answers it with how many
-/// bytes of the piece it took; `None` where they are less than a whole packet, and then all of the
-/// piece is held.
-pub(crate) fn take_next(
+// Takes the next packet of what is held and a piece that follows it, as `take_next` does, however many
+// bytes are wanted.
+#[inline(never)]
+fn take_found(
     alloc: Global,
     limits: Limits,
     held: &mut Held,
@@ -244,7 +250,41 @@ pub(crate) fn take_next(
     }
 }
 
+/// Takes the next packet of what is held and a piece that follows it, and answers it with how many
+/// bytes of the piece it took; `None` where they are less than a whole packet, and then all of the
+/// piece is held. A piece that is shorter than what the held packet is known to want is put behind it, and
+/// nothing is read.
+#[inline]
+pub(crate) fn take_next(
+    alloc: Global,
+    limits: Limits,
+    held: &mut Held,
+    piece: &[u8],
+) -> Result<Option<(Packet, usize)>, DecodeError>
+    requires pending { Pending limits held.old.bytes }
+    requires wants { Wants limits held.old.bytes held.old.wants }
+    ensures within { IfOk result (λ o. IfSome o (λ x. x.1 ≤ length piece.now)) }
+    ensures packet { IfOk result (λ o. IfSome o
+        (λ x. ReadsWithin limits x.0 (held.old.bytes ++ take x.1 piece.now))) }
+    ensures taken { IfOk result (λ o. IfSome o (λ x. held.new.bytes ≡ [])) }
+    ensures counted { IfOk result (λ o. IfSome o
+        (λ x. held.new.copied ≡ counted_next held.old.bytes held.old.copied x.1)) }
+    ensures less { IfOk result (λ o. IfNone o (Pending limits (held.old.bytes ++ piece.now))) }
+    ensures holds { IfOk result (λ o. IfNone o (held.new.bytes ≡ held.old.bytes ++ piece.now)) }
+    ensures counted_all { IfOk result (λ o. IfNone o
+        (held.new.copied ≡ counted_more held.old.copied (length piece.now))) }
+    ensures wants { OnOk result (Wants limits held.new.bytes held.new.wants) }
+    ensures err { IfErr result (λ e. IsFront limits (held.old.bytes ++ piece.now) (Err e)) }
+{
+    if held.wants_over(piece) {
+        held.hold(piece)?;
+        return Ok(None);
+    }
+    take_found(alloc, limits, held, piece)
+}
+
 /// Takes the packets of a piece that follows what is held.
+#[inline(never)]
 pub(crate) fn take_piece(
     alloc: Global,
     limits: Limits,
@@ -273,4 +313,30 @@ pub(crate) fn take_piece(
         return Ok(());
     }
     held.hold(left)
+}
+
+/// Takes the packets of a piece that follows what is held. One that is shorter than what the held packet
+/// is known to want is put behind it, and nothing is read.
+#[inline]
+pub(crate) fn take_in(
+    alloc: Global,
+    limits: Limits,
+    held: &mut Held,
+    piece: &[u8],
+    out: &mut Vec<Packet>,
+) -> Result<(), DecodeError>
+    requires pending { Pending limits held.old.bytes }
+    requires wants { Wants limits held.old.bytes held.old.wants }
+    ensures ok { OnOk result (Goes limits (held.old.bytes ++ piece.now) out.old.items
+        out.new.items held.new.bytes) }
+    ensures copied { OnOk result
+        (Copies limits held.old.bytes piece.now held.old.copied held.new.copied) }
+    ensures wants { OnOk result (Wants limits held.new.bytes held.new.wants) }
+    ensures err { IfErr result
+        (Stops limits (held.old.bytes ++ piece.now) out.old.items out.new.items) }
+{
+    if held.wants_over(piece) {
+        return held.hold(piece);
+    }
+    take_piece(alloc, limits, held, piece, out)
 }

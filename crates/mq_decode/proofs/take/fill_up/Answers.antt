@@ -1,9 +1,9 @@
-use Rattle.std.proofs.Common.{◌≡◌, ℕ, List, ◌+◌, ◌<◌, ◌≤◌, ◌++◌, length, take, drop, sym, ap, subst, ◌∙◌, arith}
+use Rattle.std.proofs.Common.{◌≡◌, ℕ, List, ◌+◌, ◌++◌, length, take, drop, sym, ap, subst, ◌∙◌, arith}
 use Rattle.std.proofs.lemmas.Result.{err_from_is_err_and}
 use Rattle.mq_decode.specs.Grammar.{IsAlone, Pending, ReadsWithin, Wants}
 use Rattle.mq_decode.specs.Copied.{counted_more}
 use Rattle.mq_decode.proofs.Copying.{alone_reads, counts_part}
-use Rattle.mq_decode.proofs.Streams.{front_piece, held_alone, next_bytes, wants_less, wants_nothing, wanted_more, rest_held}
+use Rattle.mq_decode.proofs.Streams.{front_piece, held_alone, next_bytes, wants_nothing}
 use Rattle.mq_decode.proofs.take.fill_up.Goals as goal
 
 pub returns-in_err-found-clause-err : goal.returns-in_err-found-clause-err

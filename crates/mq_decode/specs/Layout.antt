@@ -1,0 +1,181 @@
+-- The fields of each type of packet, in their order (chapter 3), and the first that is not of its kind.
+use Rattle.std.specs.Prelude.{◌≡◌, ℕ, zero, suc, ◌+◌, ◌*◌, ◌<◌, Bool, true, false, List, [], ◌∷◌, ◌++◌, length, Option, Some, None, Ok, ◌⊎◌}
+use Rattle.mq_wire.specs.Bytes.{AreBytes}
+use Rattle.mq_wire.specs.Length.{LengthUnder}
+use Rattle.mq_wire.specs.Number.{number}
+use Rattle.mq_wire.specs.Text.{Text, counted}
+use Rattle.mq_topic.specs.declared.qos.Qos.{Qos}
+use Rattle.mq_topic.specs.declared.qos.Qos.TheVariants.{Q0, Q1, Q2}
+use Rattle.mq_topic.specs.Qos.{qos_number}
+use Rattle.mq_topic.specs.Topic.{IsTopicName, IsTopicFilter}
+use Rattle.mq_packet.specs.declared.connack.RefusalCode.{RefusalCode}
+use Rattle.mq_packet.specs.declared.packet.SubAckCode.{SubAckCode}
+use Rattle.mq_packet.specs.Codes.{refusal_number, code_number}
+use Rattle.mq_packet.specs.Identifier.{IsIdentifier}
+use Rattle.mq_packet.specs.Spelling.{bit}
+use Rattle.mq_packet.specs.Values.{IsBinary}
+use Rattle.mq_decode.specs.declared.fault.FaultKind.{FaultKind}
+use Rattle.mq_decode.specs.declared.flags.ConnectFlags.{ConnectFlags}
+use Rattle.mq_decode.specs.declared.flags.WillFlags.{WillFlags}
+use Rattle.mq_decode.specs.declared.kind.Kind.{Kind}
+use Rattle.mq_decode.specs.declared.kind.Kind.TheVariants as kinds
+use Rattle.mq_decode.specs.Grammar.{FieldFault}
+use Rattle.mq_decode.specs.Kind.{kind_at}
+use Rattle.mq_decode.specs.Limits.{Bounds}
+
+-- the kinds of fields
+pub data Field : Type 0 where
+  -- a two-byte number, a packet identifier, a text, a topic name, a topic filter, a binary
+  Number : Field
+  Identifier : Field
+  AText : Field
+  Name : Field
+  Filter : Field
+  Binary : Field
+  -- of CONNECT: the protocol's name and level, and these flags
+  Protocol : Field
+  Level : Field
+  Flags : ConnectFlags → Field
+  -- of CONNACK: this Session Present, and a return code beside it
+  Present : Bool → Field
+  Returned : Bool → Field
+  -- of SUBSCRIBE and SUBACK: a quality of service that is asked for, a code
+  Requested : Field
+  Granted : Field
+  -- the payload of a PUBLISH, and the end of any other packet
+  Payload : Field
+  End : Field
+
+-- the byte of flags (3.1.2.3): bit 7 user name, 6 password, 5 will retain, 4 and 3 will quality of service, 2 will, 1 clean session, 0 always 0
+abbrev pub will_bits : Option WillFlags → ℕ
+will_bits None = 0
+will_bits (Some will) = 4 + 8 * qos_number will.qos + 32 * bit will.retain
+
+abbrev pub login_bits : Option Bool → ℕ
+login_bits None = 0
+login_bits (Some password) = 128 + 64 * bit password
+
+abbrev pub flags_byte : ConnectFlags → ℕ
+flags_byte flags = 2 * bit flags.clean_session + will_bits flags.will + login_bits flags.password
+
+-- a return code (3.2.2.3): 0, or that of a refusal where Session Present is 0
+abbrev pub IsReturned : Bool → List ℕ → Type 0
+IsReturned false s = (s ≡ 0 ∷ []) ⊎ ((code : RefusalCode) × (s ≡ refusal_number code ∷ []))
+IsReturned true s = s ≡ 0 ∷ []
+
+-- s is a field of this kind
+abbrev pub IsField : Field → List ℕ → Type 0
+IsField Number s = (n : ℕ) × (n < 65536) × (s ≡ number n)
+IsField Identifier s = (id : ℕ) × IsIdentifier id × (s ≡ number id)
+IsField AText s = (t : List ℕ) × Text t s
+IsField Name s = (t : List ℕ) × IsTopicName t × (s ≡ counted t)
+IsField Filter s = (t : List ℕ) × IsTopicFilter t × (s ≡ counted t)
+IsField Binary s = (t : List ℕ) × IsBinary t × (s ≡ counted t)
+IsField Protocol s = s ≡ counted (77 ∷ 81 ∷ 84 ∷ 84 ∷ [])
+IsField Level s = s ≡ 4 ∷ []
+IsField (Flags flags) s = s ≡ flags_byte flags ∷ []
+IsField (Present present) s = s ≡ bit present ∷ []
+IsField (Returned present) s = IsReturned present s
+IsField Requested s = (qos : Qos) × (s ≡ qos_number qos ∷ [])
+IsField Granted s = (code : SubAckCode) × (s ≡ code_number code ∷ [])
+IsField Payload s = Unit {0}
+IsField End s = s ≡ []
+
+-- such a field stands at the front of b; the end stands only where nothing is left
+abbrev pub Begins : Field → List ℕ → Type 0
+Begins field b = (s : List ℕ) × (rest : List ℕ) × IsField field s × (b ≡ s ++ rest)
+
+abbrev pub Stands : Field → List ℕ → Type 0
+Stands Number b = Begins Number b
+Stands Identifier b = Begins Identifier b
+Stands AText b = Begins AText b
+Stands Name b = Begins Name b
+Stands Filter b = Begins Filter b
+Stands Binary b = Begins Binary b
+Stands Protocol b = Begins Protocol b
+Stands Level b = Begins Level b
+Stands (Flags flags) b = Begins (Flags flags) b
+Stands (Present present) b = Begins (Present present) b
+Stands (Returned present) b = Begins (Returned present) b
+Stands Requested b = Begins Requested b
+Stands Granted b = Begins Granted b
+Stands Payload b = Begins Payload b
+Stands End b = b ≡ []
+
+-- b is fields of these kinds, one after another
+abbrev pub Laid : List Field → List ℕ → Type 0
+Laid [] b = b ≡ []
+Laid (field ∷ more) b = (s : List ℕ) × (rest : List ℕ) × IsField field s × Laid more rest × (b ≡ s ++ rest)
+
+-- the will and the login, where the flags say that there is one (3.1.3)
+abbrev pub will_layout : Option WillFlags → List Field
+will_layout None = []
+will_layout (Some will) = Name ∷ Binary ∷ []
+
+abbrev pub login_layout : Option Bool → List Field
+login_layout None = []
+login_layout (Some false) = AText ∷ []
+login_layout (Some true) = AText ∷ Binary ∷ []
+
+-- keep-alive, client identifier, will, user name, password
+abbrev pub after_flags : ConnectFlags → List Field
+after_flags flags = Number ∷ AText ∷ (will_layout flags.will ++ (login_layout flags.password ++ End ∷ []))
+
+-- the identifier of a PUBLISH (3.3.2.2)
+abbrev pub delivery_layout : Qos → List Field
+delivery_layout Q0 = []
+delivery_layout Q1 = Identifier ∷ []
+delivery_layout Q2 = Identifier ∷ []
+
+-- so many items, and the end
+abbrev pub repeated : List Field → ℕ → List Field
+repeated item zero = End ∷ []
+repeated item (suc n) = item ++ repeated item n
+
+-- an identifier, and at least one item (3.8, 3.9, 3.10)
+abbrev pub IsListLayout : List Field → List Field → Type 0
+IsListLayout item fields = (n : ℕ) × (fields ≡ Identifier ∷ (item ++ repeated item n))
+
+-- the fields of a packet of this kind, in their order
+abbrev pub Layout : Kind → List Field → Type 0
+Layout kinds.Connect fields = (flags : ConnectFlags) × (fields ≡ Protocol ∷ Level ∷ Flags flags ∷ after_flags flags)
+Layout kinds.ConnAck fields = (present : Bool) × (fields ≡ Present present ∷ Returned present ∷ End ∷ [])
+Layout (kinds.Publish flags) fields = fields ≡ Name ∷ (delivery_layout flags.qos ++ Payload ∷ [])
+Layout kinds.PubAck fields = fields ≡ Identifier ∷ End ∷ []
+Layout kinds.PubRec fields = fields ≡ Identifier ∷ End ∷ []
+Layout kinds.PubRel fields = fields ≡ Identifier ∷ End ∷ []
+Layout kinds.PubComp fields = fields ≡ Identifier ∷ End ∷ []
+Layout kinds.Subscribe fields = IsListLayout (Filter ∷ Requested ∷ []) fields
+Layout kinds.SubAck fields = IsListLayout (Granted ∷ []) fields
+Layout kinds.Unsubscribe fields = IsListLayout (Filter ∷ []) fields
+Layout kinds.UnsubAck fields = fields ≡ Identifier ∷ End ∷ []
+Layout kinds.PingReq fields = fields ≡ End ∷ []
+Layout kinds.PingResp fields = fields ≡ End ∷ []
+Layout kinds.Disconnect fields = fields ≡ End ∷ []
+
+-- front is the fields before one that is not of its kind: some layout goes on behind them, and none with a field that stands there
+pub record FirstBad (layout : List Field → Type 0) (front after : List ℕ) : Type 0 where
+  pub before : List Field
+  pub right : Laid before front
+  pub next : Field
+  pub more : List Field
+  pub goes_on : layout (before ++ next ∷ more)
+  pub wrong : (field : Field) (others : List Field) → layout (before ++ field ∷ others) → Stands field after → ⊥
+
+-- a packet whose header is right and that is whole begins b, and at this place is the first of its fields that is not of its kind
+pub record BadFieldAt (limits : Bounds) (b : List ℕ) (place : ℕ) : Type 0 where
+  pub first : ℕ
+  pub len : List ℕ
+  pub front : List ℕ
+  pub after : List ℕ
+  pub rest : List ℕ
+  pub bytes : b ≡ first ∷ len ++ ((front ++ after) ++ rest)
+  pub kind : Kind
+  pub right : kind_at first ≡ Ok kind
+  pub formed : LengthUnder limits.lenient (length (front ++ after)) len
+  pub bad : FirstBad (Layout kind) front after
+  pub here : place ≡ 1 + length len + length front
+
+-- the fault of a field stands at the first that is not of its kind
+abbrev pub FaultyFields : Type 0
+FaultyFields = (limits : Bounds) (b : List ℕ) (k : FaultKind) (place : ℕ) → AreBytes b → FieldFault limits b k place → BadFieldAt limits b place
