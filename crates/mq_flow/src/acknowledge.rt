@@ -10,8 +10,8 @@ use mq_packet::PacketId;
 use mq_topic::Qos;
 
 impl Sender {
-    /// PUBACK: the message of quality of service 1 that went out with this identifier is acknowledged, and the
-    /// identifier is free (4.3.2). Where there is none nothing changes. It takes no memory.
+    /// Takes a PUBACK: the message of quality of service 1 that went out with this identifier is acknowledged, and the
+    /// identifier is free (4.3.2). If there is none, nothing changes. Takes no memory.
     pub fn on_puback(&mut self, id: PacketId) -> Reaction
         ensures book { self.new.book ≡ on_puback id self.old.book }
         ensures result { result ≡ puback_reaction id self.old.book }
@@ -26,8 +26,8 @@ impl Sender {
         Reaction::Freed
     }
 
-    /// PUBREC: the message of quality of service 2 that went out with this identifier is acknowledged, and a PUBREL
-    /// is to answer; the identifier stays in use (4.3.3). Where there is none nothing changes. It takes no memory.
+    /// Takes a PUBREC: the message of quality of service 2 that went out with this identifier is acknowledged, and a PUBREL is
+    /// to answer; the identifier stays in use (4.3.3). If there is none, nothing changes. Takes no memory.
     pub fn on_pubrec(&mut self, id: PacketId) -> Reaction
         ensures book { self.new.book ≡ on_pubrec id self.old.book }
         ensures result { result ≡ pubrec_reaction id self.old.book }
@@ -42,7 +42,7 @@ impl Sender {
         Reaction::Release(id)
     }
 
-    /// PUBCOMP: the released identifier is free (4.3.3). Where it isn't released nothing changes. It takes no memory.
+    /// Takes a PUBCOMP: the released identifier is free (4.3.3). If it isn't released, nothing changes. Takes no memory.
     pub fn on_pubcomp(&mut self, id: PacketId) -> Reaction
         ensures book { self.new.book ≡ on_pubcomp id self.old.book }
         ensures result { result ≡ pubcomp_reaction id self.old.book }

@@ -70,7 +70,7 @@ impl<'a> Iterator for Releases<'a> {
     }
 }
 
-/// The first message that is not acknowledged, and the places after it.
+/// Returns the first message that is not acknowledged, and the places after it.
 fn first_waiting(slots: &[Option<Held>]) -> Option<(&Entry, &[Option<Held>])>
     ensures { MatchOption result (messages (pairs_in slots.now) ≡ []) (λ r. messages (pairs_in slots.now) ≡ r.0.now ∷ messages (pairs_in r.1.now)) }
 {
@@ -84,7 +84,7 @@ fn first_waiting(slots: &[Option<Held>]) -> Option<(&Entry, &[Option<Held>])>
     None
 }
 
-/// The first identifier that is released, and the places after it.
+/// Returns the first identifier that is released, and the places after it.
 fn first_released(slots: &[Option<Held>]) -> Option<(&PacketId, &[Option<Held>])>
     ensures { MatchOption result (releases (pairs_in slots.now) ≡ []) (λ r. releases (pairs_in slots.now) ≡ r.0.now ∷ releases (pairs_in r.1.now)) }
 {

@@ -104,9 +104,9 @@ pub(crate) struct Flags {
 }
 
 impl Session {
-    /// The session of which these bytes are the saved form (4.1). Errs where they don't begin with `MQS` and version 1,
-    /// at the first field that is bad, and where memory runs out. The identifiers in use by SUBSCRIBE and UNSUBSCRIBE
-    /// are not saved, so none is in use.
+    /// Reads the session of which these bytes are the saved form (4.1). Fails if they don't begin with `MQS` and version 1, if
+    /// a field is bad, with the place of the first one, or if memory runs out. The identifiers in use by SUBSCRIBE and
+    /// UNSUBSCRIBE are not saved, so none is in use.
     pub fn load(alloc: Global, bytes: &[u8]) -> Result<Session, LoadError>
         ensures loads { IfOk result (λ s. Saved s bytes.now × IsSession s) }
         ensures session { (s : Session) → IsSession s → Saved s bytes.now → MatchResult result (λ t. t ≡ s) (λ e. e ≡ LoadError.Memory) }
@@ -117,7 +117,7 @@ impl Session {
     }
 }
 
-// The session, or what is wrong with the bytes.
+// Reads a session, or finds what is wrong with the bytes.
 #[tactic(auto, unfolding(crate::specs::Loading::read_session))]
 fn read(alloc: Global, bytes: &[u8]) -> Result<Session, LoadError>
     ensures version { IsErrOf result LoadError.Version ↔ (has_version bytes.now ≡ false) }
@@ -135,7 +135,7 @@ fn read(alloc: Global, bytes: &[u8]) -> Result<Session, LoadError>
     }
 }
 
-// What follows the version.
+// Reads what follows the version.
 #[tactic(auto, unfolding(crate::specs::Loading::session_at))]
 pub(crate) fn session(alloc: Global, bytes: &[u8]) -> Result<Session, Unread>
     ensures { Gives (λ s. s) result (session_at 268435455 bytes.now) }
@@ -146,7 +146,7 @@ pub(crate) fn session(alloc: Global, bytes: &[u8]) -> Result<Session, Unread>
     Ok(Session { sender, receiver })
 }
 
-// What a sender keeps.
+// Reads what a sender keeps.
 #[tactic(auto, unfolding(crate::specs::Loading::sender_at))]
 fn sender(alloc: Global, bytes: &[u8]) -> Result<(Sender, &[u8]), Unread>
     ensures { Gives (λ x. (x.0, x.1.now)) result (sender_at 268435455 bytes.now) }
@@ -162,7 +162,7 @@ fn sender(alloc: Global, bytes: &[u8]) -> Result<(Sender, &[u8]), Unread>
     Ok((sender, rest))
 }
 
-// So many entries more.
+// Reads that many entries more.
 fn entries<'a>(
     alloc: Global,
     sender: &mut Sender,
@@ -182,7 +182,7 @@ fn entries<'a>(
     Ok(rest)
 }
 
-// One entry more.
+// Reads one entry more.
 #[tactic(auto, unfolding(crate::specs::Loading::with_entry_at))]
 fn with_entry<'a>(alloc: Global, sender: &mut Sender, bytes: &'a [u8]) -> Result<&'a [u8], Unread>
     requires room { is_full sender.old.capacity sender.old.book ≡ false }
@@ -196,7 +196,7 @@ fn with_entry<'a>(alloc: Global, sender: &mut Sender, bytes: &'a [u8]) -> Result
     Ok(rest)
 }
 
-// An entry whose identifier is free.
+// Reads an entry, whose identifier has to be free.
 #[tactic(auto, unfolding(crate::specs::Loading::entry_at))]
 fn entry<'a>(alloc: Global, sender: &Sender, bytes: &'a [u8]) -> Result<(Entry, &'a [u8]), Unread>
     ensures read { Gives (λ x. (x.0, x.1.now)) result (entry_at 268435455 sender.now.book bytes.now) }
@@ -217,7 +217,7 @@ fn entry<'a>(alloc: Global, sender: &Sender, bytes: &'a [u8]) -> Result<(Entry, 
     Ok((entry, rest))
 }
 
-// A message.
+// Reads a message.
 #[tactic(auto, unfolding(crate::specs::Loading::message_at))]
 fn message(alloc: Global, flags: Flags, bytes: &[u8]) -> Result<(Message, &[u8]), Unread>
     ensures read { Gives (λ x. (x.0, x.1.now)) result (message_at 268435455 flags bytes.now) }
@@ -234,7 +234,7 @@ fn message(alloc: Global, flags: Flags, bytes: &[u8]) -> Result<(Message, &[u8])
     Ok((message, rest))
 }
 
-// A payload, behind a count of four bytes.
+// Reads a payload, behind a count of four bytes.
 #[tactic(auto, unfolding(crate::specs::Loading::payload_at))]
 fn payload(alloc: Global, topic: usize, bytes: &[u8]) -> Result<(Payload, &[u8]), Unread>
     requires { topic < 65_536 }
@@ -249,7 +249,7 @@ fn payload(alloc: Global, topic: usize, bytes: &[u8]) -> Result<(Payload, &[u8])
     Ok((payload, rest))
 }
 
-// A topic name, behind a count of two bytes.
+// Reads a topic name, behind a count of two bytes.
 #[tactic(auto, unfolding(crate::specs::Loading::topic_at))]
 fn topic(alloc: Global, bytes: &[u8]) -> Result<(TopicName, &[u8]), Unread>
     ensures { Gives (λ x. (x.0, x.1.now)) result (topic_at bytes.now) }
@@ -282,7 +282,7 @@ fn entry_flags(bytes: &[u8]) -> Result<(Flags, &[u8]), BadField>
     Ok((Flags { qos, sent, retain }, rest))
 }
 
-// A quality of service over 0.
+// Reads a quality of service over 0.
 #[tactic(auto, unfolding(crate::specs::Loading::qos_at))]
 fn qos(bytes: &[u8]) -> Result<(Qos, &[u8]), BadField>
     ensures read { Same (λ x. (x.0, x.1.now)) result (qos_at bytes.now) }
@@ -298,7 +298,7 @@ fn qos(bytes: &[u8]) -> Result<(Qos, &[u8]), BadField>
     }
 }
 
-// 0 or 1.
+// Reads 0 or 1.
 #[tactic(auto, unfolding(crate::specs::Loading::flag_at))]
 pub(crate) fn flag(bytes: &[u8]) -> Result<(bool, &[u8]), BadField>
     ensures { Same (λ x. (x.0, x.1.now)) result (flag_at bytes.now) }
@@ -313,7 +313,7 @@ pub(crate) fn flag(bytes: &[u8]) -> Result<(bool, &[u8]), BadField>
     }
 }
 
-// One released identifier more.
+// Reads one released identifier more.
 #[tactic(auto, unfolding(crate::specs::Loading::with_released_at))]
 fn with_released<'a>(sender: &mut Sender, bytes: &'a [u8]) -> Result<&'a [u8], Unread>
     requires room { is_full sender.old.capacity sender.old.book ≡ false }
@@ -330,7 +330,7 @@ fn with_released<'a>(sender: &mut Sender, bytes: &'a [u8]) -> Result<&'a [u8], U
     Ok(rest)
 }
 
-// So many released identifiers more.
+// Reads that many released identifiers more.
 fn released<'a>(sender: &mut Sender, count: u16, bytes: &'a [u8]) -> Result<&'a [u8], Unread>
     requires room { length (uses sender.old.book) + count ≤ sender.old.capacity }
     ensures read { Gives (λ rest. (sender.new.book, rest.now)) result (released_at count sender.old.book bytes.now) }
@@ -359,7 +359,7 @@ impl Sender {
     }
 }
 
-// An identifier that is free.
+// Reads an identifier, which has to be free.
 #[tactic(auto, unfolding(crate::specs::Loading::free_at))]
 fn free<'a>(sender: &Sender, bytes: &'a [u8]) -> Result<(PacketId, &'a [u8]), BadField>
     ensures read { Same (λ x. (x.0, x.1.now)) result (free_at sender.now.book bytes.now) }
@@ -372,7 +372,7 @@ fn free<'a>(sender: &Sender, bytes: &'a [u8]) -> Result<(PacketId, &'a [u8]), Ba
     }
 }
 
-// The identifiers that were received.
+// Reads the identifiers that were received.
 #[tactic(auto, unfolding(crate::specs::Loading::receiver_at))]
 fn receiver(alloc: Global, bytes: &[u8]) -> Result<(Receiver, &[u8]), Unread>
     ensures { Gives (λ x. (x.0, x.1.now)) result (receiver_at bytes.now) }
@@ -383,7 +383,7 @@ fn receiver(alloc: Global, bytes: &[u8]) -> Result<(Receiver, &[u8]), Unread>
     Ok((receiver, rest))
 }
 
-// So many identifiers more, each after the one before it.
+// Reads that many identifiers more, each greater than the one before it.
 fn received<'a>(receiver: &mut Receiver, count: u16, bytes: &'a [u8]) -> Result<&'a [u8], Unread>
     ensures { Gives (λ rest. (receiver.new, rest.now)) result (received_at count 0 receiver.old bytes.now) }
 {
@@ -401,7 +401,7 @@ fn received<'a>(receiver: &mut Receiver, count: u16, bytes: &'a [u8]) -> Result<
     Ok(rest)
 }
 
-// An identifier after this one.
+// Reads an identifier, which has to be greater than this one.
 #[tactic(auto, unfolding(crate::specs::Loading::next_at))]
 fn next(last: u16, bytes: &[u8]) -> Result<(PacketId, &[u8]), BadField>
     ensures { Same (λ x. (x.0, x.1.now)) result (next_at last bytes.now) }
@@ -413,7 +413,7 @@ fn next(last: u16, bytes: &[u8]) -> Result<(PacketId, &[u8]), BadField>
     }
 }
 
-// A number from 1 on.
+// Reads a number over 0.
 #[tactic(auto, unfolding(crate::specs::Loading::capacity_at))]
 fn capacity(bytes: &[u8]) -> Result<(u16, &[u8]), BadField>
     ensures read { Same (λ x. (x.0, x.1.now)) result (capacity_at bytes.now) }
@@ -426,7 +426,7 @@ fn capacity(bytes: &[u8]) -> Result<(u16, &[u8]), BadField>
     Ok((capacity, rest))
 }
 
-// How many there are, where there is room for so many.
+// Reads how many there are, for which there has to be room.
 #[tactic(auto, unfolding(crate::specs::Loading::number_within))]
 fn number_within(room: u16, bytes: &[u8]) -> Result<(u16, &[u8]), BadField>
     ensures read { Same (λ x. (x.0, x.1.now)) result (number_within room bytes.now) }
@@ -439,7 +439,7 @@ fn number_within(room: u16, bytes: &[u8]) -> Result<(u16, &[u8]), BadField>
     Ok((number, rest))
 }
 
-// A number of four bytes.
+// Reads a number of four bytes.
 #[tactic(auto, unfolding(crate::specs::Loading::count_at))]
 fn count(bytes: &[u8]) -> Result<(usize, &[u8]), BadField>
     ensures read { Same (λ x. (x.0, x.1.now)) result (count_at bytes.now) }
@@ -453,7 +453,7 @@ fn count(bytes: &[u8]) -> Result<(usize, &[u8]), BadField>
     Ok((65_536 * usize::from(high) + usize::from(low), rest))
 }
 
-// A number of two bytes.
+// Reads a number of two bytes.
 #[tactic(auto, unfolding(crate::specs::Loading::number_at))]
 fn number(bytes: &[u8]) -> Result<(u16, &[u8]), BadField>
     ensures { Same (λ x. (x.0, x.1.now)) result (number_at bytes.now) }
@@ -464,7 +464,7 @@ fn number(bytes: &[u8]) -> Result<(u16, &[u8]), BadField>
     Ok((u16::from_be_bytes([*high, *low]), rest))
 }
 
-// Nothing follows.
+// Checks that nothing follows.
 fn end(bytes: &[u8]) -> Result<(), BadField>
     ensures { Same (λ x. x) result (end_at bytes.now) }
 {
@@ -474,7 +474,7 @@ fn end(bytes: &[u8]) -> Result<(), BadField>
     bad_at(bytes)
 }
 
-// The field at the front of these bytes is bad.
+// Returns the fault that the field at the front of these bytes is bad.
 fn bad_at<T>(bytes: &[u8]) -> Result<T, BadField>
     ensures { result ≡ Err (record { left = length bytes.now }) }
 {

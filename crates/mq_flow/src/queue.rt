@@ -9,7 +9,7 @@ use crate::iter::Entries;
 use mq_packet::PacketId;
 use mq_topic::Qos;
 
-/// How many messages there are of this quality of service.
+/// Returns how many messages there are of this quality of service.
 pub(crate) fn count_of(entries: Entries<'_>, qos: Qos) -> usize
     requires { length entries < 65_536 }
     ensures { result ≡ length (held qos entries.entry) }
@@ -23,7 +23,7 @@ pub(crate) fn count_of(entries: Entries<'_>, qos: Qos) -> usize
     count
 }
 
-/// Where the claim of an identifier stands.
+/// Returns where the claim of an identifier stands.
 pub(crate) fn claim_at(claims: &[Claimed], id: PacketId) -> Option<usize>
     ensures there { is_some result ≡ list_any (λ c. c.id == id) claims.now }
     ensures place { IfSome result (λ at. at < length claims.now) }
@@ -39,7 +39,7 @@ pub(crate) fn claim_at(claims: &[Claimed], id: PacketId) -> Option<usize>
     None
 }
 
-/// Whether a SUBSCRIBE of this identifier waits for so many codes.
+/// Returns whether a SUBSCRIBE of this identifier waits for that many codes.
 pub(crate) fn has_subscribe(claims: &[Claimed], id: PacketId, count: usize) -> bool
     ensures { result ≡ list_any (λ c. is_subscribe c.kind && (c.id == id && c.count == count)) claims.now }
 {
@@ -51,7 +51,7 @@ pub(crate) fn has_subscribe(claims: &[Claimed], id: PacketId, count: usize) -> b
     false
 }
 
-/// Whether an UNSUBSCRIBE of this identifier waits for its answer.
+/// Returns whether an UNSUBSCRIBE of this identifier waits for its answer.
 pub(crate) fn has_unsubscribe(claims: &[Claimed], id: PacketId) -> bool
     ensures { result ≡ list_any (λ c. not (is_subscribe c.kind) && c.id == id) claims.now }
 {

@@ -37,7 +37,7 @@ impl Model for Receiver {
 }
 
 impl Receiver {
-    /// A receiver that has stored no identifier. It takes no memory.
+    /// Makes a receiver that has stored no identifier. Takes no memory.
     pub fn new(alloc: Global) -> Receiver
         ensures { result ≡ none_received }
     {
@@ -46,22 +46,22 @@ impl Receiver {
         }
     }
 
-    /// Whether an identifier is stored: its message was handed on, and its PUBREL has not come (4.3.3).
+    /// Returns whether an identifier is stored: its message was handed on, and its PUBREL has not come (4.3.3).
     pub fn is_stored(&self, id: PacketId) -> bool
         ensures { result ≡ set.contains self.now id }
     {
         self.stored.contains(&id.get())
     }
 
-    /// How many identifiers are stored. It takes no memory.
+    /// Returns how many identifiers are stored. Takes no memory.
     pub fn identifiers(&self) -> usize
         ensures { result ≡ set.len self.now }
     {
         self.stored.len()
     }
 
-    /// Whether a PUBLISH of quality of service 2 with this identifier fits a window: its identifier is stored, or fewer are stored
-    /// than the window has; `None` is no window. It takes no memory.
+    /// Returns whether a PUBLISH of quality of service 2 with this identifier fits a window: its identifier is stored, or fewer
+    /// are stored than the window has; `None` is no window. Takes no memory.
     pub fn fits(&self, id: PacketId, window: Option<u16>) -> bool
         ensures { result ≡ fits_window window id self.now }
     {
@@ -71,8 +71,8 @@ impl Receiver {
         }
     }
 
-    /// Stores an identifier (4.3.3). The answer says whether it is new, so that its message is to be handed on.
-    /// Errs where memory runs out, and then nothing changes.
+    /// Stores an identifier (4.3.3). Returns whether it is new, so that its message is to be handed on. Fails if memory runs
+    /// out, and then nothing changes.
     pub fn store(&mut self, id: PacketId) -> Result<bool, AllocError>
         ensures new { IfOk result (λ b. b ≡ is_new id self.old) }
         ensures book { OnOk result (self.new ≡ on_publish id self.old) }
@@ -81,10 +81,10 @@ impl Receiver {
         Ok(self.stored.insert(id.get())?)
     }
 
-    /// A PUBLISH of quality of service 1 or 2: the message, where it is handed on, and the packet that answers
-    /// (4.3.2, 4.3.3). With quality of service 1 it is always handed on and PUBACK answers; with 2 it is handed on
-    /// exactly where its identifier is new, and PUBREC answers. Errs where one of quality of service 2 doesn't fit the window, or
-    /// where memory runs out, and then nothing changes.
+    /// Takes a PUBLISH of quality of service 1 or 2, and returns the message, if it is handed on, and the packet that answers
+    /// (4.3.2, 4.3.3). With quality of service 1 the message is always handed on, and PUBACK answers; with 2 it is handed on
+    /// exactly if its identifier is new, and PUBREC answers. Fails if one of quality of service 2 doesn't fit the window, or if
+    /// memory runs out, and then nothing changes.
     pub fn on_publish(
         &mut self,
         id: PacketId,
@@ -114,8 +114,8 @@ impl Receiver {
         Ok((handed, Packet::PubRec(id)))
     }
 
-    /// PUBREL: the identifier is forgotten, and PUBCOMP answers, whether it was stored or not (4.3.3). It takes no
-    /// memory.
+    /// Takes a PUBREL: forgets the identifier and returns the PUBCOMP that answers, whether it was stored or not (4.3.3). Takes
+    /// no memory.
     pub fn on_pubrel(&mut self, id: PacketId) -> Packet
         ensures answer { result ≡ packets.PubComp id }
         ensures book { self.new ≡ on_pubrel id self.old }
@@ -124,14 +124,14 @@ impl Receiver {
         Packet::PubComp(id)
     }
 
-    /// Forgets all identifiers. It takes no memory.
+    /// Forgets all identifiers. Takes no memory.
     pub(crate) fn discard(&mut self)
         ensures { self.new ≡ none_received }
     {
         self.stored.clear();
     }
 
-    /// Whether no identifier is stored. It takes no memory.
+    /// Returns whether no identifier is stored. Takes no memory.
     pub fn is_empty(&self) -> bool
         ensures { IsTrue result ↔ (self.now ≡ none_received) }
     {

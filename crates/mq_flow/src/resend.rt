@@ -12,9 +12,9 @@ use mq_packet::{Delivery, Packet, Publish};
 use std::alloc::AllocError;
 
 impl Sender {
-    /// Appends what is sent again: a PUBREL for each released identifier, in the order of the PUBRECs, then a PUBLISH
-    /// for each message, in the order of acceptance, with DUP where it was sent before (4.4, 3.3.1.1). Errs where
-    /// memory runs out, and then nothing changes.
+    /// Appends what is sent again: a PUBREL for each released identifier, in the order of the PUBRECs, then a PUBLISH for each
+    /// message, in the order of acceptance, with DUP if it was sent before (4.4, 3.3.1.1). Fails if memory runs out, and then
+    /// nothing changes.
     pub fn resent(&self, out: &mut Vec<Packet>) -> Result<(), AllocError>
         ensures ok { OnOk result (out.new.items ≡ out.old.items ++ resent self.now.book) }
         ensures err { OnErr result (out.new.items ≡ out.old.items) }
@@ -27,7 +27,7 @@ impl Sender {
         put
     }
 
-    /// Appends what is sent again; where memory runs out a beginning of it.
+    /// Appends what is sent again, or only a beginning of it if memory runs out.
     fn put_resent(&self, out: &mut Vec<Packet>) -> Result<(), AllocError>
         ensures ok { OnOk result (out.new.items ≡ out.old.items ++ resent self.now.book) }
         ensures err { OnErr result (take (length out.old.items) out.new.items ≡ out.old.items) }
@@ -36,7 +36,7 @@ impl Sender {
         put_messages(self.table.entries(), out)
     }
 
-    /// Marks each message as sent: the next PUBLISH of each has DUP (3.3.1.1). It takes no memory.
+    /// Marks each message as sent: the next PUBLISH of each has DUP (3.3.1.1). Takes no memory.
     pub fn mark_sent(&mut self)
         ensures book { self.new.book ≡ all_sent self.old.book }
         ensures capacity { self.new.capacity ≡ self.old.capacity }
@@ -46,8 +46,8 @@ impl Sender {
         self.table.mark_all();
     }
 
-    /// Sends again: appends what is sent again and marks each message as sent (4.4). Errs where memory runs out, and
-    /// then nothing changes.
+    /// Sends again: appends what is sent again and marks each message as sent (4.4). Fails if memory runs out, and then nothing
+    /// changes.
     pub fn resend(&mut self, out: &mut Vec<Packet>) -> Result<(), AllocError>
         ensures out { OnOk result (out.new.items ≡ out.old.items ++ resent self.old.book) }
         ensures book { OnOk result (self.new.book ≡ all_sent self.old.book) }
@@ -74,7 +74,7 @@ fn put_releases(released: Releases<'_>, out: &mut Vec<Packet>) -> Result<(), All
     Ok(())
 }
 
-/// Appends a PUBLISH for each message, with DUP where it was sent before.
+/// Appends a PUBLISH for each message, with DUP if it was sent before.
 fn put_messages(entries: Entries<'_>, out: &mut Vec<Packet>) -> Result<(), AllocError>
     requires { list_any (λ e. same_qos Q0 e.message.qos) entries ≡ false }
     ensures ok { OnOk result (out.new.items ≡ out.old.items ++ map (λ e. publish_packet e.id e.sent e.message) entries.entry) }

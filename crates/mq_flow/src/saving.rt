@@ -27,9 +27,8 @@ use std::collections::BTreeSet;
 pub(crate) const SIGNATURE: [u8; 4] = [0x4d, 0x51, 0x53, 1];
 
 impl Session {
-    /// Appends the saved form of the session (4.1), version 1: what it sends and receives, and is not through with.
-    /// The identifiers in use by SUBSCRIBE and UNSUBSCRIBE are not saved. Errs where memory runs out, and then nothing
-    /// changes.
+    /// Appends the saved form of the session (4.1), version 1: what it sends and receives, and is not through with. The
+    /// identifiers in use by SUBSCRIBE and UNSUBSCRIBE are not saved. Fails if memory runs out, and then nothing changes.
     pub fn save(&self, out: &mut Vec<u8>) -> Result<(), AllocError>
         ensures ok { OnOk result (out.new.items ≡ out.old.items ++ saved_form (without_claims self.now)) }
         ensures session { OnOk result (AreWithin 268435455 self.now.sender.book.entries → IsSession (without_claims self.now)) }
@@ -44,7 +43,7 @@ impl Session {
     }
 }
 
-// Appends the saved form; where memory runs out a beginning of it.
+// Appends the saved form, or only a beginning of it if memory runs out.
 fn put_session(out: &mut Vec<u8>, session: &Session) -> Result<(), AllocError>
     ensures ok { OnOk result (out.new.items ≡ out.old.items ++ saved_form session.now) }
     ensures session { OnOk result (AreWithin 268435455 session.now.sender.book.entries → IsSession (without_claims session.now)) }
@@ -54,7 +53,7 @@ fn put_session(out: &mut Vec<u8>, session: &Session) -> Result<(), AllocError>
     put_state(out, session)
 }
 
-// Appends what is saved of a session behind the version; where memory runs out a beginning of it.
+// Appends what is saved of a session behind the version, or only a beginning of it if memory runs out.
 pub(crate) fn put_state(out: &mut Vec<u8>, session: &Session) -> Result<(), AllocError>
     ensures ok { OnOk result (out.new.items ≡ out.old.items ++ (saved_sender session.now.sender ++ saved_receiver session.now.receiver)) }
     ensures session { OnOk result (AreWithin 268435455 session.now.sender.book.entries → IsSession (without_claims session.now)) }

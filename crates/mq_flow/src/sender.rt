@@ -50,8 +50,8 @@ impl Model for Sender {
 }
 
 impl Sender {
-    /// A sender that has no message and gave no identifier, and in which so many identifiers may be in use (2.3.1).
-    /// It takes no memory.
+    /// Makes a sender that has no message and gave no identifier, and in which at most `capacity` identifiers may be in use
+    /// (2.3.1). Takes no memory.
     pub fn new(alloc: Global, capacity: u16) -> Sender
         requires { 0 < capacity }
         ensures book { result.book ≡ blank_book }
@@ -69,7 +69,7 @@ impl Sender {
         }
     }
 
-    /// The most identifiers that may be in use, at least 1 (2.3.1).
+    /// Returns the most identifiers that may be in use, at least 1 (2.3.1).
     pub fn capacity(&self) -> u16
         ensures capacity { result ≡ self.now.capacity }
         ensures able { 0 < result }
@@ -78,7 +78,7 @@ impl Sender {
         self.capacity
     }
 
-    /// The messages that are not acknowledged, in order of acceptance (4.3.2, 4.3.3).
+    /// Returns the messages that are not acknowledged, in order of acceptance (4.3.2, 4.3.3).
     pub fn entries(&self) -> Entries<'_>
         ensures rest { result ≡ self.now.book.entries }
         ensures runs { ShowsInOrder (deref {X = Entry}) }
@@ -87,7 +87,7 @@ impl Sender {
         self.table.entries()
     }
 
-    /// The identifiers that are released, in the order of the PUBRECs (4.3.3).
+    /// Returns the identifiers that are released, in the order of the PUBRECs (4.3.3).
     pub fn releases(&self) -> Releases<'_>
         ensures rest { result ≡ self.now.book.released }
         ensures runs { GivesInOrder ℕ }
@@ -95,7 +95,7 @@ impl Sender {
         self.table.releases()
     }
 
-    /// How many more identifiers may be in use (2.3.1).
+    /// Returns how many more identifiers may be in use (2.3.1).
     pub fn left(&self) -> usize
         ensures { result ≡ self.now.capacity - length (uses self.now.book) }
     {
@@ -103,8 +103,8 @@ impl Sender {
         self.capacity as usize - used
     }
 
-    /// The identifier that the next packet gets: the first free one after the one that was given last, counted
-    /// round; `None` where as many are in use as there is room for (2.3.1). It takes no memory.
+    /// Returns the identifier that the next packet gets: the first free one after the one that was given last, counted round,
+    /// or `None` if as many are in use as there is room for (2.3.1). Takes no memory.
     pub fn next_id(&self) -> Option<PacketId>
         ensures some { IsSome result ↔ (is_full self.now.capacity self.now.book ≡ false) }
         ensures first { IfSome result (IsFirstFree self.now.last self.now.book) }
@@ -123,14 +123,14 @@ impl Sender {
         None
     }
 
-    /// Whether an identifier is in use (2.3.1).
+    /// Returns whether an identifier is in use (2.3.1).
     pub(crate) fn is_in_use(&self, id: PacketId) -> bool
         ensures { result ≡ nat_lt 0 (times id (uses self.now.book)) }
     {
         self.table.get(id).is_some() || self.claimed_ids.contains(&id.get())
     }
 
-    /// Makes room for so many messages: as many can be accepted without more memory. Errs where memory runs out, and then
+    /// Makes room for that many messages, which can then be accepted without more memory. Fails if memory runs out, and then
     /// nothing changes.
     pub fn reserve(&mut self, count: usize) -> Result<(), AllocError>
         ensures ok { OnOk result (count ≤ self.new.room) }
@@ -143,9 +143,9 @@ impl Sender {
         Ok(())
     }
 
-    /// Accepts a message with an identifier that is free, while there is room; `sent` says that its PUBLISH goes
-    /// out at once (4.3.2, 4.3.3). All the memory that its acknowledgements need is taken here. Errs where memory
-    /// runs out, which it doesn't where room is reserved, and then nothing changes.
+    /// Accepts a message with an identifier that is free, while there is room; `sent` says that its PUBLISH goes out at once
+    /// (4.3.2, 4.3.3). All the memory that its acknowledgements need is taken here. Fails if memory runs out, which it doesn't
+    /// if room is reserved, and then nothing changes.
     pub fn accept_as(
         &mut self,
         id: PacketId,
@@ -169,9 +169,9 @@ impl Sender {
         Ok(())
     }
 
-    /// Accepts a message of quality of service 1 or 2, to be sent later, with the next identifier (2.3.1, 4.3.2,
-    /// 4.3.3). Errs where as many identifiers are in use as there is room for, or where memory runs out, which it
-    /// doesn't where room is reserved; then nothing changes.
+    /// Accepts a message of quality of service 1 or 2, to be sent later, with the next identifier (2.3.1, 4.3.2, 4.3.3). Fails
+    /// if as many identifiers are in use as there is room for, or if memory runs out, which it doesn't if room is reserved;
+    /// then nothing changes.
     #[tactic(auto, using(crate::proofs::Next::is_next))]
     pub fn accept(&mut self, message: Message) -> Result<PacketId, Refusal>
         requires kept { message.qos ≡ Q0 → ⊥ }
@@ -193,8 +193,8 @@ impl Sender {
         }
     }
 
-    /// Puts an identifier that is free in use by a SUBSCRIBE or an UNSUBSCRIBE with so many filters, while there
-    /// is room (2.3.1). Errs where memory runs out, and then nothing changes.
+    /// Puts an identifier that is free in use by a SUBSCRIBE or an UNSUBSCRIBE with that many filters, while there is room
+    /// (2.3.1). Fails if memory runs out, and then nothing changes.
     pub fn claim_as(&mut self, id: PacketId, kind: Claim, count: usize) -> Result<(), AllocError>
         requires free { IsFree self.old.book id }
         requires room { is_full self.old.capacity self.old.book ≡ false }
@@ -211,8 +211,8 @@ impl Sender {
         Ok(())
     }
 
-    /// Frees an identifier that is in use by a SUBSCRIBE or an UNSUBSCRIBE; nothing changes where it isn't (2.3.1).
-    /// It takes no memory.
+    /// Frees an identifier that is in use by a SUBSCRIBE or an UNSUBSCRIBE; nothing changes if it isn't (2.3.1). Takes no
+    /// memory.
     pub fn release_id(&mut self, id: PacketId)
         ensures book { self.new.book ≡ release id self.old.book }
         ensures capacity { self.new.capacity ≡ self.old.capacity }
@@ -225,7 +225,7 @@ impl Sender {
         }
     }
 
-    /// Frees all identifiers that are in use by SUBSCRIBE and UNSUBSCRIBE: a connection is over. It takes no memory.
+    /// Frees all identifiers that are in use by SUBSCRIBE and UNSUBSCRIBE: a connection is over. Takes no memory.
     pub fn free_claims(&mut self)
         ensures book { self.new.book ≡ no_claims self.old.book }
         ensures capacity { self.new.capacity ≡ self.old.capacity }
@@ -236,7 +236,8 @@ impl Sender {
         self.claimed.clear();
     }
 
-    /// Discards all that was sent and is not through (3.1.2.4): it is as new, but for its room, which stays. It takes no memory.
+    /// Discards all that was sent and is not through (3.1.2.4): it is as new, except for its room, which stays. Takes no
+    /// memory.
     pub(crate) fn discard(&mut self)
         ensures { self.new ≡ record self.old { book = blank_book; last = 0 } }
     {
@@ -245,28 +246,28 @@ impl Sender {
         self.last = 0;
     }
 
-    /// The identifiers that are in use by SUBSCRIBE and UNSUBSCRIBE, in the order of the claims (2.3.1).
+    /// Returns the identifiers that are in use by SUBSCRIBE and UNSUBSCRIBE, in the order of the claims (2.3.1).
     pub fn pending(&self) -> &[Claimed]
         ensures { result.now ≡ self.now.book.claimed }
     {
         self.claimed.as_slice()
     }
 
-    /// How many messages of this quality of service are not acknowledged (4.3.2, 4.3.3).
+    /// Returns how many messages of this quality of service are not acknowledged (4.3.2, 4.3.3).
     pub fn holds(&self, qos: Qos) -> usize
         ensures { result ≡ length (held qos self.now.book.entries) }
     {
         count_of(self.table.entries(), qos)
     }
 
-    /// How many identifiers are released and wait for their PUBCOMP (4.3.3).
+    /// Returns how many identifiers are released and wait for their PUBCOMP (4.3.3).
     pub fn released(&self) -> usize
         ensures { result ≡ length self.now.book.released }
     {
         self.table.released()
     }
 
-    /// Whether a message has this identifier.
+    /// Returns whether a message has this identifier.
     pub fn has(&self, id: PacketId) -> bool
         ensures { result ≡ list_any (λ e. e.id == id) self.now.book.entries }
     {
@@ -277,28 +278,28 @@ impl Sender {
         }
     }
 
-    /// Whether there is no message and no released identifier.
+    /// Returns whether there is no message and no released identifier.
     pub fn is_idle(&self) -> bool
         ensures { IsTrue result ↔ ((self.now.book.entries ≡ []) × (self.now.book.released ≡ [])) }
     {
         self.table.len() == 0
     }
 
-    /// Whether a message of quality of service 1 went out with this identifier and waits for PUBACK (4.3.2).
+    /// Returns whether a message of quality of service 1 went out with this identifier and waits for PUBACK (4.3.2).
     pub fn awaits_puback(&self, id: PacketId) -> bool
         ensures { result ≡ is_awaited Q1 id self.now.book.entries }
     {
         self.awaits(Qos::Q1, id)
     }
 
-    /// Whether a message of quality of service 2 went out with this identifier and waits for PUBREC (4.3.3).
+    /// Returns whether a message of quality of service 2 went out with this identifier and waits for PUBREC (4.3.3).
     pub fn awaits_pubrec(&self, id: PacketId) -> bool
         ensures { result ≡ is_awaited Q2 id self.now.book.entries }
     {
         self.awaits(Qos::Q2, id)
     }
 
-    /// Whether a message of this quality of service went out with this identifier.
+    /// Returns whether a message of this quality of service went out with this identifier.
     pub(crate) fn awaits(&self, qos: Qos, id: PacketId) -> bool
         ensures { result ≡ is_awaited qos id self.now.book.entries }
     {
@@ -309,7 +310,7 @@ impl Sender {
         }
     }
 
-    /// Whether an identifier is released.
+    /// Returns whether an identifier is released.
     pub(crate) fn is_released(&self, id: PacketId) -> bool
         ensures { result ≡ list_any (λ j. j == id) self.now.book.released }
     {
@@ -320,14 +321,14 @@ impl Sender {
         }
     }
 
-    /// Whether a SUBSCRIBE of this identifier waits for so many codes (3.8.4).
+    /// Returns whether a SUBSCRIBE of this identifier waits for that many codes (3.8.4).
     pub fn awaits_suback(&self, id: PacketId, count: usize) -> bool
         ensures { result ≡ awaits_suback id count self.now.book }
     {
         has_subscribe(&self.claimed, id, count)
     }
 
-    /// Whether an UNSUBSCRIBE of this identifier waits for its answer (3.10.4).
+    /// Returns whether an UNSUBSCRIBE of this identifier waits for its answer (3.10.4).
     pub fn awaits_unsuback(&self, id: PacketId) -> bool
         ensures { result ≡ awaits_unsuback id self.now.book }
     {
@@ -335,14 +336,14 @@ impl Sender {
     }
 }
 
-/// Whether a message is of this quality of service and went out.
+/// Returns whether a message is of this quality of service and went out.
 fn is_sent(entry: &Entry, qos: Qos) -> bool
     ensures { result ≡ (same_qos qos entry.now.message.qos && entry.now.sent) }
 {
     entry.message.qos == qos && entry.sent
 }
 
-/// The identifier after this number, counted round from 65,535 to 1.
+/// Returns the identifier after this number, counted round from 65,535 to 1.
 fn following(number: u16) -> PacketId
     ensures { result ≡ (if nat_lt number 65535 then number + 1 else 1) }
 {

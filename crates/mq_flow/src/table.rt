@@ -27,7 +27,7 @@ pub(crate) enum Held {
 }
 
 impl Held {
-    /// The identifier that it is kept under.
+    /// Returns the identifier that it is kept under.
     pub(crate) fn id(&self) -> PacketId
         ensures { result ≡ id_in self.now }
     {
@@ -44,7 +44,7 @@ impl Held {
 pub(crate) struct Table {
     /// What is kept, the oldest first, and empty places between.
     pub(crate) slots: Vec<Option<Held>>,
-    /// In which place each identifier is.
+    /// The place in which each identifier is.
     pub(crate) places: HashMap<u16, usize>,
 }
 
@@ -61,7 +61,7 @@ impl Model for Table {
 }
 
 impl Table {
-    /// One in which nothing is kept. It takes no memory.
+    /// Makes a table in which nothing is kept. Takes no memory.
     pub(crate) fn new(alloc: Global) -> Table
         ensures { result.pairs ≡ [] }
     {
@@ -71,21 +71,21 @@ impl Table {
         }
     }
 
-    /// How many identifiers there are.
+    /// Returns how many identifiers there are.
     pub(crate) fn len(&self) -> usize
         ensures { result ≡ length self.now.pairs }
     {
         self.places.len()
     }
 
-    /// How many identifiers are released.
+    /// Returns how many identifiers are released.
     pub(crate) fn released(&self) -> usize
         ensures { result ≡ length (releases self.now.pairs) }
     {
         self.len() - self.waiting()
     }
 
-    /// How many messages are not acknowledged.
+    /// Returns how many messages are not acknowledged.
     pub(crate) fn waiting(&self) -> usize
         ensures { result ≡ length (messages self.now.pairs) }
     {
@@ -96,7 +96,7 @@ impl Table {
         count
     }
 
-    /// How many more it can keep without more memory.
+    /// Returns how many more the table can keep without more memory.
     pub(crate) fn spare(&self) -> usize
         ensures { result ≡ self.now.spare }
     {
@@ -105,7 +105,7 @@ impl Table {
         (self.slots.capacity().saturating_sub(1) - used).min(spare)
     }
 
-    /// What is kept under an identifier.
+    /// Returns what is kept under an identifier.
     pub(crate) fn get(&self, id: PacketId) -> Option<&Held>
         ensures { option_copied result ≡ lookup (nat_eq id) self.now.pairs }
     {
@@ -115,7 +115,7 @@ impl Table {
         }
     }
 
-    /// The messages that are not acknowledged, in their order.
+    /// Returns the messages that are not acknowledged, in their order.
     pub(crate) fn entries(&self) -> Entries<'_>
         ensures rest { result ≡ messages self.now.pairs }
         ensures runs { ShowsInOrder (deref {X = Entry}) }
@@ -125,7 +125,7 @@ impl Table {
         }
     }
 
-    /// The identifiers that are released, in their order.
+    /// Returns the identifiers that are released, in their order.
     pub(crate) fn releases(&self) -> Releases<'_>
         ensures rest { result ≡ releases self.now.pairs }
         ensures runs { GivesInOrder ℕ }
@@ -135,7 +135,7 @@ impl Table {
         }
     }
 
-    /// Makes room for so many more. Errs where memory runs out, and then nothing that is kept changes.
+    /// Makes room for that many more. Fails if memory runs out, and then nothing that is kept changes.
     pub(crate) fn reserve(&mut self, count: usize) -> Result<(), AllocError>
         ensures ok { OnOk result (count ≤ self.new.spare) }
         ensures pairs { self.new.pairs ≡ self.old.pairs }
@@ -148,7 +148,7 @@ impl Table {
         self.grow(count)
     }
 
-    /// Makes room for so many more, the empty places aside.
+    /// Makes room for that many more, the empty places aside.
     fn grow(&mut self, count: usize) -> Result<(), AllocError>
         ensures ok { OnOk result (count ≤ self.new.spare) }
         ensures pairs { self.new.pairs ≡ self.old.pairs }
@@ -162,13 +162,13 @@ impl Table {
         self.slots.reserve_exact(more)
     }
 
-    /// Whether so many places are used that the others would soon have to move up again.
+    /// Returns whether so many places are used that the others would soon have to move up again.
     fn is_crowded(&self) -> bool {
         let used = self.places.len();
         self.slots.capacity() < (used + used / 8).saturating_add(2)
     }
 
-    /// Keeps something under another identifier, the last one. Errs where memory runs out, and then nothing that is kept
+    /// Adds something under a new identifier, behind all others. Fails if memory runs out, and then nothing that is kept
     /// changes.
     pub(crate) fn add(&mut self, held: Held) -> Result<(), AllocError>
         requires { lookup (nat_eq (id_in held)) self.old.pairs ≡ None }
@@ -179,7 +179,7 @@ impl Table {
         ensures err_spare { OnErr result (self.old.spare ≤ self.new.spare) }
     {
         if self.is_crowded() {
-            // Where there is no memory for more, one place may still be free.
+            // If there is no memory for more, one place may still be free.
             let _ = self.grow(self.len() / 4 + 4);
         }
         self.reserve(1)?;
@@ -187,7 +187,7 @@ impl Table {
         Ok(())
     }
 
-    /// Keeps something else under an identifier, which is the last one then. It takes no memory.
+    /// Replaces what is kept under an identifier, and moves it behind all others. Takes no memory.
     pub(crate) fn turn(&mut self, held: Held)
         requires { IsSome (lookup (nat_eq (id_in held)) self.old.pairs) }
         ensures pairs { self.new.pairs ≡ remove_entry (nat_eq (id_in held)) self.old.pairs ++ (id_in held, held) ∷ [] }
@@ -196,7 +196,7 @@ impl Table {
         turn_last(&mut self.slots, &mut self.places, held);
     }
 
-    /// Keeps nothing under an identifier. It takes no memory.
+    /// Removes what is kept under an identifier. Takes no memory.
     pub(crate) fn take(&mut self, id: PacketId)
         ensures pairs { self.new.pairs ≡ remove_entry (nat_eq id) self.old.pairs }
         ensures spare { self.old.spare ≤ self.new.spare }
@@ -204,7 +204,7 @@ impl Table {
         take_out(&mut self.slots, &mut self.places, id);
     }
 
-    /// Keeps nothing any more. It takes no memory.
+    /// Removes everything. Takes no memory.
     pub(crate) fn clear(&mut self)
         ensures pairs { self.new.pairs ≡ [] }
         ensures spare { self.old.spare ≤ self.new.spare }
@@ -222,7 +222,7 @@ impl Table {
     }
 }
 
-/// What is kept in a place.
+/// Returns what is kept in a place.
 fn held_at(slots: &[Option<Held>], at: usize) -> Option<&Held>
     requires { at < length slots.now }
     ensures { option_copied result ≡ slice_index_or slots.now at None }
@@ -230,7 +230,7 @@ fn held_at(slots: &[Option<Held>], at: usize) -> Option<&Held>
     slots[at].as_ref()
 }
 
-/// Keeps something else under an identifier, which is the last one then.
+/// Replaces what is kept under an identifier, and moves it behind all others.
 fn turn_last(slots: &mut Vec<Option<Held>>, places: &mut HashMap<u16, usize>, held: Held)
     requires placed { IsPlaced slots.old.items (get nat_eq places.old) (hash_map_len places.old) }
     requires there { IsSome (lookup (nat_eq (id_in held)) (pairs_in slots.old.items)) }
@@ -247,7 +247,7 @@ fn turn_last(slots: &mut Vec<Option<Held>>, places: &mut HashMap<u16, usize>, he
     }
 }
 
-/// Writes down that an identifier is in another place, and says where it was.
+/// Records that an identifier is in another place, and returns where it was.
 fn move_place(places: &mut HashMap<u16, usize>, id: PacketId, to: usize) -> Option<usize>
     ensures old { result ≡ get nat_eq places.old id }
     ensures moved { IfSome result (λ _. (i : ℕ) → get nat_eq places.new i ≡ (if nat_eq id i then Some to else get nat_eq places.old i)) }
@@ -260,7 +260,7 @@ fn move_place(places: &mut HashMap<u16, usize>, id: PacketId, to: usize) -> Opti
     Some(at)
 }
 
-/// Keeps nothing under an identifier.
+/// Removes what is kept under an identifier.
 fn take_out(slots: &mut Vec<Option<Held>>, places: &mut HashMap<u16, usize>, id: PacketId)
     requires { IsPlaced slots.old.items (get nat_eq places.old) (hash_map_len places.old) }
     ensures placed { IsPlaced slots.new.items (get nat_eq places.new) (hash_map_len places.new) }
@@ -298,7 +298,7 @@ fn push(slots: &mut Vec<Option<Held>>, places: &mut HashMap<u16, usize>, held: H
     slots.push_reserved(Some(held));
 }
 
-/// Writes down in which place another identifier is, where there is memory for one more.
+/// Records in which place a new identifier is, if there is memory for one more.
 fn write_place(places: &mut HashMap<u16, usize>, id: PacketId, at: usize)
     requires other { get nat_eq places.old id ≡ None }
     requires spare { 0 < spare places.old }
@@ -309,7 +309,7 @@ fn write_place(places: &mut HashMap<u16, usize>, id: PacketId, at: usize)
     let _ = places.insert(id.get(), at);
 }
 
-/// Makes a place free at the end, where all are used.
+/// Makes a place free at the end if all are used.
 fn move_up(slots: &mut Vec<Option<Held>>, places: &mut HashMap<u16, usize>)
     requires placed { IsPlaced slots.old.items (get nat_eq places.old) (hash_map_len places.old) }
     requires room { length (pairs_in slots.old.items) < vec_capacity slots.old }
@@ -345,7 +345,7 @@ fn drop_empty(slots: &mut Vec<Option<Held>>)
     slots.retain(|slot| slot.is_some());
 }
 
-/// Writes down anew in which place each identifier is. As many were there before.
+/// Records anew in which place each identifier is. As many were there before.
 fn renumber(slots: &[Option<Held>], places: &mut HashMap<u16, usize>)
     requires once { (i : ℕ) → times i (keys_of (pairs_in slots.now)) ≤ 1 }
     requires many { length (pairs_in slots.now) ≤ hash_map_len places.old }
