@@ -42,7 +42,11 @@ truth value = decimal (bit value)
 
 abbrev pub will_text : Option Will → List ℕ
 will_text None = []
-will_text (Some w) = codes " will=" ++ (escaped w.topic ++ (codes " wqos=" ++ (decimal (qos_number w.qos) ++ (codes " wretain=" ++ (truth w.retain ++ (codes " wmsg=" ++ hex_of w.message))))))
+will_text (Some w) =
+    codes " will=" ++ (escaped w.topic
+    ++ (codes " wqos=" ++ (decimal (qos_number w.qos)
+    ++ (codes " wretain=" ++ (truth w.retain
+    ++ (codes " wmsg=" ++ hex_of w.message))))))
 
 abbrev pub password_text : Option (List ℕ) → List ℕ
 password_text None = []
@@ -53,7 +57,11 @@ login_text None = []
 login_text (Some l) = codes " user=" ++ (escaped l.name ++ password_text l.password)
 
 abbrev pub connect_text : Connect → List ℕ
-connect_text c = codes "CONNECT id=" ++ (escaped c.client_id ++ (codes " clean=" ++ (truth c.clean_session ++ (codes " keep=" ++ (decimal c.keep_alive ++ (will_text c.will ++ login_text c.login))))))
+connect_text c =
+    codes "CONNECT id=" ++ (escaped c.client_id
+    ++ (codes " clean=" ++ (truth c.clean_session
+    ++ (codes " keep=" ++ (decimal c.keep_alive
+    ++ (will_text c.will ++ login_text c.login))))))
 
 abbrev pub connack_text : ConnAck → List ℕ
 connack_text (Accepted present) = codes "CONNACK session=" ++ (truth present ++ codes " code=0")
@@ -70,7 +78,13 @@ delivery_text None = []
 delivery_text (Some d) = codes " id=" ++ decimal d.id
 
 abbrev pub publish_text : Publication → List ℕ
-publish_text p = codes "PUBLISH topic=" ++ (escaped p.message.topic ++ (codes " qos=" ++ (decimal (qos_number p.message.qos) ++ (codes " dup=" ++ (truth (is_dup p.delivery) ++ (codes " retain=" ++ (truth p.message.retain ++ (delivery_text p.delivery ++ (codes " payload=" ++ hex_of p.message.payload)))))))))
+publish_text p =
+    codes "PUBLISH topic=" ++ (escaped p.message.topic
+    ++ (codes " qos=" ++ (decimal (qos_number p.message.qos)
+    ++ (codes " dup=" ++ (truth (is_dup p.delivery)
+    ++ (codes " retain=" ++ (truth p.message.retain
+    ++ (delivery_text p.delivery
+    ++ (codes " payload=" ++ hex_of p.message.payload)))))))))
 
 -- ---- packets with an identifier, and lists (3.4 to 3.11)
 

@@ -11,8 +11,8 @@ use mq_packet::{
 use mq_topic::TopicFilter;
 use std::fmt;
 
-/// A packet as it is printed: its name and its fields, on one line that has no end of its own.
-/// Texts have no byte outside 21 to 7e (hexadecimal), binaries are hexadecimal, truth values 0 and 1.
+/// Displays a packet as its name and its fields, on one line without a line's end, however long it is. Texts are displayed as by
+/// `Escaped`, other bytes as by `Hex`, and truth values as 0 and 1.
 #[derive(Clone, Copy)]
 pub struct Line<'a>(pub &'a Packet);
 
@@ -48,7 +48,7 @@ impl fmt::Display for Line<'_> {
     }
 }
 
-// A byte of a text: 21 to 7e (hexadecimal) as it is, but `%`; that, and any other, as `%` and two digits.
+// Writes a byte of a text: as it is if it is 21 to 7e (hexadecimal) and not `%`, else as `%` and two hexadecimal digits.
 fn write_escaped<W: fmt::Write>(f: &mut fmt::Formatter<W>, byte: u8) -> fmt::Result
     ensures { DisplaysOnOk W.write_str_gives f.old result (Some (escaped_byte byte)) f.new }
 {
@@ -59,8 +59,8 @@ fn write_escaped<W: fmt::Write>(f: &mut fmt::Formatter<W>, byte: u8) -> fmt::Res
     write!(f, "%{high:x}{low:x}")
 }
 
-/// A text as it is printed: its bytes 21 to 7e (hexadecimal) as they are, but `%`; each other byte, and `%`, as `%` and two
-/// digits in lower case.
+/// Displays a text: its bytes 21 to 7e (hexadecimal) as they are, except `%`; each other byte, and `%`, as `%` and two
+/// hexadecimal digits in lower case.
 #[derive(Clone, Copy)]
 pub struct Escaped<'a>(pub &'a str);
 
@@ -75,7 +75,7 @@ impl fmt::Display for Escaped<'_> {
     }
 }
 
-/// Bytes as they are printed: two hexadecimal digits each, in lower case.
+/// Displays bytes as two hexadecimal digits each, in lower case.
 #[derive(Clone, Copy)]
 pub struct Hex<'a>(pub &'a [u8]);
 
@@ -91,6 +91,7 @@ impl fmt::Display for Hex<'_> {
     }
 }
 
+// Writes the name of a packet and its identifier.
 fn write_identified<W: fmt::Write>(
     f: &mut fmt::Formatter<W>,
     name: &str,
@@ -101,6 +102,7 @@ fn write_identified<W: fmt::Write>(
     write!(f, "{name} id={}", id.get())
 }
 
+// Writes a CONNECT (3.1).
 fn write_connect<W: fmt::Write>(f: &mut fmt::Formatter<W>, connect: &Connect) -> fmt::Result
     ensures { DisplaysOnOk W.write_str_gives f.old result (Some (connect_text connect.now)) f.new }
 {
@@ -112,6 +114,7 @@ fn write_connect<W: fmt::Write>(f: &mut fmt::Formatter<W>, connect: &Connect) ->
     write_login(f, &connect.login)
 }
 
+// Writes the will of a CONNECT, or nothing if there is none (3.1.2.5).
 fn write_will<W: fmt::Write>(f: &mut fmt::Formatter<W>, will: &Option<Will>) -> fmt::Result
     ensures { DisplaysOnOk W.write_str_gives f.old result (Some (will_text will.now)) f.new }
 {
@@ -128,6 +131,7 @@ fn write_will<W: fmt::Write>(f: &mut fmt::Formatter<W>, will: &Option<Will>) -> 
     )
 }
 
+// Writes the user name and the password of a CONNECT, or nothing if there are none (3.1.2.8).
 fn write_login<W: fmt::Write>(f: &mut fmt::Formatter<W>, login: &Option<Login>) -> fmt::Result
     ensures { DisplaysOnOk W.write_str_gives f.old result (Some (login_text login.now)) f.new }
 {
@@ -139,6 +143,7 @@ fn write_login<W: fmt::Write>(f: &mut fmt::Formatter<W>, login: &Option<Login>) 
     write_password(f, &login.password)
 }
 
+// Writes the password of a CONNECT, or nothing if there is none (3.1.2.9).
 fn write_password<W: fmt::Write>(
     f: &mut fmt::Formatter<W>,
     password: &Option<Binary>,
@@ -152,6 +157,7 @@ fn write_password<W: fmt::Write>(
     write!(f, " pass={password}")
 }
 
+// Writes a CONNACK (3.2).
 fn write_connack<W: fmt::Write>(f: &mut fmt::Formatter<W>, answer: ConnAck) -> fmt::Result
     ensures { DisplaysOnOk W.write_str_gives f.old result (Some (connack_text answer)) f.new }
 {
@@ -167,7 +173,7 @@ fn write_connack<W: fmt::Write>(f: &mut fmt::Formatter<W>, answer: ConnAck) -> f
     }
 }
 
-// Whether a PUBLISH may have come before.
+// Returns whether a PUBLISH may have come before (3.3.1.1).
 fn is_dup(delivery: Option<Delivery>) -> bool
     ensures { result ≡ is_dup delivery }
 {
@@ -177,6 +183,7 @@ fn is_dup(delivery: Option<Delivery>) -> bool
     }
 }
 
+// Writes the packet identifier of a PUBLISH, or nothing if it has none (3.3.2.2).
 fn write_delivery<W: fmt::Write>(
     f: &mut fmt::Formatter<W>,
     delivery: Option<Delivery>,
@@ -189,6 +196,7 @@ fn write_delivery<W: fmt::Write>(
     }
 }
 
+// Writes a PUBLISH (3.3).
 fn write_publish<W: fmt::Write>(f: &mut fmt::Formatter<W>, publish: &Publish) -> fmt::Result
     ensures { DisplaysOnOk W.write_str_gives f.old result (Some (publish_text publish.now)) f.new }
 {
@@ -206,6 +214,7 @@ fn write_publish<W: fmt::Write>(f: &mut fmt::Formatter<W>, publish: &Publish) ->
     write!(f, " payload={payload}")
 }
 
+// Writes the filters of a SUBSCRIBE, each with the quality of service that is asked for (3.8.3).
 fn write_requests<W: fmt::Write>(f: &mut fmt::Formatter<W>, requests: &[Request]) -> fmt::Result
     ensures { DisplaysOnOk W.write_str_gives f.old result
         (Some (flat_map request_text requests.now)) f.new }
@@ -218,6 +227,7 @@ fn write_requests<W: fmt::Write>(f: &mut fmt::Formatter<W>, requests: &[Request]
     Ok(())
 }
 
+// Writes the codes of a SUBACK (3.9.3).
 fn write_codes<W: fmt::Write>(f: &mut fmt::Formatter<W>, codes: &[SubAckCode]) -> fmt::Result
     ensures { DisplaysOnOk W.write_str_gives f.old result
         (Some (flat_map code_text codes.now)) f.new }
@@ -229,6 +239,7 @@ fn write_codes<W: fmt::Write>(f: &mut fmt::Formatter<W>, codes: &[SubAckCode]) -
     Ok(())
 }
 
+// Writes the filters of an UNSUBSCRIBE (3.10.3).
 fn write_filters<W: fmt::Write>(f: &mut fmt::Formatter<W>, filters: &[TopicFilter]) -> fmt::Result
     ensures { DisplaysOnOk W.write_str_gives f.old result
         (Some (flat_map filter_text filters.now)) f.new }

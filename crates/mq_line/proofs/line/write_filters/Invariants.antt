@@ -4,4 +4,5 @@ use Rattle.mq_line.specs.Lines.{filter_text}
 use Rattle.mq_line.proofs.line.write_filters.Given as goal
 
 abbrev pub invariant-loop-filter : goal.invariant-loop-filter
-invariant-loop-filter g l = IsPlainFormatter l.initial.f → HasWritten g.W.Write.write_str_gives l.initial.f (flat_map filter_text (take l.filter-index l.filters)) l.f
+invariant-loop-filter g l =
+    IsPlainFormatter l.initial.f → HasWritten g.W.Write.write_str_gives l.initial.f (flat_map filter_text (take l.filter-index l.filters)) l.f

@@ -4,4 +4,5 @@ use Rattle.mq_line.specs.Lines.{request_text}
 use Rattle.mq_line.proofs.line.write_requests.Given as goal
 
 abbrev pub invariant-loop-request : goal.invariant-loop-request
-invariant-loop-request g l = IsPlainFormatter l.initial.f → HasWritten g.W.Write.write_str_gives l.initial.f (flat_map request_text (take l.request-index l.requests)) l.f
+invariant-loop-request g l =
+    IsPlainFormatter l.initial.f → HasWritten g.W.Write.write_str_gives l.initial.f (flat_map request_text (take l.request-index l.requests)) l.f

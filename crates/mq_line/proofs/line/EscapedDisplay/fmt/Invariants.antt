@@ -4,4 +4,5 @@ use Rattle.mq_line.specs.Lines.{escaped_byte}
 use Rattle.mq_line.proofs.line.EscapedDisplay.fmt.Given as goal
 
 abbrev pub invariant-loop-byte : goal.invariant-loop-byte
-invariant-loop-byte g l = IsPlainFormatter l.initial.f → HasWritten g.W.Write.write_str_gives l.initial.f (flat_map escaped_byte (take l.byte-index l.byte-items)) l.f
+invariant-loop-byte g l =
+    IsPlainFormatter l.initial.f → HasWritten g.W.Write.write_str_gives l.initial.f (flat_map escaped_byte (take l.byte-index l.byte-items)) l.f

@@ -4,4 +4,5 @@ use Rattle.mq_line.specs.Lines.{byte_digits}
 use Rattle.mq_line.proofs.line.HexDisplay.fmt.Given as goal
 
 abbrev pub invariant-loop-byte : goal.invariant-loop-byte
-invariant-loop-byte g l = IsPlainFormatter l.initial.f → HasWritten g.W.Write.write_str_gives l.initial.f (flat_map byte_digits (take l.byte-index l.byte-items)) l.f
+invariant-loop-byte g l =
+    IsPlainFormatter l.initial.f → HasWritten g.W.Write.write_str_gives l.initial.f (flat_map byte_digits (take l.byte-index l.byte-items)) l.f
