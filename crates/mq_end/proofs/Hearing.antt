@@ -1,12 +1,10 @@
 -- What an end does with the bytes that come to it.
-use Rattle.std.proofs.Common.{◌≡◌, inl, inr, ℕ, ◌==◌, Bool, true, false, cond, not, List, [], ◌∷◌, ◌++◌, length, Option, Some, None, Result, Ok, Err, OnOk, IfErr, refl, sym, ap, subst, ◌∙◌, ◌&&◌, append_assoc}
+use Rattle.std.proofs.Common.{◌≡◌, inl, inr, ℕ, ◌==◌, Bool, true, false, cond, not, List, [], ◌∷◌, ◌++◌, length, Option, Some, None, refl, sym, ap, subst, ◌∙◌, ◌&&◌, append_assoc}
 use Rattle.std.proofs.Math.Dec.{eqb-suc-zero}
 use Rattle.mq_packet.specs.declared.packet.Packet.{Packet}
 use Rattle.mq_decode.specs.declared.fault.DecodeFault.{DecodeFault}
-use Rattle.mq_decode.specs.declared.fault.DecodeError.{DecodeError}
-use Rattle.mq_decode.specs.declared.fault.DecodeError.TheVariants as errors
 use Rattle.mq_decode.specs.Limits.{Bounds}
-use Rattle.mq_decode.specs.Grammar.{Stream, Pending, Reading, Begins, Goes, Stops}
+use Rattle.mq_decode.specs.Grammar.{Stream, Pending, Reading, Begins}
 use Rattle.mq_decode.specs.Laws.{ReadsAgain}
 use Rattle.mq_end.specs.declared.reason.CloseReason.{CloseReason}
 use Rattle.mq_end.specs.declared.reason.CloseReason.TheVariants as reasons
@@ -22,7 +20,7 @@ use Rattle.mq_end.proofs.Replies.{makes_then, quiet}
 use Rattle.mq_end.proofs.Received.{received_shut, received_all, received_fault, received_fault_starved, received_starved}
 
 -- the end after its packets were taken out of the bytes
-abbrev with_held : EndState → List ℕ → EndState
+abbrev pub with_held : EndState → List ℕ → EndState
 with_held old h = record old { held = h }
 
 held_is : (old new : EndState) (h : List ℕ) (t u : Told) (r : Reply) → Makes r (with_held old h) new t u → new.held ≡ held_after r.close h
@@ -169,55 +167,6 @@ hears_fault role now piece old mid new h t u v r x ps rest fault reason reading 
     broken (inr e) =
         subst (λ (y : Reply). Receives old.limit (gets_as role) (faulted_as role) (old.held ++ piece) old.end (followed r y) []) (sym e)
         (received_fault_starved old.limit (gets_as role) (faulted_as role) ps (old.held ++ piece) rest fault old.end r reading taken (sym none))
-
--- ---- from what the decoder says
-
-pub record FrontOf (limit : Bounds) (b : List ℕ) (ps : List Packet) : Type 0 where
-  pub front : List ℕ
-  pub rest : List ℕ
-  pub stream : Stream limit ps front
-  pub parts : b ≡ front ++ rest
-
-front_ok : (limit : Bounds) (b : List ℕ) (ps : List Packet) (rest : List ℕ) → Goes limit b [] ps rest → FrontOf limit b ps
-front_ok limit b ps rest h = subst (λ (qs : List Packet). FrontOf limit b qs) (sym h.1) (record { front = h.2.front; rest = rest; stream = h.2.stream; parts = h.2.parts })
-
-front_err : (limit : Bounds) (b : List ℕ) (ps : List Packet) (e : DecodeError) → Stops limit b [] ps e → FrontOf limit b ps
-front_err limit b ps (errors.Fault fault) h = subst (λ (qs : List Packet). FrontOf limit b qs) (sym h.2) (record { front = h.3.front; rest = h.1; stream = h.3.stream; parts = h.3.parts })
-front_err limit b ps errors.Memory h = subst (λ (qs : List Packet). FrontOf limit b qs) (sym h.1) (record { front = h.2.front; rest = h.2.rest; stream = h.2.stream; parts = h.2.parts })
-
-pub front_of : {A : Type 0} (limit : Bounds) (b held : List ℕ) (none ps : List Packet) (res : Result A DecodeError) → none ≡ [] → OnOk res (Goes limit b none ps held) → IfErr res (Stops limit b none ps) → FrontOf limit b ps
-front_of limit b held none ps (Ok u) h ok err = front_ok limit b ps held (subst (λ (qs : List Packet). Goes limit b qs ps held) h ok)
-front_of limit b held none ps (Err e) h ok err = front_err limit b ps e (subst (λ (qs : List Packet). Stops limit b qs ps e) h err)
-
-pub record Brought (gets : Packet → End → Reply) (ps : List Packet) (old mid new : EndState) (t u : Told) (r : Reply) : Type 0 where
-  pub taken : Taken gets ps old.end r
-  pub makes : Makes r (with_held old mid.held) new t u
-
-pub bring : (gets : Packet → End → Reply) (ps : List Packet) (old mid new : EndState) (t u : Told) (r : Reply) → mid ≡ record old { held = mid.held } → Taken gets ps mid.end r → Makes r mid new t u → Brought gets ps old mid new t u r
-bring gets ps old mid new t u r state taken makes = record {
-  taken = subst (λ (e : End). Taken gets ps e r) (ap (λ (s : EndState). s.end) state) taken;
-  makes = subst (λ (s : EndState). Makes r s new t u) state makes;
-}
-
--- the packets that the decoder gave
-pub goes_from : (limit : Bounds) (b : List ℕ) (none ps : List Packet) (rest : List ℕ) → none ≡ [] → Goes limit b none ps rest → Reading limit b ps rest None
-goes_from limit b none ps rest h g =
-    let k = subst (λ (qs : List Packet). Goes limit b qs ps rest) h g in
-    subst (λ (qs : List Packet). Reading limit b qs rest None) (sym k.1) k.2
-
-pub begins_from : (limit : Bounds) (b : List ℕ) (none ps : List Packet) → none ≡ [] → Stops limit b none ps errors.Memory → Begins limit b ps
-begins_from limit b none ps h g =
-    let k = subst (λ (qs : List Packet). Stops limit b qs ps errors.Memory) h g in
-    subst (λ (qs : List Packet). Begins limit b qs) (sym k.1) k.2
-
-pub record Broken (limit : Bounds) (b : List ℕ) (ps : List Packet) (fault : DecodeFault) : Type 0 where
-  pub rest : List ℕ
-  pub reading : Reading limit b ps rest (Some fault)
-
-pub broken_from : (limit : Bounds) (b : List ℕ) (none ps : List Packet) (fault : DecodeFault) → none ≡ [] → Stops limit b none ps (errors.Fault fault) → Broken limit b ps fault
-broken_from limit b none ps fault h g =
-    let k = subst (λ (qs : List Packet). Stops limit b qs ps (errors.Fault fault)) h g in
-    record { rest = k.1; reading = subst (λ (qs : List Packet). Reading limit b qs k.1 (Some fault)) (sym k.2) k.3 }
 
 -- ---- what the user sees of it
 

@@ -2,7 +2,6 @@ pub mod Soundness
 pub mod Lateness
 pub mod Closing
 pub mod Windows
-pub mod OnePacket
 pub mod Outcomes
 pub mod Replies
 pub mod Received
@@ -10,6 +9,8 @@ pub mod Hearing
 pub mod Openings
 pub mod Accepted
 pub mod Along
+pub mod Walking
+pub mod OnePacket
 pub mod Onward
 pub mod Measures
 pub mod Rooms

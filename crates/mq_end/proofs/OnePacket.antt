@@ -1,21 +1,23 @@
--- A whole packet comes to a server end.
-use Rattle.std.proofs.Common.{◌≡◌, ℕ, ◌⊎◌, ◌++◌, Option, Some, None, List, [], refl, sym, ap, subst, ◌∙◌, inl, inr}
+-- A whole packet comes to an end.
+use Rattle.std.proofs.Common.{◌≡◌, ℕ, ◌⊎◌, ◌++◌, Bool, true, false, not, is_some, Option, Some, None, List, [], refl, sym, ap, subst, ◌∙◌}
 use Rattle.mq_packet.specs.declared.packet.Packet.{Packet}
 use Rattle.mq_end.specs.declared.happening.Happening.{Happening}
 use Rattle.mq_end.specs.declared.reason.CloseReason.{CloseReason}
 use Rattle.mq_end.specs.declared.reason.CloseReason.TheVariants as reasons
+use Rattle.mq_end.specs.declared.role.Role.{Role}
+use Rattle.mq_end.specs.declared.role.Role.TheVariants.{Client, Server}
 use Rattle.mq_end.specs.declared.told.Told.{Told}
 use Rattle.mq_end.specs.End.{Reply, closes}
-use Rattle.mq_end.specs.Server.{server_gets}
 use Rattle.mq_end.specs.State.{EndState, PutsOut}
-use Rattle.mq_end.specs.Receiving.{Makes, TakesOne, heard_one, held_after}
+use Rattle.mq_end.specs.Receiving.{Makes, TakesAs, gets_as, heard_as, heard_one, heard_one_as, held_after}
+use Rattle.mq_end.proofs.Walking.{Came}
 
 -- what a reply that was made shows
-pub takes_one : (now : ℕ) (p : Packet) (old mid new : EndState) (told after : Told) (r : Reply) (happenings : List Happening) (acknowledged : List ℕ) (closed : Option CloseReason)
-    → (r ≡ server_gets p old.end) ⊎ (r ≡ closes reasons.Memory old.end) → Makes r old mid told after → new ≡ record mid { moment = heard_one r.close now old.moment }
+pub takes_one : (role : Role) (now : ℕ) (p : Packet) (old mid new : EndState) (told after : Told) (r : Reply) (happenings : List Happening) (acknowledged : List ℕ) (closed : Option CloseReason)
+    → (r ≡ gets_as role p old.end) ⊎ (r ≡ closes reasons.Memory old.end) → Makes r old mid told after → new ≡ record mid { moment = heard_one_as role r.close now old.moment }
     → told.happenings.items ≡ [] → told.acknowledged.items ≡ [] → happenings ≡ after.happenings.items → acknowledged ≡ after.acknowledged.items → closed ≡ r.close
-    → TakesOne now p old new happenings acknowledged closed
-takes_one now p old mid new told after r happenings acknowledged closed does made last no_h no_a is_h is_a is_c =
+    → TakesAs role now p old new happenings acknowledged closed
+takes_one role now p old mid new told after r happenings acknowledged closed does made last no_h no_a is_h is_a is_c =
     let out_same : mid.output ≡ new.output = sym (ap (λ (s : EndState). s.output) last) in
     record {
       reply = r;
@@ -29,11 +31,35 @@ takes_one now p old mid new told after r happenings acknowledged closed does mad
       };
       state =
           last
-          ∙ ap (λ (s : EndState). record s { moment = heard_one r.close now old.moment }) made.state
-          ∙ ap (λ (b : List ℕ). record old { end = r.end; output = b; held = held_after r.close old.held; moment = heard_one r.close now old.moment }) out_same;
+          ∙ ap (λ (s : EndState). record s { moment = heard_one_as role r.close now old.moment }) made.state
+          ∙ ap (λ (b : List ℕ). record old { end = r.end; output = b; held = held_after r.close old.held; moment = heard_one_as role r.close now old.moment }) out_same;
     }
 
--- an end whose moment is that of before
-pub same_moment : (r : Reply) (old mid : EndState) (told after : Told) (now : ℕ) (reason : CloseReason) → r.close ≡ Some reason → Makes r old mid told after → mid ≡ record mid { moment = heard_one r.close now old.moment }
-same_moment r old mid told after now reason is made =
-    ap (λ (m : ℕ). record mid { moment = m }) (ap (λ (s : EndState). s.moment) made.state ∙ sym (ap (λ (c : Option CloseReason). heard_one c now old.moment) is))
+-- where the end closes it keeps its moment
+kept_moment : (role : Role) (closed : Option CloseReason) (now last : ℕ) (reason : CloseReason) → closed ≡ Some reason → heard_one_as role closed now last ≡ last
+kept_moment Client closed now last reason is = refl
+kept_moment Server closed now last reason is = ap (λ (c : Option CloseReason). heard_one c now last) is
+
+pub same_moment : (role : Role) (r : Reply) (old mid : EndState) (told after : Told) (now : ℕ) (reason : CloseReason) → r.close ≡ Some reason → Makes r old mid told after → mid ≡ record mid { moment = heard_one_as role r.close now old.moment }
+same_moment role r old mid told after now reason is made =
+    ap (λ (m : ℕ). record mid { moment = m }) (ap (λ (s : EndState). s.moment) made.state ∙ sym (kept_moment role r.close now old.moment reason is))
+
+-- else it is heard
+heard_alike : (role : Role) (closed : Option CloseReason) (none : Bool) (now last : ℕ) → is_some closed ≡ not none → heard_as role none now last ≡ heard_one_as role closed now last
+heard_alike Client closed none now last is = refl
+heard_alike Server None true now last is = refl
+heard_alike Server None false now last is = absurd cc
+heard_alike Server (Some reason) true now last is = absurd cc
+heard_alike Server (Some reason) false now last is = refl
+
+-- a packet that came
+pub arrived : (role : Role) (now : ℕ) (p : Packet) (old mid new : EndState) (told after : Told) (none : Bool) (came closed : Option CloseReason) (happenings : List Happening) (acknowledged : List ℕ)
+    → Came role p old mid told after came → is_some came ≡ not none → new ≡ record mid { moment = heard_as role none now mid.moment }
+    → told.happenings.items ≡ [] → told.acknowledged.items ≡ [] → happenings ≡ after.happenings.items → acknowledged ≡ after.acknowledged.items → closed ≡ came
+    → TakesAs role now p old new happenings acknowledged closed
+arrived role now p old mid new told after none came closed happenings acknowledged x is last no_h no_a is_h is_a is_c =
+    let moment =
+    ap (λ (m : ℕ). heard_as role none now m) (ap (λ (s : EndState). s.moment) x.3.state)
+    ∙ heard_alike role came none now old.moment is
+    ∙ ap (λ (c : Option CloseReason). heard_one_as role c now old.moment) x.2 in
+    takes_one role now p old mid new told after x.0 happenings acknowledged closed x.1 x.3 (last ∙ ap (λ (m : ℕ). record mid { moment = m }) moment) no_h no_a is_h is_a (is_c ∙ x.2)

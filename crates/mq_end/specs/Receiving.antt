@@ -155,12 +155,25 @@ abbrev pub heard_one : Option CloseReason → ℕ → ℕ → ℕ
 heard_one None now last = now
 heard_one (Some reason) now last = last
 
--- A whole packet came to a server end with a connection: this came of it, or there was no memory for it and the end closed.
-pub record TakesOne (now : ℕ) (p : Packet) (old new : EndState) (happenings : List Happening) (acknowledged : List ℕ) (closed : Option CloseReason) : Type 0 where
+-- the moment of an end of this role after a whole packet that came now: the client's is not that of what it hears (3.1.2.10)
+abbrev pub heard_one_as : Role → Option CloseReason → ℕ → ℕ → ℕ
+heard_one_as Client closed now last = last
+heard_one_as Server closed now last = heard_one closed now last
+
+-- A whole packet came to an end of this role with a connection: this came of it, or there was no memory for it and the end closed.
+pub record TakesAs (role : Role) (now : ℕ) (p : Packet) (old new : EndState) (happenings : List Happening) (acknowledged : List ℕ) (closed : Option CloseReason) : Type 0 where
   pub reply : Reply
-  pub does : (reply ≡ server_gets p old.end) ⊎ (reply ≡ closes reasons.Memory old.end)
+  pub does : (reply ≡ gets_as role p old.end) ⊎ (reply ≡ closes reasons.Memory old.end)
   pub shows : Shows reply old new happenings acknowledged closed
-  pub state : new ≡ record old { end = reply.end; output = new.output; held = held_after reply.close old.held; moment = heard_one reply.close now old.moment }
+  pub state : new ≡ record old { end = reply.end; output = new.output; held = held_after reply.close old.held; moment = heard_one_as role reply.close now old.moment }
+
+-- it came to the client
+abbrev pub ClientTakes : ℕ → Packet → EndState → EndState → List Happening → List ℕ → Option CloseReason → Type 0
+ClientTakes now p old new happenings acknowledged closed = TakesAs Client now p old new happenings acknowledged closed
+
+-- it came to the server
+abbrev pub TakesOne : ℕ → Packet → EndState → EndState → List Happening → List ℕ → Option CloseReason → Type 0
+TakesOne now p old new happenings acknowledged closed = TakesAs Server now p old new happenings acknowledged closed
 
 -- A whole packet came to a server end with a connection, and this came of it: what is put out, all of the new state, and what the
 -- outcome tells.

@@ -2,11 +2,12 @@
 
 ghost use Rattle.std.specs.Prelude.{◌≡◌, ◌<◌, ◌≤◌, ◌↔◌, ◌⊎◌, ◌∷◌, ◌++◌, IsErrOf, ℕ, [], true, false, length, drop, IfOk, IfErr, IfSome, IfNone, IsSome, OnOk, OnErr, Err, None, Some};
 ghost use Rattle.mq_packet.specs.declared.packet.Packet.TheVariants as packets;
+ghost use Rattle.mq_decode.specs.Views.{packet_of};
 ghost use Rattle.mq_end.specs.End.{blank_end, is_live, over, resumed};
 ghost use Rattle.mq_end.specs.Both.{publish_refusal};
 ghost use Rattle.mq_end.specs.Client.{connects, subscribes, subscribe_refusal, unsubscribes, unsubscribe_refusal, leaves, leave_refusal};
 ghost use Rattle.mq_end.specs.State.{PutsOut, bytes_less, no_bytes, no_room};
-ghost use Rattle.mq_end.specs.Receiving.{Acts, ClientReceives};
+ghost use Rattle.mq_end.specs.Receiving.{Acts, ClientReceives, ClientTakes};
 ghost use Rattle.mq_end.specs.Publishing.{Accepts, connect_of};
 ghost use Rattle.mq_end.specs.KeepAlive.{pings};
 ghost use Rattle.mq_end.specs.Requests.{Requests, Ticks};
@@ -25,6 +26,7 @@ use crate::refusal::PublishRefusal;
 use crate::resuming::{fits_within, names_another};
 use crate::role::Role;
 use crate::state::State;
+use mq_decode::PacketView;
 use mq_flow::{LoadError, Saved, Session};
 use mq_packet::{BoxedConnect, Connect, Message, NonEmpty, Packet, PacketId, Request};
 use mq_topic::TopicFilter;
@@ -192,6 +194,19 @@ impl ClientEnd {
         ensures config { self.new.config ≡ self.old.config }
     {
         self.link.receive(Role::Client, now, piece)
+    }
+
+    /// A whole packet that lies in bytes comes from the server, at this moment: `receive` is the decoder, and then this for each packet.
+    /// Without a connection it is ignored; where memory runs out, for a copy of its own or for what comes of it, the end closes.
+    pub fn on_view(&mut self, now: u64, view: &PacketView<'_>) -> Progress
+        ensures open { is_live self.old.link.end.state ≡ true → ClientTakes now (packet_of view.now) self.old.link self.new.link
+            result.happenings result.acknowledged result.closed }
+        ensures closed { is_live self.old.link.end.state ≡ false → self.new ≡ self.old }
+        ensures nothing { is_live self.old.link.end.state ≡ false
+            → (result.happenings ≡ []) × (result.acknowledged ≡ []) × (result.closed ≡ None) }
+        ensures config { self.new.config ≡ self.old.config }
+    {
+        self.link.on_view(Role::Client, now, view)
     }
 
     /// Publishes a message, and answers its packet identifier, where it has one (2.3.1). While the end is not up, one of

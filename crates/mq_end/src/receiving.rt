@@ -1,13 +1,14 @@
 //! Bytes that come to an end (4.2, 4.8).
 
-ghost use Rattle.std.specs.Prelude.{◌≡◌, ◌++◌, [], true, false, IsOk, IfOk, IfErr, OnOk, OnErr, Ok, None, Some};
-ghost use Rattle.mq_decode.specs.Grammar.{Goes, Stops};
+ghost use Rattle.std.specs.Prelude.{◌≡◌, ◌≤◌, ◌++◌, [], length, take, true, false, IsOk, IfOk, IfErr, IfSome, IfNone, OnErr, Ok, Err, None, Some};
+ghost use Rattle.mq_decode.specs.Grammar.{IsFront, Pending, ReadsWithin};
+ghost use Rattle.mq_decode.specs.Views.{packet_of};
 ghost use Rattle.mq_end.specs.declared.state.State.TheVariants as states;
 ghost use Rattle.mq_end.specs.End.{Reply, is_live, is_up};
 ghost use Rattle.mq_end.specs.Laws.{KeepsWindow};
 ghost use Rattle.mq_end.specs.Ready.{AreSpellable, FitsRoom, is_exactly_once};
 ghost use Rattle.mq_end.specs.Server.{server_gets};
-ghost use Rattle.mq_end.specs.Receiving.{Acts, HeardAs, Hears, IsBreak, ReceivesAs, TakesOne, TakesPacket, heard_as, is_answered, no_outcome};
+ghost use Rattle.mq_end.specs.Receiving.{Acts, HeardAs, Hears, IsBreak, ReceivesAs, TakesAs, TakesPacket, heard_as, is_answered, no_outcome};
 
 use crate::link::Link;
 use crate::outcome::Outcome;
@@ -16,19 +17,25 @@ use crate::reason::CloseReason;
 use crate::role::Role;
 use crate::state::State;
 use crate::told::Told;
-use mq_decode::{DecodeError, DecodeFault, FaultKind, reads_again};
+use mq_decode::{DecodeError, DecodeFault, FaultKind, PacketView, reads_again};
 use mq_packet::{Packet, RefusalCode};
 use std::alloc::AllocError;
 
 impl Link {
-    /// Takes the whole packets out of what is held and a piece. After an error nothing is held.
-    fn decode(&mut self, piece: &[u8], out: &mut Vec<Packet>) -> Result<(), DecodeError>
-        ensures ok { OnOk result (Goes self.old.limit (self.old.held ++ piece.now) out.old.items out.new.items self.new.held) }
-        ensures err { IfErr result (Stops self.old.limit (self.old.held ++ piece.now) out.old.items out.new.items) }
+    /// The next whole packet of what is held and a piece, with the number of bytes of the piece that it used. Returns `None` where they
+    /// are less than a whole packet, and then all of the piece is held. After an error nothing is held.
+    fn next_packet(&mut self, piece: &[u8]) -> Result<Option<(Packet, usize)>, DecodeError>
+        ensures within { IfOk result (λ o. IfSome o (λ x. x.1 ≤ length piece.now)) }
+        ensures packet { IfOk result (λ o. IfSome o
+            (λ x. ReadsWithin self.old.limit x.0 (self.old.held ++ take x.1 piece.now))) }
+        ensures taken { IfOk result (λ o. IfSome o (λ x. self.new.held ≡ [])) }
+        ensures less { IfOk result (λ o. IfNone o (Pending self.old.limit (self.old.held ++ piece.now))) }
+        ensures holds { IfOk result (λ o. IfNone o (self.new.held ≡ self.old.held ++ piece.now)) }
+        ensures err { IfErr result (λ e. IsFront self.old.limit (self.old.held ++ piece.now) (Err e)) }
         ensures state { self.new ≡ record self.old { held = self.new.held } }
     {
-        match self.decoder.feed(piece, out) {
-            Ok(()) => Ok(()),
+        match self.decoder.next_packet(piece) {
+            Ok(next) => Ok(next),
             Err(error) => {
                 self.decoder.reset();
                 Err(error)
@@ -70,7 +77,8 @@ impl Link {
         }
     }
 
-    /// Bytes come to an end with a connection, at this moment.
+    /// Bytes come to an end with a connection, at this moment. Each whole packet is taken out of them and comes to the end, before the
+    /// next one is looked at.
     fn take_bytes(
         &mut self,
         role: Role,
@@ -81,19 +89,25 @@ impl Link {
         ensures { Hears role now piece.now self.old self.new told.old told.new result }
     {
         reads_again();
-        let mut packets = Vec::new(self.alloc);
-        let decoded = self.decode(piece, &mut packets);
-        let came = !packets.is_empty();
-        match self.take_all(role, packets, told) {
-            Some(reason) => Some(reason),
-            None => match decoded {
-                Ok(()) => {
-                    self.hear(role, now, came);
-                    None
+        let mut used = 0;
+        let mut came = false;
+        loop {
+            let (_, rest) = piece.split_at(used);
+            match self.next_packet(rest) {
+                Ok(Some((packet, size))) => {
+                    used += size;
+                    came = true;
+                    if let Some(reason) = self.take_or_close(role, packet, told) {
+                        return Some(reason);
+                    }
                 }
-                Err(DecodeError::Memory) => Some(self.close(CloseReason::Memory)),
-                Err(DecodeError::Fault(fault)) => Some(self.break_off(role, fault)),
-            },
+                Ok(None) => {
+                    self.hear(role, now, came);
+                    return None;
+                }
+                Err(DecodeError::Memory) => return Some(self.close(CloseReason::Memory)),
+                Err(DecodeError::Fault(fault)) => return Some(self.break_off(role, fault)),
+            }
         }
     }
 
@@ -117,9 +131,9 @@ impl Link {
         Ok(outcome)
     }
 
-    /// A whole packet comes to the server, at this moment. Without a connection it is ignored.
-    pub(crate) fn on_packet(&mut self, now: u64, packet: Packet) -> Progress
-        ensures open { is_live self.old.end.state ≡ true → TakesOne now packet self.old self.new
+    /// A whole packet comes to the end, at this moment. Without a connection it is ignored; where memory runs out the end closes.
+    pub(crate) fn on_packet(&mut self, role: Role, now: u64, packet: Packet) -> Progress
+        ensures open { is_live self.old.end.state ≡ true → TakesAs role now packet self.old self.new
             result.happenings result.acknowledged result.closed }
         ensures closed { is_live self.old.end.state ≡ false → self.new ≡ self.old }
         ensures nothing { is_live self.old.end.state ≡ false
@@ -129,12 +143,25 @@ impl Link {
         if self.state == State::Closed {
             return told.into_progress(None);
         }
-        match self.take(Role::Server, packet, &mut told) {
-            Ok(None) => {
-                self.hear(Role::Server, now, true);
-                told.into_progress(None)
-            }
-            Ok(Some(reason)) => told.into_progress(Some(reason)),
+        let closed = self.take_or_close(role, packet, &mut told);
+        self.hear(role, now, closed.is_none());
+        told.into_progress(closed)
+    }
+
+    /// A whole packet that lies in bytes comes to the end, at this moment, as `on_packet`: its own memory is taken here.
+    pub(crate) fn on_view(&mut self, role: Role, now: u64, view: &PacketView<'_>) -> Progress
+        ensures open { is_live self.old.end.state ≡ true → TakesAs role now (packet_of view.now) self.old self.new
+            result.happenings result.acknowledged result.closed }
+        ensures closed { is_live self.old.end.state ≡ false → self.new ≡ self.old }
+        ensures nothing { is_live self.old.end.state ≡ false
+            → (result.happenings ≡ []) × (result.acknowledged ≡ []) × (result.closed ≡ None) }
+    {
+        let told = Told::new(self.alloc);
+        if self.state == State::Closed {
+            return told.into_progress(None);
+        }
+        match view.owned(self.alloc) {
+            Ok(packet) => self.on_packet(role, now, packet),
             Err(_) => {
                 let reason = self.close(CloseReason::Memory);
                 told.into_progress(Some(reason))

@@ -1,6 +1,7 @@
 //! The server end.
 
 ghost use Rattle.std.specs.Prelude.{◌≡◌, ◌+◌, ◌<◌, ◌≤◌, ◌++◌, ◌↔◌, ℕ, List, [], ◌∷◌, true, false, length, drop, IsOk, IfOk, IfErr, IfSome, IfNone, IsSome, OnOk, OnErr, Ok, Err, None, Some};
+ghost use Rattle.mq_decode.specs.Views.{packet_of};
 ghost use Rattle.mq_end.specs.End.{blank_end, is_live, is_up, over, resumed};
 ghost use Rattle.mq_end.specs.Server.{would_hand, opens, ready_refusal, server_gets, server_publish_refusal, subacks, suback_refusal, unsubacks, unsuback_refusal};
 ghost use Rattle.mq_end.specs.Receiving.{Acts, HearsAt, ServerReceives, TakesOne, TakesPacket, no_outcome};
@@ -22,6 +23,7 @@ use crate::refusal::PublishRefusal;
 use crate::resuming::fits_within;
 use crate::role::Role;
 use crate::state::State;
+use mq_decode::PacketView;
 use mq_flow::Session;
 use mq_packet::{Connect, Message, NonEmpty, Packet, PacketId, Publish, SubAckCode};
 use mq_topic::Qos;
@@ -129,7 +131,21 @@ impl ServerEnd {
         ensures kept { is_up self.old.end.state ≡ true → (ms : List Message) (more : ℕ)
             → HasRoom ms (packets_size (server_gets packet self.old.end).out + more) self.old → HasRoom ms more self.new }
     {
-        self.link.on_packet(now, packet)
+        self.link.on_packet(Role::Server, now, packet)
+    }
+
+    /// A whole packet that lies in bytes comes from the client, at this moment, as its equal comes by `on_packet`. Where there is no
+    /// memory for a copy of its own the end closes, as where memory runs out for what comes of it.
+    pub fn on_view(&mut self, now: u64, view: &PacketView<'_>) -> Progress
+        ensures open { is_live self.old.end.state ≡ true → TakesOne now (packet_of view.now) self.old self.new
+            result.happenings result.acknowledged result.closed }
+        ensures closed { is_live self.old.end.state ≡ false → self.new ≡ self.old }
+        ensures nothing { is_live self.old.end.state ≡ false
+            → (result.happenings ≡ []) × (result.acknowledged ≡ []) × (result.closed ≡ None) }
+        ensures kept { is_up self.old.end.state ≡ true → (ms : List Message) (more : ℕ)
+            → HasRoom ms (packets_size (server_gets (packet_of view.now) self.old.end).out + more) self.old → HasRoom ms more self.new }
+    {
+        self.link.on_view(Role::Server, now, view)
     }
 
     /// A whole packet comes from the client, at this moment: as `on_packet`, but no list is made of what comes of it, and where memory

@@ -1,12 +1,13 @@
 //! Packets that come to an end, one after another (4.6).
 
-ghost use Rattle.std.specs.Prelude.{◌≡◌, true, false, IsOk, IfOk, OnOk, OnErr};
+ghost use Rattle.std.specs.Prelude.{◌≡◌, ◌⊎◌, true, false, IsOk, IfOk, OnOk, OnErr};
+ghost use Rattle.mq_end.specs.declared.reason.CloseReason.TheVariants as reasons;
 ghost use Rattle.mq_end.specs.declared.state.State.TheVariants as states;
-ghost use Rattle.mq_end.specs.End.{Reply, is_up};
+ghost use Rattle.mq_end.specs.End.{Reply, closes, is_up};
 ghost use Rattle.mq_end.specs.Client.{client_gets, client_up_gets};
 ghost use Rattle.mq_end.specs.Server.{server_gets, server_up_gets};
 ghost use Rattle.mq_end.specs.Ready.{AreSpellable, FitsRoom, is_exactly_once};
-ghost use Rattle.mq_end.specs.Receiving.{Gives, Makes, Stays, Taken, gets_as};
+ghost use Rattle.mq_end.specs.Receiving.{Gives, Makes, Stays, gets_as};
 
 use crate::happening::Happening;
 use crate::link::Link;
@@ -135,23 +136,20 @@ impl Link {
         Ok(told.add(outcome))
     }
 
-    /// Packets come to the end, up to one at which it closes. Answers why it closed, where it did.
-    pub(crate) fn take_all(
+    /// A packet comes to the end, and what comes of it is told; where memory runs out the end closes. Answers why it closed, where it
+    /// did.
+    pub(crate) fn take_or_close(
         &mut self,
         role: Role,
-        packets: Vec<Packet>,
+        packet: Packet,
         told: &mut Told,
     ) -> Option<CloseReason>
-        ensures { (r : Reply) × Taken (gets_as role) packets.items self.old.end r
+        ensures { (r : Reply) × ((r ≡ gets_as role packet self.old.end) ⊎ (r ≡ closes reasons.Memory self.old.end))
             × (result ≡ r.close) × Makes r self.old self.new told.old told.new }
     {
-        for packet in packets {
-            match self.take(role, packet, told) {
-                Ok(None) => {}
-                Ok(Some(reason)) => return Some(reason),
-                Err(_) => return Some(self.close(CloseReason::Memory)),
-            }
+        match self.take(role, packet, told) {
+            Ok(closed) => closed,
+            Err(_) => Some(self.close(CloseReason::Memory)),
         }
-        None
     }
 }

@@ -1,69 +1,86 @@
-use Rattle.std.proofs.Common.{Some, ℕ, ◌==◌, Bool, not, IfErr, Result, ◌++◌, ap, sym, subst, ◌∙◌}
-use Rattle.mq_decode.specs.declared.fault.DecodeError.{DecodeError}
-use Rattle.mq_decode.specs.Grammar.{Stops}
+use Rattle.std.proofs.Common.{◌≡◌, ℕ, ◌<◌, ◌≤◌, ◌++◌, true, List, [], length, take, drop, Some, sym, ap, subst, ◌∙◌, arith}
+use Rattle.std.proofs.lemmas.List.{drop-drop}
+use Rattle.mq_decode.specs.Grammar.{Faulty, Pending, ReadsWithin}
 use Rattle.mq_end.specs.declared.reason.CloseReason.{CloseReason}
 use Rattle.mq_end.specs.declared.reason.CloseReason.TheVariants as reasons
-use Rattle.mq_end.specs.End.{End, closes}
-use Rattle.mq_end.specs.Receiving.{Hears, IsBreak, Makes, heard_as, gets_as}
+use Rattle.mq_end.specs.Receiving.{Hears}
 use Rattle.mq_end.proofs.Along.{closes_made}
-use Rattle.mq_end.proofs.Hearing.{break_made, front_of, bring, goes_from, begins_from, broken_from, hears_shut, hears_all, hears_starved, hears_fault}
-use Rattle.mq_end.proofs.Replies.{makes_end}
+use Rattle.mq_end.proofs.Walking.{Walked, next_of, walked_none, walked_more, walked_shut, walked_all, walked_starved, walked_broken}
 use Rattle.mq_end.proofs.link.Link.take_bytes.Goals as goal
+
+pub loop-packet-init : goal.loop-packet-init
+loop-packet-init c = record { within = omega arith; walked = walked_none c.args.role c.args.piece.now c.args.self.now c.args.told.now }
 
 pub returns-in-Some : goal.returns-in-Some
 returns-in-Some c =
+    let at = c.loop-packet in
     let old = c.args.self.now in
-    let mid = c.decode-decoded.new.self in
-    let ps = c.decode-decoded.new.out.items in
-    let d = c.decode-decoded.ensures in
-    let x = c.in-Some.ensures in
-    let f = front_of old.limit (old.held ++ c.args.piece.now) mid.held c.new-packets.result.items ps c.decode-decoded.result c.new-packets.ensures.items d.ok d.err in
-    let b = bring (gets_as c.args.role) ps old mid c.take_all.new.self c.args.told.now c.take_all.new.told x.0 d.state x.1 x.3 in
-    hears_shut c.args.role c.args.now c.args.piece.now old c.take_all.new.self mid.held c.args.told.now c.take_all.new.told x.0 ps f.front f.rest c.in-Some.reason c.reads_again.ensures f.stream f.parts b.taken b.makes x.2
+    let piece = c.args.piece.now in
+    let rest = drop at.used piece in
+    let mid = c.next_packet.new.self in
+    let p = c.in-Ok-Some.packet in
+    let n = c.in-Ok-Some.size in
+    let whole : ReadsWithin at.self.limit p (at.self.held ++ take n c.split_at.result.1.now) = rw c.in-Ok-Some.field-0-is at c.in-Ok-Some.ensures.packet in
+    let reads = subst (λ (b : List ℕ). ReadsWithin at.self.limit p (at.self.held ++ take n b)) c.split_at.ensures.back whole in
+    let empty : mid.held ≡ [] = rw c.in-Ok-Some.field-0-is at c.in-Ok-Some.ensures.taken in
+    let next = next_of c.args.role piece old at.self mid c.args.told.now at.told at.came p n rest at.invariant.walked reads c.next_packet.ensures.state empty in
+    walked_shut c.args.role c.args.now piece old mid c.take_or_close.new.self c.args.told.now at.told c.take_or_close.new.told p (drop n rest) c.in-Some.reason c.reads_again.ensures next c.in-Some.ensures
 
-pub returns-in-Ok : goal.returns-in-Ok
-returns-in-Ok c =
+pub loop-packet-preserved : goal.loop-packet-preserved
+loop-packet-preserved c =
+    let at = c.loop-packet in
     let old = c.args.self.now in
-    let mid = c.decode-decoded.new.self in
-    let ps = c.decode-decoded.new.out.items in
-    let took = c.take_all.new.self in
-    let x = c.in-None.ensures in
-    let b = bring (gets_as c.args.role) ps old mid took c.args.told.now c.take_all.new.told x.0 c.decode-decoded.ensures.state x.1 x.3 in
-    let later = c.hear.ensures ∙ ap (λ (none : Bool). record took { moment = heard_as c.args.role (not none) c.args.now took.moment }) (c.is_empty-came.ensures ∙ ap (λ (n : ℕ). n == 0) c.decode-decoded.new.out.ok.0) in
-    hears_all c.args.role c.args.now c.args.piece.now old took c.hear.new.self mid.held c.args.told.now c.take_all.new.told x.0 ps
-    (goes_from old.limit (old.held ++ c.args.piece.now) c.new-packets.result.items ps mid.held c.new-packets.ensures.items c.in-Ok.ensures.ok) b.taken b.makes x.2 later
+    let piece = c.args.piece.now in
+    let rest = drop at.used piece in
+    let mid = c.next_packet.new.self in
+    let new = c.take_or_close.new.self in
+    let told = c.take_or_close.new.told in
+    let p = c.in-Ok-Some.packet in
+    let n = c.in-Ok-Some.size in
+    let whole : ReadsWithin at.self.limit p (at.self.held ++ take n c.split_at.result.1.now) = rw c.in-Ok-Some.field-0-is at c.in-Ok-Some.ensures.packet in
+    let reads = subst (λ (b : List ℕ). ReadsWithin at.self.limit p (at.self.held ++ take n b)) c.split_at.ensures.back whole in
+    let empty : mid.held ≡ [] = rw c.in-Ok-Some.field-0-is at c.in-Ok-Some.ensures.taken in
+    let few : n ≤ length c.split_at.result.1.now = rw c.in-Ok-Some.field-0-is at c.in-Ok-Some.ensures.within in
+    let next = next_of c.args.role piece old at.self mid c.args.told.now at.told at.came p n rest at.invariant.walked reads c.next_packet.ensures.state empty in
+    record {
+      within = omega (arith, c.split_at.ensures.back_len);
+      walked = subst (λ (b : List ℕ). Walked c.args.role piece old new c.args.told.now told true b) (drop-drop n at.used piece)
+          (walked_more c.args.role piece old mid new c.args.told.now at.told told p (drop n rest) next (rw c.in_default.is at c.take_or_close.ensures));
+    }
+
+pub returns-in-Ok-None : goal.returns-in-Ok-None
+returns-in-Ok-None c =
+    let at = c.loop-packet in
+    let piece = c.args.piece.now in
+    let rest = drop at.used piece in
+    let mid = c.next_packet.new.self in
+    let less : Pending at.self.limit (at.self.held ++ c.split_at.result.1.now) = rw c.in-Ok-None.field-0-is at c.in-Ok-None.ensures.less in
+    let pending = subst (λ (b : List ℕ). Pending at.self.limit (at.self.held ++ b)) c.split_at.ensures.back less in
+    let all : mid.held ≡ at.self.held ++ c.split_at.result.1.now = rw c.in-Ok-None.field-0-is at c.in-Ok-None.ensures.holds in
+    let holds = all ∙ ap (λ (b : List ℕ). at.self.held ++ b) c.split_at.ensures.back in
+    walked_all c.args.role c.args.now piece c.args.self.now at.self mid c.hear.new.self c.args.told.now at.told at.came rest at.invariant.walked pending holds c.next_packet.ensures.state c.hear.ensures
 
 pub returns-in-Err-Memory : goal.returns-in-Err-Memory
 returns-in-Err-Memory c =
+    let at = c.loop-packet in
     let old = c.args.self.now in
-    let mid = c.decode-decoded.new.self in
-    let ps = c.decode-decoded.new.out.items in
-    let took = c.take_all.new.self in
-    let x = c.in-None.ensures in
-    let b = bring (gets_as c.args.role) ps old mid took c.args.told.now c.take_all.new.told x.0 c.decode-decoded.ensures.state x.1 x.3 in
-    let stops =
-    subst (λ (e : DecodeError). Stops old.limit (old.held ++ c.args.piece.now) c.new-packets.result.items ps e) (rw c.in-Err-Memory.is at c.in-Err-Memory.field-0-is)
-    (subst (λ (r : Result _ DecodeError). IfErr r (Stops old.limit (old.held ++ c.args.piece.now) c.new-packets.result.items ps)) c.in-Err-Memory.is c.decode-decoded.ensures.err) in
-    let made =
-    subst (λ (e : End). Makes (closes reasons.Memory e) took c.close.new.self c.take_all.new.told c.take_all.new.told) (makes_end x.0 mid took c.args.told.now c.take_all.new.told x.3)
-    (closes_made reasons.Memory took c.close.new.self c.take_all.new.told c.close.ensures.state) in
-    subst (λ (reason : CloseReason). Hears c.args.role c.args.now c.args.piece.now old c.close.new.self c.args.told.now c.take_all.new.told (Some reason)) (sym c.close.ensures.reason)
-    (hears_starved c.args.role c.args.now c.args.piece.now old took c.close.new.self mid.held c.args.told.now c.take_all.new.told c.take_all.new.told x.0 ps
-    (begins_from old.limit (old.held ++ c.args.piece.now) c.new-packets.result.items ps c.new-packets.ensures.items stops) b.taken b.makes x.2 made)
+    let piece = c.args.piece.now in
+    let rest = drop at.used piece in
+    let mid = c.next_packet.new.self in
+    let some : 0 < length (at.self.held ++ c.split_at.result.1.now) = rw c.in-Err-Memory.field-0-is at c.in-Err-Memory.ensures.err in
+    let left = subst (λ (b : List ℕ). 0 < length (at.self.held ++ b)) c.split_at.ensures.back some in
+    subst (λ (reason : CloseReason). Hears c.args.role c.args.now piece old c.close.new.self c.args.told.now at.told (Some reason)) (sym c.close.ensures.reason)
+    (walked_starved c.args.role c.args.now piece old at.self mid c.close.new.self c.args.told.now at.told at.came rest at.invariant.walked left c.next_packet.ensures.state
+    (closes_made reasons.Memory mid c.close.new.self at.told c.close.ensures.state))
 
 pub returns-in-Err-Fault : goal.returns-in-Err-Fault
 returns-in-Err-Fault c =
-    let old = c.args.self.now in
-    let mid = c.decode-decoded.new.self in
-    let ps = c.decode-decoded.new.out.items in
-    let took = c.take_all.new.self in
-    let x = c.in-None.ensures in
-    let y = c.break_off.ensures in
-    let b = bring (gets_as c.args.role) ps old mid took c.args.told.now c.take_all.new.told x.0 c.decode-decoded.ensures.state x.1 x.3 in
-    let stops =
-    subst (λ (e : DecodeError). Stops old.limit (old.held ++ c.args.piece.now) c.new-packets.result.items ps e) (rw c.in-Err-Fault.is at c.in-Err-Fault.field-0-is)
-    (subst (λ (r : Result _ DecodeError). IfErr r (Stops old.limit (old.held ++ c.args.piece.now) c.new-packets.result.items ps)) c.in-Err-Fault.is c.decode-decoded.ensures.err) in
-    let broken = broken_from old.limit (old.held ++ c.args.piece.now) c.new-packets.result.items ps c.in-Err-Fault.fault c.new-packets.ensures.items stops in
-    let breaks = subst (λ (e : End). IsBreak c.args.role c.in-Err-Fault.fault e y.0) (makes_end x.0 mid took c.args.told.now c.take_all.new.told x.3) y.1 in
-    hears_fault c.args.role c.args.now c.args.piece.now old took c.break_off.new.self mid.held c.args.told.now c.take_all.new.told c.take_all.new.told x.0 y.0 ps broken.rest c.in-Err-Fault.fault c.break_off.result broken.reading b.taken b.makes x.2 breaks y.2
-    (break_made c.args.role c.in-Err-Fault.fault took c.break_off.new.self c.take_all.new.told y.0 y.1 y.3)
+    let at = c.loop-packet in
+    let piece = c.args.piece.now in
+    let rest = drop at.used piece in
+    let mid = c.next_packet.new.self in
+    let fault = c.in-Err-Fault.fault in
+    let x = c.break_off.ensures in
+    let broken : Faulty at.self.limit (at.self.held ++ c.split_at.result.1.now) fault.kind fault.place = rw c.in-Err-Fault.field-0-is at c.in-Err-Fault.ensures.err in
+    let faulty = subst (λ (b : List ℕ). Faulty at.self.limit (at.self.held ++ b) fault.kind fault.place) c.split_at.ensures.back broken in
+    walked_broken c.args.role c.args.now piece c.args.self.now at.self mid c.break_off.new.self c.args.told.now at.told at.came rest fault c.break_off.result x.0 at.invariant.walked faulty c.next_packet.ensures.state x.1 x.2 x.3
