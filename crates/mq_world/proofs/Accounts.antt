@@ -1,5 +1,6 @@
 -- The lists of a side: what is told of, and what is acknowledged, one after another.
-use Rattle.std.proofs.Common.{◌≡◌, ℕ, suc, ◌+◌, ◌<◌, Bool, true, false, cond, eqb, ◌||◌, List, [], ◌∷◌, ◌++◌, length, drop, get_or, Option, Some, refl, sym, ap, ◌∙◌, add-one}
+use Rattle.std.proofs.Common.{◌≡◌, ℕ, suc, ◌+◌, ◌<◌, Bool, true, false, cond, eqb, ◌||◌, List, [], ◌∷◌, ◌++◌, length, drop, get_or, Option, Some}
+use Rattle.std.proofs.Common.{refl, sym, ap, ◌∙◌, add-one}
 use Rattle.std.specs.Option.{unwrap_or}
 use Rattle.std.proofs.Math.Seq.{drop-cons}
 use Rattle.mq_packet.specs.declared.message.Message.{Message}
@@ -18,12 +19,14 @@ handed_step (happens.SubAck i r) rest x = refl
 handed_step (happens.UnsubAck i) rest x = refl
 handed_step happens.Pong rest x = refl
 
-pub handed_more : (hs : List Happening) (k : ℕ) (h : Happening) (x y : HandedOn) → k < length hs → h ≡ get_or hs k h → handed_with (drop k hs) x ≡ y → handed_with (drop (k + 1) hs) (handed_with (h ∷ []) x) ≡ y
+pub handed_more : (hs : List Happening) (k : ℕ) (h : Happening) (x y : HandedOn) → k < length hs → h ≡ get_or hs k h → handed_with (drop k hs) x ≡ y
+    → handed_with (drop (k + 1) hs) (handed_with (h ∷ []) x) ≡ y
 handed_more hs k h x y below is before =
     let e : drop k hs ≡ h ∷ drop (k + 1) hs = drop-cons hs k h below ∙ ap (λ z. z ∷ drop (suc k) hs) (sym is) ∙ ap (λ n. h ∷ drop n hs) (sym (add-one k)) in
     sym (ap (λ z. handed_with z x) e ∙ handed_step h (drop (k + 1) hs) x) ∙ before
 
-pub freed_more : (given : List (ℕ × Message)) (is : List ℕ) (k i : ℕ) (x y : List ℕ) → k < length is → i ≡ get_or is k i → freed_with given (drop k is) x ≡ y → freed_with given (drop (k + 1) is) (x ++ last_place i given ∷ []) ≡ y
+pub freed_more : (given : List (ℕ × Message)) (is : List ℕ) (k i : ℕ) (x y : List ℕ) → k < length is → i ≡ get_or is k i
+    → freed_with given (drop k is) x ≡ y → freed_with given (drop (k + 1) is) (x ++ last_place i given ∷ []) ≡ y
 freed_more given is k i x y below at before =
     let e : drop k is ≡ i ∷ drop (k + 1) is = drop-cons is k i below ∙ ap (λ z. z ∷ drop (suc k) is) (sym at) ∙ ap (λ n. i ∷ drop n is) (sym (add-one k)) in
     sym (ap (λ z. freed_with given z x) e) ∙ before
@@ -70,6 +73,7 @@ unwrap_cond : (b : Bool) (n : ℕ) (o : Option ℕ) → unwrap_or (cond b (Some 
 unwrap_cond true n o = refl
 unwrap_cond false n o = refl
 
-pub places_more : (i : ℕ) (ps : List (ℕ × Message)) (p : ℕ × Message) (old new : Option ℕ) → unwrap_or old 0 ≡ last_place i ps → new ≡ cond (eqb p.0 i) (Some (length ps)) old → unwrap_or new 0 ≡ last_place i (ps ++ p ∷ [])
+pub places_more : (i : ℕ) (ps : List (ℕ × Message)) (p : ℕ × Message) (old new : Option ℕ) → unwrap_or old 0 ≡ last_place i ps
+    → new ≡ cond (eqb p.0 i) (Some (length ps)) old → unwrap_or new 0 ≡ last_place i (ps ++ p ∷ [])
 places_more i ps p old new before updates =
     ap (λ o. unwrap_or o 0) updates ∙ unwrap_cond (eqb p.0 i) (length ps) old ∙ ap (λ n. cond (eqb p.0 i) (length ps) n) before ∙ sym (last_more i ps p)

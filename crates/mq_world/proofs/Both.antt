@@ -32,10 +32,11 @@ IsPlain p = Unit {0}
 
 -- from a sender in a state and with a book to a receiver
 abbrev pub Ways : State → SenderBook → State → ReceiverBook → Answers → Flight → Accepted → HandedOn → List ℕ → Type 0
-Ways x b y S an fl A H F =
-    Second x y (held Q2 b.entries) b.released S an.rec an.comp fl.pub2 fl.rel A.exactly_once H.exactly_once
-    × First x y (held Q1 b.entries) an.ack fl.pub1 A.at_least_once H.at_least_once F
-    × Zeroth fl.msg A.at_most_once H.at_most_once
+Ways x book y stored answering flying accepted handed places_freed =
+    Second x y (held Q2 book.entries) book.released stored answering.pubrecs answering.pubcomps flying.publishes_2 flying.pubrels
+    accepted.exactly_once handed.exactly_once
+    × First x y (held Q1 book.entries) answering.pubacks flying.publishes_1 accepted.at_least_once handed.at_least_once places_freed
+    × Zeroth flying.messages_0 accepted.at_most_once handed.at_most_once
 
 abbrev pub WayOf : Half → Half → Type 0
 WayOf x y = Ways x.end.state x.end.book y.end.state y.end.received (answers x.coming) (flight y.coming) x.accepted y.handed x.freed
@@ -61,7 +62,8 @@ pub record Both (capacity : ℕ) (x y : Half) : Type 0 where
   pub queue_y : Each IsPlain y.coming
 
 pub turned : (capacity : ℕ) (x y : Half) → Both capacity x y → Both capacity y x
-turned capacity x y b = record { to_y = b.to_x; to_x = b.to_y; own_x = b.own_y; own_y = b.own_x; kept_x = b.kept_y; kept_y = b.kept_x; queue_x = b.queue_y; queue_y = b.queue_x }
+turned capacity x y b =
+    record { to_y = b.to_x; to_x = b.to_y; own_x = b.own_y; own_y = b.own_x; kept_x = b.kept_y; kept_y = b.kept_x; queue_x = b.queue_y; queue_y = b.queue_x }
 
 pub plain_joined : (st : State) (q ps : List Packet) → Each IsPlain q → Each IsPlain ps → Each IsPlain (joined st q ps)
 plain_joined Closed q ps a b = a
@@ -69,13 +71,17 @@ plain_joined Open q ps a b = each_append IsPlain q ps a b
 plain_joined Up q ps a b = each_append IsPlain q ps a b
 
 -- after a move of x, which puts packets out
-pub finish : (capacity : ℕ) (x y x2 : Half) (ps : List Packet) (an : Answers) (fl : Flight) → answers (joined y.end.state y.coming ps) ≡ an → flight (joined y.end.state y.coming ps) ≡ fl
-    → Ways x2.end.state x2.end.book y.end.state y.end.received (answers x2.coming) fl x2.accepted y.handed x2.freed
-    → Ways y.end.state y.end.book x2.end.state x2.end.received an (flight x2.coming) y.accepted x2.handed y.freed
-    → OwnOf capacity x2.end.state x2.end.book → x2.end.clean ≡ false → Each IsPlain x2.coming → Each IsPlain ps → Both capacity x y → Both capacity x2 (put ps y)
-finish capacity x y x2 ps an fl is_an is_fl to_y to_x own kept queue plain b = record {
-  to_y = subst (λ (f : Flight). Ways x2.end.state x2.end.book y.end.state y.end.received (answers x2.coming) f x2.accepted y.handed x2.freed) (sym is_fl) to_y;
-  to_x = subst (λ (a : Answers). Ways y.end.state y.end.book x2.end.state x2.end.received a (flight x2.coming) y.accepted x2.handed y.freed) (sym is_an) to_x;
+pub finish : (capacity : ℕ) (x y x2 : Half) (ps : List Packet) (answering : Answers) (flying : Flight)
+    → answers (joined y.end.state y.coming ps) ≡ answering → flight (joined y.end.state y.coming ps) ≡ flying
+    → Ways x2.end.state x2.end.book y.end.state y.end.received (answers x2.coming) flying x2.accepted y.handed x2.freed
+    → Ways y.end.state y.end.book x2.end.state x2.end.received answering (flight x2.coming) y.accepted x2.handed y.freed
+    → OwnOf capacity x2.end.state x2.end.book → x2.end.clean ≡ false → Each IsPlain x2.coming → Each IsPlain ps → Both capacity x y
+    → Both capacity x2 (put ps y)
+finish capacity x y x2 ps answering flying is_answering is_flying to_y to_x own kept queue plain b = record {
+  to_y = subst (λ (f : Flight). Ways x2.end.state x2.end.book y.end.state y.end.received (answers x2.coming) f x2.accepted y.handed x2.freed)
+      (sym is_flying) to_y;
+  to_x = subst (λ (a : Answers). Ways y.end.state y.end.book x2.end.state x2.end.received a (flight x2.coming) y.accepted x2.handed y.freed)
+      (sym is_answering) to_x;
   own_x = own;
   own_y = b.own_y;
   kept_x = kept;
@@ -101,13 +107,16 @@ apart capacity b s i = let d = s.distinct i in let e = times_uses i b in let f =
 
 -- ---- the side closes, or its connection is lost
 
-pub close_keeps : (capacity : ℕ) (h y : Half) (st : State) (q rest ps : List Packet) (reason : Option CloseReason) → answers ps ≡ no_answers → flight ps ≡ no_flight → Each IsPlain ps → Both capacity (upon h st q) y
+pub close_keeps : (capacity : ℕ) (h y : Half) (st : State) (q rest ps : List Packet) (reason : Option CloseReason) → answers ps ≡ no_answers
+    → flight ps ≡ no_flight → Each IsPlain ps → Both capacity (upon h st q) y
     → Both capacity
     (record h { end = record h.end { book = record h.end.book { claimed = [] }; state = Closed; clean = false }; coming = [] })
     (put ps y)
-close_keeps capacity h y st q rest ps reason no_an no_fl plain b =
-    finish capacity (upon h st q) y (record h { end = record h.end { book = record h.end.book { claimed = [] }; state = Closed; clean = false }; coming = [] }) ps (answers y.coming) (flight y.coming)
-    (same_answers y.end.state y.coming ps no_an) (same_flight y.end.state y.coming ps no_fl)
+close_keeps capacity h y st q rest ps reason none_answering none_flying plain b =
+    finish capacity (upon h st q) y
+    (record h { end = record h.end { book = record h.end.book { claimed = [] }; state = Closed; clean = false }; coming = [] }) ps
+    (answers y.coming) (flight y.coming)
+    (same_answers y.end.state y.coming ps none_answering) (same_flight y.end.state y.coming ps none_flying)
     (second.sender_drops b.to_y.0, first.sender_drops b.to_y.1, b.to_y.2)
     (second.receiver_drops b.to_x.0, first.receiver_drops b.to_x.1, zeroth_lost _ _ _ b.to_x.2)
     (books.drops capacity h.end.book b.own_x.0, tt, b.own_x.2)
@@ -118,29 +127,52 @@ close_keeps capacity h y st q rest ps reason no_an no_fl plain b =
 
 -- ---- the side comes up
 
-pub up_keeps : (capacity : ℕ) (h y : Half) (p : Packet) (rest before : List Packet) (alive : ℕ) → answers before ≡ no_answers → flight before ≡ no_flight → Each IsPlain before
+pub up_keeps : (capacity : ℕ) (h y : Half) (p : Packet) (rest before : List Packet) (alive : ℕ) → answers before ≡ no_answers
+    → flight before ≡ no_flight → Each IsPlain before
     → answers (p ∷ rest) ≡ answers rest → flight (p ∷ rest) ≡ flight rest → Both capacity (upon h Open (p ∷ rest)) y
     → Both capacity
     (record h { end = record h.end { book = all_sent h.end.book; state = Up; known = true; clean = false; keep_alive = alive }; coming = rest })
     (put (before ++ resent h.end.book) y)
-up_keeps capacity h y p rest before alive no_an no_fl plain an_rest fl_rest b =
+up_keeps capacity h y p rest before alive none_answering none_flying plain rest_answers rest_flight b =
     let book : SenderBook = h.end.book in
-    let way2 : Second Up y.end.state (held Q2 book.entries) book.released y.end.received (answers rest).rec (answers rest).comp (joined y.end.state (flight y.coming).pub2 (held Q2 book.entries)) (joined y.end.state (flight y.coming).rel book.released) h.accepted.exactly_once y.handed.exactly_once =
-    subst (λ (a : Answers). Second Up y.end.state (held Q2 book.entries) book.released y.end.received a.rec a.comp (joined y.end.state (flight y.coming).pub2 (held Q2 book.entries)) (joined y.end.state (flight y.coming).rel book.released) h.accepted.exactly_once y.handed.exactly_once)
-    an_rest (second.sender_up b.to_y.0) in
-    let way1 : First Up y.end.state (held Q1 book.entries) (answers rest).ack (joined y.end.state (flight y.coming).pub1 (held Q1 book.entries)) h.accepted.at_least_once y.handed.at_least_once h.freed =
-    subst (λ (a : Answers). First Up y.end.state (held Q1 book.entries) a.ack (joined y.end.state (flight y.coming).pub1 (held Q1 book.entries)) h.accepted.at_least_once y.handed.at_least_once h.freed)
-    an_rest (first.sender_up b.to_y.1) in
-    finish capacity (upon h Open (p ∷ rest)) y (record h { end = record h.end { book = all_sent h.end.book; state = Up; known = true; clean = false; keep_alive = alive }; coming = rest }) (before ++ resent h.end.book)
-    (answers y.coming) (record { pub2 = joined y.end.state (flight y.coming).pub2 (held Q2 book.entries); pub1 = joined y.end.state (flight y.coming).pub1 (held Q1 book.entries); rel = joined y.end.state (flight y.coming).rel book.released; msg = (flight y.coming).msg })
-    (same_answers y.end.state y.coming (before ++ resent book) (resent_answers before book no_an))
-    (resent_joins y.end.state y.coming before book no_fl) (
-      subst (λ (E : List (ℕ × Message)). Second Up y.end.state E book.released y.end.received (answers rest).rec (answers rest).comp (joined y.end.state (flight y.coming).pub2 (held Q2 book.entries)) (joined y.end.state (flight y.coming).rel book.released) h.accepted.exactly_once y.handed.exactly_once) (sym (held_sent Q2 book.entries)) way2,
-      subst (λ (E : List (ℕ × Message)). First Up y.end.state E (answers rest).ack (joined y.end.state (flight y.coming).pub1 (held Q1 book.entries)) h.accepted.at_least_once y.handed.at_least_once h.freed) (sym (held_sent Q1 book.entries)) way1,
+    let way2 : Second Up y.end.state (held Q2 book.entries) book.released y.end.received (answers rest).pubrecs (answers rest).pubcomps
+    (joined y.end.state (flight y.coming).publishes_2 (held Q2 book.entries))
+    (joined y.end.state (flight y.coming).pubrels book.released) h.accepted.exactly_once y.handed.exactly_once =
+    subst (λ (a : Answers). Second Up y.end.state (held Q2 book.entries) book.released y.end.received a.pubrecs a.pubcomps
+    (joined y.end.state (flight y.coming).publishes_2 (held Q2 book.entries))
+    (joined y.end.state (flight y.coming).pubrels book.released) h.accepted.exactly_once y.handed.exactly_once)
+    rest_answers (second.sender_up b.to_y.0) in
+    let way1 : First Up y.end.state (held Q1 book.entries) (answers rest).pubacks
+    (joined y.end.state (flight y.coming).publishes_1 (held Q1 book.entries)) h.accepted.at_least_once y.handed.at_least_once h.freed =
+    subst (λ (a : Answers). First Up y.end.state (held Q1 book.entries) a.pubacks
+    (joined y.end.state (flight y.coming).publishes_1 (held Q1 book.entries)) h.accepted.at_least_once y.handed.at_least_once h.freed)
+    rest_answers (first.sender_up b.to_y.1) in
+    finish capacity (upon h Open (p ∷ rest)) y
+    (record h { end = record h.end { book = all_sent h.end.book; state = Up; known = true; clean = false; keep_alive = alive }; coming = rest })
+    (before ++ resent h.end.book)
+    (answers y.coming) (record {
+      publishes_2 = joined y.end.state (flight y.coming).publishes_2 (held Q2 book.entries);
+      publishes_1 = joined y.end.state (flight y.coming).publishes_1 (held Q1 book.entries);
+      pubrels = joined y.end.state (flight y.coming).pubrels book.released;
+      messages_0 = (flight y.coming).messages_0;
+    })
+    (same_answers y.end.state y.coming (before ++ resent book) (resent_answers before book none_answering))
+    (resent_joins y.end.state y.coming before book none_flying) (
+      subst (λ (entries_now : List (ℕ × Message)). Second Up y.end.state entries_now book.released y.end.received (answers rest).pubrecs
+          (answers rest).pubcomps (joined y.end.state (flight y.coming).publishes_2 (held Q2 book.entries))
+          (joined y.end.state (flight y.coming).pubrels book.released) h.accepted.exactly_once y.handed.exactly_once) (sym
+          (held_sent Q2 book.entries)) way2,
+      subst (λ (entries_now : List (ℕ × Message)). First Up y.end.state entries_now (answers rest).pubacks
+          (joined y.end.state (flight y.coming).publishes_1 (held Q1 book.entries)) h.accepted.at_least_once y.handed.at_least_once h.freed) (sym
+          (held_sent Q1 book.entries)) way1,
       b.to_y.2,
     )
-    (subst (λ (f : Flight). Ways y.end.state y.end.book Up h.end.received (answers y.coming) f y.accepted h.handed y.freed) fl_rest (second.receiver_up b.to_x.0, first.receiver_up b.to_x.1, b.to_x.2))
-    (books.sends capacity book b.own_x.0, each_map IsSent (λ (e : Entry). record { id = e.id; message = e.message; sent = true }) book.entries (λ e. refl), held_still book.entries b.own_x.2)
+    (subst (λ (f : Flight). Ways y.end.state y.end.book Up h.end.received (answers y.coming) f y.accepted h.handed y.freed) rest_flight
+    (second.receiver_up b.to_x.0, first.receiver_up b.to_x.1, b.to_x.2)) (
+      books.sends capacity book b.own_x.0,
+      each_map IsSent (λ (e : Entry). record { id = e.id; message = e.message; sent = true }) book.entries (λ e. refl),
+      held_still book.entries b.own_x.2,
+    )
     refl
     b.queue_x.1
     (each_append IsPlain before (resent book) plain (plain_resent book))
@@ -151,18 +183,23 @@ up_keeps capacity h y p rest before alive no_an no_fl plain an_rest fl_rest b =
     held_still (e ∷ es) k = (k.0, held_still es k.1)
 
     plain_resent : (b : SenderBook) → Each IsPlain (resent b)
-    plain_resent b = each_append IsPlain (map packets.PubRel b.released) _ (each_map IsPlain packets.PubRel b.released (λ i. tt)) (each_map IsPlain _ b.entries (λ e. tt))
+    plain_resent b =
+        each_append IsPlain (map packets.PubRel b.released) _ (each_map IsPlain packets.PubRel b.released (λ i. tt)) (each_map IsPlain _ b.entries (λ e. tt))
 
 -- ---- nothing of a flow comes or goes out
 
-pub calm_keeps : (capacity : ℕ) (h y : Half) (st : State) (p : Packet) (rest ps : List Packet) (cs : List Claimed) → answers ps ≡ no_answers → flight ps ≡ no_flight → Each IsPlain ps
-    → answers (p ∷ rest) ≡ answers rest → flight (p ∷ rest) ≡ flight rest → IsSound capacity (record h.end.book { claimed = cs }) → Both capacity (upon h st (p ∷ rest)) y
+pub calm_keeps : (capacity : ℕ) (h y : Half) (st : State) (p : Packet) (rest ps : List Packet) (cs : List Claimed) → answers ps ≡ no_answers
+    → flight ps ≡ no_flight → Each IsPlain ps
+    → answers (p ∷ rest) ≡ answers rest → flight (p ∷ rest) ≡ flight rest → IsSound capacity (record h.end.book { claimed = cs })
+    → Both capacity (upon h st (p ∷ rest)) y
     → Both capacity (record h { end = record h.end { book = record h.end.book { claimed = cs }; state = st; clean = false }; coming = rest }) (put ps y)
-calm_keeps capacity h y st p rest ps cs no_an no_fl plain an_rest fl_rest sound b =
-    finish capacity (upon h st (p ∷ rest)) y (record h { end = record h.end { book = record h.end.book { claimed = cs }; state = st; clean = false }; coming = rest }) ps (answers y.coming) (flight y.coming)
-    (same_answers y.end.state y.coming ps no_an) (same_flight y.end.state y.coming ps no_fl)
-    (subst (λ (a : Answers). Ways st h.end.book y.end.state y.end.received a (flight y.coming) h.accepted y.handed h.freed) an_rest b.to_y)
-    (subst (λ (f : Flight). Ways y.end.state y.end.book st h.end.received (answers y.coming) f y.accepted h.handed y.freed) fl_rest b.to_x)
+calm_keeps capacity h y st p rest ps cs none_answering none_flying plain rest_answers rest_flight sound b =
+    finish capacity (upon h st (p ∷ rest)) y
+    (record h { end = record h.end { book = record h.end.book { claimed = cs }; state = st; clean = false }; coming = rest }) ps
+    (answers y.coming) (flight y.coming)
+    (same_answers y.end.state y.coming ps none_answering) (same_flight y.end.state y.coming ps none_flying)
+    (subst (λ (a : Answers). Ways st h.end.book y.end.state y.end.received a (flight y.coming) h.accepted y.handed h.freed) rest_answers b.to_y)
+    (subst (λ (f : Flight). Ways y.end.state y.end.book st h.end.received (answers y.coming) f y.accepted h.handed y.freed) rest_flight b.to_x)
     (sound, b.own_x.1, b.own_x.2)
     refl
     b.queue_x.1

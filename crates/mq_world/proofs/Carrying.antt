@@ -26,7 +26,8 @@ use Rattle.mq_end.specs.Server.{connect_gets, refuses, server_open_gets, server_
 use Rattle.mq_end.specs.Laws.{MayHave}
 use Rattle.mq_world.specs.declared.side.Side.{Side}
 use Rattle.mq_world.specs.declared.side.Side.TheVariants.{Client, Server}
-use Rattle.mq_world.specs.Half.{Half, Outcome, Action, Publishes, Arrives, Drops, Leaves, Pings, joined, kept, put, took, arrival, publication, May, moved, gets}
+use Rattle.mq_world.specs.Half.{Half, Outcome, Action, Publishes, Arrives, Drops, Leaves, Pings, joined, kept, put, took, arrival, publication, May}
+use Rattle.mq_world.specs.Half.{moved, gets}
 use Rattle.mq_world.specs.Machine.{Machine, Move, By, Opens, Run, IsAllowed, after, blank_machine}
 use Rattle.mq_world.specs.Orders.{Each}
 use Rattle.mq_world.specs.Carried.{IsCarried, IsEntry, IsPublication, CarriesOnly, PublishOnly, CarriedLaw}
@@ -48,21 +49,31 @@ module _ (test : Message → Bool) where
   renewed_well true e h = (tt, tt)
   renewed_well false e h = h
 
-  publish_well : (q : Qos) (d : Option Delivery) (m : Message) (e : End) → IsPublication test (record m { qos = q }) d → Holds e.book → Leaves_well (publish_gets q d (record m { qos = q }) e)
+  publish_well : (q : Qos) (d : Option Delivery) (m : Message) (e : End) → IsPublication test (record m { qos = q }) d → Holds e.book
+      → Leaves_well (publish_gets q d (record m { qos = q }) e)
   publish_well Q0 None m e p h = (h, tt)
   publish_well Q1 (Some d) m e p h = (h, (p.2, tt))
   publish_well Q2 (Some d) m e p h =
-      cond_both (fits_window e.window d.id e.received) (stores d.id (record m { qos = Q2 }) e) (closes reasons.Window e) Leaves_well (λ t. (h, (p.2, tt))) (λ f. (over_well e h, tt))
+      cond_both (fits_window e.window d.id e.received) (stores d.id (record m { qos = Q2 }) e) (closes reasons.Window e) Leaves_well
+      (λ t. (h, (p.2, tt))) (λ f. (over_well e h, tt))
   publish_well q d m e p h = (over_well e h, tt)
 
   flow_well : (p : Packet) (e : End) → IsCarried test p → Holds e.book → Leaves_well (flow_gets p e)
   flow_well (packets.Publish p) e c h = publish_well p.message.qos p.delivery p.message e c h
-  flow_well (packets.PubAck i) e c h =
-      ((cond_both (is_awaited Q1 i e.book.entries) (without_entry i e.book.entries) e.book.entries (Each (IsEntry test)) (λ t. each_filter (IsEntry test) _ e.book.entries h.0) (λ f. h.0), h.1), tt)
+  flow_well (packets.PubAck i) e c h = (
+    (
+      cond_both (is_awaited Q1 i e.book.entries) (without_entry i e.book.entries) e.book.entries (Each (IsEntry test))
+          (λ t. each_filter (IsEntry test) _ e.book.entries h.0) (λ f. h.0),
+      h.1,
+    ),
+    tt,
+  )
   flow_well (packets.PubRec i) e c h = (
     (
-      cond_both (is_awaited Q2 i e.book.entries) (without_entry i e.book.entries) e.book.entries (Each (IsEntry test)) (λ t. each_filter (IsEntry test) _ e.book.entries h.0) (λ f. h.0),
-      cond_both (is_awaited Q2 i e.book.entries) (e.book.released ++ i ∷ []) e.book.released (Each IsIdentifier) (λ t. each_append IsIdentifier e.book.released (i ∷ []) h.1 (c, tt)) (λ f. h.1),
+      cond_both (is_awaited Q2 i e.book.entries) (without_entry i e.book.entries) e.book.entries (Each (IsEntry test))
+          (λ t. each_filter (IsEntry test) _ e.book.entries h.0) (λ f. h.0),
+      cond_both (is_awaited Q2 i e.book.entries) (e.book.released ++ i ∷ []) e.book.released (Each IsIdentifier)
+          (λ t. each_append IsIdentifier e.book.released (i ∷ []) h.1 (c, tt)) (λ f. h.1),
     ),
     cond_both (is_awaited Q2 i e.book.entries) (packets.PubRel i ∷ []) [] (Each (IsCarried test)) (λ t. (c, tt)) (λ f. tt),
   )
@@ -98,7 +109,8 @@ module _ (test : Message → Bool) where
   connack_well (connacks.Refused code) e h = (over_well e h, tt)
   connack_well (connacks.Accepted present) e h =
       cond_both (e.clean && present) (closes reasons.Unexpected e) _ Leaves_well (λ t. (over_well e h, tt))
-      (λ f. cond_both (not e.clean && (e.known && not present)) (closes reasons.SessionLost e) (comes_up [] present e) Leaves_well (λ t. (over_well e h, tt)) (λ f. comes_up_well [] present e tt h))
+      (λ f. cond_both (not e.clean && (e.known && not present)) (closes reasons.SessionLost e) (comes_up [] present e) Leaves_well
+      (λ t. (over_well e h, tt)) (λ f. comes_up_well [] present e tt h))
 
   client_open_well : (p : Packet) (e : End) → Holds e.book → Leaves_well (client_open_gets p e)
   client_open_well (packets.ConnAck a) e h = connack_well a e h
@@ -113,7 +125,8 @@ module _ (test : Message → Bool) where
   connect_well : (c : Connect) (e : End) → Holds e.book → Leaves_well (connect_gets c e)
   connect_well c e h =
       cond_both (not c.clean_session && eqb (length c.client_id) 0) (refuses IdentifierRejected e) _ Leaves_well (λ t. (over_well e h, (tt, tt)))
-      (λ f. comes_up_well (packets.ConnAck (connacks.Accepted (not c.clean_session && e.known)) ∷ []) (not c.clean_session && e.known) (record (renewed c.clean_session e) { keep_alive = c.keep_alive }) (tt, tt) (renewed_well c.clean_session e h))
+      (λ f. comes_up_well (packets.ConnAck (connacks.Accepted (not c.clean_session && e.known)) ∷ []) (not c.clean_session && e.known)
+      (record (renewed c.clean_session e) { keep_alive = c.keep_alive }) (tt, tt) (renewed_well c.clean_session e h))
 
   server_open_well : (p : Packet) (e : End) → Holds e.book → Leaves_well (server_open_gets p e)
   server_open_well (packets.Connect c) e h = connect_well c e h
@@ -166,7 +179,8 @@ module _ (test : Message → Bool) where
   arrival_well [] side h c k = (k, tt)
   arrival_well (p ∷ rest) side h c k = took_well h rest (gets side p h.end) c.1 (gets_well side p h.end c.0 k.0)
 
-  published_well : (q : Qos) (i : ℕ) (m : Message) (e : End) → test (record m { qos = q }) ≡ true → MayHave (has_identifier q) e i → Holds e.book → Leaves_well (publishes_at q i (record m { qos = q }) e)
+  published_well : (q : Qos) (i : ℕ) (m : Message) (e : End) → test (record m { qos = q }) ≡ true → MayHave (has_identifier q) e i → Holds e.book
+      → Leaves_well (publishes_at q i (record m { qos = q }) e)
   published_well Q0 i m e t free h = (h, ((t, refl, tt), tt))
   published_well Q1 i m e t free h = (
     (each_append (IsEntry test) e.book.entries _ h.0 ((t, refl, free.0), tt), h.1),
@@ -185,7 +199,8 @@ module _ (test : Message → Bool) where
   Passes (Publishes i m) = test m ≡ true
   Passes action = Unit {0}
 
-  move_well : (limit capacity : ℕ) (side : Side) (action : Action) (h : Half) → May limit capacity side action h → Passes action → Well h → Moves_well (moved side action h)
+  move_well : (limit capacity : ℕ) (side : Side) (action : Action) (h : Half) → May limit capacity side action h → Passes action → Well h
+      → Moves_well (moved side action h)
   move_well limit capacity side (Publishes i m) h may t k = publication_well i m h t may.1 k
   move_well limit capacity side Arrives h may t k = arrival_well h.coming side h k.1 k
   move_well limit capacity side Drops h may t k = took_well h [] (drops h.end) tt (over_well h.end k.0, tt)
@@ -199,7 +214,8 @@ module _ (test : Message → Bool) where
   Allowed (By side action) = Passes action
   Allowed Opens = Unit {0}
 
-  after_well : (limit capacity : ℕ) (w : Machine) (move : Move) → IsAllowed limit capacity w move → Allowed move → Well w.client → Well w.server → Well (after w move).client × Well (after w move).server
+  after_well : (limit capacity : ℕ) (w : Machine) (move : Move) → IsAllowed limit capacity w move → Allowed move → Well w.client → Well w.server
+      → Well (after w move).client × Well (after w move).server
   after_well limit capacity w (By Client action) may t c s = let m = move_well limit capacity Client action w.client may t c in (m.0, put_well _ w.server m.1 s)
   after_well limit capacity w (By Server action) may t c s = let m = move_well limit capacity Server action w.server may t s in (put_well _ w.client m.1 c, m.0)
   after_well limit capacity w Opens may t c s = ((over_well w.client.end c.0, tt), (over_well w.server.end s.0, (refl, tt)))
@@ -212,7 +228,8 @@ module _ (test : Message → Bool) where
   first_of (By side Pings) moves p = (tt, p)
   first_of Opens moves p = (tt, p)
 
-  run_well : (limit capacity : ℕ) (w : Machine) (moves : List Move) (v : Machine) → PublishOnly test moves → Run limit capacity w moves v → Well w.client → Well w.server → Well v.client × Well v.server
+  run_well : (limit capacity : ℕ) (w : Machine) (moves : List Move) (v : Machine) → PublishOnly test moves → Run limit capacity w moves v
+      → Well w.client → Well w.server → Well v.client × Well v.server
   run_well limit capacity w [] v p run c s = subst (λ (u : Machine). Well u.client × Well u.server) (sym run) (c, s)
   run_well limit capacity w (move ∷ moves) v p run c s =
       let f = first_of move moves p in

@@ -10,7 +10,8 @@ use Rattle.mq_world.specs.Sessions.{SessionsLaw}
 use Rattle.mq_world.proofs.Lists.{Each}
 use Rattle.mq_world.proofs.Marks.{Marks, IsNoConnack, reached_well}
 
-joins : (limit capacity : ℕ) (u v w : Machine) (xs ys : List Move) → Run limit capacity u xs v → Run limit capacity v ys w → Run limit capacity u (xs ++ ys) w
+pub joins : (limit capacity : ℕ) (u v w : Machine) (xs ys : List Move) → Run limit capacity u xs v → Run limit capacity v ys w
+    → Run limit capacity u (xs ++ ys) w
 joins limit capacity u v w [] ys r s = subst (λ (z : Machine). Run limit capacity z ys w) r s
 joins limit capacity u v w (x ∷ xs) ys r s = (r.0, joins limit capacity (after u x) v w xs ys r.1 s)
 

@@ -1,5 +1,6 @@
 -- Bytes come to a side, cut anywhere: the machine makes as many arrivals as packets came with them.
-use Rattle.std.proofs.Common.{◌≡◌, ℕ, true, false, Option, Some, None, List, [], ◌∷◌, ◌++◌, length, replicate, refl, sym, ap, subst, ◌∙◌, append_assoc, inl, inr}
+use Rattle.std.proofs.Common.{◌≡◌, ℕ, true, false, Option, Some, None, List, [], ◌∷◌, ◌++◌, length, replicate, refl, sym, ap, subst, ◌∙◌}
+use Rattle.std.proofs.Common.{append_assoc, inl, inr}
 use Rattle.std.proofs.lemmas.List.{append-nil}
 use Rattle.mq_packet.specs.declared.packet.Packet.{Packet}
 use Rattle.mq_decode.specs.Limits.{Bounds}
@@ -44,12 +45,14 @@ ignores : ClosingLaws → (side : Side) (ps : List Packet) (e : End) → e.state
 ignores laws Client ps e h = laws.client_ignores ps e h
 ignores laws Server ps e h = laws.server_ignores ps e h
 
-pub closes_all : ClosingLaws → (side : Side) (ps : List Packet) (e : End) (reason : CloseReason) → (one_by_one (gets side) ps e).close ≡ Some reason → (one_by_one (gets side) ps e).end.state ≡ Closed
+pub closes_all : ClosingLaws → (side : Side) (ps : List Packet) (e : End) (reason : CloseReason) → (one_by_one (gets side) ps e).close ≡ Some reason
+    → (one_by_one (gets side) ps e).end.state ≡ Closed
 closes_all laws side [] e reason h = absurd (some_not reason h)
 closes_all laws side (p ∷ ps) e reason h = at (gets side p e).close refl h (closes_all laws side ps (gets side p e).end reason)
   where
     at : (c : Option CloseReason) → (gets side p e).close ≡ c → first_reason c (one_by_one (gets side) ps (gets side p e).end).close ≡ Some reason
-        → ((one_by_one (gets side) ps (gets side p e).end).close ≡ Some reason → (one_by_one (gets side) ps (gets side p e).end).end.state ≡ Closed) → (one_by_one (gets side) ps (gets side p e).end).end.state ≡ Closed
+        → ((one_by_one (gets side) ps (gets side p e).end).close ≡ Some reason → (one_by_one (gets side) ps (gets side p e).end).end.state ≡ Closed)
+        → (one_by_one (gets side) ps (gets side p e).end).end.state ≡ Closed
     at None is h next = next h
     at (Some first) is h next =
         let closed : (gets side p e).end.state ≡ Closed = ap (λ (f : End). f.state) (gets_over laws side p e first is) in
@@ -58,10 +61,12 @@ closes_all laws side (p ∷ ps) e reason h = at (gets side p e).close refl h (cl
 -- ---- windows
 
 -- in a machine that a run reaches, an end whose window is not less than the capacity does not close because of it
-fits_all : (limit capacity : ℕ) (side : Side) (m : Machine) → Reached limit capacity m → Spans (half_of side m).end.window capacity → (ps rest : List Packet) → (half_of side m).coming ≡ kept (half_of side m).end.state (ps ++ rest)
+fits_all : (limit capacity : ℕ) (side : Side) (m : Machine) → Reached limit capacity m → Spans (half_of side m).end.window capacity
+    → (ps rest : List Packet) → (half_of side m).coming ≡ kept (half_of side m).end.state (ps ++ rest)
     → IsOther (one_by_one (gets side) ps (half_of side m).end).close
 fits_all limit capacity Client m r spans ps rest h = all_other capacity Client ps rest m.client m.server (holds limit capacity r.0 r.1 m r.2) spans h
-fits_all limit capacity Server m r spans ps rest h = all_other capacity Server ps rest m.server m.client (turned capacity m.client m.server (holds limit capacity r.0 r.1 m r.2)) spans h
+fits_all limit capacity Server m r spans ps rest h =
+    all_other capacity Server ps rest m.server m.client (turned capacity m.client m.server (holds limit capacity r.0 r.1 m r.2)) spans h
 
 -- ---- the side to which bytes come
 
@@ -80,8 +85,10 @@ not_live st closed live = true_not (sym live ∙ ap is_live closed)
     true_not e = cc
 
 -- it shows what comes of a reply
-heard_side : (limit : Bounds) (capacity : ℕ) (x : WiredSide) (h : Half) (left : List ℕ) (new : EndState) (happenings : List Happening) (acknowledged : List ℕ) (closed : Option CloseReason) (rest : List Packet) (r : Reply)
-    → CarriesSide limit capacity x h → SameBounds x.state new → new.end ≡ r.end → happenings ≡ r.happenings → acknowledged ≡ r.freed → (is_live r.end.state ≡ true → Stream limit rest (new.held ++ left_on closed left))
+heard_side : (limit : Bounds) (capacity : ℕ) (x : WiredSide) (h : Half) (left : List ℕ) (new : EndState) (happenings : List Happening)
+    (acknowledged : List ℕ) (closed : Option CloseReason) (rest : List Packet) (r : Reply)
+    → CarriesSide limit capacity x h → SameBounds x.state new → new.end ≡ r.end → happenings ≡ r.happenings → acknowledged ≡ r.freed
+    → (is_live r.end.state ≡ true → Stream limit rest (new.held ++ left_on closed left))
     → CarriesSide limit capacity (hearing left new happenings acknowledged closed x) (took h rest r).half
 heard_side limit capacity x h left new happenings acknowledged closed rest r k bounds after told freed bytes = record {
   end = after;
@@ -98,27 +105,36 @@ heard_side limit capacity x h left new happenings acknowledged closed rest r k b
 -- ---- the machine
 
 at_once_at : (side : Side) (ps rest : List Packet) (m : Machine) → (half_of side m).coming ≡ kept (half_of side m).end.state (ps ++ rest)
-    → arrivals (length ps) side m ≡ face side (took (half_of side m) rest (one_by_one (gets side) ps (half_of side m).end)).half (put (one_by_one (gets side) ps (half_of side m).end).out (other side m))
+    → arrivals (length ps) side m ≡ face side (took (half_of side m) rest (one_by_one (gets side) ps (half_of side m).end)).half
+    (put (one_by_one (gets side) ps (half_of side m).end).out (other side m))
 at_once_at Client ps rest m h = at_once.client ps rest m h
 at_once_at Server ps rest m h = at_once.server ps rest m h
 
-arrived : (limit capacity : ℕ) (side : Side) (ps rest : List Packet) (m : Machine) → (half_of side m).coming ≡ ps ++ rest → is_live (half_of side m).end.state ≡ true
-    → Run limit capacity m (replicate (length ps) (By side Arrives)) (face side (took (half_of side m) rest (one_by_one (gets side) ps (half_of side m).end)).half (put (one_by_one (gets side) ps (half_of side m).end).out (other side m)))
+arrived : (limit capacity : ℕ) (side : Side) (ps rest : List Packet) (m : Machine) → (half_of side m).coming ≡ ps ++ rest
+    → is_live (half_of side m).end.state ≡ true
+    → Run limit capacity m (replicate (length ps) (By side Arrives))
+    (face side (took (half_of side m) rest (one_by_one (gets side) ps (half_of side m).end)).half
+    (put (one_by_one (gets side) ps (half_of side m).end).out (other side m)))
 arrived limit capacity side ps rest m q live =
-    subst (λ (v : Machine). Run limit capacity m (replicate (length ps) (By side Arrives)) v) (at_once_at side ps rest m (q ∙ kept_live (half_of side m).end.state (ps ++ rest) live))
+    subst (λ (v : Machine). Run limit capacity m (replicate (length ps) (By side Arrives)) v)
+    (at_once_at side ps rest m (q ∙ kept_live (half_of side m).end.state (ps ++ rest) live))
     (chains.arrive limit capacity (length ps) side m)
 
 -- the connection is lost then
-lost : (limit capacity : ℕ) (side : Side) (m : Machine) (moves : List Move) (h y : Half) → Run limit capacity m moves (face side h y) → Run limit capacity m (moves ++ By side Drops ∷ []) (face side (moved side Drops h).half y)
+lost : (limit capacity : ℕ) (side : Side) (m : Machine) (moves : List Move) (h y : Half) → Run limit capacity m moves (face side h y)
+    → Run limit capacity m (moves ++ By side Drops ∷ []) (face side (moved side Drops h).half y)
 lost limit capacity Client m moves h y run =
-    chains.joins limit capacity m (face Client h y) (face Client (moved Client Drops h).half y) moves (By Client Drops ∷ []) run (tt, ap (face Client (moved Client Drops h).half) (sym (put_none y)))
+    chains.joins limit capacity m (face Client h y) (face Client (moved Client Drops h).half y) moves (By Client Drops ∷ []) run
+    (tt, ap (face Client (moved Client Drops h).half) (sym (put_none y)))
 lost limit capacity Server m moves h y run =
-    chains.joins limit capacity m (face Server h y) (face Server (moved Server Drops h).half y) moves (By Server Drops ∷ []) run (tt, ap (face Server (moved Server Drops h).half) (sym (put_none y)))
+    chains.joins limit capacity m (face Server h y) (face Server (moved Server Drops h).half y) moves (By Server Drops ∷ []) run
+    (tt, ap (face Server (moved Server Drops h).half) (sym (put_none y)))
 
 -- ---- bytes come
 
 -- what is known where bytes came: the whole packets, the queue behind them, and what is shown
-record Came (limit : Bounds) (capacity : ℕ) (side : Side) (w : Wired) (m : Machine) (b left : List ℕ) (new : EndState) (happenings : List Happening) (acknowledged : List ℕ) (closed : Option CloseReason) (ps : List Packet) (front rest : List ℕ) (r : Reply) : Type 0 where
+record Came (limit : Bounds) (capacity : ℕ) (side : Side) (w : Wired) (m : Machine) (b left : List ℕ) (new : EndState) (happenings : List Happening)
+    (acknowledged : List ℕ) (closed : Option CloseReason) (ps : List Packet) (front rest : List ℕ) (r : Reply) : Type 0 where
   stands : Stands limit capacity w m
   live : is_live (half_of side m).end.state ≡ true
   stream : Stream limit ps front
@@ -129,13 +145,15 @@ record Came (limit : Bounds) (capacity : ℕ) (side : Side) (w : Wired) (m : Mac
   bounds : SameBounds (near side w).state new
   shows : Shows r (near side w).state new happenings acknowledged closed
 
-module _ (limit : Bounds) (capacity : ℕ) (side : Side) (w : Wired) (m : Machine) (b left : List ℕ) (new : EndState) (happenings : List Happening) (acknowledged : List ℕ) (closed : Option CloseReason) (ps : List Packet) (front rest : List ℕ) (r : Reply) where
+module _ (limit : Bounds) (capacity : ℕ) (side : Side) (w : Wired) (m : Machine) (b left : List ℕ) (new : EndState) (happenings : List Happening)
+    (acknowledged : List ℕ) (closed : Option CloseReason) (ps : List Packet) (front rest : List ℕ) (r : Reply) where
   -- what comes of the packets
   abbrev all : Reply
   all = one_by_one (gets side) ps (half_of side m).end
 
   abbrev Whole : Type 0
-  Whole = Delivers limit capacity side m b closed (facing side (hearing left new happenings acknowledged closed (near side w)) (with_more new.output (far side w)))
+  Whole = Delivers limit capacity side m b closed
+      (facing side (hearing left new happenings acknowledged closed (near side w)) (with_more new.output (far side w)))
 
   abbrev Here : Type 0
   Here = Came limit capacity side w m b left new happenings acknowledged closed ps front rest r
@@ -144,12 +162,16 @@ module _ (limit : Bounds) (capacity : ℕ) (side : Side) (w : Wired) (m : Machin
   put_out : Here → Spelled r.out new.output
   put_out c = all_put_out r.out (near side w).state.output new.output (side_near limit capacity side w m c.stands.carries).output c.shows.out
 
-  came : (c : Here) → r ≡ all → (closed ≡ None → Pending limit rest) → (is_live all.end.state ≡ true → Stream limit c.later (new.held ++ left_on closed left)) → Whole
+  came : (c : Here) → r ≡ all → (closed ≡ None → Pending limit rest)
+      → (is_live all.end.state ≡ true → Stream limit c.later (new.held ++ left_on closed left)) → Whole
   came c same pending bytes =
       let x = side_near limit capacity side w m c.stands.carries in
       let moves : List Move = replicate (length ps) (By side Arrives) in
       let run = arrived limit.most capacity side ps c.later m c.queue c.live in
-      let near_side = heard_side limit capacity (near side w) (half_of side m) left new happenings acknowledged closed c.later all x c.bounds (c.shows.after ∙ ap (λ (r : Reply). r.end) same) (c.shows.told ∙ ap (λ (r : Reply). r.happenings) same) (c.shows.freed ∙ ap (λ (r : Reply). r.freed) same) bytes in
+      let near_side =
+      heard_side limit capacity (near side w) (half_of side m) left new happenings acknowledged closed c.later all x c.bounds
+      (c.shows.after ∙ ap (λ (r : Reply). r.end) same) (c.shows.told ∙ ap (λ (r : Reply). r.happenings) same)
+      (c.shows.freed ∙ ap (λ (r : Reply). r.freed) same) bytes in
       record {
         packets = ps;
         moves = moves;
@@ -157,8 +179,13 @@ module _ (limit : Bounds) (capacity : ℕ) (side : Side) (w : Wired) (m : Machin
         later = c.later;
         first = c.queue;
         arrivals = inl refl;
-        fits = λ spans. not_window closed (subst IsOther (sym (c.shows.close ∙ ap (λ (r : Reply). r.close) same)) (fits_all limit.most capacity side m c.stands.reached spans ps c.later (c.queue ∙ kept_live (half_of side m).end.state (ps ++ c.later) c.live)));
-        follows = follows limit capacity side w m moves (hearing left new happenings acknowledged closed (near side w)) (took (half_of side m) c.later all).half all.out new.output c.stands run (subst (λ (r : Reply). Spelled r.out new.output) same (put_out c)) near_side;
+        fits = λ spans. not_window closed
+            (subst IsOther (sym (c.shows.close ∙ ap (λ (r : Reply). r.close) same))
+            (fits_all limit.most capacity side m c.stands.reached spans ps c.later
+            (c.queue ∙ kept_live (half_of side m).end.state (ps ++ c.later) c.live)));
+        follows = follows limit capacity side w m moves (hearing left new happenings acknowledged closed (near side w))
+            (took (half_of side m) c.later all).half all.out new.output c.stands run
+            (subst (λ (r : Reply). Spelled r.out new.output) same (put_out c)) near_side;
       }
 
   -- memory ran out
@@ -168,19 +195,32 @@ module _ (limit : Bounds) (capacity : ℕ) (side : Side) (w : Wired) (m : Machin
       let moves : List Move = replicate (length ps) (By side Arrives) ++ By side Drops ∷ [] in
       let last : Reply = record all { end = over all.end } in
       let h : Half = (took (half_of side m) c.later all).half in
-      let run = lost limit.most capacity side m (replicate (length ps) (By side Arrives)) h (put all.out (other side m)) (arrived limit.most capacity side ps c.later m c.queue c.live) in
-      let why : closed ≡ Some reasons.Memory = c.shows.close ∙ (ap (λ (r : Reply). r.close) same ∙ ap (λ (o : Option CloseReason). first_reason o (Some reasons.Memory)) none) in
-      let out : Spelled all.out new.output = subst (λ (ps : List Packet). Spelled ps new.output) (ap (λ (r : Reply). r.out) same ∙ append-nil all.out) (put_out c) in
-      let near_side = heard_side limit capacity (near side w) (half_of side m) left new happenings acknowledged closed [] last x c.bounds (c.shows.after ∙ ap (λ (r : Reply). r.end) same) (c.shows.told ∙ (ap (λ (r : Reply). r.happenings) same ∙ append-nil all.happenings)) (c.shows.freed ∙ (ap (λ (r : Reply). r.freed) same ∙ append-nil all.freed)) (λ live. cc) in
+      let run = lost limit.most capacity side m (replicate (length ps) (By side Arrives)) h (put all.out (other side m))
+      (arrived limit.most capacity side ps c.later m c.queue c.live) in
+      let why : closed ≡ Some reasons.Memory =
+      c.shows.close ∙ (ap (λ (r : Reply). r.close) same ∙ ap (λ (o : Option CloseReason). first_reason o (Some reasons.Memory)) none) in
+      let out : Spelled all.out new.output =
+      subst (λ (ps : List Packet). Spelled ps new.output) (ap (λ (r : Reply). r.out) same ∙ append-nil all.out) (put_out c) in
+      let near_side =
+      heard_side limit capacity (near side w) (half_of side m) left new happenings acknowledged closed [] last x c.bounds
+      (c.shows.after ∙ ap (λ (r : Reply). r.end) same) (c.shows.told ∙ (ap (λ (r : Reply). r.happenings) same ∙ append-nil all.happenings))
+      (c.shows.freed ∙ (ap (λ (r : Reply). r.freed) same ∙ append-nil all.freed)) (λ live. cc) in
       record {
         packets = ps;
         moves = moves;
-        comes = record { front = front; rest = rest; stream = c.stream; parts = c.parts; all = λ open_still. absurd (some_not reasons.Memory (sym open_still ∙ why)) };
+        comes = record {
+          front = front;
+          rest = rest;
+          stream = c.stream;
+          parts = c.parts;
+          all = λ open_still. absurd (some_not reasons.Memory (sym open_still ∙ why));
+        };
         later = c.later;
         first = c.queue;
         arrivals = inr (why, refl);
         fits = λ spans. not_window closed (subst IsOther (sym why) tt);
-        follows = follows limit capacity side w m moves (hearing left new happenings acknowledged closed (near side w)) (took (half_of side m) [] last).half all.out new.output c.stands run out near_side;
+        follows = follows limit capacity side w m moves (hearing left new happenings acknowledged closed (near side w))
+            (took (half_of side m) [] last).half all.out new.output c.stands run out near_side;
       }
 
   ended : ReadsAgain → ClosingLaws → Here → Ending limit (faulted side) all rest r new.held → Whole
@@ -190,13 +230,18 @@ module _ (limit : Bounds) (capacity : ℕ) (side : Side) (w : Wired) (m : Machin
       came c same (λ n. pending) (λ live. subst P (λ i. (sym held i, sym open_still i)) c.behind)
   ended reads laws c (Closes reason some same held) =
       let why : closed ≡ Some reason = c.shows.close ∙ (ap (λ (r : Reply). r.close) same ∙ some) in
-      came c same (λ n. absurd (some_not reason (sym n ∙ why))) (λ live. absurd (not_live all.end.state (closes_all laws side ps (half_of side m).end reason some) live))
+      came c same (λ n. absurd (some_not reason (sym n ∙ why)))
+      (λ live. absurd (not_live all.end.state (closes_all laws side ps (half_of side m).end reason some) live))
   ended reads laws c (Breaks fault bad none same held) = absurd (no_fault reads limit c.later rest left fault.kind fault.place c.behind bad)
   ended reads laws c (Starves some none same held) = starved c none same
 
-pub deliver : ReadsAgain → ClosingLaws → (limit : Bounds) (capacity : ℕ) (side : Side) (w : Wired) (m : Machine) (piece left : List ℕ) (new : EndState) (happenings : List Happening) (acknowledged : List ℕ) (closed : Option CloseReason) → Stands limit capacity w m
-    → is_live (near side w).state.end.state ≡ true → (near side w).wire ≡ piece ++ left → ReceivesAt side piece (near side w).state new happenings acknowledged closed → SameBounds (near side w).state new
-    → Delivers limit capacity side m ((near side w).state.held ++ piece) closed (facing side (hearing left new happenings acknowledged closed (near side w)) (with_more new.output (far side w)))
+pub deliver : ReadsAgain → ClosingLaws
+    → (limit : Bounds) (capacity : ℕ) (side : Side) (w : Wired) (m : Machine) (piece left : List ℕ) (new : EndState) (happenings : List Happening)
+    (acknowledged : List ℕ) (closed : Option CloseReason) → Stands limit capacity w m
+    → is_live (near side w).state.end.state ≡ true → (near side w).wire ≡ piece ++ left
+    → ReceivesAt side piece (near side w).state new happenings acknowledged closed → SameBounds (near side w).state new
+    → Delivers limit capacity side m ((near side w).state.held ++ piece) closed
+    (facing side (hearing left new happenings acknowledged closed (near side w)) (with_more new.output (far side w)))
 deliver reads laws limit capacity side w m piece left new happenings acknowledged closed k live wire receives bounds =
     let x = side_near limit capacity side w m k.carries in
     let b : List ℕ = (near side w).state.held ++ piece in
@@ -207,7 +252,8 @@ deliver reads laws limit capacity side w m piece left new happenings acknowledge
     let parts : (near side w).state.held ++ (near side w).wire ≡ got.front ++ (got.rest ++ left) =
     ap (λ (q : List ℕ). (near side w).state.held ++ q) wire
     ∙ (sym (append_assoc (near side w).state.held piece left) ∙ (ap (λ (q : List ℕ). q ++ left) got.parts ∙ append_assoc got.front got.rest left)) in
-    let behind = cut reads limit (half_of side m).coming got.packets ((near side w).state.held ++ (near side w).wire) got.front (got.rest ++ left) (x.bytes here) got.stream parts in
+    let behind = cut reads limit (half_of side m).coming got.packets ((near side w).state.held ++ (near side w).wire) got.front (got.rest ++ left)
+    (x.bytes here) got.stream parts in
     ended limit capacity side w m b left new happenings acknowledged closed got.packets got.front got.rest r reads laws
     (record {
       stands = k;

@@ -1,5 +1,6 @@
 -- Exchanges of a world over bytes are those of the machine, and so settling carries over.
-use Rattle.std.proofs.Common.{◌≡◌, ℕ, zero, suc, ◌<◌, true, false, not, ◌&&◌, Option, Some, None, List, [], ◌∷◌, ◌++◌, length, replicate, refl, sym, ap, subst, ◌∙◌, inl, inr}
+use Rattle.std.proofs.Common.{◌≡◌, ℕ, zero, suc, ◌<◌, true, false, not, ◌&&◌, Option, Some, None, List, [], ◌∷◌, ◌++◌, length, replicate, refl, sym}
+use Rattle.std.proofs.Common.{ap, subst, ◌∙◌, inl, inr}
 use Rattle.std.proofs.lemmas.Bool.{cond_both}
 use Rattle.std.proofs.lemmas.List.{append-nil}
 use Rattle.mq_packet.specs.declared.packet.Packet.{Packet}
@@ -62,11 +63,14 @@ moved_quiet side Leaves h k = λ c. refl
 moved_quiet side Pings h k = k
 
 after_quiet : (m : Machine) (move : Move) → Quiet m.client → Quiet m.server → Quiet (after m move).client × Quiet (after m move).server
-after_quiet m (By Client action) c s = (moved_quiet Client action m.client c, joined_quiet m.server.end.state m.server.coming (moved Client action m.client).out s)
-after_quiet m (By Server action) c s = (joined_quiet m.client.end.state m.client.coming (moved Server action m.server).out c, moved_quiet Server action m.server s)
+after_quiet m (By Client action) c s =
+    (moved_quiet Client action m.client c, joined_quiet m.server.end.state m.server.coming (moved Client action m.client).out s)
+after_quiet m (By Server action) c s =
+    (joined_quiet m.client.end.state m.client.coming (moved Server action m.server).out c, moved_quiet Server action m.server s)
 after_quiet m Opens c s = (λ e. refl, λ e. cc)
 
-run_quiet : (limit capacity : ℕ) (m : Machine) (moves : List Move) (v : Machine) → Run limit capacity m moves v → Quiet m.client → Quiet m.server → Quiet v.client × Quiet v.server
+run_quiet : (limit capacity : ℕ) (m : Machine) (moves : List Move) (v : Machine) → Run limit capacity m moves v → Quiet m.client → Quiet m.server
+    → Quiet v.client × Quiet v.server
 run_quiet limit capacity m [] v run c s = subst (λ (u : Machine). Quiet u.client × Quiet u.server) (sym run) (c, s)
 run_quiet limit capacity m (move ∷ moves) v run c s = let k = after_quiet m move c s in run_quiet limit capacity (after m move) moves v run.1 k.0 k.1
 
@@ -92,7 +96,8 @@ arrivals_none : (n : ℕ) (side : Side) (m : Machine) → (half_of side m).comin
 arrivals_none zero side m e = refl
 arrivals_none (suc n) side m e = ap (arrivals n side) (arrives_none side m e) ∙ arrivals_none n side m e
 
-arrivals_both : (ps qs : List Packet) (side : Side) (m : Machine) → arrivals (length (ps ++ qs)) side m ≡ arrivals (length qs) side (arrivals (length ps) side m)
+arrivals_both : (ps qs : List Packet) (side : Side) (m : Machine)
+    → arrivals (length (ps ++ qs)) side m ≡ arrivals (length qs) side (arrivals (length ps) side m)
 arrivals_both [] qs side m = refl
 arrivals_both (p ∷ ps) qs side m = arrivals_both ps qs side (after m (By side Arrives))
 
@@ -102,12 +107,15 @@ run_arrives limit capacity (suc n) side m v run = run_arrives limit capacity n s
 
 -- ---- all the bytes
 
-pub lose_all : (limit : Bounds) (capacity : ℕ) (side : Side) (w : Wired) (m : Machine) → Stands limit capacity w m → is_live (near side w).state.end.state ≡ false → Stands limit capacity (facing side (record (near side w) { wire = [] }) (far side w)) (delivered side m)
+pub lose_all : (limit : Bounds) (capacity : ℕ) (side : Side) (w : Wired) (m : Machine) → Stands limit capacity w m
+    → is_live (near side w).state.end.state ≡ false → Stands limit capacity (facing side (record (near side w) { wire = [] }) (far side w)) (delivered side m)
 lose_all limit capacity side w m k off =
     let x = side_near limit capacity side w m k.carries in
     let closed : (half_of side m).end.state ≡ Closed = dead (half_of side m).end.state (ap (λ (e : End). is_live e.state) (sym x.end) ∙ off) in
-    let none : delivered side m ≡ m = ap (λ (q : List Packet). arrivals (length q) side m) (queue_is side m ∙ reached_quiet limit.most capacity side m k.reached closed) in
-    subst (λ (v : Machine). Stands limit capacity (facing side (record (near side w) { wire = [] }) (far side w)) v) (sym none) (unheard limit capacity side w m [] k off)
+    let none : delivered side m ≡ m =
+    ap (λ (q : List Packet). arrivals (length q) side m) (queue_is side m ∙ reached_quiet limit.most capacity side m k.reached closed) in
+    subst (λ (v : Machine). Stands limit capacity (facing side (record (near side w) { wire = [] }) (far side w)) v) (sym none)
+    (unheard limit capacity side w m [] k off)
   where
     dead : (st : State) → is_live st ≡ false → st ≡ Closed
     dead Closed e = refl
@@ -116,16 +124,22 @@ lose_all limit capacity side w m k off =
 
 faulted_closed : (side : Side) (fault : DecodeFault) (e : End) → (faulted side fault e).end.state ≡ Closed
 faulted_closed Client fault e = refl
-faulted_closed Server fault e = cond_both (not (is_up e.state) && is_level fault.kind) (level_refused e) (closes (reasons.Fault fault) e) (λ r. r.end.state ≡ Closed) (λ t. refl) (λ f. refl)
+faulted_closed Server fault e =
+    cond_both (not (is_up e.state) && is_level fault.kind) (level_refused e) (closes (reasons.Fault fault) e) (λ r. r.end.state ≡ Closed) (λ t. refl)
+    (λ f. refl)
 
 -- an end that closes is closed
-ending_closed : ClosingLaws → (limit : Bounds) (side : Side) (ps : List Packet) (e : End) (rest : List ℕ) (r : Reply) (held : List ℕ) (reason : CloseReason) → r.close ≡ Some reason → Ending limit (faulted side) (one_by_one (gets side) ps e) rest r held → r.end.state ≡ Closed
-ending_closed laws limit side ps e rest r held reason some (Waits pending none same is_held) = absurd (none_some (sym none ∙ (ap (λ (r : Reply). r.close) (sym same) ∙ some)))
+ending_closed : ClosingLaws → (limit : Bounds) (side : Side) (ps : List Packet) (e : End) (rest : List ℕ) (r : Reply) (held : List ℕ)
+    (reason : CloseReason) → r.close ≡ Some reason → Ending limit (faulted side) (one_by_one (gets side) ps e) rest r held → r.end.state ≡ Closed
+ending_closed laws limit side ps e rest r held reason some (Waits pending none same is_held) =
+    absurd (none_some (sym none ∙ (ap (λ (r : Reply). r.close) (sym same) ∙ some)))
   where
     none_some : None ≡ Some reason → ⊥
     none_some e = cc
-ending_closed laws limit side ps e rest r held reason some (Closes why closed same is_held) = ap (λ (r : Reply). r.end.state) same ∙ closes_all laws side ps e why closed
-ending_closed laws limit side ps e rest r held reason some (Breaks fault bad none same is_held) = ap (λ (r : Reply). r.end.state) same ∙ faulted_closed side fault (one_by_one (gets side) ps e).end
+ending_closed laws limit side ps e rest r held reason some (Closes why closed same is_held) =
+    ap (λ (r : Reply). r.end.state) same ∙ closes_all laws side ps e why closed
+ending_closed laws limit side ps e rest r held reason some (Breaks fault bad none same is_held) =
+    ap (λ (r : Reply). r.end.state) same ∙ faulted_closed side fault (one_by_one (gets side) ps e).end
 ending_closed laws limit side ps e rest r held reason some (Starves more none same is_held) = ap (λ (r : Reply). r.end.state) same
 
 -- what is pending has no packet in front
@@ -133,51 +147,74 @@ none_pending : (limit : Bounds) (q : List Packet) (rest : List ℕ) → Stream l
 none_pending limit [] rest s p = refl
 none_pending limit (x ∷ q) rest s p = absurd (p.not_whole x s.0 s.1 s.2 s.4)
 
-module _ (reads : ReadsAgain) (laws : ClosingLaws) (limit : Bounds) (capacity : ℕ) (side : Side) (w : Wired) (m : Machine) (new : EndState) (happenings : List Happening) (acknowledged : List ℕ) where
+module _ (reads : ReadsAgain) (laws : ClosingLaws) (limit : Bounds) (capacity : ℕ) (side : Side) (w : Wired) (m : Machine) (new : EndState)
+    (happenings : List Happening) (acknowledged : List ℕ) where
   abbrev next : Option CloseReason → Wired
   next closed = facing side (hearing [] new happenings acknowledged closed (near side w)) (with_more new.output (far side w))
 
   -- where the end does not close, all packets of the queue came
-  all_came : Stands limit capacity w m → is_live (near side w).state.end.state ≡ true → (d : Delivers limit capacity side m ((near side w).state.held ++ (near side w).wire) None (next None)) → delivered side m ≡ arrivals (length d.packets) side m
+  all_came : Stands limit capacity w m → is_live (near side w).state.end.state ≡ true
+      → (d : Delivers limit capacity side m ((near side w).state.held ++ (near side w).wire) None (next None))
+      → delivered side m ≡ arrivals (length d.packets) side m
   all_came k live d =
       let x = side_near limit capacity side w m k.carries in
       let here : is_live (half_of side m).end.state ≡ true = ap (λ (e : End). is_live e.state) (sym x.end) ∙ live in
-      let behind = cut reads limit (half_of side m).coming d.packets ((near side w).state.held ++ (near side w).wire) d.comes.front d.comes.rest (x.bytes here) d.comes.stream d.comes.parts in
+      let behind = cut reads limit (half_of side m).coming d.packets ((near side w).state.held ++ (near side w).wire) d.comes.front d.comes.rest
+      (x.bytes here) d.comes.stream d.comes.parts in
       let none = none_pending limit behind.0 d.comes.rest behind.2 (d.comes.all refl) in
-      ap (λ (q : List Packet). arrivals (length q) side m) (queue_is side m ∙ (behind.1 ∙ (ap (λ (q : List Packet). d.packets ++ q) none ∙ append-nil d.packets)))
+      ap (λ (q : List Packet). arrivals (length q) side m)
+      (queue_is side m ∙ (behind.1 ∙ (ap (λ (q : List Packet). d.packets ++ q) none ∙ append-nil d.packets)))
 
   -- where it closes, nothing more comes
-  no_more_came : (reason : CloseReason) → new.end.state ≡ Closed → (d : Delivers limit capacity side m ((near side w).state.held ++ (near side w).wire) (Some reason) (next (Some reason))) → d.follows.machine ≡ arrivals (length d.packets) side m → delivered side m ≡ d.follows.machine
+  no_more_came : (reason : CloseReason) → new.end.state ≡ Closed
+      → (d : Delivers limit capacity side m ((near side w).state.held ++ (near side w).wire) (Some reason) (next (Some reason)))
+      → d.follows.machine ≡ arrivals (length d.packets) side m → delivered side m ≡ d.follows.machine
   no_more_came reason closed d is =
       let v : Machine = d.follows.machine in
       let shut : (half_of side v).end.state ≡ Closed = ap (λ (e : End). e.state) (sym (near_end side d.follows.stands)) ∙ closed in
       let quiet : (half_of side v).coming ≡ [] = reached_quiet limit.most capacity side v d.follows.stands.reached shut in
-      ap (λ (q : List Packet). arrivals (length q) side m) (queue_is side m ∙ d.first) ∙ (arrivals_both d.packets d.later side m ∙ (ap (arrivals (length d.later) side) (sym is) ∙ arrivals_none (length d.later) side v quiet))
+      ap (λ (q : List Packet). arrivals (length q) side m) (queue_is side m ∙ d.first) ∙
+      (arrivals_both d.packets d.later side m ∙ (ap (arrivals (length d.later) side) (sym is) ∙ arrivals_none (length d.later) side v quiet))
     where
-      near_end : (side : Side) → Stands limit capacity (facing side (hearing [] new happenings acknowledged (Some reason) (near side w)) (with_more new.output (far side w))) d.follows.machine → new.end ≡ (half_of side d.follows.machine).end
+      near_end : (side : Side) → Stands limit capacity
+          (facing side (hearing [] new happenings acknowledged (Some reason) (near side w)) (with_more new.output (far side w))) d.follows.machine
+          → new.end ≡ (half_of side d.follows.machine).end
       near_end Client k = k.carries.client.end
       near_end Server k = k.carries.server.end
 
   -- the machine made so many arrivals
-  made : (closed : Option CloseReason) → (closed ≡ Some reasons.Memory → ⊥) → (d : Delivers limit capacity side m ((near side w).state.held ++ (near side w).wire) closed (next closed)) → d.follows.machine ≡ arrivals (length d.packets) side m
+  made : (closed : Option CloseReason) → (closed ≡ Some reasons.Memory → ⊥)
+      → (d : Delivers limit capacity side m ((near side w).state.held ++ (near side w).wire) closed (next closed))
+      → d.follows.machine ≡ arrivals (length d.packets) side m
   made closed fed d =
       elim d.arrivals [
-        | inl plain ↦ run_arrives limit.most capacity (length d.packets) side m d.follows.machine (subst (λ (ms : List Move). Run limit.most capacity m ms d.follows.machine) plain d.follows.run)
+        | inl plain ↦
+            run_arrives limit.most capacity (length d.packets) side m d.follows.machine
+            (subst (λ (ms : List Move). Run limit.most capacity m ms d.follows.machine) plain d.follows.run)
         | inr starved ↦ absurd (fed starved.0)
       ]
 
-  came_all : (closed : Option CloseReason) → ReceivesAt side (near side w).wire (near side w).state new happenings acknowledged closed → Stands limit capacity w m → is_live (near side w).state.end.state ≡ true → (closed ≡ Some reasons.Memory → ⊥)
-      → Delivers limit capacity side m ((near side w).state.held ++ (near side w).wire) closed (next closed) → Stands limit capacity (next closed) (delivered side m)
-  came_all None receives k live fed d = subst (λ (v : Machine). Stands limit capacity (next None) v) (made None fed d ∙ sym (all_came k live d)) d.follows.stands
+  came_all : (closed : Option CloseReason) → ReceivesAt side (near side w).wire (near side w).state new happenings acknowledged closed
+      → Stands limit capacity w m → is_live (near side w).state.end.state ≡ true → (closed ≡ Some reasons.Memory → ⊥)
+      → Delivers limit capacity side m ((near side w).state.held ++ (near side w).wire) closed (next closed)
+      → Stands limit capacity (next closed) (delivered side m)
+  came_all None receives k live fed d =
+      subst (λ (v : Machine). Stands limit capacity (next None) v) (made None fed d ∙ sym (all_came k live d)) d.follows.stands
   came_all (Some reason) receives k live fed d =
       let shows = receives.2 in
-      let shut : new.end.state ≡ Closed = ap (λ (e : End). e.state) shows.after ∙ ending_closed laws (near side w).state.limit side receives.1.packets (near side w).state.end receives.1.rest receives.0 new.held reason (sym shows.close) receives.1.ending in
+      let shut : new.end.state ≡ Closed =
+      ap (λ (e : End). e.state) shows.after ∙
+      ending_closed laws (near side w).state.limit side receives.1.packets (near side w).state.end receives.1.rest receives.0 new.held reason
+      (sym shows.close) receives.1.ending in
       subst (λ (v : Machine). Stands limit capacity (next (Some reason)) v) (sym (no_more_came reason shut d (made (Some reason) fed d))) d.follows.stands
 
-  deliver_all : (closed : Option CloseReason) → Stands limit capacity w m → is_live (near side w).state.end.state ≡ true → ReceivesAt side (near side w).wire (near side w).state new happenings acknowledged closed → SameBounds (near side w).state new
+  deliver_all : (closed : Option CloseReason) → Stands limit capacity w m → is_live (near side w).state.end.state ≡ true
+      → ReceivesAt side (near side w).wire (near side w).state new happenings acknowledged closed → SameBounds (near side w).state new
       → (closed ≡ Some reasons.Memory → ⊥) → Stands limit capacity (next closed) (delivered side m)
   deliver_all closed k live receives bounds fed =
-      came_all closed receives k live fed (deliver reads laws limit capacity side w m (near side w).wire [] new happenings acknowledged closed k live (sym (append-nil (near side w).wire)) receives bounds)
+      came_all closed receives k live fed
+      (deliver reads laws limit capacity side w m (near side w).wire [] new happenings acknowledged closed k live
+      (sym (append-nil (near side w).wire)) receives bounds)
 
 -- ---- settling
 
@@ -198,10 +235,12 @@ handed_as x y u v a b h = record {
   each = λ p below. h.each p (subst (λ (l : Accepted). p < length l.at_least_once) a below);
 }
 
-no_bytes_left : (limit : Bounds) (capacity : ℕ) (x : WiredSide) (h : Half) → CarriesSide limit capacity x h → h.end.state ≡ Up → h.coming ≡ [] → x.state.held ++ x.wire ≡ []
+no_bytes_left : (limit : Bounds) (capacity : ℕ) (x : WiredSide) (h : Half) → CarriesSide limit capacity x h → h.end.state ≡ Up → h.coming ≡ []
+    → x.state.held ++ x.wire ≡ []
 no_bytes_left limit capacity x h k up none = subst (λ (q : List Packet). Stream limit q (x.state.held ++ x.wire)) none (k.bytes (ap is_live up))
 
-pub settles : (limit : Bounds) (capacity : ℕ) (w v : Wired) (m : Machine) → IsSpanned capacity w → Stands limit capacity w m → Stands limit capacity v (settled m) → SettledFrom w v
+pub settles : (limit : Bounds) (capacity : ℕ) (w v : Wired) (m : Machine) → IsSpanned capacity w → Stands limit capacity w m
+    → Stands limit capacity v (settled m) → SettledFrom w v
 settles limit capacity w v m spans k s =
     let h = settling limit.most capacity k.reached.0 k.reached.1 m (spans_run limit capacity w m spans k) k.reached.2 in
     let c = s.carries.client in
@@ -219,7 +258,8 @@ settles limit capacity w v m spans k s =
       server_bytes = no_bytes_left limit capacity v.server (settled m).server d h.server_up h.server_queue;
     }
 
-pub second : (limit : Bounds) (capacity : ℕ) (w v : Wired) (m : Machine) → IsSpanned capacity w → Stands limit capacity w m → Stands limit capacity v (exchange (exchange (after m Opens))) → HoldsNothing v
+pub second : (limit : Bounds) (capacity : ℕ) (w v : Wired) (m : Machine) → IsSpanned capacity w → Stands limit capacity w m
+    → Stands limit capacity v (exchange (exchange (after m Opens))) → HoldsNothing v
 second limit capacity w v m spans k s =
     let h = settling limit.most capacity k.reached.0 k.reached.1 m (spans_run limit capacity w m spans k) k.reached.2 in
     record {

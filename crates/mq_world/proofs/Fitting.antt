@@ -1,5 +1,6 @@
 -- A world whose windows are not less than its capacity: no answer tells of a close because of a window.
-use Rattle.std.proofs.Common.{◌≡◌, ◌≢◌, ℕ, Bool, true, false, cond, ◌&&◌, Option, None, Some, Ok, Err, List, [], ◌∷◌, ◌++◌, length, take, drop, refl, sym, ap, subst, ◌∙◌}
+use Rattle.std.proofs.Common.{◌≡◌, ◌≢◌, ℕ, Bool, true, false, cond, ◌&&◌, Option, None, Some, Ok, Err, List, [], ◌∷◌, ◌++◌, length, take, drop, refl}
+use Rattle.std.proofs.Common.{sym, ap, subst, ◌∙◌}
 use Rattle.std.specs.List.{All}
 use Rattle.std.proofs.lemmas.Bool.{cond_both}
 use Rattle.std.proofs.lemmas.List.{take-append-drop}
@@ -40,10 +41,12 @@ kept_windows limit capacity w v m n s t same =
       ap at t.carries.server.end ∙ (same.1 ∙ ap at (sym s.carries.server.end)),
     )
 
-pub have_still : (limit : Bounds) (capacity : ℕ) (window : Option ℕ) (w v : Wired) (m n : Machine) → Stands limit capacity w m → Stands limit capacity v n → SameWindows m n → HaveWindow window w → HaveWindow window v
+pub have_still : (limit : Bounds) (capacity : ℕ) (window : Option ℕ) (w v : Wired) (m n : Machine) → Stands limit capacity w m
+    → Stands limit capacity v n → SameWindows m n → HaveWindow window w → HaveWindow window v
 have_still limit capacity window w v m n s t same h = let k = kept_windows limit capacity w v m n s t same in (k.0 ∙ h.0, k.1 ∙ h.1)
 
-spanned_still : (limit : Bounds) (capacity : ℕ) (w v : Wired) (m n : Machine) → Stands limit capacity w m → Stands limit capacity v n → SameWindows m n → IsSpanned capacity w → IsSpanned capacity v
+spanned_still : (limit : Bounds) (capacity : ℕ) (w v : Wired) (m n : Machine) → Stands limit capacity w m → Stands limit capacity v n
+    → SameWindows m n → IsSpanned capacity w → IsSpanned capacity v
 spanned_still limit capacity w v m n s t same h =
     let k = kept_windows limit capacity w v m n s t same in
     let P : Option ℕ → Type 0 = λ o. Spans o capacity in
@@ -62,20 +65,25 @@ near_spans capacity Server w h = h.1
 abbrev pub IsFitting : Delivery → Type 0
 IsFitting d = d.progress.closed ≢ Some reasons.Window
 
-fits_delivered : (limit : Bounds) (capacity : ℕ) (side : Side) (w v : Wired) (m : Machine) (count : ℕ) (d : Delivery) → Stands limit capacity w m → IsDelivered limit capacity side count d w v → IsSpanned capacity w → IsFitting d
+fits_delivered : (limit : Bounds) (capacity : ℕ) (side : Side) (w v : Wired) (m : Machine) (count : ℕ) (d : Delivery) → Stands limit capacity w m
+    → IsDelivered limit capacity side count d w v → IsSpanned capacity w → IsFitting d
 fits_delivered limit capacity side w v m count d s h spans = live_or_not (is_live (near side w).state.end.state) (IsFitting d)
-    (λ on. (h.arrive on m s).fits (subst (λ (e : End). Spans e.window capacity) (side_near limit capacity side w m s.carries).end (near_spans capacity side w spans)))
+    (λ on. (h.arrive on m s).fits (subst (λ (e : End). Spans e.window capacity) (side_near limit capacity side w m s.carries).end
+    (near_spans capacity side w spans)))
     (λ off. not_window d.progress.closed (subst IsOther (sym (h.ignores off).closed) tt))
 
-fits_turned : OverBytes → (limit : Bounds) (capacity : ℕ) (sides : List Side) (ds : List Delivery) (u v : Wired) (m : Machine) → Stands limit capacity u m → InTurn limit capacity sides ds u v → IsSpanned capacity u → All IsFitting ds
+fits_turned : OverBytes → (limit : Bounds) (capacity : ℕ) (sides : List Side) (ds : List Delivery) (u v : Wired) (m : Machine)
+    → Stands limit capacity u m → InTurn limit capacity sides ds u v → IsSpanned capacity u → All IsFitting ds
 fits_turned law limit capacity [] [] u v m s h spans = All-nil IsFitting
 fits_turned law limit capacity (side ∷ sides) (d ∷ ds) u v m s h spans =
     let g = stands_delivered law limit capacity side u h.0 m (length (near side u).wire) d s h.1 in
-    All-cons IsFitting d ds (fits_delivered limit capacity side u h.0 m (length (near side u).wire) d s h.1 spans) (fits_turned law limit capacity sides ds h.0 v g.0 g.1 h.2 (spanned_still limit capacity u h.0 m g.0 s g.1 g.2 spans))
+    All-cons IsFitting d ds (fits_delivered limit capacity side u h.0 m (length (near side u).wire) d s h.1 spans)
+    (fits_turned law limit capacity sides ds h.0 v g.0 g.1 h.2 (spanned_still limit capacity u h.0 m g.0 s g.1 g.2 spans))
 fits_turned law limit capacity [] (d ∷ ds) u v m s h spans = absurd h
 fits_turned law limit capacity (side ∷ sides) [] u v m s h spans = absurd h
 
-pub fits_settled : OverBytes → (limit : Bounds) (capacity : ℕ) (w v : Wired) (m : Machine) (s : Settling) → Stands limit capacity w m → IsSettled limit capacity s w v → IsSpanned capacity w → All IsFitting s.deliveries
+pub fits_settled : OverBytes → (limit : Bounds) (capacity : ℕ) (w v : Wired) (m : Machine) (s : Settling) → Stands limit capacity w m
+    → IsSettled limit capacity s w v → IsSpanned capacity w → All IsFitting s.deliveries
 fits_settled law limit capacity w v m s t h spans =
     let g = stands_opened limit capacity w h.between m s.opening t h.opened in
     let one = spanned_still limit capacity w h.between m g.0 t g.1 g.2 spans in
@@ -89,9 +97,12 @@ fits_settled law limit capacity w v m s t h spans =
 
 time_other : (side : Side) (now : ℕ) (s : EndState) → IsOther (time_closes side now s)
 time_other Client now s = tt
-time_other Server now s = cond_both (is_up s.end.state && is_late s.moment s.end.keep_alive now) (closes reasons.KeepAlive s.end) (silent s.end) (λ (r : Reply). IsOther r.close) (λ t. tt) (λ f. tt)
+time_other Server now s =
+    cond_both (is_up s.end.state && is_late s.moment s.end.keep_alive now) (closes reasons.KeepAlive s.end) (silent s.end)
+    (λ (r : Reply). IsOther r.close) (λ t. tt) (λ f. tt)
 
-pub fits_done : (limit : Bounds) (capacity : ℕ) (event : Event) (answer : Answer) (w v : Wired) (m : Machine) → Stands limit capacity w m → Does limit capacity event answer w v → IsSpanned capacity w → IsNeverFull answer
+pub fits_done : (limit : Bounds) (capacity : ℕ) (event : Event) (answer : Answer) (w v : Wired) (m : Machine) → Stands limit capacity w m
+    → Does limit capacity event answer w v → IsSpanned capacity w → IsNeverFull answer
 fits_done limit capacity event (answers.Published at r) w v m s h spans = tt
 fits_done limit capacity event (answers.Dropped at b) w v m s h spans = tt
 fits_done limit capacity event (answers.Left r) w v m s h spans = tt
@@ -102,7 +113,8 @@ fits_done limit capacity (events.Drop side) (answers.Delivered d) w v m s h span
 fits_done limit capacity events.Leave (answers.Delivered d) w v m s h spans = absurd h
 fits_done limit capacity events.Open (answers.Delivered d) w v m s h spans = absurd h
 fits_done limit capacity (events.Tick side more) (answers.Delivered d) w v m s h spans = absurd h
-fits_done limit capacity (events.Tick side more) (answers.Ticked at (Ok closed)) w v m s h spans = not_window closed (subst IsOther (sym h.1.closes) (time_other side (later (near side w).clock more) (near side w).state))
+fits_done limit capacity (events.Tick side more) (answers.Ticked at (Ok closed)) w v m s h spans =
+    not_window closed (subst IsOther (sym h.1.closes) (time_other side (later (near side w).clock more) (near side w).state))
 fits_done limit capacity (events.Publish side message) (answers.Ticked at (Ok closed)) w v m s h spans = absurd h
 fits_done limit capacity (events.Deliver side count) (answers.Ticked at (Ok closed)) w v m s h spans = absurd h
 fits_done limit capacity (events.Drop side) (answers.Ticked at (Ok closed)) w v m s h spans = absurd h

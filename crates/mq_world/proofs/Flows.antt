@@ -32,15 +32,19 @@ use Rattle.mq_world.proofs.Both.{IsSent, IsHeld, Both, finish, upon, once_of, on
 abbrev pub Keeps : ℕ → Half → List Packet → Half → Reply → Type 0
 Keeps capacity x rest y r = Both capacity (took x rest r).half (put r.out y)
 
-closes_keeps : (capacity : ℕ) (h y : Half) (p : Packet) (rest : List Packet) → Both capacity (upon h Up (p ∷ rest)) y → Keeps capacity (upon h Up (p ∷ rest)) rest y (closes reasons.Unexpected (upon h Up (p ∷ rest)).end)
+closes_keeps : (capacity : ℕ) (h y : Half) (p : Packet) (rest : List Packet) → Both capacity (upon h Up (p ∷ rest)) y
+    → Keeps capacity (upon h Up (p ∷ rest)) rest y (closes reasons.Unexpected (upon h Up (p ∷ rest)).end)
 closes_keeps capacity h y p rest b = close_keeps capacity h y Up (p ∷ rest) rest [] None refl refl tt b
 
 -- ---- PUBLISH
 
-publish_0 : (capacity : ℕ) (h y : Half) (m : Message) (rest : List Packet) → Both capacity (upon h Up (packets.Publish (record { message = record m { qos = Q0 }; delivery = None }) ∷ rest)) y
-    → Keeps capacity (upon h Up (packets.Publish (record { message = record m { qos = Q0 }; delivery = None }) ∷ rest)) rest y (publish_gets Q0 None (record m { qos = Q0 }) (upon h Up rest).end)
+publish_0 : (capacity : ℕ) (h y : Half) (m : Message) (rest : List Packet)
+    → Both capacity (upon h Up (packets.Publish (record { message = record m { qos = Q0 }; delivery = None }) ∷ rest)) y
+    → Keeps capacity (upon h Up (packets.Publish (record { message = record m { qos = Q0 }; delivery = None }) ∷ rest)) rest y
+    (publish_gets Q0 None (record m { qos = Q0 }) (upon h Up rest).end)
 publish_0 capacity h y m rest b =
-    finish capacity _ y (took (upon h Up rest) rest (publish_gets Q0 None (record m { qos = Q0 }) (upon h Up rest).end)).half [] (answers y.coming) (flight y.coming) (same_answers y.end.state y.coming [] refl) (same_flight y.end.state y.coming [] refl)
+    finish capacity _ y (took (upon h Up rest) rest (publish_gets Q0 None (record m { qos = Q0 }) (upon h Up rest).end)).half [] (answers y.coming)
+    (flight y.coming) (same_answers y.end.state y.coming [] refl) (same_flight y.end.state y.coming [] refl)
     b.to_y
     (b.to_x.0, b.to_x.1, zeroth_takes _ _ _ (record m { qos = Q0 }) b.to_x.2)
     b.own_x
@@ -49,11 +53,17 @@ publish_0 capacity h y m rest b =
     tt
     b
 
-publish_1 : (capacity : ℕ) (h y : Half) (m : Message) (d : Delivery) (rest : List Packet) → Both capacity (upon h Up (packets.Publish (record { message = record m { qos = Q1 }; delivery = Some d }) ∷ rest)) y
-    → Keeps capacity (upon h Up (packets.Publish (record { message = record m { qos = Q1 }; delivery = Some d }) ∷ rest)) rest y (publish_gets Q1 (Some d) (record m { qos = Q1 }) (upon h Up rest).end)
+publish_1 : (capacity : ℕ) (h y : Half) (m : Message) (d : Delivery) (rest : List Packet)
+    → Both capacity (upon h Up (packets.Publish (record { message = record m { qos = Q1 }; delivery = Some d }) ∷ rest)) y
+    → Keeps capacity (upon h Up (packets.Publish (record { message = record m { qos = Q1 }; delivery = Some d }) ∷ rest)) rest y
+    (publish_gets Q1 (Some d) (record m { qos = Q1 }) (upon h Up rest).end)
 publish_1 capacity h y m d rest b =
     finish capacity _ y (took (upon h Up rest) rest (publish_gets Q1 (Some d) (record m { qos = Q1 }) (upon h Up rest).end)).half (packets.PubAck d.id ∷ [])
-    (record { rec = (answers y.coming).rec; comp = (answers y.coming).comp; ack = joined y.end.state (answers y.coming).ack (d.id ∷ []) }) (flight y.coming)
+    (record {
+      pubrecs = (answers y.coming).pubrecs;
+      pubcomps = (answers y.coming).pubcomps;
+      pubacks = joined y.end.state (answers y.coming).pubacks (d.id ∷ []);
+    }) (flight y.coming)
     (puback_joins y.end.state y.coming d.id) (same_flight y.end.state y.coming (packets.PubAck d.id ∷ []) refl)
     b.to_y
     (b.to_x.0, first.takes_publish d.id (record m { qos = Q1 }) b.to_x.1, b.to_x.2)
@@ -63,16 +73,29 @@ publish_1 capacity h y m d rest b =
     (tt, tt)
     b
 
-publish_2 : (capacity : ℕ) (h y : Half) (m : Message) (d : Delivery) (rest : List Packet) → Both capacity (upon h Up (packets.Publish (record { message = record m { qos = Q2 }; delivery = Some d }) ∷ rest)) y
-    → Keeps capacity (upon h Up (packets.Publish (record { message = record m { qos = Q2 }; delivery = Some d }) ∷ rest)) rest y (stores d.id (record m { qos = Q2 }) (upon h Up rest).end)
+publish_2 : (capacity : ℕ) (h y : Half) (m : Message) (d : Delivery) (rest : List Packet)
+    → Both capacity (upon h Up (packets.Publish (record { message = record m { qos = Q2 }; delivery = Some d }) ∷ rest)) y
+    → Keeps capacity (upon h Up (packets.Publish (record { message = record m { qos = Q2 }; delivery = Some d }) ∷ rest)) rest y
+    (stores d.id (record m { qos = Q2 }) (upon h Up rest).end)
 publish_2 capacity h y m d rest b = by_set (FinSet.contains h.end.received d.id) refl
   where
-    by_set : (t : Bool) → FinSet.contains h.end.received d.id ≡ t → Keeps capacity (upon h Up (packets.Publish (record { message = record m { qos = Q2 }; delivery = Some d }) ∷ rest)) rest y
-        (record { end = record (upon h Up rest).end { received = FinSet.insert h.end.received d.id }; out = packets.PubRec d.id ∷ []; happenings = cond (not t) (happens.Handed (record m { qos = Q2 }) ∷ []) []; freed = []; close = None })
+    by_set : (t : Bool) → FinSet.contains h.end.received d.id ≡ t
+        → Keeps capacity (upon h Up (packets.Publish (record { message = record m { qos = Q2 }; delivery = Some d }) ∷ rest)) rest y
+        (record {
+          end = record (upon h Up rest).end { received = FinSet.insert h.end.received d.id };
+          out = packets.PubRec d.id ∷ [];
+          happenings = cond (not t) (happens.Handed (record m { qos = Q2 }) ∷ []) [];
+          freed = [];
+          close = None;
+        })
     by_set true e =
         finish capacity (upon h Up (packets.Publish (record { message = record m { qos = Q2 }; delivery = Some d }) ∷ rest)) y
         (record h { end = record h.end { state = Up; clean = false; received = FinSet.insert h.end.received d.id }; coming = rest }) (packets.PubRec d.id ∷ [])
-        (record { rec = joined y.end.state (answers y.coming).rec (d.id ∷ []); comp = (answers y.coming).comp; ack = (answers y.coming).ack }) (flight y.coming)
+        (record {
+          pubrecs = joined y.end.state (answers y.coming).pubrecs (d.id ∷ []);
+          pubcomps = (answers y.coming).pubcomps;
+          pubacks = (answers y.coming).pubacks;
+        }) (flight y.coming)
         (pubrec_joins y.end.state y.coming d.id) (same_flight y.end.state y.coming (packets.PubRec d.id ∷ []) refl)
         b.to_y
         (second.takes_publish d.id (record m { qos = Q2 }) b.to_x.0 (once_of capacity y.end.book b.own_y.0) true e, b.to_x.1, b.to_x.2)
@@ -83,8 +106,16 @@ publish_2 capacity h y m d rest b = by_set (FinSet.contains h.end.received d.id)
         b
     by_set false e =
         finish capacity (upon h Up (packets.Publish (record { message = record m { qos = Q2 }; delivery = Some d }) ∷ rest)) y
-        (record h { end = record h.end { state = Up; clean = false; received = FinSet.insert h.end.received d.id }; coming = rest; handed = record h.handed { exactly_once = h.handed.exactly_once ++ record m { qos = Q2 } ∷ [] } }) (packets.PubRec d.id ∷ [])
-        (record { rec = joined y.end.state (answers y.coming).rec (d.id ∷ []); comp = (answers y.coming).comp; ack = (answers y.coming).ack }) (flight y.coming)
+        (record h {
+          end = record h.end { state = Up; clean = false; received = FinSet.insert h.end.received d.id };
+          coming = rest;
+          handed = record h.handed { exactly_once = h.handed.exactly_once ++ record m { qos = Q2 } ∷ [] };
+        }) (packets.PubRec d.id ∷ [])
+        (record {
+          pubrecs = joined y.end.state (answers y.coming).pubrecs (d.id ∷ []);
+          pubcomps = (answers y.coming).pubcomps;
+          pubacks = (answers y.coming).pubacks;
+        }) (flight y.coming)
         (pubrec_joins y.end.state y.coming d.id) (same_flight y.end.state y.coming (packets.PubRec d.id ∷ []) refl)
         b.to_y
         (second.takes_publish d.id (record m { qos = Q2 }) b.to_x.0 (once_of capacity y.end.book b.own_y.0) false e, b.to_x.1, b.to_x.2)
@@ -94,12 +125,15 @@ publish_2 capacity h y m d rest b = by_set (FinSet.contains h.end.received d.id)
         (tt, tt)
         b
 
-publish_keeps : (capacity : ℕ) (h y : Half) (q : Qos) (d : Option Delivery) (m : Message) (rest : List Packet) → Both capacity (upon h Up (packets.Publish (record { message = record m { qos = q }; delivery = d }) ∷ rest)) y
-    → Keeps capacity (upon h Up (packets.Publish (record { message = record m { qos = q }; delivery = d }) ∷ rest)) rest y (publish_gets q d (record m { qos = q }) (upon h Up rest).end)
+publish_keeps : (capacity : ℕ) (h y : Half) (q : Qos) (d : Option Delivery) (m : Message) (rest : List Packet)
+    → Both capacity (upon h Up (packets.Publish (record { message = record m { qos = q }; delivery = d }) ∷ rest)) y
+    → Keeps capacity (upon h Up (packets.Publish (record { message = record m { qos = q }; delivery = d }) ∷ rest)) rest y
+    (publish_gets q d (record m { qos = q }) (upon h Up rest).end)
 publish_keeps capacity h y Q0 None m rest b = publish_0 capacity h y m rest b
 publish_keeps capacity h y Q1 (Some d) m rest b = publish_1 capacity h y m d rest b
 publish_keeps capacity h y Q2 (Some d) m rest b =
-    cond_both (fits_window h.end.window d.id h.end.received) (stores d.id (record m { qos = Q2 }) (upon h Up rest).end) (closes reasons.Window (upon h Up rest).end)
+    cond_both (fits_window h.end.window d.id h.end.received) (stores d.id (record m { qos = Q2 }) (upon h Up rest).end)
+    (closes reasons.Window (upon h Up rest).end)
     (Keeps capacity (upon h Up (packets.Publish (record { message = record m { qos = Q2 }; delivery = Some d }) ∷ rest)) rest y)
     (λ t. publish_2 capacity h y m d rest b)
     (λ f. close_keeps capacity h y Up (packets.Publish (record { message = record m { qos = Q2 }; delivery = Some d }) ∷ rest) rest [] None refl refl tt b)
@@ -115,19 +149,34 @@ puback_keeps capacity h y i rest b =
           let book : SenderBook = h.end.book in
           let es : List Entry = book.entries in
           let waits : is_awaited Q1 i es ≡ true = subst (λ (k : ℕ). is_awaited Q1 k es ≡ true) same (first_awaited Q1 es a later b.own_x.1 split) in
-          let counted : times i (ids (held Q1 es)) ≡ times i (i ∷ ids later) = ap (λ (q : List (ℕ × Message)). times i (ids q)) split ∙ ap (λ (k : ℕ). times i (k ∷ ids later)) same in
+          let counted : times i (ids (held Q1 es)) ≡ times i (i ∷ ids later) =
+          ap (λ (q : List (ℕ × Message)). times i (ids q)) split ∙ ap (λ (k : ℕ). times i (k ∷ ids later)) same in
           let one = times_same i (ids later) in
           let far = apart capacity book b.own_x.0 i in
           let left_1 : held Q1 (without_entry i es) ≡ later = held_without Q1 i es ∙ (ap (without_pair i) split ∙ pair_first i a later same (omega arith)) in
           let left_2 : held Q2 (without_entry i es) ≡ held Q2 es = held_without Q2 i es ∙ pair_absent i (held Q2 es) (omega arith) in
           let P : Bool → Type 0 = λ t. Keeps capacity (upon h Up (packets.PubAck i ∷ rest)) rest y
-          (record { end = record (upon h Up rest).end { book = record book { entries = cond t (without_entry i es) es } }; out = []; happenings = []; freed = cond t (i ∷ []) []; close = None }) in
+          (record {
+            end = record (upon h Up rest).end { book = record book { entries = cond t (without_entry i es) es } };
+            out = [];
+            happenings = [];
+            freed = cond t (i ∷ []) [];
+            close = None;
+          }) in
           subst P (sym waits)
           (finish capacity (upon h Up (packets.PubAck i ∷ rest)) y
-          (record h { end = record h.end { state = Up; clean = false; book = record book { entries = without_entry i es } }; coming = rest; freed = h.freed ++ last_place i h.accepted.at_least_once ∷ [] }) []
+          (record h {
+            end = record h.end { state = Up; clean = false; book = record book { entries = without_entry i es } };
+            coming = rest;
+            freed = h.freed ++ last_place i h.accepted.at_least_once ∷ [];
+          }) []
           (answers y.coming) (flight y.coming) (same_answers y.end.state y.coming [] refl) (same_flight y.end.state y.coming [] refl) (
-            subst (λ (E : List (ℕ × Message)). Second Up y.end.state E book.released y.end.received (answers rest).rec (answers rest).comp (flight y.coming).pub2 (flight y.coming).rel h.accepted.exactly_once y.handed.exactly_once) (sym left_2) b.to_y.0,
-            subst (λ (E : List (ℕ × Message)). First Up y.end.state E (answers rest).ack (flight y.coming).pub1 h.accepted.at_least_once y.handed.at_least_once (h.freed ++ last_place i h.accepted.at_least_once ∷ [])) (sym left_1) now,
+            subst (λ (entries_now : List (ℕ × Message)). Second Up y.end.state entries_now book.released y.end.received (answers rest).pubrecs
+                (answers rest).pubcomps (flight y.coming).publishes_2
+                (flight y.coming).pubrels h.accepted.exactly_once y.handed.exactly_once) (sym left_2) b.to_y.0,
+            subst (λ (entries_now : List (ℕ × Message)). First Up y.end.state entries_now (answers rest).pubacks
+                (flight y.coming).publishes_1 h.accepted.at_least_once y.handed.at_least_once
+                (h.freed ++ last_place i h.accepted.at_least_once ∷ [])) (sym left_1) now,
             b.to_y.2,
           )
           b.to_x (
@@ -151,24 +200,55 @@ pubrec_keeps capacity h y i rest b =
           let book : SenderBook = h.end.book in
           let es : List Entry = book.entries in
           let waits : is_awaited Q2 i es ≡ true = subst (λ (k : ℕ). is_awaited Q2 k es ≡ true) same (first_awaited Q2 es a later b.own_x.1 split) in
-          let counted : times i (ids (held Q2 es)) ≡ times i (i ∷ ids later) = ap (λ (q : List (ℕ × Message)). times i (ids q)) split ∙ ap (λ (k : ℕ). times i (k ∷ ids later)) same in
+          let counted : times i (ids (held Q2 es)) ≡ times i (i ∷ ids later) =
+          ap (λ (q : List (ℕ × Message)). times i (ids q)) split ∙ ap (λ (k : ℕ). times i (k ∷ ids later)) same in
           let one = times_same i (ids later) in
           let far = apart capacity book b.own_x.0 i in
           let left_2 : held Q2 (without_entry i es) ≡ later = held_without Q2 i es ∙ (ap (without_pair i) split ∙ pair_first i a later same (omega arith)) in
           let left_1 : held Q1 (without_entry i es) ≡ held Q1 es = held_without Q1 i es ∙ pair_absent i (held Q1 es) (omega arith) in
           let P : Bool → Type 0 = λ t. Keeps capacity (upon h Up (packets.PubRec i ∷ rest)) rest y
-          (record { end = record (upon h Up rest).end { book = record book { entries = cond t (without_entry i es) es; released = cond t (book.released ++ i ∷ []) book.released } }; out = cond t (packets.PubRel i ∷ []) []; happenings = []; freed = []; close = None }) in
+          (record {
+            end =
+                record (upon h Up rest).end {
+                  book =
+                      record book {
+                        entries = cond t (without_entry i es) es;
+                        released = cond t
+                            (book.released ++ i ∷ []) book.released;
+                      };
+                };
+            out = cond t (packets.PubRel i ∷ []) [];
+            happenings = [];
+            freed = [];
+            close = None;
+          }) in
           subst P (sym waits)
           (finish capacity (upon h Up (packets.PubRec i ∷ rest)) y
-          (record h { end = record h.end { state = Up; clean = false; book = record book { entries = without_entry i es; released = book.released ++ i ∷ [] } }; coming = rest }) (packets.PubRel i ∷ [])
-          (answers y.coming) (record { pub2 = (flight y.coming).pub2; pub1 = (flight y.coming).pub1; rel = joined y.end.state (flight y.coming).rel (i ∷ []); msg = (flight y.coming).msg })
+          (record h {
+            end =
+                record h.end { state = Up; clean = false; book = record book { entries = without_entry i es; released = book.released ++ i ∷ [] } };
+            coming = rest;
+          }) (packets.PubRel i ∷ [])
+          (answers y.coming) (record {
+            publishes_2 = (flight y.coming).publishes_2;
+            publishes_1 = (flight y.coming).publishes_1;
+            pubrels = joined y.end.state (flight y.coming).pubrels (i ∷ []);
+            messages_0 = (flight y.coming).messages_0;
+          })
           (same_answers y.end.state y.coming (packets.PubRel i ∷ []) refl) (pubrel_joins y.end.state y.coming i) (
-            subst (λ (E : List (ℕ × Message)). Second Up y.end.state E (book.released ++ i ∷ []) y.end.received (answers rest).rec (answers rest).comp (flight y.coming).pub2 (joined y.end.state (flight y.coming).rel (i ∷ [])) h.accepted.exactly_once y.handed.exactly_once) (sym left_2) now,
-            subst (λ (E : List (ℕ × Message)). First Up y.end.state E (answers rest).ack (flight y.coming).pub1 h.accepted.at_least_once y.handed.at_least_once h.freed) (sym left_1) b.to_y.1,
+            subst (λ (entries_now : List (ℕ × Message)). Second Up y.end.state entries_now (book.released ++ i ∷ []) y.end.received
+                (answers rest).pubrecs (answers rest).pubcomps (flight y.coming).publishes_2
+                (joined y.end.state (flight y.coming).pubrels (i ∷ [])) h.accepted.exactly_once y.handed.exactly_once) (sym left_2) now,
+            subst (λ (entries_now : List (ℕ × Message)). First Up y.end.state entries_now (answers rest).pubacks
+                (flight y.coming).publishes_1 h.accepted.at_least_once y.handed.at_least_once h.freed) (sym left_1) b.to_y.1,
             b.to_y.2,
           )
           b.to_x (
-            subst (λ (t : Bool). IsSound capacity (record book { entries = cond t (without_entry i es) es; released = cond t (book.released ++ i ∷ []) book.released })) waits (books.pubrec capacity i book b.own_x.0),
+            subst (λ (t : Bool). IsSound capacity
+                (record book {
+                  entries = cond t (without_entry i es) es;
+                  released = cond t (book.released ++ i ∷ []) book.released;
+                })) waits (books.pubrec capacity i book b.own_x.0),
             each_filter IsSent _ es b.own_x.1,
             each_filter IsHeld _ es b.own_x.2,
           )
@@ -185,7 +265,11 @@ pubrel_keeps : (capacity : ℕ) (h y : Half) (i : ℕ) (rest : List Packet) → 
 pubrel_keeps capacity h y i rest b =
     finish capacity (upon h Up (packets.PubRel i ∷ rest)) y
     (record h { end = record h.end { state = Up; clean = false; received = FinSet.remove h.end.received i }; coming = rest }) (packets.PubComp i ∷ [])
-    (record { rec = (answers y.coming).rec; comp = joined y.end.state (answers y.coming).comp (i ∷ []); ack = (answers y.coming).ack }) (flight y.coming)
+    (record {
+      pubrecs = (answers y.coming).pubrecs;
+      pubcomps = joined y.end.state (answers y.coming).pubcomps (i ∷ []);
+      pubacks = (answers y.coming).pubacks;
+    }) (flight y.coming)
     (pubcomp_joins y.end.state y.coming i) (same_flight y.end.state y.coming (packets.PubComp i ∷ []) refl)
     b.to_y
     (second.takes_pubrel i b.to_x.0 (once_of capacity y.end.book b.own_y.0), b.to_x.1, b.to_x.2)
@@ -211,7 +295,8 @@ pubcomp_keeps capacity h y i rest b =
           finish capacity (upon h Up (packets.PubComp i ∷ rest)) y
           (record h { end = record h.end { state = Up; clean = false; book = record book { released = without i book.released } }; coming = rest }) []
           (answers y.coming) (flight y.coming) (same_answers y.end.state y.coming [] refl) (same_flight y.end.state y.coming [] refl) (
-            subst (λ (L : List ℕ). Second Up y.end.state (held Q2 book.entries) L y.end.received (answers rest).rec (answers rest).comp (flight y.coming).pub2 (flight y.coming).rel h.accepted.exactly_once y.handed.exactly_once) (sym left) now,
+            subst (λ (released_now : List ℕ). Second Up y.end.state (held Q2 book.entries) released_now y.end.received (answers rest).pubrecs
+                (answers rest).pubcomps (flight y.coming).publishes_2 (flight y.coming).pubrels h.accepted.exactly_once y.handed.exactly_once) (sym left) now,
             b.to_y.1,
             b.to_y.2,
           )
@@ -225,7 +310,8 @@ pubcomp_keeps capacity h y i rest b =
 
 -- ---- any packet of a flow
 
-pub flow_keeps : (capacity : ℕ) (h y : Half) (p : Packet) (rest : List Packet) → Both capacity (upon h Up (p ∷ rest)) y → Keeps capacity (upon h Up (p ∷ rest)) rest y (flow_gets p (upon h Up (p ∷ rest)).end)
+pub flow_keeps : (capacity : ℕ) (h y : Half) (p : Packet) (rest : List Packet) → Both capacity (upon h Up (p ∷ rest)) y
+    → Keeps capacity (upon h Up (p ∷ rest)) rest y (flow_gets p (upon h Up (p ∷ rest)).end)
 flow_keeps capacity h y (packets.Publish p) rest b = publish_keeps capacity h y p.message.qos p.delivery p.message rest b
 flow_keeps capacity h y (packets.PubAck i) rest b = puback_keeps capacity h y i rest b
 flow_keeps capacity h y (packets.PubRec i) rest b = pubrec_keeps capacity h y i rest b

@@ -1,5 +1,6 @@
 -- The entries of a book, by quality of service.
-use Rattle.std.proofs.Common.{◌≡◌, ℕ, ◌+◌, ◌≤◌, Bool, true, false, cond, not, ◌&&◌, ◌||◌, eqb, List, [], ◌∷◌, ◌++◌, map, filter, refl, sym, ap, subst, ◌∙◌, arith, inl, inr}
+use Rattle.std.proofs.Common.{◌≡◌, ℕ, ◌+◌, ◌≤◌, Bool, true, false, cond, not, ◌&&◌, ◌||◌, eqb, List, [], ◌∷◌, ◌++◌, map, filter, refl, sym, ap, subst}
+use Rattle.std.proofs.Common.{◌∙◌, arith, inl, inr}
 use Rattle.std.proofs.lemmas.Bool.{cases_eq, ne_eqb, cond_both}
 use Rattle.std.proofs.lemmas.List.{map-append}
 use Rattle.std.proofs.lemmas.List.Elements.{filter-append}
@@ -100,24 +101,27 @@ times_held i (e ∷ es) =
     let h = times_held i es in
     let F1 : List Entry = filter (λ e. same_qos Q1 e.message.qos) es in
     let F2 : List Entry = filter (λ e. same_qos Q2 e.message.qos) es in
-    elim e.message.qos as (λ q. times i (ids (map f (cond (same_qos Q1 q) (e ∷ F1) F1))) + times i (ids (map f (cond (same_qos Q2 q) (e ∷ F2) F2))) ≤ times i (e.id ∷ map (λ e. e.id) es)) [
+    elim e.message.qos as (λ q. times i (ids (map f (cond (same_qos Q1 q) (e ∷ F1) F1))) + times i
+    (ids (map f (cond (same_qos Q2 q) (e ∷ F2) F2))) ≤ times i (e.id ∷ map (λ e. e.id) es)) [
       | Q0 ↦ omega arith
       | Q1 ↦ omega arith
       | Q2 ↦ omega arith
     ]
 
 -- the first one that is held is awaited, where all were sent
-pub first_awaited : (q : Qos) (es : List Entry) (a : ℕ × Message) (later : List (ℕ × Message)) → Each (λ (e : Entry). e.sent ≡ true) es → held q es ≡ a ∷ later → is_awaited q a.0 es ≡ true
+pub first_awaited : (q : Qos) (es : List Entry) (a : ℕ × Message) (later : List (ℕ × Message)) → Each (λ (e : Entry). e.sent ≡ true) es
+    → held q es ≡ a ∷ later → is_awaited q a.0 es ≡ true
 first_awaited q [] a later s h = absurd (empty_not a later h)
   where
     empty_not : (a : ℕ × Message) (later : List (ℕ × Message)) → [] ≡ a ∷ later → ⊥
     empty_not a later h = cc
 first_awaited q (e ∷ es) a later s h =
     let f : Entry → ℕ × Message = λ e. (e.id, e.message) in
-    let F : List Entry = filter (λ e. same_qos q e.message.qos) es in
+    let those : List Entry = filter (λ e. same_qos q e.message.qos) es in
     at (same_qos q e.message.qos) (λ g. first_awaited q es a later s.1 g) h
   where
-    at : (t : Bool) → (held q es ≡ a ∷ later → is_awaited q a.0 es ≡ true) → map (λ e. (e.id, e.message)) (cond t (e ∷ filter (λ e. same_qos q e.message.qos) es) (filter (λ e. same_qos q e.message.qos) es)) ≡ a ∷ later
+    at : (t : Bool) → (held q es ≡ a ∷ later → is_awaited q a.0 es ≡ true)
+        → map (λ e. (e.id, e.message)) (cond t (e ∷ filter (λ e. same_qos q e.message.qos) es) (filter (λ e. same_qos q e.message.qos) es)) ≡ a ∷ later
         → (t && (eqb e.id a.0 && e.sent)) || is_awaited q a.0 es ≡ true
     at true next h =
         let id : e.id ≡ a.0 = head_id e.id e.message (held q es) a later h in

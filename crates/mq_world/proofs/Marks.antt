@@ -49,7 +49,8 @@ publish_known : (q : Qos) (d : Option Delivery) (m : Message) (h : Half) (st : S
 publish_known Q0 None m h st = refl
 publish_known Q1 (Some d) m h st = refl
 publish_known Q2 (Some d) m h st =
-    cond_both (fits_window h.end.window d.id h.end.received) (stores d.id m (upon h st []).end) (closes reasons.Window (upon h st []).end) (λ r. r.end.known ≡ h.end.known) (λ t. refl) (λ f. refl)
+    cond_both (fits_window h.end.window d.id h.end.received) (stores d.id m (upon h st []).end) (closes reasons.Window (upon h st []).end)
+    (λ r. r.end.known ≡ h.end.known) (λ t. refl) (λ f. refl)
 publish_known q d m h st = refl
 
 flow_known : (p : Packet) (h : Half) (st : State) → (flow_gets p (upon h st []).end).end.known ≡ h.end.known
@@ -67,9 +68,11 @@ client_open_known p h n = refl
 
 client_up_known : (p : Packet) (h : Half) → (client_up_gets p (upon h Up []).end).end.known ≡ h.end.known
 client_up_known (packets.SubAck i codes) h =
-    cond_both (awaits_suback i (length codes) h.end.book) (tells (happens.SubAck i codes) (record (upon h Up []).end { book = release i h.end.book })) (closes reasons.Unexpected (upon h Up []).end) (λ r. r.end.known ≡ h.end.known) (λ t. refl) (λ f. refl)
+    cond_both (awaits_suback i (length codes) h.end.book) (tells (happens.SubAck i codes) (record (upon h Up []).end { book = release i h.end.book }))
+    (closes reasons.Unexpected (upon h Up []).end) (λ r. r.end.known ≡ h.end.known) (λ t. refl) (λ f. refl)
 client_up_known (packets.UnsubAck i) h =
-    cond_both (awaits_unsuback i h.end.book) (tells (happens.UnsubAck i) (record (upon h Up []).end { book = release i h.end.book })) (closes reasons.Unexpected (upon h Up []).end) (λ r. r.end.known ≡ h.end.known) (λ t. refl) (λ f. refl)
+    cond_both (awaits_unsuback i h.end.book) (tells (happens.UnsubAck i) (record (upon h Up []).end { book = release i h.end.book }))
+    (closes reasons.Unexpected (upon h Up []).end) (λ r. r.end.known ≡ h.end.known) (λ t. refl) (λ f. refl)
 client_up_known packets.PingResp h = refl
 client_up_known p h = flow_known p h Up
 
@@ -100,8 +103,9 @@ published_known Q0 i m e = refl
 published_known Q1 i m e = refl
 published_known Q2 i m e = refl
 
-client_marks : (limit capacity : ℕ) (action : Action) (st : State) (q : List Packet) (c s : Half) → May limit capacity Client action (upon c st q) → Marks (upon c st q) s → Marks (moved Client action (upon c st q)).half s
-client_marks limit capacity (Publishes i msg) st q c s may m = λ k. (published_known msg.qos i msg (upon c st q).end ∙ (m k).0, (m k).1)
+client_marks : (limit capacity : ℕ) (action : Action) (st : State) (q : List Packet) (c s : Half) → May limit capacity Client action (upon c st q)
+    → Marks (upon c st q) s → Marks (moved Client action (upon c st q)).half s
+client_marks limit capacity (Publishes i message) st q c s may m = λ k. (published_known message.qos i message (upon c st q).end ∙ (m k).0, (m k).1)
 client_marks limit capacity Arrives st q c s may m = client_arrival st q c s m
 client_marks limit capacity Drops st q c s may m = λ k. ((m k).0, tt)
 client_marks limit capacity Leaves st q c s may m = λ k. ((m k).0, tt)
@@ -112,7 +116,8 @@ client_marks limit capacity Pings st q c s may m = m
 publish_out : (q : Qos) (d : Option Delivery) (m : Message) (e : End) → Each IsNoConnack (publish_gets q d m e).out
 publish_out Q0 None m e = tt
 publish_out Q1 (Some d) m e = (tt, tt)
-publish_out Q2 (Some d) m e = cond_both (fits_window e.window d.id e.received) (stores d.id m e) (closes reasons.Window e) (λ r. Each IsNoConnack r.out) (λ t. (tt, tt)) (λ f. tt)
+publish_out Q2 (Some d) m e =
+    cond_both (fits_window e.window d.id e.received) (stores d.id m e) (closes reasons.Window e) (λ r. Each IsNoConnack r.out) (λ t. (tt, tt)) (λ f. tt)
 publish_out q d m e = tt
 
 flow_out : (p : Packet) (e : End) → Each IsNoConnack (flow_gets p e).out
@@ -130,7 +135,8 @@ Tells h r = r.end.known ≡ false → (h.end.known ≡ false) × Each IsNoConnac
 connect_tells : (c : Connect) (h : Half) → Tells h (connect_gets c (upon h Open []).end)
 connect_tells c h =
     cond_both (not c.clean_session && eqb (length c.client_id) 0) (refuses IdentifierRejected (upon h Open []).end)
-    (comes_up (packets.ConnAck (connacks.Accepted (not c.clean_session && h.end.known)) ∷ []) (not c.clean_session && h.end.known) (record (renewed c.clean_session (upon h Open []).end) { keep_alive = c.keep_alive }))
+    (comes_up (packets.ConnAck (connacks.Accepted (not c.clean_session && h.end.known)) ∷ []) (not c.clean_session && h.end.known)
+    (record (renewed c.clean_session (upon h Open []).end) { keep_alive = c.keep_alive }))
     (Tells h) (λ t k. (k, (tt, tt))) (λ f k. absurd (true_not k))
   where
     true_not : true ≡ false → ⊥
@@ -152,7 +158,8 @@ server_tells Closed p h = λ k. (k, tt)
 server_tells Open p h = server_open_tells p h
 server_tells Up p h = server_up_tells p h
 
-server_arrival : (st : State) (q : List Packet) (c s : Half) → Marks c (upon s st q) → Marks (put (arrival q Server (upon s st q)).out c) (arrival q Server (upon s st q)).half
+server_arrival : (st : State) (q : List Packet) (c s : Half) → Marks c (upon s st q)
+    → Marks (put (arrival q Server (upon s st q)).out c) (arrival q Server (upon s st q)).half
 server_arrival st [] c s m = λ k. ((m k).0, joined_no_connack c.end.state c.coming [] (m k).1 tt)
 server_arrival st (p ∷ rest) c s m = λ k. let t = server_tells st p s k in ((m t.0).0, joined_no_connack c.end.state c.coming _ (m t.0).1 t.1)
 
@@ -161,10 +168,11 @@ published_out Q0 i m e = (tt, tt)
 published_out Q1 i m e = cond_both (is_up e.state) (publish_packet i false m ∷ []) [] (Each IsNoConnack) (λ t. (tt, tt)) (λ f. tt)
 published_out Q2 i m e = cond_both (is_up e.state) (publish_packet i false m ∷ []) [] (Each IsNoConnack) (λ t. (tt, tt)) (λ f. tt)
 
-server_marks : (limit capacity : ℕ) (action : Action) (st : State) (q : List Packet) (c s : Half) → May limit capacity Server action (upon s st q) → Marks c (upon s st q) → Marks (put (moved Server action (upon s st q)).out c) (moved Server action (upon s st q)).half
-server_marks limit capacity (Publishes i msg) st q c s may m = λ k.
-    let u = m (sym (published_known msg.qos i msg (upon s st q).end) ∙ k) in
-    (u.0, joined_no_connack c.end.state c.coming _ u.1 (published_out msg.qos i msg (upon s st q).end))
+server_marks : (limit capacity : ℕ) (action : Action) (st : State) (q : List Packet) (c s : Half) → May limit capacity Server action (upon s st q)
+    → Marks c (upon s st q) → Marks (put (moved Server action (upon s st q)).out c) (moved Server action (upon s st q)).half
+server_marks limit capacity (Publishes i message) st q c s may m = λ k.
+    let u = m (sym (published_known message.qos i message (upon s st q).end) ∙ k) in
+    (u.0, joined_no_connack c.end.state c.coming _ u.1 (published_out message.qos i message (upon s st q).end))
 server_marks limit capacity Arrives st q c s may m = server_arrival st q c s m
 server_marks limit capacity Drops st q c s may m = λ k. ((m k).0, joined_no_connack c.end.state c.coming [] (m k).1 tt)
 server_marks limit capacity Leaves st q c s may m = absurd may
@@ -172,16 +180,22 @@ server_marks limit capacity Pings st q c s may m = absurd may
 
 -- ---- the run
 
-after_marks : (limit capacity : ℕ) (w : Machine) (move : Move) → IsAllowed limit capacity w move → w.client.end.clean ≡ false → w.server.end.clean ≡ false → Marks w.client w.server → Marks (after w move).client (after w move).server
+after_marks : (limit capacity : ℕ) (w : Machine) (move : Move) → IsAllowed limit capacity w move → w.client.end.clean ≡ false
+    → w.server.end.clean ≡ false → Marks w.client w.server → Marks (after w move).client (after w move).server
 after_marks limit capacity w (By Client action) may kc ks m =
-    let P : Bool → Type 0 = λ b. May limit capacity Client action (record w.client { end = record w.client.end { clean = b } }) → Marks (moved Client action (record w.client { end = record w.client.end { clean = b } })).half w.server in
+    let P : Bool → Type 0 =
+    λ b. May limit capacity Client action (record w.client { end = record w.client.end { clean = b } })
+    → Marks (moved Client action (record w.client { end = record w.client.end { clean = b } })).half w.server in
     subst P (sym kc) (λ may. client_marks limit capacity action w.client.end.state w.client.coming w.client w.server may m) may
 after_marks limit capacity w (By Server action) may kc ks m =
     let P : Bool → Type 0 = λ b. May limit capacity Server action (record w.server { end = record w.server.end { clean = b } })
-    → Marks (put (moved Server action (record w.server { end = record w.server.end { clean = b } })).out w.client) (moved Server action (record w.server { end = record w.server.end { clean = b } })).half in
+    → Marks (put (moved Server action (record w.server { end = record w.server.end { clean = b } })).out w.client)
+    (moved Server action (record w.server { end = record w.server.end { clean = b } })).half in
     subst P (sym ks) (λ may. server_marks limit capacity action w.server.end.state w.server.coming w.client w.server may m) may
 after_marks limit capacity w Opens may kc ks m =
-    let P : Bool → Bool → Type 0 = λ b d. Marks (opened_client (record w.client { end = record w.client.end { clean = b } })) (opened_server (connects first_packet w.client.end).out (record w.server { end = record w.server.end { clean = d } })) in
+    let P : Bool → Bool → Type 0 =
+    λ b d. Marks (opened_client (record w.client { end = record w.client.end { clean = b } }))
+    (opened_server (connects first_packet w.client.end).out (record w.server { end = record w.server.end { clean = d } })) in
     let half : P false w.server.end.clean = subst (λ (d : Bool). P false d) (sym ks) (λ k. ((m k).0, tt)) in
     subst (λ (b : Bool). P b w.server.end.clean) (sym kc) half
 
@@ -196,5 +210,6 @@ pub run_well : (limit capacity : ℕ) (w : Machine) (moves : List Move) (v : Mac
 run_well limit capacity w [] v run h = subst (λ (u : Machine). Well capacity u) (sym run) h
 run_well limit capacity w (move ∷ moves) v run h = run_well limit capacity (after w move) moves v run.1 (after_well limit capacity w move run.0 h)
 
-pub reached_well : (limit capacity : ℕ) (window : Option ℕ) (moves : List Move) (w : Machine) → Run limit capacity (blank_machine window) moves w → Well capacity w
+pub reached_well : (limit capacity : ℕ) (window : Option ℕ) (moves : List Move) (w : Machine) → Run limit capacity (blank_machine window) moves w
+    → Well capacity w
 reached_well limit capacity window moves w run = run_well limit capacity (blank_machine window) moves w run (blank_holds capacity window, λ k. (refl, tt))

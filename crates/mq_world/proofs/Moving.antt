@@ -29,7 +29,8 @@ same_state Q0 i m e = refl
 same_state Q1 i m e = refl
 same_state Q2 i m e = refl
 
-published_side : (limit : Bounds) (capacity : ℕ) (x : WiredSide) (h : Half) (i : ℕ) (m : Message) (new : EndState) → CarriesSide limit capacity x h → new.end ≡ (publishes i m x.state.end).end → new.held ≡ x.state.held → SameBounds x.state new
+published_side : (limit : Bounds) (capacity : ℕ) (x : WiredSide) (h : Half) (i : ℕ) (m : Message) (new : EndState) → CarriesSide limit capacity x h
+    → new.end ≡ (publishes i m x.state.end).end → new.held ≡ x.state.held → SameBounds x.state new
     → CarriesSide limit capacity (accepting i m new x) (publication i m h).half
 published_side limit capacity x h i m new k after held bounds = record {
   end = after ∙ ap (λ (e : End). (publishes i m e).end) k.end;
@@ -44,25 +45,36 @@ published_side limit capacity x h i m new k after held bounds = record {
 }
 
 pub publish : (limit : Bounds) (capacity : ℕ) (side : Side) (w : Wired) (m : Machine) (i : ℕ) (message : Message) (new : EndState) → Stands limit capacity w m
-    → refusal side limit.most capacity message (near side w).state.end ≡ None → MayHave (has_identifier message.qos) (near side w).state.end i → new.end ≡ (publishes i message (near side w).state.end).end
-    → PutsOut (publishes i message (near side w).state.end).out (near side w).state.output new.output → new.held ≡ (near side w).state.held → SameBounds (near side w).state new
+    → refusal side limit.most capacity message (near side w).state.end ≡ None → MayHave (has_identifier message.qos) (near side w).state.end i
+    → new.end ≡ (publishes i message (near side w).state.end).end
+    → PutsOut (publishes i message (near side w).state.end).out (near side w).state.output new.output → new.held ≡ (near side w).state.held
+    → SameBounds (near side w).state new
     → Follows limit capacity m (By side (Publishes i message) ∷ []) (facing side (accepting i message new (near side w)) (with_more new.output (far side w)))
 publish limit capacity side w m i message new k free may after out held bounds =
     let x = side_near limit capacity side w m k.carries in
-    let P : End → Type 0 = λ e. (refusal side limit.most capacity message e ≡ None) × MayHave (has_identifier message.qos) e i × Spelled (publishes i message e).out new.output in
+    let P : End → Type 0 =
+    λ e. (refusal side limit.most capacity message e ≡ None) × MayHave (has_identifier message.qos) e i × Spelled (publishes i message e).out new.output in
     let all = subst P x.end (free, may, all_put_out (publishes i message (near side w).state.end).out (near side w).state.output new.output x.output out) in
     at side k all x after held bounds
   where
-    at : (side : Side) → Stands limit capacity w m → (refusal side limit.most capacity message (half_of side m).end ≡ None) × MayHave (has_identifier message.qos) (half_of side m).end i × Spelled (publishes i message (half_of side m).end).out new.output
-        → CarriesSide limit capacity (near side w) (half_of side m) → new.end ≡ (publishes i message (near side w).state.end).end → new.held ≡ (near side w).state.held → SameBounds (near side w).state new
-        → Follows limit capacity m (By side (Publishes i message) ∷ []) (facing side (accepting i message new (near side w)) (with_more new.output (far side w)))
-    at Client k all x after held bounds = follows_one limit capacity Client w m (Publishes i message) (accepting i message new w.client) new.output k (all.0, all.1) all.2 (published_side limit capacity w.client m.client i message new x after held bounds)
-    at Server k all x after held bounds = follows_one limit capacity Server w m (Publishes i message) (accepting i message new w.server) new.output k (all.0, all.1) all.2 (published_side limit capacity w.server m.server i message new x after held bounds)
+    at : (side : Side) → Stands limit capacity w m → (refusal side limit.most capacity message (half_of side m).end ≡ None)
+        × MayHave (has_identifier message.qos) (half_of side m).end i × Spelled (publishes i message (half_of side m).end).out new.output
+        → CarriesSide limit capacity (near side w) (half_of side m) → new.end ≡ (publishes i message (near side w).state.end).end
+        → new.held ≡ (near side w).state.held → SameBounds (near side w).state new
+        → Follows limit capacity m (By side (Publishes i message) ∷ [])
+        (facing side (accepting i message new (near side w)) (with_more new.output (far side w)))
+    at Client k all x after held bounds =
+        follows_one limit capacity Client w m (Publishes i message) (accepting i message new w.client) new.output k (all.0, all.1) all.2
+        (published_side limit capacity w.client m.client i message new x after held bounds)
+    at Server k all x after held bounds =
+        follows_one limit capacity Server w m (Publishes i message) (accepting i message new w.server) new.output k (all.0, all.1) all.2
+        (published_side limit capacity w.server m.server i message new x after held bounds)
 
 -- ---- a connection is over
 
 -- a side whose connection is over
-over_side : (limit : Bounds) (capacity : ℕ) (x : WiredSide) (h : Half) (new : EndState) → CarriesSide limit capacity x h → new.end ≡ over x.state.end → SameBounds x.state new → CarriesSide limit capacity (cut_off new x) (moved Client Drops h).half
+over_side : (limit : Bounds) (capacity : ℕ) (x : WiredSide) (h : Half) (new : EndState) → CarriesSide limit capacity x h → new.end ≡ over x.state.end
+    → SameBounds x.state new → CarriesSide limit capacity (cut_off new x) (moved Client Drops h).half
 over_side limit capacity x h new k after bounds = record {
   end = after ∙ ap over k.end;
   bytes = λ live. cc;
@@ -75,30 +87,41 @@ over_side limit capacity x h new k after bounds = record {
   freed = k.freed;
 }
 
-pub drop : (limit : Bounds) (capacity : ℕ) (side : Side) (w : Wired) (m : Machine) (new : EndState) → Stands limit capacity w m → new.end ≡ over (near side w).state.end → SameBounds (near side w).state new
+pub drop : (limit : Bounds) (capacity : ℕ) (side : Side) (w : Wired) (m : Machine) (new : EndState) → Stands limit capacity w m
+    → new.end ≡ over (near side w).state.end → SameBounds (near side w).state new
     → Follows limit capacity m (By side Drops ∷ []) (facing side (cut_off new (near side w)) (far side w))
 drop limit capacity side w m new k after bounds =
     let near_side = over_side limit capacity (near side w) (half_of side m) new (side_near limit capacity side w m k.carries) after bounds in
     subst (λ (y : WiredSide). Follows limit capacity m (By side Drops ∷ []) (facing side (cut_off new (near side w)) y)) (no_more_bytes (far side w))
     (follows_one limit capacity side w m Drops (cut_off new (near side w)) [] k tt refl near_side)
 
-pub drop_both : (limit : Bounds) (capacity : ℕ) (w : Wired) (m : Machine) (c s : EndState) → Stands limit capacity w m → c.end ≡ over w.client.state.end → SameBounds w.client.state c → s.end ≡ over w.server.state.end → SameBounds w.server.state s
+pub drop_both : (limit : Bounds) (capacity : ℕ) (w : Wired) (m : Machine) (c s : EndState) → Stands limit capacity w m
+    → c.end ≡ over w.client.state.end → SameBounds w.client.state c → s.end ≡ over w.server.state.end → SameBounds w.server.state s
     → Follows limit capacity m (By Client Drops ∷ By Server Drops ∷ []) (record { client = cut_off c w.client; server = cut_off s w.server })
 drop_both limit capacity w m c s k ce cb se sb =
     let one = drop limit capacity Client w m c k ce cb in
     let two = drop limit capacity Server (record { client = cut_off c w.client; server = w.server }) one.machine s one.stands se sb in
-    record { machine = two.machine; run = (one.run.0, subst (λ (v : Machine). Run limit.most capacity v (By Server Drops ∷ []) two.machine) one.run.1 two.run); stands = two.stands }
+    record {
+      machine = two.machine;
+      run = (one.run.0, subst (λ (v : Machine). Run limit.most capacity v (By Server Drops ∷ []) two.machine) one.run.1 two.run);
+      stands = two.stands;
+    }
 
 -- ---- the client
 
-pub opened : (limit : Bounds) (capacity : ℕ) (w : Wired) (m : Machine) (c s : EndState) → Stands limit capacity w m → c.end ≡ (connects first_packet w.client.state.end).end → PutsOut (packets.Connect first_packet ∷ []) [] c.output → c.held ≡ [] → SameBounds w.client.state c
-    → s.end ≡ (opens w.server.state.end).end → s.held ≡ [] → SameBounds w.server.state s → Follows limit capacity m (Opens ∷ []) (record { client = cut_off c w.client; server = with_more c.output (cut_off s w.server) })
+pub opened : (limit : Bounds) (capacity : ℕ) (w : Wired) (m : Machine) (c s : EndState) → Stands limit capacity w m
+    → c.end ≡ (connects first_packet w.client.state.end).end → PutsOut (packets.Connect first_packet ∷ []) [] c.output → c.held ≡ []
+    → SameBounds w.client.state c
+    → s.end ≡ (opens w.server.state.end).end → s.held ≡ [] → SameBounds w.server.state s
+    → Follows limit capacity m (Opens ∷ []) (record { client = cut_off c w.client; server = with_more c.output (cut_off s w.server) })
 opened limit capacity w m c s k ce out ch cb se sh sb =
     let v : Machine = after m Opens in
     let run : Run limit.most capacity m (Opens ∷ []) v = (tt, refl) in
     let x = k.carries.client in
     let y = k.carries.server in
-    let first : Stream limit (packets.Connect first_packet ∷ []) c.output = spelled_within limit k.large (packets.Connect first_packet ∷ []) c.output (refl, tt) (all_put_out (packets.Connect first_packet ∷ []) [] c.output refl out) in
+    let first : Stream limit (packets.Connect first_packet ∷ []) c.output =
+    spelled_within limit k.large (packets.Connect first_packet ∷ []) c.output (refl, tt)
+    (all_put_out (packets.Connect first_packet ∷ []) [] c.output refl out) in
     record {
       machine = v;
       run = run;
@@ -132,18 +155,24 @@ opened limit capacity w m c s k ce out ch cb se sh sb =
       };
     }
 
-pub leave : (limit : Bounds) (capacity : ℕ) (w : Wired) (m : Machine) (new : EndState) → Stands limit capacity w m → leave_refusal w.client.state.end ≡ None → new.end ≡ (leaves w.client.state.end).end → PutsOut (packets.Disconnect ∷ []) w.client.state.output new.output
-    → SameBounds w.client.state new → Follows limit capacity m (By Client Leaves ∷ []) (record { client = cut_off new w.client; server = with_more new.output w.server })
+pub leave : (limit : Bounds) (capacity : ℕ) (w : Wired) (m : Machine) (new : EndState) → Stands limit capacity w m
+    → leave_refusal w.client.state.end ≡ None → new.end ≡ (leaves w.client.state.end).end → PutsOut (packets.Disconnect ∷ []) w.client.state.output new.output
+    → SameBounds w.client.state new
+    → Follows limit capacity m (By Client Leaves ∷ []) (record { client = cut_off new w.client; server = with_more new.output w.server })
 leave limit capacity w m new k may after out bounds =
     let x = k.carries.client in
-    follows_one limit capacity Client w m Leaves (cut_off new w.client) new.output k (subst (λ (e : End). leave_refusal e ≡ None) x.end may) (all_put_out (packets.Disconnect ∷ []) w.client.state.output new.output x.output out)
+    follows_one limit capacity Client w m Leaves (cut_off new w.client) new.output k (subst (λ (e : End). leave_refusal e ≡ None) x.end may)
+    (all_put_out (packets.Disconnect ∷ []) w.client.state.output new.output x.output out)
     (over_side limit capacity w.client m.client new x after bounds)
 
-pub ping : (limit : Bounds) (capacity : ℕ) (w : Wired) (m : Machine) (new : EndState) → Stands limit capacity w m → is_up w.client.state.end.state ≡ true → new.end ≡ w.client.state.end → PutsOut (packets.PingReq ∷ []) w.client.state.output new.output
-    → new.held ≡ w.client.state.held → SameBounds w.client.state new → Follows limit capacity m (By Client Pings ∷ []) (record { client = record w.client { state = written new }; server = with_more new.output w.server })
+pub ping : (limit : Bounds) (capacity : ℕ) (w : Wired) (m : Machine) (new : EndState) → Stands limit capacity w m
+    → is_up w.client.state.end.state ≡ true → new.end ≡ w.client.state.end → PutsOut (packets.PingReq ∷ []) w.client.state.output new.output
+    → new.held ≡ w.client.state.held → SameBounds w.client.state new
+    → Follows limit capacity m (By Client Pings ∷ []) (record { client = record w.client { state = written new }; server = with_more new.output w.server })
 ping limit capacity w m new k up after out held bounds =
     let x = k.carries.client in
-    follows_one limit capacity Client w m Pings (record w.client { state = written new }) new.output k (subst (λ (e : End). is_up e.state ≡ true) x.end up) (all_put_out (packets.PingReq ∷ []) w.client.state.output new.output x.output out)
+    follows_one limit capacity Client w m Pings (record w.client { state = written new }) new.output k
+    (subst (λ (e : End). is_up e.state ≡ true) x.end up) (all_put_out (packets.PingReq ∷ []) w.client.state.output new.output x.output out)
     (record {
       end = after ∙ x.end;
       bytes = λ live. subst (λ (b : List ℕ). Stream limit m.client.coming (b ++ w.client.wire)) (sym held) (x.bytes live);

@@ -1,5 +1,6 @@
 -- Places in a list: walks, what stands there, and what was freed.
-use Rattle.std.proofs.Common.{◌≡◌, ℕ, zero, suc, ◌+◌, ◌<◌, ◌≤◌, max, Bool, true, false, cond, ◌||◌, eqb, Some, List, [], ◌∷◌, ◌++◌, length, slice_get, refl, sym, ap, subst, ◌∙◌, arith, inl, inr}
+use Rattle.std.proofs.Common.{◌≡◌, ℕ, zero, suc, ◌+◌, ◌<◌, ◌≤◌, max, Bool, true, false, cond, ◌||◌, eqb, Some, List, [], ◌∷◌, ◌++◌, length, slice_get}
+use Rattle.std.proofs.Common.{refl, sym, ap, subst, ◌∙◌, arith, inl, inr}
 use Rattle.std.proofs.lemmas.Bool.{cases_eq, cases_lt, ne_eqb}
 use Rattle.mq_packet.specs.declared.message.Message.{Message}
 use Rattle.mq_flow.specs.Sender.{times}
@@ -29,9 +30,9 @@ covered n (q ∷ ps) p w le lt =
       | inr above ↦ inr (covered (max n (q + 1)) ps p w.1 above lt)
     ]
 
-pub all_covered : (ps F : List ℕ) (n : ℕ) → Walk ps → n ≤ reach 0 ps → Each (λ p. p < n) F → AllIn F ps
+pub all_covered : (ps places_freed : List ℕ) (n : ℕ) → Walk ps → n ≤ reach 0 ps → Each (λ p. p < n) places_freed → AllIn places_freed ps
 all_covered ps [] n w le h = tt
-all_covered ps (f ∷ F) n w le h = (let lt : f < n = h.0 in covered 0 ps f w (omega arith) (omega arith), all_covered ps F n w le h.1)
+all_covered ps (f ∷ places_freed) n w le h = (let lt : f < n = h.0 in covered 0 ps f w (omega arith) (omega arith), all_covered ps places_freed n w le h.1)
 
 pub get_front : (ys zs : List Message) (p : ℕ) (x : Message) → slice_get ys p ≡ Some x → slice_get (ys ++ zs) p ≡ Some x
 get_front [] zs p x h = cc
@@ -56,30 +57,35 @@ at_grown (x ∷ xs) ys zs (q ∷ ps) h = (get_front ys zs q x h.0, at_grown xs y
 
 -- ---- what was freed
 
-pub among_not : (n : ℕ) (F : List ℕ) → Each (λ p. p < n) F → is_among n F ≡ false
+pub among_not : (n : ℕ) (places_freed : List ℕ) → Each (λ p. p < n) places_freed → is_among n places_freed ≡ false
 among_not n [] h = refl
-among_not n (f ∷ F) h =
+among_not n (f ∷ places_freed) h =
     let lt : f < n = h.0 in
     let ne : f ≡ n → ⊥ = λ e. absurd (omega arith) in
-    ap (λ (b : Bool). b || is_among n F) (ne_eqb f n ne) ∙ among_not n F h.1
+    ap (λ (b : Bool). b || is_among n places_freed) (ne_eqb f n ne) ∙ among_not n places_freed h.1
 
-pub each_later : (n m : ℕ) (F : List ℕ) → n ≤ m → Each (λ p. p < n) F → Each (λ p. p < m) F
+pub each_later : (n m : ℕ) (places_freed : List ℕ) → n ≤ m → Each (λ p. p < n) places_freed → Each (λ p. p < m) places_freed
 each_later n m [] le h = tt
-each_later n m (f ∷ F) le h = (let lt : f < n = h.0 in omega arith, each_later n m F le h.1)
+each_later n m (f ∷ places_freed) le h = (let lt : f < n = h.0 in omega arith, each_later n m places_freed le h.1)
 
-pub others_none : (n : ℕ) (F : List ℕ) (E : List (ℕ × Message)) → Each (λ p. p < n) F → others_from n F E ≡ E
-others_none n F [] h = refl
-others_none n F (e ∷ E) h =
-    let P : Bool → Type 0 = λ b. cond b (others_from (n + 1) F E) (e ∷ others_from (n + 1) F E) ≡ e ∷ E in
-    subst P (sym (among_not n F h)) (ap (λ (q : List (ℕ × Message)). e ∷ q) (others_none (n + 1) F E (each_later n (n + 1) F (omega arith) h)))
+pub others_none : (n : ℕ) (places_freed : List ℕ) (entries : List (ℕ × Message)) → Each (λ p. p < n) places_freed → others_from n places_freed entries ≡ entries
+others_none n places_freed [] h = refl
+others_none n places_freed (e ∷ entries) h =
+    let P : Bool → Type 0 = λ b. cond b (others_from (n + 1) places_freed entries) (e ∷ others_from (n + 1) places_freed entries) ≡ e ∷ entries in
+    subst P (sym (among_not n places_freed h))
+    (ap (λ (q : List (ℕ × Message)). e ∷ q) (others_none (n + 1) places_freed entries (each_later n (n + 1) places_freed (omega arith) h)))
 
-pub others_gone : (n : ℕ) (F : List ℕ) (gone E : List (ℕ × Message)) → ((j : ℕ) → n ≤ j → j < n + length gone → is_among j F ≡ true) → others_from n F (gone ++ E) ≡ others_from (n + length gone) F E
-others_gone n F [] E h = ap (λ (k : ℕ). others_from k F E) (omega arith)
-others_gone n F (g ∷ gone) E h =
-    let P : Bool → Type 0 = λ b. cond b (others_from (n + 1) F (gone ++ E)) (g ∷ others_from (n + 1) F (gone ++ E)) ≡ others_from (n + length (g ∷ gone)) F E in
-    let rest = others_gone (n + 1) F gone E (λ j le lt. h j (omega arith) (omega arith)) in
+pub others_gone : (n : ℕ) (places_freed : List ℕ) (gone entries : List (ℕ × Message))
+    → ((j : ℕ) → n ≤ j → j < n + length gone → is_among j places_freed ≡ true)
+    → others_from n places_freed (gone ++ entries) ≡ others_from (n + length gone) places_freed entries
+others_gone n places_freed [] entries h = ap (λ (k : ℕ). others_from k places_freed entries) (omega arith)
+others_gone n places_freed (g ∷ gone) entries h =
+    let P : Bool → Type 0 =
+    λ b. cond b (others_from (n + 1) places_freed (gone ++ entries)) (g ∷ others_from (n + 1) places_freed (gone ++ entries)) ≡ others_from
+    (n + length (g ∷ gone)) places_freed entries in
+    let rest = others_gone (n + 1) places_freed gone entries (λ j le lt. h j (omega arith) (omega arith)) in
     let e : (n + 1) + length gone ≡ n + length (g ∷ gone) = omega arith in
-    subst P (sym (h n (omega arith) (omega arith))) (rest ∙ ap (λ (k : ℕ). others_from k F E) e)
+    subst P (sym (h n (omega arith) (omega arith))) (rest ∙ ap (λ (k : ℕ). others_from k places_freed entries) e)
 
 or_true : (b c : Bool) → c ≡ true → b || c ≡ true
 or_true true c h = refl
@@ -89,13 +95,13 @@ or_step : (b c d : Bool) → (c ≡ true → d ≡ true) → b || c ≡ true →
 or_step true c d f h = refl
 or_step false c d f h = f h
 
-pub among_more : (j : ℕ) (F : List ℕ) (p : ℕ) → is_among j F ≡ true → is_among j (F ++ p ∷ []) ≡ true
+pub among_more : (j : ℕ) (places_freed : List ℕ) (p : ℕ) → is_among j places_freed ≡ true → is_among j (places_freed ++ p ∷ []) ≡ true
 among_more j [] p h = cc
-among_more j (f ∷ F) p h = or_step (eqb f j) (is_among j F) (is_among j (F ++ p ∷ [])) (among_more j F p) h
+among_more j (f ∷ places_freed) p h = or_step (eqb f j) (is_among j places_freed) (is_among j (places_freed ++ p ∷ [])) (among_more j places_freed p) h
 
-pub among_last : (j : ℕ) (F : List ℕ) → is_among j (F ++ j ∷ []) ≡ true
+pub among_last : (j : ℕ) (places_freed : List ℕ) → is_among j (places_freed ++ j ∷ []) ≡ true
 among_last j [] = ap (λ (b : Bool). b || false) (eqb_self j)
-among_last j (f ∷ F) = or_true (eqb f j) (is_among j (F ++ j ∷ [])) (among_last j F)
+among_last j (f ∷ places_freed) = or_true (eqb f j) (is_among j (places_freed ++ j ∷ [])) (among_last j places_freed)
 
 -- ---- the place of an identifier
 
@@ -111,7 +117,8 @@ pub given_at : (i : ℕ) (gone rest : List (ℕ × Message)) (p : ℕ × Message
 given_at i [] rest p e = ap (λ (k : ℕ). eqb k i || is_given i rest) e ∙ ap (λ (b : Bool). b || is_given i rest) (eqb_self i)
 given_at i (g ∷ gone) rest p e = or_true (eqb g.0 i) (is_given i (gone ++ p ∷ rest)) (given_at i gone rest p e)
 
-pub last_place_at : (i : ℕ) (gone rest : List (ℕ × Message)) (p : ℕ × Message) → p.0 ≡ i → times i (ids rest) ≡ 0 → last_place i (gone ++ p ∷ rest) ≡ length gone
+pub last_place_at : (i : ℕ) (gone rest : List (ℕ × Message)) (p : ℕ × Message) → p.0 ≡ i → times i (ids rest) ≡ 0
+    → last_place i (gone ++ p ∷ rest) ≡ length gone
 last_place_at i [] rest p e z = let P : Bool → Type 0 = λ b. cond b (last_place i rest + 1) 0 ≡ 0 in subst P (sym (given_not i rest z)) refl
 last_place_at i (g ∷ gone) rest p e z =
     let h = last_place_at i gone rest p e z in

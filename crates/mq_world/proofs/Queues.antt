@@ -56,28 +56,33 @@ as_second p = None
 
 -- the answers in a queue: PUBREC, PUBCOMP, PUBACK
 pub record Answers : Type 0 where
-  pub rec : List ℕ
-  pub comp : List ℕ
-  pub ack : List ℕ
+  pub pubrecs : List ℕ
+  pub pubcomps : List ℕ
+  pub pubacks : List ℕ
 
 -- what asks for one: PUBLISH of quality of service 2 and 1, PUBREL; and messages of quality of service 0
 pub record Flight : Type 0 where
-  pub pub2 : List (ℕ × Message)
-  pub pub1 : List (ℕ × Message)
-  pub rel : List ℕ
-  pub msg : List Message
+  pub publishes_2 : List (ℕ × Message)
+  pub publishes_1 : List (ℕ × Message)
+  pub pubrels : List ℕ
+  pub messages_0 : List Message
 
 abbrev pub answers : List Packet → Answers
-answers q = record { rec = filter_map as_pubrec q; comp = filter_map as_pubcomp q; ack = filter_map as_puback q }
+answers q = record { pubrecs = filter_map as_pubrec q; pubcomps = filter_map as_pubcomp q; pubacks = filter_map as_puback q }
 
 abbrev pub flight : List Packet → Flight
-flight q = record { pub2 = filter_map as_second q; pub1 = filter_map as_first q; rel = filter_map as_pubrel q; msg = filter_map as_zeroth q }
+flight q = record {
+  publishes_2 = filter_map as_second q;
+  publishes_1 = filter_map as_first q;
+  pubrels = filter_map as_pubrel q;
+  messages_0 = filter_map as_zeroth q;
+}
 
 abbrev pub no_answers : Answers
-no_answers = record { rec = []; comp = []; ack = [] }
+no_answers = record { pubrecs = []; pubcomps = []; pubacks = [] }
 
 abbrev pub no_flight : Flight
-no_flight = record { pub2 = []; pub1 = []; rel = []; msg = [] }
+no_flight = record { publishes_2 = []; publishes_1 = []; pubrels = []; messages_0 = [] }
 
 pub keep : {A : Type 0} (f : Packet → Option A) (st : State) (q ps : List Packet) → filter_map f ps ≡ [] → filter_map f (joined st q ps) ≡ filter_map f q
 keep f Closed q ps e = refl
@@ -89,61 +94,88 @@ grow f Closed q ps = refl
 grow f Open q ps = filter_map-append f q ps
 grow f Up q ps = filter_map-append f q ps
 
-pub grown : {A : Type 0} (f : Packet → Option A) (st : State) (q ps : List Packet) (xs : List A) → filter_map f ps ≡ xs → filter_map f (joined st q ps) ≡ joined st (filter_map f q) xs
+pub grown : {A : Type 0} (f : Packet → Option A) (st : State) (q ps : List Packet) (xs : List A) → filter_map f ps ≡ xs
+    → filter_map f (joined st q ps) ≡ joined st (filter_map f q) xs
 grown {A} f st q ps xs e = grow f st q ps ∙ ap (λ (r : List A). joined st (filter_map f q) r) e
 
 -- packets among which there is no answer
 pub same_answers : (st : State) (q ps : List Packet) → answers ps ≡ no_answers → answers (joined st q ps) ≡ answers q
 same_answers st q ps e =
-    let a = keep as_pubrec st q ps (ap (λ (n : Answers). n.rec) e) in
-    let b = keep as_pubcomp st q ps (ap (λ (n : Answers). n.comp) e) in
-    let c = keep as_puback st q ps (ap (λ (n : Answers). n.ack) e) in
-    λ i. record { rec = a i; comp = b i; ack = c i }
+    let a = keep as_pubrec st q ps (ap (λ (n : Answers). n.pubrecs) e) in
+    let b = keep as_pubcomp st q ps (ap (λ (n : Answers). n.pubcomps) e) in
+    let c = keep as_puback st q ps (ap (λ (n : Answers). n.pubacks) e) in
+    λ i. record { pubrecs = a i; pubcomps = b i; pubacks = c i }
 
 -- packets among which nothing asks for an answer
 pub same_flight : (st : State) (q ps : List Packet) → flight ps ≡ no_flight → flight (joined st q ps) ≡ flight q
 same_flight st q ps e =
-    let a = keep as_second st q ps (ap (λ (n : Flight). n.pub2) e) in
-    let b = keep as_first st q ps (ap (λ (n : Flight). n.pub1) e) in
-    let c = keep as_pubrel st q ps (ap (λ (n : Flight). n.rel) e) in
-    let d = keep as_zeroth st q ps (ap (λ (n : Flight). n.msg) e) in
-    λ i. record { pub2 = a i; pub1 = b i; rel = c i; msg = d i }
+    let a = keep as_second st q ps (ap (λ (n : Flight). n.publishes_2) e) in
+    let b = keep as_first st q ps (ap (λ (n : Flight). n.publishes_1) e) in
+    let c = keep as_pubrel st q ps (ap (λ (n : Flight). n.pubrels) e) in
+    let d = keep as_zeroth st q ps (ap (λ (n : Flight). n.messages_0) e) in
+    λ i. record { publishes_2 = a i; publishes_1 = b i; pubrels = c i; messages_0 = d i }
 
-pub more_answers : (st : State) (q ps : List Packet) (an : Answers) → answers ps ≡ an → answers (joined st q ps) ≡ record { rec = joined st (answers q).rec an.rec; comp = joined st (answers q).comp an.comp; ack = joined st (answers q).ack an.ack }
-more_answers st q ps an e =
-    let a = grown as_pubrec st q ps an.rec (ap (λ (n : Answers). n.rec) e) in
-    let b = grown as_pubcomp st q ps an.comp (ap (λ (n : Answers). n.comp) e) in
-    let c = grown as_puback st q ps an.ack (ap (λ (n : Answers). n.ack) e) in
-    λ i. record { rec = a i; comp = b i; ack = c i }
+pub more_answers : (st : State) (q ps : List Packet) (given_back : Answers) → answers ps ≡ given_back
+    → answers (joined st q ps) ≡ record {
+      pubrecs = joined st (answers q).pubrecs given_back.pubrecs;
+      pubcomps = joined st (answers q).pubcomps given_back.pubcomps;
+      pubacks = joined st (answers q).pubacks given_back.pubacks;
+    }
+more_answers st q ps given_back e =
+    let a = grown as_pubrec st q ps given_back.pubrecs (ap (λ (n : Answers). n.pubrecs) e) in
+    let b = grown as_pubcomp st q ps given_back.pubcomps (ap (λ (n : Answers). n.pubcomps) e) in
+    let c = grown as_puback st q ps given_back.pubacks (ap (λ (n : Answers). n.pubacks) e) in
+    λ i. record { pubrecs = a i; pubcomps = b i; pubacks = c i }
 
-pub puback_joins : (st : State) (q : List Packet) (i : ℕ) → answers (joined st q (packets.PubAck i ∷ [])) ≡ record { rec = (answers q).rec; comp = (answers q).comp; ack = joined st (answers q).ack (i ∷ []) }
+pub puback_joins : (st : State) (q : List Packet) (i : ℕ)
+    → answers (joined st q (packets.PubAck i ∷ [])) ≡ record {
+      pubrecs = (answers q).pubrecs;
+      pubcomps = (answers q).pubcomps;
+      pubacks = joined st (answers q).pubacks (i ∷ []);
+    }
 puback_joins st q i =
     let a = keep as_pubrec st q (packets.PubAck i ∷ []) refl in
     let b = keep as_pubcomp st q (packets.PubAck i ∷ []) refl in
     let c = grow as_puback st q (packets.PubAck i ∷ []) in
-    λ k. record { rec = a k; comp = b k; ack = c k }
+    λ k. record { pubrecs = a k; pubcomps = b k; pubacks = c k }
 
-pub pubrec_joins : (st : State) (q : List Packet) (i : ℕ) → answers (joined st q (packets.PubRec i ∷ [])) ≡ record { rec = joined st (answers q).rec (i ∷ []); comp = (answers q).comp; ack = (answers q).ack }
+pub pubrec_joins : (st : State) (q : List Packet) (i : ℕ)
+    → answers (joined st q (packets.PubRec i ∷ [])) ≡ record {
+      pubrecs = joined st (answers q).pubrecs (i ∷ []);
+      pubcomps = (answers q).pubcomps;
+      pubacks = (answers q).pubacks;
+    }
 pubrec_joins st q i =
     let a = grow as_pubrec st q (packets.PubRec i ∷ []) in
     let b = keep as_pubcomp st q (packets.PubRec i ∷ []) refl in
     let c = keep as_puback st q (packets.PubRec i ∷ []) refl in
-    λ k. record { rec = a k; comp = b k; ack = c k }
+    λ k. record { pubrecs = a k; pubcomps = b k; pubacks = c k }
 
-pub pubcomp_joins : (st : State) (q : List Packet) (i : ℕ) → answers (joined st q (packets.PubComp i ∷ [])) ≡ record { rec = (answers q).rec; comp = joined st (answers q).comp (i ∷ []); ack = (answers q).ack }
+pub pubcomp_joins : (st : State) (q : List Packet) (i : ℕ)
+    → answers (joined st q (packets.PubComp i ∷ [])) ≡ record {
+      pubrecs = (answers q).pubrecs;
+      pubcomps = joined st (answers q).pubcomps (i ∷ []);
+      pubacks = (answers q).pubacks;
+    }
 pubcomp_joins st q i =
     let a = keep as_pubrec st q (packets.PubComp i ∷ []) refl in
     let b = grow as_pubcomp st q (packets.PubComp i ∷ []) in
     let c = keep as_puback st q (packets.PubComp i ∷ []) refl in
-    λ k. record { rec = a k; comp = b k; ack = c k }
+    λ k. record { pubrecs = a k; pubcomps = b k; pubacks = c k }
 
-pub pubrel_joins : (st : State) (q : List Packet) (i : ℕ) → flight (joined st q (packets.PubRel i ∷ [])) ≡ record { pub2 = (flight q).pub2; pub1 = (flight q).pub1; rel = joined st (flight q).rel (i ∷ []); msg = (flight q).msg }
+pub pubrel_joins : (st : State) (q : List Packet) (i : ℕ)
+    → flight (joined st q (packets.PubRel i ∷ [])) ≡ record {
+      publishes_2 = (flight q).publishes_2;
+      publishes_1 = (flight q).publishes_1;
+      pubrels = joined st (flight q).pubrels (i ∷ []);
+      messages_0 = (flight q).messages_0;
+    }
 pubrel_joins st q i =
     let a = keep as_second st q (packets.PubRel i ∷ []) refl in
     let b = keep as_first st q (packets.PubRel i ∷ []) refl in
     let c = grow as_pubrel st q (packets.PubRel i ∷ []) in
     let d = keep as_zeroth st q (packets.PubRel i ∷ []) refl in
-    λ k. record { pub2 = a k; pub1 = b k; rel = c k; msg = d k }
+    λ k. record { publishes_2 = a k; publishes_1 = b k; pubrels = c k; messages_0 = d k }
 
 -- the packets of a message, by its quality of service
 abbrev pub packet_0 : Message → Packet
@@ -155,29 +187,47 @@ packet_1 i m = publish_packet i false (record m { qos = Q1 })
 abbrev pub packet_2 : ℕ → Message → Packet
 packet_2 i m = publish_packet i false (record m { qos = Q2 })
 
-pub zeroth_joins : (st : State) (q : List Packet) (m : Message) → flight (joined st q (packet_0 m ∷ [])) ≡ record { pub2 = (flight q).pub2; pub1 = (flight q).pub1; rel = (flight q).rel; msg = joined st (flight q).msg (record m { qos = Q0 } ∷ []) }
+pub zeroth_joins : (st : State) (q : List Packet) (m : Message)
+    → flight (joined st q (packet_0 m ∷ [])) ≡ record {
+      publishes_2 = (flight q).publishes_2;
+      publishes_1 = (flight q).publishes_1;
+      pubrels = (flight q).pubrels;
+      messages_0 = joined st (flight q).messages_0 (record m { qos = Q0 } ∷ []);
+    }
 zeroth_joins st q m =
     let a = keep as_second st q (packet_0 m ∷ []) refl in
     let b = keep as_first st q (packet_0 m ∷ []) refl in
     let c = keep as_pubrel st q (packet_0 m ∷ []) refl in
     let d = grow as_zeroth st q (packet_0 m ∷ []) in
-    λ k. record { pub2 = a k; pub1 = b k; rel = c k; msg = d k }
+    λ k. record { publishes_2 = a k; publishes_1 = b k; pubrels = c k; messages_0 = d k }
 
-pub first_joins : (st : State) (q : List Packet) (i : ℕ) (m : Message) → flight (joined st q (packet_1 i m ∷ [])) ≡ record { pub2 = (flight q).pub2; pub1 = joined st (flight q).pub1 ((i, record m { qos = Q1 }) ∷ []); rel = (flight q).rel; msg = (flight q).msg }
+pub first_joins : (st : State) (q : List Packet) (i : ℕ) (m : Message)
+    → flight (joined st q (packet_1 i m ∷ [])) ≡ record {
+      publishes_2 = (flight q).publishes_2;
+      publishes_1 = joined st (flight q).publishes_1 ((i, record m { qos = Q1 }) ∷ []);
+      pubrels = (flight q).pubrels;
+      messages_0 = (flight q).messages_0;
+    }
 first_joins st q i m =
     let a = keep as_second st q (packet_1 i m ∷ []) refl in
     let b = grow as_first st q (packet_1 i m ∷ []) in
     let c = keep as_pubrel st q (packet_1 i m ∷ []) refl in
     let d = keep as_zeroth st q (packet_1 i m ∷ []) refl in
-    λ k. record { pub2 = a k; pub1 = b k; rel = c k; msg = d k }
+    λ k. record { publishes_2 = a k; publishes_1 = b k; pubrels = c k; messages_0 = d k }
 
-pub second_joins : (st : State) (q : List Packet) (i : ℕ) (m : Message) → flight (joined st q (packet_2 i m ∷ [])) ≡ record { pub2 = joined st (flight q).pub2 ((i, record m { qos = Q2 }) ∷ []); pub1 = (flight q).pub1; rel = (flight q).rel; msg = (flight q).msg }
+pub second_joins : (st : State) (q : List Packet) (i : ℕ) (m : Message)
+    → flight (joined st q (packet_2 i m ∷ [])) ≡ record {
+      publishes_2 = joined st (flight q).publishes_2 ((i, record m { qos = Q2 }) ∷ []);
+      publishes_1 = (flight q).publishes_1;
+      pubrels = (flight q).pubrels;
+      messages_0 = (flight q).messages_0;
+    }
 second_joins st q i m =
     let a = grow as_second st q (packet_2 i m ∷ []) in
     let b = keep as_first st q (packet_2 i m ∷ []) refl in
     let c = keep as_pubrel st q (packet_2 i m ∷ []) refl in
     let d = keep as_zeroth st q (packet_2 i m ∷ []) refl in
-    λ k. record { pub2 = a k; pub1 = b k; rel = c k; msg = d k }
+    λ k. record { publishes_2 = a k; publishes_1 = b k; pubrels = c k; messages_0 = d k }
 
 -- ---- the re-sending
 
@@ -189,9 +239,11 @@ released_of : (is : List ℕ) → filter_map as_pubrel (map packets.PubRel is) �
 released_of [] = refl
 released_of (i ∷ is) = ap (λ (q : List ℕ). i ∷ q) (released_of is)
 
-none_of_entries : {A : Type 0} (f : Packet → Option A) → ((e : Entry) → f (publish_packet e.id e.sent e.message) ≡ None) → (es : List Entry) → filter_map f (map (λ (e : Entry). publish_packet e.id e.sent e.message) es) ≡ []
+none_of_entries : {A : Type 0} (f : Packet → Option A) → ((e : Entry) → f (publish_packet e.id e.sent e.message) ≡ None) → (es : List Entry)
+    → filter_map f (map (λ (e : Entry). publish_packet e.id e.sent e.message) es) ≡ []
 none_of_entries f h [] = refl
-none_of_entries {A} f h (e ∷ es) = ap (λ (o : Option A). cons_option o (filter_map f (map (λ (e : Entry). publish_packet e.id e.sent e.message) es))) (h e) ∙ none_of_entries f h es
+none_of_entries {A} f h (e ∷ es) =
+    ap (λ (o : Option A). cons_option o (filter_map f (map (λ (e : Entry). publish_packet e.id e.sent e.message) es))) (h e) ∙ none_of_entries f h es
 
 second_of_entries : (es : List Entry) → filter_map as_second (map (λ (e : Entry). publish_packet e.id e.sent e.message) es) ≡ held Q2 es
 second_of_entries [] = refl
@@ -199,7 +251,8 @@ second_of_entries (e ∷ es) =
     let rest : List (ℕ × Message) = filter_map as_second (map (λ (e : Entry). publish_packet e.id e.sent e.message) es) in
     let F : List Entry = filter (λ e. same_qos Q2 e.message.qos) es in
     let h = second_of_entries es in
-    elim e.message.qos as (λ q. cons_option (second_of q (Some (record { id = e.id; dup = e.sent })) e.message) rest ≡ map (λ e. (e.id, e.message)) (cond (same_qos Q2 q) (e ∷ F) F)) [
+    elim e.message.qos as (λ q. cons_option (second_of q (Some (record { id = e.id; dup = e.sent })) e.message) rest ≡ map (λ e. (e.id, e.message))
+    (cond (same_qos Q2 q) (e ∷ F) F)) [
       | Q0 ↦ h
       | Q1 ↦ h
       | Q2 ↦ ap (λ (q : List (ℕ × Message)). (e.id, e.message) ∷ q) h
@@ -211,7 +264,8 @@ first_of_entries (e ∷ es) =
     let rest : List (ℕ × Message) = filter_map as_first (map (λ (e : Entry). publish_packet e.id e.sent e.message) es) in
     let F : List Entry = filter (λ e. same_qos Q1 e.message.qos) es in
     let h = first_of_entries es in
-    elim e.message.qos as (λ q. cons_option (first_of q (Some (record { id = e.id; dup = e.sent })) e.message) rest ≡ map (λ e. (e.id, e.message)) (cond (same_qos Q1 q) (e ∷ F) F)) [
+    elim e.message.qos as (λ q. cons_option (first_of q (Some (record { id = e.id; dup = e.sent })) e.message) rest ≡ map (λ e. (e.id, e.message))
+    (cond (same_qos Q1 q) (e ∷ F) F)) [
       | Q0 ↦ h
       | Q1 ↦ ap (λ (q : List (ℕ × Message)). (e.id, e.message) ∷ q) h
       | Q2 ↦ h
@@ -224,7 +278,8 @@ no_zeroth e = elim e.message.qos as (λ q. zeroth_of q (Some (record { id = e.id
   | Q2 ↦ refl
 ]
 
-resent_of : {A : Type 0} (f : Packet → Option A) (before : List Packet) (b : SenderBook) (xs ys : List A) → filter_map f before ≡ [] → filter_map f (map packets.PubRel b.released) ≡ xs
+resent_of : {A : Type 0} (f : Packet → Option A) (before : List Packet) (b : SenderBook) (xs ys : List A) → filter_map f before ≡ []
+    → filter_map f (map packets.PubRel b.released) ≡ xs
     → filter_map f (map (λ (e : Entry). publish_packet e.id e.sent e.message) b.entries) ≡ ys → filter_map f (before ++ resent b) ≡ xs ++ ys
 resent_of {A} f before b xs ys none e g =
     filter_map-append f before (resent b)
@@ -235,15 +290,32 @@ resent_of {A} f before b xs ys none e g =
 
 pub resent_answers : (before : List Packet) (b : SenderBook) → answers before ≡ no_answers → answers (before ++ resent b) ≡ no_answers
 resent_answers before b none =
-    let x = resent_of as_pubrec before b [] [] (ap (λ (n : Answers). n.rec) none) (none_of_released as_pubrec (λ i. refl) b.released) (none_of_entries as_pubrec (λ e. refl) b.entries) in
-    let y = resent_of as_pubcomp before b [] [] (ap (λ (n : Answers). n.comp) none) (none_of_released as_pubcomp (λ i. refl) b.released) (none_of_entries as_pubcomp (λ e. refl) b.entries) in
-    let z = resent_of as_puback before b [] [] (ap (λ (n : Answers). n.ack) none) (none_of_released as_puback (λ i. refl) b.released) (none_of_entries as_puback (λ e. refl) b.entries) in
-    λ k. record { rec = x k; comp = y k; ack = z k }
+    let x = resent_of as_pubrec before b [] [] (ap (λ (n : Answers). n.pubrecs) none) (none_of_released as_pubrec (λ i. refl) b.released)
+    (none_of_entries as_pubrec (λ e. refl) b.entries) in
+    let y = resent_of as_pubcomp before b [] [] (ap (λ (n : Answers). n.pubcomps) none) (none_of_released as_pubcomp (λ i. refl) b.released)
+    (none_of_entries as_pubcomp (λ e. refl) b.entries) in
+    let z = resent_of as_puback before b [] [] (ap (λ (n : Answers). n.pubacks) none) (none_of_released as_puback (λ i. refl) b.released)
+    (none_of_entries as_puback (λ e. refl) b.entries) in
+    λ k. record { pubrecs = x k; pubcomps = y k; pubacks = z k }
 
-pub resent_joins : (st : State) (q before : List Packet) (b : SenderBook) → flight before ≡ no_flight → flight (joined st q (before ++ resent b)) ≡ record { pub2 = joined st (flight q).pub2 (held Q2 b.entries); pub1 = joined st (flight q).pub1 (held Q1 b.entries); rel = joined st (flight q).rel b.released; msg = (flight q).msg }
+pub resent_joins : (st : State) (q before : List Packet) (b : SenderBook) → flight before ≡ no_flight
+    → flight (joined st q (before ++ resent b)) ≡ record {
+      publishes_2 = joined st (flight q).publishes_2 (held Q2 b.entries);
+      publishes_1 = joined st (flight q).publishes_1 (held Q1 b.entries);
+      pubrels = joined st (flight q).pubrels b.released;
+      messages_0 = (flight q).messages_0;
+    }
 resent_joins st q before b none =
-    let x = grown as_second st q (before ++ resent b) (held Q2 b.entries) (resent_of as_second before b [] (held Q2 b.entries) (ap (λ (n : Flight). n.pub2) none) (none_of_released as_second (λ i. refl) b.released) (second_of_entries b.entries)) in
-    let y = grown as_first st q (before ++ resent b) (held Q1 b.entries) (resent_of as_first before b [] (held Q1 b.entries) (ap (λ (n : Flight). n.pub1) none) (none_of_released as_first (λ i. refl) b.released) (first_of_entries b.entries)) in
-    let z = grown as_pubrel st q (before ++ resent b) b.released (resent_of as_pubrel before b b.released [] (ap (λ (n : Flight). n.rel) none) (released_of b.released) (none_of_entries as_pubrel (λ e. refl) b.entries) ∙ append-nil b.released) in
-    let w = keep as_zeroth st q (before ++ resent b) (resent_of as_zeroth before b [] [] (ap (λ (n : Flight). n.msg) none) (none_of_released as_zeroth (λ i. refl) b.released) (none_of_entries as_zeroth no_zeroth b.entries)) in
-    λ k. record { pub2 = x k; pub1 = y k; rel = z k; msg = w k }
+    let x = grown as_second st q (before ++ resent b) (held Q2 b.entries)
+    (resent_of as_second before b [] (held Q2 b.entries) (ap (λ (n : Flight). n.publishes_2) none)
+    (none_of_released as_second (λ i. refl) b.released) (second_of_entries b.entries)) in
+    let y = grown as_first st q (before ++ resent b) (held Q1 b.entries)
+    (resent_of as_first before b [] (held Q1 b.entries) (ap (λ (n : Flight). n.publishes_1) none)
+    (none_of_released as_first (λ i. refl) b.released) (first_of_entries b.entries)) in
+    let z = grown as_pubrel st q (before ++ resent b) b.released
+    (resent_of as_pubrel before b b.released [] (ap (λ (n : Flight). n.pubrels) none) (released_of b.released)
+    (none_of_entries as_pubrel (λ e. refl) b.entries) ∙ append-nil b.released) in
+    let w = keep as_zeroth st q (before ++ resent b)
+    (resent_of as_zeroth before b [] [] (ap (λ (n : Flight). n.messages_0) none) (none_of_released as_zeroth (λ i. refl) b.released)
+    (none_of_entries as_zeroth no_zeroth b.entries)) in
+    λ k. record { publishes_2 = x k; publishes_1 = y k; pubrels = z k; messages_0 = w k }

@@ -59,7 +59,8 @@ pub record Stays (n : ℕ) (e : End) (r : Reply) : Type 0 where
   pub state : r.end.state ≡ e.state
   pub out : Below n r.out
 
-publish_stays : (n : ℕ) (q : Qos) (d : Option Delivery) (m : Message) (e : End) → FitsAs q d e.window e.received → publish_rank q d < suc n → n ≤ 3 → Stays n e (publish_gets q d m e)
+publish_stays : (n : ℕ) (q : Qos) (d : Option Delivery) (m : Message) (e : End) → FitsAs q d e.window e.received → publish_rank q d < suc n → n ≤ 3
+    → Stays n e (publish_gets q d m e)
 publish_stays n Q0 None m e f lt le = record { state = refl; out = tt }
 publish_stays n Q1 (Some d) m e f lt le = record { state = refl; out = (omega arith, tt) }
 publish_stays n Q2 (Some d) m e f lt le =
@@ -70,7 +71,8 @@ publish_stays n q d m e f lt le = absurd (omega arith)
 flow_stays : (n : ℕ) (p : Packet) (e : End) → FitsIn p e.window e.received → rank p < suc n → n ≤ 3 → Stays n e (flow_gets p e)
 flow_stays n (packets.Publish p) e f lt le = publish_stays n p.message.qos p.delivery p.message e f lt le
 flow_stays n (packets.PubAck i) e f lt le = record { state = refl; out = tt }
-flow_stays n (packets.PubRec i) e f lt le = record { state = refl; out = cond_both (is_awaited Q2 i e.book.entries) (packets.PubRel i ∷ []) [] (Below n) (λ t. (omega arith, tt)) (λ f. tt) }
+flow_stays n (packets.PubRec i) e f lt le =
+    record { state = refl; out = cond_both (is_awaited Q2 i e.book.entries) (packets.PubRel i ∷ []) [] (Below n) (λ t. (omega arith, tt)) (λ f. tt) }
 flow_stays n (packets.PubRel i) e f lt le = record { state = refl; out = (omega arith, tt) }
 flow_stays n (packets.PubComp i) e f lt le = record { state = refl; out = tt }
 flow_stays n p e f lt le = absurd (omega arith)
@@ -88,7 +90,8 @@ server_stays n packets.PingReq e f lt le = absurd (omega arith)
 server_stays n packets.Disconnect e f lt le = absurd (omega arith)
 server_stays n p e f lt le = flow_stays n p e f lt le
 
-stays : (side : Side) (n : ℕ) (p : Packet) (e : End) → FitsIn p e.window e.received → rank p < suc n → n ≤ 3 → Stays n (record e { state = Up }) (gets side p (record e { state = Up }))
+stays : (side : Side) (n : ℕ) (p : Packet) (e : End) → FitsIn p e.window e.received → rank p < suc n → n ≤ 3
+    → Stays n (record e { state = Up }) (gets side p (record e { state = Up }))
 stays Client n p e f lt le = client_stays n p (record e { state = Up }) f lt le
 stays Server n p e f lt le = server_stays n p (record e { state = Up }) f lt le
 
@@ -112,9 +115,11 @@ below_joined Up m q ps a b = each_append (λ p. rank p < m) q ps a b
 
 -- after one arrival
 abbrev pub Next : ℕ → ℕ → ℕ → Side → Half → Half → Accepted → Accepted → List Packet → Type 0
-Next capacity n m side x y old_x old_y rest = Draining capacity (suc n) m (moved side Arrives x).half (put (moved side Arrives x).out y) old_x old_y × ((moved side Arrives x).half.coming ≡ rest)
+Next capacity n m side x y old_x old_y rest =
+    Draining capacity (suc n) m (moved side Arrives x).half (put (moved side Arrives x).out y) old_x old_y × ((moved side Arrives x).half.coming ≡ rest)
 
-step_up : (capacity n m : ℕ) (side : Side) (h y : Half) (old_x old_y : Accepted) (p : Packet) (rest : List Packet) → n ≤ m → n ≤ 3 → Draining capacity (suc n) m (record h { end = record h.end { state = Up }; coming = p ∷ rest }) y old_x old_y
+step_up : (capacity n m : ℕ) (side : Side) (h y : Half) (old_x old_y : Accepted) (p : Packet) (rest : List Packet) → n ≤ m → n ≤ 3
+    → Draining capacity (suc n) m (record h { end = record h.end { state = Up }; coming = p ∷ rest }) y old_x old_y
     → Next capacity n m side (record h { end = record h.end { state = Up }; coming = p ∷ rest }) y old_x old_y rest
 step_up capacity n m side h y old_x old_y p rest le three d =
     let x : Half = record h { end = record h.end { state = Up }; coming = p ∷ rest } in
@@ -135,13 +140,17 @@ step_up capacity n m side h y old_x old_y p rest le three d =
       left,
     )
 
-step : (capacity n m : ℕ) (side : Side) (x y : Half) (old_x old_y : Accepted) (p : Packet) (rest : List Packet) → n ≤ m → n ≤ 3 → x.coming ≡ p ∷ rest → Draining capacity (suc n) m x y old_x old_y → Next capacity n m side x y old_x old_y rest
+step : (capacity n m : ℕ) (side : Side) (x y : Half) (old_x old_y : Accepted) (p : Packet) (rest : List Packet) → n ≤ m → n ≤ 3 → x.coming ≡ p ∷ rest
+    → Draining capacity (suc n) m x y old_x old_y → Next capacity n m side x y old_x old_y rest
 step capacity n m side x y old_x old_y p rest le three is d =
-    let P : State → List Packet → Type 0 = λ st q. Draining capacity (suc n) m (record x { end = record x.end { state = st }; coming = q }) y old_x old_y → Next capacity n m side (record x { end = record x.end { state = st }; coming = q }) y old_x old_y rest in
+    let P : State → List Packet → Type 0 =
+    λ st q. Draining capacity (suc n) m (record x { end = record x.end { state = st }; coming = q }) y old_x old_y
+    → Next capacity n m side (record x { end = record x.end { state = st }; coming = q }) y old_x old_y rest in
     let lit : P Up x.coming = subst (λ (q : List Packet). P Up q) (sym is) (step_up capacity n m side x y old_x old_y p rest le three) in
     subst (λ (st : State). P st x.coming) (sym d.up_x) lit d
 
-pub drained : (capacity n m : ℕ) (side : Side) (q : List Packet) (x y : Half) (old_x old_y : Accepted) → n ≤ m → n ≤ 3 → x.coming ≡ q → Draining capacity (suc n) m x y old_x old_y
+pub drained : (capacity n m : ℕ) (side : Side) (q : List Packet) (x y : Half) (old_x old_y : Accepted) → n ≤ m → n ≤ 3 → x.coming ≡ q
+    → Draining capacity (suc n) m x y old_x old_y
     → Draining capacity 0 m (arrive_at (length q) side x y).near (arrive_at (length q) side x y).far old_x old_y
 drained capacity n m side [] x y old_x old_y le three is d = record {
   both = d.both;

@@ -39,26 +39,34 @@ reached_on limit capacity m v moves r run = (r.0, r.1 ++ moves, chains.joins lim
 
 -- ---- sides
 
-pub side_near : (limit : Bounds) (capacity : ℕ) (side : Side) (w : Wired) (m : Machine) → Carries limit capacity w m → CarriesSide limit capacity (near side w) (half_of side m)
+pub side_near : (limit : Bounds) (capacity : ℕ) (side : Side) (w : Wired) (m : Machine) → Carries limit capacity w m
+    → CarriesSide limit capacity (near side w) (half_of side m)
 side_near limit capacity Client w m k = k.client
 side_near limit capacity Server w m k = k.server
 
-pub side_far : (limit : Bounds) (capacity : ℕ) (side : Side) (w : Wired) (m : Machine) → Carries limit capacity w m → CarriesSide limit capacity (far side w) (other side m)
+pub side_far : (limit : Bounds) (capacity : ℕ) (side : Side) (w : Wired) (m : Machine) → Carries limit capacity w m
+    → CarriesSide limit capacity (far side w) (other side m)
 side_far limit capacity Client w m k = k.server
 side_far limit capacity Server w m k = k.client
 
-both_sides : (limit : Bounds) (capacity : ℕ) (side : Side) (x y : WiredSide) (h g : Half) → CarriesSide limit capacity x h → CarriesSide limit capacity y g → Carries limit capacity (facing side x y) (face side h g)
+both_sides : (limit : Bounds) (capacity : ℕ) (side : Side) (x y : WiredSide) (h g : Half) → CarriesSide limit capacity x h
+    → CarriesSide limit capacity y g → Carries limit capacity (facing side x y) (face side h g)
 both_sides limit capacity Client x y h g a b = record { client = a; server = b }
 both_sides limit capacity Server x y h g a b = record { client = b; server = a }
 
-far_fits : (limit : Bounds) (capacity : ℕ) (side : Side) (w : Wired) (m : Machine) (x : WiredSide) (h : Half) (ps : List Packet) (c : List ℕ) → Stands limit capacity w m → Reached limit.most capacity (face side h (put ps (other side m))) → Spelled ps c
+far_fits : (limit : Bounds) (capacity : ℕ) (side : Side) (w : Wired) (m : Machine) (x : WiredSide) (h : Half) (ps : List Packet) (c : List ℕ)
+    → Stands limit capacity w m → Reached limit.most capacity (face side h (put ps (other side m))) → Spelled ps c
     → CarriesSide limit capacity (with_more c (far side w)) (put ps (other side m))
-far_fits limit capacity Client w m x h ps c k r s = grown limit capacity w.server m.server ps c k.large (reached_fits limit.most capacity (face Client h (put ps m.server)) r).1 s k.carries.server
-far_fits limit capacity Server w m x h ps c k r s = grown limit capacity w.client m.client ps c k.large (reached_fits limit.most capacity (face Server h (put ps m.client)) r).0 s k.carries.client
+far_fits limit capacity Client w m x h ps c k r s =
+    grown limit capacity w.server m.server ps c k.large (reached_fits limit.most capacity (face Client h (put ps m.server)) r).1 s k.carries.server
+far_fits limit capacity Server w m x h ps c k r s =
+    grown limit capacity w.client m.client ps c k.large (reached_fits limit.most capacity (face Server h (put ps m.client)) r).0 s k.carries.client
 
 -- a side moves, and what it puts out goes on its way to the other
-pub follows : (limit : Bounds) (capacity : ℕ) (side : Side) (w : Wired) (m : Machine) (moves : List Move) (x : WiredSide) (h : Half) (ps : List Packet) (c : List ℕ) → Stands limit capacity w m
-    → Run limit.most capacity m moves (face side h (put ps (other side m))) → Spelled ps c → CarriesSide limit capacity x h → Follows limit capacity m moves (facing side x (with_more c (far side w)))
+pub follows : (limit : Bounds) (capacity : ℕ) (side : Side) (w : Wired) (m : Machine) (moves : List Move) (x : WiredSide) (h : Half)
+    (ps : List Packet) (c : List ℕ) → Stands limit capacity w m
+    → Run limit.most capacity m moves (face side h (put ps (other side m))) → Spelled ps c → CarriesSide limit capacity x h
+    → Follows limit capacity m moves (facing side x (with_more c (far side w)))
 follows limit capacity side w m moves x h ps c k run s near_side =
     let v : Machine = face side h (put ps (other side m)) in
     let r = reached_on limit.most capacity m v moves k.reached run in
@@ -67,20 +75,26 @@ follows limit capacity side w m moves x h ps c k run s near_side =
       run = run;
       stands = record {
         large = k.large;
-        carries = both_sides limit capacity side x (with_more c (far side w)) h (put ps (other side m)) near_side (far_fits limit capacity side w m x h ps c k r s);
+        carries = both_sides limit capacity side x (with_more c (far side w)) h (put ps (other side m)) near_side
+            (far_fits limit capacity side w m x h ps c k r s);
         reached = r;
       };
     }
 
-one_move : (limit capacity : ℕ) (side : Side) (m : Machine) (action : Action) → May limit capacity side action (half_of side m) → Run limit capacity m (By side action ∷ []) (face side (moved side action (half_of side m)).half (put (moved side action (half_of side m)).out (other side m)))
+one_move : (limit capacity : ℕ) (side : Side) (m : Machine) (action : Action) → May limit capacity side action (half_of side m)
+    → Run limit capacity m (By side action ∷ [])
+    (face side (moved side action (half_of side m)).half (put (moved side action (half_of side m)).out (other side m)))
 one_move limit capacity Client m action may = (may, refl)
 one_move limit capacity Server m action may = (may, refl)
 
 -- the same for one move
-pub follows_one : (limit : Bounds) (capacity : ℕ) (side : Side) (w : Wired) (m : Machine) (action : Action) (x : WiredSide) (c : List ℕ) → Stands limit capacity w m → May limit.most capacity side action (half_of side m)
-    → Spelled (moved side action (half_of side m)).out c → CarriesSide limit capacity x (moved side action (half_of side m)).half → Follows limit capacity m (By side action ∷ []) (facing side x (with_more c (far side w)))
+pub follows_one : (limit : Bounds) (capacity : ℕ) (side : Side) (w : Wired) (m : Machine) (action : Action) (x : WiredSide) (c : List ℕ)
+    → Stands limit capacity w m → May limit.most capacity side action (half_of side m)
+    → Spelled (moved side action (half_of side m)).out c → CarriesSide limit capacity x (moved side action (half_of side m)).half
+    → Follows limit capacity m (By side action ∷ []) (facing side x (with_more c (far side w)))
 follows_one limit capacity side w m action x c k may s near_side =
-    follows limit capacity side w m (By side action ∷ []) x (moved side action (half_of side m)).half (moved side action (half_of side m)).out c k (one_move limit.most capacity side m action may) s near_side
+    follows limit capacity side w m (By side action ∷ []) x (moved side action (half_of side m)).half (moved side action (half_of side m)).out c k
+    (one_move limit.most capacity side m action may) s near_side
 
 -- nothing is put out
 pub no_more_bytes : (y : WiredSide) → with_more [] y ≡ y
@@ -92,7 +106,8 @@ all_put_out ps old new e p = subst (Spelled ps) (sym (p.2 ∙ ap (λ (b : List �
 
 -- ---- worlds
 
-pub blank : (limit : Bounds) (capacity : ℕ) (window : Option ℕ) (c s : EndState) → 64 ≤ limit.most → c.end ≡ blank_end window → c.limit ≡ limit → c.capacity ≡ capacity → s.end ≡ blank_end window → s.limit ≡ limit → s.capacity ≡ capacity
+pub blank : (limit : Bounds) (capacity : ℕ) (window : Option ℕ) (c s : EndState) → 64 ≤ limit.most → c.end ≡ blank_end window → c.limit ≡ limit
+    → c.capacity ≡ capacity → s.end ≡ blank_end window → s.limit ≡ limit → s.capacity ≡ capacity
     → Stands limit capacity (record { client = blank_side c; server = blank_side s }) (blank_machine window)
 blank limit capacity window c s large ce cl cc_ se sl sc = record {
   large = large;
@@ -116,25 +131,43 @@ alike_side limit capacity x y h a k = record {
   freed = a.freed ∙ k.freed;
 }
 
-pub alike : (limit : Bounds) (capacity : ℕ) (w v : Wired) (m : Machine) → Stands limit capacity w m → Alike w.client v.client → Alike w.server v.server → Stands limit capacity v m
+pub alike : (limit : Bounds) (capacity : ℕ) (w v : Wired) (m : Machine) → Stands limit capacity w m → Alike w.client v.client
+    → Alike w.server v.server → Stands limit capacity v m
 alike limit capacity w v m k a b = record {
   large = k.large;
-  carries = record { client = alike_side limit capacity w.client v.client m.client a k.carries.client; server = alike_side limit capacity w.server v.server m.server b k.carries.server };
+  carries = record {
+    client = alike_side limit capacity w.client v.client m.client a k.carries.client;
+    server = alike_side limit capacity w.server v.server m.server b k.carries.server;
+  };
   reached = k.reached;
 }
 
 pub alike_itself : (x : WiredSide) → Alike x x
-alike_itself x = record { end = refl; bytes = λ live. refl; output = refl; reserved = refl; bounds = (refl, refl); accepted = refl; handed = refl; freed = refl }
+alike_itself x =
+    record { end = refl; bytes = λ live. refl; output = refl; reserved = refl; bounds = (refl, refl); accepted = refl; handed = refl; freed = refl }
 
 unheard_side : (x : WiredSide) (left : List ℕ) → is_live x.state.end.state ≡ false → Alike x (record x { wire = left })
-unheard_side x left off = record { end = refl; bytes = λ live. absurd (true_not (sym live ∙ off)); output = refl; reserved = refl; bounds = (refl, refl); accepted = refl; handed = refl; freed = refl }
+unheard_side x left off =
+    record {
+      end = refl;
+      bytes = λ live. absurd (true_not (sym live ∙ off));
+      output = refl;
+      reserved = refl;
+      bounds = (refl, refl);
+      accepted = refl;
+      handed = refl;
+      freed = refl;
+    }
   where
     true_not : true ≡ false → ⊥
     true_not e = cc
 
-pub unheard : (limit : Bounds) (capacity : ℕ) (side : Side) (w : Wired) (m : Machine) (left : List ℕ) → Stands limit capacity w m → is_live (near side w).state.end.state ≡ false → Stands limit capacity (facing side (record (near side w) { wire = left }) (far side w)) m
-unheard limit capacity Client w m left k off = alike limit capacity w (record w { client = record w.client { wire = left } }) m k (unheard_side w.client left off) (alike_itself w.server)
-unheard limit capacity Server w m left k off = alike limit capacity w (record w { server = record w.server { wire = left } }) m k (alike_itself w.client) (unheard_side w.server left off)
+pub unheard : (limit : Bounds) (capacity : ℕ) (side : Side) (w : Wired) (m : Machine) (left : List ℕ) → Stands limit capacity w m
+    → is_live (near side w).state.end.state ≡ false → Stands limit capacity (facing side (record (near side w) { wire = left }) (far side w)) m
+unheard limit capacity Client w m left k off =
+    alike limit capacity w (record w { client = record w.client { wire = left } }) m k (unheard_side w.client left off) (alike_itself w.server)
+unheard limit capacity Server w m left k off =
+    alike limit capacity w (record w { server = record w.server { wire = left } }) m k (alike_itself w.client) (unheard_side w.server left off)
 
 -- ---- what every run keeps
 

@@ -1,5 +1,6 @@
 -- Each move keeps what holds between two sides.
-use Rattle.std.proofs.Common.{◌≡◌, ℕ, ◌+◌, Bool, true, false, cond, not, ◌&&◌, Some, None, List, [], ◌∷◌, ◌++◌, length, refl, sym, subst, ◌∙◌, arith, append-nil}
+use Rattle.std.proofs.Common.{◌≡◌, ℕ, ◌+◌, Bool, true, false, cond, not, ◌&&◌, Some, None, List, [], ◌∷◌, ◌++◌, length, refl, sym, subst, ◌∙◌, arith}
+use Rattle.std.proofs.Common.{append-nil}
 use Rattle.std.proofs.lemmas.Bool.{cond_both}
 use Rattle.mq_topic.specs.declared.qos.Qos.{Qos}
 use Rattle.mq_topic.specs.declared.qos.Qos.TheVariants.{Q0, Q1, Q2}
@@ -35,31 +36,42 @@ use Rattle.mq_world.proofs.Second.{Second}
 use Rattle.mq_world.proofs.Second as second
 use Rattle.mq_world.proofs.First.{First, Zeroth, zeroth_lost, zeroth_accepts}
 use Rattle.mq_world.proofs.First as first
-use Rattle.mq_world.proofs.Queues.{answers, flight, no_answers, no_flight, same_answers, same_flight, zeroth_joins, first_joins, second_joins, packet_0, packet_1, packet_2}
+use Rattle.mq_world.proofs.Queues.{answers, flight, no_answers, no_flight, same_answers, same_flight, zeroth_joins, first_joins, second_joins}
+use Rattle.mq_world.proofs.Queues.{packet_0, packet_1, packet_2}
 use Rattle.mq_world.proofs.Both.{IsPlain, IsSent, IsHeld, OwnOf, Both, finish, upon, close_keeps, up_keeps, calm_keeps}
 use Rattle.mq_world.proofs.Flows.{Keeps, flow_keeps}
 
 -- ---- the client takes a packet in
 
-connack_keeps : (capacity : ℕ) (h y : Half) (a : ConnAck) (rest : List Packet) → Both capacity (upon h Open (packets.ConnAck a ∷ rest)) y → Keeps capacity (upon h Open (packets.ConnAck a ∷ rest)) rest y (connack_gets a (upon h Open rest).end)
-connack_keeps capacity h y (connacks.Refused code) rest b = close_keeps capacity h y Open (packets.ConnAck (connacks.Refused code) ∷ rest) rest [] None refl refl tt b
+connack_keeps : (capacity : ℕ) (h y : Half) (a : ConnAck) (rest : List Packet) → Both capacity (upon h Open (packets.ConnAck a ∷ rest)) y
+    → Keeps capacity (upon h Open (packets.ConnAck a ∷ rest)) rest y (connack_gets a (upon h Open rest).end)
+connack_keeps capacity h y (connacks.Refused code) rest b =
+    close_keeps capacity h y Open (packets.ConnAck (connacks.Refused code) ∷ rest) rest [] None refl refl tt b
 connack_keeps capacity h y (connacks.Accepted present) rest b =
-    cond_both (h.end.known && not present) (closes reasons.SessionLost (upon h Open rest).end) (comes_up [] present (upon h Open rest).end) (Keeps capacity (upon h Open (packets.ConnAck (connacks.Accepted present) ∷ rest)) rest y)
+    cond_both (h.end.known && not present) (closes reasons.SessionLost (upon h Open rest).end) (comes_up [] present (upon h Open rest).end)
+    (Keeps capacity (upon h Open (packets.ConnAck (connacks.Accepted present) ∷ rest)) rest y)
     (λ t. close_keeps capacity h y Open (packets.ConnAck (connacks.Accepted present) ∷ rest) rest [] None refl refl tt b)
     (λ f. up_keeps capacity h y (packets.ConnAck (connacks.Accepted present)) rest [] h.end.keep_alive refl refl tt refl refl b)
 
-client_open_keeps : (capacity : ℕ) (h y : Half) (p : Packet) (rest : List Packet) → Both capacity (upon h Open (p ∷ rest)) y → Keeps capacity (upon h Open (p ∷ rest)) rest y (client_open_gets p (upon h Open rest).end)
+client_open_keeps : (capacity : ℕ) (h y : Half) (p : Packet) (rest : List Packet) → Both capacity (upon h Open (p ∷ rest)) y
+    → Keeps capacity (upon h Open (p ∷ rest)) rest y (client_open_gets p (upon h Open rest).end)
 client_open_keeps capacity h y (packets.ConnAck a) rest b = connack_keeps capacity h y a rest b
 client_open_keeps capacity h y p rest b = close_keeps capacity h y Open (p ∷ rest) rest [] None refl refl tt b
 
-client_up_keeps : (capacity : ℕ) (h y : Half) (p : Packet) (rest : List Packet) → Both capacity (upon h Up (p ∷ rest)) y → Keeps capacity (upon h Up (p ∷ rest)) rest y (client_up_gets p (upon h Up rest).end)
+client_up_keeps : (capacity : ℕ) (h y : Half) (p : Packet) (rest : List Packet) → Both capacity (upon h Up (p ∷ rest)) y
+    → Keeps capacity (upon h Up (p ∷ rest)) rest y (client_up_gets p (upon h Up rest).end)
 client_up_keeps capacity h y (packets.SubAck i codes) rest b =
-    cond_both (awaits_suback i (length codes) h.end.book) (tells (happens.SubAck i codes) (record (upon h Up rest).end { book = release i h.end.book })) (closes reasons.Unexpected (upon h Up rest).end) (Keeps capacity (upon h Up (packets.SubAck i codes ∷ rest)) rest y)
-    (λ t. calm_keeps capacity h y Up (packets.SubAck i codes) rest [] (without_claim i h.end.book.claimed) refl refl tt refl refl (books.releases capacity i h.end.book b.own_x.0) b)
+    cond_both (awaits_suback i (length codes) h.end.book)
+    (tells (happens.SubAck i codes) (record (upon h Up rest).end { book = release i h.end.book }))
+    (closes reasons.Unexpected (upon h Up rest).end) (Keeps capacity (upon h Up (packets.SubAck i codes ∷ rest)) rest y)
+    (λ t. calm_keeps capacity h y Up (packets.SubAck i codes) rest [] (without_claim i h.end.book.claimed) refl refl tt refl refl
+    (books.releases capacity i h.end.book b.own_x.0) b)
     (λ f. close_keeps capacity h y Up (packets.SubAck i codes ∷ rest) rest [] None refl refl tt b)
 client_up_keeps capacity h y (packets.UnsubAck i) rest b =
-    cond_both (awaits_unsuback i h.end.book) (tells (happens.UnsubAck i) (record (upon h Up rest).end { book = release i h.end.book })) (closes reasons.Unexpected (upon h Up rest).end) (Keeps capacity (upon h Up (packets.UnsubAck i ∷ rest)) rest y)
-    (λ t. calm_keeps capacity h y Up (packets.UnsubAck i) rest [] (without_claim i h.end.book.claimed) refl refl tt refl refl (books.releases capacity i h.end.book b.own_x.0) b)
+    cond_both (awaits_unsuback i h.end.book) (tells (happens.UnsubAck i) (record (upon h Up rest).end { book = release i h.end.book }))
+    (closes reasons.Unexpected (upon h Up rest).end) (Keeps capacity (upon h Up (packets.UnsubAck i ∷ rest)) rest y)
+    (λ t. calm_keeps capacity h y Up (packets.UnsubAck i) rest [] (without_claim i h.end.book.claimed) refl refl tt refl refl
+    (books.releases capacity i h.end.book b.own_x.0) b)
     (λ f. close_keeps capacity h y Up (packets.UnsubAck i ∷ rest) rest [] None refl refl tt b)
 client_up_keeps capacity h y packets.PingResp rest b = calm_keeps capacity h y Up packets.PingResp rest [] h.end.book.claimed refl refl tt refl refl b.own_x.0 b
 client_up_keeps capacity h y p rest b = flow_keeps capacity h y p rest b
@@ -67,7 +79,8 @@ client_up_keeps capacity h y p rest b = flow_keeps capacity h y p rest b
 -- a closed side takes nothing in
 closed_keeps : (capacity : ℕ) (h y : Half) (q : List Packet) → Both capacity (upon h Closed q) y → Both capacity (upon h Closed []) (put [] y)
 closed_keeps capacity h y q b =
-    finish capacity (upon h Closed q) y (upon h Closed []) [] (answers y.coming) (flight y.coming) (same_answers y.end.state y.coming [] refl) (same_flight y.end.state y.coming [] refl)
+    finish capacity (upon h Closed q) y (upon h Closed []) [] (answers y.coming) (flight y.coming) (same_answers y.end.state y.coming [] refl)
+    (same_flight y.end.state y.coming [] refl)
     (second.sender_drops b.to_y.0, first.sender_drops b.to_y.1, b.to_y.2)
     (second.receiver_drops b.to_x.0, first.receiver_drops b.to_x.1, zeroth_lost _ _ _ b.to_x.2)
     b.own_x
@@ -76,49 +89,70 @@ closed_keeps capacity h y q b =
     tt
     b
 
-client_keeps : (capacity : ℕ) (h y : Half) (st : State) (p : Packet) (rest : List Packet) → Both capacity (upon h st (p ∷ rest)) y → Keeps capacity (upon h st (p ∷ rest)) rest y (client_gets_in st p (upon h st rest).end)
+client_keeps : (capacity : ℕ) (h y : Half) (st : State) (p : Packet) (rest : List Packet) → Both capacity (upon h st (p ∷ rest)) y
+    → Keeps capacity (upon h st (p ∷ rest)) rest y (client_gets_in st p (upon h st rest).end)
 client_keeps capacity h y Closed p rest b = closed_keeps capacity h y (p ∷ rest) b
 client_keeps capacity h y Open p rest b = client_open_keeps capacity h y p rest b
 client_keeps capacity h y Up p rest b = client_up_keeps capacity h y p rest b
 
 -- ---- the server takes a packet in
 
-connect_keeps : (capacity : ℕ) (h y : Half) (c : Connect) (rest : List Packet) → Both capacity (upon h Open (packets.Connect c ∷ rest)) y → Keeps capacity (upon h Open (packets.Connect c ∷ rest)) rest y (connect_gets c (upon h Open rest).end)
+connect_keeps : (capacity : ℕ) (h y : Half) (c : Connect) (rest : List Packet) → Both capacity (upon h Open (packets.Connect c ∷ rest)) y
+    → Keeps capacity (upon h Open (packets.Connect c ∷ rest)) rest y (connect_gets c (upon h Open rest).end)
 connect_keeps capacity h y c rest b =
-    let P : Connect → Type 0 = λ c. Both capacity (upon h Open (packets.Connect c ∷ rest)) y → Keeps capacity (upon h Open (packets.Connect c ∷ rest)) rest y (connect_gets c (upon h Open rest).end) in
-    subst P (sym b.queue_x.0) (λ b. up_keeps capacity h y (packets.Connect first_packet) rest (packets.ConnAck (connacks.Accepted h.end.known) ∷ []) 60 refl refl (tt, tt) refl refl b) b
+    let P : Connect → Type 0 =
+    λ c. Both capacity (upon h Open (packets.Connect c ∷ rest)) y
+    → Keeps capacity (upon h Open (packets.Connect c ∷ rest)) rest y (connect_gets c (upon h Open rest).end) in
+    subst P (sym b.queue_x.0) (λ b. up_keeps capacity h y (packets.Connect first_packet) rest
+    (packets.ConnAck (connacks.Accepted h.end.known) ∷ []) 60 refl refl (tt, tt) refl refl b) b
 
-server_open_keeps : (capacity : ℕ) (h y : Half) (p : Packet) (rest : List Packet) → Both capacity (upon h Open (p ∷ rest)) y → Keeps capacity (upon h Open (p ∷ rest)) rest y (server_open_gets p (upon h Open rest).end)
+server_open_keeps : (capacity : ℕ) (h y : Half) (p : Packet) (rest : List Packet) → Both capacity (upon h Open (p ∷ rest)) y
+    → Keeps capacity (upon h Open (p ∷ rest)) rest y (server_open_gets p (upon h Open rest).end)
 server_open_keeps capacity h y (packets.Connect c) rest b = connect_keeps capacity h y c rest b
 server_open_keeps capacity h y p rest b = close_keeps capacity h y Open (p ∷ rest) rest [] None refl refl tt b
 
-server_up_keeps : (capacity : ℕ) (h y : Half) (p : Packet) (rest : List Packet) → Both capacity (upon h Up (p ∷ rest)) y → Keeps capacity (upon h Up (p ∷ rest)) rest y (server_up_gets p (upon h Up rest).end)
-server_up_keeps capacity h y (packets.Subscribe i requests) rest b = calm_keeps capacity h y Up (packets.Subscribe i requests) rest [] h.end.book.claimed refl refl tt refl refl b.own_x.0 b
-server_up_keeps capacity h y (packets.Unsubscribe i filters) rest b = calm_keeps capacity h y Up (packets.Unsubscribe i filters) rest [] h.end.book.claimed refl refl tt refl refl b.own_x.0 b
-server_up_keeps capacity h y packets.PingReq rest b = calm_keeps capacity h y Up packets.PingReq rest (packets.PingResp ∷ []) h.end.book.claimed refl refl (tt, tt) refl refl b.own_x.0 b
+server_up_keeps : (capacity : ℕ) (h y : Half) (p : Packet) (rest : List Packet) → Both capacity (upon h Up (p ∷ rest)) y
+    → Keeps capacity (upon h Up (p ∷ rest)) rest y (server_up_gets p (upon h Up rest).end)
+server_up_keeps capacity h y (packets.Subscribe i requests) rest b =
+    calm_keeps capacity h y Up (packets.Subscribe i requests) rest [] h.end.book.claimed refl refl tt refl refl b.own_x.0 b
+server_up_keeps capacity h y (packets.Unsubscribe i filters) rest b =
+    calm_keeps capacity h y Up (packets.Unsubscribe i filters) rest [] h.end.book.claimed refl refl tt refl refl b.own_x.0 b
+server_up_keeps capacity h y packets.PingReq rest b =
+    calm_keeps capacity h y Up packets.PingReq rest (packets.PingResp ∷ []) h.end.book.claimed refl refl (tt, tt) refl refl b.own_x.0 b
 server_up_keeps capacity h y packets.Disconnect rest b = close_keeps capacity h y Up (packets.Disconnect ∷ rest) rest [] None refl refl tt b
 server_up_keeps capacity h y p rest b = flow_keeps capacity h y p rest b
 
-server_keeps : (capacity : ℕ) (h y : Half) (st : State) (p : Packet) (rest : List Packet) → Both capacity (upon h st (p ∷ rest)) y → Keeps capacity (upon h st (p ∷ rest)) rest y (server_gets_in st p (upon h st rest).end)
+server_keeps : (capacity : ℕ) (h y : Half) (st : State) (p : Packet) (rest : List Packet) → Both capacity (upon h st (p ∷ rest)) y
+    → Keeps capacity (upon h st (p ∷ rest)) rest y (server_gets_in st p (upon h st rest).end)
 server_keeps capacity h y Closed p rest b = closed_keeps capacity h y (p ∷ rest) b
 server_keeps capacity h y Open p rest b = server_open_keeps capacity h y p rest b
 server_keeps capacity h y Up p rest b = server_up_keeps capacity h y p rest b
 
 -- nothing comes, nothing goes out
-pub still_keeps : (capacity : ℕ) (x y : Half) (ps : List Packet) → answers ps ≡ no_answers → flight ps ≡ no_flight → Each IsPlain ps → Both capacity x y → Both capacity x (put ps y)
+pub still_keeps : (capacity : ℕ) (x y : Half) (ps : List Packet) → answers ps ≡ no_answers → flight ps ≡ no_flight → Each IsPlain ps
+    → Both capacity x y → Both capacity x (put ps y)
 still_keeps capacity x y ps no_an no_fl plain b =
-    finish capacity x y x ps (answers y.coming) (flight y.coming) (same_answers y.end.state y.coming ps no_an) (same_flight y.end.state y.coming ps no_fl) b.to_y b.to_x b.own_x b.kept_x b.queue_x plain b
+    finish capacity x y x ps (answers y.coming) (flight y.coming) (same_answers y.end.state y.coming ps no_an)
+    (same_flight y.end.state y.coming ps no_fl) b.to_y b.to_x b.own_x b.kept_x b.queue_x plain b
 
-arrival_keeps : (capacity : ℕ) (side : Side) (h y : Half) (st : State) (q : List Packet) → Both capacity (upon h st q) y → Both capacity (arrival q side (upon h st q)).half (put (arrival q side (upon h st q)).out y)
+arrival_keeps : (capacity : ℕ) (side : Side) (h y : Half) (st : State) (q : List Packet) → Both capacity (upon h st q) y
+    → Both capacity (arrival q side (upon h st q)).half (put (arrival q side (upon h st q)).out y)
 arrival_keeps capacity side h y st [] b = still_keeps capacity (upon h st []) y [] refl refl tt b
 arrival_keeps capacity Client h y st (p ∷ rest) b = client_keeps capacity h y st p rest b
 arrival_keeps capacity Server h y st (p ∷ rest) b = server_keeps capacity h y st p rest b
 
 -- ---- a message is accepted
 
-published_0 : (capacity : ℕ) (h y : Half) (st : State) (q : List Packet) (i : ℕ) (m : Message) → Both capacity (upon h st q) y → Both capacity (publication i (record m { qos = Q0 }) (upon h st q)).half (put (publication i (record m { qos = Q0 }) (upon h st q)).out y)
+published_0 : (capacity : ℕ) (h y : Half) (st : State) (q : List Packet) (i : ℕ) (m : Message) → Both capacity (upon h st q) y
+    → Both capacity (publication i (record m { qos = Q0 }) (upon h st q)).half (put (publication i (record m { qos = Q0 }) (upon h st q)).out y)
 published_0 capacity h y st q i m b =
-    finish capacity (upon h st q) y (publication i (record m { qos = Q0 }) (upon h st q)).half (packet_0 m ∷ []) (answers y.coming) (record { pub2 = (flight y.coming).pub2; pub1 = (flight y.coming).pub1; rel = (flight y.coming).rel; msg = joined y.end.state (flight y.coming).msg (record m { qos = Q0 } ∷ []) })
+    finish capacity (upon h st q) y (publication i (record m { qos = Q0 }) (upon h st q)).half (packet_0 m ∷ []) (answers y.coming)
+    (record {
+      publishes_2 = (flight y.coming).publishes_2;
+      publishes_1 = (flight y.coming).publishes_1;
+      pubrels = (flight y.coming).pubrels;
+      messages_0 = joined y.end.state (flight y.coming).messages_0 (record m { qos = Q0 } ∷ []);
+    })
     (same_answers y.end.state y.coming (packet_0 m ∷ []) refl) (zeroth_joins y.end.state y.coming m)
     (b.to_y.0, b.to_y.1, zeroth_accepts y.end.state _ _ _ (record m { qos = Q0 }) b.to_y.2)
     b.to_x
@@ -129,35 +163,53 @@ published_0 capacity h y st q i m b =
     b
 
 -- what is held with one more message
-held_1 : (es : List Entry) (i : ℕ) (m : Message) (sent : Bool) → held Q1 (es ++ record { id = i; message = record m { qos = Q1 }; sent = sent } ∷ []) ≡ held Q1 es ++ (i, record m { qos = Q1 }) ∷ []
+held_1 : (es : List Entry) (i : ℕ) (m : Message) (sent : Bool)
+    → held Q1 (es ++ record { id = i; message = record m { qos = Q1 }; sent = sent } ∷ []) ≡ held Q1 es ++ (i, record m { qos = Q1 }) ∷ []
 held_1 es i m sent = held_append Q1 es (record { id = i; message = record m { qos = Q1 }; sent = sent } ∷ [])
 
-held_1_other : (es : List Entry) (i : ℕ) (m : Message) (sent : Bool) → held Q2 (es ++ record { id = i; message = record m { qos = Q1 }; sent = sent } ∷ []) ≡ held Q2 es
+held_1_other : (es : List Entry) (i : ℕ) (m : Message) (sent : Bool)
+    → held Q2 (es ++ record { id = i; message = record m { qos = Q1 }; sent = sent } ∷ []) ≡ held Q2 es
 held_1_other es i m sent = held_append Q2 es (record { id = i; message = record m { qos = Q1 }; sent = sent } ∷ []) ∙ append-nil (held Q2 es)
 
-held_2 : (es : List Entry) (i : ℕ) (m : Message) (sent : Bool) → held Q2 (es ++ record { id = i; message = record m { qos = Q2 }; sent = sent } ∷ []) ≡ held Q2 es ++ (i, record m { qos = Q2 }) ∷ []
+held_2 : (es : List Entry) (i : ℕ) (m : Message) (sent : Bool)
+    → held Q2 (es ++ record { id = i; message = record m { qos = Q2 }; sent = sent } ∷ []) ≡ held Q2 es ++ (i, record m { qos = Q2 }) ∷ []
 held_2 es i m sent = held_append Q2 es (record { id = i; message = record m { qos = Q2 }; sent = sent } ∷ [])
 
-held_2_other : (es : List Entry) (i : ℕ) (m : Message) (sent : Bool) → held Q1 (es ++ record { id = i; message = record m { qos = Q2 }; sent = sent } ∷ []) ≡ held Q1 es
+held_2_other : (es : List Entry) (i : ℕ) (m : Message) (sent : Bool)
+    → held Q1 (es ++ record { id = i; message = record m { qos = Q2 }; sent = sent } ∷ []) ≡ held Q1 es
 held_2_other es i m sent = held_append Q1 es (record { id = i; message = record m { qos = Q2 }; sent = sent } ∷ []) ∙ append-nil (held Q1 es)
 
 -- a message of quality of service 1 or 2 is in the book, unsent
-unsent_own : (capacity : ℕ) (st : State) (b : SenderBook) (e : Entry) → is_up st ≡ false → IsHeld e → OwnOf capacity st b → IsSound capacity (record b { entries = b.entries ++ e ∷ [] }) → OwnOf capacity st (record b { entries = b.entries ++ e ∷ [] })
+unsent_own : (capacity : ℕ) (st : State) (b : SenderBook) (e : Entry) → is_up st ≡ false → IsHeld e → OwnOf capacity st b
+    → IsSound capacity (record b { entries = b.entries ++ e ∷ [] }) → OwnOf capacity st (record b { entries = b.entries ++ e ∷ [] })
 unsent_own capacity st b e down is_held own s =
     (s, subst (λ (t : Bool). When t (Each IsSent (b.entries ++ e ∷ []))) (sym down) tt, each_append IsHeld b.entries (e ∷ []) own.2 (is_held, tt))
 
-sent_own : (capacity : ℕ) (b : SenderBook) (e : Entry) → IsSent e → IsHeld e → OwnOf capacity Up b → IsSound capacity (record b { entries = b.entries ++ e ∷ [] }) → OwnOf capacity Up (record b { entries = b.entries ++ e ∷ [] })
+sent_own : (capacity : ℕ) (b : SenderBook) (e : Entry) → IsSent e → IsHeld e → OwnOf capacity Up b
+    → IsSound capacity (record b { entries = b.entries ++ e ∷ [] }) → OwnOf capacity Up (record b { entries = b.entries ++ e ∷ [] })
 sent_own capacity b e is_sent is_held own s =
     (s, each_append IsSent b.entries (e ∷ []) own.1 (is_sent, tt), each_append IsHeld b.entries (e ∷ []) own.2 (is_held, tt))
 
-down_1 : (capacity : ℕ) (h y : Half) (st : State) (q : List Packet) (i : ℕ) (m : Message) → is_up st ≡ false → IsSound capacity (accept i (record m { qos = Q1 }) false h.end.book) → Both capacity (upon h st q) y
-    → Both capacity (record (upon h st q) { end = record (upon h st q).end { book = accept i (record m { qos = Q1 }) false h.end.book; last = i }; accepted = accepted_with Q1 i (record m { qos = Q1 }) h.accepted }) (put [] y)
+down_1 : (capacity : ℕ) (h y : Half) (st : State) (q : List Packet) (i : ℕ) (m : Message) → is_up st ≡ false
+    → IsSound capacity (accept i (record m { qos = Q1 }) false h.end.book) → Both capacity (upon h st q) y
+    → Both capacity (record (upon h st q) {
+      end = record (upon h st q).end { book = accept i (record m { qos = Q1 }) false h.end.book; last = i };
+      accepted = accepted_with Q1 i (record m { qos = Q1 }) h.accepted;
+    }) (put [] y)
 down_1 capacity h y st q i m down s b =
-    finish capacity (upon h st q) y (record (upon h st q) { end = record (upon h st q).end { book = accept i (record m { qos = Q1 }) false h.end.book; last = i }; accepted = accepted_with Q1 i (record m { qos = Q1 }) h.accepted }) []
+    finish capacity (upon h st q) y
+    (record (upon h st q) {
+      end = record (upon h st q).end { book = accept i (record m { qos = Q1 }) false h.end.book; last = i };
+      accepted = accepted_with Q1 i (record m { qos = Q1 }) h.accepted;
+    }) []
     (answers y.coming) (flight y.coming) (same_answers y.end.state y.coming [] refl) (same_flight y.end.state y.coming [] refl) (
-      subst (λ (E : List (ℕ × Message)). Second st y.end.state E h.end.book.released y.end.received (answers q).rec (answers q).comp (flight y.coming).pub2 (flight y.coming).rel h.accepted.exactly_once y.handed.exactly_once) (sym (held_1_other h.end.book.entries i m false)) b.to_y.0,
-      subst (λ (E : List (ℕ × Message)). First st y.end.state E (answers q).ack (flight y.coming).pub1 (h.accepted.at_least_once ++ (i, record m { qos = Q1 }) ∷ []) y.handed.at_least_once h.freed) (sym (held_1 h.end.book.entries i m false))
-          (first.accepts i (record m { qos = Q1 }) (flight y.coming).pub1 b.to_y.1 (stages.accepted_down _ _ _ _ _ _ _ (i, record m { qos = Q1 }) down b.to_y.1.e)),
+      subst (λ (entries_now : List (ℕ × Message)). Second st y.end.state entries_now h.end.book.released y.end.received (answers q).pubrecs
+          (answers q).pubcomps (flight y.coming).publishes_2 (flight y.coming).pubrels h.accepted.exactly_once y.handed.exactly_once) (sym
+          (held_1_other h.end.book.entries i m false)) b.to_y.0,
+      subst (λ (entries_now : List (ℕ × Message)). First st y.end.state entries_now (answers q).pubacks (flight y.coming).publishes_1
+          (h.accepted.at_least_once ++ (i, record m { qos = Q1 }) ∷ []) y.handed.at_least_once h.freed) (sym (held_1 h.end.book.entries i m false))
+          (first.accepts i (record m { qos = Q1 }) (flight y.coming).publishes_1 b.to_y.1
+          (stages.accepted_down _ _ _ _ _ _ _ (i, record m { qos = Q1 }) down b.to_y.1.entry_stages)),
       b.to_y.2,
     )
     b.to_x
@@ -167,15 +219,33 @@ down_1 capacity h y st q i m down s b =
     tt
     b
 
-up_1 : (capacity : ℕ) (h y : Half) (q : List Packet) (i : ℕ) (m : Message) → IsSound capacity (accept i (record m { qos = Q1 }) true h.end.book) → Both capacity (upon h Up q) y
-    → Both capacity (record (upon h Up q) { end = record (upon h Up q).end { book = accept i (record m { qos = Q1 }) true h.end.book; last = i }; accepted = accepted_with Q1 i (record m { qos = Q1 }) h.accepted }) (put (packet_1 i m ∷ []) y)
+up_1 : (capacity : ℕ) (h y : Half) (q : List Packet) (i : ℕ) (m : Message) → IsSound capacity (accept i (record m { qos = Q1 }) true h.end.book)
+    → Both capacity (upon h Up q) y
+    → Both capacity (record (upon h Up q) {
+      end = record (upon h Up q).end { book = accept i (record m { qos = Q1 }) true h.end.book; last = i };
+      accepted = accepted_with Q1 i (record m { qos = Q1 }) h.accepted;
+    }) (put (packet_1 i m ∷ []) y)
 up_1 capacity h y q i m s b =
-    finish capacity (upon h Up q) y (record (upon h Up q) { end = record (upon h Up q).end { book = accept i (record m { qos = Q1 }) true h.end.book; last = i }; accepted = accepted_with Q1 i (record m { qos = Q1 }) h.accepted }) (packet_1 i m ∷ [])
-    (answers y.coming) (record { pub2 = (flight y.coming).pub2; pub1 = joined y.end.state (flight y.coming).pub1 ((i, record m { qos = Q1 }) ∷ []); rel = (flight y.coming).rel; msg = (flight y.coming).msg })
+    finish capacity (upon h Up q) y
+    (record (upon h Up q) {
+      end = record (upon h Up q).end { book = accept i (record m { qos = Q1 }) true h.end.book; last = i };
+      accepted = accepted_with Q1 i (record m { qos = Q1 }) h.accepted;
+    }) (packet_1 i m ∷ [])
+    (answers y.coming) (record {
+      publishes_2 = (flight y.coming).publishes_2;
+      publishes_1 = joined y.end.state (flight y.coming).publishes_1 ((i, record m { qos = Q1 }) ∷ []);
+      pubrels = (flight y.coming).pubrels;
+      messages_0 = (flight y.coming).messages_0;
+    })
     (same_answers y.end.state y.coming (packet_1 i m ∷ []) refl) (first_joins y.end.state y.coming i m) (
-      subst (λ (E : List (ℕ × Message)). Second Up y.end.state E h.end.book.released y.end.received (answers q).rec (answers q).comp (flight y.coming).pub2 (flight y.coming).rel h.accepted.exactly_once y.handed.exactly_once) (sym (held_1_other h.end.book.entries i m true)) b.to_y.0,
-      subst (λ (E : List (ℕ × Message)). First Up y.end.state E (answers q).ack (joined y.end.state (flight y.coming).pub1 ((i, record m { qos = Q1 }) ∷ [])) (h.accepted.at_least_once ++ (i, record m { qos = Q1 }) ∷ []) y.handed.at_least_once h.freed) (sym (held_1 h.end.book.entries i m true))
-          (first.accepts i (record m { qos = Q1 }) (joined y.end.state (flight y.coming).pub1 ((i, record m { qos = Q1 }) ∷ [])) b.to_y.1 (stages.accepted_up _ _ _ _ _ _ (i, record m { qos = Q1 }) b.to_y.1.e)),
+      subst (λ (entries_now : List (ℕ × Message)). Second Up y.end.state entries_now h.end.book.released y.end.received (answers q).pubrecs
+          (answers q).pubcomps (flight y.coming).publishes_2 (flight y.coming).pubrels h.accepted.exactly_once y.handed.exactly_once) (sym
+          (held_1_other h.end.book.entries i m true)) b.to_y.0,
+      subst (λ (entries_now : List (ℕ × Message)). First Up y.end.state entries_now (answers q).pubacks
+          (joined y.end.state (flight y.coming).publishes_1 ((i, record m { qos = Q1 }) ∷ []))
+          (h.accepted.at_least_once ++ (i, record m { qos = Q1 }) ∷ []) y.handed.at_least_once h.freed) (sym (held_1 h.end.book.entries i m true))
+          (first.accepts i (record m { qos = Q1 }) (joined y.end.state (flight y.coming).publishes_1 ((i, record m { qos = Q1 }) ∷ [])) b.to_y.1
+          (stages.accepted_up _ _ _ _ _ _ (i, record m { qos = Q1 }) b.to_y.1.entry_stages)),
       b.to_y.2,
     )
     b.to_x
@@ -188,14 +258,26 @@ up_1 capacity h y q i m s b =
 fresh_2 : (b : SenderBook) (i : ℕ) → IsFree b i → times i (ids (held Q2 b.entries)) + times i b.released ≡ 0
 fresh_2 b i free = let z = free.1 in let e = times_uses i b in let f = times_held i b.entries in omega arith
 
-down_2 : (capacity : ℕ) (h y : Half) (st : State) (q : List Packet) (i : ℕ) (m : Message) → is_up st ≡ false → IsFree h.end.book i → IsSound capacity (accept i (record m { qos = Q2 }) false h.end.book) → Both capacity (upon h st q) y
-    → Both capacity (record (upon h st q) { end = record (upon h st q).end { book = accept i (record m { qos = Q2 }) false h.end.book; last = i }; accepted = accepted_with Q2 i (record m { qos = Q2 }) h.accepted }) (put [] y)
+down_2 : (capacity : ℕ) (h y : Half) (st : State) (q : List Packet) (i : ℕ) (m : Message) → is_up st ≡ false → IsFree h.end.book i
+    → IsSound capacity (accept i (record m { qos = Q2 }) false h.end.book) → Both capacity (upon h st q) y
+    → Both capacity (record (upon h st q) {
+      end = record (upon h st q).end { book = accept i (record m { qos = Q2 }) false h.end.book; last = i };
+      accepted = accepted_with Q2 i (record m { qos = Q2 }) h.accepted;
+    }) (put [] y)
 down_2 capacity h y st q i m down free s b =
-    finish capacity (upon h st q) y (record (upon h st q) { end = record (upon h st q).end { book = accept i (record m { qos = Q2 }) false h.end.book; last = i }; accepted = accepted_with Q2 i (record m { qos = Q2 }) h.accepted }) []
+    finish capacity (upon h st q) y
+    (record (upon h st q) {
+      end = record (upon h st q).end { book = accept i (record m { qos = Q2 }) false h.end.book; last = i };
+      accepted = accepted_with Q2 i (record m { qos = Q2 }) h.accepted;
+    }) []
     (answers y.coming) (flight y.coming) (same_answers y.end.state y.coming [] refl) (same_flight y.end.state y.coming [] refl) (
-      subst (λ (E : List (ℕ × Message)). Second st y.end.state E h.end.book.released y.end.received (answers q).rec (answers q).comp (flight y.coming).pub2 (flight y.coming).rel (h.accepted.exactly_once ++ record m { qos = Q2 } ∷ []) y.handed.exactly_once) (sym (held_2 h.end.book.entries i m false))
-          (second.accepts i (record m { qos = Q2 }) (flight y.coming).pub2 b.to_y.0 (fresh_2 h.end.book i free) (stages.accepted_down _ _ _ _ _ _ _ (i, record m { qos = Q2 }) down b.to_y.0.e)),
-      subst (λ (E : List (ℕ × Message)). First st y.end.state E (answers q).ack (flight y.coming).pub1 h.accepted.at_least_once y.handed.at_least_once h.freed) (sym (held_2_other h.end.book.entries i m false)) b.to_y.1,
+      subst (λ (entries_now : List (ℕ × Message)). Second st y.end.state entries_now h.end.book.released y.end.received (answers q).pubrecs
+          (answers q).pubcomps (flight y.coming).publishes_2 (flight y.coming).pubrels
+          (h.accepted.exactly_once ++ record m { qos = Q2 } ∷ []) y.handed.exactly_once) (sym (held_2 h.end.book.entries i m false))
+          (second.accepts i (record m { qos = Q2 }) (flight y.coming).publishes_2 b.to_y.0 (fresh_2 h.end.book i free)
+          (stages.accepted_down _ _ _ _ _ _ _ (i, record m { qos = Q2 }) down b.to_y.0.entry_stages)),
+      subst (λ (entries_now : List (ℕ × Message)). First st y.end.state entries_now (answers q).pubacks
+          (flight y.coming).publishes_1 h.accepted.at_least_once y.handed.at_least_once h.freed) (sym (held_2_other h.end.book.entries i m false)) b.to_y.1,
       b.to_y.2,
     )
     b.to_x
@@ -205,15 +287,32 @@ down_2 capacity h y st q i m down free s b =
     tt
     b
 
-up_2 : (capacity : ℕ) (h y : Half) (q : List Packet) (i : ℕ) (m : Message) → IsFree h.end.book i → IsSound capacity (accept i (record m { qos = Q2 }) true h.end.book) → Both capacity (upon h Up q) y
-    → Both capacity (record (upon h Up q) { end = record (upon h Up q).end { book = accept i (record m { qos = Q2 }) true h.end.book; last = i }; accepted = accepted_with Q2 i (record m { qos = Q2 }) h.accepted }) (put (packet_2 i m ∷ []) y)
+up_2 : (capacity : ℕ) (h y : Half) (q : List Packet) (i : ℕ) (m : Message) → IsFree h.end.book i
+    → IsSound capacity (accept i (record m { qos = Q2 }) true h.end.book) → Both capacity (upon h Up q) y
+    → Both capacity (record (upon h Up q) {
+      end = record (upon h Up q).end { book = accept i (record m { qos = Q2 }) true h.end.book; last = i };
+      accepted = accepted_with Q2 i (record m { qos = Q2 }) h.accepted;
+    }) (put (packet_2 i m ∷ []) y)
 up_2 capacity h y q i m free s b =
-    finish capacity (upon h Up q) y (record (upon h Up q) { end = record (upon h Up q).end { book = accept i (record m { qos = Q2 }) true h.end.book; last = i }; accepted = accepted_with Q2 i (record m { qos = Q2 }) h.accepted }) (packet_2 i m ∷ [])
-    (answers y.coming) (record { pub2 = joined y.end.state (flight y.coming).pub2 ((i, record m { qos = Q2 }) ∷ []); pub1 = (flight y.coming).pub1; rel = (flight y.coming).rel; msg = (flight y.coming).msg })
+    finish capacity (upon h Up q) y
+    (record (upon h Up q) {
+      end = record (upon h Up q).end { book = accept i (record m { qos = Q2 }) true h.end.book; last = i };
+      accepted = accepted_with Q2 i (record m { qos = Q2 }) h.accepted;
+    }) (packet_2 i m ∷ [])
+    (answers y.coming) (record {
+      publishes_2 = joined y.end.state (flight y.coming).publishes_2 ((i, record m { qos = Q2 }) ∷ []);
+      publishes_1 = (flight y.coming).publishes_1;
+      pubrels = (flight y.coming).pubrels;
+      messages_0 = (flight y.coming).messages_0;
+    })
     (same_answers y.end.state y.coming (packet_2 i m ∷ []) refl) (second_joins y.end.state y.coming i m) (
-      subst (λ (E : List (ℕ × Message)). Second Up y.end.state E h.end.book.released y.end.received (answers q).rec (answers q).comp (joined y.end.state (flight y.coming).pub2 ((i, record m { qos = Q2 }) ∷ [])) (flight y.coming).rel (h.accepted.exactly_once ++ record m { qos = Q2 } ∷ []) y.handed.exactly_once) (sym (held_2 h.end.book.entries i m true))
-          (second.accepts i (record m { qos = Q2 }) (joined y.end.state (flight y.coming).pub2 ((i, record m { qos = Q2 }) ∷ [])) b.to_y.0 (fresh_2 h.end.book i free) (stages.accepted_up _ _ _ _ _ _ (i, record m { qos = Q2 }) b.to_y.0.e)),
-      subst (λ (E : List (ℕ × Message)). First Up y.end.state E (answers q).ack (flight y.coming).pub1 h.accepted.at_least_once y.handed.at_least_once h.freed) (sym (held_2_other h.end.book.entries i m true)) b.to_y.1,
+      subst (λ (entries_now : List (ℕ × Message)). Second Up y.end.state entries_now h.end.book.released y.end.received (answers q).pubrecs
+          (answers q).pubcomps (joined y.end.state (flight y.coming).publishes_2 ((i, record m { qos = Q2 }) ∷ [])) (flight y.coming).pubrels
+          (h.accepted.exactly_once ++ record m { qos = Q2 } ∷ []) y.handed.exactly_once) (sym (held_2 h.end.book.entries i m true))
+          (second.accepts i (record m { qos = Q2 }) (joined y.end.state (flight y.coming).publishes_2 ((i, record m { qos = Q2 }) ∷ [])) b.to_y.0
+          (fresh_2 h.end.book i free) (stages.accepted_up _ _ _ _ _ _ (i, record m { qos = Q2 }) b.to_y.0.entry_stages)),
+      subst (λ (entries_now : List (ℕ × Message)). First Up y.end.state entries_now (answers q).pubacks
+          (flight y.coming).publishes_1 h.accepted.at_least_once y.handed.at_least_once h.freed) (sym (held_2_other h.end.book.entries i m true)) b.to_y.1,
       b.to_y.2,
     )
     b.to_x
@@ -223,17 +322,26 @@ up_2 capacity h y q i m free s b =
     (tt, tt)
     b
 
-published_keeps : (limit capacity : ℕ) (h y : Half) (st : State) (q : List Packet) (i : ℕ) (qos : Qos) (m : Message) → publish_refusal limit capacity (record m { qos = qos }) (upon h st q).end ≡ None → MayHave (has_identifier qos) (upon h st q).end i → Both capacity (upon h st q) y
+published_keeps : (limit capacity : ℕ) (h y : Half) (st : State) (q : List Packet) (i : ℕ) (qos : Qos) (m : Message)
+    → publish_refusal limit capacity (record m { qos = qos }) (upon h st q).end ≡ None → MayHave (has_identifier qos) (upon h st q).end i
+    → Both capacity (upon h st q) y
     → Both capacity (publication i (record m { qos = qos }) (upon h st q)).half (put (publication i (record m { qos = qos }) (upon h st q)).out y)
 published_keeps limit capacity h y st q i Q0 m r free b = published_0 capacity h y st q i m b
-published_keeps limit capacity h y Closed q i Q1 m r free b = down_1 capacity h y Closed q i m refl (sound.publish limit capacity i (record m { qos = Q1 }) (upon h Closed q).end r free b.own_x.0) b
-published_keeps limit capacity h y Open q i Q1 m r free b = down_1 capacity h y Open q i m refl (sound.publish limit capacity i (record m { qos = Q1 }) (upon h Open q).end r free b.own_x.0) b
-published_keeps limit capacity h y Up q i Q1 m r free b = up_1 capacity h y q i m (sound.publish limit capacity i (record m { qos = Q1 }) (upon h Up q).end r free b.own_x.0) b
-published_keeps limit capacity h y Closed q i Q2 m r free b = down_2 capacity h y Closed q i m refl free (sound.publish limit capacity i (record m { qos = Q2 }) (upon h Closed q).end r free b.own_x.0) b
-published_keeps limit capacity h y Open q i Q2 m r free b = down_2 capacity h y Open q i m refl free (sound.publish limit capacity i (record m { qos = Q2 }) (upon h Open q).end r free b.own_x.0) b
-published_keeps limit capacity h y Up q i Q2 m r free b = up_2 capacity h y q i m free (sound.publish limit capacity i (record m { qos = Q2 }) (upon h Up q).end r free b.own_x.0) b
+published_keeps limit capacity h y Closed q i Q1 m r free b =
+    down_1 capacity h y Closed q i m refl (sound.publish limit capacity i (record m { qos = Q1 }) (upon h Closed q).end r free b.own_x.0) b
+published_keeps limit capacity h y Open q i Q1 m r free b =
+    down_1 capacity h y Open q i m refl (sound.publish limit capacity i (record m { qos = Q1 }) (upon h Open q).end r free b.own_x.0) b
+published_keeps limit capacity h y Up q i Q1 m r free b =
+    up_1 capacity h y q i m (sound.publish limit capacity i (record m { qos = Q1 }) (upon h Up q).end r free b.own_x.0) b
+published_keeps limit capacity h y Closed q i Q2 m r free b =
+    down_2 capacity h y Closed q i m refl free (sound.publish limit capacity i (record m { qos = Q2 }) (upon h Closed q).end r free b.own_x.0) b
+published_keeps limit capacity h y Open q i Q2 m r free b =
+    down_2 capacity h y Open q i m refl free (sound.publish limit capacity i (record m { qos = Q2 }) (upon h Open q).end r free b.own_x.0) b
+published_keeps limit capacity h y Up q i Q2 m r free b =
+    up_2 capacity h y q i m free (sound.publish limit capacity i (record m { qos = Q2 }) (upon h Up q).end r free b.own_x.0) b
 
-pub not_refused : (limit capacity : ℕ) (side : Side) (m : Message) (e : End) → refusal side limit capacity m e ≡ None → publish_refusal limit capacity m e ≡ None
+pub not_refused : (limit capacity : ℕ) (side : Side) (m : Message) (e : End) → refusal side limit capacity m e ≡ None
+    → publish_refusal limit capacity m e ≡ None
 not_refused limit capacity Client m e r = r
 not_refused limit capacity Server m e r = with_session e.known r
   where
@@ -243,22 +351,29 @@ not_refused limit capacity Server m e r = with_session e.known r
 
 -- ---- any move of one side
 
-move_keeps : (limit capacity : ℕ) (side : Side) (action : Action) (h y : Half) (st : State) (q : List Packet) → May limit capacity side action (upon h st q) → Both capacity (upon h st q) y → Both capacity (moved side action (upon h st q)).half (put (moved side action (upon h st q)).out y)
-move_keeps limit capacity side (Publishes i m) h y st q may b = published_keeps limit capacity h y st q i m.qos m (not_refused limit capacity side m (upon h st q).end may.0) may.1 b
+move_keeps : (limit capacity : ℕ) (side : Side) (action : Action) (h y : Half) (st : State) (q : List Packet)
+    → May limit capacity side action (upon h st q) → Both capacity (upon h st q) y
+    → Both capacity (moved side action (upon h st q)).half (put (moved side action (upon h st q)).out y)
+move_keeps limit capacity side (Publishes i m) h y st q may b =
+    published_keeps limit capacity h y st q i m.qos m (not_refused limit capacity side m (upon h st q).end may.0) may.1 b
 move_keeps limit capacity side Arrives h y st q may b = arrival_keeps capacity side h y st q b
 move_keeps limit capacity side Drops h y st q may b = close_keeps capacity h y st q [] [] None refl refl tt b
 move_keeps limit capacity side Leaves h y st q may b = close_keeps capacity h y st q [] (packets.Disconnect ∷ []) None refl refl (tt, tt) b
 move_keeps limit capacity side Pings h y st q may b = still_keeps capacity (upon h st q) y (packets.PingReq ∷ []) refl refl (tt, tt) b
 
-pub moved_keeps : (limit capacity : ℕ) (side : Side) (action : Action) (x y : Half) → May limit capacity side action x → Both capacity x y → Both capacity (moved side action x).half (put (moved side action x).out y)
+pub moved_keeps : (limit capacity : ℕ) (side : Side) (action : Action) (x y : Half) → May limit capacity side action x → Both capacity x y
+    → Both capacity (moved side action x).half (put (moved side action x).out y)
 moved_keeps limit capacity side action x y may b =
-    let P : Bool → Type 0 = λ c. May limit capacity side action (record x { end = record x.end { clean = c } }) → Both capacity (record x { end = record x.end { clean = c } }) y
-    → Both capacity (moved side action (record x { end = record x.end { clean = c } })).half (put (moved side action (record x { end = record x.end { clean = c } })).out y) in
+    let P : Bool → Type 0 =
+    λ c. May limit capacity side action (record x { end = record x.end { clean = c } }) → Both capacity (record x { end = record x.end { clean = c } }) y
+    → Both capacity (moved side action (record x { end = record x.end { clean = c } })).half
+    (put (moved side action (record x { end = record x.end { clean = c } })).out y) in
     subst P (sym b.kept_x) (move_keeps limit capacity side action x y x.end.state x.coming) may b
 
 -- ---- a new connection
 
-opens_keep : (capacity : ℕ) (h g : Half) (st rt : State) (q r : List Packet) → Both capacity (upon h st q) (upon g rt r) → Both capacity (opened_client (upon h st q)) (opened_server (connects first_packet (upon h st q).end).out (upon g rt r))
+opens_keep : (capacity : ℕ) (h g : Half) (st rt : State) (q r : List Packet) → Both capacity (upon h st q) (upon g rt r)
+    → Both capacity (opened_client (upon h st q)) (opened_server (connects first_packet (upon h st q).end).out (upon g rt r))
 opens_keep capacity h g st rt q r b = record {
   to_y = (second.opened b.to_y.0, first.opened b.to_y.1, zeroth_lost _ _ _ b.to_y.2);
   to_x = (second.opened b.to_x.0, first.opened b.to_x.1, zeroth_lost _ _ _ b.to_x.2);
@@ -273,6 +388,7 @@ opens_keep capacity h g st rt q r b = record {
 pub opened_keeps : (capacity : ℕ) (x y : Half) → Both capacity x y → Both capacity (opened_client x) (opened_server (connects first_packet x.end).out y)
 opened_keeps capacity x y b =
     let P : Bool → Bool → Type 0 = λ c d. Both capacity (record x { end = record x.end { clean = c } }) (record y { end = record y.end { clean = d } })
-    → Both capacity (opened_client (record x { end = record x.end { clean = c } })) (opened_server (connects first_packet (record x { end = record x.end { clean = c } }).end).out (record y { end = record y.end { clean = d } })) in
+    → Both capacity (opened_client (record x { end = record x.end { clean = c } }))
+    (opened_server (connects first_packet (record x { end = record x.end { clean = c } }).end).out (record y { end = record y.end { clean = d } })) in
     let half : P false y.end.clean = subst (λ (d : Bool). P false d) (sym b.kept_y) (opens_keep capacity x y x.end.state y.end.state x.coming y.coming) in
     subst (λ (c : Bool). P c y.end.clean) (sym b.kept_x) half b

@@ -26,11 +26,13 @@ abbrev pub arrive_at : ℕ → Side → Half → Half → Sides
 arrive_at zero side x y = record { near = x; far = y }
 arrive_at (suc n) side x y = arrive_at n side (moved side Arrives x).half (put (moved side Arrives x).out y)
 
-pub client_arrivals : (n : ℕ) (w : Machine) → arrivals n Client w ≡ record { client = (arrive_at n Client w.client w.server).near; server = (arrive_at n Client w.client w.server).far }
+pub client_arrivals : (n : ℕ) (w : Machine)
+    → arrivals n Client w ≡ record { client = (arrive_at n Client w.client w.server).near; server = (arrive_at n Client w.client w.server).far }
 client_arrivals zero w = refl
 client_arrivals (suc n) w = client_arrivals n (after w (By Client Arrives))
 
-pub server_arrivals : (n : ℕ) (w : Machine) → arrivals n Server w ≡ record { client = (arrive_at n Server w.server w.client).far; server = (arrive_at n Server w.server w.client).near }
+pub server_arrivals : (n : ℕ) (w : Machine)
+    → arrivals n Server w ≡ record { client = (arrive_at n Server w.server w.client).far; server = (arrive_at n Server w.server w.client).near }
 server_arrivals zero w = refl
 server_arrivals (suc n) w = server_arrivals n (after w (By Server Arrives))
 
@@ -70,18 +72,26 @@ after_both rest q x y r s =
     let d = freed_append x.accepted.at_least_once r.freed s.freed x.freed in
     let e = joined_both y.end.state y.coming r.out s.out in
     λ i. record {
-      near = record x { end = s.end; coming = kept s.end.state rest; handed = record { at_most_once = sym a i; at_least_once = sym b i; exactly_once = sym c i }; freed = sym d i };
+      near = record x {
+        end = s.end;
+        coming = kept s.end.state rest;
+        handed = record { at_most_once = sym a i; at_least_once = sym b i; exactly_once = sym c i };
+        freed = sym d i;
+      };
       far = record y { coming = e i };
     }
 
-first_comes : (side : Side) (p : Packet) (ps rest : List Packet) (h y : Half) (st : State) → ((x y : Half) → x.coming ≡ kept x.end.state (ps ++ rest) → arrive_at (length ps) side x y ≡ result rest x y (one_by_one (gets side) ps x.end))
+first_comes : (side : Side) (p : Packet) (ps rest : List Packet) (h y : Half) (st : State)
+    → ((x y : Half) → x.coming ≡ kept x.end.state (ps ++ rest) → arrive_at (length ps) side x y ≡ result rest x y (one_by_one (gets side) ps x.end))
     → arrive_at (length (p ∷ ps)) side (record h { end = record h.end { state = st }; coming = kept st (p ∷ (ps ++ rest)) }) y
-    ≡ result rest (record h { end = record h.end { state = st }; coming = kept st (p ∷ (ps ++ rest)) }) y (one_by_one (gets side) (p ∷ ps) (record h.end { state = st }))
+    ≡ result rest (record h { end = record h.end { state = st }; coming = kept st (p ∷ (ps ++ rest)) }) y
+    (one_by_one (gets side) (p ∷ ps) (record h.end { state = st }))
 first_comes side p ps rest h y Closed next =
     let e : End = record h.end { state = Closed } in
     let x : Half = record h { end = e; coming = [] } in
     let s : Reply = one_by_one (gets side) ps e in
-    let more : followed (gets side p e) (one_by_one (gets side) ps (gets side p e).end) ≡ s = ap (λ (r : Reply). followed r (one_by_one (gets side) ps r.end)) (closed_silent side p h.end) in
+    let more : followed (gets side p e) (one_by_one (gets side) ps (gets side p e).end) ≡ s =
+    ap (λ (r : Reply). followed r (one_by_one (gets side) ps r.end)) (closed_silent side p h.end) in
     let same : put [] y ≡ y = (λ i. record y { coming = joined_nil y.end.state y.coming i }) in
     next x (put [] y) refl ∙ (ap (λ (z : Half). result rest x z s) same ∙ ap (result rest x y) (sym more))
 first_comes side p ps rest h y Open next =
@@ -93,16 +103,20 @@ first_comes side p ps rest h y Up next =
     let r : Reply = gets side p x.end in
     next (took x (ps ++ rest) r).half (put r.out y) refl ∙ after_both rest (ps ++ rest) x y r (one_by_one (gets side) ps r.end)
 
-pub at_once : (side : Side) (ps rest : List Packet) (x y : Half) → x.coming ≡ kept x.end.state (ps ++ rest) → arrive_at (length ps) side x y ≡ result rest x y (one_by_one (gets side) ps x.end)
+pub at_once : (side : Side) (ps rest : List Packet) (x y : Half) → x.coming ≡ kept x.end.state (ps ++ rest)
+    → arrive_at (length ps) side x y ≡ result rest x y (one_by_one (gets side) ps x.end)
 at_once side [] rest x y h =
     let e = joined_nil y.end.state y.coming in
     λ i. record { near = record x { coming = h i }; far = record y { coming = sym e i } }
 at_once side (p ∷ ps) rest x y h =
-    let P : List Packet → Type 0 = λ q. arrive_at (length (p ∷ ps)) side (record x { coming = q }) y ≡ result rest (record x { coming = q }) y (one_by_one (gets side) (p ∷ ps) x.end) in
+    let P : List Packet → Type 0 =
+    λ q. arrive_at (length (p ∷ ps)) side (record x { coming = q }) y ≡ result rest (record x { coming = q }) y (one_by_one (gets side) (p ∷ ps) x.end) in
     subst P (sym h) (first_comes side p ps rest x y x.end.state (λ x y h. at_once side ps rest x y h))
 
 pub law : AtOnceLaw
 law = record {
-  client = λ ps rest w h. client_arrivals (length ps) w ∙ ap (λ (s : Sides). record { client = s.near; server = s.far }) (at_once Client ps rest w.client w.server h);
-  server = λ ps rest w h. server_arrivals (length ps) w ∙ ap (λ (s : Sides). record { client = s.far; server = s.near }) (at_once Server ps rest w.server w.client h);
+  client = λ ps rest w h. client_arrivals (length ps) w ∙
+      ap (λ (s : Sides). record { client = s.near; server = s.far }) (at_once Client ps rest w.client w.server h);
+  server = λ ps rest w h. server_arrivals (length ps) w ∙
+      ap (λ (s : Sides). record { client = s.far; server = s.near }) (at_once Server ps rest w.server w.client h);
 }

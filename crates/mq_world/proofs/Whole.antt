@@ -36,16 +36,20 @@ blank_holds capacity window = record {
   queue_y = tt;
 }
 
-pub after_keeps : (limit capacity : ℕ) (w : Machine) (move : Move) → IsAllowed limit capacity w move → Both capacity w.client w.server → Both capacity (after w move).client (after w move).server
+pub after_keeps : (limit capacity : ℕ) (w : Machine) (move : Move) → IsAllowed limit capacity w move → Both capacity w.client w.server
+    → Both capacity (after w move).client (after w move).server
 after_keeps limit capacity w (By Client action) may b = moved_keeps limit capacity Client action w.client w.server may b
-after_keeps limit capacity w (By Server action) may b = turned capacity _ _ (moved_keeps limit capacity Server action w.server w.client may (turned capacity w.client w.server b))
+after_keeps limit capacity w (By Server action) may b =
+    turned capacity _ _ (moved_keeps limit capacity Server action w.server w.client may (turned capacity w.client w.server b))
 after_keeps limit capacity w Opens may b = opened_keeps capacity w.client w.server b
 
-pub run_keeps : (limit capacity : ℕ) (w : Machine) (moves : List Move) (v : Machine) → Run limit capacity w moves v → Both capacity w.client w.server → Both capacity v.client v.server
+pub run_keeps : (limit capacity : ℕ) (w : Machine) (moves : List Move) (v : Machine) → Run limit capacity w moves v → Both capacity w.client w.server
+    → Both capacity v.client v.server
 run_keeps limit capacity w [] v run b = subst (λ (u : Machine). Both capacity u.client u.server) (sym run) b
 run_keeps limit capacity w (move ∷ moves) v run b = run_keeps limit capacity (after w move) moves v run.1 (after_keeps limit capacity w move run.0 b)
 
-pub holds : (limit capacity : ℕ) (window : Option ℕ) (moves : List Move) (w : Machine) → Run limit capacity (blank_machine window) moves w → Both capacity w.client w.server
+pub holds : (limit capacity : ℕ) (window : Option ℕ) (moves : List Move) (w : Machine) → Run limit capacity (blank_machine window) moves w
+    → Both capacity w.client w.server
 holds limit capacity window moves w run = run_keeps limit capacity (blank_machine window) moves w run (blank_holds capacity window)
 
 -- ---- the headline
@@ -63,7 +67,7 @@ at_least_once x y way =
       are = f.are;
       freed = all_covered f.places x.freed (length f.gone) f.walk (omega arith) f.freed;
       rest =
-          ap (others_from 0 x.freed) f.acc
+          ap (others_from 0 x.freed) f.accepted_is
           ∙ (others_gone 0 x.freed f.gone (held Q1 x.end.book.entries) (λ j le lt. f.all_freed j (omega arith))
           ∙ (ap (λ (k : ℕ). others_from k x.freed (held Q1 x.end.book.entries)) zero_more
           ∙ others_none (length f.gone) x.freed (held Q1 x.end.book.entries) f.freed));
@@ -76,14 +80,18 @@ exactly_once : (x y : Half) → WayOf x y → ExactlyOnce x y
 exactly_once x y way =
     let s = way.0 in
     let E : List (ℕ × Message) = held Q2 x.end.book.entries in
-    let all : x.accepted.exactly_once ≡ s.gone ++ (messages s.K ++ messages s.W) = s.acc ∙ ap (λ (q : List Message). s.gone ++ q) (ap messages s.parts ∙ map-append (λ (p : ℕ × Message). p.1) s.K s.W) in
-    let a : length x.accepted.exactly_once ≡ length s.gone + length (messages E) = ap length s.acc ∙ length-append s.gone (messages E) in
-    let c : length y.handed.exactly_once ≡ length s.gone + length (messages s.K) = ap length s.hand ∙ length-append s.gone (messages s.K) in
+    let all : x.accepted.exactly_once ≡ s.gone ++ (messages s.taken ++ messages s.waiting) =
+    s.accepted_is ∙ ap (λ (q : List Message). s.gone ++ q) (ap messages s.parts ∙ map-append (λ (p : ℕ × Message). p.1) s.taken s.waiting) in
+    let a : length x.accepted.exactly_once ≡ length s.gone + length (messages E) = ap length s.accepted_is ∙ length-append s.gone (messages E) in
+    let c : length y.handed.exactly_once ≡ length s.gone + length (messages s.taken) = ap length s.handed_is ∙ length-append s.gone (messages s.taken) in
     let d = length-map E (λ (p : ℕ × Message). p.1) in
     record {
-      beginning = (messages s.W, all ∙ (sym (append_assoc s.gone (messages s.K) (messages s.W)) ∙ ap (λ (q : List Message). q ++ messages s.W) (sym s.hand)));
+      beginning = (
+        messages s.waiting,
+        all ∙ (sym (append_assoc s.gone (messages s.taken) (messages s.waiting)) ∙ ap (λ (q : List Message). q ++ messages s.waiting) (sym s.handed_is)),
+      );
       before = s.gone;
-      last = s.acc;
+      last = s.accepted_is;
       lack = omega arith;
     }
 
@@ -105,13 +113,16 @@ sound_at : (capacity : ℕ) (w : Machine) → Both capacity w.client w.server �
 sound_at capacity w b Client = b.own_x.0
 sound_at capacity w b Server = b.own_y.0
 
-given_at : (limit capacity i : ℕ) (m : Message) (side : Side) (w : Machine) → IsAllowed limit capacity w (By side (Publishes i m)) → has_identifier m.qos ≡ true → IsGiven capacity (half_of side w).end.book (half_of side (after w (By side (Publishes i m)))).end.book i
-given_at limit capacity i m Client w may has = sound.published limit capacity i m w.client.end (not_refused limit capacity Client m w.client.end may.0) has (free_of (has_identifier m.qos) has may.1)
+given_at : (limit capacity i : ℕ) (m : Message) (side : Side) (w : Machine) → IsAllowed limit capacity w (By side (Publishes i m))
+    → has_identifier m.qos ≡ true → IsGiven capacity (half_of side w).end.book (half_of side (after w (By side (Publishes i m)))).end.book i
+given_at limit capacity i m Client w may has =
+    sound.published limit capacity i m w.client.end (not_refused limit capacity Client m w.client.end may.0) has (free_of (has_identifier m.qos) has may.1)
   where
     free_of : (t : Bool) → t ≡ true → MayHave t w.client.end i → IsFree w.client.end.book i
     free_of true e f = f
     free_of false e f = cc
-given_at limit capacity i m Server w may has = sound.published limit capacity i m w.server.end (not_refused limit capacity Server m w.server.end may.0) has (free_of (has_identifier m.qos) has may.1)
+given_at limit capacity i m Server w may has =
+    sound.published limit capacity i m w.server.end (not_refused limit capacity Server m w.server.end may.0) has (free_of (has_identifier m.qos) has may.1)
   where
     free_of : (t : Bool) → t ≡ true → MayHave t w.server.end i → IsFree w.server.end.book i
     free_of true e f = f

@@ -1,5 +1,6 @@
 -- The receiving windows over every run: they stay, and what comes fits one that is not less than the capacity.
-use Rattle.std.proofs.Common.{◌≡◌, ◌≢◌, ℕ, ◌+◌, ◌≤◌, Bool, true, false, not, ◌&&◌, eqb, Option, Some, None, cond, List, [], ◌∷◌, ◌++◌, map, filter, length, refl, sym, ap, subst, ◌∙◌, arith}
+use Rattle.std.proofs.Common.{◌≡◌, ◌≢◌, ℕ, ◌+◌, ◌≤◌, Bool, true, false, not, ◌&&◌, eqb, Option, Some, None, cond, List, [], ◌∷◌, ◌++◌, map, filter}
+use Rattle.std.proofs.Common.{length, refl, sym, ap, subst, ◌∙◌, arith}
 use Rattle.std.proofs.lemmas.Bool.{cond_both}
 use Rattle.std.proofs.lemmas.List.{length-append, length-map}
 use Rattle.mq_topic.specs.declared.qos.Qos.{Qos}
@@ -76,7 +77,8 @@ after_windows m Opens = (refl, refl)
 
 pub run_windows : (limit capacity : ℕ) (m : Machine) (moves : List Move) (v : Machine) → Run limit capacity m moves v → SameWindows m v
 run_windows limit capacity m [] v run = (ap (λ (u : Machine). u.client.end.window) run, ap (λ (u : Machine). u.server.end.window) run)
-run_windows limit capacity m (move ∷ moves) v run = windows_then m (after m move) v (after_windows m move) (run_windows limit capacity (after m move) moves v run.1)
+run_windows limit capacity m (move ∷ moves) v run =
+    windows_then m (after m move) v (after_windows m move) (run_windows limit capacity (after m move) moves v run.1)
 
 pub reached_windows : (limit capacity : ℕ) (m : Machine) (r : Reached limit capacity m) → (m.client.end.window ≡ r.0) × (m.server.end.window ≡ r.0)
 reached_windows limit capacity m r = run_windows limit capacity (blank_machine r.0) r.1 m r.2
@@ -107,11 +109,17 @@ few capacity b s =
     omega arith
 
 fits_publish : (capacity : ℕ) (h y : Half) (q : Qos) (d : Option Delivery) (m : Message) (rest : List Packet)
-    → Both capacity (record h { end = record h.end { state = Up }; coming = packets.Publish (record { message = record m { qos = q }; delivery = d }) ∷ rest }) y → Spans h.end.window capacity → FitsAs q d h.end.window h.end.received
-fits_publish capacity h y Q2 (Some d) m rest b spans = spanned d.id (record m { qos = Q2 }) h.end.window capacity b.to_x.0 (few capacity y.end.book b.own_y.0) spans
+    → Both capacity (record h {
+      end = record h.end { state = Up };
+      coming = packets.Publish (record
+          { message = record m { qos = q }; delivery = d }) ∷ rest;
+    }) y → Spans h.end.window capacity → FitsAs q d h.end.window h.end.received
+fits_publish capacity h y Q2 (Some d) m rest b spans =
+    spanned d.id (record m { qos = Q2 }) h.end.window capacity b.to_x.0 (few capacity y.end.book b.own_y.0) spans
 fits_publish capacity h y q d m rest b spans = tt
 
-pub fits_arriving : (capacity : ℕ) (h y : Half) (p : Packet) (rest : List Packet) → Both capacity (record h { end = record h.end { state = Up }; coming = p ∷ rest }) y → Spans h.end.window capacity → FitsIn p h.end.window h.end.received
+pub fits_arriving : (capacity : ℕ) (h y : Half) (p : Packet) (rest : List Packet)
+    → Both capacity (record h { end = record h.end { state = Up }; coming = p ∷ rest }) y → Spans h.end.window capacity → FitsIn p h.end.window h.end.received
 fits_arriving capacity h y (packets.Publish p) rest b spans = fits_publish capacity h y p.message.qos p.delivery p.message rest b spans
 fits_arriving capacity h y p rest b spans = tt
 
@@ -155,8 +163,11 @@ client_open_other p e = tt
 
 client_up_other : (p : Packet) (e : End) → FitsIn p e.window e.received → Other (client_up_gets p e)
 client_up_other (packets.SubAck i codes) e f =
-    cond_both (awaits_suback i (length codes) e.book) (tells (happens.SubAck i codes) (record e { book = release i e.book })) (closes reasons.Unexpected e) Other (λ t. tt) (λ f. tt)
-client_up_other (packets.UnsubAck i) e f = cond_both (awaits_unsuback i e.book) (tells (happens.UnsubAck i) (record e { book = release i e.book })) (closes reasons.Unexpected e) Other (λ t. tt) (λ f. tt)
+    cond_both (awaits_suback i (length codes) e.book) (tells (happens.SubAck i codes) (record e { book = release i e.book }))
+    (closes reasons.Unexpected e) Other (λ t. tt) (λ f. tt)
+client_up_other (packets.UnsubAck i) e f =
+    cond_both (awaits_unsuback i e.book) (tells (happens.UnsubAck i) (record e { book = release i e.book })) (closes reasons.Unexpected e) Other
+    (λ t. tt) (λ f. tt)
 client_up_other packets.PingResp e f = tt
 client_up_other p e f = flow_other p e f
 
@@ -188,9 +199,11 @@ either_other (Some reason) b x y = x
 
 -- what holds of each side to which the rest comes
 abbrev Later : ℕ → Side → List Packet → List Packet → Type 0
-Later capacity side ps rest = (x y : Half) → Both capacity x y → Spans x.end.window capacity → x.coming ≡ kept x.end.state (ps ++ rest) → Other (one_by_one (gets side) ps x.end)
+Later capacity side ps rest =
+    (x y : Half) → Both capacity x y → Spans x.end.window capacity → x.coming ≡ kept x.end.state (ps ++ rest) → Other (one_by_one (gets side) ps x.end)
 
-first_other : (capacity : ℕ) (side : Side) (p : Packet) (ps rest : List Packet) (h y : Half) (st : State) → Later capacity side ps rest → Both capacity (record h { end = record h.end { state = st }; coming = kept st (p ∷ (ps ++ rest)) }) y → Spans h.end.window capacity
+first_other : (capacity : ℕ) (side : Side) (p : Packet) (ps rest : List Packet) (h y : Half) (st : State) → Later capacity side ps rest
+    → Both capacity (record h { end = record h.end { state = st }; coming = kept st (p ∷ (ps ++ rest)) }) y → Spans h.end.window capacity
     → Other (one_by_one (gets side) (p ∷ ps) (record h.end { state = st }))
 first_other capacity side p ps rest h y Closed later b spans =
     let x : Half = record h { end = record h.end { state = Closed }; coming = [] } in
@@ -200,15 +213,18 @@ first_other capacity side p ps rest h y Open later b spans =
     let x : Half = record h { end = record h.end { state = Open }; coming = p ∷ (ps ++ rest) } in
     let r : Reply = gets side p x.end in
     either_other r.close (one_by_one (gets side) ps r.end).close (open_other side p h.end)
-    (later (took x (ps ++ rest) r).half (put r.out y) (moved_keeps 0 capacity side Arrives x y tt b) (subst (λ (o : Option ℕ). Spans o capacity) (sym (gets_window side p x.end)) spans) refl)
+    (later (took x (ps ++ rest) r).half (put r.out y) (moved_keeps 0 capacity side Arrives x y tt b)
+    (subst (λ (o : Option ℕ). Spans o capacity) (sym (gets_window side p x.end)) spans) refl)
 first_other capacity side p ps rest h y Up later b spans =
     let x : Half = record h { end = record h.end { state = Up }; coming = p ∷ (ps ++ rest) } in
     let r : Reply = gets side p x.end in
     either_other r.close (one_by_one (gets side) ps r.end).close (up_other side p h.end (fits_arriving capacity h y p (ps ++ rest) b spans))
-    (later (took x (ps ++ rest) r).half (put r.out y) (moved_keeps 0 capacity side Arrives x y tt b) (subst (λ (o : Option ℕ). Spans o capacity) (sym (gets_window side p x.end)) spans) refl)
+    (later (took x (ps ++ rest) r).half (put r.out y) (moved_keeps 0 capacity side Arrives x y tt b)
+    (subst (λ (o : Option ℕ). Spans o capacity) (sym (gets_window side p x.end)) spans) refl)
 
 -- an end whose window is not less than the capacity closes at none of them because of it
-pub all_other : (capacity : ℕ) (side : Side) (ps rest : List Packet) (x y : Half) → Both capacity x y → Spans x.end.window capacity → x.coming ≡ kept x.end.state (ps ++ rest) → Other (one_by_one (gets side) ps x.end)
+pub all_other : (capacity : ℕ) (side : Side) (ps rest : List Packet) (x y : Half) → Both capacity x y → Spans x.end.window capacity
+    → x.coming ≡ kept x.end.state (ps ++ rest) → Other (one_by_one (gets side) ps x.end)
 all_other capacity side [] rest x y b spans h = tt
 all_other capacity side (p ∷ ps) rest x y b spans h =
     let P : List Packet → Type 0 = λ q. Both capacity (record x { coming = q }) y → Other (one_by_one (gets side) (p ∷ ps) x.end) in

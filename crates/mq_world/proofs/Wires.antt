@@ -1,5 +1,6 @@
 -- What is put out in a run spells a stream: all of it is within the limit.
-use Rattle.std.proofs.Common.{◌≡◌, ℕ, ◌≤◌, Bool, true, false, not, ◌&&◌, cond, Option, Some, None, List, [], ◌∷◌, ◌++◌, length, nat_lt, refl, sym, subst, append_assoc, arith}
+use Rattle.std.proofs.Common.{◌≡◌, ℕ, ◌≤◌, Bool, true, false, not, ◌&&◌, cond, Option, Some, None, List, [], ◌∷◌, ◌++◌, length, nat_lt, refl, sym}
+use Rattle.std.proofs.Common.{subst, append_assoc, arith}
 use Rattle.std.proofs.lemmas.Bool.{leb-true, le-leb, ltb-false}
 use Rattle.std.proofs.lemmas.List.{length-append}
 use Rattle.mq_topic.specs.declared.qos.Qos.{Qos}
@@ -42,7 +43,8 @@ delivery_size Q1 (Some d) f = omega arith
 delivery_size Q2 None f = cc
 delivery_size Q2 (Some d) f = omega arith
 
-publication_size : (m : Message) (d : Option Delivery) → fits_delivery m.qos d ≡ true → length (publish_fields (record { message = m; delivery = d })) ≤ publish_size m
+publication_size : (m : Message) (d : Option Delivery) → fits_delivery m.qos d ≡ true
+    → length (publish_fields (record { message = m; delivery = d })) ≤ publish_size m
 publication_size m d f =
     let a = length-append (delivery_fields d) m.payload in
     let b = length-append m.topic (delivery_fields d ++ m.payload) in
@@ -76,9 +78,11 @@ reads : (lenient : Bool) (p : Packet) (b : List ℕ) → Spells p b → Reads le
 reads false p b h = h
 reads true p b h = record { packet = h.packet; len = h.len; formed = (h.formed.0, h.formed.1); bytes = h.bytes }
 
-pub spelled_within : (limit : Bounds) → 64 ≤ limit.most → (ps : List Packet) (c : List ℕ) → Each (IsCarried (fits limit.most)) ps → Spelled ps c → Stream limit ps c
+pub spelled_within : (limit : Bounds) → 64 ≤ limit.most → (ps : List Packet) (c : List ℕ) → Each (IsCarried (fits limit.most)) ps → Spelled ps c
+    → Stream limit ps c
 spelled_within limit large [] c h s = s
-spelled_within limit large (p ∷ ps) c h s = (s.0, s.1, (reads limit.lenient p s.0 s.2, size_within limit.most p large h.0), spelled_within limit large ps s.1 h.1 s.3, s.4)
+spelled_within limit large (p ∷ ps) c h s =
+    (s.0, s.1, (reads limit.lenient p s.0 s.2, size_within limit.most p large h.0), spelled_within limit large ps s.1 h.1 s.3, s.4)
 
 -- ---- runs
 
@@ -94,12 +98,19 @@ fits_here limit capacity m e r =
 
 run_fits : (limit capacity : ℕ) (w : Machine) (moves : List Move) (v : Machine) → Run limit capacity w moves v → PublishOnly (fits limit) moves
 run_fits limit capacity w [] v run = tt
-run_fits limit capacity w (By Client (Publishes i m) ∷ moves) v run = (fits_here limit capacity m w.client.end (not_refused limit capacity Client m w.client.end run.0.0), run_fits limit capacity (after w (By Client (Publishes i m))) moves v run.1)
-run_fits limit capacity w (By Server (Publishes i m) ∷ moves) v run = (fits_here limit capacity m w.server.end (not_refused limit capacity Server m w.server.end run.0.0), run_fits limit capacity (after w (By Server (Publishes i m))) moves v run.1)
+run_fits limit capacity w (By Client (Publishes i m) ∷ moves) v run = (
+  fits_here limit capacity m w.client.end (not_refused limit capacity Client m w.client.end run.0.0),
+  run_fits limit capacity (after w (By Client (Publishes i m))) moves v run.1,
+)
+run_fits limit capacity w (By Server (Publishes i m) ∷ moves) v run = (
+  fits_here limit capacity m w.server.end (not_refused limit capacity Server m w.server.end run.0.0),
+  run_fits limit capacity (after w (By Server (Publishes i m))) moves v run.1,
+)
 run_fits limit capacity w (move ∷ moves) v run = run_fits limit capacity (after w move) moves v run.1
 
 -- all that is on its way in a machine that a run reaches is within the limit
-pub reached_fits : (limit capacity : ℕ) (m : Machine) → Reached limit capacity m → Each (IsCarried (fits limit)) m.client.coming × Each (IsCarried (fits limit)) m.server.coming
+pub reached_fits : (limit capacity : ℕ) (m : Machine) → Reached limit capacity m → Each (IsCarried (fits limit)) m.client.coming
+    × Each (IsCarried (fits limit)) m.server.coming
 reached_fits limit capacity m r =
     let h = carried (fits limit) limit capacity r.0 r.1 m (run_fits limit capacity (blank_machine r.0) r.1 m r.2) r.2 in
     (h.0.coming, h.1.coming)
@@ -110,15 +121,22 @@ each_last : {A : Type 0} (P : A → Type 0) (xs ys : List A) → Each P (xs ++ y
 each_last P [] ys h = h
 each_last P (x ∷ xs) ys h = each_last P xs ys h.1
 
-joins_stream : (limit : Bounds) (st : State) (q ps : List Packet) (b c : List ℕ) → 64 ≤ limit.most → Each (IsCarried (fits limit.most)) (joined st q ps) → Spelled ps c → (is_live st ≡ true → Stream limit q b) → is_live st ≡ true → Stream limit (joined st q ps) (b ++ c)
+joins_stream : (limit : Bounds) (st : State) (q ps : List Packet) (b c : List ℕ) → 64 ≤ limit.most
+    → Each (IsCarried (fits limit.most)) (joined st q ps) → Spelled ps c → (is_live st ≡ true → Stream limit q b) → is_live st ≡ true
+    → Stream limit (joined st q ps) (b ++ c)
 joins_stream limit Closed q ps b c large h s old live = cc
-joins_stream limit Open q ps b c large h s old live = stream_joins limit q ps b c (old live) (spelled_within limit large ps c (each_last (IsCarried (fits limit.most)) q ps h) s)
-joins_stream limit Up q ps b c large h s old live = stream_joins limit q ps b c (old live) (spelled_within limit large ps c (each_last (IsCarried (fits limit.most)) q ps h) s)
+joins_stream limit Open q ps b c large h s old live =
+    stream_joins limit q ps b c (old live) (spelled_within limit large ps c (each_last (IsCarried (fits limit.most)) q ps h) s)
+joins_stream limit Up q ps b c large h s old live =
+    stream_joins limit q ps b c (old live) (spelled_within limit large ps c (each_last (IsCarried (fits limit.most)) q ps h) s)
 
-pub grown : (limit : Bounds) (capacity : ℕ) (y : WiredSide) (h : Half) (ps : List Packet) (c : List ℕ) → 64 ≤ limit.most → Each (IsCarried (fits limit.most)) (put ps h).coming → Spelled ps c → CarriesSide limit capacity y h → CarriesSide limit capacity (record y { wire = y.wire ++ c }) (put ps h)
+pub grown : (limit : Bounds) (capacity : ℕ) (y : WiredSide) (h : Half) (ps : List Packet) (c : List ℕ) → 64 ≤ limit.most
+    → Each (IsCarried (fits limit.most)) (put ps h).coming → Spelled ps c → CarriesSide limit capacity y h
+    → CarriesSide limit capacity (record y { wire = y.wire ++ c }) (put ps h)
 grown limit capacity y h ps c large fit s k = record {
   end = k.end;
-  bytes = λ live. subst (Stream limit (joined h.end.state h.coming ps)) (append_assoc y.state.held y.wire c) (joins_stream limit h.end.state h.coming ps (y.state.held ++ y.wire) c large fit s k.bytes live);
+  bytes = λ live. subst (Stream limit (joined h.end.state h.coming ps)) (append_assoc y.state.held y.wire c)
+      (joins_stream limit h.end.state h.coming ps (y.state.held ++ y.wire) c large fit s k.bytes live);
   output = k.output;
   reserved = k.reserved;
   limits = k.limits;

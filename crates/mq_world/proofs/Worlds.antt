@@ -1,5 +1,6 @@
 -- What comes of each event of a world over bytes, from what its ends do.
-use Rattle.std.proofs.Common.{◌≡◌, ℕ, ◌<◌, ◌≤◌, Bool, true, false, not, ◌&&◌, Option, None, Some, Result, Ok, Err, List, [], ◌∷◌, ◌++◌, length, take, drop, get_or, ◌+◌, add-one, refl, sym, ap, subst, ◌∙◌, nat_lt, IfSome, IfNone, IfErr, OnOk, OnErr}
+use Rattle.std.proofs.Common.{◌≡◌, ℕ, ◌<◌, ◌≤◌, Bool, true, false, not, ◌&&◌, Option, None, Some, Result, Ok, Err, List, [], ◌∷◌, ◌++◌, length, take}
+use Rattle.std.proofs.Common.{drop, get_or, ◌+◌, add-one, refl, sym, ap, subst, ◌∙◌, nat_lt, IfSome, IfNone, IfErr, OnOk, OnErr}
 use Rattle.std.specs.Result.{is_err}
 use Rattle.std.proofs.Math.Seq.{take-suc}
 use Rattle.std.proofs.lemmas.List.{take-append-drop}
@@ -22,20 +23,20 @@ use Rattle.mq_flow.specs.Sender.{IsFirstFree}
 use Rattle.mq_world.specs.declared.side.Side.{Side}
 use Rattle.mq_world.specs.declared.side.Side.TheVariants.{Client, Server}
 use Rattle.mq_world.specs.declared.event.Event.{Event}
-use Rattle.mq_world.specs.declared.event.Event.TheVariants as events
 use Rattle.mq_world.specs.declared.answer.Answer.{Answer}
-use Rattle.mq_world.specs.declared.answer.Answer.TheVariants as answers
 use Rattle.mq_world.specs.declared.answer.Delivery.{Delivery}
 use Rattle.mq_world.specs.declared.answer.Opening.{Opening}
 use Rattle.mq_world.specs.declared.answer.Settling.{Settling}
-use Rattle.mq_world.specs.Half.{Publishes, Drops, Leaves, refusal, freed_with, accepted_with}
+use Rattle.mq_world.specs.Half.{Publishes, Drops, refusal, freed_with, accepted_with}
 use Rattle.mq_world.specs.Machine.{Machine, Move, By, Opens, first_packet, blank_machine}
 use Rattle.mq_world.specs.Carries.{WiredSide, Wired}
-use Rattle.mq_world.specs.OverBytes.{OverBytes, Stands, Follows, Alike, Delivers, ReceivesAt, SameBounds, near, far, facing, written, with_more, accepting, hearing, handed_with, left_on, cut_off, blank_side}
-use Rattle.mq_world.specs.World.{Moves, IsAccepted, IsRefused, reason_or_memory, Ignores, IsDelivered, IsLost, IsOpened, IsSettled, Does, Leads, InTurn, exchanges}
-use Rattle.mq_world.specs.Time.{SameTime, SameTimes, HearsIn, BeginsNow, later, time_moves}
+use Rattle.mq_world.specs.OverBytes.{OverBytes, Stands, Follows, Delivers, ReceivesAt, SameBounds, near, far, facing, written, with_more, accepting}
+use Rattle.mq_world.specs.OverBytes.{hearing, handed_with, left_on, cut_off, blank_side}
+use Rattle.mq_world.specs.World.{Moves, IsAccepted, IsRefused, reason_or_memory, Ignores, IsDelivered, IsLost, IsOpened, IsSettled, Does, Leads}
+use Rattle.mq_world.specs.World.{InTurn, exchanges}
+use Rattle.mq_world.specs.Time.{SameTime, SameTimes, HearsIn, BeginsNow}
 use Rattle.mq_world.proofs.Windows.{SameWindows, run_windows, windows_then}
-use Rattle.mq_world.proofs.Standing.{side_near, no_more_bytes, alike_itself}
+use Rattle.mq_world.proofs.Standing.{side_near, no_more_bytes}
 
 -- ---- sides
 
@@ -48,7 +49,8 @@ far_facing Client x y = refl
 far_facing Server x y = refl
 
 -- a side is made of its parts
-pub same_side : (x y : WiredSide) → x.state ≡ y.state → x.clock ≡ y.clock → x.wire ≡ y.wire → x.accepted ≡ y.accepted → x.handed ≡ y.handed → x.freed ≡ y.freed → x ≡ y
+pub same_side : (x y : WiredSide) → x.state ≡ y.state → x.clock ≡ y.clock → x.wire ≡ y.wire → x.accepted ≡ y.accepted → x.handed ≡ y.handed
+    → x.freed ≡ y.freed → x ≡ y
 same_side x y a t b c d e = λ i. record { state = a i; clock = t i; wire = b i; accepted = c i; handed = d i; freed = e i }
 
 pub same_wired : (v w : Wired) → v.client ≡ w.client → v.server ≡ w.server → v ≡ w
@@ -69,7 +71,8 @@ same_times Client w x y a b = record { client = a; server = b }
 same_times Server w x y a b = record { client = b; server = a }
 
 -- the server hears what its end does
-pub heard_written : (now : ℕ) (b : List ℕ) (closed : Option CloseReason) (old new : EndState) → HearsAt now b closed old new → HearsAt now b closed old (written new)
+pub heard_written : (now : ℕ) (b : List ℕ) (closed : Option CloseReason) (old new : EndState) → HearsAt now b closed old new
+    → HearsAt now b closed old (written new)
 heard_written now b closed old new h = record { waits = h.waits; closes = h.closes; hears = h.hears }
 
 -- ---- publishing
@@ -82,7 +85,8 @@ may_have : (b : Bool) (e : End) (i : ℕ) → (b ≡ true → IsFirstFree e.last
 may_have true e i h = (h refl).free
 may_have false e i h = tt
 
-pub accepted_at : OverBytes → (limit : Bounds) (capacity : ℕ) (side : Side) (w v : Wired) (m : Machine) (message : Message) (answer : Option ℕ) (new : EndState) → Stands limit capacity w m
+pub accepted_at : OverBytes → (limit : Bounds) (capacity : ℕ) (side : Side) (w v : Wired) (m : Machine) (message : Message) (answer : Option ℕ)
+    (new : EndState) → Stands limit capacity w m
     → refusal side (near side w).state.limit.most (near side w).state.capacity message (near side w).state.end ≡ None
     → Accepts answer message (near side w).state new
     → ((i : ℕ) → answer ≡ answered_identifier message.qos i → v ≡ facing side (accepting i message new (near side w)) (with_more new.output (far side w)))
@@ -96,18 +100,23 @@ accepted_at law limit capacity side w v m message answer new s free a e =
       id = a.id;
       answered = a.answered;
       first = a.first;
-      wire = ap (λ (u : Wired). (near side u).wire) (e a.id a.answered) ∙ ap (λ (z : WiredSide). z.wire) (near_facing side (accepting a.id message new (near side w)) (with_more new.output (far side w)));
+      wire = ap (λ (u : Wired). (near side u).wire) (e a.id a.answered) ∙
+          ap (λ (z : WiredSide). z.wire) (near_facing side (accepting a.id message new (near side w)) (with_more new.output (far side w)));
       out = subst (λ (u : Wired). PutsOut (publishes a.id message (near side w).state.end).out (far side w).wire (far side u).wire) (sym (e a.id a.answered))
-          (subst (λ (z : WiredSide). PutsOut (publishes a.id message (near side w).state.end).out (far side w).wire z.wire) (sym (far_facing side (accepting a.id message new (near side w)) (with_more new.output (far side w))))
+          (subst (λ (z : WiredSide). PutsOut (publishes a.id message (near side w).state.end).out (far side w).wire z.wire)
+          (sym (far_facing side (accepting a.id message new (near side w)) (with_more new.output (far side w))))
           (on_wire (publishes a.id message (near side w).state.end).out (near side w).state.output new.output (far side w).wire x.output a.out));
-      times = subst (λ (u : Wired). SameTimes w u) (sym (e a.id a.answered)) (same_times side w (accepting a.id message new (near side w)) (with_more new.output (far side w))
+      times = subst (λ (u : Wired). SameTimes w u) (sym (e a.id a.answered))
+          (same_times side w (accepting a.id message new (near side w)) (with_more new.output (far side w))
           (record { clock = refl; moment = ap (λ (z : EndState). z.moment) a.state }) (record { clock = refl; moment = refl }));
       moves = λ n t. subst (λ (u : Wired). Follows limit capacity n (By side (Publishes a.id message) ∷ []) u) (sym (e a.id a.answered))
           (law.publish limit capacity side w n a.id message new t bounded (may_have (has_identifier message.qos) (near side w).state.end a.id a.first)
-          (ap (λ (z : EndState). z.end) a.state) a.out (ap (λ (z : EndState). z.held) a.state) (ap (λ (z : EndState). z.limit) a.state, ap (λ (z : EndState). z.capacity) a.state));
+          (ap (λ (z : EndState). z.end) a.state) a.out (ap (λ (z : EndState). z.held) a.state)
+          (ap (λ (z : EndState). z.limit) a.state, ap (λ (z : EndState). z.capacity) a.state));
     }
 
-pub reason_is : {A : Type 0} (o : Option PublishRefusal) (why : PublishRefusal) (result : Result A PublishRefusal) → result ≡ Err why → IfSome o (λ y. result ≡ Err y) → IfNone o (IfErr result (λ y. y ≡ refusals.Memory)) → why ≡ reason_or_memory o
+pub reason_is : {A : Type 0} (o : Option PublishRefusal) (why : PublishRefusal) (result : Result A PublishRefusal) → result ≡ Err why
+    → IfSome o (λ y. result ≡ Err y) → IfNone o (IfErr result (λ y. y ≡ refusals.Memory)) → why ≡ reason_or_memory o
 reason_is {A} None why result e a b = memory result e b
   where
     memory : (r : Result A PublishRefusal) → r ≡ Err why → IfErr r (λ y. y ≡ refusals.Memory) → why ≡ refusals.Memory
@@ -115,9 +124,11 @@ reason_is {A} None why result e a b = memory result e b
     memory (Err y) e b = cc
 reason_is (Some y) why result e a b = cc
 
-pub refused_at : (limit : Bounds) (capacity : ℕ) (side : Side) (w v : Wired) (m : Machine) (message : Message) (why : PublishRefusal) (result : Result (Option ℕ) PublishRefusal) → Stands limit capacity w m → result ≡ Err why
+pub refused_at : (limit : Bounds) (capacity : ℕ) (side : Side) (w v : Wired) (m : Machine) (message : Message) (why : PublishRefusal)
+    (result : Result (Option ℕ) PublishRefusal) → Stands limit capacity w m → result ≡ Err why
     → IfSome (refusal side (near side w).state.limit.most (near side w).state.capacity message (near side w).state.end) (λ y. result ≡ Err y)
-    → IfNone (refusal side (near side w).state.limit.most (near side w).state.capacity message (near side w).state.end) (IfErr result (λ y. y ≡ refusals.Memory))
+    → IfNone (refusal side (near side w).state.limit.most (near side w).state.capacity message (near side w).state.end)
+    (IfErr result (λ y. y ≡ refusals.Memory))
     → v ≡ w → IsRefused limit capacity side message why w v
 refused_at limit capacity side w v m message why result s e a b same =
     let x = (side_near limit capacity side w m s.carries) in
@@ -132,14 +143,17 @@ split : (side : Side) (v : Wired) → v ≡ facing side (near side v) (far side 
 split Client v = refl
 split Server v = refl
 
-pub no_reason : {A : Type 0} (o : Option PublishRefusal) (answer : A) (result : Result A PublishRefusal) → result ≡ Ok answer → IfSome o (λ y. result ≡ Err y) → o ≡ None
+pub no_reason : {A : Type 0} (o : Option PublishRefusal) (answer : A) (result : Result A PublishRefusal) → result ≡ Ok answer
+    → IfSome o (λ y. result ≡ Err y) → o ≡ None
 no_reason None answer result e h = refl
 no_reason (Some y) answer result e h = let f : Ok answer ≡ Err y = sym e ∙ h in cc
 
 -- a message is accepted, where the end and the lists get clones of it
-pub published_at : OverBytes → (limit : Bounds) (capacity : ℕ) (side : Side) (w v : Wired) (m : Machine) (message copy twin : Message) (answer : Option ℕ) (new : EndState) (out : List ℕ) → Stands limit capacity w m
+pub published_at : OverBytes → (limit : Bounds) (capacity : ℕ) (side : Side) (w v : Wired) (m : Machine) (message copy twin : Message)
+    (answer : Option ℕ) (new : EndState) (out : List ℕ) → Stands limit capacity w m
     → copy ≡ message → twin ≡ message
-    → IfSome (refusal side (near side w).state.limit.most (near side w).state.capacity copy (near side w).state.end) (λ y. let r : Result (Option ℕ) PublishRefusal = Ok answer in r ≡ Err y)
+    → IfSome (refusal side (near side w).state.limit.most (near side w).state.capacity copy (near side w).state.end)
+    (λ y. let r : Result (Option ℕ) PublishRefusal = Ok answer in r ≡ Err y)
     → Accepts answer copy (near side w).state new
     → (near side v).state ≡ written new → (near side v).clock ≡ (near side w).clock → (near side v).wire ≡ (near side w).wire
     → ((i : ℕ) → answer ≡ answered_identifier twin.qos i → (near side v).accepted ≡ accepted_with twin.qos i twin (near side w).accepted)
@@ -151,10 +165,14 @@ published_at law limit capacity side w v m message copy twin answer new out s on
     let none = no_reason (refusal side own.limit.most own.capacity copy own.end) answer (Ok answer) refl free in
     let none_ = subst (λ (z : Message). refusal side own.limit.most own.capacity z own.end ≡ None) one none in
     let accepts_ = subst (λ (z : Message). Accepts answer z own new) one accepts in
-    let accepted_ = subst (λ (z : Message). (i : ℕ) → answer ≡ answered_identifier z.qos i → (near side v).accepted ≡ accepted_with z.qos i z (near side w).accepted) two accepted in
-    let other : far side v ≡ with_more new.output (far side w) = rest ∙ ap (λ (b : List ℕ). record (far side w) { wire = b }) (more ∙ ap (λ (b : List ℕ). (far side w).wire ++ b) is) in
+    let accepted_ =
+    subst (λ (z : Message). (i : ℕ) → answer ≡ answered_identifier z.qos i
+    → (near side v).accepted ≡ accepted_with z.qos i z (near side w).accepted) two accepted in
+    let other : far side v ≡ with_more new.output (far side w) =
+    rest ∙ ap (λ (b : List ℕ). record (far side w) { wire = b }) (more ∙ ap (λ (b : List ℕ). (far side w).wire ++ b) is) in
     accepted_at law limit capacity side w v m message answer new s none_ accepts_
-    (λ i e. split side v ∙ (λ j. facing side (same_side (near side v) (accepting i message new (near side w)) state clock wire (accepted_ i e) handed freed j) (other j)))
+    (λ i e. split side v ∙ (λ j. facing side
+    (same_side (near side v) (accepting i message new (near side w)) state clock wire (accepted_ i e) handed freed j) (other j)))
 
 -- ---- bytes that come
 
@@ -166,7 +184,8 @@ ignored limit capacity side w v m left d new s same none e =
     let x = side_near limit capacity side w m s.carries in
     let quiet : new.output ≡ [] = ap (λ (z : EndState). z.output) same ∙ x.output in
     let none_kept : new.room.bytes ≡ 0 = ap (λ (z : EndState). z.room.bytes) same ∙ x.reserved in
-    let one : hearing left new d.progress.happenings d.progress.acknowledged d.progress.closed (near side w) ≡ record (near side w) { wire = left } = (λ i. record {
+    let one : hearing left new d.progress.happenings d.progress.acknowledged d.progress.closed (near side w) ≡ record (near side w) { wire = left } =
+    (λ i. record {
       state = (written_same new quiet none_kept ∙ same) i;
       clock = (near side w).clock;
       wire = left_on (none.2 i) left;
@@ -177,16 +196,19 @@ ignored limit capacity side w v m left d new s same none e =
     let two : with_more new.output (far side w) ≡ far side w = ap (λ (b : List ℕ). with_more b (far side w)) quiet ∙ no_more_bytes (far side w) in
     record { happenings = none.0; acknowledged = none.1; closed = none.2; world = e ∙ (λ i. facing side (one i) (two i)) }
 
-pub delivered_at : OverBytes → (limit : Bounds) (capacity : ℕ) (side : Side) (w v : Wired) (m : Machine) (count : ℕ) (d : Delivery) (new : EndState) → Stands limit capacity w m
+pub delivered_at : OverBytes → (limit : Bounds) (capacity : ℕ) (side : Side) (w v : Wired) (m : Machine) (count : ℕ) (d : Delivery) (new : EndState)
+    → Stands limit capacity w m
     → d.side ≡ side → d.bytes ≡ take count (near side w).wire
     → d.lost ≡ (not (is_live (near side w).state.end.state) && nat_lt 0 (length d.bytes))
-    → (is_live (near side w).state.end.state ≡ true → ReceivesAt side d.bytes (near side w).state new d.progress.happenings d.progress.acknowledged d.progress.closed)
+    → (is_live (near side w).state.end.state ≡ true
+    → ReceivesAt side d.bytes (near side w).state new d.progress.happenings d.progress.acknowledged d.progress.closed)
     → (is_live (near side w).state.end.state ≡ false → new ≡ (near side w).state)
     → (is_live (near side w).state.end.state ≡ false → (d.progress.happenings ≡ []) × (d.progress.acknowledged ≡ []) × (d.progress.closed ≡ None))
     → (is_live (near side w).state.end.state ≡ true → HearsIn side ((near side w).state.held ++ d.bytes) d.progress.closed (near side w)
     (hearing (drop count (near side w).wire) new d.progress.happenings d.progress.acknowledged d.progress.closed (near side w)))
     → SameBounds (near side w).state new
-    → v ≡ facing side (hearing (drop count (near side w).wire) new d.progress.happenings d.progress.acknowledged d.progress.closed (near side w)) (with_more new.output (far side w))
+    → v ≡ facing side (hearing (drop count (near side w).wire) new d.progress.happenings d.progress.acknowledged d.progress.closed (near side w))
+    (with_more new.output (far side w))
     → IsDelivered limit capacity side count d w v
 delivered_at law limit capacity side w v m count d new s to bytes lost live dead none heard bounds e =
     let left = drop count (near side w).wire in
@@ -213,23 +235,28 @@ delivered_at law limit capacity side w v m count d new s to bytes lost live dead
     }
 
 -- bytes come, and each part of the world is as it says
-pub heard_at : OverBytes → (limit : Bounds) (capacity : ℕ) (side : Side) (w v : Wired) (m : Machine) (count : ℕ) (d : Delivery) (piece : List ℕ) (new : EndState) (out : List ℕ) → Stands limit capacity w m
+pub heard_at : OverBytes → (limit : Bounds) (capacity : ℕ) (side : Side) (w v : Wired) (m : Machine) (count : ℕ) (d : Delivery) (piece : List ℕ)
+    (new : EndState) (out : List ℕ) → Stands limit capacity w m
     → d.side ≡ side → d.bytes ≡ take count (near side w).wire → piece ≡ d.bytes
     → d.lost ≡ (not (is_live (near side w).state.end.state) && nat_lt 0 (length d.bytes))
-    → (is_live (near side w).state.end.state ≡ true → ReceivesAt side piece (near side w).state new d.progress.happenings d.progress.acknowledged d.progress.closed)
+    → (is_live (near side w).state.end.state ≡ true
+    → ReceivesAt side piece (near side w).state new d.progress.happenings d.progress.acknowledged d.progress.closed)
     → (is_live (near side w).state.end.state ≡ false → new ≡ (near side w).state)
     → (is_live (near side w).state.end.state ≡ false → (d.progress.happenings ≡ []) × (d.progress.acknowledged ≡ []) × (d.progress.closed ≡ None))
     → (is_live (near side w).state.end.state ≡ true → HearsIn side ((near side w).state.held ++ piece) d.progress.closed (near side w)
     (hearing (drop count (near side w).wire) new d.progress.happenings d.progress.acknowledged d.progress.closed (near side w)))
     → SameBounds (near side w).state new
-    → (near side v).state ≡ written new → (near side v).clock ≡ (near side w).clock → (near side v).wire ≡ left_on d.progress.closed (drop count (near side w).wire)
+    → (near side v).state ≡ written new → (near side v).clock ≡ (near side w).clock
+    → (near side v).wire ≡ left_on d.progress.closed (drop count (near side w).wire)
     → (near side v).accepted ≡ (near side w).accepted → (near side v).handed ≡ handed_with d.progress.happenings (near side w).handed
     → (near side v).freed ≡ freed_with (near side w).accepted.at_least_once d.progress.acknowledged (near side w).freed
     → out ≡ new.output → (far side v).wire ≡ (far side w).wire ++ out → far side v ≡ record (far side w) { wire = (far side v).wire }
     → IsDelivered limit capacity side count d w v
-heard_at law limit capacity side w v m count d piece new out s to bytes whole lost live dead none heard bounds state clock wire accepted handed freed is more rest =
+heard_at law limit capacity side w v m count d piece new out s to bytes whole lost live dead none heard bounds state clock wire accepted handed freed
+    is more rest =
     let x = hearing (drop count (near side w).wire) new d.progress.happenings d.progress.acknowledged d.progress.closed (near side w) in
-    let other : far side v ≡ with_more new.output (far side w) = rest ∙ ap (λ (b : List ℕ). record (far side w) { wire = b }) (more ∙ ap (λ (b : List ℕ). (far side w).wire ++ b) is) in
+    let other : far side v ≡ with_more new.output (far side w) =
+    rest ∙ ap (λ (b : List ℕ). record (far side w) { wire = b }) (more ∙ ap (λ (b : List ℕ). (far side w).wire ++ b) is) in
     delivered_at law limit capacity side w v m count d new s to bytes lost
     (λ on. subst (λ (b : List ℕ). ReceivesAt side b (near side w).state new d.progress.happenings d.progress.acknowledged d.progress.closed) whole (live on))
     dead none (λ on. subst (λ (b : List ℕ). HearsIn side ((near side w).state.held ++ b) d.progress.closed (near side w) x) whole (heard on))
@@ -237,7 +264,8 @@ heard_at law limit capacity side w v m count d piece new out s to bytes whole lo
 
 -- ---- a connection is lost, and opened
 
-pub cut_same : (x : WiredSide) (new : EndState) (wire : List ℕ) → new.output ≡ [] → new.room.bytes ≡ 0 → wire ≡ [] → record x { state = new; wire = wire } ≡ cut_off new x
+pub cut_same : (x : WiredSide) (new : EndState) (wire : List ℕ) → new.output ≡ [] → new.room.bytes ≡ 0 → wire ≡ []
+    → record x { state = new; wire = wire } ≡ cut_off new x
 cut_same x new wire out kept gone = λ i. record x { state = sym (written_same new out kept) i; wire = gone i }
 
 pub on_ok : {A B : Type 0} (r : Result A B) (P : Type 0) → false ≡ is_err r → OnOk r P → P
@@ -254,14 +282,16 @@ on_err (Ok a) P e h = absurd (true_false e)
     true_false : true ≡ false → ⊥
     true_false e = cc
 
-pub lost_at : OverBytes → (limit : Bounds) (capacity : ℕ) (side : Side) (w v : Wired) (was_open : Bool) (new : EndState) → was_open ≡ is_live (near side w).state.end.state
+pub lost_at : OverBytes → (limit : Bounds) (capacity : ℕ) (side : Side) (w v : Wired) (was_open : Bool) (new : EndState)
+    → was_open ≡ is_live (near side w).state.end.state
     → new.end ≡ over (near side w).state.end → SameBounds (near side w).state new → new.moment ≡ (near side w).state.moment
     → v ≡ facing side (cut_off new (near side w)) (far side w) → IsLost limit capacity side was_open w v
 lost_at law limit capacity side w v was_open new is after bounds still e = record {
   said = is;
   wire = ap (λ (z : Wired). (near side z).wire) e ∙ ap (λ (z : WiredSide). z.wire) (near_facing side (cut_off new (near side w)) (far side w));
   other = ap (λ (z : Wired). far side z) e ∙ far_facing side (cut_off new (near side w)) (far side w);
-  times = subst (λ (u : Wired). SameTimes w u) (sym e) (same_times side w (cut_off new (near side w)) (far side w) (record { clock = refl; moment = still }) (no_time (far side w)));
+  times = subst (λ (u : Wired). SameTimes w u) (sym e)
+      (same_times side w (cut_off new (near side w)) (far side w) (record { clock = refl; moment = still }) (no_time (far side w)));
   moves = λ n t. subst (λ (u : Wired). Follows limit capacity n (By side Drops ∷ []) u) (sym e) (law.drop limit capacity side w n new t after bounds);
 }
 
@@ -270,7 +300,8 @@ true_not b e f = let g : true ≡ false = sym e ∙ f in cc
 
 pub opened_at : OverBytes → (limit : Bounds) (capacity : ℕ) (w v : Wired) (o : Opening) (c s : EndState)
     → o.client_dropped ≡ is_live w.client.state.end.state → o.server_dropped ≡ is_live w.server.state.end.state → o.refused ≡ false
-    → c.end ≡ (connects first_packet w.client.state.end).end → PutsOut (packets.Connect first_packet ∷ []) [] c.output → c.held ≡ [] → SameBounds w.client.state c
+    → c.end ≡ (connects first_packet w.client.state.end).end → PutsOut (packets.Connect first_packet ∷ []) [] c.output → c.held ≡ []
+    → SameBounds w.client.state c
     → s.end ≡ (opens w.server.state.end).end → s.held ≡ [] → SameBounds w.server.state s → c.moment ≡ w.client.clock → s.moment ≡ w.server.clock
     → v ≡ record { client = cut_off c w.client; server = with_more c.output (cut_off s w.server) } → IsOpened limit capacity o w v
 opened_at law limit capacity w v o c s cd sd fine ce co ch cb se sh sb cm sm e = record {
@@ -284,7 +315,8 @@ opened_at law limit capacity w v o c s cd sd fine ce co ch cb se sh sb cm sm e =
 
 pub refused_open : OverBytes → (limit : Bounds) (capacity : ℕ) (w v : Wired) (o : Opening) (c s : EndState)
     → o.client_dropped ≡ is_live w.client.state.end.state → o.server_dropped ≡ is_live w.server.state.end.state → o.refused ≡ true
-    → c.end ≡ over w.client.state.end → SameBounds w.client.state c → s.end ≡ over w.server.state.end → SameBounds w.server.state s → c.moment ≡ w.client.state.moment → s.moment ≡ w.server.state.moment
+    → c.end ≡ over w.client.state.end → SameBounds w.client.state c → s.end ≡ over w.server.state.end → SameBounds w.server.state s
+    → c.moment ≡ w.client.state.moment → s.moment ≡ w.server.state.moment
     → v ≡ record { client = cut_off c w.client; server = cut_off s w.server } → IsOpened limit capacity o w v
 refused_open law limit capacity w v o c s cd sd failed ce cb se sb cm sm e = record {
   client_dropped = cd;
@@ -295,14 +327,17 @@ refused_open law limit capacity w v o c s cd sd failed ce cb se sb cm sm e = rec
   refused = λ _. (
     ap (λ (u : Wired). u.server.wire) e,
     subst (λ (u : Wired). SameTimes w u) (sym e) (record { client = record { clock = refl; moment = cm }; server = record { clock = refl; moment = sm } }),
-    λ n t. subst (λ (u : Wired). Follows limit capacity n (By Client Drops ∷ By Server Drops ∷ []) u) (sym e) (law.drop_both limit capacity w n c s t ce cb se sb),
+    λ n t. subst (λ (u : Wired). Follows limit capacity n (By Client Drops ∷ By Server Drops ∷ []) u) (sym e)
+        (law.drop_both limit capacity w n c s t ce cb se sb),
   );
 }
 
 -- a new world
-pub new_at : OverBytes → (limit : Bounds) (capacity : ℕ) (window : Option ℕ) (w : Wired) (c s : EndState) → 64 ≤ limit.most → c.end ≡ blank_end window → c.limit ≡ limit → c.capacity ≡ capacity → s.end ≡ blank_end window → s.limit ≡ limit → s.capacity ≡ capacity
+pub new_at : OverBytes → (limit : Bounds) (capacity : ℕ) (window : Option ℕ) (w : Wired) (c s : EndState) → 64 ≤ limit.most → c.end ≡ blank_end window
+    → c.limit ≡ limit → c.capacity ≡ capacity → s.end ≡ blank_end window → s.limit ≡ limit → s.capacity ≡ capacity
     → w ≡ record { client = blank_side c; server = blank_side s } → Stands limit capacity w (blank_machine window)
-new_at law limit capacity window w c s large ce cl cc_ se sl sc e = subst (λ (u : Wired). Stands limit capacity u (blank_machine window)) (sym e) (law.blank limit capacity window c s large ce cl cc_ se sl sc)
+new_at law limit capacity window w c s large ce cl cc_ se sl sc e =
+    subst (λ (u : Wired). Stands limit capacity u (blank_machine window)) (sym e) (law.blank limit capacity window c s large ce cl cc_ se sl sc)
 
 -- ---- one event after another
 
@@ -310,88 +345,50 @@ new_at law limit capacity window w c s large ce cl cc_ se sl sc e = subst (λ (u
 abbrev pub StandsStill : Bounds → ℕ → Wired → Machine → Type 0
 StandsStill limit capacity v m = (n : Machine) × Stands limit capacity v n × SameWindows m n
 
-stands_moved : (limit : Bounds) (capacity : ℕ) (w v : Wired) (m : Machine) (moves : List Move) → Stands limit capacity w m → Moves limit capacity w moves v → StandsStill limit capacity v m
+stands_moved : (limit : Bounds) (capacity : ℕ) (w v : Wired) (m : Machine) (moves : List Move) → Stands limit capacity w m
+    → Moves limit capacity w moves v → StandsStill limit capacity v m
 stands_moved limit capacity w v m moves s f = let g = f m s in (g.machine, g.stands, run_windows limit.most capacity m moves g.machine g.run)
 
 pub live_or_not : (b : Bool) (A : Type 0) → (b ≡ true → A) → (b ≡ false → A) → A
 live_or_not true A f g = f refl
 live_or_not false A f g = g refl
 
-pub stands_delivered : OverBytes → (limit : Bounds) (capacity : ℕ) (side : Side) (w v : Wired) (m : Machine) (count : ℕ) (d : Delivery) → Stands limit capacity w m → IsDelivered limit capacity side count d w v → StandsStill limit capacity v m
+pub stands_delivered : OverBytes → (limit : Bounds) (capacity : ℕ) (side : Side) (w v : Wired) (m : Machine) (count : ℕ) (d : Delivery)
+    → Stands limit capacity w m → IsDelivered limit capacity side count d w v → StandsStill limit capacity v m
 stands_delivered law limit capacity side w v m count d s h = live_or_not (is_live (near side w).state.end.state) (StandsStill limit capacity v m)
     (λ on. let a = h.arrive on m s in let g = a.follows in (g.machine, g.stands, run_windows limit.most capacity m a.moves g.machine g.run))
-    (λ off. (m, subst (λ (u : Wired). Stands limit capacity u m) (sym (h.ignores off).world) (law.unheard limit capacity side w m (drop count (near side w).wire) s off), (refl, refl)))
+    (λ off. (
+      m,
+      subst (λ (u : Wired). Stands limit capacity u m) (sym (h.ignores off).world)
+          (law.unheard limit capacity side w m (drop count (near side w).wire) s off),
+      (refl, refl),
+    ))
 
-pub stands_opened : (limit : Bounds) (capacity : ℕ) (w v : Wired) (m : Machine) (o : Opening) → Stands limit capacity w m → IsOpened limit capacity o w v → StandsStill limit capacity v m
+pub stands_opened : (limit : Bounds) (capacity : ℕ) (w v : Wired) (m : Machine) (o : Opening) → Stands limit capacity w m
+    → IsOpened limit capacity o w v → StandsStill limit capacity v m
 stands_opened limit capacity w v m o s h = live_or_not o.refused (StandsStill limit capacity v m)
     (λ said. stands_moved limit capacity w v m (By Client Drops ∷ By Server Drops ∷ []) s (h.refused said).2)
     (λ said. stands_moved limit capacity w v m (Opens ∷ []) s (h.opens said))
 
-pub stands_done : OverBytes → (limit : Bounds) (capacity : ℕ) (event : Event) (answer : Answer) (w v : Wired) (m : Machine) → Stands limit capacity w m → Does limit capacity event answer w v → StandsStill limit capacity v m
-stands_done law limit capacity (events.Publish side message) (answers.Published at (Ok id)) w v m s h = stands_moved limit capacity w v m (By side (Publishes h.1.id message) ∷ []) s h.1.moves
-stands_done law limit capacity (events.Publish side message) (answers.Published at (Err why)) w v m s h = (m, subst (λ (u : Wired). Stands limit capacity u m) (sym h.1.same) s, (refl, refl))
-stands_done law limit capacity (events.Publish side message) (answers.Delivered d) w v m s h = absurd h
-stands_done law limit capacity (events.Publish side message) (answers.Dropped at b) w v m s h = absurd h
-stands_done law limit capacity (events.Publish side message) (answers.Opened o) w v m s h = absurd h
-stands_done law limit capacity (events.Publish side message) (answers.Left o) w v m s h = absurd h
-stands_done law limit capacity (events.Publish side message) (answers.Ticked at o) w v m s h = absurd h
-stands_done law limit capacity (events.Publish side message) (answers.Settled o) w v m s h = absurd h
-stands_done law limit capacity (events.Deliver side count) (answers.Delivered d) w v m s h = stands_delivered law limit capacity side w v m count d s h
-stands_done law limit capacity (events.Deliver side count) (answers.Published at id) w v m s h = absurd h
-stands_done law limit capacity (events.Deliver side count) (answers.Dropped at b) w v m s h = absurd h
-stands_done law limit capacity (events.Deliver side count) (answers.Opened o) w v m s h = absurd h
-stands_done law limit capacity (events.Deliver side count) (answers.Left o) w v m s h = absurd h
-stands_done law limit capacity (events.Deliver side count) (answers.Ticked at o) w v m s h = absurd h
-stands_done law limit capacity (events.Deliver side count) (answers.Settled o) w v m s h = absurd h
-stands_done law limit capacity (events.Drop side) (answers.Dropped at was_open) w v m s h = stands_moved limit capacity w v m (By side Drops ∷ []) s h.1.moves
-stands_done law limit capacity (events.Drop side) (answers.Published at id) w v m s h = absurd h
-stands_done law limit capacity (events.Drop side) (answers.Delivered d) w v m s h = absurd h
-stands_done law limit capacity (events.Drop side) (answers.Opened o) w v m s h = absurd h
-stands_done law limit capacity (events.Drop side) (answers.Left o) w v m s h = absurd h
-stands_done law limit capacity (events.Drop side) (answers.Ticked at o) w v m s h = absurd h
-stands_done law limit capacity (events.Drop side) (answers.Settled o) w v m s h = absurd h
-stands_done law limit capacity events.Leave (answers.Left (Ok done)) w v m s h = stands_moved limit capacity w v m (By Client Leaves ∷ []) s h.moves
-stands_done law limit capacity events.Leave (answers.Left (Err why)) w v m s h = (m, subst (λ (u : Wired). Stands limit capacity u m) (sym h.same) s, (refl, refl))
-stands_done law limit capacity events.Leave (answers.Published at id) w v m s h = absurd h
-stands_done law limit capacity events.Leave (answers.Delivered d) w v m s h = absurd h
-stands_done law limit capacity events.Leave (answers.Dropped at b) w v m s h = absurd h
-stands_done law limit capacity events.Leave (answers.Opened o) w v m s h = absurd h
-stands_done law limit capacity events.Leave (answers.Ticked at o) w v m s h = absurd h
-stands_done law limit capacity events.Leave (answers.Settled o) w v m s h = absurd h
-stands_done law limit capacity events.Open (answers.Opened o) w v m s h = stands_opened limit capacity w v m o s h
-stands_done law limit capacity events.Open (answers.Published at id) w v m s h = absurd h
-stands_done law limit capacity events.Open (answers.Delivered d) w v m s h = absurd h
-stands_done law limit capacity events.Open (answers.Dropped at b) w v m s h = absurd h
-stands_done law limit capacity events.Open (answers.Left o) w v m s h = absurd h
-stands_done law limit capacity events.Open (answers.Ticked at o) w v m s h = absurd h
-stands_done law limit capacity events.Open (answers.Settled o) w v m s h = absurd h
-stands_done law limit capacity (events.Tick side more) (answers.Ticked at (Ok closed)) w v m s h = stands_moved limit capacity w v m (time_moves side (later (near side w).clock more) (near side w).state) s h.1.moves
-stands_done law limit capacity (events.Tick side more) (answers.Ticked at (Err why)) w v m s h =
-    let u : Wired = record w { client = record w.client { clock = later w.client.clock more } } in
-    let a : Alike w.client u.client = record { end = refl; bytes = λ live. refl; output = refl; reserved = refl; bounds = (refl, refl); accepted = refl; handed = refl; freed = refl } in
-    (m, subst (λ (z : Wired). Stands limit capacity z m) (sym h.1.world) (law.alike limit capacity w u m s a (alike_itself w.server)), (refl, refl))
-stands_done law limit capacity (events.Tick side more) (answers.Published at id) w v m s h = absurd h
-stands_done law limit capacity (events.Tick side more) (answers.Delivered d) w v m s h = absurd h
-stands_done law limit capacity (events.Tick side more) (answers.Dropped at b) w v m s h = absurd h
-stands_done law limit capacity (events.Tick side more) (answers.Left o) w v m s h = absurd h
-stands_done law limit capacity (events.Tick side more) (answers.Opened o) w v m s h = absurd h
-stands_done law limit capacity (events.Tick side more) (answers.Settled o) w v m s h = absurd h
-
 -- an event more at the end
-pub leads_more : (limit : Bounds) (capacity : ℕ) (es : List Event) (rest : List Answer) (e : Event) (a : Answer) (u v w : Wired) → Leads limit capacity es rest u v → Does limit capacity e a v w → Leads limit capacity (es ++ e ∷ []) (rest ++ a ∷ []) u w
+pub leads_more : (limit : Bounds) (capacity : ℕ) (es : List Event) (rest : List Answer) (e : Event) (a : Answer) (u v w : Wired)
+    → Leads limit capacity es rest u v → Does limit capacity e a v w → Leads limit capacity (es ++ e ∷ []) (rest ++ a ∷ []) u w
 leads_more limit capacity [] [] e a u v w h d = (w, subst (λ (x : Wired). Does limit capacity e a x w) h d, refl)
 leads_more limit capacity (f ∷ es) (b ∷ rest) e a u v w h d = (h.0, h.1, leads_more limit capacity es rest e a h.0 v w h.2 d)
 leads_more limit capacity [] (b ∷ rest) e a u v w h d = absurd h
 leads_more limit capacity (f ∷ es) [] e a u v w h d = absurd h
 
 -- a side more at the end
-pub turn_more : (limit : Bounds) (capacity : ℕ) (sides : List Side) (ds : List Delivery) (side : Side) (d : Delivery) (u v w : Wired) → InTurn limit capacity sides ds u v → IsDelivered limit capacity side (length (near side v).wire) d v w → InTurn limit capacity (sides ++ side ∷ []) (ds ++ d ∷ []) u w
+pub turn_more : (limit : Bounds) (capacity : ℕ) (sides : List Side) (ds : List Delivery) (side : Side) (d : Delivery) (u v w : Wired)
+    → InTurn limit capacity sides ds u v → IsDelivered limit capacity side (length (near side v).wire) d v w
+    → InTurn limit capacity (sides ++ side ∷ []) (ds ++ d ∷ []) u w
 turn_more limit capacity [] [] side d u v w h k = (w, subst (λ (x : Wired). IsDelivered limit capacity side (length (near side x).wire) d x w) h k, refl)
 turn_more limit capacity (s ∷ sides) (b ∷ ds) side d u v w h k = (h.0, h.1, turn_more limit capacity sides ds side d h.0 v w h.2 k)
 turn_more limit capacity [] (b ∷ ds) side d u v w h k = absurd h
 turn_more limit capacity (s ∷ sides) [] side d u v w h k = absurd h
 
-pub stands_turned : OverBytes → (limit : Bounds) (capacity : ℕ) (sides : List Side) (ds : List Delivery) (u v : Wired) (m : Machine) → Stands limit capacity u m → InTurn limit capacity sides ds u v → StandsStill limit capacity v m
+pub stands_turned : OverBytes → (limit : Bounds) (capacity : ℕ) (sides : List Side) (ds : List Delivery) (u v : Wired) (m : Machine)
+    → Stands limit capacity u m → InTurn limit capacity sides ds u v → StandsStill limit capacity v m
 stands_turned law limit capacity [] [] u v m s h = (m, subst (λ (x : Wired). Stands limit capacity x m) (sym h) s, (refl, refl))
 stands_turned law limit capacity (side ∷ sides) (d ∷ ds) u v m s h =
     let g = stands_delivered law limit capacity side u h.0 m (length (near side u).wire) d s h.1 in
@@ -400,19 +397,24 @@ stands_turned law limit capacity (side ∷ sides) (d ∷ ds) u v m s h =
 stands_turned law limit capacity [] (d ∷ ds) u v m s h = absurd h
 stands_turned law limit capacity (side ∷ sides) [] u v m s h = absurd h
 
-pub turn_next : (limit : Bounds) (capacity : ℕ) (sides : List Side) (k : ℕ) (ds : List Delivery) (side other : Side) (d : Delivery) (u v w : Wired) → k < length sides → side ≡ get_or sides k other
-    → InTurn limit capacity (take k sides) ds u v → IsDelivered limit capacity side (length (near side v).wire) d v w → InTurn limit capacity (take (k + 1) sides) (ds ++ d ∷ []) u w
+pub turn_next : (limit : Bounds) (capacity : ℕ) (sides : List Side) (k : ℕ) (ds : List Delivery) (side other : Side) (d : Delivery) (u v w : Wired)
+    → k < length sides → side ≡ get_or sides k other
+    → InTurn limit capacity (take k sides) ds u v → IsDelivered limit capacity side (length (near side v).wire) d v w
+    → InTurn limit capacity (take (k + 1) sides) (ds ++ d ∷ []) u w
 turn_next limit capacity sides k ds side other d u v w below at h come =
-    let e : take (k + 1) sides ≡ take k sides ++ side ∷ [] = ap (λ n. take n sides) (add-one k) ∙ take-suc sides k other below ∙ ap (λ z. take k sides ++ z ∷ []) (sym at) in
+    let e : take (k + 1) sides ≡ take k sides ++ side ∷ [] =
+    ap (λ n. take n sides) (add-one k) ∙ take-suc sides k other below ∙ ap (λ z. take k sides ++ z ∷ []) (sym at) in
     subst (λ (ss : List Side). InTurn limit capacity ss (ds ++ d ∷ []) u w) (sym e) (turn_more limit capacity (take k sides) ds side d u v w h come)
 
-pub leads_next : (limit : Bounds) (capacity : ℕ) (es : List Event) (k : ℕ) (rest : List Answer) (e : Event) (a : Answer) (u v w : Wired) → k < length es → e ≡ get_or es k e
+pub leads_next : (limit : Bounds) (capacity : ℕ) (es : List Event) (k : ℕ) (rest : List Answer) (e : Event) (a : Answer) (u v w : Wired)
+    → k < length es → e ≡ get_or es k e
     → Leads limit capacity (take k es) rest u v → Does limit capacity e a v w → Leads limit capacity (take (k + 1) es) (rest ++ a ∷ []) u w
 leads_next limit capacity es k rest e a u v w below at h come =
     let f : take (k + 1) es ≡ take k es ++ e ∷ [] = ap (λ n. take n es) (add-one k) ∙ take-suc es k e below ∙ ap (λ z. take k es ++ z ∷ []) (sym at) in
     subst (λ (ss : List Event). Leads limit capacity ss (rest ++ a ∷ []) u w) (sym f) (leads_more limit capacity (take k es) rest e a u v w h come)
 
-pub stands_settled : OverBytes → (limit : Bounds) (capacity : ℕ) (w v : Wired) (m : Machine) (s : Settling) → Stands limit capacity w m → IsSettled limit capacity s w v → StandsStill limit capacity v m
+pub stands_settled : OverBytes → (limit : Bounds) (capacity : ℕ) (w v : Wired) (m : Machine) (s : Settling) → Stands limit capacity w m
+    → IsSettled limit capacity s w v → StandsStill limit capacity v m
 stands_settled law limit capacity w v m s t h =
     let g = stands_opened limit capacity w h.between m s.opening t h.opened in
     let k = stands_turned law limit capacity (take 4 exchanges) (take 4 s.deliveries) h.between h.second g.0 g.1 h.exchanged_twice in

@@ -55,4 +55,5 @@ PublishOnly test (move ∷ moves) = PublishOnly test moves
 
 -- over every run
 abbrev pub CarriedLaw : Type 0
-CarriedLaw = (test : Message → Bool) (limit capacity : ℕ) (window : Option ℕ) (moves : List Move) (w : Machine) → PublishOnly test moves → Run limit capacity (blank_machine window) moves w → CarriesOnly test w.client × CarriesOnly test w.server
+CarriedLaw = (test : Message → Bool) (limit capacity : ℕ) (window : Option ℕ) (moves : List Move) (w : Machine) → PublishOnly test moves
+    → Run limit capacity (blank_machine window) moves w → CarriesOnly test w.client × CarriesOnly test w.server

@@ -55,4 +55,5 @@ pub record Examples : Type 0 where
   pub dropped_inside_after : (settled (after_all (blank_machine None) dropped_inside)).client.end.state ≡ Up
   -- a server's message is refused before a session stands, and accepted after
   pub refused_before : refusal Server 100 4 word_2 (blank_machine None).server.end ≡ Some NoSession
-  pub accepted_after : Run 100 4 (blank_machine None) (Opens ∷ By Server Arrives ∷ By Server (Publishes 1 word_2) ∷ []) (after_all (blank_machine None) (Opens ∷ By Server Arrives ∷ By Server (Publishes 1 word_2) ∷ []))
+  pub accepted_after : Run 100 4 (blank_machine None) (Opens ∷ By Server Arrives ∷ By Server (Publishes 1 word_2) ∷ [])
+      (after_all (blank_machine None) (Opens ∷ By Server Arrives ∷ By Server (Publishes 1 word_2) ∷ []))

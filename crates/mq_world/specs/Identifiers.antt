@@ -16,7 +16,9 @@ half_of Server w = w.server
 -- What every run keeps of the identifiers, and what a new one is (2.3.1).
 pub record IdentifiersLaw : Type 0 where
   -- at each side those in use are from 1 to 65,535, each in use once, and within the capacity
-  pub sound : (limit capacity : ℕ) (window : Option ℕ) (moves : List Move) (w : Machine) → Run limit capacity (blank_machine window) moves w → (side : Side) → IsSound capacity (half_of side w).end.book
+  pub sound : (limit capacity : ℕ) (window : Option ℕ) (moves : List Move) (w : Machine) → Run limit capacity (blank_machine window) moves w
+      → (side : Side) → IsSound capacity (half_of side w).end.book
   -- an identifier that a message is given was not in use, and there is room for it
-  pub given : (limit capacity i : ℕ) (m : Message) (side : Side) (w : Machine) → IsAllowed limit capacity w (By side (Publishes i m)) → has_identifier m.qos ≡ true
+  pub given : (limit capacity i : ℕ) (m : Message) (side : Side) (w : Machine) → IsAllowed limit capacity w (By side (Publishes i m))
+      → has_identifier m.qos ≡ true
       → IsGiven capacity (half_of side w).end.book (half_of side (after w (By side (Publishes i m)))).end.book i

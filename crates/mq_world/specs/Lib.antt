@@ -16,4 +16,5 @@ pub mod SettlesOver
 pub mod Listed
 pub mod Pairs
 pub mod World
+pub mod EventByEvent
 pub mod MadeUp

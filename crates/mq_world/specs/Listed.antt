@@ -7,7 +7,8 @@ use Rattle.mq_world.specs.Half.{Accepted, HandedOn}
 
 -- what a side accepted
 abbrev pub accepted_in : Account → Accepted
-accepted_in l = record { at_most_once = l.accepted_at_most_once.items; at_least_once = l.accepted_at_least_once.items; exactly_once = l.accepted_exactly_once.items }
+accepted_in l =
+    record { at_most_once = l.accepted_at_most_once.items; at_least_once = l.accepted_at_least_once.items; exactly_once = l.accepted_exactly_once.items }
 
 -- what it handed on
 abbrev pub handed_in : Account → HandedOn

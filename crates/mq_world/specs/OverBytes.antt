@@ -153,14 +153,16 @@ pub record OverBytes : Type 0 where
       → is_live (near side w).state.end.state ≡ false
       → Stands limit capacity (facing side (record (near side w) { wire = left }) (far side w)) m
   -- bytes come to a side that has a connection
-  pub deliver : (limit : Bounds) (capacity : ℕ) (side : Side) (w : Wired) (m : Machine) (piece left : List ℕ) (new : EndState) (happenings : List Happening) (acknowledged : List ℕ) (closed : Option CloseReason)
+  pub deliver : (limit : Bounds) (capacity : ℕ) (side : Side) (w : Wired) (m : Machine) (piece left : List ℕ) (new : EndState)
+      (happenings : List Happening) (acknowledged : List ℕ) (closed : Option CloseReason)
       → Stands limit capacity w m → is_live (near side w).state.end.state ≡ true → (near side w).wire ≡ piece ++ left
       → ReceivesAt side piece (near side w).state new happenings acknowledged closed → SameBounds (near side w).state new
       → Delivers limit capacity side m ((near side w).state.held ++ piece) closed
       (facing side (hearing left new happenings acknowledged closed (near side w)) (with_more new.output (far side w)))
   -- the user of a side publishes a message, which is given this identifier where it has one
   pub publish : (limit : Bounds) (capacity : ℕ) (side : Side) (w : Wired) (m : Machine) (i : ℕ) (message : Message) (new : EndState)
-      → Stands limit capacity w m → refusal side limit.most capacity message (near side w).state.end ≡ None → MayHave (has_identifier message.qos) (near side w).state.end i
+      → Stands limit capacity w m → refusal side limit.most capacity message (near side w).state.end ≡ None
+      → MayHave (has_identifier message.qos) (near side w).state.end i
       → new.end ≡ (publishes i message (near side w).state.end).end
       → PutsOut (publishes i message (near side w).state.end).out (near side w).state.output new.output
       → new.held ≡ (near side w).state.held → SameBounds (near side w).state new
@@ -176,7 +178,8 @@ pub record OverBytes : Type 0 where
       → Follows limit capacity m (By Client Drops ∷ By Server Drops ∷ []) (record { client = cut_off c w.client; server = cut_off s w.server })
   -- a new connection is opened
   pub opened : (limit : Bounds) (capacity : ℕ) (w : Wired) (m : Machine) (c s : EndState) → Stands limit capacity w m
-      → c.end ≡ (connects first_packet w.client.state.end).end → PutsOut (packets.Connect first_packet ∷ []) [] c.output → c.held ≡ [] → SameBounds w.client.state c
+      → c.end ≡ (connects first_packet w.client.state.end).end → PutsOut (packets.Connect first_packet ∷ []) [] c.output → c.held ≡ []
+      → SameBounds w.client.state c
       → s.end ≡ (opens w.server.state.end).end → s.held ≡ [] → SameBounds w.server.state s
       → Follows limit capacity m (Opens ∷ []) (record { client = cut_off c w.client; server = with_more c.output (cut_off s w.server) })
   -- the client leaves
@@ -185,7 +188,8 @@ pub record OverBytes : Type 0 where
       → Follows limit capacity m (By Client Leaves ∷ []) (record { client = cut_off new w.client; server = with_more new.output w.server })
   -- the client asks whether the server is there
   pub ping : (limit : Bounds) (capacity : ℕ) (w : Wired) (m : Machine) (new : EndState) → Stands limit capacity w m → is_up w.client.state.end.state ≡ true
-      → new.end ≡ w.client.state.end → PutsOut (packets.PingReq ∷ []) w.client.state.output new.output → new.held ≡ w.client.state.held → SameBounds w.client.state new
+      → new.end ≡ w.client.state.end → PutsOut (packets.PingReq ∷ []) w.client.state.output new.output → new.held ≡ w.client.state.held
+      → SameBounds w.client.state new
       → Follows limit capacity m (By Client Pings ∷ []) (record { client = record w.client { state = written new }; server = with_more new.output w.server })
   -- what every run keeps (4.3)
   pub headline : (limit : Bounds) (capacity : ℕ) (w : Wired) (m : Machine) → Stands limit capacity w m → Headline (seen w)

@@ -38,7 +38,8 @@ pub record HoldsNothing (v : Wired) : Type 0 where
 -- The exchanges of a world over bytes are those of the machine.
 pub record SettlesOver : Type 0 where
   -- all the bytes on their way to a side that has a connection come to it, and its memory does not run out
-  pub deliver_all : (limit : Bounds) (capacity : ℕ) (side : Side) (w : Wired) (m : Machine) (new : EndState) (happenings : List Happening) (acknowledged : List ℕ) (closed : Option CloseReason)
+  pub deliver_all : (limit : Bounds) (capacity : ℕ) (side : Side) (w : Wired) (m : Machine) (new : EndState) (happenings : List Happening)
+      (acknowledged : List ℕ) (closed : Option CloseReason)
       → Stands limit capacity w m → is_live (near side w).state.end.state ≡ true
       → ReceivesAt side (near side w).wire (near side w).state new happenings acknowledged closed → SameBounds (near side w).state new
       → closed ≢ Some reasons.Memory
@@ -48,5 +49,7 @@ pub record SettlesOver : Type 0 where
       → is_live (near side w).state.end.state ≡ false
       → Stands limit capacity (facing side (record (near side w) { wire = [] }) (far side w)) (delivered side m)
   -- what the third exchange after a new connection leaves, and what the second, where the capacity is at most the window
-  pub settles : (limit : Bounds) (capacity : ℕ) (w v : Wired) (m : Machine) → IsSpanned capacity w → Stands limit capacity w m → Stands limit capacity v (settled m) → SettledFrom w v
-  pub second : (limit : Bounds) (capacity : ℕ) (w v : Wired) (m : Machine) → IsSpanned capacity w → Stands limit capacity w m → Stands limit capacity v (exchange (exchange (after m Opens))) → HoldsNothing v
+  pub settles : (limit : Bounds) (capacity : ℕ) (w v : Wired) (m : Machine) → IsSpanned capacity w → Stands limit capacity w m
+      → Stands limit capacity v (settled m) → SettledFrom w v
+  pub second : (limit : Bounds) (capacity : ℕ) (w v : Wired) (m : Machine) → IsSpanned capacity w → Stands limit capacity w m
+      → Stands limit capacity v (exchange (exchange (after m Opens))) → HoldsNothing v

@@ -63,4 +63,6 @@ pub record Settles (w : Machine) : Type 0 where
 
 -- from every machine that a run reaches, where there is no window, or one that is not less than the capacity
 abbrev pub SettlingLaw : Type 0
-SettlingLaw = (limit capacity : ℕ) (window : Option ℕ) (moves : List Move) (w : Machine) → Spans window capacity → Run limit capacity (blank_machine window) moves w → Settles w
+SettlingLaw =
+    (limit capacity : ℕ) (window : Option ℕ) (moves : List Move) (w : Machine) → Spans window capacity
+    → Run limit capacity (blank_machine window) moves w → Settles w

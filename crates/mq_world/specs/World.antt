@@ -1,5 +1,6 @@
 -- A world: two ends over bytes, what came of each event, and what it leads to.
-use Rattle.std.specs.Prelude.{ℕ, ◌≡◌, ◌≢◌, ◌↔◌, Bool, true, false, not, ◌&&◌, Option, None, Some, Ok, Err, List, [], ◌∷◌, ◌++◌, length, take, drop, nat_lt, All, IsTrue}
+use Rattle.std.specs.Prelude.{ℕ, ◌≡◌, ◌≢◌, ◌↔◌, Bool, true, false, not, ◌&&◌, Option, None, Some, Ok, Err, List, [], ◌∷◌, ◌++◌, length, take, drop}
+use Rattle.std.specs.Prelude.{nat_lt, All, IsTrue}
 use Rattle.mq_packet.specs.declared.message.Message.{Message}
 use Rattle.mq_decode.specs.Limits.{Bounds}
 use Rattle.mq_end.specs.declared.reason.CloseReason.{CloseReason}
@@ -79,7 +80,8 @@ pub record Hears (side : Side) (left : List ℕ) (d : Delivery) (old new : Wired
   pub state : EndState
   pub receives : ReceivesAt side d.bytes (near side old).state state d.progress.happenings d.progress.acknowledged d.progress.closed
   pub bounds : SameBounds (near side old).state state
-  pub world : new ≡ facing side (hearing left state d.progress.happenings d.progress.acknowledged d.progress.closed (near side old)) (with_more state.output (far side old))
+  pub world : new ≡ facing side (hearing left state d.progress.happenings d.progress.acknowledged d.progress.closed (near side old))
+      (with_more state.output (far side old))
   -- the server's keep-alive counts from now where a whole packet came (3.1.2.10)
   pub heard : HearsIn side ((near side old).state.held ++ d.bytes) d.progress.closed (near side old) (near side new)
 
@@ -178,7 +180,8 @@ Leads limit capacity (e ∷ es) [] old new = ⊥
 -- All bytes that are on their way to each of these sides come, one side after another.
 abbrev pub InTurn : Bounds → ℕ → List Side → List Delivery → Wired → Wired → Type 0
 InTurn limit capacity [] [] old new = new ≡ old
-InTurn limit capacity (side ∷ sides) (d ∷ rest) old new = (mid : Wired) × IsDelivered limit capacity side (length (near side old).wire) d old mid × InTurn limit capacity sides rest mid new
+InTurn limit capacity (side ∷ sides) (d ∷ rest) old new =
+    (mid : Wired) × IsDelivered limit capacity side (length (near side old).wire) d old mid × InTurn limit capacity sides rest mid new
 InTurn limit capacity [] (d ∷ rest) old new = ⊥
 InTurn limit capacity (side ∷ sides) [] old new = ⊥
 

@@ -38,7 +38,7 @@ impl Account {
     ghost use Rattle.mq_world.specs.OverBytes.{handed_with};
     ghost use Rattle.mq_world.specs.Listed.{accepted_in, handed_in, accepted_count, handed_count};
 
-    /// Nothing accepted, nothing handed on. It takes no memory.
+    /// Makes an account in which nothing was accepted and nothing handed on. Takes no memory.
     pub fn new(alloc: Global) -> Account
         ensures accepted { accepted_in result ≡ none_accepted }
         ensures handed { handed_in result ≡ none_handed }
@@ -56,7 +56,7 @@ impl Account {
         }
     }
 
-    /// How many messages of this quality of service it accepted.
+    /// Returns how many messages of quality of service `qos` the side accepted.
     pub fn accepted(&self, qos: Qos) -> usize
         ensures { result ≡ accepted_count qos (accepted_in self.now) }
     {
@@ -67,7 +67,7 @@ impl Account {
         }
     }
 
-    /// How many messages of this quality of service it handed on.
+    /// Returns how many messages of quality of service `qos` the side handed on.
     pub fn handed(&self, qos: Qos) -> usize
         ensures { result ≡ handed_count qos (handed_in self.now) }
     {
@@ -78,7 +78,7 @@ impl Account {
         }
     }
 
-    // It accepted a message, with this identifier where it has one.
+    // Records that the side accepted `message`, which was given the identifier `id` if it has one. Fails if memory runs out.
     pub(crate) fn accept(
         &mut self,
         id: Option<PacketId>,
@@ -103,7 +103,7 @@ impl Account {
         Ok(())
     }
 
-    // It hands a message on.
+    // Records that the side handed `message` on. Fails if memory runs out.
     fn hand(&mut self, message: Message) -> Result<(), AllocError>
         ensures handed { OnOk result (handed_in self.new ≡ handed_with (Happening.Handed message ∷ []) (handed_in self.old)) }
         ensures accepted { OnOk result (accepted_in self.new ≡ accepted_in self.old) }
@@ -117,7 +117,7 @@ impl Account {
         Ok(())
     }
 
-    // It hands on what these happenings tell of.
+    // Records the messages that `happenings` hand on. Fails if memory runs out.
     fn hand_all(&mut self, happenings: &[Happening]) -> Result<(), AllocError>
         ensures handed { OnOk result (handed_in self.new ≡ handed_with happenings.now (handed_in self.old)) }
         ensures accepted { OnOk result (accepted_in self.new ≡ accepted_in self.old) }
@@ -131,7 +131,7 @@ impl Account {
         Ok(())
     }
 
-    // The messages with these identifiers were acknowledged to it.
+    // Records the places of the messages with the identifiers `acknowledged`. Fails if memory runs out.
     fn free_all(&mut self, acknowledged: &[PacketId]) -> Result<(), AllocError>
         ensures freed { OnOk result (self.new.freed.items
             ≡ freed_with self.old.accepted_at_least_once.items acknowledged.now self.old.freed.items) }
@@ -145,7 +145,7 @@ impl Account {
         Ok(())
     }
 
-    // What came of bytes.
+    // Records what came of bytes. Fails if memory runs out.
     pub(crate) fn tell(&mut self, progress: &Progress) -> Result<(), AllocError>
         ensures handed { OnOk result (handed_in self.new ≡ handed_with progress.now.happenings (handed_in self.old)) }
         ensures freed { OnOk result (self.new.freed.items

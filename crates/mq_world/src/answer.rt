@@ -1,4 +1,4 @@
-//! What came of an event.
+//! What comes of an event.
 
 ghost use Rattle.std.specs.Prelude.{◌≡◌};
 
@@ -7,64 +7,64 @@ use mq_end::{CloseReason, Items, Progress, PublishRefusal};
 use mq_packet::PacketId;
 use std::alloc::AllocError;
 
-/// Bytes that came to a side, and what came of them.
+/// Bytes that came to a side, and what the side did with them.
 #[derive(Debug, Drop)]
 pub struct Delivery {
-    /// To which side.
+    /// The side to which the bytes came.
     pub side: Side,
-    /// The bytes.
+    /// The bytes that came.
     pub bytes: Items<u8>,
-    /// There are bytes, and no connection was there that could take them.
+    /// Whether there were bytes, but no connection that could take them in.
     pub lost: bool,
-    /// What came of them.
+    /// What the side did with the bytes.
     pub progress: Progress,
 }
 
-/// What came of the opening of a connection.
+/// What the opening of a connection did.
 #[derive(Clone, Copy, Debug, PartialEq, Eq)]
 pub struct Opening {
-    /// An earlier connection of the client was open, and is lost.
+    /// Whether an earlier connection of the client was open, and is lost.
     pub client_dropped: bool,
-    /// An earlier connection of the server was open, and is lost.
+    /// Whether an earlier connection of the server was open, and is lost.
     pub server_dropped: bool,
-    /// Memory ran out for CONNECT, and both ends stay closed.
+    /// Whether memory ran out for CONNECT, so that both ends stay closed.
     pub refused: bool,
 }
 
-/// What came of the opening of a connection, and of three exchanges after it.
+/// What the opening of a connection did, and what came of three exchanges after it.
 #[derive(Debug, Drop)]
 pub struct Settling {
-    /// The opening.
+    /// What the opening did.
     pub opening: Opening,
-    /// What came, in order: to the server, to the client, and so on.
+    /// What came of the bytes delivered, in order: to the server, to the client, and so on.
     pub deliveries: Items<Delivery>,
-    /// Neither side has anything of its own that waits for the other.
+    /// Whether neither side has anything of its own that waits for the other.
     pub idle: bool,
 }
 
-/// What came of an event.
+/// What comes of an event.
 #[derive(Debug, Drop)]
 pub enum Answer {
-    /// A message was accepted, with its packet identifier where it has one, or it was refused.
+    /// A message was accepted, with its packet identifier if it has one, or it was refused.
     Published(Side, Result<Option<PacketId>, PublishRefusal>),
     /// Bytes came to a side.
     Delivered(Delivery),
-    /// The connection of a side is lost, where it was open.
+    /// The connection of a side is lost. The flag says whether it was open.
     Dropped(Side, bool),
-    /// The client left, or it could not.
+    /// The client left, or leaving was refused.
     Left(Result<(), PublishRefusal>),
     /// A connection was opened.
     Opened(Opening),
-    /// A side was told the time, and why it closed, where it did; or memory ran out for what it had to put out.
+    /// A side was told the time: the reason if it closed, or a refusal if memory ran out for what it had to put out.
     Ticked(Side, Result<Option<CloseReason>, PublishRefusal>),
-    /// A connection was opened, and all that was on its way came, three times.
+    /// A connection was opened, and three times all bytes on their way were delivered.
     Settled(Settling),
 }
 
 impl Clone for Delivery {
     ghost is_clone = { λ delivery copy. copy ≡ delivery };
 
-    /// The same delivery.
+    /// Copies the delivery; the bytes of its messages are shared, not copied. Fails if memory runs out.
     fn clone(&self) -> Result<Delivery, AllocError> {
         Ok(Delivery {
             side: self.side,
@@ -78,7 +78,7 @@ impl Clone for Delivery {
 impl Clone for Settling {
     ghost is_clone = { λ settling copy. copy ≡ settling };
 
-    /// The same parts; the bytes of its messages are shared, none is copied.
+    /// Copies the parts; the bytes of their messages are shared, not copied. Fails if memory runs out.
     fn clone(&self) -> Result<Settling, AllocError> {
         Ok(Settling {
             opening: self.opening,
@@ -91,7 +91,7 @@ impl Clone for Settling {
 impl Clone for Answer {
     ghost is_clone = { λ answer copy. copy ≡ answer };
 
-    /// The same answer; the bytes of its messages are shared, none is copied.
+    /// Copies the answer; the bytes of its messages are shared, not copied. Fails if memory runs out.
     fn clone(&self) -> Result<Answer, AllocError> {
         Ok(match self {
             Answer::Published(side, outcome) => Answer::Published(*side, *outcome),

@@ -8,15 +8,15 @@ use mq_packet::Message;
 pub enum Event {
     /// The user of a side publishes a message (3.3).
     Publish(Side, Message),
-    /// So many bytes come to a side, the oldest of those that are on their way to it, or all of them where they are
+    /// That number of bytes comes to a side: the oldest of those on their way to it, or all of them if they are
     /// fewer (4.2).
     Deliver(Side, usize),
-    /// The connection of a side is lost, and what is on its way to it (4.2).
+    /// The connection of a side is lost, with all bytes on their way to it (4.2).
     Drop(Side),
-    /// The user of the client leaves: DISCONNECT, and the client closes (3.14).
+    /// The user of the client leaves: the client sends DISCONNECT and closes (3.14).
     Leave,
     /// The client opens a new connection (3.1); earlier ones are lost at both sides.
     Open,
-    /// The clock of a side goes on by so many milliseconds, and its end is told the time (3.1.2.10).
+    /// The clock of a side goes on by that number of milliseconds, and its end is told the time (3.1.2.10).
     Tick(Side, u64),
 }

@@ -10,6 +10,7 @@ ghost use Rattle.mq_world.specs.Carried.{CarriedLaw};
 ghost use Rattle.mq_world.specs.Examples.{Examples};
 ghost use Rattle.mq_world.specs.OverBytes.{OverBytes};
 ghost use Rattle.mq_world.specs.SettlesOver.{SettlesOver};
+ghost use Rattle.mq_world.specs.EventByEvent.{EventByEvent};
 
 use mq_decode::reads_again;
 use mq_end::closing_laws;
@@ -81,4 +82,13 @@ pub fn settles_over_bytes()
 {
     reads_again();
     closing_laws();
+}
+
+/// The events of a world and their answers, one after another, are a run of the machine that it carries; and what each side
+/// accepted, what it handed on and what was acknowledged to it are its lists from before, followed by what the answers
+/// tell (4.3).
+pub fn event_by_event()
+    ensures { EventByEvent }
+{
+    over_bytes();
 }

@@ -18,8 +18,8 @@ pub use crate::account::Account;
 pub use crate::answer::{Answer, Delivery, Opening, Settling};
 pub use crate::event::Event;
 pub use crate::laws::{
-    arrivals_at_once, carried, examples, headline, identifiers, over_bytes, runs, sessions,
-    settles_over_bytes, settling,
+    arrivals_at_once, carried, event_by_event, examples, headline, identifiers, over_bytes, runs,
+    sessions, settles_over_bytes, settling,
 };
 pub use crate::making::made_up;
 pub use crate::side::Side;

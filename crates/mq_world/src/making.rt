@@ -12,7 +12,7 @@ use rand_core::utils::NextWord;
 use rand_pcg::Pcg32;
 use std::alloc::{AllocError, Global};
 
-// The side of a word.
+// Returns the side that a word stands for.
 fn made_side(word: u32) -> Side
     ensures { result ≡ made_side word }
 {
@@ -23,7 +23,7 @@ fn made_side(word: u32) -> Side
     }
 }
 
-// The quality of service of a number.
+// Returns the quality of service that a number stands for.
 fn made_qos(value: u32) -> Qos
     ensures { result ≡ made_qos value }
 {
@@ -34,7 +34,7 @@ fn made_qos(value: u32) -> Qos
     }
 }
 
-// The message of a step: its payload is the step's number.
+// Makes the message of a step, whose payload is the step's number. Fails if memory runs out.
 fn made_message(alloc: Global, qos: Qos, number: u32) -> Result<Message, AllocError>
     ensures { IfOk result (λ message. message ≡ made_message qos number) }
 {
@@ -50,7 +50,7 @@ fn made_message(alloc: Global, qos: Qos, number: u32) -> Result<Message, AllocEr
     })
 }
 
-// The event of a step, by its word.
+// Makes the event of a step from its word. Fails if memory runs out.
 fn made_event(alloc: Global, word: u32, number: u32) -> Result<Event, AllocError>
     ensures { IfOk result (λ event. event ≡ made_event word number) }
 {
@@ -66,8 +66,8 @@ fn made_event(alloc: Global, word: u32, number: u32) -> Result<Event, AllocError
     })
 }
 
-/// Schedules that are made up for tests: so many events, the same for the same start. A message is to the topic `t`, and its
-/// payload is the number of its step in four bytes, the high byte first. Errs where memory runs out.
+/// Makes up `steps` events for tests, always the same ones for the same `start`. A message has the topic `t`, and its payload
+/// is the number of its step in four bytes, the high byte first. Fails if memory runs out.
 pub fn made_up(alloc: Global, start: u64, steps: u32) -> Result<Vec<Event>, AllocError>
     ensures { IfOk result (λ events. events.items ≡ made_up start steps) }
 {

@@ -20,7 +20,7 @@ use mq_end::{ByteQueue, ClientEnd, CloseReason, Items, PublishRefusal, ServerEnd
 use mq_packet::Message;
 use std::alloc::{AllocError, Global};
 
-// A connection is opened, and toward each of these sides all comes that is on its way: three exchanges.
+// The three exchanges after an opening: to each of these sides, in turn, all bytes on their way are delivered.
 const EXCHANGES: [Side; 6] = [
     Side::Server,
     Side::Client,
@@ -30,7 +30,7 @@ const EXCHANGES: [Side; 6] = [
     Side::Client,
 ];
 
-/// Two ends that are joined by two wires of bytes, and what came of it all so far.
+/// Two ends that are joined by two wires of bytes, and the trace of all events so far.
 #[derive(Debug, Drop)]
 pub(crate) struct Pair {
     pub(crate) alloc: Global,
@@ -44,7 +44,7 @@ pub(crate) struct Pair {
 }
 
 impl Pair {
-    // The user of the client publishes a message.
+    // Publishes a message at the client. Fails if memory runs out for a copy, the wire or the account.
     fn publish_at_client(&mut self, message: &Message) -> Result<Answer, AllocError>
         ensures does { IfOk result (λ answer. (limit : Bounds) (capacity : ℕ) (m : Machine) → Stands limit capacity (wired_of self.old) m
             → Does limit capacity (Event.Publish Side.Client message.now) answer (wired_of self.old) (wired_of self.new)) }
@@ -63,7 +63,7 @@ impl Pair {
         }
     }
 
-    // The user of the server publishes a message.
+    // Publishes a message at the server. Fails if memory runs out for a copy, the wire or the account.
     fn publish_at_server(&mut self, message: &Message) -> Result<Answer, AllocError>
         ensures does { IfOk result (λ answer. (limit : Bounds) (capacity : ℕ) (m : Machine) → Stands limit capacity (wired_of self.old) m
             → Does limit capacity (Event.Publish Side.Server message.now) answer (wired_of self.old) (wired_of self.new)) }
@@ -82,7 +82,7 @@ impl Pair {
         }
     }
 
-    // So many bytes come to the client, or all that are on their way to it where they are fewer.
+    // Delivers `count` bytes to the client, or all on their way to it if they are fewer. Fails if memory runs out.
     fn deliver_to_client(&mut self, count: usize) -> Result<Delivery, AllocError>
         ensures delivered { IfOk result (λ delivery. (limit : Bounds) (capacity : ℕ) (m : Machine) → Stands limit capacity (wired_of self.old) m
             → IsDelivered limit capacity Side.Client count delivery (wired_of self.old) (wired_of self.new)) }
@@ -106,7 +106,7 @@ impl Pair {
         })
     }
 
-    // So many bytes come to the server, or all that are on their way to it where they are fewer.
+    // Delivers `count` bytes to the server, or all on their way to it if they are fewer. Fails if memory runs out.
     fn deliver_to_server(&mut self, count: usize) -> Result<Delivery, AllocError>
         ensures delivered { IfOk result (λ delivery. (limit : Bounds) (capacity : ℕ) (m : Machine) → Stands limit capacity (wired_of self.old) m
             → IsDelivered limit capacity Side.Server count delivery (wired_of self.old) (wired_of self.new)) }
@@ -130,7 +130,7 @@ impl Pair {
         })
     }
 
-    // So many bytes come to a side, or all that are on their way to it where they are fewer.
+    // Delivers `count` bytes to a side, or all on their way to it if they are fewer. Fails if memory runs out.
     fn deliver(&mut self, side: Side, count: usize) -> Result<Delivery, AllocError>
         ensures delivered { IfOk result (λ delivery. (limit : Bounds) (capacity : ℕ) (m : Machine) → Stands limit capacity (wired_of self.old) m
             → IsDelivered limit capacity side count delivery (wired_of self.old) (wired_of self.new)) }
@@ -143,7 +143,7 @@ impl Pair {
         }
     }
 
-    // All bytes that are on their way to a side come to it.
+    // Delivers all bytes on their way to a side. Fails if memory runs out.
     fn deliver_all(&mut self, side: Side) -> Result<Delivery, AllocError>
         ensures delivered { IfOk result (λ delivery. (limit : Bounds) (capacity : ℕ) (m : Machine) → Stands limit capacity (wired_of self.old) m
             → IsDelivered limit capacity side (length (near side (wired_of self.old)).wire) delivery (wired_of self.old) (wired_of self.new)) }
@@ -162,7 +162,7 @@ impl Pair {
         }
     }
 
-    // The connection of a side is lost, and what is on its way to it.
+    // Drops the connection of a side, with all bytes on their way to it.
     fn lose(&mut self, side: Side) -> Answer
         ensures does { (limit : Bounds) (capacity : ℕ) (m : Machine) → Stands limit capacity (wired_of self.old) m
             → Does limit capacity (Event.Drop side) result (wired_of self.old) (wired_of self.new) }
@@ -186,7 +186,7 @@ impl Pair {
         }
     }
 
-    // The user of the client leaves.
+    // Lets the client leave. Fails if memory runs out for the wire.
     fn leave(&mut self) -> Result<Answer, AllocError>
         ensures does { IfOk result (λ answer. (limit : Bounds) (capacity : ℕ) (m : Machine) → Stands limit capacity (wired_of self.old) m
             → Does limit capacity Event.Leave answer (wired_of self.old) (wired_of self.new)) }
@@ -203,7 +203,7 @@ impl Pair {
         Ok(Answer::Left(Ok(())))
     }
 
-    // The clock of the client goes on.
+    // Moves the clock of the client on, and tells it the time. Fails if memory runs out for the wire.
     fn tick_client(&mut self, more: u64) -> Result<Answer, AllocError>
         ensures does { IfOk result (λ answer. (limit : Bounds) (capacity : ℕ) (m : Machine) → Stands limit capacity (wired_of self.old) m
             → Does limit capacity (Event.Tick Side.Client more) answer (wired_of self.old) (wired_of self.new)) }
@@ -220,7 +220,7 @@ impl Pair {
         Ok(Answer::Ticked(Side::Client, Ok(closed)))
     }
 
-    // The clock of the server goes on.
+    // Moves the clock of the server on, and tells it the time.
     fn tick_server(&mut self, more: u64) -> Answer
         ensures does { (limit : Bounds) (capacity : ℕ) (m : Machine) → Stands limit capacity (wired_of self.old) m
             → Does limit capacity (Event.Tick Side.Server more) result (wired_of self.old) (wired_of self.new) }
@@ -234,7 +234,7 @@ impl Pair {
         Answer::Ticked(Side::Server, Ok(closed))
     }
 
-    // The client opens a new connection.
+    // Opens a new connection from the client.
     fn open(&mut self) -> Opening
         requires config { connect_of self.old.client.config false ≡ first_packet }
         ensures opened { (limit : Bounds) (capacity : ℕ) (m : Machine) → Stands limit capacity (wired_of self.old) m
@@ -265,7 +265,7 @@ impl Pair {
         }
     }
 
-    /// Makes an event.
+    /// Makes an event happen. Fails if memory runs out for the wires, an account or a copy.
     pub(crate) fn make(&mut self, event: &Event) -> Result<Answer, AllocError>
         requires config { connect_of self.old.client.config false ≡ first_packet }
         ensures does { IfOk result (λ answer. (limit : Bounds) (capacity : ℕ) (m : Machine) → Stands limit capacity (wired_of self.old) m
@@ -285,8 +285,8 @@ impl Pair {
         }
     }
 
-    /// Opens a connection, and makes three exchanges: all that is on its way to the server comes, then all that is on its
-    /// way to the client.
+    /// Opens a connection and makes three exchanges, in each of which all bytes on their way to the server are delivered, then
+    /// all on their way to the client. Fails if memory runs out.
     pub(crate) fn settle(&mut self) -> Result<Settling, AllocError>
         requires config { connect_of self.old.client.config false ≡ first_packet }
         ensures settled { IfOk result (λ s. (limit : Bounds) (capacity : ℕ) (m : Machine) → Stands limit capacity (wired_of self.old) m
@@ -311,7 +311,7 @@ impl Pair {
         })
     }
 
-    // Whether neither side has anything of its own that waits for the other.
+    // Returns whether neither side has anything of its own that waits for the other.
     fn is_idle(&self) -> bool
         ensures { IsTrue result ↔ (IsIdle self.now.client.link.end × (self.now.server.end.known ≡ true → IsIdle self.now.server.end)) }
     {
@@ -327,7 +327,7 @@ impl Pair {
     }
 }
 
-// Whether there is a connection.
+// Returns whether there is a connection.
 fn is_live(state: State) -> bool
     ensures { result ≡ is_live state }
 {
@@ -337,14 +337,14 @@ fn is_live(state: State) -> bool
     }
 }
 
-// Whether bytes came to an end that could not take them.
+// Returns whether bytes came to an end that could not take them in.
 fn is_lost(live: bool, bytes: &[u8]) -> bool
     ensures { result ≡ (not live && nat_lt 0 (length bytes.now)) }
 {
     !live && !bytes.is_empty()
 }
 
-// An end that closes leaves nothing on the wire toward it.
+// Clears the wire toward an end that closed.
 fn cut_off(wire: &mut ByteQueue, closed: Option<CloseReason>)
     ensures { wire.new ≡ left_on closed wire.old }
 {
@@ -353,8 +353,7 @@ fn cut_off(wire: &mut ByteQueue, closed: Option<CloseReason>)
     }
 }
 
-// Takes so many bytes from a wire, the oldest first, or all where they are fewer. Errs where memory runs out, and then nothing
-// changes.
+// Takes the oldest `count` bytes from a wire, or all if they are fewer. Fails if memory runs out, and then nothing changes.
 fn take_first(alloc: Global, wire: &mut ByteQueue, count: usize) -> Result<Items<u8>, AllocError>
     ensures bytes { IfOk result (λ bytes. bytes ≡ take count wire.old) }
     ensures left { OnOk result (wire.new ≡ drop count wire.old) }
@@ -367,7 +366,8 @@ fn take_first(alloc: Global, wire: &mut ByteQueue, count: usize) -> Result<Items
     Ok(Items::from_vec(bytes))
 }
 
-// Bytes go on a wire, behind all others. They are moved where there are no others, else they are copied.
+// Puts bytes on a wire, behind all others. They are moved if the wire is empty, else copied. Fails if memory runs out, and then
+// nothing changes.
 fn carry(wire: &mut ByteQueue, more: ByteQueue) -> Result<(), AllocError>
     ensures ok { OnOk result (wire.new ≡ wire.old ++ more) }
     ensures err { OnErr result (wire.new ≡ wire.old) }

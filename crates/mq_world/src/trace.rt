@@ -1,12 +1,12 @@
-//! What came of all events so far.
+//! The trace of a world's events.
 
 use crate::account::Account;
 use crate::answer::Answer;
 
-/// What came of the events of a world so far; nothing is taken from it.
+/// What came of all events of a world so far.
 #[derive(Debug, Drop)]
 pub struct Trace {
-    /// What came of each event, the first one first.
+    /// The answers to the events, oldest first.
     pub answers: Vec<Answer>,
     /// What the client accepted and handed on.
     pub client: Account,

@@ -1,4 +1,4 @@
-//! Two ends under a list of events.
+//! A client and a server under a list of events.
 
 ghost use Rattle.std.specs.Prelude.{◌≡◌, ◌<◌, ◌≤◌, ◌↔◌, All, None, Some, ◌∷◌, ◌++◌, [], true, false, IfOk, IfSome, IsSome, IsErr, OnOk, OnErr};
 ghost use Rattle.mq_flow.specs.Window.{Spans};
@@ -24,9 +24,11 @@ use mq_wire::Text;
 use std::alloc::{AllocError, Global};
 use std::marker::Model;
 
-/// A client and a server that are joined by two wires of bytes, and what came of the events so far. The client is `w`, with
-/// clean session 0 and a keep-alive of 60 seconds. Where memory runs out for the wires, for what came of an event, or for the
-/// copy of a message, the event errs, and from then on each errs.
+/// A client and a server that are joined by two wires of bytes, and the trace of the events so far. The client has the identifier
+/// `w`, clean session 0 and a keep-alive of 60 seconds.
+///
+/// If memory runs out for a wire, for the trace or for a copy of a message, the event fails. From then on each event fails, and
+/// nothing changes any more.
 #[derive(Debug, Drop)]
 pub struct World {
     pair: Pair,
@@ -66,8 +68,8 @@ impl Model for World {
 }
 
 impl World {
-    /// A world in which nothing happened. Packets are within these limits at both sides, and at each side at most so many
-    /// packet identifiers are in use. No side has a receiving window. Errs where memory runs out.
+    /// Makes a world in which nothing has happened. Packets are within `limits` at both sides, and at most `capacity` packet
+    /// identifiers are in use at each. No side has a receiving window. Fails if memory runs out.
     pub fn new(alloc: Global, limits: Limits, capacity: u16) -> Result<World, AllocError>
         requires { 0 < capacity }
         ensures new { IfOk result (λ world. IsNew limits capacity None world.wired) }
@@ -80,8 +82,8 @@ impl World {
         World::begin(alloc, limits, capacity, None)
     }
 
-    /// The same, and both sides have this receiving window: a side closes with C11 where a new message of quality of service 2
-    /// does not fit it.
+    /// Makes a world like `new`, but both sides have the receiving window `window`: a side closes with C11 if a new message of
+    /// quality of service 2 does not fit it. Fails if memory runs out.
     pub fn with_window(
         alloc: Global,
         limits: Limits,
@@ -100,7 +102,7 @@ impl World {
         World::begin(alloc, limits, capacity, Some(window))
     }
 
-    // A world in which nothing happened, and whose sides have this window.
+    // Makes a world in which nothing has happened, with a receiving window if there is one. Fails if memory runs out.
     fn begin(
         alloc: Global,
         limits: Limits,
@@ -159,7 +161,8 @@ impl World {
         })
     }
 
-    /// Makes an event, and answers what came of it. Errs where memory runs out, and each time from then on.
+    /// Makes an event happen, and returns what came of it. Fails if memory runs out; each later call then fails and changes
+    /// nothing.
     pub fn step(&mut self, event: &Event) -> Result<Answer, AllocError>
         ensures does { IfOk result (λ answer. Does self.old.limit self.old.capacity event.now answer self.old.wired self.new.wired) }
         ensures answers { IfOk result (λ answer. self.new.answers ≡ self.old.answers ++ answer ∷ []) }
@@ -168,6 +171,8 @@ impl World {
         ensures ok { OnOk result (self.new.failed ≡ false) }
         ensures failed { OnErr result (self.new.failed ≡ true) }
         ensures before { self.old.failed ≡ true → IsErr result }
+        ensures stays { self.old.failed ≡ true → self.new ≡ self.old }
+        ensures kept { OnErr result (self.new.answers ≡ self.old.answers) }
         ensures limit { self.new.limit ≡ self.old.limit }
         ensures capacity { self.new.capacity ≡ self.old.capacity }
         ensures window { self.new.window ≡ self.old.window }
@@ -183,11 +188,12 @@ impl World {
         Ok(answer)
     }
 
-    /// Opens a connection and makes three exchanges, in each of which all that is on its way to the server comes, then all
-    /// that is on its way to the client (4.4). Wherever no end ran out of memory, and the capacity is at most the window where there
-    /// is one, both sides are idle then, and each message
-    /// of quality of service 1 or 2 that was accepted was handed on, with 2 just once and in order. Errs where memory runs
-    /// out, and each time from then on.
+    /// Opens a connection and makes three exchanges, in each of which all bytes on their way to the server are delivered, then all
+    /// on their way to the client (4.4).
+    ///
+    /// If no end ran out of memory, and the capacity is at most the window if there is one, then both sides are idle afterwards,
+    /// and each message of quality of service 1 or 2 that was accepted was handed on, with 2 just once and in order. Fails if
+    /// memory runs out; each later call then fails and changes nothing.
     pub fn settle(&mut self) -> Result<Answer, AllocError>
         ensures settles { IfOk result (λ answer. Settles self.old.limit self.old.capacity answer self.old.wired self.new.wired) }
         ensures settled { IfOk result (λ answer. Spans self.old.window self.old.capacity → MetNoWant answer → SettledFrom self.old.wired self.new.wired) }
@@ -197,6 +203,8 @@ impl World {
         ensures ok { OnOk result (self.new.failed ≡ false) }
         ensures failed { OnErr result (self.new.failed ≡ true) }
         ensures before { self.old.failed ≡ true → IsErr result }
+        ensures stays { self.old.failed ≡ true → self.new ≡ self.old }
+        ensures kept { OnErr result (self.new.answers ≡ self.old.answers) }
         ensures limit { self.new.limit ≡ self.old.limit }
         ensures capacity { self.new.capacity ≡ self.old.capacity }
         ensures window { self.new.window ≡ self.old.window }
@@ -212,8 +220,8 @@ impl World {
         Ok(answer)
     }
 
-    /// A new world, after these events. What each of its sides handed on stands to what the other accepted as the quality of
-    /// service of the messages promises (4.3). Errs where memory runs out.
+    /// Makes a world like `new`, and the events happen in it, in order. What each side then handed on stands to what the other
+    /// accepted as the quality of service of the messages promises (4.3). Fails if memory runs out.
     pub fn run(
         alloc: Global,
         limits: Limits,
@@ -234,8 +242,8 @@ impl World {
         Ok(world)
     }
 
-    /// A new world whose sides have this receiving window, after these events. The same holds of it, for each window. Where the
-    /// capacity is at most the window, no answer tells of a close with C11.
+    /// Makes a world like `with_window`, and the events happen in it, in order. It keeps the same promise as `run`, for each
+    /// window. If the capacity is at most the window, no answer tells of a close with C11. Fails if memory runs out.
     pub fn run_with_window(
         alloc: Global,
         limits: Limits,
@@ -259,7 +267,7 @@ impl World {
         Ok(world)
     }
 
-    // Makes events, one after another, in a world in which none was made.
+    // Makes events happen, in order, in a world in which nothing has happened. Fails if memory runs out.
     fn make_all(&mut self, events: &[Event]) -> Result<(), AllocError>
         requires new { self.old.answers ≡ [] }
         requires stands { self.old.failed ≡ false }
@@ -278,8 +286,8 @@ impl World {
         Ok(())
     }
 
-    /// What every world keeps in which no event failed: it carries a machine that a run reaches, so what the laws say of each
-    /// run holds of it, and what its sides handed on stands to what they accepted as promised (4.3). It does nothing.
+    /// Does nothing. Its contract is what every world keeps as long as no event failed: it carries a machine that a run reaches,
+    /// so the laws of each run hold of it, and what its sides handed on stands to what they accepted as promised (4.3).
     pub fn promise(&self)
         ensures carries { self.now.failed ≡ false → (m : Machine) × Stands self.now.limit self.now.capacity self.now.wired m }
         ensures window { self.now.failed ≡ false → HaveWindow self.now.window self.now.wired }
@@ -289,7 +297,7 @@ impl World {
         let _failed = self.failed;
     }
 
-    /// What came of all events so far, and what each side accepted and handed on.
+    /// Returns the answers to all events so far, and what each side accepted and handed on.
     pub fn trace(&self) -> &Trace
         ensures answers { result.now.answers.items ≡ self.now.answers }
         ensures accepted_at_client { accepted_in result.now.client ≡ self.now.wired.client.accepted }
@@ -304,7 +312,7 @@ impl World {
         &self.pair.trace
     }
 
-    /// The session of a side, `None` where the server has none (3.1.2.4).
+    /// Returns the session of a side, or `None` if the server has none (3.1.2.4).
     pub fn session(&self, side: Side) -> Option<&Session>
         ensures book { IfSome result (λ session. session.now.sender.book ≡ (near side self.now.wired).state.end.book) }
         ensures received { IfSome result (λ session. session.now.receiver ≡ (near side self.now.wired).state.end.received) }
@@ -317,7 +325,7 @@ impl World {
         }
     }
 
-    /// The bytes that are on their way to a side, the oldest first.
+    /// Returns the bytes on their way to a side, oldest first.
     pub fn wire(&self, side: Side) -> &[u8]
         ensures { result.now ≡ (near side self.now.wired).wire }
     {
@@ -327,7 +335,7 @@ impl World {
         }
     }
 
-    /// Whether memory ran out in an event.
+    /// Returns whether an event failed because memory ran out.
     pub fn has_failed(&self) -> bool
         ensures { result ≡ self.now.failed }
     {

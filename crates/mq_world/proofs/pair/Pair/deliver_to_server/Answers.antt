@@ -13,13 +13,29 @@ pub returns-clause-delivered : goal.returns-clause-delivered
 returns-clause-delivered c = λ limit capacity m s.
     let w : Wired = wired_of c.args.self.now in
     let a = c.tell.new.self in
-    let v : Wired = record { client = record w.client { wire = c.carry.new.wire }; server = record { state = c.take_all_output-output.new.self; clock = w.server.clock; wire = c.cut_off.new.wire; accepted = accepted_in a; handed = handed_in a; freed = a.freed.items } } in
+    let v : Wired =
+    record {
+      client = record w.client { wire = c.carry.new.wire };
+      server = record {
+        state = c.take_all_output-output.new.self;
+        clock = w.server.clock;
+        wire = c.cut_off.new.wire;
+        accepted = accepted_in a;
+        handed = handed_in a;
+        freed = a.freed.items;
+      };
+    } in
     let d : Delivery = record { side = Server; bytes = c.in_ok-bytes.bytes; lost = c.is_lost-lost.result; progress = c.receive-progress.result } in
     heard_at c.over_bytes.ensures limit capacity Server w v m c.args.count d c.as_slice.result.now c.receive-progress.new.self c.take_all_output-output.result s
     refl c.in_ok-bytes.ensures.bytes c.as_slice.ensures
     (c.is_lost-lost.ensures ∙ (λ i. not ((c.is_live-live.ensures ∙ ap is_live c.state.ensures) i) && nat_lt 0 (length (c.as_slice-2.ensures i))))
     c.receive-progress.ensures.open (c.receive-progress.ensures.closed) c.receive-progress.ensures.nothing
-    (λ on. (refl, heard_written w.server.clock (w.server.state.held ++ c.as_slice.result.now) c.receive-progress.result.closed w.server.state c.receive-progress.new.self (c.receive-progress.ensures.heard on)))
+    (λ on. (
+      refl,
+      heard_written w.server.clock
+          (w.server.state.held ++ c.as_slice.result.now) c.receive-progress.result.closed w.server.state c.receive-progress.new.self
+          (c.receive-progress.ensures.heard on),
+    ))
     (c.receive-progress.ensures.limit, c.receive-progress.ensures.capacity)
     c.take_all_output-output.ensures.left refl (c.cut_off.ensures ∙ ap (left_on c.receive-progress.result.closed) c.in_ok-bytes.ensures.left)
     c.in_ok-tell.ensures.accepted c.in_ok-tell.ensures.handed c.in_ok-tell.ensures.freed

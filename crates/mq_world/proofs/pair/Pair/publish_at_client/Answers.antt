@@ -12,12 +12,21 @@ returns-in_ok-carry-in-Ok-clause-does c = λ limit capacity m s.
     let w : Wired = wired_of c.args.self.now in
     let a = c.accept.new.self in
     let v : Wired = record {
-      client = record { state = c.take_all_output-output.new.self.link; clock = w.client.clock; wire = w.client.wire; accepted = accepted_in a; handed = handed_in a; freed = a.freed.items };
+      client = record {
+        state = c.take_all_output-output.new.self.link;
+        clock = w.client.clock;
+        wire = w.client.wire;
+        accepted = accepted_in a;
+        handed = handed_in a;
+        freed = a.freed.items;
+      };
       server = record w.server { wire = c.carry.new.wire };
     } in (
       refl,
-      published_at c.over_bytes.ensures limit capacity Client w v m c.args.message.now c.in_ok-clone.field-0 c.in_ok-clone-in-Ok.field-0 c.in-Ok.id c.publish.new.self.link c.take_all_output-output.result s
+      published_at c.over_bytes.ensures limit capacity Client w v m c.args.message.now c.in_ok-clone.field-0 c.in_ok-clone-in-Ok.field-0 c.in-Ok.id
+          c.publish.new.self.link c.take_all_output-output.result s
           c.in_ok-clone.ensures.cases c.in_ok-clone-in-Ok.ensures.cases c.in-Ok.ensures.refused c.in-Ok.ensures.ok
-          (ap (λ (z : ClientState). z.link) c.take_all_output-output.ensures.left) refl refl c.in_ok-accept-in-Ok.ensures.accepted c.in_ok-accept-in-Ok.ensures.handed c.in_ok-accept-in-Ok.ensures.freed
+          (ap (λ (z : ClientState). z.link) c.take_all_output-output.ensures.left) refl refl c.in_ok-accept-in-Ok.ensures.accepted
+          c.in_ok-accept-in-Ok.ensures.handed c.in_ok-accept-in-Ok.ensures.freed
           c.take_all_output-output.ensures.bytes c.in_ok-carry-in-Ok.ensures.ok refl,
     )

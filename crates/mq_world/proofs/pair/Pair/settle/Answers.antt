@@ -14,8 +14,10 @@ loop-side-preserved c = record {
       let before = c.loop-side.invariant.turns limit capacity m s in
       let g = stands_turned c.over_bytes.ensures limit capacity (take c.loop-side.side-index exchanges) c.loop-side.deliveries.items start now m s before in
       let come = c.in_ok-delivery.ensures.delivered limit capacity g.0 g.1 in
-      subst (λ (ds : List Delivery). InTurn limit capacity (take (c.loop-side.side-index + 1) exchanges) ds start (wired_of c.deliver_all.new.self)) (sym c.in_ok-push.ensures.items)
-      (turn_next limit capacity exchanges c.loop-side.side-index c.loop-side.deliveries.items _ _ c.in_ok-delivery.delivery start now (wired_of c.deliver_all.new.self) (omega arith) refl before come);
+      subst (λ (ds : List Delivery). InTurn limit capacity (take (c.loop-side.side-index + 1) exchanges) ds start (wired_of c.deliver_all.new.self))
+      (sym c.in_ok-push.ensures.items)
+      (turn_next limit capacity exchanges c.loop-side.side-index c.loop-side.deliveries.items _ _ c.in_ok-delivery.delivery start now
+      (wired_of c.deliver_all.new.self) (omega arith) refl before come);
   config = c.deliver_all.ensures.config ∙ c.loop-side.invariant.config;
   answers = c.deliver_all.ensures.answers ∙ c.loop-side.invariant.answers;
 }
@@ -27,7 +29,8 @@ returns-clause-settled c = λ limit capacity m s.
     let last = wired_of c.loop-side.self in
     let ds = c.from_vec.result in
     let opened = c.open-opening.ensures.opened limit capacity m s in
-    let turns = all_turned limit capacity c.loop-side.side-index c.loop-side.deliveries.items ds old start last m c.open-opening.result (omega arith) c.from_vec.ensures s opened (c.loop-side.invariant.turns limit capacity) in
+    let turns = all_turned limit capacity c.loop-side.side-index c.loop-side.deliveries.items ds old start last m c.open-opening.result
+    (omega arith) c.from_vec.ensures s opened (c.loop-side.invariant.turns limit capacity) in
     let parts = turn_split limit capacity 4 exchanges ds start last turns in
     record {
       between = start;
@@ -35,7 +38,9 @@ returns-clause-settled c = λ limit capacity m s.
       opened = opened;
       exchanged_twice = parts.1;
       exchanged_again = parts.2;
-      second_left = left_twice c.settles_over_bytes.ensures limit capacity old start parts.0 m (record { opening = c.open-opening.result; deliveries = ds; idle = c.is_idle.result }) s opened parts.1;
+      second_left =
+          left_twice c.settles_over_bytes.ensures limit capacity old start parts.0 m
+          (record { opening = c.open-opening.result; deliveries = ds; idle = c.is_idle.result }) s opened parts.1;
       idle = c.is_idle.ensures;
     }
 
@@ -46,5 +51,7 @@ returns-clause-left c = λ limit capacity m s.
     let last = wired_of c.loop-side.self in
     let ds = c.from_vec.result in
     let opened = c.open-opening.ensures.opened limit capacity m s in
-    let turns = all_turned limit capacity c.loop-side.side-index c.loop-side.deliveries.items ds old start last m c.open-opening.result (omega arith) c.from_vec.ensures s opened (c.loop-side.invariant.turns limit capacity) in
-    left_settled c.settles_over_bytes.ensures limit capacity old start last m (record { opening = c.open-opening.result; deliveries = ds; idle = c.is_idle.result }) s opened turns
+    let turns = all_turned limit capacity c.loop-side.side-index c.loop-side.deliveries.items ds old start last m c.open-opening.result
+    (omega arith) c.from_vec.ensures s opened (c.loop-side.invariant.turns limit capacity) in
+    left_settled c.settles_over_bytes.ensures limit capacity old start last m
+    (record { opening = c.open-opening.result; deliveries = ds; idle = c.is_idle.result }) s opened turns

@@ -16,8 +16,15 @@ returns-in_default-clause-does c = λ limit capacity m s.
     let w : Wired = wired_of c.args.self.now in
     let end = ap (λ (z : ClientState). z.link) c.in_default.ensures.err in
     let old : EndState = c.args.self.now.client.link in
-    let due = subst (λ (n : ℕ). pings old.moment n old.end ≡ true) c.saturating_add-self.ensures c.in_default.ensures.memory in
-    (refl, record { client = refl; reason = refl; due = due; world = λ i. record w { client = record w.client { state = end i; clock = c.saturating_add-self.ensures i } } })
+    let due = subst (λ (n : ℕ). pings old.moment n old.end ≡ true) c.saturating_add-self.ensures c.in_default.ensures.memory in (
+      refl,
+      record {
+        client = refl;
+        reason = refl;
+        due = due;
+        world = λ i. record w { client = record w.client { state = end i; clock = c.saturating_add-self.ensures i } };
+      },
+    )
 
 pub returns-clause-does : goal.returns-clause-does
 returns-clause-does c = λ limit capacity m s.
@@ -29,7 +36,8 @@ returns-clause-does c = λ limit capacity m s.
       client = record w.client { state = c.take_all_output-output.new.self.link; clock = c.saturating_add-self.result };
       server = record w.server { wire = c.carry.new.wire };
     } in
-    let told = asked_at c.over_bytes.ensures limit capacity w v c.args.more new s.carries.client.output (subst (λ (n : ℕ). Ticks n old new) now c.in-Ok.ensures.ok)
+    let told = asked_at c.over_bytes.ensures limit capacity w v c.args.more new s.carries.client.output
+    (subst (λ (n : ℕ). Ticks n old new) now c.in-Ok.ensures.ok)
     (λ i. record {
       client = record w.client { state = ap (λ (z : ClientState). z.link) c.take_all_output-output.ensures.left i; clock = now i };
       server = record w.server { wire = (c.in_ok-carry.ensures.ok ∙ ap (λ (b : List ℕ). w.server.wire ++ b) c.take_all_output-output.ensures.bytes) i };

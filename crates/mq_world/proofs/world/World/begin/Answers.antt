@@ -16,14 +16,30 @@ invariant_of-result c =
     let at : (e : End) → Option ℕ = λ e. e.window in
     let a : EndState = c.new-5.result.link in
     let b : EndState = c.new-6.result in
-    let w : Wired = wired_of (record { alloc = c.args.alloc; client = c.new-5.result; server = c.new-6.result; client_clock = 0; server_clock = 0; to_client = c.new-7.result; to_server = c.new-8.result; trace = record { answers = c.new-2.result; client = c.new-3.result; server = c.new-4.result } }) in
-    let x = same_side w.client (blank_side a) (sym (written_same a c.new-5.ensures.output (ap (λ (r : Room). r.bytes) c.new-5.ensures.room))) refl c.new-7.ensures c.new-3.ensures.accepted c.new-3.ensures.handed c.new-3.ensures.freed in
-    let y = same_side w.server (blank_side b) (sym (written_same b c.new-6.ensures.output (ap (λ (r : Room). r.bytes) c.new-6.ensures.room))) refl c.new-8.ensures c.new-4.ensures.accepted c.new-4.ensures.handed c.new-4.ensures.freed in (
-      ap (λ (z : ClientConfig). connect_of z false) c.new-5.ensures.config ∙ ap (λ (id : List ℕ). let z : Connect = record first_packet { client_id = id } in z) c.in-Ok.ensures.value,
+    let w : Wired =
+    wired_of (record {
+      alloc = c.args.alloc;
+      client = c.new-5.result;
+      server = c.new-6.result;
+      client_clock = 0;
+      server_clock = 0;
+      to_client = c.new-7.result;
+      to_server = c.new-8.result;
+      trace = record { answers = c.new-2.result; client = c.new-3.result; server = c.new-4.result };
+    }) in
+    let x = same_side w.client (blank_side a)
+    (sym (written_same a c.new-5.ensures.output (ap (λ (r : Room). r.bytes) c.new-5.ensures.room))) refl c.new-7.ensures c.new-3.ensures.accepted
+    c.new-3.ensures.handed c.new-3.ensures.freed in
+    let y = same_side w.server (blank_side b)
+    (sym (written_same b c.new-6.ensures.output (ap (λ (r : Room). r.bytes) c.new-6.ensures.room))) refl c.new-8.ensures c.new-4.ensures.accepted
+    c.new-4.ensures.handed c.new-4.ensures.freed in (
+      ap (λ (z : ClientConfig). connect_of z false) c.new-5.ensures.config ∙
+          ap (λ (id : List ℕ). let z : Connect = record first_packet { client_id = id } in z) c.in-Ok.ensures.value,
       λ _. (
         blank_machine c.args.window,
         new_at c.over_bytes.ensures c.args.limits c.args.capacity c.args.window w a b c.max_packet-least.ensures.least
-            c.new-5.ensures.end c.new-5.ensures.limit c.new-5.ensures.capacity c.new-6.ensures.end c.new-6.ensures.limit c.new-6.ensures.capacity (same_wired w (record { client = blank_side a; server = blank_side b }) x y),
+            c.new-5.ensures.end c.new-5.ensures.limit c.new-5.ensures.capacity c.new-6.ensures.end c.new-6.ensures.limit c.new-6.ensures.capacity
+            (same_wired w (record { client = blank_side a; server = blank_side b }) x y),
         (ap at c.new-5.ensures.end, ap at c.new-6.ensures.end),
       ),
     )
@@ -32,12 +48,27 @@ pub returns-clause-new : goal.returns-clause-new
 returns-clause-new c =
     let a : EndState = c.new-5.result.link in
     let b : EndState = c.new-6.result in
-    let w : Wired = wired_of (record { alloc = c.args.alloc; client = c.new-5.result; server = c.new-6.result; client_clock = 0; server_clock = 0; to_client = c.new-7.result; to_server = c.new-8.result; trace = record { answers = c.new-2.result; client = c.new-3.result; server = c.new-4.result } }) in
-    let x = same_side w.client (blank_side a) (sym (written_same a c.new-5.ensures.output (ap (λ (r : Room). r.bytes) c.new-5.ensures.room))) refl c.new-7.ensures c.new-3.ensures.accepted c.new-3.ensures.handed c.new-3.ensures.freed in
-    let y = same_side w.server (blank_side b) (sym (written_same b c.new-6.ensures.output (ap (λ (r : Room). r.bytes) c.new-6.ensures.room))) refl c.new-8.ensures c.new-4.ensures.accepted c.new-4.ensures.handed c.new-4.ensures.freed in
+    let w : Wired =
+    wired_of (record {
+      alloc = c.args.alloc;
+      client = c.new-5.result;
+      server = c.new-6.result;
+      client_clock = 0;
+      server_clock = 0;
+      to_client = c.new-7.result;
+      to_server = c.new-8.result;
+      trace = record { answers = c.new-2.result; client = c.new-3.result; server = c.new-4.result };
+    }) in
+    let x = same_side w.client (blank_side a)
+    (sym (written_same a c.new-5.ensures.output (ap (λ (r : Room). r.bytes) c.new-5.ensures.room))) refl c.new-7.ensures c.new-3.ensures.accepted
+    c.new-3.ensures.handed c.new-3.ensures.freed in
+    let y = same_side w.server (blank_side b)
+    (sym (written_same b c.new-6.ensures.output (ap (λ (r : Room). r.bytes) c.new-6.ensures.room))) refl c.new-8.ensures c.new-4.ensures.accepted
+    c.new-4.ensures.handed c.new-4.ensures.freed in
     record {
       stands = new_at c.over_bytes.ensures c.args.limits c.args.capacity c.args.window w a b c.max_packet-least.ensures.least
-          c.new-5.ensures.end c.new-5.ensures.limit c.new-5.ensures.capacity c.new-6.ensures.end c.new-6.ensures.limit c.new-6.ensures.capacity (same_wired w (record { client = blank_side a; server = blank_side b }) x y);
+          c.new-5.ensures.end c.new-5.ensures.limit c.new-5.ensures.capacity c.new-6.ensures.end c.new-6.ensures.limit c.new-6.ensures.capacity
+          (same_wired w (record { client = blank_side a; server = blank_side b }) x y);
       client_clock = refl;
       server_clock = refl;
       to_client = c.new-7.ensures;

@@ -12,8 +12,10 @@ returns-clause-carries c = subst (λ (w : WorldState). w.failed ≡ false → (m
     (λ (e : c.self.inside.failed ≡ false). let s = c.self.invariant.1 e in (s.0, s.1))
 
 pub returns-clause-window : goal.returns-clause-window
-returns-clause-window c = subst (λ (w : WorldState). w.failed ≡ false → HaveWindow w.window w.wired) c.self.view_is (λ (e : c.self.inside.failed ≡ false). (c.self.invariant.1 e).2)
+returns-clause-window c =
+    subst (λ (w : WorldState). w.failed ≡ false → HaveWindow w.window w.wired) c.self.view_is (λ (e : c.self.inside.failed ≡ false). (c.self.invariant.1 e).2)
 
 pub returns-clause-headline : goal.returns-clause-headline
 returns-clause-headline c = subst (λ (w : WorldState). w.failed ≡ false → Headline (seen w.wired)) c.self.view_is
-    (λ (e : c.self.inside.failed ≡ false). let s = c.self.invariant.1 e in c.over_bytes.ensures.headline c.self.inside.limits c.self.inside.capacity (wired_of c.self.inside.pair) s.0 s.1)
+    (λ (e : c.self.inside.failed ≡ false). let s = c.self.invariant.1 e in
+    c.over_bytes.ensures.headline c.self.inside.limits c.self.inside.capacity (wired_of c.self.inside.pair) s.0 s.1)
