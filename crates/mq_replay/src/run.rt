@@ -138,10 +138,10 @@ fn run<W: Write>(world: &mut World, schedule: &Schedule, output: &mut W) -> Resu
 }
 
 /// Runs a schedule in a new world and prints what comes of each step, as soon as it was made, then four last lines: for each
-/// direction, and for at least once and exactly once (4.3), how many messages were accepted, handed on, and are held. Errs
-/// where a write fails, or where memory runs out for the world: then what came of the steps before stands printed. Where memory
-/// runs out for an end, that is what came of the step (`closed C6`, `refused P5`), and the replay goes on. The writer is not
-/// flushed.
+/// direction, and for at least once and exactly once (4.3), how many messages were accepted, handed on, and are held. Fails with
+/// `Io` where a write fails, and with `Memory` where memory runs out for the world: then what came of the steps before stands
+/// printed. Where memory runs out for an end, that is what came of the step (`closed C6`, `refused P5`), and the replay goes on.
+/// The writer is not flushed.
 pub fn replay<W: Write>(
     alloc: Global,
     schedule: &Schedule,
