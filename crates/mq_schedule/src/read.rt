@@ -63,7 +63,7 @@ fn read_steps(alloc: Global, lines: &str) -> Result<Vec<Step>, ScheduleFault>
 }
 
 /// Reads a schedule: a line for the world, and then a line for each step. A text is at most one schedule (`schedule_laws`).
-/// `Line` says which line is the first that is of no kind, and `Memory` that memory ran out.
+/// Fails with `Line` at the first line that is of no kind, and with `Memory` where memory runs out.
 pub fn read_schedule(alloc: Global, text: &str) -> Result<Schedule, ScheduleFault>
     ensures reads { IfOk result (IsSchedule (lines_of text.now)) }
     ensures line { (n : ℕ) → IsErrOf result (ScheduleFault.Line n)

@@ -119,7 +119,7 @@ fn write_step(text: &mut String, step: &Step) -> Result<(), AllocError>
 
 /// Writes a schedule: the line for the world and a line for each step, each with its end. Numbers have no zeros in front, and
 /// a delivery always has one. Whoever reads the text has the schedule again, since a text is at most one (`schedule_laws`).
-/// Errs where memory runs out.
+/// Fails where memory runs out.
 pub fn write_schedule(alloc: Global, schedule: &Schedule) -> Result<String, AllocError>
     ensures text { IfOk result (λ text. string_bytes text ≡ schedule_text schedule.now) }
     ensures reads { IfOk result (λ text. IsSchedule (lines_of (string_bytes text)) schedule.now) }
