@@ -12,7 +12,7 @@ use Rattle.mq_route.specs.declared.stage.Terms.{Terms}
 use Rattle.mq_route.specs.Hub.{Line, changed, is_line, key_on, knows, stage_of, waiting_on, with_line}
 use Rattle.mq_route.specs.Step.{collected}
 use Rattle.mq_hub.specs.declared.session.Tenant.{Tenant}
-use Rattle.mq_hub.specs.Keeps.{HubKeeps, IsHoused, IsSeated, Stands}
+use Rattle.mq_hub.specs.Keeps.{HubKeeps, IsHoused, IsQuiet, IsSeated, Stands}
 use Rattle.mq_hub.specs.Seen.{HubTables, all_seen, hub_of, output_of, seen, waiting_by}
 use Rattle.mq_hub.specs.Sessions.{drained, served_by, sessions_of, tenant_of, with_server}
 use Rattle.mq_hub.proofs.Changing.{output_here, own_bytes, seen_changed, seen_served, seen_still, waiting_up}
@@ -40,13 +40,23 @@ emptied_name k x = cond_both (is_line k x) (emptied x) x (λ (y : Line). y.conn 
 emptied_stage : (k : Conn) (x : Line) → (changed emptied k x).stage ≡ x.stage
 emptied_stage k x = cond_both (is_line k x) (emptied x) x (λ (y : Line). y.stage ≡ x.stage) (λ e. refl) (λ e. refl)
 
+quiet_emptied : (k : Conn) (xs : List Line) → AllByRecursion (λ y. IsQuiet y.stage y.waiting) xs → AllByRecursion (λ y. IsQuiet y.stage y.waiting) (with_line emptied k xs)
+quiet_emptied k [] all = tt
+quiet_emptied k (x ∷ xs) all =
+    (cond_both (is_line k x) (emptied x) x (λ (y : Line). IsQuiet y.stage y.waiting) (λ e. none x.stage) (λ e. all.0), quiet_emptied k xs all.1)
+  where
+    none : (s : Stage) → IsQuiet s []
+    none Fresh = refl
+    none (UpFor key terms moment) = tt
+    none Shut = tt
+
 still_lines : (k : Conn) (xs : List Line) → with_line (λ x. x) k xs ≡ xs
 still_lines k [] = refl
 still_lines k (x ∷ xs) = λ i. cond_both (is_line k x) x x (λ (y : Line). y ≡ x) (λ e. refl) (λ e. refl) i ∷ still_lines k xs i
 
 -- ---- which bytes they are
 
-output_found : (key : ℕ) (t : Tenant) (ts : List Tenant) → tenant_of key ts ≡ Some t → output_of key ts ≡ t.end.output
+pub output_found : (key : ℕ) (t : Tenant) (ts : List Tenant) → tenant_of key ts ≡ Some t → output_of key ts ≡ t.end.output
 output_found key t [] there = absurd cc
 output_found key t (s ∷ ts) there = go (eqb s.key key) refl (output_found key t ts)
   where
@@ -108,7 +118,7 @@ is_drained key ts us stands says = go (tenant_of key ts) refl stands says
     go None e there is = absurd (true≢false (sym there))
     go (Some s) e there is = record { session = s; there = e; after = is }
 
-served_twice : (key : ℕ) (d e : EndState) (ts : List Tenant) → with_server key e (with_server key d ts) ≡ with_server key e ts
+pub served_twice : (key : ℕ) (d e : EndState) (ts : List Tenant) → with_server key e (with_server key d ts) ≡ with_server key e ts
 served_twice key d e [] = refl
 served_twice key d e (s ∷ ts) = go (eqb s.key key) refl (served_twice key d e ts)
   where
@@ -155,6 +165,7 @@ module _ (config : HubConfig) (next key : ℕ) (s : Tenant) (t u : HubTables) (t
         window = kept.window;
         limits = kept.limits;
         apart = kept.apart;
+        quiet = kept.quiet;
         housed = all_housed_as key e config.limits.most ts xs kept.housed;
         seated = all_seated_with key e s config xs xs (λ r far h. h) ts kept.ascending there here kept.seated;
         ascending = ascending_with key e ts kept.ascending;
@@ -204,6 +215,7 @@ kept_emptied config next k t u kept rows retained tenants lines limits =
       window = kept.window;
       limits = kept.limits;
       apart = apart_same (changed emptied k) (emptied_name k) (emptied_stage k) xs kept.apart;
+      quiet = quiet_emptied k xs kept.quiet;
       housed = housed_same (changed emptied k) (emptied_stage k) config.limits.most ts xs kept.housed;
       seated = all_seated_same config xs ys (λ key. up_same (changed emptied k) (emptied_name k) (emptied_stage k) key xs) (λ key. stage_same (changed emptied k) (emptied_stage k) key xs) ts kept.seated;
       ascending = kept.ascending;

@@ -14,7 +14,7 @@ use Rattle.mq_route.specs.Routed.{same_conn}
 use Rattle.mq_topic.specs.Rows.{Row}
 use Rattle.mq_packet.specs.declared.message.Message.{Message}
 use Rattle.mq_hub.specs.declared.session.Tenant.{Tenant}
-use Rattle.mq_hub.specs.Keeps.{AreApart, HubKeeps, IsHoused, IsSeated, IsWithin, Stands, stage_for}
+use Rattle.mq_hub.specs.Keeps.{AreApart, HubKeeps, IsHoused, IsQuiet, IsSeated, IsWithin, Stands, stage_for}
 use Rattle.mq_hub.specs.Seen.{HubTables}
 use Rattle.mq_hub.specs.Sessions.{AreAscending, AreBelow}
 use Rattle.mq_hub.proofs.Connections.{symm}
@@ -28,6 +28,7 @@ kept_by config next t u kept rows retained tenants lines limits = record {
   window = kept.window;
   limits = limits ∙ kept.limits;
   apart = subst AreApart (sym lines) kept.apart;
+  quiet = subst (λ (xs : List Line). AllByRecursion (λ x. IsQuiet x.stage x.waiting) xs) (sym lines) kept.quiet;
   housed =
       subst (λ (xs : List Line). AllByRecursion (λ x. IsHoused config.limits.most u.sessions.tenants x.stage) xs) (sym lines)
       (subst (λ (ts : List Tenant). AllByRecursion (λ x. IsHoused config.limits.most ts x.stage) t.lines.lines) (sym tenants) kept.housed);
@@ -65,7 +66,7 @@ all_seated_same config xs ys up stage (t ∷ ts) all = (seated_same config xs ys
 
 -- ---- a connection that is opened
 
-module _ (x : Line) (fresh : x.stage ≡ Fresh) where
+module _ (x : Line) (fresh : x.stage ≡ Fresh) (empty : x.waiting ≡ []) where
   not_for : (key : ℕ) → is_for key x.stage ≡ false
   not_for key = ap (is_for key) fresh
 
@@ -94,6 +95,10 @@ module _ (x : Line) (fresh : x.stage ≡ Fresh) where
   housed_opened most ts [] all = (subst (IsHoused most ts) (sym fresh) tt, tt)
   housed_opened most ts (y ∷ ys) all = (all.0, housed_opened most ts ys all.1)
 
+  quiet_opened : (xs : List Line) → AllByRecursion (λ y. IsQuiet y.stage y.waiting) xs → AllByRecursion (λ y. IsQuiet y.stage y.waiting) (xs ++ x ∷ [])
+  quiet_opened [] all = (subst (λ (s : Stage). IsQuiet s x.waiting) (sym fresh) empty, tt)
+  quiet_opened (y ∷ ys) all = (all.0, quiet_opened ys all.1)
+
   pub kept_opened : (config : HubConfig) (next : ℕ) (t u : HubTables) → HubKeeps config next t → knows x.conn t.lines.lines ≡ false → u.rows ≡ t.rows
       → u.retained.messages ≡ t.retained.messages → u.sessions.tenants ≡ t.sessions.tenants → u.lines.lines ≡ t.lines.lines ++ x ∷ [] → u.lines.limits ≡ t.lines.limits
       → HubKeeps config next u
@@ -106,6 +111,7 @@ module _ (x : Line) (fresh : x.stage ≡ Fresh) where
         window = kept.window;
         limits = kept.limits;
         apart = apart_opened xs none kept.apart;
+        quiet = quiet_opened xs kept.quiet;
         housed = housed_opened config.limits.most ts xs kept.housed;
         seated = all_seated_same config xs (xs ++ x ∷ []) (λ key. up_opened key xs) (λ key. stage_opened key xs) ts kept.seated;
         ascending = kept.ascending;

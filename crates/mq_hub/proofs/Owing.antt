@@ -57,7 +57,7 @@ lesser_size Q2 Q0 = omega arith
 lesser_size Q2 Q1 = omega arith
 lesser_size Q2 Q2 = omega arith
 
-copy_size : (q : Qos) (retain : Bool) (m : Message) → publish_size (copy q retain m) ≤ publish_size m
+pub copy_size : (q : Qos) (retain : Bool) (m : Message) → publish_size (copy q retain m) ≤ publish_size m
 copy_size q retain m = let less = lesser_size m.qos q in omega arith
 
 -- ---- the copies

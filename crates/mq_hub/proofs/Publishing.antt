@@ -170,7 +170,7 @@ by_qos Q0 i j m e same = refl
 by_qos Q1 i j m e same = ap (λ (n : ℕ). publishes_at Q1 n m e) (same refl)
 by_qos Q2 i j m e same = ap (λ (n : ℕ). publishes_at Q2 n m e) (same refl)
 
-spelled : (ps : List Packet) (b : List ℕ) → Spelled ps b → IsSpelled ps b
+pub spelled : (ps : List Packet) (b : List ℕ) → Spelled ps b → IsSpelled ps b
 spelled [] b h = h
 spelled (p ∷ ps) b h = (h.0, h.1, h.2, spelled ps h.1 h.3, h.4)
 

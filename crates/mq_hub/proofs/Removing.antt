@@ -67,7 +67,7 @@ module _ (key : ℕ) where
       go true own rest = rw own rest
       go false own rest = rw own (ap (λ (ss : List HubSession). session_of s ∷ ss) rest)
 
-  all_without : (P : Tenant → Type 0) (ts : List Tenant) → AllByRecursion P ts → AllByRecursion P (without_tenant key ts)
+  pub all_without : (P : Tenant → Type 0) (ts : List Tenant) → AllByRecursion P ts → AllByRecursion P (without_tenant key ts)
   all_without P [] all = tt
   all_without P (s ∷ ts) all = go (not (eqb s.key key)) (all_without P ts all.1)
     where
@@ -78,7 +78,7 @@ module _ (key : ℕ) where
   stands_without : (c : ℕ) (ts : List Tenant) → eqb c key ≡ false → Stands ts c → Stands (without_tenant key ts) c
   stands_without c ts apart stands = ap is_some (found_without c ts apart) ∙ stands
 
-  owned_without : (ts : List Tenant) (rs : List Row) → AllByRecursion (λ r. Stands ts r.0.0) rs → AllByRecursion (λ r. Stands (without_tenant key ts) r.0.0) (without_client key rs)
+  pub owned_without : (ts : List Tenant) (rs : List Row) → AllByRecursion (λ r. Stands ts r.0.0) rs → AllByRecursion (λ r. Stands (without_tenant key ts) r.0.0) (without_client key rs)
   owned_without ts [] all = tt
   owned_without ts (r ∷ rs) all = go (eqb r.0.0 key) refl (owned_without ts rs all.1)
     where
@@ -91,7 +91,7 @@ module _ (key : ℕ) where
           let left : without_client key (r ∷ rs) ≡ r ∷ without_client key rs = rw own refl in
           subst (λ (qs : List Row). AllByRecursion (λ q. Stands (without_tenant key ts) q.0.0) qs) (sym left) (stands_without r.0.0 ts own all.0, rest)
 
-  housed_without : (most : ℕ) (ts : List Tenant) (xs : List Line) → up_on key xs ≡ None → AllByRecursion (λ x. IsHoused most ts x.stage) xs
+  pub housed_without : (most : ℕ) (ts : List Tenant) (xs : List Line) → up_on key xs ≡ None → AllByRecursion (λ x. IsHoused most ts x.stage) xs
       → AllByRecursion (λ x. IsHoused most (without_tenant key ts) x.stage) xs
   housed_without most ts [] none all = tt
   housed_without most ts (x ∷ xs) none all = go (is_for key x.stage) refl (housed_without most ts xs)
@@ -120,6 +120,7 @@ module _ (key : ℕ) where
           window = kept.window;
           limits = kept.limits;
           apart = kept.apart;
+          quiet = kept.quiet;
           housed = housed_without config.limits.most ts t.lines.lines none kept.housed;
           seated = all_without (IsSeated config t.lines.lines) ts kept.seated;
           ascending = ascending_without key ts kept.ascending;

@@ -14,7 +14,7 @@ use Rattle.mq_route.specs.Routed.{same_conn}
 use Rattle.mq_route.specs.Work.{Work, close, leaves_behind, said, shut}
 use Rattle.mq_hub.specs.declared.session.Tenant.{Tenant}
 use Rattle.mq_hub.specs.Does.{GoesBy}
-use Rattle.mq_hub.specs.Keeps.{AreApart, HubKeeps, IsHoused, stage_for}
+use Rattle.mq_hub.specs.Keeps.{AreApart, HubKeeps, IsHoused, IsQuiet, stage_for}
 use Rattle.mq_hub.specs.Seen.{HubTables, all_seen, hub_of, seen}
 use Rattle.mq_hub.specs.Sessions.{sessions_of}
 use Rattle.mq_hub.proofs.Changing.{own_bytes, rest_unknown, seen_still}
@@ -25,7 +25,7 @@ abbrev pub closed : Line → Line
 closed x = record x { stage = Shut; held = [] }
 
 -- it is up for no client
-not_up : (s : Stage) (c : ℕ) → key_on s ≡ None → is_for c s ≡ false
+pub not_up : (s : Stage) (c : ℕ) → key_on s ≡ None → is_for c s ≡ false
 not_up Fresh c e = refl
 not_up (UpFor key terms moment) c e = absurd cc
 not_up Shut c e = refl
@@ -34,7 +34,7 @@ module _ (k : Conn) where
   closed_name : (x : Line) → (changed closed k x).conn ≡ x.conn
   closed_name x = cond_both (is_line k x) (closed x) x (λ (y : Line). y.conn ≡ x.conn) (λ e. refl) (λ e. refl)
 
-  known_closed : (n : Conn) (xs : List Line) → knows n (with_line closed k xs) ≡ knows n xs
+  pub known_closed : (n : Conn) (xs : List Line) → knows n (with_line closed k xs) ≡ knows n xs
   known_closed n [] = refl
   known_closed n (x ∷ xs) = λ i. same_conn (closed_name x i) n || known_closed n xs i
 
@@ -68,6 +68,11 @@ module _ (k : Conn) where
   housed_closed most ts (x ∷ xs) all =
       (cond_both (is_line k x) (closed x) x (λ (y : Line). IsHoused most ts y.stage) (λ e. tt) (λ e. all.0), housed_closed most ts xs all.1)
 
+  quiet_closed : (xs : List Line) → AllByRecursion (λ y. IsQuiet y.stage y.waiting) xs → AllByRecursion (λ y. IsQuiet y.stage y.waiting) (with_line closed k xs)
+  quiet_closed [] all = tt
+  quiet_closed (x ∷ xs) all =
+      (cond_both (is_line k x) (closed x) x (λ (y : Line). IsQuiet y.stage y.waiting) (λ e. tt) (λ e. all.0), quiet_closed xs all.1)
+
   apart_closed : (xs : List Line) → AreApart xs → key_on (stage_of k xs) ≡ None → AreApart (with_line closed k xs)
   apart_closed [] apart idle = tt
   apart_closed (x ∷ xs) apart idle = go (is_line k x) refl (apart_closed xs apart.2)
@@ -94,6 +99,7 @@ module _ (k : Conn) where
           window = kept.window;
           limits = kept.limits;
           apart = apart_closed xs kept.apart idle;
+          quiet = quiet_closed xs kept.quiet;
           housed = housed_closed config.limits.most ts xs kept.housed;
           seated = all_seated_same config xs ys (λ c. up_closed c xs kept.apart idle) (λ c. stage_closed c xs kept.apart idle) ts kept.seated;
           ascending = kept.ascending;

@@ -1,5 +1,5 @@
 -- The table of sessions: a key's place, its session, and the keys of client identifiers.
-use Rattle.std.proofs.Common.{◌≡◌, ℕ, zero, suc, ◌+◌, ◌<◌, ◌≤◌, Bool, true, false, cond, not, List, [], ◌∷◌, ◌++◌, length, get_or, take, drop, slice_get, Option, Some, None, refl, sym, ap, subst, ◌∙◌, arith, eqb, ltb, eqb-true, ltb-true, ltb-false, lt-ltb, true≢false}
+use Rattle.std.proofs.Common.{◌≡◌, ℕ, zero, suc, ◌+◌, ◌<◌, ◌≤◌, Bool, true, false, cond, not, List, [], ◌∷◌, ◌++◌, length, get_or, take, drop, slice_get, Option, Some, None, refl, sym, ap, subst, ◌∙◌, arith, eqb, ltb, eqb-true, eq-eqb, ltb-true, ltb-false, lt-ltb, true≢false}
 use Rattle.std.proofs.lemmas.Bool.{cond-true, cond-false, ne_eqb}
 use Rattle.std.proofs.Math.ListN.{set}
 use Rattle.std.specs.List.{AllByRecursion, prefix_len, remove}
@@ -252,6 +252,33 @@ none_without n key (t ∷ ts) none = go (bytes_eq t.client n) refl (eqb t.key ke
         by : (b : Bool) → eqb t.key key ≡ b → key_of n (sessions_of (without_tenant key ts)) ≡ None → key_of n (sessions_of (without_tenant key (t ∷ ts))) ≡ None
         by true eb left = rw eb left
         by false eb left = rw (eb, ea) left
+
+-- a client whose session is taken out has none
+pub none_taken : (n : List ℕ) (key : ℕ) (ts : List Tenant) → AreDistinct ts → key_of n (sessions_of ts) ≡ Some key
+    → key_of n (sessions_of (without_tenant key ts)) ≡ None
+none_taken n key [] distinct e = refl
+none_taken n key (t ∷ ts) distinct e = go (bytes_eq t.client n) refl (eqb t.key key) refl (none_taken n key ts distinct.1)
+  where
+    go : (a : Bool) → bytes_eq t.client n ≡ a → (b : Bool) → eqb t.key key ≡ b
+        → (key_of n (sessions_of ts) ≡ Some key → key_of n (sessions_of (without_tenant key ts)) ≡ None)
+        → key_of n (sessions_of (without_tenant key (t ∷ ts))) ≡ None
+    go true same true own rest =
+        let left : without_tenant key (t ∷ ts) ≡ without_tenant key ts = rw own refl in
+        ap (λ (rs : List Tenant). key_of n (sessions_of rs)) left
+        ∙ none_without n key ts (subst (λ (m : List ℕ). key_of m (sessions_of ts) ≡ None) (same_bytes t.client n same) distinct.0)
+    go true same false apart rest =
+        let w : Some t.key ≡ Some key = sym (cond-true (bytes_eq t.client n) (Some t.key) (key_of n (sessions_of ts)) same) ∙ e in
+        let is : t.key ≡ key = cc in
+        absurd (true≢false (sym (eq-eqb t.key key is) ∙ apart))
+    go false other true own rest =
+        let left : without_tenant key (t ∷ ts) ≡ without_tenant key ts = rw own refl in
+        ap (λ (rs : List Tenant). key_of n (sessions_of rs)) left
+        ∙ rest (sym (cond-false (bytes_eq t.client n) (Some t.key) (key_of n (sessions_of ts)) other) ∙ e)
+    go false other false apart rest =
+        let left : without_tenant key (t ∷ ts) ≡ t ∷ without_tenant key ts = rw apart refl in
+        ap (λ (rs : List Tenant). key_of n (sessions_of rs)) left
+        ∙ cond-false (bytes_eq t.client n) (Some t.key) (key_of n (sessions_of (without_tenant key ts))) other
+        ∙ rest (sym (cond-false (bytes_eq t.client n) (Some t.key) (key_of n (sessions_of ts)) other) ∙ e)
 
 pub distinct_without : (key : ℕ) (ts : List Tenant) → AreDistinct ts → AreDistinct (without_tenant key ts)
 distinct_without key [] distinct = tt

@@ -27,7 +27,7 @@ use Rattle.mq_hub.proofs.Readiness.{changed_other, changed_own, only_own, some_s
 
 -- ---- the sessions
 
-end_there : (key : ℕ) (t : Tenant) (ts : List Tenant) → tenant_of key ts ≡ Some t → end_of key (sessions_of ts) ≡ t.end.end
+pub end_there : (key : ℕ) (t : Tenant) (ts : List Tenant) → tenant_of key ts ≡ Some t → end_of key (sessions_of ts) ≡ t.end.end
 end_there key t [] there = absurd cc
 end_there key t (s ∷ ts) there = go (eqb s.key key) refl (end_there key t ts)
   where

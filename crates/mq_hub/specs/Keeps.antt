@@ -55,6 +55,12 @@ IsHoused most ts Fresh = Unit {0}
 IsHoused most ts (UpFor key terms moment) = Stands ts key × IsWillWithin most terms.will
 IsHoused most ts Shut = Unit {0}
 
+-- before its CONNECT nothing waits to be written on a connection
+abbrev pub IsQuiet : Stage → List ℕ → Type 0
+IsQuiet Fresh waiting = waiting ≡ []
+IsQuiet (UpFor key terms moment) waiting = Unit {0}
+IsQuiet Shut waiting = Unit {0}
+
 -- What a broker keeps true of its tables.
 pub record HubKeeps (config : HubConfig) (next_key : ℕ) (t : HubTables) : Type 0 where
   -- identifiers can be given, and a receiving window has a place
@@ -64,6 +70,8 @@ pub record HubKeeps (config : HubConfig) (next_key : ℕ) (t : HubTables) : Type
   pub limits : t.lines.limits ≡ config.limits
   -- names stand once, and a client is up once
   pub apart : AreApart t.lines.lines
+  -- nothing waits on a connection before its CONNECT
+  pub quiet : AllByRecursion (λ x. IsQuiet x.stage x.waiting) t.lines.lines
   -- each connection that is up has its session
   pub housed : AllByRecursion (λ x. IsHoused config.limits.most t.sessions.tenants x.stage) t.lines.lines
   -- each session is up where its client is

@@ -1,7 +1,15 @@
--- What the checks of a CONNECT look at in a broker (3.1.3.1, 3.1.3.4, 3.2.2.3).
-use Rattle.std.specs.Prelude.{◌≡◌, ℕ, length, Option, Some, None, is_some}
+-- What the checks of a CONNECT look at in a broker, and what a refusal does (3.1.3.1, 3.1.3.4, 3.2.2.3).
+use Rattle.std.specs.Prelude.{◌≡◌, ℕ, Bool, true, false, [], ◌∷◌, length, Option, Some, None, is_some}
+use Rattle.mq_packet.specs.declared.connack.ConnAck.TheVariants as connacks
+use Rattle.mq_packet.specs.declared.connack.RefusalCode.{RefusalCode}
+use Rattle.mq_packet.specs.declared.packet.Packet.{Packet}
+use Rattle.mq_packet.specs.declared.packet.Packet.TheVariants as packets
+use Rattle.mq_end.specs.declared.reason.CloseReason.TheVariants as reasons
+use Rattle.mq_route.specs.declared.close.HubClose.TheVariants.{Own}
+use Rattle.mq_route.specs.declared.conn.Conn.{Conn}
 use Rattle.mq_route.specs.Hub.{HubState, up_on}
 use Rattle.mq_route.specs.Welcome.{up_count, ends_with}
+use Rattle.mq_route.specs.Work.{Work, close, put_on}
 use Rattle.mq_hub.specs.declared.welcome.Counts.{Counts}
 use Rattle.mq_hub.specs.declared.welcome.Standing.{Standing}
 
@@ -17,3 +25,12 @@ IsStanding None None h = Unit {0}
 IsStanding (Some s) (Some key) h = (s.is_up ≡ is_some (up_on key h.lines)) × (s.ends ≡ ends_with key h)
 IsStanding None (Some key) h = ⊥
 IsStanding (Some s) None h = ⊥
+
+-- a connection is refused with this code: CONNACK says so, and the connection is closed (3.2.2.3)
+abbrev pub refused : Conn → RefusalCode → Bool → Work → Work
+refused k code fits w = close k (Own (reasons.Refused code)) fits (put_on k (packets.ConnAck (connacks.Refused code) ∷ []) w)
+
+-- a packet is CONNECT, which has to come first on a connection (3.1)
+abbrev pub is_connect : Packet → Bool
+is_connect (packets.Connect c) = true
+is_connect p = false

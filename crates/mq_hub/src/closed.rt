@@ -21,4 +21,17 @@ impl<S: FilterStore> HubOver<S> {
         self.tables.shut(conn);
         doings.say(Act::Closed(conn, why));
     }
+
+    /// A connection is closed (4.8): what it holds of a packet is gone, and what waits stays. Where a client is up on it, its session ends
+    /// where it is to (3.1.2.4), and then its will is published (3.1.2.5), or said to be dropped. It is never refused.
+    pub(crate) fn close(&mut self, conn: Conn, why: HubClose, doings: &mut Doings)
+        requires room { 3 ≤ doings.old.room }
+        ensures goes { (fits : Bool) × GoesBy (close conn why fits) self.old doings.old.acts self.new doings.new.acts }
+        ensures room { doings.old.room ≤ doings.new.room + 3 }
+    {
+        match self.key(conn) {
+            Some(key) => self.tables.close_up(self.alloc, conn, key, why, doings),
+            None => self.close_idle(conn, why, doings),
+        }
+    }
 }

@@ -1,7 +1,7 @@
 //! What waits to be written on a connection is taken from a broker (4.2).
 
 ghost use Rattle.std.specs.Prelude.{◌≡◌, true, IfOk, IfErr, OnErr};
-ghost use Rattle.mq_route.specs.Hub.{is_open, knows, stage_of, waiting_on};
+ghost use Rattle.mq_route.specs.Hub.{is_open, knows, new_end, stage_of, waiting_on};
 ghost use Rattle.mq_route.specs.Step.{HubStep, collected};
 
 use crate::hub::HubOver;
@@ -18,15 +18,19 @@ impl<S: FilterStore> HubOver<S> {
         self.tables.output(conn)
     }
 
-    // Whether a connection is open.
-    fn is_open(&self, conn: Conn) -> bool
+    /// Whether a connection is open.
+    pub(crate) fn is_open(&self, conn: Conn) -> bool
         ensures { result ≡ is_open (stage_of conn self.now.lines) }
     {
         self.tables.is_open(conn)
     }
 
-    // An end to put in the place of a session's for a while. It takes no memory.
-    fn blank(&self) -> ServerEnd {
+    /// The end of a new session (3.1.2.4), which can also be put in the place of a session's for a while. It takes no memory.
+    pub(crate) fn blank(&self) -> ServerEnd
+        ensures end { result.end ≡ new_end self.now.config }
+        ensures capacity { result.capacity ≡ self.now.config.capacity }
+        ensures limit { result.limit ≡ self.now.config.limits }
+    {
         let config = ServerConfig {
             limits: self.config.limits,
             capacity: self.config.capacity,

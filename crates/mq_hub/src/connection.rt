@@ -77,15 +77,16 @@ impl BoxedConnection {
         }
     }
 
-    /// It is closed: what it holds of a packet is gone, what waits stays (4.8).
-    pub(crate) fn shut(&mut self)
+    /// It is closed: what it holds of a packet is gone, what waits stays (4.8). It says how far it was.
+    pub(crate) fn shut(&mut self) -> Stage
+        ensures stage { result ≡ self.old.stage }
         ensures line { line_of self.new ≡ record (line_of self.old) { stage = Stage.Shut; held = [] } }
         ensures limit { self.new.decoder.limit ≡ self.old.decoder.limit }
         ensures failed { self.new.decoder.failed ≡ None }
     {
         let connection = &mut *self.connection;
-        connection.stage = Stage::Shut;
         connection.decoder.reset();
+        mem::replace(&mut connection.stage, Stage::Shut)
     }
 
     /// It is up for the session of this key (3.1.4).

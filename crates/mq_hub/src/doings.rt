@@ -12,15 +12,19 @@ use std::marker::Model;
 #[derive(Drop)]
 pub(crate) struct Doings {
     acts: Vec<Act>,
+    /// For how many more acts there is room that was asked for; the list may have more.
+    room: usize,
 }
 
 impl Model for Doings {
-    ghost use Rattle.std.specs.Prelude.{◌-◌, length, vec_capacity};
+    ghost use Rattle.std.specs.Prelude.{◌+◌, ◌≤◌, length, vec_capacity};
     ghost use Rattle.mq_hub.specs.Doings.{ActList};
 
     ghost Value = { ActList };
 
-    ghost view = { λ d. record { acts = d.acts.items; room = vec_capacity d.acts - length d.acts.items } };
+    ghost view = { λ d. record { acts = d.acts.items; room = d.room } };
+
+    ghost invariant = { λ d. length d.acts.items + d.room ≤ vec_capacity d.acts };
 }
 
 impl Doings {
@@ -30,6 +34,7 @@ impl Doings {
     {
         Doings {
             acts: Vec::new(alloc),
+            room: 0,
         }
     }
 
@@ -39,7 +44,21 @@ impl Doings {
         ensures same { self.new.acts ≡ self.old.acts }
         ensures room { self.old.room ≤ self.new.room }
     {
-        self.acts.reserve(count)
+        self.acts.reserve(count)?;
+        self.room = self.room.max(count);
+        Ok(())
+    }
+
+    /// Makes room for so many acts beside those for which there is room. Out of memory it fails. The acts stay.
+    pub(crate) fn reserve_beside(&mut self, count: usize) -> Result<(), AllocError>
+        ensures ok { OnOk result (self.old.room + count ≤ self.new.room) }
+        ensures same { self.new.acts ≡ self.old.acts }
+        ensures room { self.old.room ≤ self.new.room }
+    {
+        let Some(room) = self.room.checked_add(count) else {
+            return Err(AllocError);
+        };
+        self.reserve(room)
     }
 
     /// One act more. It takes no memory.
@@ -49,13 +68,14 @@ impl Doings {
         ensures room { self.old.room ≤ self.new.room + 1 }
     {
         self.acts.push_reserved(act);
+        self.room -= 1;
     }
 
     /// What comes of a step that did this and takes no bytes; `alive` says that the event's connection is open. It takes no memory.
     pub(crate) fn into_reply(self, alive: bool) -> HubReply
         ensures { result ≡ record { acts = self.acts; output = []; alive = alive } }
     {
-        let Doings { acts } = self;
+        let Doings { acts, .. } = self;
         HubReply {
             acts: Items::from_vec(acts),
             output: Bytes::new(),

@@ -12,13 +12,16 @@ use std::marker::Model;
 
 /// A broker over a store of subscriptions. Contracts see it as plain records.
 #[derive(Drop)]
-pub(crate) struct HubOver<S: FilterStore> {
+pub struct HubOver<S: FilterStore> {
     pub(crate) alloc: Global,
     pub(crate) config: HubConfig,
     pub(crate) clock: u64,
     pub(crate) next_key: u64,
     pub(crate) tables: Tables<S>,
 }
+
+/// A broker over a trie of subscriptions.
+pub type Hub = HubOver<TrieStore>;
 
 impl<S: FilterStore> Model for HubOver<S> {
     ghost use Rattle.std.specs.Coded.{codes, coded_ℕ};
@@ -39,7 +42,7 @@ impl<S: FilterStore> Model for HubOver<S> {
 
 impl HubOver<TrieStore> {
     /// A broker to which nothing has happened. It takes no memory.
-    pub(crate) fn new(alloc: Global, config: HubConfig) -> HubOver<TrieStore>
+    pub fn new(alloc: Global, config: HubConfig) -> HubOver<TrieStore>
         requires capacity { 0 < config.capacity }
         requires window { IfSome config.window (λ window. 0 < window) }
         ensures { result ≡ new_hub config }
@@ -50,7 +53,7 @@ impl HubOver<TrieStore> {
 
 impl<S: FilterStore> HubOver<S> {
     /// A broker over a store without rows, to which nothing has happened. It takes no memory.
-    pub(crate) fn with_store(alloc: Global, config: HubConfig, store: S) -> HubOver<S>
+    pub fn with_store(alloc: Global, config: HubConfig, store: S) -> HubOver<S>
         requires store { S.rows store ≡ [] }
         requires capacity { 0 < config.capacity }
         requires window { IfSome config.window (λ window. 0 < window) }
@@ -67,7 +70,7 @@ impl<S: FilterStore> HubOver<S> {
     }
 
     /// Whether a connection is known: it was opened, and is not over. It takes no memory.
-    pub(crate) fn knows(&self, conn: Conn) -> bool
+    pub fn knows(&self, conn: Conn) -> bool
         ensures { result ≡ knows conn self.now.lines }
     {
         self.tables.lines.knows(conn)

@@ -1,16 +1,17 @@
 //! The connections of a broker (4.2).
 
-ghost use Rattle.std.specs.Prelude.{◌≡◌, ◌+◌, ◌≤◌, ◌<◌, ℕ, [], ◌∷◌, ◌++◌, Some, None, nat_eq, true, false, is_some, if◌then◌else◌, OnOk, IfSome};
+ghost use Rattle.std.specs.Prelude.{◌≡◌, ◌+◌, ◌≤◌, ◌<◌, ℕ, [], ◌∷◌, ◌++◌, length, slice_get, Some, None, nat_eq, true, false, is_some, if◌then◌else◌, OnOk, IfSome};
 ghost use Rattle.std.specs.HashMap.{get, hash_map_len, spare};
 ghost use Rattle.std.specs.List.{IsDistinct};
 ghost use Rattle.std.specs.Map.{keys_of, remove_entry};
+ghost use Rattle.std.specs.Option.{option_copied, option_map};
 ghost use Rattle.mq_route.specs.Arrives.{heard};
 ghost use Rattle.mq_route.specs.Hub.{held_on, key_on, knows, stage_of, up_on, waiting_on, with_line, without_line};
 ghost use Rattle.mq_route.specs.Routed.{same_conn};
 ghost use Rattle.mq_route.specs.Welcome.{up_count};
 ghost use Rattle.mq_hub.specs.Lines.{line_of, IsReading};
 
-use crate::connection::BoxedConnection;
+use crate::connection::{BoxedConnection, Connection};
 use indexmap::IndexMap;
 use mq_decode::{Decoder, Limits};
 use mq_end::ByteQueue;
@@ -162,6 +163,21 @@ impl Lines {
         self.ups.len()
     }
 
+    /// How many are known.
+    pub(crate) fn len(&self) -> usize
+        ensures { result ≡ length self.now.lines }
+    {
+        self.by_conn.len()
+    }
+
+    /// The connection at a place in the order in which they were opened.
+    pub(crate) fn at(&self, index: usize) -> Option<&Connection>
+        ensures { option_map line_of (option_copied result) ≡ slice_get self.now.lines index }
+    {
+        let (_, boxed) = self.by_conn.as_slice().get_index(index)?;
+        Some(boxed.connection())
+    }
+
     /// A connection is opened, whose name isn't known (4.2): it goes last. It takes no memory.
     pub(crate) fn open(&mut self, boxed: BoxedConnection)
         requires name { knows boxed.conn self.old.lines ≡ false }
@@ -177,21 +193,23 @@ impl Lines {
         let _ = self.by_conn.insert(conn, boxed);
     }
 
-    /// A connection is closed: what it holds of a packet is gone, what waits stays (4.8). It takes no memory.
-    pub(crate) fn shut(&mut self, conn: Conn)
+    /// A connection is closed: what it holds of a packet is gone, what waits stays (4.8). It says how far it was. It takes no memory.
+    pub(crate) fn shut(&mut self, conn: Conn) -> Stage
+        ensures stage { result ≡ stage_of conn self.old.lines }
         ensures lines { self.new.lines ≡ with_line (λ x. record x { stage = Stage.Shut; held = [] }) conn self.old.lines }
         ensures limits { self.new.limits ≡ self.old.limits }
         ensures room { self.new.room ≡ self.old.room }
         ensures rises { self.old.rises ≤ self.new.rises }
     {
         let Some(boxed) = self.by_conn.get_mut(&conn) else {
-            return;
+            return Stage::Shut;
         };
         let up = boxed.key();
-        boxed.shut();
+        let stage = boxed.shut();
         if let Some(key) = up {
             note_down(&mut self.ups, key);
         }
+        stage
     }
 
     /// A connection that waits for its CONNECT comes up for the session of a client that is up on no other (3.1.4). It takes no memory.

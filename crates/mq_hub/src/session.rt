@@ -1,12 +1,20 @@
 //! The session of a client at a broker.
 
-ghost use Rattle.std.specs.Prelude.{◌≡◌, ℕ, List, [], ◌∷◌, IfOk};
+ghost use Rattle.std.specs.Prelude.{◌≡◌, ℕ, List, [], ◌∷◌, true, IfOk, OnOk};
+ghost use Rattle.mq_end.specs.End.{is_up};
+ghost use Rattle.mq_end.specs.Ready.{HasRise, HasRoom};
+ghost use Rattle.mq_packet.specs.declared.connect.Connect.{Connect};
 ghost use Rattle.mq_packet.specs.declared.message.Message.{Message};
+ghost use Rattle.mq_hub.specs.Calls.{IsAllowed, Serves};
+ghost use Rattle.mq_hub.specs.Leaving.{parted};
 ghost use Rattle.mq_hub.specs.Placing.{published, IsReady, Readies};
+ghost use Rattle.mq_hub.specs.Rising.{left, risen};
 
-use mq_end::{PublishRefusal, ServerEnd};
+use crate::call::{Call, serve};
+use crate::greeted::rise;
+use mq_end::{ByteQueue, Outcome, PublishRefusal, ServerEnd};
 use mq_flow::next_laws;
-use mq_packet::{Message, spelling_laws};
+use mq_packet::{BoxedConnect, Connect, Message, spelling_laws};
 use mq_topic::ClientKey;
 use mq_wire::Text;
 use std::alloc::{AllocError, Global};
@@ -87,6 +95,15 @@ impl Seat {
         tenant.end.ready(messages, more)
     }
 
+    /// Its end loses its connection (3.1.2.4); the bytes that waited are exchanged for others, which are let go.
+    pub(crate) fn part(&mut self, output: &mut ByteQueue)
+        ensures tenant { self.new ≡ record self.old { end = parted self.old.end } }
+        ensures output { output.new ≡ self.old.end.output }
+    {
+        let tenant = &mut *self.tenant;
+        part_end(&mut tenant.end, output);
+    }
+
     /// Its end publishes a message, for which it is ready.
     pub(crate) fn publish(&mut self, message: Message)
         requires { IsReady (message ∷ []) 0 self.old.end }
@@ -97,6 +114,64 @@ impl Seat {
         let tenant = &mut *self.tenant;
         publish_ready(&mut tenant.end, message);
     }
+}
+
+impl Seat {
+    /// Its end, which is up, does what it is to do. Out of memory, nothing changes.
+    pub(crate) fn serve(&mut self, call: Call) -> Result<Outcome, AllocError>
+        requires up { is_up self.old.end.end.state ≡ true }
+        requires allowed { IsAllowed call self.old.end }
+        ensures end { Serves call result self.old.end self.new.end }
+        ensures tenant { self.new ≡ record self.old { end = self.new.end } }
+    {
+        let tenant = &mut *self.tenant;
+        serve(&mut tenant.end, call)
+    }
+}
+
+impl Seat {
+    /// Makes its end ready to come up by this CONNECT on a new connection, and then for messages (3.2, 4.4). Out of memory, it stays, but
+    /// for its room.
+    pub(crate) fn ready_to_rise(
+        &mut self,
+        connect: &Connect,
+        messages: &[Message],
+    ) -> Result<(), AllocError>
+        ensures ok { OnOk result (HasRise connect.now messages.now 0 self.new.end) }
+        ensures end { self.new.end ≡ record self.old.end { room = self.new.end.room } }
+        ensures tenant { self.new ≡ record self.old { end = self.new.end } }
+        ensures before { (ms : List Message) (n : ℕ) → HasRoom ms n self.old.end → HasRoom ms n self.new.end }
+    {
+        let tenant = &mut *self.tenant;
+        tenant.end.ready_to_rise(connect, messages, 0)
+    }
+
+    /// Its end loses its connection (3.1.2.4), and keeps its room; the bytes that waited are gone.
+    pub(crate) fn leave(&mut self)
+        ensures tenant { self.new ≡ record self.old { end = left self.old.end } }
+        ensures rise { (c : Connect) (ms : List Message) (more : ℕ) → HasRise c ms more self.old.end → HasRise c ms more self.new.end }
+    {
+        let tenant = &mut *self.tenant;
+        tenant.end.dropped();
+    }
+
+    /// Its end takes a CONNECT in on a new connection, for which it has room (3.1.4, 3.2). It takes no memory.
+    pub(crate) fn rise(&mut self, connect: BoxedConnect, now: u64)
+        requires { HasRise connect [] 0 self.old.end }
+        ensures { self.new ≡ record self.old { end = risen connect now self.old.end } }
+    {
+        let tenant = &mut *self.tenant;
+        rise(&mut tenant.end, connect, now);
+    }
+}
+
+// An end loses its connection; the bytes that waited are exchanged for others, which are let go.
+fn part_end(end: &mut ServerEnd, output: &mut ByteQueue)
+    ensures end { end.new ≡ parted end.old }
+    ensures output { output.new ≡ end.old.output }
+{
+    end.swap_output(output);
+    end.dropped();
 }
 
 // An end publishes a message, for which it is ready.

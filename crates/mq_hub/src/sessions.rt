@@ -1,18 +1,23 @@
 //! The sessions of a broker (3.1.2.4, 3.1.3.1).
 
-ghost use Rattle.std.specs.Prelude.{◌≡◌, ◌+◌, ◌≤◌, ◌<◌, ℕ, List, [], ◌∷◌, ◌++◌, Some, None, length, nat_lt, vec_capacity, if◌then◌else◌, OnOk, IsSome, IfSome};
+ghost use Rattle.std.specs.Prelude.{◌≡◌, ◌+◌, ◌≤◌, ◌<◌, ℕ, List, [], ◌∷◌, ◌++◌, Some, None, length, map, nat_lt, vec_capacity, if◌then◌else◌, OnOk, OnErr, IfOk, IsSome, IfSome};
 ghost use Rattle.std.specs.HashMap.{get, spare};
 ghost use Rattle.std.specs.List.{prefix_len};
 ghost use Rattle.std.specs.Str.{bytes_eq};
 ghost use Rattle.std.specs.Option.{option_copied};
 ghost use Rattle.mq_route.specs.Hub.{key_of};
+ghost use Rattle.mq_packet.specs.declared.connect.Connect.{Connect};
 ghost use Rattle.mq_packet.specs.declared.message.Message.{Message};
-ghost use Rattle.mq_hub.specs.Placing.{placed_at, IsReadyAt, ReadiesAt};
+ghost use Rattle.mq_hub.specs.Calls.{CanServe, ServesAt};
+ghost use Rattle.mq_hub.specs.Leaving.{parted};
+ghost use Rattle.mq_hub.specs.Placing.{placed_at, AreSameButRoom, AreStillReady, IsReadyAt, ReadiesAt};
+ghost use Rattle.mq_hub.specs.Rising.{left, risen, HasRiseAt, IsEnlarged};
 ghost use Rattle.mq_hub.specs.Sessions.{drained, sessions_of, tenant_of, with_server, without_tenant, AreBelow, AreAscending};
 
+use crate::call::Call;
 use crate::session::{Seat, Tenant};
-use mq_end::{PublishRefusal, ServerEnd};
-use mq_packet::Message;
+use mq_end::{ByteQueue, Outcome, PublishRefusal, ServerEnd};
+use mq_packet::{BoxedConnect, Connect, Message};
 use mq_topic::ClientKey;
 use mq_wire::Text;
 use std::alloc::{AllocError, Global};
@@ -86,6 +91,17 @@ fn swap_at(tenants: &mut [Seat], key: ClientKey, end: &mut ServerEnd)
 {
     let at = place(tenants, key);
     tenants[at].swap_end(end);
+}
+
+// The end of the session of a key loses its connection; the bytes that waited are exchanged for others.
+fn part_at(tenants: &mut [Seat], key: ClientKey, output: &mut ByteQueue)
+    requires ascending { AreAscending tenants.old }
+    requires there { IsSome (tenant_of key tenants.old) }
+    ensures tenants { IfSome (tenant_of key tenants.old) (λ t. tenants.new ≡ with_server key (parted t.end) tenants.old) }
+    ensures output { IfSome (tenant_of key tenants.old) (λ t. output.new ≡ t.end.output) }
+{
+    let at = place(tenants, key);
+    tenants[at].part(output);
 }
 
 // Takes the session of a key out.
@@ -196,10 +212,22 @@ impl Sessions {
         self.swap_end(key, &mut end);
     }
 
+    /// The end of the session of a key loses its connection (3.1.2.4); the bytes that waited are exchanged for others, which are let go.
+    /// It takes no memory.
+    pub(crate) fn part(&mut self, key: ClientKey, output: &mut ByteQueue)
+        requires { IsSome (tenant_of key self.old.tenants) }
+        ensures tenants { IfSome (tenant_of key self.old.tenants) (λ t. self.new.tenants ≡ with_server key (parted t.end) self.old.tenants) }
+        ensures output { IfSome (tenant_of key self.old.tenants) (λ t. output.new ≡ t.end.output) }
+        ensures room { self.new.room ≡ self.old.room }
+    {
+        part_at(self.tenants.as_mut_slice(), key, output);
+    }
+
     /// A session ends (3.1.2.4), which it gives away; `None` where there is none of this key. It takes no memory.
     pub(crate) fn remove(&mut self, key: ClientKey) -> Option<Tenant>
         ensures tenants { self.new.tenants ≡ without_tenant key self.old.tenants }
         ensures taken { result ≡ tenant_of key self.old.tenants }
+        ensures client { (n : List ℕ) → key_of n (sessions_of self.old.tenants) ≡ Some key → key_of n (sessions_of self.new.tenants) ≡ None }
         ensures room { self.old.room ≤ self.new.room }
     {
         let tenant = take_at(&mut self.tenants, key)?;
@@ -235,6 +263,28 @@ fn publish_at(tenants: &mut [Seat], key: ClientKey, message: Message)
     tenants[at].publish(message);
 }
 
+// The end of the session of a key, which is up, does what it is to do.
+fn serve_at(tenants: &mut [Seat], key: ClientKey, call: Call) -> Result<Outcome, AllocError>
+    requires ascending { AreAscending tenants.old }
+    requires can { CanServe key call tenants.old }
+    ensures { ServesAt key call result tenants.old tenants.new }
+{
+    let at = place(tenants, key);
+    tenants[at].serve(call)
+}
+
+impl Sessions {
+    /// The end of the session of a key, which is up, does what it is to do. Out of memory, the sessions stay.
+    pub(crate) fn serve(&mut self, key: ClientKey, call: Call) -> Result<Outcome, AllocError>
+        requires { CanServe key call self.old.tenants }
+        ensures serves { ServesAt key call result self.old.tenants self.new.tenants }
+        ensures err { OnErr result (self.new.tenants ≡ self.old.tenants) }
+        ensures room { self.new.room ≡ self.old.room }
+    {
+        serve_at(self.tenants.as_mut_slice(), key, call)
+    }
+}
+
 impl Sessions {
     /// Makes the end of the session of a key ready for messages, and for so many bytes that are put out beside their PUBLISHes.
     pub(crate) fn ready(
@@ -260,5 +310,102 @@ impl Sessions {
         ensures room { self.new.room ≡ self.old.room }
     {
         publish_at(self.tenants.as_mut_slice(), key, message);
+    }
+}
+
+// Makes the end of the session of a key ready to come up by this CONNECT on a new connection, and then for messages.
+fn ready_to_rise_at(
+    tenants: &mut [Seat],
+    key: ClientKey,
+    connect: &Connect,
+    messages: &[Message],
+) -> Result<(), AllocError>
+    requires ascending { AreAscending tenants.old }
+    requires there { IsSome (tenant_of key tenants.old) }
+    ensures ok { OnOk result (HasRiseAt connect.now key messages.now 0 tenants.new) }
+    ensures enlarged { IsEnlarged key tenants.old tenants.new }
+{
+    let at = place(tenants, key);
+    tenants[at].ready_to_rise(connect, messages)
+}
+
+// The end of the session of a key loses its connection, and keeps its room.
+fn leave_at(tenants: &mut [Seat], key: ClientKey)
+    requires ascending { AreAscending tenants.old }
+    requires there { IsSome (tenant_of key tenants.old) }
+    ensures tenants { IfSome (tenant_of key tenants.old) (λ t. tenants.new ≡ with_server key (left t.end) tenants.old) }
+    ensures rise { (c : Connect) (ms : List Message) (more : ℕ) → HasRiseAt c key ms more tenants.old → HasRiseAt c key ms more tenants.new }
+{
+    let at = place(tenants, key);
+    tenants[at].leave();
+}
+
+// The end of the session of a key takes a CONNECT in on a new connection, for which it has room.
+fn rise_at(tenants: &mut [Seat], key: ClientKey, connect: BoxedConnect, now: u64)
+    requires ascending { AreAscending tenants.old }
+    requires ready { HasRiseAt connect key [] 0 tenants.old }
+    ensures { IfSome (tenant_of key tenants.old) (λ t. tenants.new ≡ with_server key (risen connect now t.end) tenants.old) }
+{
+    let at = place(tenants, key);
+    tenants[at].rise(connect, now);
+}
+
+impl Sessions {
+    /// Makes the end of the session of a key ready to come up by this CONNECT on a new connection, and then for messages (3.2, 4.4). Out of
+    /// memory, the sessions stay, but for the room of that end.
+    pub(crate) fn ready_to_rise(
+        &mut self,
+        key: ClientKey,
+        connect: &Connect,
+        messages: &[Message],
+    ) -> Result<(), AllocError>
+        requires { IsSome (tenant_of key self.old.tenants) }
+        ensures ok { OnOk result (HasRiseAt connect.now key messages.now 0 self.new.tenants) }
+        ensures same { AreSameButRoom self.old.tenants self.new.tenants }
+        ensures still { AreStillReady self.old.tenants self.new.tenants }
+        ensures room { self.new.room ≡ self.old.room }
+    {
+        ready_to_rise_at(self.tenants.as_mut_slice(), key, connect, messages)
+    }
+
+    /// The end of the session of a key loses its connection (3.1.2.4), and keeps its room; the bytes that waited are gone. It takes no
+    /// memory.
+    pub(crate) fn leave(&mut self, key: ClientKey)
+        requires { IsSome (tenant_of key self.old.tenants) }
+        ensures tenants { IfSome (tenant_of key self.old.tenants) (λ t. self.new.tenants ≡ with_server key (left t.end) self.old.tenants) }
+        ensures rise { (c : Connect) (ms : List Message) (more : ℕ) → HasRiseAt c key ms more self.old.tenants → HasRiseAt c key ms more self.new.tenants }
+        ensures room { self.new.room ≡ self.old.room }
+    {
+        leave_at(self.tenants.as_mut_slice(), key);
+    }
+
+    /// The end of the session of a key takes a CONNECT in on a new connection, for which it has room (3.1.4, 3.2). It takes no memory.
+    pub(crate) fn rise(&mut self, key: ClientKey, connect: BoxedConnect, now: u64)
+        requires { HasRiseAt connect key [] 0 self.old.tenants }
+        ensures tenants { IfSome (tenant_of key self.old.tenants) (λ t.
+            self.new.tenants ≡ with_server key (risen connect now t.end) self.old.tenants) }
+        ensures room { self.new.room ≡ self.old.room }
+    {
+        rise_at(self.tenants.as_mut_slice(), key, connect, now);
+    }
+}
+
+// The client identifiers of sessions, in their order.
+fn clients_of(alloc: Global, tenants: &[Seat]) -> Result<Vec<Text>, AllocError>
+    ensures { IfOk result (λ names. names.items ≡ map (λ t. t.client) tenants.now) }
+{
+    let mut names = Vec::with_capacity(alloc, tenants.len())?;
+    for seat in tenants {
+        names.push(seat.tenant().client.clone()?)?;
+    }
+    Ok(names)
+}
+
+impl Sessions {
+    /// The client identifiers of the sessions, by ascending key (3.1.3.1).
+    pub(crate) fn clients(&self, alloc: Global) -> Result<Vec<Text>, AllocError>
+        ensures { IfOk result (λ names. names.items ≡ map (λ t. t.client) self.now.tenants) }
+    {
+        clients_of(alloc, self.tenants.as_slice())
     }
 }

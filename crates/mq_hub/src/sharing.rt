@@ -1,11 +1,12 @@
 //! A message that is shared: it is retained, and placed for all that match (3.3.1.3, 3.3.5).
 
-ghost use Rattle.std.specs.Prelude.{◌≡◌, ◌≤◌, ◌<◌, ◌++◌, ℕ, length};
+ghost use Rattle.std.specs.Prelude.{◌≡◌, ◌+◌, ◌≤◌, ◌<◌, ◌++◌, ℕ, length};
 ghost use Rattle.mq_route.specs.declared.config.HubConfig.{HubConfig};
+ghost use Rattle.mq_route.specs.Copies.{kept};
 ghost use Rattle.mq_route.specs.Hub.{copies_of};
 ghost use Rattle.mq_route.specs.Work.{share};
 ghost use Rattle.mq_hub.specs.Does.{GoesBy};
-ghost use Rattle.mq_hub.specs.Placing.{placed_acts, with_retained, with_tenants, AreApart, AreReady, CanPlace};
+ghost use Rattle.mq_hub.specs.Placing.{placed_acts, placed_all, with_retained, with_tenants, AreApart, AreReady, CanPlace};
 ghost use Rattle.mq_hub.specs.Seen.{HubTables, hub_of};
 
 use crate::doings::Doings;
@@ -31,10 +32,11 @@ pub(crate) struct Sharing {
     pub(crate) acts: Vec<Act>,
 }
 
-// Says acts, for which there is room.
-fn say_all(doings: &mut Doings, acts: Vec<Act>)
+/// Says acts, for which there is room. It takes no memory.
+pub(crate) fn say_all(doings: &mut Doings, acts: Vec<Act>)
     requires { length acts.items ≤ doings.old.room }
-    ensures { doings.new.acts ≡ doings.old.acts ++ acts.items }
+    ensures acts { doings.new.acts ≡ doings.old.acts ++ acts.items }
+    ensures room { doings.old.room ≤ doings.new.room + length acts.items }
 {
     for act in acts {
         doings.say(act);
@@ -60,7 +62,10 @@ impl Sharing {
             → t.retained.messages ≡ retained.old.messages → CanPlace t → copies_of self.message (hub_of config clock next_key t) ≡ self.copies.items
             → GoesBy (share self.act self.message) (hub_of config clock next_key t) doings.old.acts
             (hub_of config clock next_key (with_tenants sessions.new.tenants (with_retained retained.new.messages t))) doings.new.acts }
+        ensures retained { retained.new.messages ≡ kept self.message retained.old.messages }
+        ensures tenants { sessions.new.tenants ≡ placed_all self.copies.items sessions.old.tenants }
         ensures room { sessions.new.room ≡ sessions.old.room }
+        ensures left { doings.old.room ≤ doings.new.room + (1 + length self.acts.items) }
     {
         let Sharing {
             name,

@@ -1,16 +1,18 @@
 //! The tables of a broker.
 
-ghost use Rattle.std.specs.Prelude.{◌≡◌, [], ◌∷◌, ◌++◌, true, false, OnOk, OnErr, IsSome, IfSome};
-ghost use Rattle.mq_route.specs.Hub.{is_open, key_on, knows, stage_of, waiting_on, with_line};
+ghost use Rattle.std.specs.Prelude.{◌≡◌, ◌≤◌, ℕ, List, Some, None, [], ◌∷◌, ◌++◌, true, false, OnOk, OnErr, IsSome, IfSome};
+ghost use Rattle.mq_route.specs.Hub.{held_on, is_open, key_of, key_on, knows, stage_of, waiting_on, with_line, without_line};
+ghost use Rattle.mq_hub.specs.Coming.{hears, holds};
+ghost use Rattle.mq_hub.specs.Leaving.{left_with, parted};
 ghost use Rattle.mq_hub.specs.Seen.{all_seen};
-ghost use Rattle.mq_hub.specs.Sessions.{drained, tenant_of, with_server, without_tenant};
+ghost use Rattle.mq_hub.specs.Sessions.{drained, sessions_of, tenant_of, with_server, without_tenant};
 ghost use Rattle.mq_topic.specs.Rows.{without_client};
 
 use crate::connection::BoxedConnection;
 use crate::lines::Lines;
 use crate::retained::Retained;
 use crate::sessions::Sessions;
-use mq_decode::Limits;
+use mq_decode::{Decoder, Limits};
 use mq_end::{ByteQueue, ServerEnd};
 use mq_route::{Conn, Stage};
 use mq_topic::{ClientKey, FilterStore};
@@ -131,13 +133,70 @@ impl<S: FilterStore> Tables<S> {
         ensures limits { self.new.lines.limits ≡ self.old.lines.limits }
         ensures rest { self.new ≡ record self.old { lines = self.new.lines } }
     {
-        self.lines.shut(conn);
+        let _ = self.lines.shut(conn);
+    }
+
+    /// A connection on which the client of a session is up is closed: its session's end loses it, and the bytes that wait there are the
+    /// connection's then (3.1.2.4, 4.8). It says how far the connection was. It takes no memory.
+    pub(crate) fn part(&mut self, alloc: Global, conn: Conn, key: ClientKey) -> Stage
+        requires up { key_on (stage_of conn self.old.lines.lines) ≡ Some key }
+        requires there { IsSome (tenant_of key self.old.sessions.tenants) }
+        ensures stage { result ≡ stage_of conn self.old.lines.lines }
+        ensures tenants { IfSome (tenant_of key self.old.sessions.tenants) (λ t.
+            self.new.sessions.tenants ≡ with_server key (parted t.end) self.old.sessions.tenants) }
+        ensures lines { IfSome (tenant_of key self.old.sessions.tenants) (λ t.
+            self.new.lines.lines ≡ with_line (left_with t.end.output) conn self.old.lines.lines) }
+        ensures limits { self.new.lines.limits ≡ self.old.lines.limits }
+        ensures room { self.new.sessions.room ≡ self.old.sessions.room }
+        ensures rises { self.old.lines.rises ≤ self.new.lines.rises }
+        ensures rest { self.new ≡ record self.old { sessions = self.new.sessions; lines = self.new.lines } }
+    {
+        let mut output = ByteQueue::new(alloc);
+        self.sessions.part(key, &mut output);
+        let stage = self.lines.shut(conn);
+        self.lines.swap_waiting(conn, &mut output);
+        stage
+    }
+
+    /// A connection that isn't up is over, and not known any more (4.2). It takes no memory.
+    pub(crate) fn forget(&mut self, conn: Conn)
+        requires { key_on (stage_of conn self.old.lines.lines) ≡ None }
+        ensures lines { self.new.lines.lines ≡ without_line conn self.old.lines.lines }
+        ensures limits { self.new.lines.limits ≡ self.old.lines.limits }
+        ensures rest { self.new ≡ record self.old { lines = self.new.lines } }
+    {
+        self.lines.remove(conn);
+    }
+
+    /// Notes the moment of the last whole packet of a connection (3.1.2.10). It takes no memory.
+    pub(crate) fn heard(&mut self, conn: Conn, now: u64)
+        ensures lines { self.new.lines.lines ≡ with_line (hears now) conn self.old.lines.lines }
+        ensures limits { self.new.lines.limits ≡ self.old.lines.limits }
+        ensures rest { self.new ≡ record self.old { lines = self.new.lines } }
+    {
+        self.lines.heard(conn, now);
+    }
+
+    /// Exchanges the decoder of a connection for another. It takes no memory.
+    pub(crate) fn swap_decoder(&mut self, conn: Conn, decoder: &mut Decoder)
+        requires known { knows conn self.old.lines.lines ≡ true }
+        requires reading { (decoder.old.limit ≡ self.old.lines.limits) × (decoder.old.failed ≡ None) }
+        ensures lines { self.new.lines.lines ≡ with_line (holds decoder.old.held) conn self.old.lines.lines }
+        ensures held { decoder.new.held ≡ held_on conn self.old.lines.lines }
+        ensures reading { (decoder.new.limit ≡ self.old.lines.limits) × (decoder.new.failed ≡ None) }
+        ensures limits { self.new.lines.limits ≡ self.old.lines.limits }
+        ensures rest { self.new ≡ record self.old { lines = self.new.lines } }
+    {
+        self.lines.swap_decoder(conn, decoder);
     }
 
     /// A session ends, and its subscriptions (3.1.2.4). It takes no memory.
     pub(crate) fn remove(&mut self, key: ClientKey)
         ensures rows { self.new.rows ≡ without_client key self.old.rows }
         ensures tenants { self.new.sessions.tenants ≡ without_tenant key self.old.sessions.tenants }
+        ensures client { (n : List ℕ) → key_of n (sessions_of self.old.sessions.tenants) ≡ Some key
+            → key_of n (sessions_of self.new.sessions.tenants) ≡ None }
+        ensures room { self.old.sessions.room ≤ self.new.sessions.room }
         ensures rest { self.new ≡ record self.old { rows = self.new.rows; sessions = self.new.sessions } }
     {
         self.store.remove_client(key);

@@ -24,6 +24,6 @@ invariant_of-self g c =
     let kept = ap (λ (t : HubTables). t.retained.messages) rest in
     let tenants = ap (λ (t : HubTables). t.sessions.tenants) rest in
     elim c.match-open.branch [
-      | in-Ok w ↦ kept_opened x refl h.config h.next_key h.tables u c.self.invariant none rows kept tenants w.in-Ok.ensures.ok c.open.ensures.limits
+      | in-Ok w ↦ kept_opened x refl refl h.config h.next_key h.tables u c.self.invariant none rows kept tenants w.in-Ok.ensures.ok c.open.ensures.limits
       | in-Err w ↦ kept_by h.config h.next_key h.tables u c.self.invariant rows kept tenants w.in-Err.ensures.err c.open.ensures.limits
     ]

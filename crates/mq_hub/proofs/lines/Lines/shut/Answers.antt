@@ -1,9 +1,9 @@
-use Rattle.std.proofs.Common.{◌∙◌, List, [], eqb, sym, ap, subst}
+use Rattle.std.proofs.Common.{◌∙◌, List, [], eqb, refl, sym, ap, subst}
 use Rattle.std.specs.HashMap.{get, hash_map_len}
 use Rattle.mq_route.specs.declared.stage.Stage.TheVariants.{Shut}
-use Rattle.mq_route.specs.Hub.{Line, key_on, with_line}
+use Rattle.mq_route.specs.Hub.{Line, key_on, stage_of, with_line}
 use Rattle.mq_hub.specs.Lines.{LineTable, lines_of, AreLines}
-use Rattle.mq_hub.proofs.Connections.{Entry, are_named, still_all, changed, served_at, kept_same, kept_shut, is_found}
+use Rattle.mq_hub.proofs.Connections.{Entry, are_named, found_by, lacks, unknown_shut, still_all, changed, served_at, kept_same, kept_shut, is_found}
 use Rattle.mq_hub.proofs.lines.Lines.shut.Goals as goal
 
 pub returns-in_default-clause-lines : goal.returns-in_default-clause-lines
@@ -28,13 +28,13 @@ invariant_of-self-in-Some-up c =
     let ups = c.self.inside.ups in
     let new = c.note_down.new.ups in
     let own = c.in-Some.boxed.now in
-    let w = c.shut.new.self in
+    let w = c.shut-stage.new.self in
     let there = sym c.in-Some.ensures.value in
     let read = served_at limits k es own c.self.invariant.served there in
     subst (λ (rs : List Entry). AreLines limits rs (get eqb new) (hash_map_len new)) (sym (c.get_mut.follows.holds w).0)
     (kept_shut limits k c.in-Some-up.key es own w (get eqb ups) (get eqb new) (hash_map_len ups) (hash_map_len new) c.self.invariant there
-    (ap (λ (x : Line). x.conn) c.shut.ensures.line) (c.shut.ensures.limit ∙ read.0, c.shut.ensures.failed)
-    (sym c.key-up.ensures ∙ c.in-Some-up.is) (ap (λ (x : Line). key_on x.stage) c.shut.ensures.line) c.note_down.ensures.found c.note_down.ensures.len)
+    (ap (λ (x : Line). x.conn) c.shut-stage.ensures.line) (c.shut-stage.ensures.limit ∙ read.0, c.shut-stage.ensures.failed)
+    (sym c.key-up.ensures ∙ c.in-Some-up.is) (ap (λ (x : Line). key_on x.stage) c.shut-stage.ensures.line) c.note_down.ensures.found c.note_down.ensures.len)
 
 pub invariant_of-self-in_default-up : goal.invariant_of-self-in_default-up
 invariant_of-self-in_default-up c =
@@ -43,28 +43,48 @@ invariant_of-self-in_default-up c =
     let es = c.self.inside.by_conn.entries in
     let ups = c.self.inside.ups in
     let own = c.in-Some.boxed.now in
-    let w = c.shut.new.self in
+    let w = c.shut-stage.new.self in
     let there = sym c.in-Some.ensures.value in
     let read = served_at limits k es own c.self.invariant.served there in
     subst (λ (rs : List Entry). AreLines limits rs (get eqb ups) (hash_map_len ups)) (sym (c.get_mut.follows.holds w).0)
-    (kept_same limits k es own w (get eqb ups) (hash_map_len ups) c.self.invariant there (ap (λ (x : Line). x.conn) c.shut.ensures.line)
-    (c.shut.ensures.limit ∙ read.0, c.shut.ensures.failed)
-    (ap (λ (x : Line). key_on x.stage) c.shut.ensures.line ∙ sym c.in_default-up.is ∙ c.key-up.ensures))
+    (kept_same limits k es own w (get eqb ups) (hash_map_len ups) c.self.invariant there (ap (λ (x : Line). x.conn) c.shut-stage.ensures.line)
+    (c.shut-stage.ensures.limit ∙ read.0, c.shut-stage.ensures.failed)
+    (ap (λ (x : Line). key_on x.stage) c.shut-stage.ensures.line ∙ sym c.in_default-up.is ∙ c.key-up.ensures))
 
 pub returns-in-Some-up-clause-lines : goal.returns-in-Some-up-clause-lines
 returns-in-Some-up-clause-lines c =
     let es = c.self.inside.by_conn.entries in
     let f : Line → Line = λ x. record x { stage = Shut; held = [] } in
-    let w = c.shut.new.self in
+    let w = c.shut-stage.new.self in
     ap lines_of (c.get_mut.follows.holds w).0
-    ∙ changed f c.args.conn es c.in-Some.boxed.now w (are_named c.self.inside.limits es c.self.invariant.served) c.self.invariant.distinct (sym c.in-Some.ensures.value) c.shut.ensures.line
+    ∙ changed f c.args.conn es c.in-Some.boxed.now w (are_named c.self.inside.limits es c.self.invariant.served) c.self.invariant.distinct (sym c.in-Some.ensures.value) c.shut-stage.ensures.line
     ∙ ap (λ (v : LineTable). with_line f c.args.conn v.lines) c.self.view_is
 
 pub returns-in_default-up-clause-lines : goal.returns-in_default-up-clause-lines
 returns-in_default-up-clause-lines c =
     let es = c.self.inside.by_conn.entries in
     let f : Line → Line = λ x. record x { stage = Shut; held = [] } in
-    let w = c.shut.new.self in
+    let w = c.shut-stage.new.self in
     ap lines_of (c.get_mut.follows.holds w).0
-    ∙ changed f c.args.conn es c.in-Some.boxed.now w (are_named c.self.inside.limits es c.self.invariant.served) c.self.invariant.distinct (sym c.in-Some.ensures.value) c.shut.ensures.line
+    ∙ changed f c.args.conn es c.in-Some.boxed.now w (are_named c.self.inside.limits es c.self.invariant.served) c.self.invariant.distinct (sym c.in-Some.ensures.value) c.shut-stage.ensures.line
     ∙ ap (λ (v : LineTable). with_line f c.args.conn v.lines) c.self.view_is
+
+pub returns-in_default-clause-stage : goal.returns-in_default-clause-stage
+returns-in_default-clause-stage c =
+    let es = c.self.inside.by_conn.entries in
+    sym (unknown_shut c.args.conn (lines_of es) (lacks c.args.conn es (are_named c.self.inside.limits es c.self.invariant.served) c.in_default.ensures.value))
+    ∙ ap (λ (v : LineTable). stage_of c.args.conn v.lines) c.self.view_is
+
+pub returns-in-Some-up-clause-stage : goal.returns-in-Some-up-clause-stage
+returns-in-Some-up-clause-stage c =
+    let es = c.self.inside.by_conn.entries in
+    c.shut-stage.ensures.stage
+    ∙ sym (found_by (λ (x : Line). x.stage) c.args.conn (stage_of c.args.conn) (λ x xs. refl) es c.in-Some.boxed.now (are_named c.self.inside.limits es c.self.invariant.served) (sym c.in-Some.ensures.value))
+    ∙ ap (λ (v : LineTable). stage_of c.args.conn v.lines) c.self.view_is
+
+pub returns-in_default-up-clause-stage : goal.returns-in_default-up-clause-stage
+returns-in_default-up-clause-stage c =
+    let es = c.self.inside.by_conn.entries in
+    c.shut-stage.ensures.stage
+    ∙ sym (found_by (λ (x : Line). x.stage) c.args.conn (stage_of c.args.conn) (λ x xs. refl) es c.in-Some.boxed.now (are_named c.self.inside.limits es c.self.invariant.served) (sym c.in-Some.ensures.value))
+    ∙ ap (λ (v : LineTable). stage_of c.args.conn v.lines) c.self.view_is

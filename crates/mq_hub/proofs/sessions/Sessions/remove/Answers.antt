@@ -2,8 +2,9 @@ use Rattle.std.proofs.Common.{◌∙◌, List, length, sym, ap, subst, arith}
 use Rattle.std.specs.HashMap.{get}
 use Rattle.std.specs.Str.{bytes_eq}
 use Rattle.mq_hub.specs.declared.session.Tenant.{Tenant}
-use Rattle.mq_hub.specs.Sessions.{SessionTable, AreSessions}
-use Rattle.mq_hub.proofs.Tenants.{absent, kept_without, shorter}
+use Rattle.mq_route.specs.Hub.{key_of}
+use Rattle.mq_hub.specs.Sessions.{SessionTable, sessions_of, AreSessions}
+use Rattle.mq_hub.proofs.Tenants.{absent, kept_without, none_taken, shorter}
 use Rattle.mq_hub.proofs.sessions.Sessions.remove.Goals as goal
 
 pub invariant_of-self : goal.invariant_of-self
@@ -35,3 +36,19 @@ returns-clause-room c =
     let capacity = c.take_at.ensures.capacity in
     let spare = c.drop_key.ensures.spare in
     omega arith
+
+pub returns-in_err-tenant-clause-client : goal.returns-in_err-tenant-clause-client
+returns-in_err-tenant-clause-client c =
+    let key = c.args.key in
+    let ts = c.self.inside.tenants.items in
+    let same = ap (λ (v : SessionTable). v.tenants) c.self.view_is in
+    λ n e. ap (λ (rs : List Tenant). key_of n (sessions_of rs)) c.take_at.ensures.tenants
+    ∙ none_taken n key ts c.self.invariant.distinct (ap (λ (rs : List Tenant). key_of n (sessions_of rs)) same ∙ e)
+
+pub returns-clause-client : goal.returns-clause-client
+returns-clause-client c =
+    let key = c.args.key in
+    let ts = c.self.inside.tenants.items in
+    let same = ap (λ (v : SessionTable). v.tenants) c.self.view_is in
+    λ n e. ap (λ (rs : List Tenant). key_of n (sessions_of rs)) c.take_at.ensures.tenants
+    ∙ none_taken n key ts c.self.invariant.distinct (ap (λ (rs : List Tenant). key_of n (sessions_of rs)) same ∙ e)

@@ -11,4 +11,4 @@ returns-clause-goes c = λ config clock next_key t same retained can due.
     shares config clock next_key t c.args.doings.now.acts c.say_all.new.doings.acts s.act s.message s.copies.items old c.place_all.new.sessions.tenants c.keep.new.self.messages
     same (c.keep.ensures.messages ∙ ap (kept s.message) (sym retained)) can due (all_placeable 0 old s.copies.items c.requires.ready)
     c.place_all.ensures.tenants
-    (c.say_all.ensures ∙ ap (λ (did : List Act). did ++ s.acts.items) c.say.ensures.acts ∙ ap (λ (more : List Act). (c.args.doings.now.acts ++ s.act ∷ []) ++ more) c.requires.acts)
+    (c.say_all.ensures.acts ∙ ap (λ (did : List Act). did ++ s.acts.items) c.say.ensures.acts ∙ ap (λ (more : List Act). (c.args.doings.now.acts ++ s.act ∷ []) ++ more) c.requires.acts)

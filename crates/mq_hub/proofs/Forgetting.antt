@@ -1,0 +1,141 @@
+-- A connection on which no client is up is not known any more.
+use Rattle.std.proofs.Common.{◌≡◌, ◌||◌, ℕ, Bool, true, false, not, cond, List, [], ◌∷◌, Some, None, refl, sym, ap, ap₂, subst, ◌∙◌}
+use Rattle.std.proofs.lemmas.Bool.{cond-true, cond-false, or_parts}
+use Rattle.mq_route.specs.declared.act.Act.{Act}
+use Rattle.mq_route.specs.declared.config.HubConfig.{HubConfig}
+use Rattle.mq_route.specs.declared.conn.Conn.{Conn}
+use Rattle.mq_route.specs.declared.event.HubEvent.TheVariants.{Ended}
+use Rattle.mq_route.specs.declared.refusal.HubRefusal.TheVariants as refusals
+use Rattle.mq_route.specs.declared.reply.HubReply.{HubReply}
+use Rattle.mq_route.specs.Hub.{HubState, Line, is_for, is_line, is_open, key_on, knows, stage_of, up_on, without_line}
+use Rattle.mq_route.specs.Step.{HubStep, ended, ended_open}
+use Rattle.mq_route.specs.Work.{begin}
+use Rattle.mq_hub.specs.declared.session.Tenant.{Tenant}
+use Rattle.mq_hub.specs.Does.{GoesBy}
+use Rattle.mq_hub.specs.Keeps.{AreApart, HubKeeps, IsHoused, IsQuiet, stage_for}
+use Rattle.mq_hub.specs.Seen.{HubTables, all_seen, hub_of, seen}
+use Rattle.mq_hub.specs.Sessions.{sessions_of}
+use Rattle.mq_hub.proofs.Changing.{rest_unknown}
+use Rattle.mq_hub.proofs.Connections.{not_taken}
+use Rattle.mq_hub.proofs.Keeping.{all_seated_same, kept_by}
+use Rattle.mq_hub.proofs.ShareKeeps.{all_filtered}
+use Rattle.mq_hub.proofs.Shutting.{not_up}
+
+module _ (k : Conn) where
+  less_true : (x : Line) (xs : List Line) → is_line k x ≡ true → without_line k (x ∷ xs) ≡ without_line k xs
+  less_true x xs same = rw same refl
+
+  less_false : (x : Line) (xs : List Line) → is_line k x ≡ false → without_line k (x ∷ xs) ≡ x ∷ without_line k xs
+  less_false x xs differ = rw differ refl
+
+  seen_forgotten : (ts : List Tenant) (xs : List Line) → all_seen ts (without_line k xs) ≡ without_line k (all_seen ts xs)
+  seen_forgotten ts [] = refl
+  seen_forgotten ts (x ∷ xs) = go (is_line k x) refl (seen_forgotten ts xs)
+    where
+      go : (b : Bool) → is_line k x ≡ b → all_seen ts (without_line k xs) ≡ without_line k (all_seen ts xs)
+          → all_seen ts (without_line k (x ∷ xs)) ≡ without_line k (all_seen ts (x ∷ xs))
+      go true same rest = ap (all_seen ts) (less_true x xs same) ∙ rest ∙ sym (less_true (seen ts x) (all_seen ts xs) same)
+      go false differ rest =
+          ap (all_seen ts) (less_false x xs differ) ∙ ap (λ (ys : List Line). seen ts x ∷ ys) rest ∙ sym (less_false (seen ts x) (all_seen ts xs) differ)
+
+  still_unknown : (n : Conn) (xs : List Line) → knows n xs ≡ false → knows n (without_line k xs) ≡ false
+  still_unknown n [] none = refl
+  still_unknown n (x ∷ xs) none = go (is_line k x) refl (still_unknown n xs)
+    where
+      go : (b : Bool) → is_line k x ≡ b → (knows n xs ≡ false → knows n (without_line k xs) ≡ false) → knows n (without_line k (x ∷ xs)) ≡ false
+      go true same rest = ap (knows n) (less_true x xs same) ∙ rest (or_parts (is_line n x) (knows n xs) none).1
+      go false differ rest =
+          let p = or_parts (is_line n x) (knows n xs) none in
+          ap (knows n) (less_false x xs differ) ∙ ap₂ (λ (a b : Bool). a || b) p.0 (rest p.1)
+
+  -- what is looked up by a client is as before
+  module _ {X : Type 0} (c : ℕ) (p : Line → X) (g : List Line → X)
+      (step : (x : Line) (xs : List Line) → g (x ∷ xs) ≡ cond (is_for c x.stage) (p x) (g xs)) where
+    found_less : (xs : List Line) → AreApart xs → key_on (stage_of k xs) ≡ None → g (without_line k xs) ≡ g xs
+    found_less [] apart idle = refl
+    found_less (x ∷ xs) apart idle = go (is_line k x) refl (found_less xs apart.2)
+      where
+        go : (b : Bool) → is_line k x ≡ b → (key_on (stage_of k xs) ≡ None → g (without_line k xs) ≡ g xs) → g (without_line k (x ∷ xs)) ≡ g (x ∷ xs)
+        go true same rest =
+            let down : is_for c x.stage ≡ false = not_up x.stage c (ap key_on (sym (cond-true (is_line k x) x.stage (stage_of k xs) same)) ∙ idle) in
+            ap g (less_true x xs same) ∙ ap g (not_taken k xs (rest_unknown k x xs same apart.0))
+            ∙ sym (cond-false (is_for c x.stage) (p x) (g xs) down) ∙ sym (step x xs)
+        go false differ rest =
+            ap g (less_false x xs differ) ∙ step x (without_line k xs)
+            ∙ ap (λ (v : X). cond (is_for c x.stage) (p x) v) (rest (ap key_on (sym (cond-false (is_line k x) x.stage (stage_of k xs) differ)) ∙ idle))
+            ∙ sym (step x xs)
+
+  up_less : (c : ℕ) (xs : List Line) → AreApart xs → key_on (stage_of k xs) ≡ None → up_on c (without_line k xs) ≡ up_on c xs
+  up_less c = found_less c (λ (x : Line). Some x.conn) (up_on c) (λ x xs. refl)
+
+  stage_less : (c : ℕ) (xs : List Line) → AreApart xs → key_on (stage_of k xs) ≡ None → stage_for c (without_line k xs) ≡ stage_for c xs
+  stage_less c = found_less c (λ (x : Line). x.stage) (stage_for c) (λ x xs. refl)
+
+  apart_less : (xs : List Line) → AreApart xs → key_on (stage_of k xs) ≡ None → AreApart (without_line k xs)
+  apart_less [] apart idle = tt
+  apart_less (x ∷ xs) apart idle = go (is_line k x) refl (apart_less xs apart.2)
+    where
+      go : (b : Bool) → is_line k x ≡ b → (key_on (stage_of k xs) ≡ None → AreApart (without_line k xs)) → AreApart (without_line k (x ∷ xs))
+      go true same rest =
+          subst AreApart (sym (less_true x xs same ∙ not_taken k xs (rest_unknown k x xs same apart.0))) apart.2
+      go false differ rest =
+          let later : key_on (stage_of k xs) ≡ None = ap key_on (sym (cond-false (is_line k x) x.stage (stage_of k xs) differ)) ∙ idle in
+          subst AreApart (sym (less_false x xs differ)) (still_unknown x.conn xs apart.0, λ c e. up_less c xs apart.2 later ∙ apart.1 c e, rest later)
+
+  module _ (config : HubConfig) (next : ℕ) (t u : HubTables) (kept : HubKeeps config next t) (idle : key_on (stage_of k t.lines.lines) ≡ None)
+      (rows : u.rows ≡ t.rows)
+      (retained : u.retained.messages ≡ t.retained.messages) (tenants : u.sessions.tenants ≡ t.sessions.tenants)
+      (lines : u.lines.lines ≡ without_line k t.lines.lines) where
+    pub kept_forgotten : u.lines.limits ≡ t.lines.limits → HubKeeps config next u
+    kept_forgotten limits =
+        let ts = t.sessions.tenants in
+        let xs = t.lines.lines in
+        let ys = without_line k xs in
+        let v : HubTables = record t { lines = record t.lines { lines = ys } } in
+        let w : HubKeeps config next v = record {
+          capacity = kept.capacity;
+          window = kept.window;
+          limits = kept.limits;
+          apart = apart_less xs kept.apart idle;
+          quiet = all_filtered (λ y. IsQuiet y.stage y.waiting) (λ x. not (is_line k x)) xs kept.quiet;
+          housed = all_filtered (λ y. IsHoused config.limits.most ts y.stage) (λ x. not (is_line k x)) xs kept.housed;
+          seated = all_seated_same config xs ys (λ c. up_less c xs kept.apart idle) (λ c. stage_less c xs kept.apart idle) ts kept.seated;
+          ascending = kept.ascending;
+          below = kept.below;
+          next = kept.next;
+          owned = kept.owned;
+          retained = kept.retained;
+        } in
+        kept_by config next v u w rows retained tenants lines limits
+
+    pub hub_forgotten : (clock : ℕ)
+        → hub_of config clock next u ≡ record (hub_of config clock next t) { lines = without_line k (all_seen t.sessions.tenants t.lines.lines) }
+    hub_forgotten clock =
+        let ts = t.sessions.tenants in
+        let waits : all_seen u.sessions.tenants u.lines.lines ≡ without_line k (all_seen ts t.lines.lines) =
+        (λ i. all_seen (tenants i) (lines i)) ∙ seen_forgotten ts t.lines.lines in
+        λ i. record {
+          config = config;
+          clock = clock;
+          next_key = next;
+          rows = rows i;
+          retained = retained i;
+          sessions = sessions_of (tenants i);
+          lines = waits i;
+        }
+
+-- ---- the step
+
+-- the event as a whole
+pub ended_step : (k : Conn) (h mid g : HubState) (x y : List Act) (r : HubReply) → knows k h.lines ≡ true → x ≡ []
+    → (fits : Bool) × GoesBy (ended_open k (is_open (stage_of k h.lines)) fits) h x mid y → g ≡ record mid { lines = without_line k mid.lines }
+    → r ≡ record { acts = y; output = []; alive = false } → HubStep h (Ended k) r g
+ended_step k h mid g x y r known none p after says =
+    let hub = p.1.hub (begin h) refl (sym none) in
+    let did = p.1.did (begin h) refl (sym none) in
+    record {
+      right = cond-true (knows k h.lines) None (Some refusals.UnknownConn) known;
+      work = ended k p.0 h;
+      does = (p.0, refl, says ∙ ap (λ (a : List Act). record { acts = a; output = []; alive = false }) (sym did));
+      after = after ∙ ap (λ (m : HubState). record m { lines = without_line k m.lines }) (sym hub);
+    }

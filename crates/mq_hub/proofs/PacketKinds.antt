@@ -1,0 +1,44 @@
+-- A packet of a client that is up, by its kind.
+use Rattle.std.proofs.Common.{◌≡◌, ℕ, ◌≤◌, true, List, length, Some, refl, subst, arith}
+use Rattle.std.specs.Option.{is_some}
+use Rattle.mq_packet.specs.declared.packet.Packet.{Packet}
+use Rattle.mq_packet.specs.declared.packet.Packet.TheVariants as packets
+use Rattle.mq_packet.specs.declared.packet.Request.{Request}
+use Rattle.mq_packet.specs.Publication.{Publication, fits_delivery}
+use Rattle.mq_packet.specs.Spelling.{fields}
+use Rattle.mq_end.specs.SizeLaws.{SizeLaws}
+use Rattle.mq_end.specs.Sizes.{publish_size, subscribe_size, unsuback_size, unsubscribe_size}
+use Rattle.mq_route.specs.declared.conn.Conn.{Conn}
+use Rattle.mq_route.specs.Hub.{Line, key_on, stage_of, up_on}
+use Rattle.mq_hub.specs.Calls.{AsksNothing}
+use Rattle.mq_hub.proofs.Changing.{up_there}
+use Rattle.mq_hub.proofs.Collecting.{is_up_for}
+
+-- the client of a connection that is up for its session is up
+pub up_where : (k : Conn) (key : ℕ) (xs : List Line) → key_on (stage_of k xs) ≡ Some key → is_some (up_on key xs) ≡ true
+up_where k key xs on = let at = is_up_for key (stage_of k xs) on in up_there k key at.terms at.moment xs at.is
+
+-- a packet of another kind asks nothing
+pub asks_nothing : (p : Packet) → ((a : Publication) → p ≡ packets.Publish a → ⊥) → ((i : ℕ) (rs : List Request) → p ≡ packets.Subscribe i rs → ⊥)
+    → ((i : ℕ) (fs : List (List ℕ)) → p ≡ packets.Unsubscribe i fs → ⊥) → AsksNothing p
+asks_nothing (packets.Publish a) n s u = n a refl
+asks_nothing (packets.Subscribe i rs) n s u = s i rs refl
+asks_nothing (packets.Unsubscribe i fs) n s u = u i fs refl
+asks_nothing p n s u = tt
+
+-- ---- what came within a limit has what it carries, or its answer, within it
+
+module _ (sizes : SizeLaws) (most : ℕ) (p : Packet) (within : length (fields p) ≤ most) where
+  as_is : (q : Packet) → p ≡ q → length (fields q) ≤ most
+  as_is q is = subst (λ (r : Packet). length (fields r) ≤ most) is within
+
+  pub publish_within : (a : Publication) → p ≡ packets.Publish a → fits_delivery a.message.qos a.delivery ≡ true → publish_size a.message ≤ most
+  publish_within a is fits = subst (λ (n : ℕ). n ≤ most) (sizes.publish a.message a.delivery fits) (as_is (packets.Publish a) is)
+
+  pub subscribe_within : (i : ℕ) (rs : List Request) → p ≡ packets.Subscribe i rs → subscribe_size rs ≤ most
+  subscribe_within i rs is = subst (λ (n : ℕ). n ≤ most) (sizes.subscribe i rs) (as_is (packets.Subscribe i rs) is)
+
+  pub unsuback_within : (i : ℕ) (fs : List (List ℕ)) → p ≡ packets.Unsubscribe i fs → unsuback_size ≤ most
+  unsuback_within i fs is =
+      let all : unsubscribe_size fs ≤ most = subst (λ (n : ℕ). n ≤ most) (sizes.unsubscribe i fs) (as_is (packets.Unsubscribe i fs) is) in
+      omega (arith, all)

@@ -1,0 +1,141 @@
+-- Bytes that come on a connection, packet by packet.
+use Rattle.std.proofs.Common.{◌≡◌, ℕ, ◌+◌, ◌<◌, ◌≤◌, Bool, true, false, List, [], ◌∷◌, ◌++◌, length, take, drop, Option, Some, None, refl, sym, ap}
+use Rattle.std.proofs.Common.{subst, ◌∙◌, arith, true≢false}
+use Rattle.std.proofs.lemmas.Bool.{cond-true}
+use Rattle.std.proofs.lemmas.List.{append_assoc, length-append, take-append-drop}
+use Rattle.mq_packet.specs.declared.packet.Packet.{Packet}
+use Rattle.mq_packet.specs.Spelling.{fields, first_byte}
+use Rattle.mq_decode.specs.declared.fault.DecodeFault.{DecodeFault}
+use Rattle.mq_decode.specs.declared.fault.FaultKind.{FaultKind}
+use Rattle.mq_decode.specs.Grammar.{Faulty, AtFirst, AtLength, AtSize, AtField, Pending, Reads, ReadsWithin}
+use Rattle.mq_decode.specs.Limits.{Bounds}
+use Rattle.mq_end.specs.declared.reason.CloseReason.TheVariants as reasons
+use Rattle.mq_route.specs.declared.act.Act.{Act}
+use Rattle.mq_route.specs.declared.close.HubClose.TheVariants.{Own}
+use Rattle.mq_route.specs.declared.conn.Conn.{Conn}
+use Rattle.mq_route.specs.declared.event.HubEvent.TheVariants.{Bytes}
+use Rattle.mq_route.specs.declared.refusal.HubRefusal.{HubRefusal}
+use Rattle.mq_route.specs.declared.refusal.HubRefusal.TheVariants as refusals
+use Rattle.mq_route.specs.declared.reply.HubReply.{HubReply}
+use Rattle.mq_route.specs.Arrives.{breaks, takes}
+use Rattle.mq_route.specs.Hub.{HubState, Line, held_on, is_open, knows, stage_of}
+use Rattle.mq_route.specs.Step.{Comes, Arrives, Waits, Breaks, Starves, LetsGo, HubStep, holding}
+use Rattle.mq_route.specs.Work.{Work, begin, close}
+use Rattle.mq_hub.specs.Coming.{Came, ComesBy, TakenBy, with_held}
+use Rattle.mq_hub.specs.Does.{GoesBy}
+use Rattle.mq_hub.proofs.Connections.{unknown_shut}
+
+-- what comes from here on comes of all that came
+abbrev pub LeadsOn : Bounds → Conn → List ℕ → HubState → List Act → List ℕ → HubState → List Act → Type 0
+LeadsOn limits k all old said left new says = (end : HubState) (ends : List Act) → ComesBy limits k left new says end ends
+    → ComesBy limits k all old said end ends
+
+-- a packet has a byte at least
+some_bytes : (lenient : Bool) (p : Packet) (b : List ℕ) → Reads lenient p b → 0 < length b
+some_bytes false p b reads = let w : length b ≡ length (first_byte p ∷ reads.len ++ fields p) = ap length reads.bytes in omega (arith, w)
+some_bytes true p b reads = let w : length b ≡ length (first_byte p ∷ reads.len ++ fields p) = ap length reads.bytes in omega (arith, w)
+
+-- so less is left behind one
+pub less_left : (limits : Bounds) (k : Conn) (held rest : List ℕ) (used : ℕ) (old new : HubState) (said says : List Act)
+    → TakenBy limits k held rest used old said new says → 0 < length held + length (take used rest)
+less_left limits k held rest used old new said says taken =
+    let w = some_bytes limits.lenient taken.packet (held ++ take used rest) taken.reads.0 in
+    let v = length-append held (take used rest) in
+    omega (arith, w, v)
+
+-- what is no packet has a byte at least
+pub faulty_some : (limits : Bounds) (b : List ℕ) (kind : FaultKind) (place : ℕ) → Faulty limits b kind place → 0 < length b
+faulty_some limits b kind place (AtFirst f) = let w : length b ≡ length (f.first ∷ f.rest) = ap length f.bytes in omega (arith, w)
+faulty_some limits b kind place (AtLength f) = let w : length b ≡ length (f.first ∷ f.rest) = ap length f.bytes in omega (arith, w)
+faulty_some limits b kind place (AtSize f) = let w : length b ≡ length (f.first ∷ f.len ++ f.rest) = ap length f.bytes in omega (arith, w)
+faulty_some limits b kind place (AtField f) = let w : length b ≡ length (f.first ∷ f.len ++ (f.body ++ f.rest)) = ap length f.bytes in omega (arith, w)
+
+module _ (limits : Bounds) (k : Conn) where
+  open_so_far : (h : HubState) (w : Work) → w.hub ≡ h → is_open (stage_of k h.lines) ≡ true → is_open (stage_of k w.hub.lines) ≡ true
+  open_so_far h w e is_on = ap (λ (x : HubState). is_open (stage_of k x.lines)) e ∙ is_on
+
+  parts : (held rest : List ℕ) (used : ℕ) → (held ++ take used rest) ++ drop used rest ≡ held ++ rest
+  parts held rest used = append_assoc held (take used rest) (drop used rest) ∙ ap (λ (b : List ℕ). held ++ b) (take-append-drop used rest)
+
+  -- a packet came, and then what is left
+  pub arrives_by : (held rest : List ℕ) (used : ℕ) (old new end : HubState) (said says ends : List Act) → is_open (stage_of k old.lines) ≡ true
+      → TakenBy limits k held rest used old said new says → ComesBy limits k (drop used rest) new says end ends
+      → ComesBy limits k (held ++ rest) old said end ends
+  arrives_by held rest used old new end said says ends is_on t later = λ w e f.
+      let v : Work = takes k t.packet t.growth w in
+      let c = later v (t.goes.hub w e f) (t.goes.did w e f) in
+      let all = held ++ take used rest in
+      subst (λ (b : List ℕ). Came limits k b w end ends) (parts held rest used) (record {
+        after = c.after;
+        comes = Arrives t.packet all (drop used rest) t.growth w c.after (open_so_far old w e is_on) t.reads c.comes;
+        hub = c.hub;
+        did = c.did;
+      })
+
+  -- they are less than a packet, and are held
+  pub waits_by : (b : List ℕ) (old : HubState) (said : List Act) → is_open (stage_of k old.lines) ≡ true → Pending limits b
+      → ComesBy limits k b old said (with_held k b old) said
+  waits_by b old said is_on pending = λ w e f. record {
+    after = holding k b w;
+    comes = Waits b w (open_so_far old w e is_on) pending;
+    hub = ap (with_held k b) e;
+    did = f;
+  }
+
+  -- they begin with what is no packet
+  pub breaks_by : (b : List ℕ) (fault : DecodeFault) (fits : Bool) (old new : HubState) (said says : List Act) → is_open (stage_of k old.lines) ≡ true
+      → Faulty limits b fault.kind fault.place → GoesBy (breaks k fault fits) old said new says → ComesBy limits k b old said new says
+  breaks_by b fault fits old new said says is_on faulty goes = λ w e f. record {
+    after = breaks k fault fits w;
+    comes = Breaks b fault fits w (open_so_far old w e is_on) faulty;
+    hub = goes.hub w e f;
+    did = goes.did w e f;
+  }
+
+  -- there is no memory for them
+  pub starves_by : (b : List ℕ) (fits : Bool) (old new : HubState) (said says : List Act) → is_open (stage_of k old.lines) ≡ true → 0 < length b
+      → GoesBy (close k (Own reasons.Memory) fits) old said new says → ComesBy limits k b old said new says
+  starves_by b fits old new said says is_on some goes = λ w e f. record {
+    after = close k (Own reasons.Memory) fits w;
+    comes = Starves b fits w (open_so_far old w e is_on) some;
+    hub = goes.hub w e f;
+    did = goes.did w e f;
+  }
+
+  -- the connection is closed, and lets them go
+  pub lets_go_by : (b : List ℕ) (old : HubState) (said : List Act) → is_open (stage_of k old.lines) ≡ false → ComesBy limits k b old said old said
+  lets_go_by b old said closed = λ w e f. record {
+    after = w;
+    comes = LetsGo b w (ap (λ (x : HubState). is_open (stage_of k x.lines)) e ∙ closed);
+    hub = e;
+    did = f;
+  }
+
+-- ---- the step
+
+-- a connection that is open is known
+pub open_known : (k : Conn) (xs : List Line) → is_open (stage_of k xs) ≡ true → knows k xs ≡ true
+open_known k xs is_on = go (knows k xs) refl
+  where
+    go : (b : Bool) → knows k xs ≡ b → knows k xs ≡ true
+    go true e = e
+    go false e = absurd (true≢false (sym is_on ∙ ap is_open (unknown_shut k xs e)))
+
+-- what comes of the bytes that a connection held and those that came is the step of these
+pub received_by : (h mid new : HubState) (k : Conn) (piece b : List ℕ) (limits : Bounds) (said says : List Act) (r : HubReply) → knows k h.lines ≡ true
+    → mid ≡ with_held k [] h → said ≡ [] → b ≡ held_on k h.lines ++ piece → limits ≡ h.config.limits → ComesBy limits k b mid said new says
+    → r ≡ record { acts = says; output = []; alive = is_open (stage_of k new.lines) } → HubStep h (Bytes k piece) r new
+received_by h mid new k piece b limits said says r known mid_is said_is bytes same comes reply =
+    let w : Work = holding k [] (begin h) in
+    let came : Came h.config.limits k (held_on k h.lines ++ piece) w new says =
+    subst (λ (l : Bounds). Came l k (held_on k h.lines ++ piece) w new says) same
+    (subst (λ (x : List ℕ). Came limits k x w new says) bytes (comes w (sym mid_is) (sym said_is))) in
+    record {
+      right = cond-true (knows k h.lines) None (Some refusals.UnknownConn) known;
+      work = came.after;
+      does = (
+        came.comes,
+        reply ∙ λ i. record { acts = sym came.did i; output = []; alive = is_open (stage_of k (sym came.hub i).lines) },
+      );
+      after = sym came.hub;
+    }

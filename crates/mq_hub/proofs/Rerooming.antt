@@ -1,0 +1,165 @@
+-- What a broker keeps true, and what is seen of it, where its sessions have other room, or it has other rows.
+use Rattle.std.proofs.Common.{◌≡◌, ℕ, ◌<◌, Bool, true, false, not, cond, List, [], ◌∷◌, ◌++◌, map, Option, Some, None, refl, sym, ap, ap₂, subst, ◌∙◌, append_assoc, append-nil, eqb}
+use Rattle.std.specs.FinMap.{put}
+use Rattle.std.specs.FinMap.Entries.{by_order}
+use Rattle.std.specs.List.{AllByRecursion}
+use Rattle.std.specs.Option.{is_some}
+use Rattle.std.specs.declared.cmp.Ordering.{Ordering}
+use Rattle.std.specs.declared.cmp.Ordering.TheVariants.{Less, Equal, Greater}
+use Rattle.mq_topic.specs.declared.qos.Qos.{Qos}
+use Rattle.mq_topic.specs.Rows.{Row, is_key, key_cmp, with_row, without_row}
+use Rattle.mq_packet.specs.declared.packet.Request.{Request}
+use Rattle.mq_end.specs.declared.state.State.{State}
+use Rattle.mq_end.specs.declared.state.State.TheVariants.{Closed, Up}
+use Rattle.mq_end.specs.End.{End}
+use Rattle.mq_route.specs.declared.act.Act.{Act}
+use Rattle.mq_route.specs.declared.act.Act.TheVariants as acts
+use Rattle.mq_route.specs.declared.config.HubConfig.{HubConfig}
+use Rattle.mq_route.specs.declared.conn.Conn.{Conn}
+use Rattle.mq_route.specs.declared.stage.Stage.{Stage}
+use Rattle.mq_route.specs.declared.stage.Stage.TheVariants.{Fresh, UpFor, Shut}
+use Rattle.mq_route.specs.Hub.{HubState, Line, is_clean, up_on}
+use Rattle.mq_route.specs.Work.{Work, does, subscribed, unsubscribed}
+use Rattle.mq_hub.specs.declared.call.Call.{Call}
+use Rattle.mq_hub.specs.declared.session.Tenant.{Tenant}
+use Rattle.mq_hub.specs.Answers.{AreAlike, Answers}
+use Rattle.mq_hub.specs.Calls.{reply_of}
+use Rattle.mq_hub.specs.Does.{GoesBy}
+use Rattle.mq_hub.specs.Keeps.{HubKeeps, IsHoused, IsSeated, Stands, stage_for}
+use Rattle.mq_hub.specs.Lines.{LineTable}
+use Rattle.mq_hub.specs.Retained.{RetainedTable}
+use Rattle.mq_hub.specs.Placing.{AreSameButRoom, roomless, with_tenants}
+use Rattle.mq_hub.specs.Seen.{HubTables, all_seen, hub_of, output_of, seen, waiting_by}
+use Rattle.mq_hub.specs.Sessions.{sessions_of, tenant_of, with_server, AreAscending, AreBelow}
+use Rattle.mq_hub.specs.Subscribing.{subscribed_acts, unsubscribed_acts, with_rows, without_rows}
+use Rattle.mq_hub.proofs.Keeping.{kept_by}
+use Rattle.mq_hub.proofs.Readiness.{all_there, key_there, same_sessions}
+use Rattle.mq_hub.proofs.Replying.{Stays, kept_replied, replied_goes}
+
+-- ---- other room
+
+first : (n o : Tenant) (new old : List Tenant) → roomless n ∷ map roomless new ≡ roomless o ∷ map roomless old → roomless n ≡ roomless o
+first n o new old e = cc
+
+later : (n o : Tenant) (new old : List Tenant) → roomless n ∷ map roomless new ≡ roomless o ∷ map roomless old → map roomless new ≡ map roomless old
+later n o new old e = cc
+
+alike_all : (P : Tenant → Type 0) → ((o n : Tenant) → roomless n ≡ roomless o → P o → P n) → (old new : List Tenant) → AreSameButRoom old new → AllByRecursion P old → AllByRecursion P new
+alike_all P one [] [] same all = tt
+alike_all P one [] (n ∷ new) same all = absurd cc
+alike_all P one (o ∷ old) [] same all = absurd cc
+alike_all P one (o ∷ old) (n ∷ new) same all = (one o n (first n o new old same) all.0, alike_all P one old new (later n o new old same) all.1)
+
+alike_key : (n o : Tenant) → roomless n ≡ roomless o → n.key ≡ o.key
+alike_key n o e = ap (λ (x : Tenant). x.key) e
+
+alike_ascending : (old new : List Tenant) → AreSameButRoom old new → AreAscending old → AreAscending new
+alike_ascending [] [] same up = tt
+alike_ascending [] (n ∷ new) same up = absurd cc
+alike_ascending (o ∷ old) [] same up = absurd cc
+alike_ascending (o ∷ old) (n ∷ new) same up =
+    let rest = later n o new old same in
+    let key = alike_key n o (first n o new old same) in (
+      subst (λ (k : ℕ). AllByRecursion (λ s. k < s.key) new) (sym key)
+          (alike_all (λ s. o.key < s.key) (λ a b e l. subst (λ (k : ℕ). o.key < k) (sym (alike_key b a e)) l) old new rest up.0),
+      alike_ascending old new rest up.1,
+    )
+
+alike_found : (c : ℕ) (old new : List Tenant) → AreSameButRoom old new → is_some (tenant_of c new) ≡ is_some (tenant_of c old)
+alike_found c [] [] same = refl
+alike_found c [] (n ∷ new) same = absurd cc
+alike_found c (o ∷ old) [] same = absurd cc
+alike_found c (o ∷ old) (n ∷ new) same =
+    go (eqb n.key c) (eqb o.key c) (ap (λ (k : ℕ). eqb k c) (alike_key n o (first n o new old same))) (alike_found c old new (later n o new old same))
+  where
+    go : (a b : Bool) → a ≡ b → is_some (tenant_of c new) ≡ is_some (tenant_of c old) → is_some (cond a (Some n) (tenant_of c new)) ≡ is_some (cond b (Some o) (tenant_of c old))
+    go true true e rest = refl
+    go false false e rest = rest
+    go true false e rest = absurd cc
+    go false true e rest = absurd cc
+
+alike_output : (c : ℕ) (old new : List Tenant) → AreSameButRoom old new → output_of c new ≡ output_of c old
+alike_output c [] [] same = refl
+alike_output c [] (n ∷ new) same = absurd cc
+alike_output c (o ∷ old) [] same = absurd cc
+alike_output c (o ∷ old) (n ∷ new) same =
+    let here = first n o new old same in
+    let rest = alike_output c old new (later n o new old same) in
+    λ i. cond (eqb (here i).key c) (here i).end.output (rest i)
+
+pub alike_seen : (old new : List Tenant) → AreSameButRoom old new → (xs : List Line) → all_seen new xs ≡ all_seen old xs
+alike_seen old new same [] = refl
+alike_seen old new same (x ∷ xs) =
+    ap₂ (λ (b : List ℕ) (ls : List Line). record x { waiting = b } ∷ ls) (of x.stage) (alike_seen old new same xs)
+  where
+    of : (s : Stage) → waiting_by s new x.waiting ≡ waiting_by s old x.waiting
+    of Fresh = refl
+    of (UpFor c terms moment) = alike_output c old new same
+    of Shut = refl
+
+alike_seat : (config : HubConfig) (xs : List Line) (o n : Tenant) → roomless n ≡ roomless o → IsSeated config xs o → IsSeated config xs n
+alike_seat config xs o n e seat = record {
+  capacity = ap (λ (x : Tenant). x.end.capacity) e ∙ seat.capacity;
+  limit = ap (λ (x : Tenant). x.end.limit) e ∙ seat.limit;
+  window = ap (λ (x : Tenant). x.end.end.window) e ∙ seat.window;
+  known = ap (λ (x : Tenant). x.end.end.known) e ∙ seat.known;
+  state = ap (λ (x : Tenant). x.end.end.state) e ∙ seat.state ∙ ap (λ (k : ℕ). cond (is_some (up_on k xs)) Up Closed) (sym (alike_key n o e));
+  clean = ap (λ (x : Tenant). x.end.end.clean) e ∙ seat.clean ∙ ap (λ (x : Tenant). is_clean (stage_for x.key xs)) (sym e);
+  away = λ none. ap (λ (x : Tenant). x.end.output) e ∙ seat.away (ap (λ (k : ℕ). up_on k xs) (sym (alike_key n o e)) ∙ none);
+}
+
+alike_housed : (most : ℕ) (old new : List Tenant) → AreSameButRoom old new → (xs : List Line) → AllByRecursion (λ x. IsHoused most old x.stage) xs → AllByRecursion (λ x. IsHoused most new x.stage) xs
+alike_housed most old new same [] all = tt
+alike_housed most old new same (x ∷ xs) all = (of x.stage all.0, alike_housed most old new same xs all.1)
+  where
+    of : (s : Stage) → IsHoused most old s → IsHoused most new s
+    of Fresh housed = tt
+    of (UpFor c terms moment) housed = (alike_found c old new same ∙ housed.0, housed.1)
+    of Shut housed = tt
+
+pub alike_owned : (old new : List Tenant) → AreSameButRoom old new → (rs : List Row) → AllByRecursion (λ r. Stands old r.0.0) rs → AllByRecursion (λ r. Stands new r.0.0) rs
+alike_owned old new same [] all = tt
+alike_owned old new same (r ∷ rs) all = (alike_found r.0.0 old new same ∙ all.0, alike_owned old new same rs all.1)
+
+-- ---- the broker with other room, and with other rows
+
+module _ (config : HubConfig) (next : ℕ) (t : HubTables) (kept : HubKeeps config next t) where
+  pub kept_ready : (ts : List Tenant) → AreSameButRoom t.sessions.tenants ts → (rows : List Row) → AllByRecursion (λ r. Stands t.sessions.tenants r.0.0) rows
+      → HubKeeps config next (record t { rows = rows; sessions = record t.sessions { tenants = ts } })
+  kept_ready ts same rows owned =
+      let old = t.sessions.tenants in
+      let xs = t.lines.lines in record {
+        capacity = kept.capacity;
+        window = kept.window;
+        limits = kept.limits;
+        apart = kept.apart;
+        quiet = kept.quiet;
+        housed = alike_housed config.limits.most old ts same xs kept.housed;
+        seated = alike_all (IsSeated config xs) (alike_seat config xs) old ts same kept.seated;
+        ascending = alike_ascending old ts same kept.ascending;
+        below = alike_all (λ s. s.key < next) (λ a b e l. subst (λ (k : ℕ). k < next) (sym (alike_key b a e)) l) old ts same kept.below;
+        next = kept.next;
+        owned = alike_owned old ts same rows owned;
+        retained = kept.retained;
+      }
+
+  pub kept_alike : (u : HubTables) → AreAlike t u → HubKeeps config next u
+  kept_alike u a =
+      let v : HubTables = record t { rows = t.rows; sessions = record t.sessions { tenants = u.sessions.tenants } } in
+      kept_by config next v u (kept_ready u.sessions.tenants a.sessions t.rows kept.owned) a.rows (ap (λ (r : RetainedTable). r.messages) a.retained) refl
+      (ap (λ (l : LineTable). l.lines) a.lines) (ap (λ (l : LineTable). l.limits) a.lines)
+
+  pub hub_alike : (clock : ℕ) (u : HubTables) → AreAlike t u → hub_of config clock next u ≡ hub_of config clock next t
+  hub_alike clock u a =
+      let sessions = same_sessions t.sessions.tenants u.sessions.tenants a.sessions in
+      let waits : all_seen u.sessions.tenants u.lines.lines ≡ all_seen t.sessions.tenants t.lines.lines =
+      ap (λ (l : LineTable). all_seen u.sessions.tenants l.lines) a.lines ∙ alike_seen t.sessions.tenants u.sessions.tenants a.sessions t.lines.lines in
+      λ i. record {
+        config = config;
+        clock = clock;
+        next_key = next;
+        rows = a.rows i;
+        retained = (a.retained i).messages;
+        sessions = sessions i;
+        lines = waits i;
+      }

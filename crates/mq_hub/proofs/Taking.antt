@@ -1,0 +1,117 @@
+-- A packet that comes while its client is up.
+use Rattle.std.proofs.Common.{◌≡◌, ◌&&◌, ℕ, Bool, true, false, cond, List, [], ◌∷◌, ◌++◌, Option, Some, None, Result, Ok, Err, IfOk, OnOk, OnErr, refl, sym, ap, ap₂, subst, ◌∙◌, append-nil, true≢false}
+use Rattle.std.specs.Prelude.{option_to_list}
+use Rattle.std.specs.declared.alloc.AllocError.{AllocError}
+use Rattle.std.proofs.lemmas.Bool.{cond-true, cond-false}
+use Rattle.std.specs.List.{AllByRecursion}
+use Rattle.mq_topic.specs.Rows.{Row}
+use Rattle.mq_packet.specs.declared.message.Message.{Message}
+use Rattle.mq_packet.specs.declared.packet.Packet.{Packet}
+use Rattle.mq_packet.specs.declared.packet.Packet.TheVariants as packets
+use Rattle.mq_packet.specs.Spelling.{spellings}
+use Rattle.mq_end.specs.declared.happening.Happening.{Happening}
+use Rattle.mq_end.specs.declared.happening.Happening.TheVariants as happens
+use Rattle.mq_end.specs.declared.outcome.Outcome.{Outcome}
+use Rattle.mq_end.specs.declared.reason.CloseReason.{CloseReason}
+use Rattle.mq_end.specs.declared.state.State.{State}
+use Rattle.mq_end.specs.declared.state.State.TheVariants.{Closed, Up}
+use Rattle.mq_end.specs.End.{End, Reply}
+use Rattle.mq_end.specs.Server.{server_gets}
+use Rattle.mq_route.specs.declared.act.Act.{Act}
+use Rattle.mq_route.specs.declared.close.HubClose.TheVariants.{Own, TargetFull}
+use Rattle.mq_route.specs.declared.config.HubConfig.{HubConfig}
+use Rattle.mq_route.specs.declared.conn.Conn.{Conn}
+use Rattle.mq_route.specs.Arrives.{answers, answers_all, due, due_by, replies, while_up}
+use Rattle.mq_route.specs.Hub.{HubState, end_of, up_on}
+use Rattle.mq_route.specs.Work.{Work, close, does, have_room}
+use Rattle.mq_hub.specs.declared.call.Call.{Call}
+use Rattle.mq_hub.specs.declared.call.Call.TheVariants.{Takes}
+use Rattle.mq_hub.specs.declared.session.Tenant.{Tenant}
+use Rattle.mq_hub.specs.Answers.{Answers}
+use Rattle.mq_hub.specs.Calls.{CanServe, Replies, ServesAt}
+use Rattle.mq_hub.specs.Does.{GoesBy}
+use Rattle.mq_hub.specs.Keeps.{HubKeeps, IsSeated, Stands}
+use Rattle.mq_hub.specs.Placing.{with_tenants}
+use Rattle.mq_hub.specs.Seen.{HubTables, hub_of}
+use Rattle.mq_hub.specs.Sessions.{sessions_of, tenant_of, with_server}
+use Rattle.mq_hub.proofs.Granting.{answered_goes, kept_answered}
+use Rattle.mq_hub.proofs.Readiness.{room_none, same_sessions}
+use Rattle.mq_hub.proofs.Replying.{end_there, packet_stays}
+
+-- ---- what the definition says of a packet at which the end doesn't close
+
+module _ (conn : Conn) (key : ℕ) (p : Packet) (fits : Bool) where
+  -- it tells nothing
+  silent : (w : Work) → (server_gets p (end_of key w.hub.sessions)).close ≡ None → (server_gets p (end_of key w.hub.sessions)).happenings ≡ []
+      → while_up conn key p fits w ≡ does key (server_gets p) w
+  unfolding replies
+  silent w stays tells =
+      ap (λ (o : Option CloseReason). replies conn key (server_gets p) o fits w) stays
+      ∙ ap (λ (hs : List Happening). cond (have_room (due key w.hub hs) w.hub) (answers_all conn key hs (does key (server_gets p) w)) (close conn TargetFull fits w)) tells
+      ∙ cond-true (have_room [] w.hub) (does key (server_gets p) w) (close conn TargetFull fits w) (room_none w.hub)
+
+  -- it tells something, for which there is room
+  telling : (h : Happening) (w : Work) → (server_gets p (end_of key w.hub.sessions)).close ≡ None → (server_gets p (end_of key w.hub.sessions)).happenings ≡ h ∷ []
+      → have_room (due_by key w.hub h) w.hub ≡ true → while_up conn key p fits w ≡ answers conn key h (does key (server_gets p) w)
+  unfolding replies
+  telling h w stays tells room =
+      ap (λ (o : Option CloseReason). replies conn key (server_gets p) o fits w) stays
+      ∙ ap (λ (hs : List Happening). cond (have_room (due key w.hub hs) w.hub) (answers_all conn key hs (does key (server_gets p) w)) (close conn TargetFull fits w)) tells
+      ∙ cond-true (have_room (due key w.hub (h ∷ [])) w.hub) (answers conn key h (does key (server_gets p) w)) (close conn TargetFull fits w)
+      (ap (λ (cs : List (ℕ × Message)). have_room cs w.hub) (append-nil (due_by key w.hub h)) ∙ room)
+
+  -- and a session is too full for what is due
+  full : (h : Happening) (w : Work) → (server_gets p (end_of key w.hub.sessions)).close ≡ None → (server_gets p (end_of key w.hub.sessions)).happenings ≡ h ∷ []
+      → have_room (due_by key w.hub h) w.hub ≡ false → while_up conn key p fits w ≡ close conn TargetFull fits w
+  unfolding replies
+  full h w stays tells room =
+      ap (λ (o : Option CloseReason). replies conn key (server_gets p) o fits w) stays
+      ∙ ap (λ (hs : List Happening). cond (have_room (due key w.hub hs) w.hub) (answers_all conn key hs (does key (server_gets p) w)) (close conn TargetFull fits w)) tells
+      ∙ cond-false (have_room (due key w.hub (h ∷ [])) w.hub) (answers conn key h (does key (server_gets p) w)) (close conn TargetFull fits w)
+      (ap (λ (cs : List (ℕ × Message)). have_room cs w.hub) (append-nil (due_by key w.hub h)) ∙ room)
+
+  module _ (old new : HubState) (did says : List Act) (stays : (server_gets p (end_of key old.sessions)).close ≡ None) where
+    stays_at : (w : Work) → w.hub ≡ old → (server_gets p (end_of key w.hub.sessions)).close ≡ None
+    stays_at w at = ap (λ (h : HubState). (server_gets p (end_of key h.sessions)).close) at ∙ stays
+
+    pub silent_goes : (server_gets p (end_of key old.sessions)).happenings ≡ [] → GoesBy (does key (server_gets p)) old did new says → GoesBy (while_up conn key p fits) old did new says
+    silent_goes tells goes =
+        let is : (w : Work) → w.hub ≡ old → while_up conn key p fits w ≡ does key (server_gets p) w =
+        λ w at. silent w (stays_at w at) (ap (λ (h : HubState). (server_gets p (end_of key h.sessions)).happenings) at ∙ tells) in record {
+          hub = λ w at said. ap (λ (v : Work). v.hub) (is w at) ∙ goes.hub w at said;
+          did = λ w at said. ap (λ (v : Work). v.did) (is w at) ∙ goes.did w at said;
+        }
+
+    pub telling_goes : (h : Happening) → (server_gets p (end_of key old.sessions)).happenings ≡ h ∷ [] → have_room (due_by key old h) old ≡ true
+        → GoesBy (λ w. answers conn key h (does key (server_gets p) w)) old did new says → GoesBy (while_up conn key p fits) old did new says
+    telling_goes h tells room goes =
+        let is : (w : Work) → w.hub ≡ old → while_up conn key p fits w ≡ answers conn key h (does key (server_gets p) w) =
+        λ w at. telling h w (stays_at w at) (ap (λ (a : HubState). (server_gets p (end_of key a.sessions)).happenings) at ∙ tells)
+        (ap (λ (a : HubState). have_room (due_by key a h) a) at ∙ room) in record {
+          hub = λ w at said. ap (λ (v : Work). v.hub) (is w at) ∙ goes.hub w at said;
+          did = λ w at said. ap (λ (v : Work). v.did) (is w at) ∙ goes.did w at said;
+        }
+
+    pub full_goes : (h : Happening) → (server_gets p (end_of key old.sessions)).happenings ≡ h ∷ [] → have_room (due_by key old h) old ≡ false
+        → GoesBy (close conn TargetFull fits) old did new says → GoesBy (while_up conn key p fits) old did new says
+    full_goes h tells room goes =
+        let is : (w : Work) → w.hub ≡ old → while_up conn key p fits w ≡ close conn TargetFull fits w =
+        λ w at. full h w (stays_at w at) (ap (λ (a : HubState). (server_gets p (end_of key a.sessions)).happenings) at ∙ tells)
+        (ap (λ (a : HubState). have_room (due_by key a h) a) at ∙ room) in record {
+          hub = λ w at said. ap (λ (v : Work). v.hub) (is w at) ∙ goes.hub w at said;
+          did = λ w at said. ap (λ (v : Work). v.did) (is w at) ∙ goes.did w at said;
+        }
+
+-- ---- the end takes it in
+
+module _ (config : HubConfig) (next key : ℕ) (t u : HubTables) (kept : HubKeeps config next t) (k : Conn) (on : up_on key t.lines.lines ≡ Some k) (now : ℕ) (p : Packet)
+    (a : Answers key (Takes now p) t.rows t u) where
+  pub kept_taken : (server_gets p (end_of key (sessions_of t.sessions.tenants))).close ≡ None → HubKeeps config next u
+  kept_taken stays =
+      let end : end_of key (sessions_of t.sessions.tenants) ≡ a.serves.tenant.end.end =
+      ap (end_of key) (sym (same_sessions t.sessions.tenants a.ready a.same)) ∙ end_there key a.serves.tenant a.ready a.serves.there in
+      kept_answered config next key t u kept k on (Takes now p) t.rows kept.owned a
+      (λ up. packet_stays p a.serves.tenant.end.end up (ap (λ (e : End). (server_gets p e).close) (sym end) ∙ stays))
+
+  pub taken_goes : (clock : ℕ) (did : List Act) → GoesBy (does key (server_gets p)) (hub_of config clock next t) did (hub_of config clock next u) did
+  taken_goes clock did = answered_goes config next key t u kept k on (Takes now p) t.rows kept.owned a clock did

@@ -1,0 +1,364 @@
+-- The connections that are late are closed one after another (3.1.2.10).
+use Rattle.std.proofs.Common.{◌≡◌, ◌+◌, ◌≤◌, ◌&&◌, ℕ, zero, suc, Bool, true, false, cond}
+use Rattle.std.proofs.Common.{List, [], ◌∷◌, ◌++◌, length, map, take, drop, Option, Some, None, refl, sym, ap, ap₂, subst, ◌∙◌, add-one, arith}
+use Rattle.std.proofs.lemmas.Bool.{cond-true, cond-false, cond_both, or_parts}
+use Rattle.std.proofs.lemmas.List.{drop-map, drop_all, length-map}
+use Rattle.std.specs.List.{AllByRecursion, slice_get}
+use Rattle.mq_packet.specs.declared.connect.Will.{Will}
+use Rattle.mq_packet.specs.declared.message.Message.{Message}
+use Rattle.mq_packet.specs.declared.packet.Packet.{Packet}
+use Rattle.mq_packet.specs.Spelling.{spellings}
+use Rattle.mq_end.specs.declared.reason.CloseReason.TheVariants as reasons
+use Rattle.mq_end.specs.End.{End, Reply, over}
+use Rattle.mq_route.specs.declared.act.Act.{Act}
+use Rattle.mq_route.specs.declared.act.Act.TheVariants as acts
+use Rattle.mq_route.specs.declared.close.HubClose.{HubClose}
+use Rattle.mq_route.specs.declared.close.HubClose.TheVariants.{Own}
+use Rattle.mq_route.specs.declared.conn.Conn.{Conn}
+use Rattle.mq_route.specs.declared.stage.Stage.{Stage}
+use Rattle.mq_route.specs.declared.stage.Stage.TheVariants.{Fresh, UpFor, Shut}
+use Rattle.mq_route.specs.Copies.{will_message}
+use Rattle.mq_route.specs.Hub.{HubState, Line, changed, copies_of, end_of, is_line, knows, stage_of, up_on, with_end, with_line}
+use Rattle.mq_route.specs.Routed.{same_conn}
+use Rattle.mq_route.specs.Step.{Ticks, is_late_on}
+use Rattle.mq_route.specs.Step.Ticks.{Done, InTime, Late, Later}
+use Rattle.mq_route.specs.Work.{Work, begin, close, does, have_room, last_will, leaves_behind, place, place_all, publishes_next, put_on, put_where, remove}
+use Rattle.mq_route.specs.Work.{remove_if, said, share, shut, will_after, with_sessions}
+use Rattle.mq_hub.specs.declared.session.Tenant.{Tenant}
+use Rattle.mq_hub.specs.Does.{GoesBy}
+use Rattle.mq_hub.specs.Keeps.{AreApart}
+use Rattle.mq_hub.specs.Seen.{all_seen, seen}
+use Rattle.mq_hub.specs.Ticking.{AreInTime, TicksTo, late_of}
+use Rattle.mq_hub.proofs.Connections.{itself}
+use Rattle.mq_hub.proofs.Seeing.{knows_seen}
+
+-- ---- the connections by name, each with how far it is
+
+abbrev pub place_of : Line → Conn × Stage
+place_of x = (x.conn, x.stage)
+
+abbrev pub places : List Line → List (Conn × Stage)
+places xs = map place_of xs
+
+module _ (g : Line → Line) (names : (x : Line) → (g x).conn ≡ x.conn) (stages : (x : Line) → (g x).stage ≡ x.stage) where
+  places_kept : (xs : List Line) → places (map g xs) ≡ places xs
+  places_kept [] = refl
+  places_kept (x ∷ xs) = λ i. (names x i, stages x i) ∷ places_kept xs i
+
+-- a part of a step that leaves them
+abbrev Leaves : Work → Work → Type 0
+Leaves w v = places v.hub.lines ≡ places w.hub.lines
+
+leaves_put_on : (k : Conn) (ps : List Packet) (w : Work) → Leaves w (put_on k ps w)
+unfolding put_on
+leaves_put_on k ps w = places_kept (changed waits k) (λ x. name x (is_line k x)) (λ x. stage x (is_line k x)) w.hub.lines
+  where
+    waits : Line → Line
+    waits x = record x { waiting = x.waiting ++ spellings ps }
+
+    name : (x : Line) (b : Bool) → (cond b (waits x) x).conn ≡ x.conn
+    name x true = refl
+    name x false = refl
+
+    stage : (x : Line) (b : Bool) → (cond b (waits x) x).stage ≡ x.stage
+    stage x true = refl
+    stage x false = refl
+
+leaves_put_where : (o : Option Conn) (ps : List Packet) (w : Work) → Leaves w (put_where o ps w)
+leaves_put_where None ps w = refl
+leaves_put_where (Some k) ps w = leaves_put_on k ps w
+
+leaves_does : (key : ℕ) (move : End → Reply) (w : Work) → Leaves w (does key move w)
+unfolding does
+leaves_does key move w =
+    leaves_put_where (up_on key w.hub.lines) (move (end_of key w.hub.sessions)).out (with_sessions (with_end key (move (end_of key w.hub.sessions)).end) w)
+
+leaves_place : (key : ℕ) (m : Message) (w : Work) → Leaves w (place key m w)
+unfolding place
+leaves_place key m w = leaves_does key (publishes_next m) w
+
+leaves_place_all : (copies : List (ℕ × Message)) (w : Work) → Leaves w (place_all copies w)
+leaves_place_all [] w = refl
+leaves_place_all (c ∷ cs) w = leaves_place_all cs (place c.0 c.1 w) ∙ leaves_place c.0 c.1 w
+
+leaves_share : (act : Act) (m : Message) (w : Work) → Leaves w (share act m w)
+unfolding share
+leaves_share act m w = leaves_place_all (copies_of m w.hub) _
+
+leaves_remove_if : (b : Bool) (key : ℕ) (w : Work) → Leaves w (remove_if b key w)
+unfolding remove
+leaves_remove_if true key w = refl
+leaves_remove_if false key w = refl
+
+leaves_last_will : (key : ℕ) (will : Option Will) (fits : Bool) (w : Work) → Leaves w (last_will key will fits w)
+unfolding last_will
+leaves_last_will key None fits w = refl
+leaves_last_will key (Some will) fits w =
+    let m = will_message will in
+    cond_both (fits && have_room (copies_of m w.hub) w.hub) (share (acts.Will key m) m w) (said (acts.WillDropped key) w) (Leaves w)
+    (λ e. leaves_share (acts.Will key m) m w)
+    (λ e. refl)
+
+leaves_left : (why : HubClose) (fits : Bool) (s : Stage) (w : Work) → Leaves w (leaves_behind why fits s w)
+unfolding leaves_behind
+leaves_left why fits Fresh w = refl
+leaves_left why fits (UpFor key terms moment) w =
+    let v : Work = with_sessions (with_end key (over (end_of key w.hub.sessions))) w in
+    leaves_last_will key (will_after why terms.will) fits (remove_if terms.clean_session key v) ∙ leaves_remove_if terms.clean_session key v
+leaves_left why fits Shut w = refl
+
+-- ---- one that is closed
+
+abbrev shuts : Line → Line
+shuts x = record x { stage = Shut; held = [] }
+
+abbrev gone : Conn × Stage → Conn × Stage
+gone p = (p.0, Shut)
+
+module _ (k : Conn) where
+  abbrev shut_at : Conn × Stage → Conn × Stage
+  shut_at p = cond (same_conn p.0 k) (gone p) p
+
+  places_shut : (xs : List Line) → places (with_line shuts k xs) ≡ map shut_at (places xs)
+  places_shut [] = refl
+  places_shut (x ∷ xs) = ap₂ (λ (p : Conn × Stage) (ps : List (Conn × Stage)). p ∷ ps) (go (is_line k x)) (places_shut xs)
+    where
+      go : (b : Bool) → place_of (cond b (shuts x) x) ≡ cond b (gone (place_of x)) (place_of x)
+      go true = refl
+      go false = refl
+
+  -- it is none of these
+  others : (xs : List Line) → knows k xs ≡ false → map shut_at (places xs) ≡ places xs
+  others [] none = refl
+  others (x ∷ xs) none =
+      let p = or_parts (is_line k x) (knows k xs) none in
+      ap₂ (λ (q : Conn × Stage) (ps : List (Conn × Stage)). q ∷ ps) (cond-false (is_line k x) (gone (place_of x)) (place_of x) p.0) (others xs p.1)
+
+  places_close : (why : HubClose) (fits : Bool) (w : Work) → places (close k why fits w).hub.lines ≡ map shut_at (places w.hub.lines)
+  unfolding close
+  places_close why fits w = leaves_left why fits (stage_of k w.hub.lines) (said (acts.Closed k why) (shut k w)) ∙ places_shut w.hub.lines
+
+-- ---- the walk
+
+module _ (now : ℕ) where
+  abbrev late_first : List (Conn × Stage) → Option Conn
+  late_first [] = None
+  late_first (p ∷ ps) = cond (is_late_on now p.1) (Some p.0) None
+
+  late_there : (i : ℕ) (xs : List Line) → late_of now (slice_get xs i) ≡ late_first (drop i (places xs))
+  late_there zero [] = refl
+  late_there (suc i) [] = refl
+  late_there zero (x ∷ xs) = refl
+  late_there (suc i) (x ∷ xs) = late_there i xs
+
+drop_next : {X : Type 0} (i : ℕ) (xs ys : List X) (x : X) → drop i xs ≡ x ∷ ys → drop (suc i) xs ≡ ys
+drop_next zero [] ys x e = absurd cc
+drop_next zero (z ∷ zs) ys x e = cc
+drop_next (suc i) [] ys x e = absurd cc
+drop_next (suc i) (z ∷ zs) ys x e = drop_next i zs ys x e
+
+drop_none : {X : Type 0} (i : ℕ) (xs : List X) → drop i xs ≡ [] → drop (suc i) xs ≡ []
+drop_none zero [] e = refl
+drop_none zero (z ∷ zs) e = absurd cc
+drop_none (suc i) [] e = refl
+drop_none (suc i) (z ∷ zs) e = drop_none i zs e
+
+drop_further : {X : Type 0} (i : ℕ) (xs : List X) → drop (suc i) xs ≡ drop 1 (drop i xs)
+drop_further zero [] = refl
+drop_further zero (z ∷ zs) = refl
+drop_further (suc i) [] = refl
+drop_further (suc i) (z ∷ zs) = drop_further i zs
+
+-- ---- those that the walk has passed
+
+module _ (now : ℕ) where
+  abbrev pub AllInTime : List (Conn × Stage) → Type 0
+  AllInTime = AllByRecursion (λ p. is_late_on now p.1 ≡ false)
+
+  passed_one : (i : ℕ) (ps : List (Conn × Stage)) → AllInTime (take i ps) → None ≡ late_first now (drop i ps) → AllInTime (take (suc i) ps)
+  passed_one zero [] all none = tt
+  passed_one zero (p ∷ ps) all none = (go (is_late_on now p.1) refl, tt)
+    where
+      go : (b : Bool) → is_late_on now p.1 ≡ b → is_late_on now p.1 ≡ false
+      go true late = let c : None ≡ Some p.0 = none ∙ cond-true (is_late_on now p.1) (Some p.0) None late in absurd cc
+      go false early = early
+  passed_one (suc i) [] all none = tt
+  passed_one (suc i) (p ∷ ps) all none = (all.0, passed_one i ps all.1 none)
+
+  module _ (k : Conn) where
+    shut_one : (i : ℕ) (ps : List (Conn × Stage)) → AllInTime (take i ps) → Some k ≡ late_first now (drop i ps) → AllInTime (take (suc i) (map (shut_at k) ps))
+    shut_one zero [] all some = tt
+    shut_one zero (p ∷ ps) all some = (go (is_late_on now p.1) refl, tt)
+      where
+        go : (b : Bool) → is_late_on now p.1 ≡ b → is_late_on now (shut_at k p).1 ≡ false
+        go true late =
+            let there : Some k ≡ Some p.0 = some ∙ cond-true (is_late_on now p.1) (Some p.0) None late in
+            let same : p.0 ≡ k = cc in
+            ap (λ (q : Conn × Stage). is_late_on now q.1) (cond-true (same_conn p.0 k) (gone p) p (ap (λ (n : Conn). same_conn n k) same ∙ itself k))
+        go false early =
+            let none : Some k ≡ None = some ∙ cond-false (is_late_on now p.1) (Some p.0) None early in absurd cc
+    shut_one (suc i) [] all some = tt
+    shut_one (suc i) (p ∷ ps) all some =
+        (cond_both (same_conn p.0 k) (gone p) p (λ (q : Conn × Stage). is_late_on now q.1 ≡ false) (λ e. refl) (λ e. all.0), shut_one i ps all.1 some)
+
+  -- all of them
+  all_passed : (i : ℕ) (xs : List Line) → length xs ≤ i → AllInTime (take i (places xs)) → AreInTime now xs
+  all_passed i [] past all = tt
+  all_passed zero (x ∷ xs) past all = absurd (omega (arith, past))
+  all_passed (suc i) (x ∷ xs) past all = (all.0, all_passed i xs (omega (arith, past)) all.1)
+
+-- ---- names stand once
+
+module _ (now : ℕ) (x : Line) (k : Conn) where
+  pub late_name : Some k ≡ late_of now (Some x) → k ≡ x.conn
+  late_name some = go (is_late_on now x.stage) refl
+    where
+      go : (b : Bool) → is_late_on now x.stage ≡ b → k ≡ x.conn
+      go true late = let same : Some k ≡ Some x.conn = some ∙ cond-true (is_late_on now x.stage) (Some x.conn) None late in cc
+      go false early = let none : Some k ≡ None = some ∙ cond-false (is_late_on now x.stage) (Some x.conn) None early in absurd cc
+
+apart_behind : (i : ℕ) (xs : List Line) (x : Line) → AreApart xs → slice_get xs i ≡ Some x → knows x.conn (drop (suc i) xs) ≡ false
+apart_behind i [] x apart e = absurd cc
+apart_behind zero (y ∷ xs) x apart e = let same : y ≡ x = cc in ap (λ (z : Line). knows z.conn xs) (sym same) ∙ apart.0
+apart_behind (suc i) (y ∷ xs) x apart e = apart_behind i xs x apart.2 e
+
+pub apart_seen : (i : ℕ) (k : Conn) (x : Line) (ts : List Tenant) (xs : List Line) → AreApart xs → slice_get xs i ≡ Some x → k ≡ x.conn
+    → knows k (drop (i + 1) (all_seen ts xs)) ≡ false
+apart_seen i k x ts xs apart e is =
+    ap (λ (n : ℕ). knows k (drop n (all_seen ts xs))) (add-one i) ∙ ap (knows k) (drop-map (seen ts) (suc i) xs)
+    ∙ knows_seen k ts (drop (suc i) xs) ∙ ap (λ (n : Conn). knows n (drop (suc i) xs)) is ∙ apart_behind i xs x apart e
+
+-- ---- from one to the next
+
+-- The walk has come to the connection at this place.
+pub record IsTicking (now : ℕ) (old : HubState) (i : ℕ) (h : HubState) (says : List Act) : Type 0 where
+  pub work : Work
+  pub hub : work.hub ≡ h
+  pub did : work.did ≡ says
+  pub rest : (v : Work) → Ticks now (drop i old.lines) work v → Ticks now old.lines (begin old) v
+  pub same : drop i (places h.lines) ≡ drop i (places old.lines)
+  pub passed : AllInTime now (take i (places h.lines))
+  pub count : length (places h.lines) ≡ length (places old.lines)
+
+pub none_by : (o : Option Conn) → ((k : Conn) → o ≡ Some k → ⊥) → o ≡ None
+none_by None never = refl
+none_by (Some k) never = absurd (never k refl)
+
+pub ticks_first : (now : ℕ) (h : HubState) (says : List Act) → says ≡ [] → IsTicking now h 0 h says
+ticks_first now h says none = record { work = begin h; hub = refl; did = sym none; rest = λ v t. t; same = refl; passed = tt; count = refl }
+
+module _ (now : ℕ) (old : HubState) (i : ℕ) (h : HubState) (says : List Act) (t : IsTicking now old i h says) where
+  -- the connection at this place is as it was at the beginning
+  front : late_of now (slice_get h.lines i) ≡ late_first now (places (drop i old.lines))
+  front =
+      late_there now i h.lines ∙ ap (late_first now) t.same ∙ ap (late_first now) (drop-map place_of i old.lines)
+
+  next_same : (g : HubState) → drop (i + 1) (places g.lines) ≡ drop (i + 1) (places h.lines) → drop (i + 1) (places g.lines) ≡ drop (i + 1) (places old.lines)
+  next_same g e =
+      let more : (ps : List (Conn × Stage)) → drop (i + 1) ps ≡ drop 1 (drop i ps) =
+      λ ps. ap (λ (n : ℕ). drop n ps) (add-one i) ∙ drop_further i ps in
+      e ∙ more (places h.lines) ∙ ap (drop 1) t.same ∙ sym (more (places old.lines))
+
+  -- it is in time
+  pub ticks_past : None ≡ late_of now (slice_get h.lines i) → IsTicking now old (i + 1) h says
+  ticks_past none = record {
+    work = t.work;
+    hub = t.hub;
+    did = t.did;
+    rest = λ v s. t.rest v (skip (drop i old.lines) refl (none ∙ front) v s);
+    same = next_same h refl;
+    passed =
+        subst (λ (n : ℕ). AllInTime now (take n (places h.lines))) (sym (add-one i)) (passed_one now i (places h.lines) t.passed (none ∙ late_there now i h.lines));
+    count = t.count;
+  }
+    where
+      skip : (ys : List Line) → drop i old.lines ≡ ys → None ≡ late_first now (places ys) → (v : Work)
+          → Ticks now (drop (i + 1) old.lines) t.work v → Ticks now (drop i old.lines) t.work v
+      skip [] e is v s =
+          subst (λ (l : List Line). Ticks now l t.work v) (ap (λ (n : ℕ). drop n old.lines) (add-one i) ∙ drop_none i old.lines e ∙ sym e) s
+      skip (x ∷ ys) e is v s = go (is_late_on now x.stage) refl
+        where
+          go : (b : Bool) → is_late_on now x.stage ≡ b → Ticks now (drop i old.lines) t.work v
+          go true late = let c = is ∙ cond-true (is_late_on now x.stage) (Some x.conn) None late in absurd cc
+          go false early =
+              subst (λ (l : List Line). Ticks now l t.work v) (sym e)
+              (InTime x ys t.work v early
+              (subst (λ (l : List Line). Ticks now l t.work v) (ap (λ (n : ℕ). drop n old.lines) (add-one i) ∙ drop_next i old.lines ys x e) s))
+
+  module _ (k : Conn) (is : Some k ≡ late_of now (slice_get h.lines i)) where
+    -- the late connection, and those behind it
+    record IsLate : Type 0 where
+      pub line : Line
+      pub behind : List Line
+      pub there : drop i old.lines ≡ line ∷ behind
+      pub late : is_late_on now line.stage ≡ true
+      pub name : k ≡ line.conn
+
+    is_late : (ys : List Line) → drop i old.lines ≡ ys → Some k ≡ late_first now (places ys) → IsLate
+    is_late [] e some = absurd cc
+    is_late (x ∷ ys) e some = go (is_late_on now x.stage) refl
+      where
+        go : (b : Bool) → is_late_on now x.stage ≡ b → IsLate
+        go true late =
+            let same : Some k ≡ Some x.conn = some ∙ cond-true (is_late_on now x.stage) (Some x.conn) None late in
+            record { line = x; behind = ys; there = e; late = late; name = cc }
+        go false early =
+            let none : Some k ≡ None = some ∙ cond-false (is_late_on now x.stage) (Some x.conn) None early in absurd cc
+
+    first_late : IsLate
+    first_late = is_late (drop i old.lines) refl (is ∙ front)
+
+    -- it is closed
+    pub ticks_close : (g : HubState) (more : List Act) → knows k (drop (i + 1) h.lines) ≡ false
+        → (fits : Bool) × GoesBy (close k (Own reasons.KeepAlive) fits) h says g more → IsTicking now old (i + 1) g more
+    ticks_close g more apart goes =
+        let q = first_late in
+        let w : Work = close k (Own reasons.KeepAlive) goes.0 t.work in
+        let hub : w.hub ≡ g = goes.1.hub t.work t.hub t.did in
+        let placed : places g.lines ≡ map (shut_at k) (places h.lines) =
+        ap (λ (b : HubState). places b.lines) (sym hub) ∙ places_close k (Own reasons.KeepAlive) goes.0 t.work
+        ∙ ap (λ (b : HubState). map (shut_at k) (places b.lines)) t.hub in
+        record {
+          work = w;
+          hub = hub;
+          did = goes.1.did t.work t.hub t.did;
+          rest = λ v s. t.rest v (subst (λ (l : List Line). Ticks now l t.work v) (sym q.there)
+              (Late q.line q.behind goes.0 t.work v q.late
+              (subst (λ (c : Conn). Ticks now q.behind (close c (Own reasons.KeepAlive) goes.0 t.work) v) q.name
+              (subst (λ (l : List Line). Ticks now l w v) (ap (λ (n : ℕ). drop n old.lines) (add-one i) ∙ drop_next i old.lines q.behind q.line q.there) s))));
+          same = next_same g
+              (ap (drop (i + 1)) placed ∙ drop-map (shut_at k) (i + 1) (places h.lines) ∙ ap (map (shut_at k)) (drop-map place_of (i + 1) h.lines)
+              ∙ others k (drop (i + 1) h.lines) apart ∙ sym (drop-map place_of (i + 1) h.lines));
+          passed =
+              subst (λ (n : ℕ). AllInTime now (take n (places g.lines))) (sym (add-one i))
+              (subst (λ (ps : List (Conn × Stage)). AllInTime now (take (suc i) ps)) (sym placed)
+              (shut_one now k i (places h.lines) t.passed (is ∙ late_there now i h.lines)));
+          count = ap length placed ∙ length-map (places h.lines) (shut_at k) ∙ t.count;
+        }
+
+    -- there is no memory for it
+    pub ticks_later : TicksTo now old h says
+    ticks_later =
+        let q = first_late in
+        record {
+          work = t.work;
+          ticks = t.rest t.work (subst (λ (l : List Line). Ticks now l t.work t.work) (sym q.there) (Later q.line q.behind t.work q.late));
+          hub = sym t.hub;
+          did = sym t.did;
+        }
+
+  -- all are passed
+  pub ticks_all : length old.lines ≤ i → AreInTime now h.lines
+  ticks_all past =
+      let many : length h.lines ≤ i =
+      omega (arith, past, length-map h.lines place_of, length-map old.lines place_of, t.count) in
+      all_passed now i h.lines many t.passed
+
+  -- there is none any more
+  pub ticks_last : length old.lines ≤ i → TicksTo now old h says
+  ticks_last past = record {
+    work = t.work;
+    ticks = t.rest t.work (subst (λ (l : List Line). Ticks now l t.work t.work) (sym (drop_all i old.lines past)) (Done t.work));
+    hub = sym t.hub;
+    did = sym t.did;
+  }

@@ -1,0 +1,6 @@
+use Rattle.std.proofs.Common.{◌≡◌, ℕ, List, refl, sym}
+use Rattle.mq_hub.proofs.Filing.{unnoted}
+use Rattle.mq_hub.proofs.accounts.note.Goals as goal
+
+pub returns-in_default : goal.returns-in_default
+returns-in_default c = sym (unnoted c.args.act.now (λ p m e. c.in_default.not-Took p m e) (λ p m e. c.in_default.not-Placed p m e) 0 c.args.accounts.now)

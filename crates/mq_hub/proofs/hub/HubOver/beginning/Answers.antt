@@ -1,0 +1,18 @@
+use Rattle.std.proofs.Common.{◌∙◌, ap}
+use Rattle.mq_end.specs.State.{EndState}
+use Rattle.mq_route.specs.Hub.{HubState}
+use Rattle.mq_hub.specs.Rising.{risen, roomed}
+use Rattle.mq_hub.proofs.hub.HubOver.beginning.Goals as goal
+
+pub returns-clause-seat : goal.returns-clause-seat
+returns-clause-seat g c =
+    let rose = c.in_ok-rise_with_room.ensures.ok in
+    let e : EndState = roomed rose.0 c.blank-end.result in
+    let end = rose.1 ∙ ap (λ (h : HubState). risen c.args.connect h.clock e) c.self.view_is in
+    record {
+      end = e;
+      fresh = c.blank-end.ensures.end;
+      capacity = c.blank-end.ensures.capacity;
+      limit = c.blank-end.ensures.limit;
+      after = c.in_ok-seat.ensures ∙ (λ i. record { client = c.args.client; key = c.next_key-key.ensures i; end = end i });
+    }

@@ -1,0 +1,145 @@
+use Rattle.std.proofs.Common.{◌≡◌, ◌≤◌, ◌<◌, ◌∙◌, true, false, Ok, refl, sym, ap, subst}
+use Rattle.mq_packet.specs.declared.message.Message.{Message}
+use Rattle.mq_packet.specs.declared.packet.Packet.TheVariants as packets
+use Rattle.mq_end.specs.Sizes.{publish_size}
+use Rattle.mq_route.specs.declared.act.Act.TheVariants as acts
+use Rattle.mq_route.specs.declared.close.HubClose.TheVariants.{TargetFull}
+use Rattle.mq_route.specs.Arrives.{while_up}
+use Rattle.mq_route.specs.Hub.{HubState, copies_of, end_of}
+use Rattle.mq_route.specs.Work.{close, have_room, share}
+use Rattle.mq_hub.specs.declared.reception.Reception.TheVariants.{Handed}
+use Rattle.mq_hub.specs.Does.{GoesBy}
+use Rattle.mq_hub.specs.Receiving.{IsReceived}
+use Rattle.mq_hub.specs.Retained.{RetainedTable}
+use Rattle.mq_hub.specs.Seen.{HubTables, hub_of}
+use Rattle.mq_hub.proofs.Fronting.{err_any}
+use Rattle.mq_hub.proofs.Granting.{on_seen}
+use Rattle.mq_hub.proofs.Passing.{can_hand, copies_handed, handed_goes, kept_handed, kept_unhanded, same_unhanded, stays_ready, unhanded_goes}
+use Rattle.mq_hub.proofs.ShareKeeps.{enough_seen, goes_as, has_sessions, hub_alike, kept_alike}
+use Rattle.mq_hub.proofs.hub.HubOver.on_publish.Goals as goal
+
+pub prepare-requires-clause-due : goal.prepare-requires-clause-due
+prepare-requires-clause-due g c =
+    let h = c.self.inside in
+    c.in_ok-sharing.ensures.due h.config h.next_key c.self.invariant
+    (subst (λ (s : HubState). publish_size c.args.publish.message ≤ s.config.limits.most) (sym c.self.view_is) c.requires.within)
+
+pub take_publish-requires-clause-can : goal.take_publish-requires-clause-can
+take_publish-requires-clause-can g c =
+    let h = c.self.inside in
+    let on = on_seen h.config h.clock h.next_key h.tables c.args.self.now c.args.key c.self.view_is c.requires.up in
+    can_hand h.config h.clock h.next_key c.args.key h.tables c.prepare.new.self c.self.invariant c.prepare.ensures.alike on.conn on.is c.args.publish
+
+pub take_publish-requires-clause-stays : goal.take_publish-requires-clause-stays
+take_publish-requires-clause-stays g c =
+    let h = c.self.inside in
+    let on = on_seen h.config h.clock h.next_key h.tables c.args.self.now c.args.key c.self.view_is c.requires.up in
+    stays_ready h.config h.clock h.next_key c.args.key h.tables c.prepare.new.self c.self.invariant c.prepare.ensures.alike on.conn on.is c.args.publish
+    (subst (λ (s : HubState). IsReceived Handed c.args.publish (end_of c.args.key s.sessions)) (sym c.self.view_is) c.requires.handed)
+
+pub share-requires-clause-ready : goal.share-requires-clause-ready
+share-requires-clause-ready g c =
+    let was = c.in_ok-prepare.ensures.ready (ap Ok c.if-not-branch.false) in
+    let a = c.in_ok-take_publish.ensures.ok in
+    record {
+      retained = subst (λ (r : RetainedTable). 0 < r.room) (sym a.retained) was.retained;
+      ready = c.in_ok-take_publish.ensures.ready c.in_ok-sharing.sharing.copies.items was.ready;
+      room = was.room;
+    }
+
+pub invariant_of-self : goal.invariant_of-self
+invariant_of-self g c =
+    let h = c.self.inside in
+    kept_alike h.config h.next_key h.tables c.prepare.new.self c.prepare.ensures.alike c.self.invariant
+
+pub returns-in_err-prepare-clause-err : goal.returns-in_err-prepare-clause-err
+returns-in_err-prepare-clause-err g c =
+    let h = c.self.inside in
+    err_any c.from_residual-in_err-prepare.result (hub_alike h.config h.clock h.next_key h.tables c.prepare.new.self c.prepare.ensures.alike ∙ c.self.view_is)
+
+pub invariant_of-self-then-not-branch : goal.invariant_of-self-then-not-branch
+invariant_of-self-then-not-branch g c =
+    let h = c.self.inside in
+    kept_alike h.config h.next_key h.tables c.prepare.new.self c.prepare.ensures.alike c.self.invariant
+
+pub returns-then-not-branch-clause-full : goal.returns-then-not-branch-clause-full
+returns-then-not-branch-clause-full g c = λ full.
+    let h = c.self.inside in
+    hub_alike h.config h.clock h.next_key h.tables c.prepare.new.self c.prepare.ensures.alike ∙ c.self.view_is
+
+pub returns-then-not-branch-clause-closed : goal.returns-then-not-branch-clause-closed
+returns-then-not-branch-clause-closed g c = λ full conn fits new says goes.
+    let h = c.self.inside in
+    let t : HubTables = h.tables in
+    let old : HubState = hub_of h.config h.clock h.next_key t in
+    let key = c.args.key in
+    let m = c.args.publish in
+    let on = on_seen h.config h.clock h.next_key t c.args.self.now key c.self.view_is c.requires.up in
+    let handed = subst (λ (s : HubState). IsReceived Handed m (end_of key s.sessions)) (sym c.self.view_is) c.requires.handed in
+    let room : false ≡ have_room (copies_of m.message old) old =
+    enough_seen false m.message c.in_ok-sharing.sharing.copies.items old old
+    (sym c.if-not-branch.true ∙ c.in_ok-prepare.ensures.enough old (has_sessions h.config h.clock h.next_key t c.self.invariant))
+    (c.in_ok-sharing.ensures.copies h.config h.clock h.next_key) refl in
+    subst (λ (s : HubState). GoesBy (while_up conn key (packets.Publish m) fits) s c.args.doings.now.acts new says) c.self.view_is
+    (unhanded_goes h.config h.clock h.next_key key t c.prepare.new.self c.self.invariant c.prepare.ensures.alike on.conn on.is m handed
+    conn fits new c.args.doings.now.acts says (sym room)
+    (subst (λ (s : HubState). GoesBy (close conn TargetFull fits) s c.args.doings.now.acts new says) (sym c.self.view_is) goes))
+
+pub invariant_of-self-in_err-take_publish : goal.invariant_of-self-in_err-take_publish
+invariant_of-self-in_err-take_publish g c =
+    let h = c.self.inside in
+    let on = on_seen h.config h.clock h.next_key h.tables c.args.self.now c.args.key c.self.view_is c.requires.up in
+    kept_unhanded h.config h.clock h.next_key c.args.key h.tables c.prepare.new.self c.self.invariant c.prepare.ensures.alike on.conn on.is c.args.publish
+    c.take_publish.new.self c.in_err-take_publish.ensures.err
+
+pub returns-in_err-take_publish-clause-err : goal.returns-in_err-take_publish-clause-err
+returns-in_err-take_publish-clause-err g c =
+    let h = c.self.inside in
+    let on = on_seen h.config h.clock h.next_key h.tables c.args.self.now c.args.key c.self.view_is c.requires.up in
+    err_any c.from_residual-in_err-take_publish.result
+    (same_unhanded h.config h.clock h.next_key c.args.key h.tables c.prepare.new.self c.self.invariant c.prepare.ensures.alike on.conn on.is c.args.publish
+    c.take_publish.new.self c.in_err-take_publish.ensures.err ∙ c.self.view_is)
+
+pub invariant_of-self-2 : goal.invariant_of-self-2
+invariant_of-self-2 g c =
+    let h = c.self.inside in
+    let key = c.args.key in
+    let m = c.args.publish in
+    let on = on_seen h.config h.clock h.next_key h.tables c.args.self.now key c.self.view_is c.requires.up in
+    let handed = subst (λ (s : HubState). IsReceived Handed m (end_of key s.sessions)) (sym c.self.view_is) c.requires.handed in
+    c.share.ensures.keeps h.config h.next_key
+    (kept_handed h.config h.clock h.next_key key h.tables c.prepare.new.self c.self.invariant c.prepare.ensures.alike on.conn on.is m handed
+    c.take_publish.new.self c.in_ok-take_publish.ensures.ok)
+    (subst (λ (n : Message). publish_size n ≤ h.config.limits.most) (sym c.in_ok-sharing.ensures.message)
+    (subst (λ (s : HubState). publish_size m.message ≤ s.config.limits.most) (sym c.self.view_is) c.requires.within))
+
+pub returns-clause-takes : goal.returns-clause-takes
+returns-clause-takes g c = λ done conn fits.
+    let h = c.self.inside in
+    let t : HubTables = h.tables in
+    let p : HubTables = c.prepare.new.self in
+    let u : HubTables = c.take_publish.new.self in
+    let old : HubState = hub_of h.config h.clock h.next_key t in
+    let here : HubState = hub_of h.config h.clock h.next_key u in
+    let after : HubState = hub_of h.config h.clock h.next_key c.share.new.self in
+    let key = c.args.key in
+    let m = c.args.publish in
+    let s = c.in_ok-sharing.sharing in
+    let on = on_seen h.config h.clock h.next_key t c.args.self.now key c.self.view_is c.requires.up in
+    let handed = subst (λ (b : HubState). IsReceived Handed m (end_of key b.sessions)) (sym c.self.view_is) c.requires.handed in
+    let a = c.in_ok-take_publish.ensures.ok in
+    let drawn = c.in_ok-sharing.ensures.copies h.config h.clock h.next_key in
+    let due : copies_of s.message here ≡ s.copies.items =
+    ap (λ (n : Message). copies_of n here) c.in_ok-sharing.ensures.message
+    ∙ copies_handed h.config h.clock h.next_key key t p c.self.invariant c.prepare.ensures.alike on.conn on.is m handed u a ∙ sym drawn in
+    let room : true ≡ have_room (copies_of m.message old) old =
+    enough_seen true m.message s.copies.items old old
+    (sym c.if-not-branch.false ∙ c.in_ok-prepare.ensures.enough old (has_sessions h.config h.clock h.next_key t c.self.invariant)) drawn refl in
+    let shared : GoesBy (share (acts.Took key m.message) m.message) here c.args.doings.now.acts after c.share.new.doings.acts =
+    goes_as s.act (acts.Took key m.message) s.message m.message here here after c.prepare.new.doings.acts c.args.doings.now.acts c.share.new.doings.acts
+    c.in_ok-sharing.ensures.act c.in_ok-sharing.ensures.message refl c.prepare.ensures.acts
+    (c.share.ensures.goes h.config h.clock h.next_key
+    (kept_handed h.config h.clock h.next_key key t p c.self.invariant c.prepare.ensures.alike on.conn on.is m handed u a) due) in
+    subst (λ (b : HubState). GoesBy (while_up conn key (packets.Publish m) fits) b c.args.doings.now.acts after c.share.new.doings.acts) c.self.view_is
+    (handed_goes h.config h.clock h.next_key key t p c.self.invariant c.prepare.ensures.alike on.conn on.is m handed u a
+    conn fits after c.args.doings.now.acts c.share.new.doings.acts (sym room) shared)

@@ -1,0 +1,169 @@
+use Rattle.std.proofs.Common.{◌≡◌, ◌∙◌, ◌<◌, ◌^◌, ◌+◌, ◌++◌, ◌∷◌, [], false, None, ℕ, List, sym, ap, ap₂, subst}
+use Rattle.mq_topic.specs.Rows.{without_client}
+use Rattle.mq_route.specs.declared.act.Act.{Act}
+use Rattle.mq_route.specs.declared.act.Act.TheVariants as acts
+use Rattle.mq_route.specs.declared.stage.Stage.TheVariants.{Fresh, UpFor}
+use Rattle.mq_route.specs.declared.stage.Terms.{Terms}
+use Rattle.mq_route.specs.Arrives.{greet_new, terms_of}
+use Rattle.mq_route.specs.Hub.{HubState, Line, key_of, stage_of, up_on, with_line, without_session}
+use Rattle.mq_route.specs.Work.{remove}
+use Rattle.mq_hub.specs.declared.session.Tenant.{Tenant}
+use Rattle.mq_hub.specs.Does.{GoesBy}
+use Rattle.mq_hub.specs.Keeps.{HubKeeps, IsWillWithin}
+use Rattle.mq_hub.specs.Rising.{IsBegun}
+use Rattle.mq_hub.specs.Seen.{HubTables, hub_of}
+use Rattle.mq_hub.specs.Sessions.{sessions_of, AreBelow}
+use Rattle.mq_hub.proofs.Beginning.{goes_begun, keeps_begun, none_up}
+use Rattle.mq_hub.proofs.Changing.{stage_seen, up_seen}
+use Rattle.mq_hub.proofs.Going.{goes_then}
+use Rattle.mq_hub.proofs.Keeping.{kept_by}
+use Rattle.mq_hub.proofs.Removing.{goes_removed, hub_removed, kept_removed}
+use Rattle.mq_hub.proofs.Seeing.{hub_same}
+use Rattle.mq_hub.proofs.hub.HubOver.renew.Goals as goal
+
+pub begin-requires-clause-stage : goal.begin-requires-clause-stage
+begin-requires-clause-stage g c =
+    let t : HubTables = c.self.inside.tables in
+    let k = c.args.conn in
+    ap (λ (a : HubTables). stage_of k a.lines.lines) c.remove.ensures.rest ∙ ap (λ (xs : List Line). stage_of k xs) c.reserve_session.ensures.lines
+    ∙ sym (stage_seen k t.sessions.tenants t.lines.lines) ∙ ap (λ (s : HubState). stage_of k s.lines) c.self.view_is ∙ c.requires.fresh
+
+pub begin-requires-clause-away : goal.begin-requires-clause-away
+begin-requires-clause-away g c =
+    let h = c.self.inside in
+    let t : HubTables = h.tables in
+    let r : HubTables = c.reserve_session.new.self in
+    let v : HubTables = c.remove.new.self in
+    let k = c.args.conn in
+    let key = c.args.key in
+    let ready = c.reserve_session.ensures.rest in
+    let rows = ap (λ (a : HubTables). a.rows) ready in
+    let retained = ap (λ (a : HubTables). a.retained.messages) ready in
+    let kept : HubKeeps h.config h.next_key r =
+    kept_by h.config h.next_key t r c.self.invariant rows retained c.reserve_session.ensures.tenants c.reserve_session.ensures.lines c.reserve_session.ensures.limits in
+    let none : up_on key r.lines.lines ≡ None =
+    ap (λ (xs : List Line). up_on key xs) c.reserve_session.ensures.lines
+    ∙ sym (up_seen key t.sessions.tenants t.lines.lines) ∙ ap (λ (s : HubState). up_on key s.lines) c.self.view_is ∙ c.requires.away in
+    let gone = c.remove.ensures.rest in
+    let left : HubKeeps h.config h.next_key v =
+    kept_removed key h.config h.next_key r v kept none c.remove.ensures.rows (ap (λ (a : HubTables). a.retained.messages) gone) c.remove.ensures.tenants
+    (ap (λ (a : HubTables). a.lines.lines) gone) (ap (λ (a : HubTables). a.lines.limits) gone) in
+    let own : Tenant = c.in_ok-beginning.beginning.seat in
+    let begun = subst (λ (s : HubState). IsBegun c.args.connect c.args.client s own) (sym c.self.view_is) c.in_ok-beginning.ensures.seat in
+    ap (λ (s : Tenant). up_on s.key v.lines.lines) begun.after
+    ∙ none_up h.next_key h.config.limits.most v.sessions.tenants v.lines.lines left.below left.housed
+
+pub begin-requires-clause-key : goal.begin-requires-clause-key
+begin-requires-clause-key g c =
+    let h = c.self.inside in
+    let t : HubTables = h.tables in
+    let r : HubTables = c.reserve_session.new.self in
+    let v : HubTables = c.remove.new.self in
+    let k = c.args.conn in
+    let key = c.args.key in
+    let ready = c.reserve_session.ensures.rest in
+    let rows = ap (λ (a : HubTables). a.rows) ready in
+    let retained = ap (λ (a : HubTables). a.retained.messages) ready in
+    let kept : HubKeeps h.config h.next_key r =
+    kept_by h.config h.next_key t r c.self.invariant rows retained c.reserve_session.ensures.tenants c.reserve_session.ensures.lines c.reserve_session.ensures.limits in
+    let none : up_on key r.lines.lines ≡ None =
+    ap (λ (xs : List Line). up_on key xs) c.reserve_session.ensures.lines
+    ∙ sym (up_seen key t.sessions.tenants t.lines.lines) ∙ ap (λ (s : HubState). up_on key s.lines) c.self.view_is ∙ c.requires.away in
+    let gone = c.remove.ensures.rest in
+    let left : HubKeeps h.config h.next_key v =
+    kept_removed key h.config h.next_key r v kept none c.remove.ensures.rows (ap (λ (a : HubTables). a.retained.messages) gone) c.remove.ensures.tenants
+    (ap (λ (a : HubTables). a.lines.lines) gone) (ap (λ (a : HubTables). a.lines.limits) gone) in
+    let own : Tenant = c.in_ok-beginning.beginning.seat in
+    let begun = subst (λ (s : HubState). IsBegun c.args.connect c.args.client s own) (sym c.self.view_is) c.in_ok-beginning.ensures.seat in
+    subst (λ (n : ℕ). AreBelow n v.sessions.tenants) (sym (ap (λ (s : Tenant). s.key) begun.after)) left.below
+
+pub begin-requires-clause-client : goal.begin-requires-clause-client
+begin-requires-clause-client g c =
+    let v : HubTables = c.remove.new.self in
+    ap (λ (s : Tenant). key_of s.client (sessions_of v.sessions.tenants)) c.in_ok-beginning.ensures.seat.after
+    ∙ c.remove.ensures.client c.args.client
+    (ap (λ (ts : List Tenant). key_of c.args.client (sessions_of ts)) c.reserve_session.ensures.tenants
+    ∙ ap (λ (s : HubState). key_of c.args.client s.sessions) c.self.view_is ∙ c.requires.stands)
+
+pub invariant_of-self-2 : goal.invariant_of-self-2
+invariant_of-self-2 g c =
+    let h = c.self.inside in
+    let t : HubTables = h.tables in
+    let r : HubTables = c.reserve_session.new.self in
+    let v : HubTables = c.remove.new.self in
+    let k = c.args.conn in
+    let key = c.args.key in
+    let ready = c.reserve_session.ensures.rest in
+    let rows = ap (λ (a : HubTables). a.rows) ready in
+    let retained = ap (λ (a : HubTables). a.retained.messages) ready in
+    let kept : HubKeeps h.config h.next_key r =
+    kept_by h.config h.next_key t r c.self.invariant rows retained c.reserve_session.ensures.tenants c.reserve_session.ensures.lines c.reserve_session.ensures.limits in
+    let none : up_on key r.lines.lines ≡ None =
+    ap (λ (xs : List Line). up_on key xs) c.reserve_session.ensures.lines
+    ∙ sym (up_seen key t.sessions.tenants t.lines.lines) ∙ ap (λ (s : HubState). up_on key s.lines) c.self.view_is ∙ c.requires.away in
+    let gone = c.remove.ensures.rest in
+    let left : HubKeeps h.config h.next_key v =
+    kept_removed key h.config h.next_key r v kept none c.remove.ensures.rows (ap (λ (a : HubTables). a.retained.messages) gone) c.remove.ensures.tenants
+    (ap (λ (a : HubTables). a.lines.lines) gone) (ap (λ (a : HubTables). a.lines.limits) gone) in
+    let at : stage_of k v.lines.lines ≡ Fresh =
+    ap (λ (a : HubTables). stage_of k a.lines.lines) gone ∙ ap (λ (xs : List Line). stage_of k xs) c.reserve_session.ensures.lines
+    ∙ sym (stage_seen k t.sessions.tenants t.lines.lines) ∙ ap (λ (s : HubState). stage_of k s.lines) c.self.view_is ∙ c.requires.fresh in
+    let own : Tenant = c.in_ok-beginning.beginning.seat in
+    let begun = subst (λ (s : HubState). IsBegun c.args.connect c.args.client s own) (sym c.self.view_is) c.in_ok-beginning.ensures.seat in
+    let u : HubTables = c.begin.new.self in
+    let after = c.begin.ensures.rest in
+    let lines = c.begin.ensures.lines
+    ∙ ap₂ (λ (n : ℕ) (m : Terms). with_line (λ x. record x { stage = UpFor n m h.clock }) k v.lines.lines) (ap (λ (s : Tenant). s.key) begun.after) c.in_ok-beginning.ensures.terms in
+    keeps_begun k c.args.connect c.args.client c.requires.named h.config h.clock h.next_key v u left at own begun.end begun.after begun.fresh
+    (ap (λ (a : HubTables). a.rows) after) (ap (λ (a : HubTables). a.retained.messages) after) c.begin.ensures.tenants lines
+    (subst (λ (s : HubState). IsWillWithin s.config.limits.most c.args.connect.will) (sym c.self.view_is) c.requires.will) c.begin.ensures.limits
+    (subst (λ (s : HubState). s.next_key < 2 ^ 32) (sym c.self.view_is) c.requires.next) begun.capacity begun.limit
+
+pub returns-clause-goes : goal.returns-clause-goes
+returns-clause-goes g c =
+    let h = c.self.inside in
+    let t : HubTables = h.tables in
+    let r : HubTables = c.reserve_session.new.self in
+    let v : HubTables = c.remove.new.self in
+    let k = c.args.conn in
+    let key = c.args.key in
+    let ready = c.reserve_session.ensures.rest in
+    let rows = ap (λ (a : HubTables). a.rows) ready in
+    let retained = ap (λ (a : HubTables). a.retained.messages) ready in
+    let kept : HubKeeps h.config h.next_key r =
+    kept_by h.config h.next_key t r c.self.invariant rows retained c.reserve_session.ensures.tenants c.reserve_session.ensures.lines c.reserve_session.ensures.limits in
+    let none : up_on key r.lines.lines ≡ None =
+    ap (λ (xs : List Line). up_on key xs) c.reserve_session.ensures.lines
+    ∙ sym (up_seen key t.sessions.tenants t.lines.lines) ∙ ap (λ (s : HubState). up_on key s.lines) c.self.view_is ∙ c.requires.away in
+    let gone = c.remove.ensures.rest in
+    let left : HubKeeps h.config h.next_key v =
+    kept_removed key h.config h.next_key r v kept none c.remove.ensures.rows (ap (λ (a : HubTables). a.retained.messages) gone) c.remove.ensures.tenants
+    (ap (λ (a : HubTables). a.lines.lines) gone) (ap (λ (a : HubTables). a.lines.limits) gone) in
+    let at : stage_of k v.lines.lines ≡ Fresh =
+    ap (λ (a : HubTables). stage_of k a.lines.lines) gone ∙ ap (λ (xs : List Line). stage_of k xs) c.reserve_session.ensures.lines
+    ∙ sym (stage_seen k t.sessions.tenants t.lines.lines) ∙ ap (λ (s : HubState). stage_of k s.lines) c.self.view_is ∙ c.requires.fresh in
+    let own : Tenant = c.in_ok-beginning.beginning.seat in
+    let begun = subst (λ (s : HubState). IsBegun c.args.connect c.args.client s own) (sym c.self.view_is) c.in_ok-beginning.ensures.seat in
+    let u : HubTables = c.begin.new.self in
+    let after = c.begin.ensures.rest in
+    let lines = c.begin.ensures.lines
+    ∙ ap₂ (λ (n : ℕ) (m : Terms). with_line (λ x. record x { stage = UpFor n m h.clock }) k v.lines.lines) (ap (λ (s : Tenant). s.key) begun.after) c.in_ok-beginning.ensures.terms in
+    let did = c.args.doings.now.acts in
+    let middle = c.say.new.self.acts in
+    let a : HubState = c.args.self.now in
+    let b : HubState = hub_of h.config h.clock h.next_key v in
+    let d : HubState = hub_of h.config h.clock (h.next_key + 1) u in
+    let first : GoesBy (remove key) a did b middle =
+    goes_removed key a b did middle
+    (hub_removed key h.config h.next_key r v kept none c.remove.ensures.rows (ap (λ (s : HubTables). s.retained.messages) gone) c.remove.ensures.tenants
+    (ap (λ (s : HubTables). s.lines.lines) gone) h.clock
+    ∙ ap (λ (s : HubState). record s { rows = without_client key s.rows; sessions = without_session key s.sessions })
+    (hub_same h.config h.clock h.next_key t r rows retained c.reserve_session.ensures.tenants c.reserve_session.ensures.lines ∙ c.self.view_is))
+    c.say.ensures.acts in
+    let second : GoesBy (greet_new k c.args.connect c.args.client) b middle d (middle ++ acts.Up k h.next_key false ∷ []) =
+    goes_begun k c.args.connect c.args.client c.requires.named h.config h.clock h.next_key v u left at own begun.end begun.after begun.fresh
+    (ap (λ (a : HubTables). a.rows) after) (ap (λ (a : HubTables). a.retained.messages) after) c.begin.ensures.tenants lines middle in
+    let next = ap (λ (s : HubState). s.next_key) c.self.view_is ∙ sym c.next_key-next.ensures in
+    subst (λ (says : List Act). GoesBy (λ w. greet_new k c.args.connect c.args.client (remove key w)) a did d says)
+    (ap (λ (n : ℕ). middle ++ acts.Up k n false ∷ []) next ∙ sym c.say-2.ensures.acts)
+    (goes_then (remove key) (greet_new k c.args.connect c.args.client) a b d did middle (middle ++ acts.Up k h.next_key false ∷ []) first second)

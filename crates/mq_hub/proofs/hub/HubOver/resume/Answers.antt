@@ -1,0 +1,22 @@
+use Rattle.std.proofs.Common.{◌∙◌, sym, ap}
+use Rattle.mq_packet.specs.declared.connect.Connect.{Connect}
+use Rattle.mq_hub.proofs.Admitting.{goes_renewed, goes_resumed, stands_by}
+use Rattle.mq_hub.proofs.Fronting.{ok_by}
+use Rattle.mq_hub.proofs.hub.HubOver.resume.Goals as goal
+
+pub greet-requires-clause-stands : goal.greet-requires-clause-stands
+greet-requires-clause-stands g c = stands_by c.args.client c.args.key c.args.self.now.sessions c.requires.stands
+
+pub returns-then-as_connect-clause-goes : goal.returns-then-as_connect-clause-goes
+returns-then-as_connect-clause-goes g c =
+    let clean = sym (ap (λ (x : Connect). x.clean_session) c.as_connect.ensures) ∙ c.if-as_connect.true in
+    ok_by c.renew.result
+    (λ q fits. goes_renewed c.args.conn c.args.connect fits c.args.self.now c.renew.new.self c.args.doings.now.acts c.renew.new.doings.acts c.args.client c.args.key c.requires.away clean q)
+    c.renew.ensures.goes
+
+pub returns-else-as_connect-clause-goes : goal.returns-else-as_connect-clause-goes
+returns-else-as_connect-clause-goes g c =
+    let going = sym (ap (λ (x : Connect). x.clean_session) c.as_connect.ensures) ∙ c.if-as_connect.false in
+    ok_by c.greet.result
+    (λ q fits. goes_resumed c.args.conn c.args.connect fits c.args.self.now c.greet.new.self c.args.doings.now.acts c.greet.new.doings.acts c.args.client c.args.key c.requires.away going q)
+    c.greet.ensures.goes

@@ -1,0 +1,32 @@
+use Rattle.std.proofs.Common.{◌∙◌, ◌||◌, ap, sym}
+use Rattle.std.proofs.lemmas.Bool.{or_parts}
+use Rattle.mq_packet.specs.declared.connect.Connect.{Connect}
+use Rattle.mq_route.specs.Hub.{is_clean, stage_of}
+use Rattle.mq_hub.proofs.Fronting.{ok_by}
+use Rattle.mq_hub.proofs.TakingOver.{goes_admitted, goes_on_admitted}
+use Rattle.mq_hub.proofs.hub.HubOver.take_over.Goals as goal
+
+pub returns-then-begins_anew-clause-goes : goal.returns-then-begins_anew-clause-goes
+returns-then-begins_anew-clause-goes g c =
+    let other = c.in-Some.other in
+    let anew = ap (λ (x : Connect). x.clean_session || is_clean (stage_of other c.args.self.now.lines)) (sym c.as_connect.ensures) ∙ sym c.begins_anew.ensures
+    ∙ c.if-begins_anew.true in
+    ok_by c.begin_over.result
+    (λ goes. (
+      goes.0,
+      goes_admitted c.args.conn c.args.connect c.args.client c.args.key other goes.0 c.args.self.now (sym c.up_on.ensures.conn ∙ c.in-Some.is) c.begin_over.new.self
+          c.args.doings.now.acts c.begin_over.new.doings.acts anew goes.1,
+    )) c.begin_over.ensures.goes
+
+pub returns-else-begins_anew-clause-goes : goal.returns-else-begins_anew-clause-goes
+returns-else-begins_anew-clause-goes g c =
+    let other = c.in-Some.other in
+    let still = or_parts c.args.connect.clean_session (is_clean (stage_of other c.args.self.now.lines))
+    (ap (λ (x : Connect). x.clean_session || is_clean (stage_of other c.args.self.now.lines)) (sym c.as_connect.ensures) ∙ sym c.begins_anew.ensures
+    ∙ c.if-begins_anew.false) in
+    ok_by c.greet_over.result
+    (λ goes. (
+      goes.0,
+      goes_on_admitted c.args.conn c.args.connect c.args.client c.args.key other goes.0 c.args.self.now (sym c.up_on.ensures.conn ∙ c.in-Some.is) c.greet_over.new.self
+          c.args.doings.now.acts c.greet_over.new.doings.acts still.1 still.0 goes.1,
+    )) c.greet_over.ensures.goes

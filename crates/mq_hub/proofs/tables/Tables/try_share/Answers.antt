@@ -1,0 +1,96 @@
+use Rattle.std.proofs.Common.{◌≡◌, ◌≤◌, ◌∙◌, [], ◌∷◌, true, false, ap, refl, subst, sym}
+use Rattle.mq_packet.specs.declared.message.Message.{Message}
+use Rattle.mq_end.specs.Sizes.{publish_size}
+use Rattle.mq_route.specs.Hub.{HubState, copies_of}
+use Rattle.mq_hub.specs.Seen.{HubTables, hub_of}
+use Rattle.mq_hub.proofs.Fronting.{err_any}
+use Rattle.mq_hub.proofs.Proceeding.{alike_same, spares_alike, spares_none, spares_shared, within_limit}
+use Rattle.mq_hub.proofs.RoomToRise.{leaves_ready, leaves_same, leaves_shared}
+use Rattle.mq_hub.proofs.ShareKeeps.{enough_seen, goes_as, has_sessions, hub_alike, kept_alike}
+use Rattle.mq_hub.proofs.tables.Tables.try_share.Goals as goal
+
+pub prepare-requires-clause-due : goal.prepare-requires-clause-due
+prepare-requires-clause-due g c =
+    let hubs = c.requires.hubs in
+    c.in_ok-sharing.ensures.due hubs.config hubs.next_key hubs.keeps
+    (within_limit hubs.config hubs.next_key (publish_size c.args.message) c.args.self.now hubs.keeps c.requires.within)
+
+pub returns-in_err-sharing-clause-err : goal.returns-in_err-sharing-clause-err
+returns-in_err-sharing-clause-err g c = err_any c.from_residual.result (alike_same c.args.self.now, refl)
+
+pub returns-in_err-sharing-clause-spares : goal.returns-in_err-sharing-clause-spares
+returns-in_err-sharing-clause-spares g c = spares_none c.args.self.now
+
+pub returns-in_err-prepare-clause-err : goal.returns-in_err-prepare-clause-err
+returns-in_err-prepare-clause-err g c = err_any c.from_residual-in_err-prepare.result (c.prepare.ensures.alike, c.prepare.ensures.acts)
+
+pub returns-in_err-prepare-clause-spares : goal.returns-in_err-prepare-clause-spares
+returns-in_err-prepare-clause-spares g c = spares_alike c.args.self.now c.prepare.new.self c.prepare.ensures.alike c.prepare.ensures.sessions
+
+pub returns-then-not-branch-clause-enough : goal.returns-then-not-branch-clause-enough
+returns-then-not-branch-clause-enough g c = λ config clock next_key kept.
+    let t : HubTables = c.args.self.now in
+    let s = c.in_ok-sharing.sharing in
+    let h : HubState = hub_of config clock next_key t in
+    enough_seen false c.args.message s.copies.items h h
+    (sym c.if-not-branch.true ∙ c.in_ok-prepare.ensures.enough h (has_sessions config clock next_key t kept))
+    (c.in_ok-sharing.ensures.copies config clock next_key) refl
+
+pub returns-then-not-branch-clause-full : goal.returns-then-not-branch-clause-full
+returns-then-not-branch-clause-full g c = λ e. (c.prepare.ensures.alike, c.prepare.ensures.acts)
+
+pub returns-then-not-branch-clause-spares : goal.returns-then-not-branch-clause-spares
+returns-then-not-branch-clause-spares g c = spares_alike c.args.self.now c.prepare.new.self c.prepare.ensures.alike c.prepare.ensures.sessions
+
+pub returns-clause-goes : goal.returns-clause-goes
+returns-clause-goes g c = λ e config clock next_key kept.
+    let t : HubTables = c.args.self.now in
+    let p : HubTables = c.prepare.new.self in
+    let s = c.in_ok-sharing.sharing in
+    let m = c.args.message in
+    let same = hub_alike config clock next_key t p c.prepare.ensures.alike in
+    let here : HubState = hub_of config clock next_key p in
+    let due : copies_of s.message here ≡ s.copies.items =
+    ap (λ (n : Message). copies_of n here) c.in_ok-sharing.ensures.message ∙ ap (copies_of m) same ∙ sym (c.in_ok-sharing.ensures.copies config clock next_key) in
+    goes_as s.act c.args.act s.message m here (hub_of config clock next_key t) (hub_of config clock next_key c.share.new.self) c.prepare.new.doings.acts
+    c.args.doings.now.acts c.share.new.doings.acts c.in_ok-sharing.ensures.act c.in_ok-sharing.ensures.message same c.prepare.ensures.acts
+    (c.share.ensures.goes config clock next_key (kept_alike config next_key t p c.prepare.ensures.alike kept) due)
+
+pub returns-clause-enough : goal.returns-clause-enough
+returns-clause-enough g c = λ config clock next_key kept.
+    let t : HubTables = c.args.self.now in
+    let s = c.in_ok-sharing.sharing in
+    let h : HubState = hub_of config clock next_key t in
+    enough_seen true c.args.message s.copies.items h h
+    (sym c.if-not-branch.false ∙ c.in_ok-prepare.ensures.enough h (has_sessions config clock next_key t kept))
+    (c.in_ok-sharing.ensures.copies config clock next_key) refl
+
+pub returns-clause-spares : goal.returns-clause-spares
+returns-clause-spares g c =
+    let s = c.in_ok-sharing.sharing in
+    let m = c.in_ok-sharing.ensures.message in
+    spares_shared s.message s.copies.items c.args.self.now c.prepare.new.self c.share.new.self c.prepare.ensures.alike c.prepare.ensures.sessions
+    (subst (λ (n : Message). publish_size n ≤ c.args.self.now.lines.limits.most) (sym m) c.requires.within) c.share.ensures.keeps c.share.ensures.tenants
+    c.share.ensures.sessions c.share.ensures.lines
+
+pub returns-in_err-sharing-clause-rise : goal.returns-in_err-sharing-clause-rise
+returns-in_err-sharing-clause-rise g c = leaves_same (c.args.message ∷ []) c.args.self.now
+
+pub returns-in_err-prepare-clause-rise : goal.returns-in_err-prepare-clause-rise
+returns-in_err-prepare-clause-rise g c =
+    let p = c.prepare.ensures in
+    leaves_ready c.args.message c.args.self.now c.prepare.new.self c.requires.hubs p.alike.tenants p.still
+
+pub returns-then-not-branch-clause-rise : goal.returns-then-not-branch-clause-rise
+returns-then-not-branch-clause-rise g c =
+    let p = c.prepare.ensures in
+    leaves_ready c.args.message c.args.self.now c.prepare.new.self c.requires.hubs p.alike.tenants p.still
+
+pub returns-clause-rise : goal.returns-clause-rise
+returns-clause-rise g c =
+    let p = c.prepare.ensures in
+    let s = c.in_ok-sharing.sharing in
+    let hubs = c.requires.hubs in
+    leaves_shared c.args.message c.args.self.now c.prepare.new.self hubs p.alike.tenants p.still c.size_laws.ensures s.copies.items c.share.new.self c.requires.within
+    c.in_ok-sharing.ensures.drawn.apart (hub_of hubs.config 0 hubs.next_key c.args.self.now) (c.in_ok-sharing.ensures.copies hubs.config 0 hubs.next_key)
+    c.share.ensures.tenants

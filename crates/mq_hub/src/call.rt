@@ -1,0 +1,51 @@
+//! What a broker has the end of a session do.
+
+ghost use Rattle.std.specs.Prelude.{◌≡◌, true, Ok, OnOk, OnErr, IsErr};
+ghost use Rattle.mq_end.specs.End.{is_up};
+ghost use Rattle.mq_end.specs.Receiving.{no_outcome};
+ghost use Rattle.mq_hub.specs.Calls.{IsAllowed, Serves};
+
+use mq_end::{Outcome, PublishRefusal, ServerEnd, size_laws};
+use mq_packet::{NonEmpty, Packet, PacketId, SubAckCode, spelling_laws};
+use std::alloc::AllocError;
+
+/// What a broker has the end of a session do.
+#[derive(Debug, Drop)]
+pub(crate) enum Call {
+    /// A whole packet came from the client, at this moment: the end takes it in (3.1 to 3.14).
+    Takes(u64, Packet),
+    /// It answers a SUBSCRIBE by SUBACK, with this identifier and these codes (3.9).
+    Grants(PacketId, NonEmpty<SubAckCode>),
+    /// It answers an UNSUBSCRIBE by UNSUBACK, with this identifier (3.11).
+    Drops(PacketId),
+}
+
+// What comes of an answer that was put out, or for which memory ran out: it tells nothing.
+fn answered(answer: Result<(), PublishRefusal>) -> Result<Outcome, AllocError>
+    ensures ok { OnOk answer (result ≡ Ok no_outcome) }
+    ensures err { OnErr answer (IsErr result) }
+{
+    match answer {
+        Ok(()) => Ok(Outcome {
+            happening: None,
+            acknowledged: None,
+            closed: None,
+        }),
+        Err(_) => Err(AllocError),
+    }
+}
+
+/// An end that is up does what it is to do. Out of memory, nothing changes.
+pub(crate) fn serve(end: &mut ServerEnd, call: Call) -> Result<Outcome, AllocError>
+    requires up { is_up end.old.end.state ≡ true }
+    requires allowed { IsAllowed call end.old }
+    ensures { Serves call result end.old end.new }
+{
+    size_laws();
+    spelling_laws();
+    match call {
+        Call::Takes(now, packet) => end.take_packet(now, packet),
+        Call::Grants(id, codes) => answered(end.suback(id, codes)),
+        Call::Drops(id) => answered(end.unsuback(id)),
+    }
+}

@@ -1,0 +1,56 @@
+//! A whole packet comes to a broker on a connection (3.1 to 3.14).
+
+ghost use Rattle.std.specs.Prelude.{◌≡◌, ◌≤◌, Bool, true, length, OnOk, OnErr};
+ghost use Rattle.mq_packet.specs.Spelling.{fields};
+ghost use Rattle.mq_route.specs.Arrives.{Growth, comes_in, takes};
+ghost use Rattle.mq_route.specs.Hub.{is_open, stage_of};
+ghost use Rattle.mq_hub.specs.Does.{GoesBy};
+
+use crate::doings::Doings;
+use crate::hub::HubOver;
+use mq_packet::Packet;
+use mq_route::Conn;
+use mq_topic::FilterStore;
+use std::alloc::AllocError;
+
+impl<S: FilterStore> HubOver<S> {
+    /// A packet comes on an open connection: the first one has to be CONNECT (3.1), and then its client is up (3.3 to 3.14). Out of memory,
+    /// nothing changes.
+    pub(crate) fn comes_in(
+        &mut self,
+        conn: Conn,
+        packet: Packet,
+        doings: &mut Doings,
+    ) -> Result<(), AllocError>
+        requires open { is_open (stage_of conn self.old.lines) ≡ true }
+        requires within { length (fields packet) ≤ self.old.config.limits.most }
+        requires room { 3 ≤ doings.old.room }
+        ensures goes { OnOk result ((fits : Bool)
+            × GoesBy (comes_in conn packet fits (stage_of conn self.old.lines)) self.old doings.old.acts self.new doings.new.acts) }
+        ensures room { OnOk result (is_open (stage_of conn self.new.lines) ≡ true → 3 ≤ doings.new.room) }
+        ensures err { OnErr result (self.new ≡ self.old) }
+        ensures err_acts { OnErr result (doings.new.acts ≡ doings.old.acts) }
+        ensures err_room { OnErr result (3 ≤ doings.new.room) }
+    {
+        match self.key(conn) {
+            Some(key) => self.while_up(conn, key, packet, doings),
+            None => self.at_first(conn, packet, doings),
+        }
+    }
+
+    /// A whole packet comes on an open connection: its moment is noted (3.1.2.10), and it comes in. Where memory runs out for it the
+    /// connection is closed. It is never refused.
+    pub(crate) fn takes(&mut self, conn: Conn, packet: Packet, doings: &mut Doings)
+        requires open { is_open (stage_of conn self.old.lines) ≡ true }
+        requires within { length (fields packet) ≤ self.old.config.limits.most }
+        requires room { 3 ≤ doings.old.room }
+        ensures goes { (growth : Growth) × GoesBy (takes conn packet growth) self.old doings.old.acts self.new doings.new.acts }
+        ensures room { is_open (stage_of conn self.new.lines) ≡ true → 3 ≤ doings.new.room }
+    {
+        self.hear(conn);
+        match self.comes_in(conn, packet, doings) {
+            Ok(()) => {}
+            Err(_) => self.starve(conn, doings),
+        }
+    }
+}

@@ -1,0 +1,38 @@
+//! A PUBLISH comes to a broker, whose message is handed on (3.3, 4.3).
+
+ghost use Rattle.std.specs.Prelude.{◌≡◌, ℕ, List, None, OnOk, OnErr};
+ghost use Rattle.mq_packet.specs.declared.message.Message.{Message};
+ghost use Rattle.mq_end.specs.Server.{server_gets};
+ghost use Rattle.mq_route.specs.Hub.{end_of};
+ghost use Rattle.mq_hub.specs.Answers.{AreAlike, Answers};
+ghost use Rattle.mq_hub.specs.Calls.{CanServe};
+ghost use Rattle.mq_hub.specs.Placing.{AreReady};
+ghost use Rattle.mq_hub.specs.Sessions.{sessions_of};
+
+use crate::call::Call;
+use crate::tables::Tables;
+use mq_packet::{Packet, Publish};
+use mq_topic::{ClientKey, FilterStore};
+use std::alloc::AllocError;
+
+impl<S: FilterStore> Tables<S> {
+    /// The end of a session that is up takes a PUBLISH in, at which it doesn't close. Sessions that were ready for messages, and for the
+    /// seven bytes of PUBACK or PUBREC beside them, are ready for the messages then (3.4, 3.5). Out of memory, nothing changes.
+    pub(crate) fn take_publish(
+        &mut self,
+        key: ClientKey,
+        now: u64,
+        publish: Publish,
+    ) -> Result<(), AllocError>
+        requires can { CanServe key (Call.Takes now (Packet.Publish publish)) self.old.sessions.tenants }
+        requires stays { (server_gets (Packet.Publish publish) (end_of key (sessions_of self.old.sessions.tenants))).close ≡ None }
+        ensures ok { OnOk result (Answers key (Call.Takes now (Packet.Publish publish)) self.old.rows self.old self.new) }
+        ensures ready { OnOk result ((copies : List (ℕ × Message)) → AreReady 7 self.old.sessions.tenants copies
+            → AreReady 0 self.new.sessions.tenants copies) }
+        ensures err { OnErr result (AreAlike self.old self.new) }
+    {
+        let packet = Packet::Publish(publish);
+        let _ = self.sessions.serve(key, Call::Takes(now, packet))?;
+        Ok(())
+    }
+}

@@ -1,0 +1,149 @@
+//! A PUBLISH comes to a broker from a client that is up (3.3, 4.3).
+
+ghost use Rattle.std.specs.Prelude.{◌≡◌, ◌≤◌, ℕ, List, Bool, true, false, Some, is_some, Ok, OnOk, OnErr, IfOk};
+ghost use Rattle.mq_packet.specs.declared.packet.Packet.TheVariants as packets;
+ghost use Rattle.mq_end.specs.End.{is_up};
+ghost use Rattle.mq_end.specs.Sizes.{publish_size};
+ghost use Rattle.mq_route.specs.declared.act.Act.{Act};
+ghost use Rattle.mq_route.specs.declared.close.HubClose.TheVariants as whys;
+ghost use Rattle.mq_route.specs.declared.config.HubConfig.{HubConfig};
+ghost use Rattle.mq_route.specs.declared.conn.Conn.{Conn};
+ghost use Rattle.mq_route.specs.Arrives.{while_up};
+ghost use Rattle.mq_route.specs.Hub.{HubState, copies_of, end_of, is_open, key_on, stage_of, up_on};
+ghost use Rattle.mq_route.specs.Work.{close};
+ghost use Rattle.mq_hub.specs.Does.{GoesBy};
+ghost use Rattle.mq_hub.specs.Keeps.{HubKeeps};
+ghost use Rattle.mq_hub.specs.Placing.{AreFor};
+ghost use Rattle.mq_hub.specs.Receiving.{IsReceived};
+ghost use Rattle.mq_hub.specs.Seen.{hub_of};
+ghost use Rattle.mq_hub.specs.Sharing.{IsDrawnUp};
+
+use crate::doings::Doings;
+use crate::hub::HubOver;
+use crate::reception::Reception;
+use crate::sharing::Sharing;
+use crate::tables::Tables;
+use mq_end::CloseReason;
+use mq_packet::{Packet, Publish};
+use mq_route::{Act, Conn, HubClose};
+use mq_topic::{ClientKey, FilterStore};
+use std::alloc::{AllocError, Global};
+
+// The bytes of PUBACK and of PUBREC, at most (3.4, 3.5).
+const ACKNOWLEDGEMENT: usize = 7;
+
+impl<S: FilterStore> Tables<S> {
+    // Draws up what it takes to share the message of a PUBLISH that comes from this client.
+    fn draw_up_taken(
+        &self,
+        alloc: Global,
+        key: ClientKey,
+        publish: &Publish,
+    ) -> Result<Sharing, AllocError>
+        ensures act { IfOk result (λ s. s.act ≡ Act.Took key publish.now.message) }
+        ensures message { IfOk result (λ s. s.message ≡ publish.now.message) }
+        ensures drawn { IfOk result (λ s. IsDrawnUp s) }
+        ensures copies { IfOk result (λ s. (config : HubConfig) (clock next_key : ℕ)
+            → s.copies.items ≡ copies_of publish.now.message (hub_of config clock next_key self.now)) }
+        ensures due { IfOk result (λ s. (config : HubConfig) (next_key : ℕ) → HubKeeps config next_key self.now
+            → publish_size publish.now.message ≤ config.limits.most → AreFor self.now.sessions.tenants s.copies.items) }
+    {
+        let message = publish.clone()?.into_message();
+        let named = message.clone()?;
+        self.draw_up(alloc, Act::Took(key, named), message)
+    }
+}
+
+impl<S: FilterStore> HubOver<S> {
+    // A PUBLISH comes whose message is handed on: the end of its client takes it in, and its message is shared; that is all that it
+    // changes. `false` where a session has fewer identifiers free than its copies need (2.3.1): its connection is to be closed for that.
+    // There, and out of memory, nothing changes.
+    fn on_publish(
+        &mut self,
+        key: ClientKey,
+        publish: Publish,
+        doings: &mut Doings,
+    ) -> Result<bool, AllocError>
+        requires up { is_some (up_on key self.old.lines) ≡ true }
+        requires handed { IsReceived Reception.Handed publish (end_of key self.old.sessions) }
+        requires within { publish_size publish.message ≤ self.old.config.limits.most }
+        requires room { 3 ≤ doings.old.room }
+        ensures takes { result ≡ Ok true → (conn : Conn) (fits : Bool)
+            → GoesBy (while_up conn key (packets.Publish publish) fits) self.old doings.old.acts self.new doings.new.acts }
+        ensures closed { result ≡ Ok false → (conn : Conn) (fits : Bool) (new : HubState) (says : List Act)
+            → GoesBy (close conn whys.TargetFull fits) self.old doings.old.acts new says
+            → GoesBy (while_up conn key (packets.Publish publish) fits) self.old doings.old.acts new says }
+        ensures room { 3 ≤ doings.new.room }
+        ensures full { result ≡ Ok false → self.new ≡ self.old }
+        ensures err { OnErr result (self.new ≡ self.old) }
+        ensures full_acts { result ≡ Ok false → doings.new.acts ≡ doings.old.acts }
+        ensures err_acts { OnErr result (doings.new.acts ≡ doings.old.acts) }
+    {
+        let now = self.clock;
+        let sharing = self.tables.draw_up_taken(self.alloc, key, &publish)?;
+        if !self.tables.prepare(&sharing, ACKNOWLEDGEMENT, doings)? {
+            return Ok(false);
+        }
+        self.tables.take_publish(key, now, publish)?;
+        self.tables.share(sharing, doings);
+        Ok(true)
+    }
+
+    // A PUBLISH comes whose message is handed on, or the connection is closed for it, where a session has fewer identifiers free than
+    // its copies need (2.3.1).
+    fn take_handed(
+        &mut self,
+        conn: Conn,
+        key: ClientKey,
+        publish: Publish,
+        doings: &mut Doings,
+    ) -> Result<(), AllocError>
+        requires up { is_some (up_on key self.old.lines) ≡ true }
+        requires handed { IsReceived Reception.Handed publish (end_of key self.old.sessions) }
+        requires within { publish_size publish.message ≤ self.old.config.limits.most }
+        requires room { 3 ≤ doings.old.room }
+        ensures goes { OnOk result ((fits : Bool)
+            × GoesBy (while_up conn key (packets.Publish publish) fits) self.old doings.old.acts self.new doings.new.acts) }
+        ensures room { OnOk result (is_open (stage_of conn self.new.lines) ≡ true → 3 ≤ doings.new.room) }
+        ensures err { OnErr result (self.new ≡ self.old) }
+        ensures err_acts { OnErr result (doings.new.acts ≡ doings.old.acts) }
+        ensures err_room { OnErr result (3 ≤ doings.new.room) }
+    {
+        if self.on_publish(key, publish, doings)? {
+            return Ok(());
+        }
+        self.close(conn, HubClose::TargetFull, doings);
+        Ok(())
+    }
+
+    /// A PUBLISH comes from a client that is up (3.3): its message is shared and its end answers, or its connection is closed, where a
+    /// session has fewer identifiers free than its copies need (2.3.1) or its identifier doesn't fit the receiving window. Out of memory,
+    /// nothing changes.
+    pub(crate) fn take_publish(
+        &mut self,
+        conn: Conn,
+        key: ClientKey,
+        publish: Publish,
+        doings: &mut Doings,
+    ) -> Result<(), AllocError>
+        requires up { key_on (stage_of conn self.old.lines) ≡ Some key }
+        requires end { is_up (end_of key self.old.sessions).state ≡ true }
+        requires within { publish_size publish.message ≤ self.old.config.limits.most }
+        requires room { 3 ≤ doings.old.room }
+        ensures goes { OnOk result ((fits : Bool)
+            × GoesBy (while_up conn key (packets.Publish publish) fits) self.old doings.old.acts self.new doings.new.acts) }
+        ensures room { OnOk result (is_open (stage_of conn self.new.lines) ≡ true → 3 ≤ doings.new.room) }
+        ensures err { OnErr result (self.new ≡ self.old) }
+        ensures err_acts { OnErr result (doings.new.acts ≡ doings.old.acts) }
+        ensures err_room { OnErr result (3 ≤ doings.new.room) }
+    {
+        match self.reception(key, &publish) {
+            Reception::Handed => self.take_handed(conn, key, publish, doings),
+            Reception::Repeated => self.take_silent(key, Packet::Publish(publish)),
+            Reception::Unfit => {
+                self.close(conn, HubClose::Own(CloseReason::Window), doings);
+                Ok(())
+            }
+        }
+    }
+}

@@ -1,0 +1,79 @@
+//! Events come to a broker one after another.
+
+ghost use Rattle.std.specs.Prelude.{◌≡◌, ◌<◌, ◌⊎◌, [], length, IfOk, IfErr, IfSome};
+ghost use Rattle.std.specs.List.{flat_map};
+ghost use Rattle.mq_route.specs.Hub.{new_hub};
+ghost use Rattle.mq_route.specs.Runs.{AreAccounts, IsRun};
+ghost use Rattle.mq_hub.specs.Running.{IsFollowed, IsRefused};
+
+use crate::accounts::accounts_of;
+use crate::hub::{Hub, HubOver};
+use mq_end::Items;
+use mq_route::{Account, HubConfig, HubEvent, HubRefusal, HubReply, HubTrace};
+use mq_topic::{FilterStore, TrieStore};
+use std::alloc::{AllocError, Global};
+
+impl<S: FilterStore> HubOver<S> {
+    // Events come one after another, up to one that is refused.
+    fn follow(&mut self, events: &[HubEvent]) -> Result<Vec<HubReply>, HubRefusal>
+        ensures run { IfOk result (λ replies. IsFollowed self.old events.now replies.items self.new) }
+        ensures err { IfErr result (λ why. (why ≡ HubRefusal.Memory) ⊎ IsRefused self.old events.now why) }
+    {
+        let mut replies = Vec::new(self.alloc);
+        for event in events {
+            let reply = self.step(event)?;
+            let Ok(()) = replies.push(reply) else {
+                return Err(HubRefusal::Memory);
+            };
+        }
+        Ok(replies)
+    }
+
+    // The accounts of the clients to which a key was given, after these replies.
+    fn accounts(&self, replies: &[HubReply]) -> Result<Vec<Account>, AllocError>
+        ensures count { IfOk result (λ accounts. length accounts.items ≡ self.now.next_key) }
+        ensures accounts { IfOk result (λ accounts. AreAccounts 0 (flat_map (λ r. r.acts) replies.now) accounts.items) }
+    {
+        accounts_of(self.alloc, self.next_key as usize, replies)
+    }
+}
+
+/// Events come one after another to a new broker over a store without rows: the broker to which they came, the reply to each, and what was
+/// taken from each client and placed for it. The first that is refused ends it, and so does want of memory.
+pub fn hub_run_over<S: FilterStore + Drop>(
+    alloc: Global,
+    config: HubConfig,
+    store: S,
+    events: &[HubEvent],
+) -> Result<(HubOver<S>, HubTrace), HubRefusal>
+    requires store { S.rows store ≡ [] }
+    requires capacity { 0 < config.capacity }
+    requires window { IfSome config.window (λ window. 0 < window) }
+    ensures run { IfOk result (λ r. IsRun config events.now r.0 r.1) }
+    ensures err { IfErr result (λ why. (why ≡ HubRefusal.Memory) ⊎ IsRefused (new_hub config) events.now why) }
+{
+    let mut hub = HubOver::with_store(alloc, config, store);
+    let replies = hub.follow(events)?;
+    let Ok(accounts) = hub.accounts(replies.as_slice()) else {
+        return Err(HubRefusal::Memory);
+    };
+    let trace = HubTrace {
+        replies: Items::from_vec(replies),
+        accounts: Items::from_vec(accounts),
+    };
+    Ok((hub, trace))
+}
+
+/// Events come one after another to a new broker.
+pub fn hub_run(
+    alloc: Global,
+    config: HubConfig,
+    events: &[HubEvent],
+) -> Result<(Hub, HubTrace), HubRefusal>
+    requires capacity { 0 < config.capacity }
+    requires window { IfSome config.window (λ window. 0 < window) }
+    ensures run { IfOk result (λ r. IsRun config events.now r.0 r.1) }
+    ensures err { IfErr result (λ why. (why ≡ HubRefusal.Memory) ⊎ IsRefused (new_hub config) events.now why) }
+{
+    hub_run_over(alloc, config, TrieStore::new(alloc), events)
+}

@@ -1,0 +1,54 @@
+//! A message is shared at a broker: it is retained, and placed for all that match (3.3.1.3, 3.3.5).
+
+ghost use Rattle.std.specs.Prelude.{◌≡◌, ◌≤◌, ℕ, [], ◌∷◌, true, false, IfOk, OnErr, Ok};
+ghost use Rattle.mq_end.specs.Sizes.{publish_size};
+ghost use Rattle.mq_route.specs.declared.config.HubConfig.{HubConfig};
+ghost use Rattle.mq_route.specs.Hub.{copies_of};
+ghost use Rattle.mq_route.specs.Work.{have_room, share};
+ghost use Rattle.mq_hub.specs.Does.{GoesBy};
+ghost use Rattle.mq_hub.specs.Keeps.{HubKeeps};
+ghost use Rattle.mq_hub.specs.Proceeding.{AreHubs, Spares};
+ghost use Rattle.mq_hub.specs.Rising.{LeavesRise};
+ghost use Rattle.mq_hub.specs.Seen.{hub_of};
+ghost use Rattle.mq_hub.specs.Sharing.{AreTablesAlike};
+
+use crate::doings::Doings;
+use crate::tables::Tables;
+use mq_end::size_laws;
+use mq_packet::Message;
+use mq_route::Act;
+use mq_topic::FilterStore;
+use std::alloc::{AllocError, Global};
+
+impl<S: FilterStore> Tables<S> {
+    /// A message is shared after an act that says so: it is retained (3.3.1.3), and its copies are placed (3.3.5). `false` where a session
+    /// has fewer identifiers free than its copies need (2.3.1), and out of memory it fails; then nothing changes but room. Room for acts,
+    /// for sessions and for connections that was there before is left.
+    pub(crate) fn try_share(
+        &mut self,
+        alloc: Global,
+        act: Act,
+        message: Message,
+        doings: &mut Doings,
+    ) -> Result<bool, AllocError>
+        requires hubs { AreHubs self.old }
+        requires within { publish_size message ≤ self.old.lines.limits.most }
+        ensures goes { result ≡ Ok true → (config : HubConfig) (clock next_key : ℕ) → HubKeeps config next_key self.old
+            → GoesBy (share act message) (hub_of config clock next_key self.old) doings.old.acts (hub_of config clock next_key self.new) doings.new.acts }
+        ensures enough { IfOk result (λ enough. (config : HubConfig) (clock next_key : ℕ) → HubKeeps config next_key self.old
+            → enough ≡ have_room (copies_of message (hub_of config clock next_key self.old)) (hub_of config clock next_key self.old)) }
+        ensures full { result ≡ Ok false → AreTablesAlike self.old self.new × (doings.new.acts ≡ doings.old.acts) }
+        ensures err { OnErr result (AreTablesAlike self.old self.new × (doings.new.acts ≡ doings.old.acts)) }
+        ensures spares { Spares self.old self.new }
+        ensures rise { LeavesRise (message ∷ []) self.old self.new }
+        ensures room { doings.old.room ≤ doings.new.room }
+    {
+        size_laws();
+        let sharing = self.draw_up(alloc, act, message)?;
+        if !self.prepare(&sharing, 0, doings)? {
+            return Ok(false);
+        }
+        self.share(sharing, doings);
+        Ok(true)
+    }
+}

@@ -1,0 +1,96 @@
+//! A moment comes to a broker (3.1.2.10).
+
+ghost use Rattle.std.specs.Prelude.{◌≡◌, ◌+◌, [], drop, false, length, max, slice_get, Some, IfOk, IfErr, IfSome, OnErr, OnOk};
+ghost use Rattle.mq_end.specs.KeepAlive.{is_late};
+ghost use Rattle.mq_route.specs.Hub.{knows};
+ghost use Rattle.mq_route.specs.Step.{HubStep, told};
+ghost use Rattle.mq_hub.specs.Lines.{line_of};
+ghost use Rattle.mq_hub.specs.Ticking.{AreInTime, TicksTo, late_of};
+
+use crate::connection::Connection;
+use crate::doings::Doings;
+use crate::hub::HubOver;
+use mq_end::CloseReason;
+use mq_route::{Conn, HubClose, HubEvent, HubRefusal, HubReply, Stage};
+use mq_topic::FilterStore;
+use std::alloc::AllocError;
+
+// Whether more than one and a half times a keep-alive, which is not 0, has gone by since a moment (3.1.2.10).
+fn is_late(moment: u64, keep_alive: u16, now: u64) -> bool
+    ensures { result ≡ is_late moment keep_alive now }
+{
+    let wait = 1_500 * u64::from(keep_alive);
+    wait > 0 && now > moment && now - moment > wait
+}
+
+// The name of a connection, where it is late at this moment.
+fn late(connection: &Connection, now: u64) -> Option<Conn>
+    ensures { result ≡ late_of now (Some (line_of connection.now)) }
+{
+    match &connection.stage {
+        Stage::UpFor(_, terms, moment) if is_late(*moment, terms.keep_alive, now) => {
+            Some(connection.conn)
+        }
+        Stage::Fresh | Stage::UpFor(..) | Stage::Shut => None,
+    }
+}
+
+impl<S: FilterStore> HubOver<S> {
+    // The clock is the greatest moment so far, and it says which.
+    fn tell(&mut self, now: u64) -> u64
+        ensures clock { result ≡ max self.old.clock now }
+        ensures hub { self.new ≡ told now self.old }
+    {
+        if now > self.clock {
+            self.clock = now;
+        }
+        self.clock
+    }
+
+    // How many connections are known.
+    fn line_count(&self) -> usize
+        ensures { result ≡ length self.now.lines }
+    {
+        self.tables.lines.len()
+    }
+
+    // The name of the connection at a place in the order, where it is late at this moment. None behind it has that name.
+    fn late_at(&self, index: usize, now: u64) -> Option<Conn>
+        ensures late { result ≡ late_of now (slice_get self.now.lines index) }
+        ensures apart { IfSome result (λ conn. knows conn (drop (index + 1) self.now.lines) ≡ false) }
+    {
+        let _ = &self.alloc;
+        let connection = self.tables.lines.at(index)?;
+        late(connection, now)
+    }
+
+    // The connections that are late at this moment are closed one after another, in the order in which they were opened, and then none is
+    // late. Where memory runs out for one it errs, and it and those behind it are left to the next time.
+    fn close_late(&mut self, now: u64, doings: &mut Doings) -> Result<(), AllocError>
+        requires none { doings.old.acts ≡ [] }
+        ensures ticks { TicksTo now self.old self.new doings.new.acts }
+        ensures all { OnOk result (AreInTime now self.new.lines) }
+    {
+        for index in 0..self.line_count() {
+            let Some(conn) = self.late_at(index, now) else {
+                continue;
+            };
+            doings.reserve(3)?;
+            self.close(conn, HubClose::Own(CloseReason::KeepAlive), doings);
+        }
+        Ok(())
+    }
+
+    /// It is this moment, in milliseconds: connections from whose clients nothing came for one and a half times their keep-alive are
+    /// closed (3.1.2.10). Where memory runs out for the acts of one, it and those behind it are left to the next time: it is never refused.
+    pub(crate) fn ticked(&mut self, now: u64) -> Result<HubReply, HubRefusal>
+        ensures step { IfOk result (λ reply. HubStep self.old (HubEvent.Tick now) reply self.new) }
+        ensures memory { IfErr result (λ why. why ≡ HubRefusal.Memory) }
+        ensures err { OnErr result (self.new ≡ self.old) }
+    {
+        let mut doings = Doings::new(self.alloc);
+        let clock = self.tell(now);
+        let _ = self.close_late(clock, &mut doings);
+        Ok(doings.into_reply(true))
+    }
+}
