@@ -3,6 +3,8 @@
 //! while others are in flight. With no words it lists what it can measure.
 #![tactic(auto)]
 
+mod broker;
+mod clients;
 mod figures;
 mod in_flight;
 mod measure;
@@ -45,6 +47,7 @@ fn list(rt: &impl Print) -> anyhow::Result<()> {
     }
     println!(rt; "{:<14} {}", replays::NAME, replays::EXPLANATION)?;
     println!(rt; "{:<14} {}", in_flight::NAME, in_flight::EXPLANATION)?;
+    println!(rt; "{:<14} {}", broker::NAME, broker::EXPLANATION)?;
     Ok(())
 }
 
@@ -52,7 +55,7 @@ fn list(rt: &impl Print) -> anyhow::Result<()> {
 fn is_known(word: &String) -> bool {
     Subject::named(word.as_str()).is_some()
         || weighed(word.as_str()).is_some()
-        || [topics::NAME, replays::NAME, in_flight::NAME].contains(&word.as_str())
+        || [topics::NAME, replays::NAME, in_flight::NAME, broker::NAME].contains(&word.as_str())
 }
 
 /// Says that the words cannot be read.
@@ -79,6 +82,7 @@ fn main(rt: HostRuntime) -> anyhow::Result<ExitCode> {
             None if word.as_str() == topics::NAME => topics::measure(&rt, alloc)?,
             None if word.as_str() == replays::NAME => replays::measure(&rt, alloc)?,
             None if word.as_str() == in_flight::NAME => in_flight::measure(&rt, alloc)?,
+            None if word.as_str() == broker::NAME => broker::measure(&rt, alloc)?,
             None => {
                 if let Some(filters) = weighed(word.as_str()) {
                     topics::weigh(&rt, filters)?;

@@ -14,7 +14,7 @@ use std::alloc::Global;
 const TOPIC: &str = "greenhouse/4/north/temperature/c";
 
 /// As many bytes as are asked for, none of them the same as the one before.
-fn made_up_bytes(alloc: Global, size: usize) -> anyhow::Result<Bytes> {
+pub(crate) fn made_up_bytes(alloc: Global, size: usize) -> anyhow::Result<Bytes> {
     let mut bytes = Vec::with_capacity(alloc, size)?;
     for place in 0..size {
         bytes.push((place % 251) as u8)?;
@@ -22,7 +22,8 @@ fn made_up_bytes(alloc: Global, size: usize) -> anyhow::Result<Bytes> {
     Ok(Bytes::from_vec(bytes)?)
 }
 
-fn identifier(number: u16) -> anyhow::Result<PacketId> {
+/// A packet identifier of this number.
+pub(crate) fn identifier(number: u16) -> anyhow::Result<PacketId> {
     PacketId::new(number).context("an identifier of 0")
 }
 

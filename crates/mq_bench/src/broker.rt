@@ -1,0 +1,278 @@
+//! A broker in memory, timed and printed: bytes of clients come in, and bytes go out.
+
+use crate::clients::{self, BATCH};
+use anyhow::{Context, ensure};
+use mq_decode::Limits;
+use mq_hub::{Conn, Hub, HubConfig, HubEvent};
+use mq_topic::Qos;
+use std::alloc::Global;
+use std::rt::Clock;
+use std::time::Instant;
+
+/// The word for it.
+pub(crate) const NAME: &str = "hub";
+
+/// What it is, on one line.
+pub(crate) const EXPLANATION: &str =
+    "a broker in memory: publishers and subscribers, 10 to 100,000 sessions beside";
+
+/// Who publishes, and how many subscribe to all of it.
+#[derive(Clone, Copy, Debug)]
+struct Flow {
+    publishers: u16,
+    subscribers: u16,
+}
+
+/// The flows that are measured.
+const FLOWS: [Flow; 3] = [
+    Flow {
+        publishers: 8,
+        subscribers: 1,
+    },
+    Flow {
+        publishers: 1,
+        subscribers: 32,
+    },
+    Flow {
+        publishers: 4,
+        subscribers: 0,
+    },
+];
+
+/// How many bytes a message has.
+const PAYLOADS: [usize; 2] = [16, 1_024];
+
+/// How many other sessions there are, with ten subscriptions each.
+const BESIDE: [u32; 3] = [10, 1_000, 100_000];
+
+/// How often each publisher sends a batch of messages.
+const TURNS: u16 = 400;
+
+/// How often each work is done. The middle one of its times counts.
+const ROUNDS: usize = 3;
+
+/// The connection of the other sessions, one after another.
+const OTHERS: Conn = Conn { worker: 0, nth: 0 };
+
+/// The connection of a publisher.
+fn publisher(number: u16) -> Conn {
+    Conn {
+        worker: 1,
+        nth: u32::from(number),
+    }
+}
+
+/// The connection of a subscriber.
+fn subscriber(number: u16) -> Conn {
+    Conn {
+        worker: 2,
+        nth: u32::from(number),
+    }
+}
+
+/// A broker without users and with many places.
+fn broker(alloc: Global) -> anyhow::Result<Hub> {
+    let config = HubConfig {
+        limits: Limits::new(1_048_576).context("no limits")?,
+        capacity: u16::MAX,
+        window: None,
+        max_conns: 1_000_000,
+        max_sessions: 1_000_000,
+        users: None,
+    };
+    Ok(Hub::new(alloc, config))
+}
+
+/// An event, after which its connection is open.
+fn step(hub: &mut Hub, event: &HubEvent) -> anyhow::Result<()> {
+    ensure!(hub.step(event)?.alive, "a connection was closed");
+    Ok(())
+}
+
+/// So many other sessions, whose clients have left.
+fn add_others(alloc: Global, hub: &mut Hub, count: u32) -> anyhow::Result<()> {
+    for client in 0..count {
+        step(hub, &HubEvent::Opened(OTHERS))?;
+        step(hub, &clients::subscribes_to_ten(alloc, OTHERS, client)?)?;
+        hub.step(&HubEvent::Ended(OTHERS))?;
+    }
+    Ok(())
+}
+
+/// Publishers come.
+fn add_publishers(alloc: Global, hub: &mut Hub, flow: Flow) -> anyhow::Result<()> {
+    for number in 0..flow.publishers {
+        let conn = publisher(number);
+        let name = format!(in alloc; "publisher-{number}")?;
+        step(hub, &HubEvent::Opened(conn))?;
+        step(hub, &clients::comes(alloc, conn, name.as_str())?)?;
+    }
+    Ok(())
+}
+
+/// Subscribers come, and subscribe.
+fn add_subscribers(alloc: Global, hub: &mut Hub, flow: Flow, qos: Qos) -> anyhow::Result<()> {
+    for number in 0..flow.subscribers {
+        let conn = subscriber(number);
+        let name = format!(in alloc; "subscriber-{number}")?;
+        step(hub, &HubEvent::Opened(conn))?;
+        let event = clients::subscribes(alloc, conn, name.as_str(), "greenhouse/#", qos)?;
+        step(hub, &event)?;
+        step(hub, &HubEvent::Collect(conn))?;
+    }
+    Ok(())
+}
+
+/// All clients leave, and their sessions end.
+fn end(hub: &mut Hub, flow: Flow) -> anyhow::Result<()> {
+    for number in 0..flow.publishers {
+        hub.step(&HubEvent::Ended(publisher(number)))?;
+    }
+    for number in 0..flow.subscribers {
+        hub.step(&HubEvent::Ended(subscriber(number)))?;
+    }
+    Ok(())
+}
+
+/// What is measured.
+#[derive(Clone, Copy, Debug)]
+struct Work {
+    flow: Flow,
+    qos: Qos,
+    payload: usize,
+}
+
+impl Work {
+    /// How many messages a subscriber gets in a turn.
+    fn received(self) -> u16 {
+        self.flow.publishers.saturating_mul(BATCH)
+    }
+
+    /// What publishers send in each turn.
+    fn published(self, alloc: Global) -> anyhow::Result<Vec<HubEvent>> {
+        let mut published = Vec::new(alloc);
+        for number in 0..self.flow.publishers {
+            let event = clients::publishes(alloc, publisher(number), self.qos, self.payload)?;
+            published.push(event)?;
+        }
+        Ok(published)
+    }
+
+    /// What subscribers answer in the turn of this number; nothing to quality of service 0.
+    fn acknowledged(self, alloc: Global, turn: u16) -> anyhow::Result<Vec<HubEvent>> {
+        let mut acknowledged = Vec::new(alloc);
+        if self.qos == Qos::Q0 {
+            return Ok(acknowledged);
+        }
+        let before = u32::from(turn).saturating_mul(u32::from(self.received()));
+        let last = u16::try_from(before % u32::from(u16::MAX))?;
+        for number in 0..self.flow.subscribers {
+            let conn = subscriber(number);
+            let event = clients::acknowledges(alloc, conn, self.qos, last, self.received())?;
+            acknowledged.push(event)?;
+        }
+        Ok(acknowledged)
+    }
+}
+
+/// What waits on these connections is taken.
+fn collect(hub: &mut Hub, flow: Flow) -> anyhow::Result<()> {
+    for number in 0..flow.publishers {
+        step(hub, &HubEvent::Collect(publisher(number)))?;
+    }
+    for number in 0..flow.subscribers {
+        let reply = hub.step(&HubEvent::Collect(subscriber(number)))?;
+        ensure!(reply.output.len() > 0, "nothing came");
+    }
+    Ok(())
+}
+
+/// The bytes of a turn come, and go.
+fn play(
+    hub: &mut Hub,
+    flow: Flow,
+    published: &[HubEvent],
+    acknowledged: &[HubEvent],
+) -> anyhow::Result<()> {
+    for event in published {
+        step(hub, event)?;
+    }
+    collect(hub, flow)?;
+    for event in acknowledged {
+        step(hub, event)?;
+    }
+    Ok(())
+}
+
+/// How many nanoseconds some turns take, from the one of this number on.
+fn time_turns(
+    rt: &impl Clock,
+    alloc: Global,
+    hub: &mut Hub,
+    work: Work,
+    first: u16,
+) -> anyhow::Result<u64> {
+    let published = work.published(alloc)?;
+    let mut acknowledged = Vec::new(alloc);
+    for number in 0..TURNS {
+        acknowledged.push(work.acknowledged(alloc, first.saturating_add(number))?)?;
+    }
+    let start = Instant::now(rt)?;
+    for answers in &acknowledged {
+        play(hub, work.flow, published.as_slice(), answers.as_slice())?;
+    }
+    let time = start.elapsed(rt)?;
+    Ok(u64::try_from(time.as_nanos()).unwrap_or(u64::MAX))
+}
+
+/// How many messages a second come to a broker: the middle one of several times.
+fn measure_work(rt: &impl Clock, alloc: Global, hub: &mut Hub, work: Work) -> anyhow::Result<u64> {
+    add_publishers(alloc, hub, work.flow)?;
+    add_subscribers(alloc, hub, work.flow, work.qos)?;
+    let mut times = [0u64; ROUNDS];
+    let mut played = 0u16;
+    for time in &mut times {
+        *time = time_turns(rt, alloc, hub, work, played)?;
+        played = played.saturating_add(TURNS);
+    }
+    end(hub, work.flow)?;
+    times.sort_unstable();
+    let messages = u64::from(TURNS) * u64::from(work.received());
+    Ok(messages.saturating_mul(1_000_000_000) / times[ROUNDS / 2].max(1))
+}
+
+/// Measures each flow with messages of this quality of service and size.
+fn measure_flows(
+    rt: &(impl Print + Clock),
+    alloc: Global,
+    hub: &mut Hub,
+    beside: u32,
+    qos: Qos,
+    payload: usize,
+) -> anyhow::Result<()> {
+    for flow in FLOWS {
+        let rate = measure_work(rt, alloc, hub, Work { flow, qos, payload })?;
+        let Flow {
+            publishers,
+            subscribers,
+        } = flow;
+        println!(rt;
+            "{NAME}: {beside} sessions beside, {publishers} to {subscribers}, {qos:?}, {payload} bytes: {rate} messages/s"
+        )?;
+    }
+    Ok(())
+}
+
+/// Measures a broker, and prints how many messages a second come to it.
+pub(crate) fn measure(rt: &(impl Print + Clock), alloc: Global) -> anyhow::Result<()> {
+    for beside in BESIDE {
+        let mut hub = broker(alloc)?;
+        add_others(alloc, &mut hub, beside)?;
+        for qos in [Qos::Q0, Qos::Q1, Qos::Q2] {
+            for payload in PAYLOADS {
+                measure_flows(rt, alloc, &mut hub, beside, qos, payload)?;
+            }
+        }
+    }
+    Ok(())
+}

@@ -1,0 +1,145 @@
+//! What clients of a broker send, made before the time is taken.
+
+use crate::sample::{identifier, made_up_bytes};
+use anyhow::{Context, ensure};
+use bytes::Bytes;
+use mq_hub::{Conn, HubEvent};
+use mq_packet::{
+    BoxedConnect, Connect, Delivery, Message, NonEmpty, Packet, PacketId, Payload, Publish,
+    Request, encode_into,
+};
+use mq_topic::{Qos, TopicFilter, TopicName};
+use mq_wire::Text;
+use std::alloc::Global;
+
+/// How many messages a publisher sends at once.
+pub(crate) const BATCH: u16 = 20;
+
+/// Bytes that a client sends on a connection.
+pub(crate) fn sent(alloc: Global, conn: Conn, packets: &[Packet]) -> anyhow::Result<HubEvent> {
+    let mut bytes = Vec::new(alloc);
+    for packet in packets {
+        encode_into(packet, &mut bytes)?;
+    }
+    Ok(HubEvent::Bytes(conn, Bytes::from_vec(bytes)?))
+}
+
+fn connect(alloc: Global, client: &str, clean_session: bool) -> anyhow::Result<Packet> {
+    let connect = Connect {
+        client_id: Text::new(alloc, client)?,
+        clean_session,
+        keep_alive: 0,
+        will: None,
+        login: None,
+    };
+    Ok(Packet::Connect(BoxedConnect::new(alloc, connect)?))
+}
+
+fn request(alloc: Global, filter: &str, qos: Qos) -> anyhow::Result<Request> {
+    let filter = TopicFilter::parse(alloc, filter)?;
+    Ok(Request { filter, qos })
+}
+
+/// A client comes, whose session ends with the connection.
+pub(crate) fn comes(alloc: Global, conn: Conn, client: &str) -> anyhow::Result<HubEvent> {
+    let packets = vec![in alloc; connect(alloc, client, true)?]?;
+    sent(alloc, conn, packets.as_slice())
+}
+
+/// A client comes, whose session ends with the connection, and subscribes to this filter.
+pub(crate) fn subscribes(
+    alloc: Global,
+    conn: Conn,
+    client: &str,
+    filter: &str,
+    qos: Qos,
+) -> anyhow::Result<HubEvent> {
+    let subscribe = Packet::Subscribe {
+        id: identifier(1)?,
+        requests: NonEmpty::from_vec(vec![in alloc; request(alloc, filter, qos)?]?),
+    };
+    let packets = vec![in alloc; connect(alloc, client, true)?, subscribe]?;
+    sent(alloc, conn, packets.as_slice())
+}
+
+/// Ten filters that no message of a publisher matches, all of one client.
+fn ten_requests(alloc: Global, client: u32) -> anyhow::Result<Vec<Request>> {
+    let mut requests = Vec::with_capacity(alloc, 10)?;
+    for number in 0..10 {
+        let filter = format!(in alloc; "plant/{client}/line/{number}/temperature")?;
+        requests.push(request(alloc, filter.as_str(), Qos::Q1)?)?;
+    }
+    Ok(requests)
+}
+
+/// A client comes, whose session goes on, and subscribes to ten filters of its own.
+pub(crate) fn subscribes_to_ten(
+    alloc: Global,
+    conn: Conn,
+    client: u32,
+) -> anyhow::Result<HubEvent> {
+    let name = format!(in alloc; "meter-{client}")?;
+    let requests = ten_requests(alloc, client)?;
+    ensure!(!requests.is_empty(), "no filters");
+    let subscribe = Packet::Subscribe {
+        id: identifier(1)?,
+        requests: NonEmpty::from_vec(requests),
+    };
+    let packets = vec![in alloc; connect(alloc, name.as_str(), false)?, subscribe]?;
+    sent(alloc, conn, packets.as_slice())
+}
+
+fn publish(alloc: Global, id: PacketId, qos: Qos, payload: Bytes) -> anyhow::Result<Packet> {
+    let message = Message {
+        topic: TopicName::parse(alloc, "greenhouse/4/north/temperature/c")?,
+        payload: Payload::new(payload).context("a payload that is too long")?,
+        qos,
+        retain: false,
+    };
+    let delivery = match qos {
+        Qos::Q0 => None,
+        Qos::Q1 | Qos::Q2 => Some(Delivery { id, dup: false }),
+    };
+    Ok(Packet::Publish(Publish::new(message, delivery)))
+}
+
+/// A publisher sends messages of this quality of service and size; of 2 it releases their identifiers at once.
+pub(crate) fn publishes(
+    alloc: Global,
+    conn: Conn,
+    qos: Qos,
+    size: usize,
+) -> anyhow::Result<HubEvent> {
+    let mut packets = Vec::new(alloc);
+    for number in 1..=BATCH {
+        let id = identifier(number)?;
+        packets.push(publish(alloc, id, qos, made_up_bytes(alloc, size)?)?)?;
+        if qos == Qos::Q2 {
+            packets.push(Packet::PubRel(id))?;
+        }
+    }
+    sent(alloc, conn, packets.as_slice())
+}
+
+/// A subscriber acknowledges so many messages, whose identifiers follow on the one of this number, 65,535 and 1 being neighbours.
+pub(crate) fn acknowledges(
+    alloc: Global,
+    conn: Conn,
+    qos: Qos,
+    last: u16,
+    count: u16,
+) -> anyhow::Result<HubEvent> {
+    let mut packets = Vec::new(alloc);
+    let mut number = last;
+    for _ in 0..count {
+        number = number % u16::MAX + 1;
+        let id = identifier(number)?;
+        if qos == Qos::Q1 {
+            packets.push(Packet::PubAck(id))?;
+        } else {
+            packets.push(Packet::PubRec(id))?;
+            packets.push(Packet::PubComp(id))?;
+        }
+    }
+    sent(alloc, conn, packets.as_slice())
+}
