@@ -5,7 +5,7 @@ PREFIX ?= /usr/local
 ARGS ?= --help
 STREAMS ?= small publish16 publish1024 publish65536 mixed
 
-.PHONY: all bin/mqtt test install try bench-c clean
+.PHONY: all bin/mqtt test program install try bench-c clean
 
 # Proves the program and everything below it, builds it, and runs it once.
 all: bin/mqtt
@@ -23,6 +23,10 @@ test:
 	@echo 'Proves every crate from nothing and tries each edit: an hour or more on four processors, twice that on two.' >&2
 	bash .ci/run
 
+# Runs the program on what its stored run can't have, and the snippets of README.
+program: bin/mqtt
+	.ci/program bin/mqtt
+
 install: bin/mqtt
 	mkdir -p $(DESTDIR)$(PREFIX)/bin
 	install -m 755 bin/mqtt $(DESTDIR)$(PREFIX)/bin/mqtt
@@ -32,7 +36,8 @@ try:
 	@echo 'This proves nothing: the program is built as it is written, which takes a minute or two, and runs.' >&2
 	cd crates/mqtt && $(RT) try -- $(ARGS)
 
-# Measures plain C that makes the same tests as `view`, over the streams of mq_bench: make bench-c STREAMS=small
+# Measures plain C that makes the same tests as `view`, and such that then owns what it found, as `feed` does, over the streams of mq_bench:
+# make bench-c STREAMS=small
 bench-c:
 	@command -v $(CC) >/dev/null || { echo 'There is no C compiler here called $(CC): name one, as make bench-c CC=clang.' >&2; exit 1; }
 	mkdir -p bin

@@ -4,6 +4,10 @@
  * its flags, the remaining length, UTF-8 and U+0000 of every text, wildcards of names and filters, identifiers, the
  * flags of CONNECT, codes, lists, and that a packet has no bytes left. Nothing is proved of it.
  *
+ * The same packets are then read once more and owned, which is to be held against `feed`: after the same tests each
+ * text, payload and binary is copied to memory of its own, and so are lists; the packets of 65,536 bytes are kept in
+ * a list and then let go of, as `mq_bench` does after each piece.
+ *
  *     make bench-c
  *
  * A scan (the sum of all bytes) is timed in the same run, as `mq_bench` does it, so that ratios can be held against
@@ -180,6 +184,7 @@ static bool take_connect(struct fields *fields, struct packet *packet)
     struct part part;
     uint8_t level, flags;
     uint16_t keep_alive;
+    packet->rest.at = fields->at;
     if (!take_text(fields, &part) || part.size != 4 || memcmp(part.at, "MQTT", 4) != 0)
         return false;
     if (!take_byte(fields, &level) || level != 4 || !take_byte(fields, &flags) || (flags & 1))
@@ -197,6 +202,7 @@ static bool take_connect(struct fields *fields, struct packet *packet)
     if ((flags & 0x40) && !take_part(fields, &part))
         return false;
     packet->id = keep_alive;
+    packet->rest.size = (size_t)(fields->at - packet->rest.at);
     return fields->left == 0;
 }
 
@@ -282,6 +288,169 @@ static struct packet packet_at(const uint8_t *bytes, size_t count)
         return none;
     packet.size = at + size;
     return packet;
+}
+
+/* ---- packets that own their fields */
+
+#define PIECE 65536u
+
+/* An item of a list: a filter (none in SUBACK) and a code (none in UNSUBSCRIBE). */
+struct item {
+    uint8_t *filter;
+    size_t size;
+    uint8_t code;
+};
+
+/* A packet whose texts, payload and lists are in memory of its own. CONNECT: at most five parts. */
+struct owned {
+    uint8_t first;
+    uint8_t flags;
+    uint16_t id;
+    struct part name;
+    struct part rest;
+    struct part *parts;
+    struct item *items;
+    size_t count;
+};
+
+/* The packets of a piece. */
+struct packets {
+    struct owned *all;
+    size_t count, room;
+};
+
+static void *take_memory(size_t size)
+{
+    void *memory = malloc(size > 0 ? size : 1);
+    if (memory == NULL) {
+        fputs("out of memory\n", stderr);
+        exit(3);
+    }
+    return memory;
+}
+
+static struct part copy_of(struct part part)
+{
+    uint8_t *memory = take_memory(part.size);
+    struct part copy = {memory, part.size};
+    memcpy(memory, part.at, part.size);
+    return copy;
+}
+
+/* The client identifier, the will, the user name and the password, which were tested. */
+static void own_connect(struct owned *owned, struct part body)
+{
+    struct fields fields = {body.at + 10, body.size - 10};
+    struct part part;
+    owned->flags = body.at[7];
+    owned->parts = take_memory(5 * sizeof *owned->parts);
+    while (fields.left > 0 && owned->count < 5 && take_part(&fields, &part))
+        owned->parts[owned->count++] = copy_of(part);
+}
+
+/* The items of a list, which were tested. */
+static void own_list(struct owned *owned, struct part list)
+{
+    struct fields fields = {list.at, list.size};
+    struct part filter;
+    size_t room = 4;
+    owned->items = take_memory(room * sizeof *owned->items);
+    while (fields.left > 0) {
+        struct item item = {NULL, 0, 0};
+        if (owned->first != 0x90 && take_part(&fields, &filter)) {
+            struct part copy = copy_of(filter);
+            item.filter = (uint8_t *)copy.at;
+            item.size = copy.size;
+        }
+        if (owned->first != 0xa2)
+            take_byte(&fields, &item.code);
+        if (owned->count == room) {
+            struct item *more = take_memory(2 * room * sizeof *more);
+            memcpy(more, owned->items, room * sizeof *more);
+            free(owned->items);
+            owned->items = more;
+            room *= 2;
+        }
+        owned->items[owned->count++] = item;
+    }
+}
+
+static struct owned own(const struct packet *packet)
+{
+    struct owned owned = {0};
+    owned.first = packet->first;
+    owned.id = packet->id;
+    switch (packet->first >> 4) {
+    case 1:
+        own_connect(&owned, packet->rest);
+        break;
+    case 3:
+        owned.name = copy_of(packet->name);
+        owned.rest = copy_of(packet->rest);
+        break;
+    case 8: case 9: case 10:
+        own_list(&owned, packet->rest);
+        break;
+    }
+    return owned;
+}
+
+static void let_go(struct owned *owned)
+{
+    free((void *)owned->name.at);
+    free((void *)owned->rest.at);
+    for (size_t i = 0; i < owned->count; i++)
+        free(owned->parts != NULL ? (void *)owned->parts[i].at : owned->items[i].filter);
+    free(owned->parts);
+    free(owned->items);
+}
+
+static void keep(struct packets *packets, struct owned owned)
+{
+    if (packets->count == packets->room) {
+        size_t room = packets->room > 0 ? 2 * packets->room : 16;
+        struct owned *more = realloc(packets->all, room * sizeof *more);
+        if (more == NULL) {
+            fputs("out of memory\n", stderr);
+            exit(3);
+        }
+        packets->all = more;
+        packets->room = room;
+    }
+    packets->all[packets->count++] = owned;
+}
+
+static void clear(struct packets *packets)
+{
+    for (size_t i = 0; i < packets->count; i++)
+        let_go(&packets->all[i]);
+    packets->count = 0;
+}
+
+/* How many packets there are, all of them whole, each of them owned until those of some 65,536 bytes are there. */
+static __attribute__((noinline)) uint64_t own_all(const uint8_t *bytes, size_t count, uint64_t *sum)
+{
+    struct packets packets = {NULL, 0, 0};
+    uint64_t all = 0;
+    size_t gone = 0;
+    while (count > 0) {
+        struct packet packet = packet_at(bytes, count);
+        if (packet.size == 0)
+            break;
+        keep(&packets, own(&packet));
+        *sum += packet.first;
+        bytes += packet.size;
+        count -= packet.size;
+        gone += packet.size;
+        all++;
+        if (gone >= PIECE) {
+            clear(&packets);
+            gone = 0;
+        }
+    }
+    clear(&packets);
+    free(packets.all);
+    return count == 0 ? all : 0;
 }
 
 /* How many packets there are, all of them whole; what lies in them goes into a sum, so that it is read. */
@@ -461,9 +630,32 @@ static int compare(const void *a, const void *b)
     return (x > y) - (x < y);
 }
 
+/* One of the two works over the packets. */
+typedef uint64_t (*work)(const uint8_t *, size_t, uint64_t *);
+
+/* The middle one of the times that a work takes; below 0 where it doesn't go to the stream's end. */
+static double time_of(work work, const struct buffer *stream, uint64_t packets, uint64_t *sum)
+{
+    double times[ROUNDS];
+    for (int round = 0; round < ROUNDS; round++) {
+        double start = now();
+        if (work(stream->bytes, stream->count, sum) != packets)
+            return -1;
+        times[round] = now() - start;
+    }
+    qsort(times, ROUNDS, sizeof *times, compare);
+    return times[ROUNDS / 2];
+}
+
+static void print_row(const char *name, const char *what, const struct buffer *stream, uint64_t packets, double scan, double time)
+{
+    printf("%-14s %-9s %9.2f ns a packet %8.0f MB/s %12.0f packets/s   %.3f of its scan\n", name, what,
+           time * 1e9 / (double)packets, (double)stream->count / time / 1e6, (double)packets / time, scan / time);
+}
+
 static bool measure(struct buffer *stream, const char *name)
 {
-    double scans[ROUNDS], reads[ROUNDS];
+    double scans[ROUNDS], looked, owned;
     uint64_t sum = 0, packets;
     size_t turn, turns;
     stream->count = 0;
@@ -482,19 +674,16 @@ static bool measure(struct buffer *stream, const char *name)
         sum += scan(stream->bytes, stream->count);
         scans[round] = now() - start;
     }
-    for (int round = 0; round < ROUNDS; round++) {
-        double start = now();
-        if (read_all(stream->bytes, stream->count, &sum) != packets) {
-            fprintf(stderr, "same_tests: %s is not read to its end\n", name);
-            return false;
-        }
-        reads[round] = now() - start;
-    }
     qsort(scans, ROUNDS, sizeof *scans, compare);
-    qsort(reads, ROUNDS, sizeof *reads, compare);
-    printf("%-14s %8.2f ns a packet %8.0f MB/s %12.0f packets/s   %.3f of its scan   (sum %llu)\n", name,
-           reads[ROUNDS / 2] * 1e9 / (double)packets, (double)stream->count / reads[ROUNDS / 2] / 1e6,
-           (double)packets / reads[ROUNDS / 2], scans[ROUNDS / 2] / reads[ROUNDS / 2], (unsigned long long)sum);
+    looked = time_of(read_all, stream, packets, &sum);
+    owned = time_of(own_all, stream, packets, &sum);
+    if (looked < 0 || owned < 0) {
+        fprintf(stderr, "same_tests: %s is not read to its end\n", name);
+        return false;
+    }
+    print_row(name, "looked at", stream, packets, scans[ROUNDS / 2], looked);
+    print_row(name, "owned", stream, packets, scans[ROUNDS / 2], owned);
+    printf("%-14s the sum is %llu\n", name, (unsigned long long)sum);
     return true;
 }
 
