@@ -1,90 +1,74 @@
--- What was counted of a reader so far.
-use Rattle.std.proofs.Common.{◌≡◌, ℕ, ◌+◌, List, [], ◌∷◌, ◌++◌, length, Option, Some, None, refl, sym, ap, ◌∙◌, append_assoc, arith}
+-- What was counted of an input so far.
+use Rattle.std.proofs.Common.{◌≡◌, ℕ, zero, suc, ◌+◌, ◌<◌, ◌≤◌, ◌==◌, if◌then◌else◌, true, false, List, [], ◌∷◌, ◌++◌, length, Option, Some, None, refl, sym, ap, subst, ◌∙◌, arith}
 use Rattle.std.specs.Prelude.{IfSome}
-use Rattle.std.specs.Io.KnownBytes.{Consumes, IsAtEnd}
-use Rattle.std.proofs.lemmas.List.{append-nil, length-append}
+use Rattle.std.specs.Io.KnownBytes.{Appends, Consumes, IsAtEnd}
+use Rattle.std.proofs.lemmas.Bool.Decides.{nat_tests}
+use Rattle.std.proofs.lemmas.List.{length-append}
 use Rattle.mq_packet.specs.declared.packet.Packet.{Packet}
-use Rattle.mq_decode.specs.declared.fault.FaultKind.{FaultKind}
+use Rattle.mq_decode.specs.declared.fault.DecodeFault.{DecodeFault}
 use Rattle.mq_decode.specs.Limits.{Bounds}
-use Rattle.mq_decode.specs.Grammar.{ReadsWithin, Stream, Faulty, AtFirst, AtLength, AtSize, AtField, Pending}
+use Rattle.mq_decode.specs.Grammar.{Reading, Stream}
 use Rattle.mq_decode.specs.Laws.{ReadsAgain}
-use Rattle.mq_decode.specs.Reader.{ReadStops}
-use Rattle.mq_decode.specs.declared.read.ReadError.{ReadError}
-use Rattle.mq_decode.specs.declared.read.ReadError.TheVariants as errors
-use Rattle.mq_cli.specs.declared.count.CountEnd.{CountEnd}
+use Rattle.mq_cli.specs.declared.stream.StreamEnd.TheVariants as shown
 use Rattle.mq_cli.specs.declared.count.CountEnd.TheVariants as ends
-use Rattle.mq_cli.specs.Count.{Counts, IsTaken, end_with}
+use Rattle.mq_cli.specs.Count.{Counts, EndsAt, count_rest}
+use Rattle.mq_cli.specs.Show.{Reads}
+use Rattle.mq_cli.specs.Status.{end_of_rest}
+use Rattle.mq_cli.proofs.InTurn.{Printed, end_of, fault_of, more_printed, more_read, none_printed}
 
--- the bytes that were taken are so many packets, and so many bytes
-pub record Counted (limit : Bounds) (left now : Option (List ℕ)) (packets start : ℕ) : Type 0 where
-  pub front : List ℕ
-  pub read : List Packet
-  pub stream : Stream limit read front
-  pub number : packets ≡ length read
-  pub size : start ≡ length front
-  pub taken : Consumes left now front
+-- so many bytes were read: those of so many packets, and these
+pub record Counted (limits : Bounds) (left now : Option (List ℕ)) (bytes : List ℕ) (total number : ℕ) : Type 0 where
+  pub read : Printed limits left now None None bytes total
+  pub all : number ≡ length read.packets
 
 -- nothing yet
-pub none_counted : (limit : Bounds) (left : Option (List ℕ)) → Counted limit left left 0 0
-none_counted limit None = record { front = []; read = []; stream = refl; number = refl; size = refl; taken = tt }
-none_counted limit (Some xs) = record { front = []; read = []; stream = refl; number = refl; size = refl; taken = refl }
+pub none_counted : (limits : Bounds) (left : Option (List ℕ)) (bytes : List ℕ) → bytes ≡ [] → Counted limits left left bytes 0 0
+unfolding none_printed
+none_counted limits left bytes e = record { read = none_printed limits left None bytes e; all = refl }
 
--- a stream and one packet more
-pub stream_and : (limit : Bounds) (ps : List Packet) (p : Packet) (b s : List ℕ) → Stream limit ps b → ReadsWithin limit p s → Stream limit (ps ++ p ∷ []) (b ++ s)
-stream_and limit [] p b s h one = (s, [], one, refl, ap (λ (t : List ℕ). t ++ s) h ∙ sym (append-nil s))
-stream_and limit (q ∷ ps) p b s h one =
-    (h.0, h.1 ++ s, h.2, stream_and limit ps p h.1 s h.3 one, ap (λ (t : List ℕ). t ++ s) h.4 ∙ append_assoc h.0 h.1 s)
+-- more bytes were read
+pub more_bytes : (limits : Bounds) (left mid now : Option (List ℕ)) (bytes after more : List ℕ) (total sum count number : ℕ) → Counted limits left mid bytes total number → count ≡ length more → after ≡ bytes ++ more
+    → Consumes mid now more → sum ≡ total + count → Counted limits left now after sum number
+unfolding more_read
+more_bytes limits left mid now bytes after more total sum count number c n e took added =
+    record { read = more_read limits left mid now None None bytes after more total sum count c.read n e took added; all = c.all }
 
--- one read after another
-pub consumes_then : (left mid now : Option (List ℕ)) (a b : List ℕ) → Consumes left mid a → Consumes mid now b → Consumes left now (a ++ b)
-consumes_then None mid now a b h k = tt
-consumes_then (Some xs) None now a b h k = absurd h
-consumes_then (Some xs) (Some ys) None a b h k = absurd k
-consumes_then (Some xs) (Some ys) (Some zs) a b h k = h ∙ (ap (λ (t : List ℕ). a ++ t) k ∙ sym (append_assoc a b zs))
-
--- one packet more
-pub one_more : (limit : Bounds) (left mid now : Option (List ℕ)) (packets start n after : ℕ) → Counted limit left mid packets start → IsTaken limit mid now n → after ≡ start + n
-    → Counted limit left now (packets + 1) after
-one_more limit left mid now packets start n after h one sum = record {
-  front = h.front ++ one.1;
-  read = h.read ++ one.0 ∷ [];
-  stream = stream_and limit h.read one.0 h.front one.1 h.stream one.2;
-  number = omega (arith, h.number, length-append h.read (one.0 ∷ []));
-  size = omega (arith, sum, h.size, one.4, length-append h.front one.1);
-  taken = consumes_then left mid now h.front one.1 h.taken one.3;
+-- and packets counted
+pub more_counted : (limits : Bounds) (left now : Option (List ℕ)) (bytes rest : List ℕ) (packets : List Packet) (fault : Option DecodeFault) (total number sum : ℕ) → Counted limits left now bytes total number
+    → Reading limits bytes packets rest fault → sum ≡ number + length packets → Counted limits left now rest total sum
+unfolding more_printed
+more_counted limits left now bytes rest packets fault total number sum c r e = record {
+  read = more_printed limits left now None None None bytes rest packets fault total c.read r tt;
+  all = omega (arith, e, c.all, length-append c.read.packets packets);
 }
 
--- no bytes are less than a whole packet, and nothing is wrong with them
-no_fault : (limit : Bounds) (k : FaultKind) (place : ℕ) → Faulty limit [] k place → ⊥
-no_fault limit k place (AtFirst h) = let e : [] ≡ h.first ∷ h.rest = h.bytes in absurd cc
-no_fault limit k place (AtLength h) = let e : [] ≡ h.first ∷ h.rest = h.bytes in absurd cc
-no_fault limit k place (AtSize h) = let e : [] ≡ h.first ∷ (h.len ++ h.rest) = h.bytes in absurd cc
-no_fault limit k place (AtField h) = let e : [] ≡ h.first ∷ (h.len ++ (h.body ++ h.rest)) = h.bytes in absurd cc
+-- each packet takes a byte
+few_packets : (laws : ReadsAgain) (limits : Bounds) (packets : List Packet) (bytes : List ℕ) → Stream limits packets bytes → length packets ≤ length bytes
+few_packets laws limits [] bytes h = omega arith
+few_packets laws limits (p ∷ packets) bytes h =
+    omega (arith, few_packets laws limits packets h.1 h.3, laws.some limits p h.0 h.2, ap length h.4, length-append h.0 h.1)
 
-nothing_pending : (limit : Bounds) → ReadsAgain → Pending limit []
-nothing_pending limit laws = record {
-  not_whole = λ p first rest h e. absurd (omega (arith, laws.some limit p first h, ap length e, length-append first rest));
-  not_faulty = no_fault limit;
-}
+pub few_counted : (laws : ReadsAgain) (limits : Bounds) (left now : Option (List ℕ)) (bytes : List ℕ) (total number : ℕ) → Counted limits left now bytes total number → number ≤ total
+few_counted laws limits left now bytes total number c = omega (arith, c.all, c.read.size, few_packets laws limits c.read.packets c.read.front c.read.stream)
 
--- where the reader is at its end, all of its bytes were counted
-pub counted_all : (laws : ReadsAgain) (limit : Bounds) (left now : Option (List ℕ)) (packets start : ℕ) → Counted limit left now packets start → IsAtEnd now → IfSome left (Counts limit (record { packets = packets; end = ends.Whole }))
-counted_all laws limit None now packets start h end = tt
-counted_all laws limit (Some xs) None packets start h end = absurd h.taken
-counted_all laws limit (Some xs) (Some ys) packets start h end =
-    (h.read, record { front = h.front; stream = h.stream; parts = h.taken ∙ ap (λ (t : List ℕ). h.front ++ t) end; ends = nothing_pending limit laws }, h.number)
+-- they end with a fault
+pub fault_counted : (limits : Bounds) (left now : Option (List ℕ)) (before bytes : List ℕ) (packets : List Packet) (total number start : ℕ) (fault : DecodeFault) → Counted limits left now bytes total number
+    → Reading limits before packets bytes (Some fault) → start + length bytes ≡ total → IfSome left (Counts limits (record { packets = number; end = ends.Fault fault start }))
+fault_counted limits None now before bytes packets total number start fault c r e = tt
+fault_counted limits (Some xs) now before bytes packets total number start fault c r e =
+    (c.read.packets, fault_of limits (Some xs) now None None bytes total start fault c.read packets before r e, c.all)
 
-some_is : {a b : CountEnd} → Some a ≡ Some b → a ≡ b
-some_is e = cc
+counts_rest : (limits : Bounds) (all : List ℕ) (packets : List Packet) (held : ℕ) → Reads limits all packets (end_of_rest held) → EndsAt limits all packets (count_rest held)
+counts_rest limits all packets zero h = h
+counts_rest limits all packets (suc held) h =
+    let some : (suc held == 0) ≡ false = grind (arith, nat_tests) in
+    let rest : Reads limits all packets (shown.Held (suc held)) = rw some at h in
+    rw some (rest.0, rest.1, omega (arith, rest.2))
 
--- what could not be read comes after what was counted
-pub counted_to : (limit : Bounds) (left now : Option (List ℕ)) (packets start : ℕ) (error : ReadError) (end : CountEnd) → Counted limit left now packets start → ReadStops limit now error
-    → end_with start error ≡ Some end → IfSome left (Counts limit (record { packets = packets; end = end }))
-counted_to limit None now packets start error end h stops e = tt
-counted_to limit (Some xs) None packets start error end h stops e = absurd h.taken
-counted_to limit (Some xs) (Some ys) packets start errors.Cut end h stops e =
-    rw (sym (some_is e)) (h.read, (ys, record { front = h.front; stream = h.stream; parts = h.taken; ends = stops.0 }, stops.1), h.number)
-counted_to limit (Some xs) (Some ys) packets start (errors.Fault fault) end h stops e =
-    rw (sym (some_is e)) (h.read, (ys, record { front = h.front; stream = h.stream; parts = h.taken; ends = stops }, omega (arith, h.size, ap length h.taken, length-append h.front ys)), h.number)
-counted_to limit (Some xs) (Some ys) packets start (errors.Io error) end h stops e = absurd cc
-counted_to limit (Some xs) (Some ys) packets start errors.Memory end h stops e = absurd cc
+-- they end with a rest, or with nothing
+pub rest_counted : (limits : Bounds) (left now : Option (List ℕ)) (before bytes : List ℕ) (packets : List Packet) (total number held : ℕ) → Counted limits left now bytes total number
+    → Reading limits before packets bytes None → IsAtEnd now → held ≡ length bytes → IfSome left (Counts limits (record { packets = number; end = count_rest held }))
+rest_counted limits None now before bytes packets total number held c r end e = tt
+rest_counted limits (Some xs) now before bytes packets total number held c r end e =
+    let reads = end_of limits (Some xs) now None None bytes total c.read packets before r end in
+    rw e (c.read.packets, counts_rest limits xs c.read.packets (length bytes) reads, c.all)

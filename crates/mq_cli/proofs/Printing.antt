@@ -1,6 +1,6 @@
 -- What was written behind what a writer holds.
 use Rattle.std.proofs.Common.{◌≡◌, ℕ, Bool, List, ◌++◌, Option, Some, None, Result, Ok, Err, refl, sym, ap, subst, ◌∙◌, append_assoc, inl, inr}
-use Rattle.std.specs.Prelude.{IfOk, OnOk}
+use Rattle.std.specs.Prelude.{IfOk, IfSome, IsUtf8, OnOk}
 use Rattle.std.specs.Io.KnownBytes.{Appends}
 use Rattle.mq_decode.specs.Limits.{Bounds}
 use Rattle.mq_cli.specs.declared.stream.Shown.{Shown}
@@ -46,3 +46,8 @@ cut_off text schedule (Err e) a b c reads p status k = tt
 -- a replay to its end
 pub replayed : (text : List ℕ) (schedule : Schedule) (a b : Option (List ℕ)) → IsSchedule (lines_of text) schedule → Prints a b (IsReplay schedule) → Prints a b (IsTextReplayed text 0)
 replayed text schedule a b reads p = (p.0, p.1, inl (schedule, reads, p.2, refl))
+
+-- bytes that are no UTF-8
+pub no_text : (left : Option (List ℕ)) (bytes : List ℕ) → IfSome left (λ all. bytes ≡ all) → ¬ IsUtf8 bytes → IfSome left (λ all. ¬ IsUtf8 all)
+no_text None bytes same none = tt
+no_text (Some all) bytes same none = subst (λ (b : List ℕ). ¬ IsUtf8 b) same none

@@ -1,14 +1,16 @@
 -- What is counted of the packets of a reader.
-use Rattle.std.specs.Prelude.{◌≡◌, ℕ, ◌+◌, ◌<◌, List, [], length, Option, Some, None}
-use Rattle.std.specs.Io.KnownBytes.{Consumes}
+use Rattle.std.specs.Prelude.{◌≡◌, ⊤, ℕ, ◌+◌, ◌<◌, ◌==◌, if◌then◌else◌, Bool, true, List, [], length, Option, Some, None}
 use Rattle.mq_packet.specs.declared.packet.Packet.{Packet}
-use Rattle.mq_decode.specs.declared.read.ReadError.{ReadError}
-use Rattle.mq_decode.specs.declared.read.ReadError.TheVariants as errors
 use Rattle.mq_decode.specs.Limits.{Bounds}
-use Rattle.mq_decode.specs.Grammar.{Reading, ReadsWithin}
+use Rattle.mq_decode.specs.Grammar.{Reading}
 use Rattle.mq_cli.specs.declared.count.PacketCount.{PacketCount}
 use Rattle.mq_cli.specs.declared.count.CountEnd.{CountEnd}
 use Rattle.mq_cli.specs.declared.count.CountEnd.TheVariants.{Whole, Cut, Fault}
+use Rattle.mq_cli.specs.declared.count.CountFault.{CountFault}
+use Rattle.mq_cli.specs.declared.count.CountFault.TheVariants as faults
+use Rattle.mq_cli.specs.declared.front.Stop.{Stop}
+use Rattle.mq_cli.specs.declared.front.Stop.TheVariants as stops
+use Rattle.mq_cli.specs.Stops.{IsTooLong}
 
 -- the bytes are these packets and end so: with nothing, with less than a whole packet, or with what is no packet, which begins
 -- where the packets end
@@ -21,13 +23,16 @@ EndsAt limits bytes packets (Fault fault start) = (rest : List ℕ) × Reading l
 abbrev pub Counts : Bounds → PacketCount → List ℕ → Type 0
 Counts limits count bytes = (packets : List Packet) × EndsAt limits bytes packets count.end × (count.packets ≡ length packets)
 
--- how the packets end where the next one could not be read, which begins at this place
-abbrev pub end_with : ℕ → ReadError → Option CountEnd
-end_with start errors.Cut = Some Cut
-end_with start (errors.Fault fault) = Some (Fault fault start)
-end_with start (errors.Io error) = None
-end_with start errors.Memory = None
+-- how packets end that have so many bytes behind them, with which nothing is wrong
+abbrev pub count_rest : ℕ → CountEnd
+count_rest held = if held == 0 then Whole else Cut
 
--- a packet of so many bytes was taken
-abbrev pub IsTaken : Bounds → Option (List ℕ) → Option (List ℕ) → ℕ → Type 0
-IsTaken limits old new n = (p : Packet) × (s : List ℕ) × ReadsWithin limits p s × Consumes old new s × (n ≡ length s)
+-- why packets are not counted: a read may fail, or there are too many bytes
+abbrev pub IsNotCounted : Option (List ℕ) → Bool → CountFault → Type 0
+IsNotCounted left fails (faults.Io error) = fails ≡ true
+IsNotCounted left fails faults.Memory = ⊤
+IsNotCounted left fails faults.TooLong = IsTooLong left
+
+abbrev pub fault_of_stop : Stop → CountFault
+fault_of_stop (stops.Io error) = faults.Io error
+fault_of_stop stops.Memory = faults.Memory

@@ -6,3 +6,4 @@ pub mod Printed
 pub mod Random
 pub mod Show
 pub mod Status
+pub mod Stops

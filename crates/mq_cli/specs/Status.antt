@@ -1,5 +1,5 @@
 -- What the statuses of the program mean, and what it prints with each.
-use Rattle.std.specs.Prelude.{◌≡◌, ◌⊎◌, ⊤, ℕ, ◌==◌, if◌then◌else◌, Bool, true, false, List, [], ◌∷◌, ◌++◌, map, Option, Some, None, IfSome, codes, decimal}
+use Rattle.std.specs.Prelude.{◌≡◌, ◌⊎◌, ℕ, ◌==◌, if◌then◌else◌, Bool, true, false, List, [], ◌∷◌, ◌++◌, map, Option, Some, None, IfSome, IsUtf8, codes, decimal}
 use Rattle.std.specs.List.{flat_map}
 use Rattle.std.specs.Int.NonZero.{non_zero_u16_get}
 use Rattle.mq_topic.specs.Fault.{filter_fault, name_fault}
@@ -12,8 +12,6 @@ use Rattle.mq_cli.specs.declared.jobs.Job.TheVariants as jobs
 use Rattle.mq_cli.specs.declared.stream.StreamEnd.{StreamEnd}
 use Rattle.mq_cli.specs.declared.stream.StreamEnd.TheVariants.{Whole, Held, Fault}
 use Rattle.mq_cli.specs.declared.stream.Shown.{Shown}
-use Rattle.mq_cli.specs.declared.streaming.Stop.{Stop}
-use Rattle.mq_cli.specs.declared.streaming.Stop.TheVariants.{Io, Memory}
 use Rattle.mq_cli.specs.declared.count.PacketCount.{PacketCount}
 use Rattle.mq_cli.specs.declared.count.CountEnd.{CountEnd}
 use Rattle.mq_cli.specs.declared.count.CountEnd.TheVariants as ends
@@ -21,6 +19,7 @@ use Rattle.mq_cli.specs.Count.{Counts}
 use Rattle.mq_cli.specs.Hexadecimal.{IsHexadecimal}
 use Rattle.mq_cli.specs.Printed.{bad_hex, bad_line, count_lines, file_not_read, match_line, no_memory, packet_line, shown_lines, topic_line}
 use Rattle.mq_cli.specs.Show.{AreFirst, Reads, Shows}
+use Rattle.mq_cli.specs.Stops.{IsUnread}
 use Rattle.mq_world.specs.MadeUp.{made_up}
 use Rattle.mq_schedule.specs.declared.schedule.Schedule.{Schedule}
 use Rattle.mq_schedule.specs.declared.schedule.Step.TheVariants.{Event, Settle}
@@ -54,27 +53,22 @@ IsShowDone lenient digits status text =
 abbrev pub end_of_rest : ℕ → StreamEnd
 end_of_rest held = if held == 0 then Whole else Held held
 
--- a fact where memory ran out
-abbrev pub OnMemory : Stop → Type 0 → Type 0
-OnMemory (Io error) P = ⊤
-OnMemory Memory P = P
-
--- the status and the line where bytes can't be read on: 2, or 3 for want of memory
-abbrev pub IsCutShort : ℕ → List ℕ → Type 0
-IsCutShort status line = ((status ≡ 2) × (line ≡ file_not_read)) ⊎ ((status ≡ 3) × (line ≡ no_memory))
+-- the status and the line where bytes can't be read on: 2 where a read may fail or there are too many, or 3 for want of memory
+abbrev pub IsCutShort : Option (List ℕ) → Bool → ℕ → List ℕ → Type 0
+IsCutShort left fails status line = ((status ≡ 2) × (line ≡ file_not_read) × IsUnread left fails) ⊎ ((status ≡ 3) × (line ≡ no_memory))
 
 -- the status and the lines of `show` for a file: those of its packets and its end, where its bytes are known; or, behind the lines of
 -- its first packets, that it can't be read on
-abbrev pub IsStreamShown : Bool → Option (List ℕ) → ℕ → List ℕ → Type 0
-IsStreamShown lenient left status text =
+abbrev pub IsStreamShown : Bool → Option (List ℕ) → Bool → ℕ → List ℕ → Type 0
+IsStreamShown lenient left fails status text =
     ((packets : List Packet) × (end : StreamEnd) × IfSome left (λ bytes. Reads (widest lenient) bytes packets end) × (status ≡ end_status end) × (text ≡ shown_lines packets end)) ⊎
-    ((packets : List Packet) × (line : List ℕ) × IfSome left (λ bytes. AreFirst (widest lenient) bytes packets) × IsCutShort status line × (text ≡ flat_map packet_line packets ++ line))
+    ((packets : List Packet) × (line : List ℕ) × IfSome left (λ bytes. AreFirst (widest lenient) bytes packets) × IsCutShort left fails status line × (text ≡ flat_map packet_line packets ++ line))
 
--- the status and the lines of `check`: those of what a file has, where its bytes are known, or 2 where it can't be read, or 3 for
--- want of memory
-abbrev pub IsCheckDone : Bool → Option (List ℕ) → ℕ → List ℕ → Type 0
-IsCheckDone lenient left status text =
-    ((count : PacketCount) × IfSome left (Counts (widest lenient) count) × (status ≡ count_status count.end) × (text ≡ count_lines count)) ⊎ ((status ≡ 2) × (text ≡ file_not_read)) ⊎ ((status ≡ 3) × (text ≡ no_memory))
+-- the status and the lines of `check`: those of what a file has, where its bytes are known, or 2 where a read may fail or the bytes are
+-- too many, or 3 for want of memory
+abbrev pub IsCheckDone : Bool → Option (List ℕ) → Bool → ℕ → List ℕ → Type 0
+IsCheckDone lenient left fails status text =
+    ((count : PacketCount) × IfSome left (Counts (widest lenient) count) × (status ≡ count_status count.end) × (text ≡ count_lines count)) ⊎ IsCutShort left fails status text
 
 -- 0 where the filter matches
 abbrev pub match_status : Bool → ℕ
@@ -102,11 +96,11 @@ abbrev pub IsTextReplayed : List ℕ → ℕ → List ℕ → Type 0
 IsTextReplayed text status printed =
     ((schedule : Schedule) × IsSchedule (lines_of text) schedule × IsReplay schedule printed × (status ≡ 0)) ⊎ ((line : ℕ) × IsBadLine (lines_of text) line × (status ≡ 2) × (printed ≡ bad_line line)) ⊎ ((front : List ℕ) × IsCutOff text front × (status ≡ 3) × (printed ≡ front ++ no_memory))
 
--- the status and the lines of `replay`: those of a file's schedule, where its bytes are known, or 2 where it can't be read as UTF-8, or
--- 3 for want of memory
-abbrev pub IsReplayDone : Option (List ℕ) → ℕ → List ℕ → Type 0
-IsReplayDone left status printed =
-    ((text : List ℕ) × IfSome left (λ bytes. bytes ≡ text) × IsTextReplayed text status printed) ⊎ ((status ≡ 2) × (printed ≡ file_not_read)) ⊎ ((status ≡ 3) × (printed ≡ no_memory))
+-- the status and the lines of `replay`: those of a file's schedule, where its bytes are known, or 2 where a read may fail or the bytes
+-- are no UTF-8, or 3 for want of memory
+abbrev pub IsReplayDone : Option (List ℕ) → Bool → ℕ → List ℕ → Type 0
+IsReplayDone left fails status printed =
+    ((text : List ℕ) × IfSome left (λ bytes. bytes ≡ text) × IsTextReplayed text status printed) ⊎ ((status ≡ 2) × (printed ≡ file_not_read) × ((fails ≡ true) ⊎ IfSome left (λ bytes. ¬ IsUtf8 bytes))) ⊎ ((status ≡ 3) × (printed ≡ no_memory))
 
 -- so many events that are made up from a start, and then all settles: the remaining length of packets is 65,536 at most (2.2.3),
 -- 4 packet identifiers may be in use at a side (2.3.1), and no side has a receiving window
@@ -126,11 +120,11 @@ pub record IsRandomText (start count : ℕ) (text : List ℕ) : Type 0 where
 abbrev pub IsRandomDone : ℕ → ℕ → ℕ → List ℕ → Type 0
 IsRandomDone start count status text = (status ≡ 0) × IsRandomText start count text
 
--- the status that a job ends with and the lines that it prints, over a file with these bytes
-abbrev pub IsDone : Job → Option (List ℕ) → ℕ → List ℕ → Type 0
-IsDone (jobs.Show hex lenient) left status text = IsShowDone lenient hex.now status text
-IsDone (jobs.ShowFrom source lenient) left status text = IsStreamShown lenient left status text
-IsDone (jobs.Check source lenient) left status text = IsCheckDone lenient left status text
-IsDone (jobs.Match filter name) left status text = IsMatchDone filter.now name.now status text
-IsDone (jobs.Replay source) left status text = IsReplayDone left status text
-IsDone (jobs.Random start steps) left status text = IsRandomDone start steps status text
+-- the status that a job ends with and the lines that it prints, over a file with these bytes, of which a read may fail or not
+abbrev pub IsDone : Job → Option (List ℕ) → Bool → ℕ → List ℕ → Type 0
+IsDone (jobs.Show hex lenient) left fails status text = IsShowDone lenient hex.now status text
+IsDone (jobs.ShowFrom source lenient) left fails status text = IsStreamShown lenient left fails status text
+IsDone (jobs.Check source lenient) left fails status text = IsCheckDone lenient left fails status text
+IsDone (jobs.Match filter name) left fails status text = IsMatchDone filter.now name.now status text
+IsDone (jobs.Replay source) left fails status text = IsReplayDone left fails status text
+IsDone (jobs.Random start steps) left fails status text = IsRandomDone start steps status text

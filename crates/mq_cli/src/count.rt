@@ -1,17 +1,17 @@
-//! The packets of a reader, counted.
+//! The packets of an input, counted.
 
-ghost use Rattle.std.specs.Prelude.{◌≡◌, IfErr, IfNone, IfOk, IfSome, Some};
-ghost use Rattle.std.specs.Io.KnownBytes.{IsAtEnd};
-ghost use Rattle.mq_decode.specs.Reader.{ReadStops};
-ghost use Rattle.mq_cli.specs.Count.{Counts, IsTaken, end_with};
+ghost use Rattle.std.specs.Prelude.{◌≡◌, ◌==◌, if◌then◌else◌, IfErr, IfOk, IfSome};
+ghost use Rattle.mq_cli.specs.Count.{Counts, IsNotCounted, count_rest};
 
-use mq_decode::{DecodeFault, Limits, ReadError, read_sized, reads_again};
-use std::alloc::Global;
+use crate::front::{Stop, fill, is_due, take_front};
+use crate::input::JobInput;
+use mq_decode::{DecodeFault, Limits, reads_again};
+use mq_end::ByteQueue;
+use std::alloc::{AllocError, Global};
 use std::io;
-use std::io::Read;
 use thiserror::Error;
 
-/// How many packets a reader gave, and what comes after them.
+/// How many packets an input gave, and what comes after them.
 #[derive(Clone, Copy, Debug, PartialEq, Eq)]
 pub struct PacketCount {
     /// The number of packets.
@@ -20,7 +20,7 @@ pub struct PacketCount {
     pub end: CountEnd,
 }
 
-/// What comes after the last packet of a reader.
+/// What comes after the last packet of an input.
 #[derive(Clone, Copy, Debug, PartialEq, Eq)]
 pub enum CountEnd {
     /// Nothing.
@@ -36,10 +36,10 @@ pub enum CountEnd {
     },
 }
 
-/// Why the packets of a reader could not be counted.
+/// Why the packets of an input could not be counted.
 #[derive(Debug, Drop, Error)]
 pub enum CountFault {
-    /// The reader failed.
+    /// A read failed.
     #[error("the reader failed: {0}")]
     Io(io::Error),
     /// Memory ran out.
@@ -50,59 +50,77 @@ pub enum CountFault {
     TooLong,
 }
 
-// What ends the packets, with the number of bytes before it.
-fn end_of(error: ReadError, start: u64) -> Result<CountEnd, CountFault>
-    ensures { IfOk result (λ end. end_with start error ≡ Some end) }
-{
-    match error {
-        ReadError::Cut => Ok(CountEnd::Cut),
-        ReadError::Fault(fault) => Ok(CountEnd::Fault { fault, start }),
-        ReadError::Io(error) => Err(CountFault::Io(error)),
-        ReadError::Memory => Err(CountFault::Memory),
+impl From<AllocError> for CountFault {
+    ghost use Rattle.std.specs.Prelude.{◌≡◌};
+    ghost use Rattle.mq_cli.specs.declared.count.CountFault.TheVariants.{Memory};
+
+    ghost from_gives = { λ _ fault. fault ≡ Memory };
+
+    fn from(_e: AllocError) -> CountFault {
+        CountFault::Memory
     }
 }
 
-// Reads the next packet, and says how many bytes it has.
-fn read_size<R: Read>(
-    alloc: Global,
-    reader: &mut R,
-    limits: Limits,
-) -> Result<Option<usize>, ReadError>
-    ensures size { IfOk result (λ o. IfSome o
-        (IsTaken limits (R.remaining reader.old) (R.remaining reader.new))) }
-    ensures none { IfOk result (λ o. IfNone o (IsAtEnd (R.remaining reader.old))) }
-    ensures err { IfErr result (ReadStops limits (R.remaining reader.old)) }
-{
-    match read_sized(alloc, reader, limits)? {
-        Some(found) => Ok(Some(found.1)),
-        None => Ok(None),
+impl From<Stop> for CountFault {
+    ghost use Rattle.std.specs.Prelude.{◌≡◌};
+    ghost use Rattle.mq_cli.specs.Count.{fault_of_stop};
+
+    ghost from_gives = { λ stop fault. fault ≡ fault_of_stop stop };
+
+    fn from(stop: Stop) -> CountFault {
+        match stop {
+            Stop::Io(error) => CountFault::Io(error),
+            Stop::Memory => CountFault::Memory,
+        }
     }
 }
 
-/// Reads packets up to the reader's end or the first that is not whole or no packet. One is held at a time.
-pub fn count_packets<R: Read>(
+// How packets end that have so many bytes behind them, with which nothing is wrong.
+fn end_of_rest(held: usize) -> CountEnd
+    ensures { result ≡ count_rest held }
+{
+    if held == 0 {
+        CountEnd::Whole
+    } else {
+        CountEnd::Cut
+    }
+}
+
+/// Counts packets up to the input's end or the first that is not whole or no packet. It holds the bytes of one packet at a time, and
+/// those that were read with its last ones.
+pub fn count_packets<R: JobInput>(
     alloc: Global,
-    reader: &mut R,
+    input: &mut R,
     limits: Limits,
 ) -> Result<PacketCount, CountFault>
-    ensures { IfOk result (λ count. IfSome (R.remaining reader.old) (Counts limits count)) }
+    ensures counts { IfOk result (λ count. IfSome (R.remaining input.old) (Counts limits count)) }
+    ensures fault { IfErr result (IsNotCounted (R.remaining input.old) (R.may_fail input.old)) }
 {
     reads_again();
-    let mut packets = 0;
-    let mut start: u64 = 0;
+    let mut bytes = ByteQueue::new(alloc);
+    let (mut packets, mut total) = (0, 0_u64);
     loop {
-        let size = match read_size(alloc, reader, limits) {
-            Ok(Some(size)) => size,
-            Ok(None) => {
-                let end = CountEnd::Whole;
-                return Ok(PacketCount { packets, end });
-            }
-            Err(error) => {
-                let end = end_of(error, start)?;
-                return Ok(PacketCount { packets, end });
-            }
+        let count = fill(input, &mut bytes)?;
+        total = match total.checked_add(count as u64) {
+            Some(sum) => sum,
+            None => return Err(CountFault::TooLong),
         };
-        start = start.checked_add(size as u64).ok_or(CountFault::TooLong)?;
-        packets += 1;
+        if count > 0 && !is_due(limits, bytes.as_slice()) {
+            continue;
+        }
+        let (front, fault) = take_front(alloc, limits, &mut bytes)?;
+        packets += front.len() as u64;
+        match fault {
+            Some(fault) => {
+                let start = total - bytes.len() as u64;
+                let end = CountEnd::Fault { fault, start };
+                return Ok(PacketCount { packets, end });
+            }
+            None if count == 0 => {
+                let end = end_of_rest(bytes.len());
+                return Ok(PacketCount { packets, end });
+            }
+            None => {}
+        }
     }
 }

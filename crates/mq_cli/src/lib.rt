@@ -1,9 +1,11 @@
 //! The program `mqtt` as calls: the words of its command line are read, and its jobs are done over any
-//! reader and writer.
+//! input and writer.
 #![tactic(auto)]
 
 mod count;
 mod failure;
+mod front;
+mod input;
 mod jobs;
 mod output;
 mod random;
@@ -15,8 +17,9 @@ mod words;
 
 pub use crate::count::{CountEnd, CountFault, PacketCount, count_packets};
 pub use crate::failure::Failure;
+pub use crate::input::{Fallible, JobInput};
 pub use crate::jobs::{Job, Source};
-pub use crate::output::{file_not_read, perform};
+pub use crate::output::{perform, perform_file};
 pub use crate::show::{ShowFault, shown};
 pub use crate::stream::{Shown, StreamEnd};
 pub use crate::words::{WordsFault, job};

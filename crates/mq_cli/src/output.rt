@@ -1,15 +1,17 @@
-//! Jobs done over a reader and a writer.
+//! Jobs done over an input and a writer.
 
-ghost use Rattle.std.specs.Prelude.{◌≡◌, IfOk, OnOk};
+ghost use Rattle.std.specs.Prelude.{◌≡◌, Some, None, true, IfOk, OnOk};
 ghost use Rattle.std.specs.List.{flat_map};
 ghost use Rattle.std.specs.Io.KnownBytes.{Appends};
 ghost use Rattle.mq_topic.specs.Matching.{is_match};
 ghost use Rattle.mq_line.specs.Lines.{Prints};
+ghost use Rattle.mq_cli.specs.CommandLine.{job_source};
 ghost use Rattle.mq_cli.specs.Printed.{bad_hex, count_end_lines, count_lines, end_lines, fault_line, file_not_read, match_line, no_memory, packet_line, packets_line, shown_lines, topic_line};
 ghost use Rattle.mq_cli.specs.Status.{IsCheckDone, IsDone, IsMatchDone, IsShowDone, count_status, end_status, match_status, widest};
 
 use crate::count::{CountEnd, CountFault, PacketCount, count_packets};
-use crate::jobs::Job;
+use crate::input::{Fallible, JobInput};
+use crate::jobs::{Job, Source};
 use crate::random::write_random;
 use crate::replaying::replay_file;
 use crate::show::{ShowFault, shown};
@@ -20,8 +22,10 @@ use mq_line::Line;
 use mq_packet::Packet;
 use mq_topic::{TopicFault, TopicFilter, TopicName, matches};
 use std::alloc::Global;
+use std::fs::File;
 use std::io;
-use std::io::{Read, Write};
+use std::io::{BufReader, Write};
+use std::rt::Files;
 
 /// Nothing is wrong.
 pub(crate) const DONE: u8 = 0;
@@ -161,7 +165,7 @@ fn write_count<W: Write>(output: &mut W, count: PacketCount) -> io::Result<u8>
 }
 
 /// Writes that a file can't be read, and answers the status for that.
-pub fn file_not_read<W: Write>(output: &mut W) -> io::Result<u8>
+pub(crate) fn file_not_read<W: Write>(output: &mut W) -> io::Result<u8>
     ensures status { IfOk result (λ status. status ≡ BAD_INPUT) }
     ensures printed { OnOk result
         (Appends (W.contents output.old) (W.contents output.new) file_not_read) }
@@ -170,14 +174,14 @@ pub fn file_not_read<W: Write>(output: &mut W) -> io::Result<u8>
     Ok(BAD_INPUT)
 }
 
-fn check<R: Read, W: Write>(
+fn check<R: JobInput, W: Write>(
     alloc: Global,
     input: &mut R,
     lenient: bool,
     output: &mut W,
 ) -> io::Result<u8>
     ensures { IfOk result (λ status. Prints (W.contents output.old) (W.contents output.new)
-        (IsCheckDone lenient (R.remaining input.old) status)) }
+        (IsCheckDone lenient (R.remaining input.old) (R.may_fail input.old) status)) }
 {
     match count_packets(alloc, input, widest(lenient)) {
         Ok(count) => write_count(output, count),
@@ -233,14 +237,14 @@ fn match_texts<W: Write>(alloc: Global, filter: &str, name: &str, output: &mut W
 /// Does a job: writes what it prints, line by line, and answers the status that the program ends with.
 /// `input` has the bytes of the job's source, where it has one. An error is that of a write that failed. The writer
 /// is not flushed.
-pub fn perform<R: Read, W: Write>(
+pub fn perform<R: JobInput, W: Write>(
     alloc: Global,
     job: &Job<'_>,
     input: &mut R,
     output: &mut W,
 ) -> io::Result<u8>
     ensures { IfOk result (λ status. Prints (W.contents output.old) (W.contents output.new)
-        (IsDone job.now (R.remaining input.old) status)) }
+        (IsDone job.now (R.remaining input.old) (R.may_fail input.old) status)) }
 {
     match job {
         Job::Show { hex, lenient } => show(alloc, hex, *lenient, output),
@@ -249,5 +253,27 @@ pub fn perform<R: Read, W: Write>(
         Job::Match { filter, name } => match_texts(alloc, filter, name, output),
         Job::Replay { .. } => replay_file(alloc, input, output),
         Job::Random { start, steps } => write_random(*start, *steps, output),
+    }
+}
+
+/// Does a job over its file, which has this name and is opened here. A file that can't be opened is one that can't be read. An error is that
+/// of a write that failed, or says that there is no memory for a buffer.
+pub fn perform_file<F: Files, W: Write>(
+    files: &F,
+    alloc: Global,
+    job: &Job<'_>,
+    name: &str,
+    output: &mut W,
+) -> io::Result<u8>
+    requires { job_source job.now ≡ Some (Source.File name) }
+    ensures { IfOk result (λ status. Prints (W.contents output.old) (W.contents output.new)
+        (IsDone job.now None true status)) }
+{
+    match File::open(files, name) {
+        Ok(file) => {
+            let mut input = Fallible(BufReader::new(alloc, file)?);
+            perform(alloc, job, &mut input, output)
+        }
+        Err(_) => file_not_read(output),
     }
 }

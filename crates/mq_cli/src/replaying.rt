@@ -1,28 +1,19 @@
 //! Schedules that are replayed from a file.
 
-ghost use Rattle.std.specs.Prelude.{◌≡◌, IfOk, IfSome, OnOk};
-ghost use Rattle.std.specs.String.{string_bytes};
+ghost use Rattle.std.specs.Prelude.{◌≡◌, IfOk, OnOk};
 ghost use Rattle.std.specs.Io.KnownBytes.{Appends};
 ghost use Rattle.mq_line.specs.Lines.{Prints};
 ghost use Rattle.mq_cli.specs.Printed.{bad_line};
 ghost use Rattle.mq_cli.specs.Status.{IsReplayDone, IsTextReplayed};
 
+use crate::front::{Stop, read_whole};
+use crate::input::JobInput;
 use crate::output::{BAD_INPUT, DONE, file_not_read, out_of_memory};
 use mq_replay::{ReplayFault, replay};
 use mq_schedule::{ScheduleFault, read_schedule};
 use std::alloc::Global;
 use std::io;
-use std::io::{Read, Write};
-
-// All that a reader has, which is UTF-8.
-fn text_of<R: Read>(alloc: Global, input: &mut R) -> io::Result<String>
-    ensures { IfOk result (λ text. IfSome (R.remaining input.old)
-        (λ bytes. string_bytes text ≡ bytes)) }
-{
-    let mut text = String::new(alloc);
-    input.read_to_string(&mut text)?;
-    Ok(text)
-}
+use std::io::Write;
 
 // Writes which line of a schedule is of no kind.
 fn write_bad_line<W: Write>(output: &mut W, line: usize) -> io::Result<u8>
@@ -51,18 +42,22 @@ fn replay_text<W: Write>(alloc: Global, text: &str, output: &mut W) -> io::Resul
     }
 }
 
-// Replays the schedule that a reader has.
-pub(crate) fn replay_file<R: Read, W: Write>(
+// Replays the schedule that an input has.
+pub(crate) fn replay_file<R: JobInput, W: Write>(
     alloc: Global,
     input: &mut R,
     output: &mut W,
 ) -> io::Result<u8>
     ensures { IfOk result (λ status. Prints (W.contents output.old) (W.contents output.new)
-        (IsReplayDone (R.remaining input.old) status)) }
+        (IsReplayDone (R.remaining input.old) (R.may_fail input.old) status)) }
 {
-    match text_of(alloc, input) {
-        Ok(text) => replay_text(alloc, text.as_str(), output),
-        Err(error) if error.kind() == io::ErrorKind::OutOfMemory => out_of_memory(output),
+    let bytes = match read_whole(alloc, input) {
+        Ok(bytes) => bytes,
+        Err(Stop::Io(_)) => return file_not_read(output),
+        Err(Stop::Memory) => return out_of_memory(output),
+    };
+    match str::from_utf8(bytes.as_slice()) {
+        Ok(text) => replay_text(alloc, text, output),
         Err(_) => file_not_read(output),
     }
 }

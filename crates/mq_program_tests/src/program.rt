@@ -1,3 +1,4 @@
+mod files;
 mod lenient;
 mod randoms;
 pub(crate) mod replays;
@@ -7,7 +8,8 @@ mod windows;
 use crate::compare::expect_printed;
 use clap::error::ErrorKind;
 use mq_cli::{
-    CountEnd, Job, ShowFault, Source, StreamEnd, WordsFault, count_packets, job, perform, shown,
+    CountEnd, Fallible, Job, JobInput, ShowFault, Source, StreamEnd, WordsFault, count_packets,
+    job, perform, shown,
 };
 use mq_decode::{DecodeFault, FaultKind, Limits};
 use std::alloc::Global;
@@ -15,8 +17,8 @@ use std::io;
 use std::io::{Read, Write};
 use std::test::Fail;
 
-// What a job prints of a reader's bytes, with its status.
-fn printed<R: Read>(alloc: Global, job: &Job<'_>, input: &mut R) -> io::Result<(u8, Vec<u8>)> {
+// What a job prints of an input's bytes, with its status.
+fn printed<R: JobInput>(alloc: Global, job: &Job<'_>, input: &mut R) -> io::Result<(u8, Vec<u8>)> {
     let mut output = Vec::new(alloc);
     let status = perform(alloc, job, input, &mut output)?;
     Ok((status, output))
@@ -347,7 +349,7 @@ fn tells_of_failed_reads(rt: HostRuntime) -> Result<(), Fail> {
     let job = checks("a file");
     for at_once in 1..4 {
         let bytes: &[u8] = &[0xc0, 0x00, 0x40, 0x02, 0x00, 0x01, 0xc0];
-        let answer = printed(alloc, &job, &mut Broken { bytes, at_once });
+        let answer = printed(alloc, &job, &mut Fallible(Broken { bytes, at_once }));
         expect_printed(&rt, answer, 2, b"file not read\n", "")?;
     }
     Ok(())

@@ -1,8 +1,7 @@
 //! The program `mqtt`: it does the job that its words ask for, and prints to the standard output.
 #![tactic(auto)]
 
-use mq_cli::{Failure, Job, Source, WordsFault, file_not_read, job, perform};
-use std::fs::File;
+use mq_cli::{Failure, Fallible, Job, Source, WordsFault, job, perform, perform_file};
 use std::io::{BufReader, BufWriter, Input, Write};
 use std::process::ExitCode;
 use std::{env, io};
@@ -19,12 +18,9 @@ fn perform_job(rt: &HostRuntime, job: &Job<'_>) -> Result<u8, Failure> {
 fn perform_into<W: Write>(rt: &HostRuntime, job: &Job<'_>, output: &mut W) -> io::Result<u8> {
     let alloc = rt.alloc();
     match job.source() {
-        Some(Source::File(name)) => match File::open(rt, name) {
-            Ok(file) => perform(alloc, job, &mut BufReader::new(alloc, file)?, output),
-            Err(_) => file_not_read(output),
-        },
+        Some(Source::File(name)) => perform_file(rt, alloc, job, name, output),
         Some(Source::Standard) => {
-            let mut input = BufReader::new(alloc, rt.reader())?;
+            let mut input = Fallible(BufReader::new(alloc, rt.reader())?);
             perform(alloc, job, &mut input, output)
         }
         None => perform(alloc, job, &mut io::empty(), output),

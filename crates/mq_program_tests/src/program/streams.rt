@@ -1,8 +1,8 @@
 //! `show` for files, long files, and what is said where there is no answer.
 
-use super::{Broken, FILES, Full, ROWS, asks_for, printed};
+use super::{Broken, Full, ROWS, asks_for, printed};
 use crate::compare::{expect_printed, expect_told};
-use mq_cli::{CountFault, Failure, Job, ShowFault, Source, WordsFault, perform};
+use mq_cli::{CountFault, Failure, Fallible, Job, ShowFault, Source, WordsFault, perform};
 use mq_replay::ReplayFault;
 use mq_schedule::ScheduleFault;
 use std::alloc::Global;
@@ -44,7 +44,7 @@ fn shows_files_as_it_shows_digits(rt: HostRuntime) -> Result<(), Fail> {
         if let Some(bytes) = bytes_of(alloc, hex) {
             let whole = printed(alloc, &job, &mut bytes.as_slice());
             expect_printed(&rt, whole, *status, lines.as_bytes(), hex)?;
-            let slow = printed(alloc, &job, &mut Slow(bytes.as_slice()));
+            let slow = printed(alloc, &job, &mut Fallible(Slow(bytes.as_slice())));
             expect_printed(&rt, slow, *status, lines.as_bytes(), hex)?;
         }
     }
@@ -57,7 +57,7 @@ fn shows_what_came_before_a_failed_read(rt: HostRuntime) -> Result<(), Fail> {
     let job = shows(Source::Standard, false);
     for at_once in [2, 3, 8] {
         let bytes: &[u8] = &[0xc0, 0x00, 0x40, 0x02, 0x00, 0x01, 0xc0];
-        let answer = printed(alloc, &job, &mut Broken { bytes, at_once });
+        let answer = printed(alloc, &job, &mut Fallible(Broken { bytes, at_once }));
         let lines = b"PINGREQ\nPUBACK id=1\nfile not read\n";
         expect_printed(&rt, answer, 2, lines, "")?;
     }
@@ -144,6 +144,44 @@ fn checks_many_packets(rt: HostRuntime) -> Result<(), Fail> {
     Ok(())
 }
 
+// A schedule of over 1 MiB: 60 publications, each of 10,000 bytes.
+fn long_schedule(alloc: Global) -> io::Result<Vec<u8>> {
+    let mut text = Vec::new(alloc);
+    text.extend_from_slice(b"world 65536 4\n")?;
+    for _ in 0..60 {
+        text.extend_from_slice(b"pub c 0 t ")?;
+        for _ in 0..10_000 {
+            text.extend_from_slice(b"ab")?;
+        }
+        text.push(b'\n')?;
+    }
+    Ok(text)
+}
+
+#[test]
+fn replays_a_long_schedule(rt: HostRuntime) -> Result<(), Fail> {
+    let alloc = rt.alloc();
+    let text = long_schedule(alloc)?;
+    let job = Job::Replay {
+        source: Source::Standard,
+    };
+    let answer = printed(alloc, &job, &mut text.as_slice())?;
+    assert_eq!(rt; answer.0, 0);
+    assert_eq!(rt; lines_of(answer.1.as_slice()), 64);
+    Ok(())
+}
+
+// How many lines these are.
+fn lines_of(text: &[u8]) -> usize {
+    let mut count = 0_usize;
+    for byte in text {
+        if *byte == b'\n' {
+            count = count.saturating_add(1);
+        }
+    }
+    count
+}
+
 #[test]
 fn tells_of_a_full_output(rt: HostRuntime) {
     let alloc = rt.alloc();
@@ -226,14 +264,4 @@ fn errors_are_sentences(rt: HostRuntime) -> Result<(), Fail> {
     )?;
     expect_told(&rt, said(alloc, ScheduleFault::Memory), "out of memory", "")?;
     expect_told(&rt, said(alloc, WordsFault::Memory), "out of memory", "")
-}
-
-// A file that is missing can't be told from one that is not read: `perform` is not asked for it.
-#[test]
-fn prints_of_a_file_that_is_not_read(rt: HostRuntime) -> Result<(), Fail> {
-    let mut output = Vec::new(rt.alloc());
-    assert_eq!(rt; mq_cli::file_not_read(&mut output)?, 2);
-    assert_eq!(rt; output.as_slice(), b"file not read\n".as_slice());
-    assert_eq!(rt; FILES.len(), 9);
-    Ok(())
 }

@@ -1,9 +1,9 @@
 use Rattle.std.proofs.Common.{◌≡◌, List, ℕ, ◌≤◌, length, sym, subst}
 use Rattle.mq_cli.specs.Show.{Reads}
-use Rattle.mq_cli.proofs.streaming.print_front.Goals as goal
+use Rattle.mq_cli.proofs.front.take_front.Goals as goal
 
 pub take-requires : goal.take-requires
-take-requires g c =
+take-requires c =
     let bytes = c.args.bytes.now in
     let reads = subst (λ (b : List ℕ). Reads c.args.limits b c.in_ok-shown.shown.packets.items c.in_ok-shown.shown.end) c.as_slice.ensures c.in_ok-shown.ensures in
     let front = c.front_of-size.ensures c.args.limits bytes c.in_ok-shown.shown.packets.items (sym c.len.ensures) reads in
