@@ -24,7 +24,7 @@ use Rattle.mq_route.specs.declared.conn.Conn.{Conn}
 use Rattle.mq_route.specs.Copies.{is_hidden_name, copy_by, retained_for}
 use Rattle.mq_route.specs.Hub.{HubState, HubSession, end_of, with_end, up_on, for_key, copies_of}
 use Rattle.mq_route.specs.Work.{Work, with_sessions, put_on, put_where, does, publishes_next, place, place_all, needs, have_room, retained_copies}
-use Rattle.mq_route.specs.Accepted.{IsAccept, AreAccepts}
+use Rattle.mq_route.specs.Accepted.{IsAccept, AreAccepts, placings}
 use Rattle.mq_route.proofs.Sessions.{has, has_with, end_with, each_there, each_with}
 
 -- ---- lists
@@ -302,7 +302,7 @@ module _ (capacity : ℕ) where
           (each_there (Fits copies) key (publishes_next m e).end w.hub.sessions there (λ t. (published m.qos (needs key copies) m e (hold.books key) enough).1)
           (λ c apart t. let less = need_less c (key, m) copies in let fits = r c t in omega arith))
 
-      place_accepts : has_identifier m.qos ≡ true → IsAccept key m w
+      place_accepts : has_identifier m.qos ≡ true → IsAccept (record { key = key; message = m; at = w })
       place_accepts h =
           let t = takes (needs key copies) e (subst (λ (b : Bool). (cond b 1 0 + needs key copies) + length (uses e.book) ≤ capacity) h enough) in
           record {
@@ -313,7 +313,7 @@ module _ (capacity : ℕ) where
           }
 
     -- copies for which there is room are accepted, and the books stay sound
-    pub accepting : (copies : List (ℕ × Message)) (w : Work) → Holds w.hub → For (Stands w.hub.sessions) copies → Room copies w.hub.sessions → AreAccepts copies w × Holds (place_all copies w).hub
+    pub accepting : (copies : List (ℕ × Message)) (w : Work) → Holds w.hub → For (Stands w.hub.sessions) copies → Room copies w.hub.sessions → AreAccepts (placings copies w) × Holds (place_all copies w).hub
     accepting [] w hold stand r = (tt, hold)
     accepting (x ∷ copies) w hold stand r =
         let ss = (place x.0 x.1 w).hub.sessions in

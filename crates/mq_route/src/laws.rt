@@ -42,9 +42,9 @@ pub fn will_laws()
     ensures { WillLaws }
 {}
 
-/// At each step of a run, each copy of quality of service 1 or 2 that is placed is an accept of the sender's book (4.3): the client has
-/// a session, its book is not full, and the identifier given is the first one that is free (2.3.1). So at each moment of a run the
-/// identifiers in use in a session are from 1 to 65,535, each is in use once, and they are at most as many as the capacity.
+/// At each step of a run, each copy of quality of service 1 or 2 that is placed, as the acts say, is an accept of the sender's
+/// book (4.3): the client has a session, its book is not full, and the identifier given is the first one that is free (2.3.1). So at
+/// each moment the identifiers in use in a session are from 1 to 65,535, each is in use once, and they are within the capacity.
 pub fn accept_laws()
     ensures { AcceptLaws }
 {
