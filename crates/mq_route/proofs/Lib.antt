@@ -13,3 +13,5 @@ mod Taking
 mod Rows
 mod Filling
 mod Losing
+mod Books
+mod Accepting

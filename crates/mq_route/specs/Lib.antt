@@ -12,3 +12,4 @@ pub mod Laws
 pub mod Examples
 pub mod Full
 pub mod Dropped
+pub mod Accepted

@@ -1,10 +1,13 @@
 //! The laws of every run of a broker.
 
+ghost use Rattle.mq_route.specs.Accepted.{AcceptLaws};
 ghost use Rattle.mq_route.specs.Dropped.{WillLaws};
 ghost use Rattle.mq_route.specs.Examples.{Examples};
 ghost use Rattle.mq_route.specs.Full.{FullLaws};
 ghost use Rattle.mq_route.specs.Laws.{OutputLaws, RoutingLaws, TakingLaws};
 
+use mq_end::sound_laws;
+use mq_flow::{identifier_laws, next_laws};
 use mq_topic::store_laws;
 
 /// Over every run, what is written on a connection, and then waits, are the spellings of the packets that are put out on
@@ -38,6 +41,17 @@ pub fn full_laws()
 pub fn will_laws()
     ensures { WillLaws }
 {}
+
+/// At each step of a run, each copy of quality of service 1 or 2 that is placed, as the acts say, is an accept of the sender's
+/// book (4.3): the client has a session, its book is not full, and the identifier given is the first one that is free (2.3.1). So at
+/// each moment the identifiers in use in a session are from 1 to 65,535, each is in use once, and they are within the capacity.
+pub fn accept_laws()
+    ensures { AcceptLaws }
+{
+    identifier_laws();
+    next_laws();
+    sound_laws();
+}
 
 /// Worked runs, with their acts and the bytes that wait.
 pub fn examples()

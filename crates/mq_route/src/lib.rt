@@ -19,7 +19,9 @@ pub use crate::close::HubClose;
 pub use crate::config::{HubConfig, User};
 pub use crate::conn::Conn;
 pub use crate::event::HubEvent;
-pub use crate::laws::{examples, full_laws, output_laws, routing_laws, taking_laws, will_laws};
+pub use crate::laws::{
+    accept_laws, examples, full_laws, output_laws, routing_laws, taking_laws, will_laws,
+};
 pub use crate::refusal::HubRefusal;
 pub use crate::reply::HubReply;
 pub use crate::stage::{Stage, Terms};

@@ -1,0 +1,324 @@
+-- What is kept true of the senders' books of a broker's sessions, and that copies for which there is room are accepted.
+use Rattle.std.proofs.Common.{◌≡◌, ℕ, ◌+◌, ◌-◌, ◌≤◌, nat_le, Bool, true, false, cond, ◌&&◌, ◌||◌, List, [], ◌∷◌, ◌++◌, length, filter, Option, Some, None, is_some, refl, sym, ap, subst, ◌∙◌, eqb, eqb-true, eq-eqb, leb-true, arith}
+use Rattle.std.proofs.lemmas.Bool.{cond-true, cond-false, cond_both, false_from_ne_true}
+use Rattle.std.proofs.lemmas.List.Sums.{sum_by-cons}
+use Rattle.std.specs.List.{list_all, list_any, flat_map}
+use Rattle.std.specs.FinMap.{put}
+use Rattle.std.specs.FinMap.Entries.{by_order}
+use Rattle.std.specs.Ordering.{nat_cmp}
+use Rattle.std.specs.declared.cmp.Ordering.{Ordering}
+use Rattle.std.specs.declared.cmp.Ordering.TheVariants.{Less, Equal, Greater}
+use Rattle.mq_topic.specs.declared.qos.Qos.{Qos}
+use Rattle.mq_topic.specs.declared.qos.Qos.TheVariants.{Q0, Q1, Q2}
+use Rattle.mq_topic.specs.Matching.{is_match}
+use Rattle.mq_topic.specs.Rows.{Row, matched, greater_of, qos_of}
+use Rattle.mq_packet.specs.declared.message.Message.{Message}
+use Rattle.mq_packet.specs.declared.packet.Packet.{Packet}
+use Rattle.mq_packet.specs.declared.packet.Request.{Request}
+use Rattle.mq_flow.specs.Laws.{IsSound, IdentifierLaws}
+use Rattle.mq_flow.specs.Next.{next_identifier, NextLaws}
+use Rattle.mq_flow.specs.Sender.{SenderBook, IsFirstFree, is_full, accept, uses}
+use Rattle.mq_end.specs.Both.{has_identifier, publishes_at}
+use Rattle.mq_end.specs.End.{End, Reply, is_up}
+use Rattle.mq_route.specs.declared.conn.Conn.{Conn}
+use Rattle.mq_route.specs.Copies.{is_hidden_name, copy_by, retained_for}
+use Rattle.mq_route.specs.Hub.{HubState, HubSession, end_of, with_end, up_on, for_key, copies_of}
+use Rattle.mq_route.specs.Work.{Work, with_sessions, put_on, put_where, does, publishes_next, place, place_all, needs, have_room, retained_copies}
+use Rattle.mq_route.specs.Accepted.{IsAccept, AreAccepts, placings}
+use Rattle.mq_route.proofs.Sessions.{has, has_with, end_with, each_there, each_with}
+
+-- ---- lists
+
+-- P holds of each element
+abbrev pub Each : {X : Type 0} → (X → Type 0) → List X → Type 0
+Each P [] = Unit {0}
+Each P (x ∷ xs) = P x × Each P xs
+
+pub each_append : {X : Type 0} (P : X → Type 0) (xs ys : List X) → Each P xs → Each P ys → Each P (xs ++ ys)
+each_append P [] ys f g = g
+each_append P (x ∷ xs) ys f g = (f.0, each_append P xs ys f.1 g)
+
+pub each_filter : {X : Type 0} (P : X → Type 0) (test : X → Bool) (xs : List X) → Each P xs → Each P (filter test xs)
+each_filter P test [] f = tt
+each_filter P test (x ∷ xs) f =
+    cond_both (test x) (x ∷ filter test xs) (filter test xs) (Each P) (λ e. (f.0, each_filter P test xs f.1)) (λ e. each_filter P test xs f.1)
+
+pub each_weaker : {X : Type 0} (P Q : X → Type 0) → ((x : X) → P x → Q x) → (xs : List X) → Each P xs → Each Q xs
+each_weaker P Q h [] f = tt
+each_weaker P Q h (x ∷ xs) f = (h x f.0, each_weaker P Q h xs f.1)
+
+-- what is put into a list is of its key
+pub each_put : {K V : Type 0} (order : K → K → Ordering) (P : K → Type 0) (k : K) (v : V) (xs : List (K × V)) → P k → Each (λ x. P x.0) xs → Each (λ x. P x.0) (put order k v xs)
+each_put order P k v [] p f = (p, tt)
+each_put order P k v (x ∷ xs) p f = go (order k x.0) (each_put order P k v xs p f.1)
+  where
+    go : (o : Ordering) → Each (λ x. P x.0) (put order k v xs) → Each (λ x. P x.0) (by_order o ((k, v) ∷ x ∷ xs) ((x.0, v) ∷ xs) (x ∷ put order k v xs))
+    go Less ih = (p, f)
+    go Equal ih = (f.0, f.1)
+    go Greater ih = (f.0, ih)
+
+pub and_both : (x y : Bool) → (x && y) ≡ true → (x ≡ true) × (y ≡ true)
+and_both true y e = (refl, e)
+and_both false y e = absurd cc
+
+-- ---- whose copies are due
+
+-- the client has a session
+abbrev pub Stands : List HubSession → ℕ → Type 0
+Stands ss c = has c ss ≡ true
+
+-- each subscription is of a client that has a session
+abbrev pub Rowed : List Row → List HubSession → Type 0
+Rowed rows ss = Each (λ r. Stands ss r.0.0) rows
+
+matched_stands : (P : ℕ → Type 0) (name : List ℕ) (rows : List Row) → Each (λ r. P r.0.0) rows → Each (λ found. P found.0) (matched name rows)
+matched_stands P name [] f = tt
+matched_stands P name (r ∷ rows) f =
+    let found = matched name rows in
+    let ih = matched_stands P name rows f.1 in
+    cond_both (is_match r.0.1 name) (put nat_cmp r.0.0 (greater_of r.1 (qos_of r.0.0 found)) found) found (Each (λ found. P found.0))
+    (λ e. each_put nat_cmp P r.0.0 (greater_of r.1 (qos_of r.0.0 found)) found f.0 ih) (λ e. ih)
+
+abbrev pub For : (ℕ → Type 0) → List (ℕ × Message) → Type 0
+For P copies = Each (λ x. P x.0) copies
+
+for_one : (P : ℕ → Type 0) (key : ℕ) (ms : List Message) → P key → For P (for_key key ms)
+for_one P key [] p = tt
+for_one P key (m ∷ ms) p = (p, for_one P key ms p)
+
+for_found : (P : ℕ → Type 0) (m : Message) (h : HubState) (found : List (ℕ × Qos)) → Each (λ f. P f.0) found
+    → For P (flat_map (λ f. for_key f.0 (copy_by (is_some (up_on f.0 h.lines)) m (Some f.1))) found)
+for_found P m h [] p = tt
+for_found P m h (f ∷ found) p =
+    let ms = copy_by (is_some (up_on f.0 h.lines)) m (Some f.1) in
+    each_append (λ x. P x.0) (for_key f.0 ms) (flat_map (λ f. for_key f.0 (copy_by (is_some (up_on f.0 h.lines)) m (Some f.1))) found)
+    (for_one P f.0 ms p.0) (for_found P m h found p.1)
+
+-- copies of a message are for clients with subscriptions
+pub copies_stand : (P : ℕ → Type 0) (m : Message) (h : HubState) → Each (λ r. P r.0.0) h.rows → For P (copies_of m h)
+unfolding copies_of
+copies_stand P m h f =
+    let found = matched m.topic h.rows in
+    cond_both (is_hidden_name m.topic) [] (flat_map (λ f. for_key f.0 (copy_by (is_some (up_on f.0 h.lines)) m (Some f.1))) found) (For P)
+    (λ e. tt) (λ e. for_found P m h found (matched_stands P m.topic h.rows f))
+
+pub retained_stand : (P : ℕ → Type 0) (key : ℕ) (rs : List Request) (ms : List Message) → P key → For P (retained_copies key rs ms)
+retained_stand P key [] ms p = tt
+retained_stand P key (r ∷ rs) ms p =
+    each_append (λ x. P x.0) (for_key key (retained_for r.filter r.qos ms)) (retained_copies key rs ms) (for_one P key (retained_for r.filter r.qos ms) p) (retained_stand P key rs ms p)
+
+-- ---- what putting packets out leaves
+
+pub put_on_keeps : (k : Conn) (ps : List Packet) (w : Work) → (put_on k ps w).hub.sessions ≡ w.hub.sessions
+unfolding put_on
+put_on_keeps k ps w = refl
+
+abbrev pub IsAlikeHub : HubState → HubState → Type 0
+IsAlikeHub g h = (g.sessions ≡ h.sessions) × (g.rows ≡ h.rows) × (g.config ≡ h.config) × (g.retained ≡ h.retained)
+
+pub put_alike : (k : Conn) (ps : List Packet) (w : Work) → IsAlikeHub (put_on k ps w).hub w.hub
+unfolding put_on
+put_alike k ps w = (refl, refl, refl, refl)
+
+pub where_alike : (to : Option Conn) (ps : List Packet) (w : Work) → IsAlikeHub (put_where to ps w).hub w.hub
+where_alike None ps w = (refl, refl, refl, refl)
+where_alike (Some k) ps w = put_alike k ps w
+
+pub does_alike : (key : ℕ) (move : End → Reply) (w : Work) → IsAlikeHub (does key move w).hub (with_sessions (with_end key (move (end_of key w.hub.sessions)).end) w).hub
+unfolding does
+does_alike key move w = where_alike (up_on key w.hub.lines) (move (end_of key w.hub.sessions)).out (with_sessions (with_end key (move (end_of key w.hub.sessions)).end) w)
+
+pub place_alike : (key : ℕ) (m : Message) (w : Work) → IsAlikeHub (place key m w).hub (with_sessions (with_end key (publishes_next m (end_of key w.hub.sessions)).end) w).hub
+unfolding place
+place_alike key m w = does_alike key (publishes_next m) w
+
+any_has : (c : ℕ) (ss : List HubSession) → has c ss ≡ true → list_any (λ s. eqb s.key c) ss ≡ true
+any_has c [] h = absurd cc
+any_has c (s ∷ ss) h = go (eqb s.key c) (any_has c ss) h
+  where
+    go : (b : Bool) → (has c ss ≡ true → list_any (λ s. eqb s.key c) ss ≡ true) → cond b true (has c ss) ≡ true → (b || list_any (λ s. eqb s.key c) ss) ≡ true
+    go true ih h = refl
+    go false ih h = ih h
+
+-- ---- books
+
+module _ (capacity : ℕ) where
+  -- each client's book is sound
+  abbrev pub Sounds : List HubSession → Type 0
+  Sounds ss = (c : ℕ) → IsSound capacity (end_of c ss).book
+
+  -- A broker's books are sound, its subscriptions are of clients that have sessions, and this is its capacity.
+  pub record Holds (h : HubState) : Type 0 where
+    pub is : h.config.capacity ≡ capacity
+    pub books : Sounds h.sessions
+    pub rows : Rowed h.rows h.sessions
+
+  pub holds_alike : (g h : HubState) → IsAlikeHub g h → Holds h → Holds g
+  holds_alike g h same hold = record {
+    is = ap (λ (c : _). c.capacity) same.2 ∙ hold.is;
+    books = subst Sounds (sym same.0) hold.books;
+    rows = subst (λ (ss : List HubSession). Rowed g.rows ss) (sym same.0) (subst (λ (rows : List Row). Rowed rows h.sessions) (sym same.1) hold.rows);
+  }
+
+  rowed_with : (key : ℕ) (e : End) (rows : List Row) (ss : List HubSession) → Rowed rows ss → Rowed rows (with_end key e ss)
+  rowed_with key e rows ss f = each_weaker (λ (r : Row). Stands ss r.0.0) (λ (r : Row). Stands (with_end key e ss) r.0.0) (λ r there. has_with key e r.0.0 ss ∙ there) rows f
+
+  pub holds_with : (key : ℕ) (e : End) (w : Work) → IsSound capacity e.book → Holds w.hub → Holds (with_sessions (with_end key e) w).hub
+  holds_with key e w sound h = record {
+    is = h.is;
+    books = each_with (λ c there e. IsSound capacity e.book) key e w.hub.sessions h.books (λ there. sound);
+    rows = rowed_with key e w.hub.rows w.hub.sessions h.rows;
+  }
+
+  pub holds_does : (key : ℕ) (move : End → Reply) (w : Work) → IsSound capacity (move (end_of key w.hub.sessions)).end.book → Holds w.hub → Holds (does key move w).hub
+  holds_does key move w sound h =
+      let u = with_sessions (with_end key (move (end_of key w.hub.sessions)).end) w in
+      holds_alike (does key move w).hub u.hub (does_alike key move w) (holds_with key (move (end_of key w.hub.sessions)).end w sound h)
+
+  -- ---- room
+
+  -- each session has as many identifiers free as these copies need
+  abbrev pub Fits : List (ℕ × Message) → ℕ → Bool → End → Type 0
+  Fits copies c there e = there ≡ true → needs c copies + length (uses e.book) ≤ capacity
+
+  abbrev pub Room : List (ℕ × Message) → List HubSession → Type 0
+  Room copies ss = (c : ℕ) → Fits copies c (has c ss) (end_of c ss)
+
+  le_room : (n used room : ℕ) → used ≤ capacity → n ≤ capacity - used → n + used ≤ capacity
+  le_room n used room within le = omega arith
+
+  abbrev Within : End → Type 0
+  Within x = length (uses x.book) ≤ capacity
+
+  abbrev Roomy : ℕ → End → Type 0
+  Roomy n x = n + length (uses x.book) ≤ capacity
+
+  fits_at : (copies : List (ℕ × Message)) (c : ℕ) (ss : List HubSession) → list_all (λ s. nat_le (needs s.key copies) (capacity - length (uses s.end.book))) ss ≡ true → has c ss ≡ true → Within (end_of c ss) → Roomy (needs c copies) (end_of c ss)
+  fits_at copies c [] e there within = absurd cc
+  fits_at copies c (s ∷ ss) e there within = go (eqb s.key c) refl (fits_at copies c ss parts.1)
+    where
+      used : ℕ
+      used = length (uses s.end.book)
+
+      parts : (nat_le (needs s.key copies) (capacity - used) ≡ true) × (list_all (λ s. nat_le (needs s.key copies) (capacity - length (uses s.end.book))) ss ≡ true)
+      parts = and_both (nat_le (needs s.key copies) (capacity - used)) (list_all (λ s. nat_le (needs s.key copies) (capacity - length (uses s.end.book))) ss) e
+
+      go : (b : Bool) → eqb s.key c ≡ b → (has c ss ≡ true → Within (end_of c ss) → Roomy (needs c copies) (end_of c ss)) → Roomy (needs c copies) (end_of c (s ∷ ss))
+      go true k later =
+          let here : end_of c (s ∷ ss) ≡ s.end = cond-true (eqb s.key c) s.end (end_of c ss) k in
+          let enough : nat_le (needs c copies) (capacity - used) ≡ true = subst (λ (d : ℕ). nat_le (needs d copies) (capacity - used) ≡ true) (eqb-true s.key c k) parts.0 in
+          subst (Roomy (needs c copies)) (sym here) (le_room (needs c copies) used used (subst Within here within) (leb-true (needs c copies) (capacity - used) enough))
+      go false k later =
+          let here : end_of c (s ∷ ss) ≡ end_of c ss = cond-false (eqb s.key c) s.end (end_of c ss) k in
+          subst (Roomy (needs c copies)) (sym here) (later (sym (cond-false (eqb s.key c) true (has c ss) k) ∙ there) (subst Within here within))
+
+  pub room_in : (copies : List (ℕ × Message)) (ss : List HubSession) → list_all (λ s. nat_le (needs s.key copies) (capacity - length (uses s.end.book))) ss ≡ true → Sounds ss → Room copies ss
+  room_in copies ss e sounds c there = fits_at copies c ss e there (sounds c).within
+
+  pub room : (copies : List (ℕ × Message)) (h : HubState) → Holds h → have_room copies h ≡ true → Room copies h.sessions
+  unfolding have_room
+  room copies h hold e =
+      room_in copies h.sessions (subst (λ (n : ℕ). list_all (λ s. nat_le (needs s.key copies) (n - length (uses s.end.book))) h.sessions ≡ true) hold.is e) hold.books
+
+  -- where a session's book is as it was there is as much room
+  pub room_with : (copies : List (ℕ × Message)) (key : ℕ) (e : End) (ss : List HubSession) → e.book ≡ (end_of key ss).book → Room copies ss → Room copies (with_end key e ss)
+  room_with copies key e ss same r =
+      each_with (Fits copies) key e ss r (λ there t. subst (λ (b : SenderBook). needs key copies + length (uses b) ≤ capacity) (sym same) (r key there))
+
+  -- ---- copies that are placed
+
+  module _ (ids : IdentifierLaws) (next : NextLaws) (small : capacity ≤ 65535) where
+    -- what a client's end is to fit, before and after a copy is placed
+    abbrev Ready : List (ℕ × Message) → ℕ → Bool → End → Type 0
+    Ready copies c there e = IsSound capacity e.book × Fits copies c there e
+
+    not_full : (n used : ℕ) → (1 + n) + used ≤ capacity → nat_le capacity used ≡ false
+    not_full n used le = false_from_ne_true (nat_le capacity used) (λ e. let over = leb-true capacity used e in omega arith)
+
+    one_more : (n used new : ℕ) → new ≡ used + 1 → (1 + n) + used ≤ capacity → n + new ≤ capacity
+    one_more n used new more le = omega arith
+
+    -- the identifier that comes next is accepted
+    abbrev Takes : End → Type 0
+    Takes e = (is_full capacity e.book ≡ false) × IsFirstFree e.last e.book (next_identifier e.last e.book)
+
+    takes : (n : ℕ) (e : End) → (1 + n) + length (uses e.book) ≤ capacity → Takes e
+    takes n e le =
+        let full = not_full n (length (uses e.book)) le in
+        (full, next.first capacity e.last e.book small full)
+
+    accepted : (n : ℕ) (m : Message) (sent : Bool) (e : End) → IsSound capacity e.book → (1 + n) + length (uses e.book) ≤ capacity
+        → IsSound capacity (accept (next_identifier e.last e.book) m sent e.book) × (n + length (uses (accept (next_identifier e.last e.book) m sent e.book)) ≤ capacity)
+    accepted n m sent e sound le =
+        let i = next_identifier e.last e.book in
+        let t = takes n e le in
+        let new = accept i m sent e.book in (
+          ids.accepts capacity i m sent e.book t.0 t.1.free sound,
+          one_more n (length (uses e.book)) (length (uses new)) (ids.accepted capacity i m sent e.book t.0 t.1.free).more le,
+        )
+
+    -- an end that publishes a message for which it has room
+    published : (q : Qos) (n : ℕ) (m : Message) (e : End) → IsSound capacity e.book → (cond (has_identifier q) 1 0 + n) + length (uses e.book) ≤ capacity
+        → IsSound capacity (publishes_at q (next_identifier e.last e.book) m e).end.book × Roomy n (publishes_at q (next_identifier e.last e.book) m e).end
+    published Q0 n m e sound le = (sound, omega arith)
+    published Q1 n m e sound le = accepted n m (is_up e.state) e sound le
+    published Q2 n m e sound le = accepted n m (is_up e.state) e sound le
+
+    published_is : (q : Qos) (i : ℕ) (m : Message) (e : End) → has_identifier q ≡ true → (publishes_at q i m e).end ≡ record e { book = accept i m (is_up e.state) e.book; last = i }
+    published_is Q0 i m e h = absurd cc
+    published_is Q1 i m e h = refl
+    published_is Q2 i m e h = refl
+
+    needs_cons : (c : ℕ) (x : ℕ × Message) (copies : List (ℕ × Message)) → needs c (x ∷ copies) ≡ cond (eqb x.0 c && has_identifier x.1.qos) 1 0 + needs c copies
+    needs_cons c x copies = sum_by-cons (λ (y : ℕ × Message). cond (eqb y.0 c && has_identifier y.1.qos) 1 0) x copies
+
+    -- what the first of several copies needs
+    need_here : (key : ℕ) (m : Message) (copies : List (ℕ × Message)) → needs key ((key, m) ∷ copies) ≡ cond (has_identifier m.qos) 1 0 + needs key copies
+    need_here key m copies = needs_cons key (key, m) copies ∙ ap (λ (b : Bool). cond (b && has_identifier m.qos) 1 0 + needs key copies) (eq-eqb key key refl)
+
+    need_less : (c : ℕ) (x : ℕ × Message) (copies : List (ℕ × Message)) → needs c copies ≤ needs c (x ∷ copies)
+    need_less c x copies = let more = needs_cons c x copies in omega arith
+
+    -- what is left after a copy is placed
+    module _ (key : ℕ) (m : Message) (copies : List (ℕ × Message)) (w : Work) (hold : Holds w.hub) (there : has key w.hub.sessions ≡ true) (r : Room ((key, m) ∷ copies) w.hub.sessions) where
+      abbrev e : End
+      e = end_of key w.hub.sessions
+
+      enough : (cond (has_identifier m.qos) 1 0 + needs key copies) + length (uses e.book) ≤ capacity
+      enough = subst (λ (n : ℕ). n + length (uses e.book) ≤ capacity) (need_here key m copies) (r key there)
+
+      abbrev after : Work
+      after = with_sessions (with_end key (publishes_next m e).end) w
+
+      sessions_after : (place key m w).hub.sessions ≡ with_end key (publishes_next m e).end w.hub.sessions
+      sessions_after = (place_alike key m w).0
+
+      place_holds : Holds (place key m w).hub
+      place_holds = holds_alike (place key m w).hub after.hub (place_alike key m w) (holds_with key (publishes_next m e).end w (published m.qos (needs key copies) m e (hold.books key) enough).0 hold)
+
+      place_room : Room copies (place key m w).hub.sessions
+      place_room =
+          subst (Room copies) (sym sessions_after)
+          (each_there (Fits copies) key (publishes_next m e).end w.hub.sessions there (λ t. (published m.qos (needs key copies) m e (hold.books key) enough).1)
+          (λ c apart t. let less = need_less c (key, m) copies in let fits = r c t in omega arith))
+
+      place_accepts : has_identifier m.qos ≡ true → IsAccept (record { key = key; message = m; at = w })
+      place_accepts h =
+          let t = takes (needs key copies) e (subst (λ (b : Bool). (cond b 1 0 + needs key copies) + length (uses e.book) ≤ capacity) h enough) in
+          record {
+            there = any_has key w.hub.sessions there;
+            room = subst (λ (n : ℕ). is_full n e.book ≡ false) (sym hold.is) t.0;
+            first = t.1;
+            accepts = ap (end_of key) sessions_after ∙ end_with key (publishes_next m e).end w.hub.sessions there ∙ published_is m.qos (next_identifier e.last e.book) m e h;
+          }
+
+    -- copies for which there is room are accepted, and the books stay sound
+    pub accepting : (copies : List (ℕ × Message)) (w : Work) → Holds w.hub → For (Stands w.hub.sessions) copies → Room copies w.hub.sessions → AreAccepts (placings copies w) × Holds (place_all copies w).hub
+    accepting [] w hold stand r = (tt, hold)
+    accepting (x ∷ copies) w hold stand r =
+        let ss = (place x.0 x.1 w).hub.sessions in
+        let e = (publishes_next x.1 (end_of x.0 w.hub.sessions)).end in
+        let later = each_weaker (λ (y : ℕ × Message). Stands w.hub.sessions y.0) (λ (y : ℕ × Message). Stands ss y.0)
+        (λ y there. ap (has y.0) (place_alike x.0 x.1 w).0 ∙ has_with x.0 e y.0 w.hub.sessions ∙ there) copies stand.1 in
+        let more = accepting copies (place x.0 x.1 w) (place_holds x.0 x.1 copies w hold stand.0 r) later (place_room x.0 x.1 copies w hold stand.0 r) in
+        ((place_accepts x.0 x.1 copies w hold stand.0 r, more.0), more.1)
