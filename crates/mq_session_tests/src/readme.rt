@@ -125,17 +125,26 @@ fn bytes_are_viewed(rt: HostRuntime) -> Result<(), Fail> {
     expect_told(&rt, viewed(rt.alloc(), b"\xf0"), "F1", "")
 }
 
-// A client `w` with a limit of 64 and room for two messages.
-fn new_client(alloc: Global) -> Result<ClientEnd, Fail> {
-    let config = ClientConfig {
-        id: Text::new(alloc, "w")?,
+// What the user of a client `w` says of it: a limit of 64 and room for two messages.
+fn config(alloc: Global) -> Result<ClientConfig, Fail> {
+    let limits = Limits::new(64).ok_or("no limits")?;
+    let id = Text::new(alloc, "w")?;
+    Ok(ClientConfig {
+        id,
         keep_alive: 60,
         will: None,
         login: None,
-        limits: Limits::new(64).ok_or("no limits")?,
+        limits,
         capacity: 2,
         window: None,
-    };
+    })
+}
+
+fn new_client(alloc: Global) -> Result<ClientEnd, Fail> {
+    let config = config(alloc)?;
+    if config.capacity == 0 || config.window.is_some() {
+        return Err(Fail::new("no room"));
+    }
     Ok(ClientEnd::new(alloc, config))
 }
 
