@@ -19,20 +19,3 @@ pub(crate) fn expect_told(
     expect_text(rt, told.as_str(), wanted, of);
     Ok(())
 }
-
-// The same of a text, where a number of the row is told.
-fn expect_text_at(rt: &impl Abort, told: &str, wanted: &str, number: u64) {
-    assert_eq!(rt; told, wanted, "{number}");
-}
-
-/// The same of a text that a call answers, where a number of the row is told.
-pub(crate) fn expect_told_at(
-    rt: &impl Abort,
-    told: Result<String, Fail>,
-    wanted: &str,
-    number: u64,
-) -> Result<(), Fail> {
-    let told = told?;
-    expect_text_at(rt, told.as_str(), wanted, number);
-    Ok(())
-}

@@ -1,11 +1,9 @@
-//! Tests of sessions: the books of messages in flight, and both ends.
+//! Tests of sessions and of both ends that are no rows of `mq_rows`: sentences, and the snippets of README.
 #![tactic(auto)]
 
 #[cfg(test)]
 mod compare;
 #[cfg(test)]
-mod end;
-#[cfg(test)]
-mod flow;
+mod readme;
 #[cfg(test)]
 mod sentences;

@@ -1,8 +1,8 @@
-//! What the errors of sessions and of ends display.
+//! What the errors of sessions and of ends display, and their codes; and items that are copied.
 
-use crate::compare::expect_told;
+use crate::compare::{expect_text, expect_told};
 use mq_decode::{DecodeFault, FaultKind};
-use mq_end::{CloseReason, PublishRefusal};
+use mq_end::{CloseReason, Items, PublishRefusal};
 use mq_flow::LoadError;
 use mq_packet::RefusalCode;
 use std::alloc::Global;
@@ -14,21 +14,27 @@ fn said<E: Display + Drop>(alloc: Global, error: E) -> Result<String, Fail> {
     Ok(format!(in alloc; "{error}")?)
 }
 
-// Each refusal of a call, and what it displays.
-static REFUSALS: [(PublishRefusal, &str); 5] = [
-    (PublishRefusal::NotConnected, "not connected"),
+// Each refusal of a call, its code, and what it displays.
+static REFUSALS: [(PublishRefusal, &str, &str); 5] = [
+    (PublishRefusal::NotConnected, "P1", "not connected"),
     (
         PublishRefusal::NoSession,
+        "P2",
         "the server has no session for the client",
     ),
-    (PublishRefusal::TooLarge, "the packet is over the limit"),
-    (PublishRefusal::Full, "no packet identifier is free"),
-    (PublishRefusal::Memory, "out of memory"),
+    (
+        PublishRefusal::TooLarge,
+        "P3",
+        "the packet is over the limit",
+    ),
+    (PublishRefusal::Full, "P4", "no packet identifier is free"),
+    (PublishRefusal::Memory, "P5", "out of memory"),
 ];
 
 #[test]
 fn refusals_display_as_sentences(rt: HostRuntime) -> Result<(), Fail> {
-    for (refusal, wanted) in &REFUSALS {
+    for (refusal, code, wanted) in &REFUSALS {
+        expect_text(&rt, refusal.code(), *code, "");
         expect_told(&rt, said(rt.alloc(), *refusal), wanted, "")?;
     }
     Ok(())
@@ -40,33 +46,46 @@ const FAULT: DecodeFault = DecodeFault {
     place: 0,
 };
 
-// Each reason to close a connection, and what it displays.
-static REASONS: [(CloseReason, &str); 8] = [
-    (CloseReason::Fault(FAULT), "bytes came that are no packet"),
+// Each reason to close a connection, its code, and what it displays.
+static REASONS: [(CloseReason, &str, &str); 8] = [
+    (
+        CloseReason::Fault(FAULT),
+        "C1",
+        "bytes came that are no packet",
+    ),
     (
         CloseReason::Unexpected,
+        "C2",
         "a packet came that may not come there",
     ),
     (
         CloseReason::Refused(RefusalCode::NotAuthorized),
+        "C3",
         "the connection was refused",
     ),
-    (CloseReason::SessionLost, "the server lost the session"),
+    (
+        CloseReason::SessionLost,
+        "C4",
+        "the server lost the session",
+    ),
     (
         CloseReason::KeepAlive,
+        "C5",
         "nothing came for one and a half times the keep-alive",
     ),
-    (CloseReason::Memory, "out of memory"),
-    (CloseReason::Left, "the client disconnected"),
+    (CloseReason::Memory, "C6", "out of memory"),
+    (CloseReason::Left, "C7", "the client disconnected"),
     (
         CloseReason::Window,
+        "C11",
         "a new message does not fit the receiving window",
     ),
 ];
 
 #[test]
 fn reasons_to_close_display_as_sentences(rt: HostRuntime) -> Result<(), Fail> {
-    for (reason, wanted) in &REASONS {
+    for (reason, code, wanted) in &REASONS {
+        expect_text(&rt, reason.code(), *code, "");
         expect_told(&rt, said(rt.alloc(), *reason), wanted, "")?;
     }
     Ok(())
@@ -99,4 +118,17 @@ fn errors_of_loading_display_as_sentences(rt: HostRuntime) -> Result<(), Fail> {
         expect_told(&rt, said(rt.alloc(), *error), wanted, "")?;
     }
     Ok(())
+}
+
+// The copy of two items, as they are lent and as they are given away.
+fn copied_items(alloc: Global) -> Result<String, Fail> {
+    let items = Items::from_vec(vec![in alloc; 1_u8, 2]?);
+    let copy = items.clone()?;
+    let lent = copy.as_slice().len();
+    Ok(format!(in alloc; "{lent} {:?}", copy.into_vec())?)
+}
+
+#[test]
+fn items_are_copied(rt: HostRuntime) -> Result<(), Fail> {
+    expect_told(&rt, copied_items(rt.alloc()), "2 [1, 2]", "")
 }

@@ -1,0 +1,153 @@
+//! Saved forms of sessions, and what is loaded of them.
+
+use crate::clients::go_on_with;
+use crate::values::bytes_of;
+use crate::words::Words;
+use crate::wrong::Wrong;
+use mq_flow::{LoadError, Saved, Session};
+use std::alloc::Global;
+
+// Adds whether what was loaded is saved as the same bytes.
+fn add_same(told: &mut String, saved: &[u8], bytes: &[u8]) -> Result<(), Wrong> {
+    told.push_str(if saved == bytes {
+        "the same"
+    } else {
+        "another"
+    })?;
+    Ok(())
+}
+
+// Adds what a session is saved as.
+fn add_session(
+    alloc: Global,
+    told: &mut String,
+    session: &Session,
+    bytes: &[u8],
+) -> Result<(), Wrong> {
+    let mut out = Vec::new(alloc);
+    session.save(&mut out)?;
+    add_same(told, out.as_slice(), bytes)
+}
+
+// Adds what the bytes are loaded as: a session, which is saved again, or why not.
+fn load(alloc: Global, told: &mut String, bytes: &[u8]) -> Result<(), Wrong> {
+    match Session::load(alloc, bytes) {
+        Ok(session) => add_session(alloc, told, &session, bytes),
+        Err(why) => Ok(write!(told, "{why:?}")?),
+    }
+}
+
+// Adds whose session was loaded.
+fn add_whose(told: &mut String, saved: &Saved) -> Result<(), Wrong> {
+    match &saved.client {
+        Some(client) => write!(told, "client {}, ", client.as_str())?,
+        None => told.push_str("no client, ")?,
+    }
+    if saved.established {
+        told.push_str("established, ")?;
+    }
+    Ok(())
+}
+
+// What was loaded, saved again in its version.
+fn again(saved: &Saved, out: &mut Vec<u8>) -> Result<(), Wrong> {
+    match &saved.client {
+        Some(client) => saved
+            .session
+            .save_with_client(client, saved.established, out)?,
+        None => saved.session.save(out)?,
+    }
+    Ok(())
+}
+
+// Adds whose session was loaded, and what it is saved as.
+fn add_saved(alloc: Global, told: &mut String, saved: &Saved, bytes: &[u8]) -> Result<(), Wrong> {
+    let mut out = Vec::new(alloc);
+    again(saved, &mut out)?;
+    add_whose(told, saved)?;
+    add_same(told, out.as_slice(), bytes)
+}
+
+// Adds what the bytes are loaded as, with the client that they name.
+fn load_saved(alloc: Global, told: &mut String, bytes: &[u8]) -> Result<(), Wrong> {
+    match Saved::load(alloc, bytes) {
+        Ok(saved) => add_saved(alloc, told, &saved, bytes),
+        Err(why) => Ok(write!(told, "{why:?}")?),
+    }
+}
+
+// Puts bytes in the place of those from a place on.
+fn put(bytes: &mut Vec<u8>, form: &[u8], place: usize, others: &[u8]) -> Result<(), Wrong> {
+    bytes.extend_from_slice(form.get(..place).ok_or(Wrong::Words)?)?;
+    bytes.extend_from_slice(others)?;
+    if let Some(rest) = form.get(bytes.len()..) {
+        bytes.extend_from_slice(rest)?;
+    }
+    Ok(())
+}
+
+// `with PLACE BYTES`: what is loaded where these bytes stand in the place of those from a place on.
+fn load_with(
+    alloc: Global,
+    form: &[u8],
+    words: &mut Words<'_>,
+    told: &mut String,
+) -> Result<(), Wrong> {
+    let place = words.count()?;
+    let others = bytes_of(alloc, words)?;
+    let mut bytes = Vec::new(alloc);
+    put(&mut bytes, form, place, others.as_slice())?;
+    load(alloc, told, bytes.as_slice())
+}
+
+// `behind BYTES`: what is loaded where the form stands behind these bytes.
+fn load_behind(
+    alloc: Global,
+    form: &[u8],
+    words: &mut Words<'_>,
+    told: &mut String,
+) -> Result<(), Wrong> {
+    let mut bytes = bytes_of(alloc, words)?;
+    bytes.extend_from_slice(form)?;
+    load_saved(alloc, told, bytes.as_slice())
+}
+
+// Whether a front of a form is not loaded, and its bad field is not behind its end.
+fn is_short(alloc: Global, front: &[u8]) -> bool {
+    match Saved::load(alloc, front) {
+        Ok(_) => false,
+        Err(LoadError::Malformed { place }) => 4 <= place && place <= front.len(),
+        Err(why) => why == LoadError::Version && front.len() < 4,
+    }
+}
+
+// `first COUNT`: what is loaded of so many bytes. `fronts`: how many bytes the fronts of the form have that are loaded, or whose bad field is behind their end.
+fn add_fronts(alloc: Global, form: &[u8], told: &mut String) -> Result<(), Wrong> {
+    for length in 0..form.len() {
+        let (front, _) = form.split_at(length);
+        if !is_short(alloc, front) {
+            write!(told, "{length} ")?;
+        }
+    }
+    Ok(())
+}
+
+/// What an act of a form tells.
+pub(crate) fn tell(
+    alloc: Global,
+    form: &[u8],
+    words: &mut Words<'_>,
+    told: &mut String,
+) -> Result<(), Wrong> {
+    match words.word()? {
+        "with" => load_with(alloc, form, words, told),
+        "first" => {
+            let front = form.get(..words.count()?).ok_or(Wrong::Words)?;
+            load(alloc, told, front)
+        }
+        "behind" => load_behind(alloc, form, words, told),
+        "client" => go_on_with(alloc, form, words, told),
+        "fronts" => add_fronts(alloc, form, told),
+        _ => Err(Wrong::Words),
+    }
+}

@@ -1,0 +1,261 @@
+//! Server ends: what each call tells, and what they put out.
+
+use crate::brief::{
+    add_done, add_late, add_outcome, add_progress, add_published, add_session, add_state,
+};
+use crate::sessions::Books;
+use crate::values::{add_hex, bytes_of, message, packet_of};
+use crate::words::{Words, qos_of};
+use crate::wrong::Wrong;
+use mq_end::{ByteQueue, ServerConfig, ServerEnd};
+use mq_packet::{Message, NonEmpty, Packet, SubAckCode};
+use std::alloc::Global;
+
+// What the user of a server says of it: `ROOM LIMIT [WINDOW]`.
+fn config(words: &mut Words<'_>) -> Result<ServerConfig, Wrong> {
+    let capacity = words.short()?;
+    let limits = words.limits()?;
+    let window = words.short_if_any()?;
+    Ok(ServerConfig {
+        limits,
+        capacity,
+        window,
+    })
+}
+
+/// `new server ROOM LIMIT [WINDOW]`.
+pub(crate) fn new_server(alloc: Global, words: &mut Words<'_>) -> Result<ServerEnd, Wrong> {
+    let config = config(words)?;
+    if config.capacity == 0 || config.window == Some(0) {
+        return Err(Wrong::Words);
+    }
+    Ok(ServerEnd::new(alloc, config))
+}
+
+/// `server ROOM LIMIT` of a session: the server that goes on with it, where it can.
+pub(crate) fn resume(
+    alloc: Global,
+    books: Books,
+    words: &mut Words<'_>,
+) -> Result<Option<ServerEnd>, Wrong> {
+    let config = config(words)?;
+    if config.window.is_some() {
+        return Err(Wrong::Words);
+    }
+    Ok(ServerEnd::with_session(alloc, config, books.session))
+}
+
+// `receive BYTES`: these come.
+fn receive(
+    alloc: Global,
+    server: &mut ServerEnd,
+    moment: u64,
+    words: &mut Words<'_>,
+    told: &mut String,
+) -> Result<(), Wrong> {
+    let bytes = bytes_of(alloc, words)?;
+    add_progress(told, &server.receive(moment, bytes.as_slice()))
+}
+
+// `packet BYTES`: whether the packet would hand a message on, and what comes of it.
+fn take_whole(
+    alloc: Global,
+    server: &mut ServerEnd,
+    moment: u64,
+    words: &mut Words<'_>,
+    told: &mut String,
+) -> Result<(), Wrong> {
+    let packet = packet_of(alloc, words)?;
+    write!(told, "{}", server.would_hand(&packet))?;
+    add_progress(told, &server.on_packet(moment, packet))
+}
+
+// `take BYTES`: the packet is taken, and nothing else of what it tells.
+fn take(
+    alloc: Global,
+    server: &mut ServerEnd,
+    moment: u64,
+    words: &mut Words<'_>,
+    told: &mut String,
+) -> Result<(), Wrong> {
+    let packet = packet_of(alloc, words)?;
+    add_outcome(told, &server.take_packet(moment, packet)?)
+}
+
+// `publish QOS BYTES`: a message to `t`.
+fn publish(
+    alloc: Global,
+    server: &mut ServerEnd,
+    words: &mut Words<'_>,
+    told: &mut String,
+) -> Result<(), Wrong> {
+    let qos = words.qos()?;
+    let message = message(alloc, "t", qos, bytes_of(alloc, words)?)?;
+    add_published(told, server.publish(message))
+}
+
+// `suback ID COUNT`: a SUBSCRIBE is answered with so many codes of a failure.
+fn suback(
+    alloc: Global,
+    server: &mut ServerEnd,
+    words: &mut Words<'_>,
+    told: &mut String,
+) -> Result<(), Wrong> {
+    let id = words.id()?;
+    let codes = vec![in alloc; SubAckCode::Failure; words.count()?]?;
+    if codes.is_empty() {
+        return Err(Wrong::Words);
+    }
+    add_done(told, server.suback(id, NonEmpty::from_vec(codes)))
+}
+
+// `unsuback ID`: an UNSUBSCRIBE is answered.
+fn unsuback(server: &mut ServerEnd, words: &mut Words<'_>, told: &mut String) -> Result<(), Wrong> {
+    add_done(told, server.unsuback(words.id()?))
+}
+
+// Adds messages with a payload, of the qualities of service that the other words are.
+fn add_messages(
+    alloc: Global,
+    messages: &mut Vec<Message>,
+    payload: &[u8],
+    words: &mut Words<'_>,
+) -> Result<(), Wrong> {
+    for word in words.rest() {
+        let payload = Vec::from_slice(alloc, payload)?;
+        messages.push(message(alloc, "t", qos_of(word)?, payload)?)?;
+    }
+    Ok(())
+}
+
+// The messages of the other words: `BYTES QOS ..`.
+fn messages(alloc: Global, words: &mut Words<'_>) -> Result<Vec<Message>, Wrong> {
+    let payload = bytes_of(alloc, words)?;
+    let mut messages = Vec::new(alloc);
+    add_messages(alloc, &mut messages, payload.as_slice(), words)?;
+    Ok(messages)
+}
+
+// `ready MORE BYTES QOS ..`: room is made for messages, and for so many bytes more.
+fn ready(
+    alloc: Global,
+    server: &mut ServerEnd,
+    words: &mut Words<'_>,
+    told: &mut String,
+) -> Result<(), Wrong> {
+    let more = words.count()?;
+    let messages = messages(alloc, words)?;
+    match server.ready(messages.as_slice(), more) {
+        Ok(()) => told.push_str("ready")?,
+        Err(why) => write!(told, "{why:?}")?,
+    }
+    Ok(())
+}
+
+// Adds whether there is room to come up by a CONNECT, and then for messages and for so many bytes more.
+fn add_ready(
+    server: &mut ServerEnd,
+    packet: &Packet,
+    messages: &[Message],
+    more: usize,
+    told: &mut String,
+) -> Result<(), Wrong> {
+    let Packet::Connect(connect) = packet else {
+        return Err(Wrong::Words);
+    };
+    match server.ready_to_rise(connect.as_connect(), messages, more) {
+        Ok(()) => told.push_str("ready")?,
+        Err(_) => told.push_str("no memory")?,
+    }
+    Ok(())
+}
+
+// `rise MORE PACKET BYTES QOS ..`
+fn ready_to_rise(
+    alloc: Global,
+    server: &mut ServerEnd,
+    words: &mut Words<'_>,
+    told: &mut String,
+) -> Result<(), Wrong> {
+    let more = words.count()?;
+    let packet = packet_of(alloc, words)?;
+    let messages = messages(alloc, words)?;
+    add_ready(server, &packet, messages.as_slice(), more, told)
+}
+
+// `swap BYTES`: these for the output that waits.
+fn swap(
+    alloc: Global,
+    server: &mut ServerEnd,
+    words: &mut Words<'_>,
+    told: &mut String,
+) -> Result<(), Wrong> {
+    let bytes = bytes_of(alloc, words)?;
+    let mut queue = ByteQueue::new(alloc);
+    queue.append(bytes.as_slice())?;
+    server.swap_output(&mut queue);
+    Ok(add_hex(told, queue.as_slice())?)
+}
+
+// What an act tells that is no client's.
+fn tell_of_server(
+    alloc: Global,
+    server: &mut ServerEnd,
+    act: &str,
+    words: &mut Words<'_>,
+    told: &mut String,
+) -> Result<(), Wrong> {
+    match act {
+        "suback" => suback(alloc, server, words, told),
+        "unsuback" => unsuback(server, words, told),
+        "ready" => ready(alloc, server, words, told),
+        "rise" => ready_to_rise(alloc, server, words, told),
+        _ => Err(Wrong::Words),
+    }
+}
+
+/// What an act of a server tells.
+pub(crate) fn tell(
+    alloc: Global,
+    server: &mut ServerEnd,
+    moment: u64,
+    words: &mut Words<'_>,
+    told: &mut String,
+) -> Result<(), Wrong> {
+    let act = words.word()?;
+    match act {
+        "open" => {
+            server.opened(moment);
+            add_state(told, server.state())
+        }
+        "receive" => receive(alloc, server, moment, words, told),
+        "packet" => take_whole(alloc, server, moment, words, told),
+        "take" => take(alloc, server, moment, words, told),
+        "publish" => publish(alloc, server, words, told),
+        "tick" => add_late(told, server.tick(moment)),
+        "lose" => {
+            server.dropped();
+            add_state(told, server.state())
+        }
+        "session" => add_session(told, server.session()),
+        "swap" => swap(alloc, server, words, told),
+        _ => tell_of_server(alloc, server, act, words, told),
+    }
+}
+
+/// Adds the output of a server that waits, which is written then; or so many bytes are written, and those that wait still are added.
+pub(crate) fn see(
+    server: &mut ServerEnd,
+    written: Option<usize>,
+    seen: &mut String,
+) -> Result<(), Wrong> {
+    let Some(written) = written else {
+        let output = server.take_all_output();
+        return Ok(add_hex(seen, output.as_slice())?);
+    };
+    if server.output().len() < written {
+        return Err(Wrong::Words);
+    }
+    server.take_output(written);
+    Ok(add_hex(seen, server.output())?)
+}

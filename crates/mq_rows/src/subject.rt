@@ -1,0 +1,151 @@
+//! What a list is of.
+
+use crate::row::Act;
+use crate::sessions::{self, Books};
+use crate::values::bytes_of;
+use crate::words::Words;
+use crate::wrong::Wrong;
+use crate::{clients, forms, queues, servers};
+use mq_end::{ByteQueue, ClientEnd, ServerEnd};
+use std::alloc::Global;
+use std::mem;
+
+/// What a list is of.
+#[derive(Drop)]
+pub(crate) enum Subject {
+    /// No list began.
+    Nothing,
+    /// A session.
+    Session(Box<Books>),
+    /// The saved form of a session.
+    Form(Vec<u8>),
+    /// A client end.
+    Client(Box<ClientEnd>),
+    /// A server end.
+    Server(Box<ServerEnd>),
+    /// Bytes that wait.
+    Queue(ByteQueue),
+}
+
+/// The subject that the words after `new` ask for.
+pub(crate) fn new_subject(alloc: Global, words: &mut Words<'_>) -> Result<Subject, Wrong> {
+    match words.word()? {
+        "session" => new_books(alloc, words),
+        "loaded" => loaded_books(alloc, words),
+        "form" => new_form(alloc, words),
+        "client" => new_client(alloc, words),
+        "server" => new_server(alloc, words),
+        "queue" => Ok(Subject::Queue(ByteQueue::new(alloc))),
+        _ => Err(Wrong::Words),
+    }
+}
+
+fn new_books(alloc: Global, words: &mut Words<'_>) -> Result<Subject, Wrong> {
+    let books = sessions::new_books(alloc, words)?;
+    Ok(Subject::Session(Box::new(alloc, books)?))
+}
+
+fn loaded_books(alloc: Global, words: &mut Words<'_>) -> Result<Subject, Wrong> {
+    let books = sessions::loaded_books(alloc, words)?;
+    Ok(Subject::Session(Box::new(alloc, books)?))
+}
+
+fn new_form(alloc: Global, words: &mut Words<'_>) -> Result<Subject, Wrong> {
+    Ok(Subject::Form(bytes_of(alloc, words)?))
+}
+
+fn new_client(alloc: Global, words: &mut Words<'_>) -> Result<Subject, Wrong> {
+    let client = clients::new_client(alloc, words)?;
+    Ok(Subject::Client(Box::new(alloc, client)?))
+}
+
+fn new_server(alloc: Global, words: &mut Words<'_>) -> Result<Subject, Wrong> {
+    let server = servers::new_server(alloc, words)?;
+    Ok(Subject::Server(Box::new(alloc, server)?))
+}
+
+// The client that goes on with a session, or nothing where it can't.
+fn resumed_client(alloc: Global, books: Books, words: &mut Words<'_>) -> Result<Subject, Wrong> {
+    match clients::resume(alloc, books, words)? {
+        Some(client) => Ok(Subject::Client(Box::new(alloc, client)?)),
+        None => Ok(Subject::Nothing),
+    }
+}
+
+// The server that goes on with a session, or nothing where it can't.
+fn resumed_server(alloc: Global, books: Books, words: &mut Words<'_>) -> Result<Subject, Wrong> {
+    match servers::resume(alloc, books, words)? {
+        Some(server) => Ok(Subject::Server(Box::new(alloc, server)?)),
+        None => Ok(Subject::Nothing),
+    }
+}
+
+impl Subject {
+    // `becomes client ROOM LIMIT` or `becomes server ROOM LIMIT` of a session: from here on the list is of the end that goes on with it.
+    fn go_on(
+        &mut self,
+        alloc: Global,
+        words: &mut Words<'_>,
+        told: &mut String,
+    ) -> Result<(), Wrong> {
+        let Subject::Session(books) = mem::replace(self, Subject::Nothing) else {
+            return Err(Wrong::Words);
+        };
+        *self = match words.word() {
+            Ok("client") => resumed_client(alloc, Box::into_inner(books), words)?,
+            _ => resumed_server(alloc, Box::into_inner(books), words)?,
+        };
+        if matches!(self, Subject::Nothing) {
+            told.push_str("too large")?;
+        }
+        Ok(())
+    }
+
+    // What an act tells, of the words of which it leaves those that it doesn't know.
+    fn tell_words(
+        &mut self,
+        alloc: Global,
+        moment: u64,
+        words: &mut Words<'_>,
+        told: &mut String,
+    ) -> Result<(), Wrong> {
+        if words.begin_with("becomes") {
+            return self.go_on(alloc, words, told);
+        }
+        match self {
+            Subject::Nothing => Err(Wrong::Words),
+            Subject::Session(books) => sessions::tell(alloc, books, words, told),
+            Subject::Form(form) => forms::tell(alloc, form.as_slice(), words, told),
+            Subject::Client(client) => clients::tell(alloc, client, moment, words, told),
+            Subject::Server(server) => servers::tell(alloc, server, moment, words, told),
+            Subject::Queue(queue) => queues::act(alloc, queue, words),
+        }
+    }
+
+    /// Does an act once, and adds what it tells.
+    pub(crate) fn tell(
+        &mut self,
+        alloc: Global,
+        act: Act<'_>,
+        told: &mut String,
+    ) -> Result<(), Wrong> {
+        let mut words = act.words;
+        self.tell_words(alloc, act.moment, &mut words, told)?;
+        if words.is_empty() {
+            Ok(())
+        } else {
+            Err(Wrong::Words)
+        }
+    }
+
+    /// Adds what is seen of it; so many bytes of its output are written, or all.
+    pub(crate) fn see(&mut self, written: Option<usize>, seen: &mut String) -> Result<(), Wrong> {
+        match self {
+            Subject::Nothing | Subject::Form(_) => Ok(()),
+            Subject::Session(books) => sessions::see(&books.session, seen),
+            Subject::Client(client) => clients::see(client, written, seen),
+            Subject::Server(server) => servers::see(server, written, seen),
+            Subject::Queue(queue) => queues::see(queue, seen),
+        }
+    }
+}
