@@ -1,0 +1,5 @@
+pub mod Stream
+pub mod Halts
+pub mod Course
+pub mod Printed
+pub mod Publishing
