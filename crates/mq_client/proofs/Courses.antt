@@ -1,5 +1,5 @@
 -- Courses follow one another.
-use Rattle.std.proofs.Common.{◌≡◌, ℕ, List, [], ◌∷◌, ◌++◌, Option, None, Some, refl, sym, ap, subst, ◌∙◌, append-nil, option_to_list, Result, Ok, Err, OnErr, OnOk}
+use Rattle.std.proofs.Common.{◌≡◌, ℕ, List, [], ◌∷◌, ◌++◌, Option, refl, sym, ap, subst, ◌∙◌, append-nil, option_to_list, Result, Ok, Err, OnErr, OnOk}
 use Rattle.std.proofs.KnownBytes.{Appends-kept, Appends-nil, Appends-trans, Consumes-kept, Consumes-nil, Consumes-trans}
 use Rattle.std.proofs.lemmas.Grind.{flat_map-append}
 use Rattle.std.specs.List.{flat_map}
@@ -11,7 +11,7 @@ use Rattle.mq_end.specs.declared.reason.CloseReason.{CloseReason}
 use Rattle.mq_end.specs.Publishing.{ClientState}
 use Rattle.mq_end.specs.End.{over}
 use Rattle.mq_end.specs.State.{PutsOut, no_bytes}
-use Rattle.mq_client.specs.Course.{Ask, Connect, Does, Hear, Hears, Leaves, Lose, Moment, Runs, Step, Tick, Went, Write, closed, heard, asked, sent, told}
+use Rattle.mq_client.specs.Course.{Ask, Does, Hear, Hears, Leaves, Lose, Moment, Runs, Step, Went, Write, closed, heard, asked, sent, told}
 
 runs_then : (a b c : ClientState) (ss ts : List Step) → Runs a ss b → Runs b ts c → Runs a (ss ++ ts) c
 runs_then a b c [] ts p q = subst (λ x. Runs x ts c) p q
@@ -123,6 +123,10 @@ took s m n a b k w bytes hs why before same comes keeps is hears =
 pub on_err : {T E : Type 0} → (r : Result T E) (P : Type 0) → P → OnErr r P
 on_err (Ok x) P p = tt
 on_err (Err e) P p = p
+
+pub on_ok : {T E : Type 0} → (r : Result T E) (P : Type 0) → P → OnOk r P
+on_ok (Ok x) P p = p
+on_ok (Err e) P p = tt
 
 -- the client left: what waits, DISCONNECT behind it, went over the stream
 pub left : {T E : Type 0} → (r : Result T E) (a b : Moment) (last : List ℕ) → PutsOut (packets.Disconnect ∷ []) a.client.link.output last

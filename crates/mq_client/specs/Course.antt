@@ -1,5 +1,5 @@
 -- The course of a client end at a stream: the calls of it, in order, and the bytes that came and went (3.1 to 3.14, 4.2).
-use Rattle.std.specs.Prelude.{◌≡◌, ℕ, Bool, true, false, List, [], ◌∷◌, ◌++◌, length, Option, None, Result, Ok, Err, option_to_list}
+use Rattle.std.specs.Prelude.{◌≡◌, ℕ, Bool, true, false, List, [], ◌∷◌, ◌++◌, Option, None, Result, Ok, Err, option_to_list}
 use Rattle.std.specs.List.{flat_map}
 use Rattle.std.specs.Io.KnownBytes.{Appends, Consumes}
 use Rattle.mq_packet.specs.declared.message.Message.{Message}

@@ -3,3 +3,4 @@ pub mod Halts
 pub mod Course
 pub mod Printed
 pub mod Publishing
+pub mod Collecting

@@ -1,6 +1,6 @@
 -- What the client programs print: lines, each with its end.
-use Rattle.std.specs.Prelude.{ℕ, Bool, true, false, if◌then◌else◌, List, [], ◌∷◌, ◌++◌, length, Option, None, Some, ⊤, Result, Ok, Err, codes, decimal}
-use Rattle.std.specs.List.{flat_map, list_any}
+use Rattle.std.specs.Prelude.{ℕ, List, [], ◌∷◌, ◌++◌, codes, decimal}
+use Rattle.std.specs.List.{flat_map}
 use Rattle.mq_line.specs.Lines.{escaped, hex_of}
 use Rattle.mq_topic.specs.Qos.{qos_number}
 use Rattle.mq_packet.specs.declared.message.Message.{Message}

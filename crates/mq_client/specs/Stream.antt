@@ -1,6 +1,6 @@
 -- What a read of a stream does, where the bytes that are to come are known.
-use Rattle.std.specs.Prelude.{◌≡◌, ⊤, ℕ, ◌≤◌, List, length, take, Option}
-use Rattle.std.specs.Io.KnownBytes.{Consumes, IsAtEnd, Keeps}
+use Rattle.std.specs.Prelude.{ℕ, ◌≤◌, List, length, take, Option}
+use Rattle.std.specs.Io.KnownBytes.{Consumes, Keeps}
 use Rattle.mq_client.specs.declared.stream.Arrival.{Arrival}
 use Rattle.mq_client.specs.declared.stream.Arrival.TheVariants.{Bytes, Nothing, End, Failed}
 

@@ -4,6 +4,7 @@
 #![tactic(auto)]
 
 mod clock;
+mod collecting;
 mod halt;
 mod keeper;
 mod peer;
@@ -12,6 +13,7 @@ mod publishing;
 mod stream;
 
 pub use crate::clock::{Clock, Elapsed};
+pub use crate::collecting::{Wish, collect};
 pub use crate::halt::Halt;
 pub use crate::keeper::{Keeper, NotKept, Nowhere};
 pub use crate::peer::Peer;

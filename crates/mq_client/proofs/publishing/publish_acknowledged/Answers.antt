@@ -1,4 +1,4 @@
-use Rattle.std.proofs.Common.{[], refl, sym, subst}
+use Rattle.std.proofs.Common.{refl, sym, subst}
 use Rattle.std.proofs.lemmas.Result.{err_from_is_err_and}
 use Rattle.mq_client.specs.Publishing.{AskedFirst, asks_of}
 use Rattle.mq_client.proofs.Published.{all_asked, first_none, first_more, first_told}

@@ -1,4 +1,4 @@
-use Rattle.std.proofs.Common.{◌≡◌, [], ap, arith}
+use Rattle.std.proofs.Common.{ap, arith}
 use Rattle.mq_client.specs.Course.{Publication}
 use Rattle.mq_client.specs.Publishing.{text_message}
 use Rattle.mq_client.proofs.Published.{more_none, more_one, more_same}

@@ -1,6 +1,5 @@
-use Rattle.std.proofs.Common.{◌≡◌, ℕ, [], refl, sym, ap}
-use Rattle.mq_client.specs.Course.{Went, Tick, Leave, Hear, Connect}
-use Rattle.mq_client.proofs.Courses.{stepped, wrote, lost, broke, took, went_then, on_err}
+use Rattle.std.proofs.Common.{[]}
+use Rattle.mq_client.proofs.Courses.{took, went_then, on_err}
 use Rattle.mq_client.proofs.peer.Peer.hear.Goals as goal
 
 pub returns-in_err-count-clause-lost : goal.returns-in_err-count-clause-lost

@@ -1,6 +1,6 @@
-use Rattle.std.proofs.Common.{◌≡◌, ℕ, [], refl, sym, ap}
-use Rattle.mq_client.specs.Course.{Went, Tick, Leave, Hear, Connect}
-use Rattle.mq_client.proofs.Courses.{stepped, wrote, lost, broke, took, went_then, left}
+use Rattle.std.proofs.Common.{[], refl}
+use Rattle.mq_client.specs.Course.{Leave}
+use Rattle.mq_client.proofs.Courses.{stepped, went_then, left}
 use Rattle.mq_client.proofs.peer.Peer.leave.Goals as goal
 
 pub returns-in-Ok-clause-went : goal.returns-in-Ok-clause-went

@@ -1,6 +1,5 @@
-use Rattle.std.proofs.Common.{◌≡◌, refl}
 use Rattle.std.proofs.KnownBytes.{Keeps-refl}
-use Rattle.mq_client.proofs.Courses.{lost, stays, went_then}
+use Rattle.mq_client.proofs.Courses.{lost}
 use Rattle.mq_client.proofs.peer.Peer.lose.Goals as goal
 
 pub returns-clause-went : goal.returns-clause-went

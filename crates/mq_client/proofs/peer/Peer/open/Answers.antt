@@ -1,6 +1,6 @@
-use Rattle.std.proofs.Common.{◌≡◌, ℕ, [], refl, sym, ap}
-use Rattle.mq_client.specs.Course.{Connects, Went, Tick, Leave, Hear, Connect}
-use Rattle.mq_client.proofs.Courses.{stepped, wrote, lost, broke, took, went_then, on_err}
+use Rattle.std.proofs.Common.{[], refl}
+use Rattle.mq_client.specs.Course.{Connects, Connect}
+use Rattle.mq_client.proofs.Courses.{stepped, went_then}
 use Rattle.mq_client.proofs.peer.Peer.open.Goals as goal
 
 pub returns-clause-went : goal.returns-clause-went

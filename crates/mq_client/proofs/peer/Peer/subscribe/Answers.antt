@@ -1,6 +1,6 @@
-use Rattle.std.proofs.Common.{◌≡◌, ◌∷◌, [], refl, sym, ap, subst}
-use Rattle.mq_client.specs.Course.{Publish, Subscribe, Subscription, Publication}
-use Rattle.mq_client.proofs.Courses.{stepped, went_none}
+use Rattle.std.proofs.Common.{refl}
+use Rattle.mq_client.specs.Course.{Subscribe}
+use Rattle.mq_client.proofs.Courses.{stepped}
 use Rattle.mq_client.proofs.peer.Peer.subscribe.Goals as goal
 
 pub returns-clause-went : goal.returns-clause-went

@@ -1,8 +1,7 @@
-use Rattle.std.proofs.Common.{◌≡◌, ℕ, [], refl, sym, ap, subst}
+use Rattle.std.proofs.Common.{subst}
 use Rattle.std.specs.Io.KnownBytes.{Appends}
 use Rattle.mq_packet.specs.Writing.{AppendsFront}
-use Rattle.mq_client.specs.Course.{Went, Tick, Leave, Hear, Connect}
-use Rattle.mq_client.proofs.Courses.{stepped, wrote, lost, broke, took, went_then, on_err}
+use Rattle.mq_client.proofs.Courses.{wrote, broke}
 use Rattle.mq_client.proofs.peer.Peer.write.Goals as goal
 
 pub returns-in-Ok-clause-went : goal.returns-in-Ok-clause-went
