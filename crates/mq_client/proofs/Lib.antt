@@ -1,0 +1,5 @@
+pub mod Courses
+pub mod Published
+pub mod Collected
+pub mod Gathered
+pub mod Collects

@@ -1,0 +1,15 @@
+use Rattle.std.proofs.Common.{[]}
+use Rattle.std.proofs.lemmas.Result.{err_from_is_err_and}
+use Rattle.mq_client.proofs.Collected.{keeps_then}
+use Rattle.mq_client.proofs.collecting.await_up.Goals as goal
+
+pub returns-in_err-keep : goal.returns-in_err-keep
+returns-in_err-keep g c =
+    let p = err_from_is_err_and c.from_residual.result c.from_residual.ensures.1 in
+    rw (p.1, p.2) (keeps_then _ _ _ [] [] _ _ _ _ c.loop.invariant c.in_err-keep.ensures)
+
+pub returns-then-is_up : goal.returns-then-is_up
+returns-then-is_up g c = keeps_then _ _ _ [] [] _ _ _ _ c.loop.invariant c.in_ok-keep.ensures
+
+pub loop-preserved : goal.loop-preserved
+loop-preserved g c = keeps_then _ _ _ [] [] _ _ _ _ c.loop.invariant c.in_ok-keep.ensures

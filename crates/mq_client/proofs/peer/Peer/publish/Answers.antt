@@ -1,0 +1,7 @@
+use Rattle.std.proofs.Common.{refl}
+use Rattle.mq_client.specs.Course.{Publish}
+use Rattle.mq_client.proofs.Courses.{stepped}
+use Rattle.mq_client.proofs.peer.Peer.publish.Goals as goal
+
+pub returns-clause-went : goal.returns-clause-went
+returns-clause-went g c = rw (← c.self.view_is) (stepped (Publish c.args.message) _ _ _ _ refl refl (record { answer = c.in_default.field-0; accepts = c.in_default.ensures.ok }))

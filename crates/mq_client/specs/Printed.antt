@@ -1,0 +1,53 @@
+-- What the client programs print: lines, each with its end.
+use Rattle.std.specs.Prelude.{ℕ, List, [], ◌∷◌, ◌++◌, codes, decimal}
+use Rattle.std.specs.List.{flat_map}
+use Rattle.mq_line.specs.Lines.{escaped, hex_of}
+use Rattle.mq_topic.specs.Qos.{qos_number}
+use Rattle.mq_packet.specs.declared.message.Message.{Message}
+use Rattle.mq_end.specs.declared.happening.Happening.{Happening}
+use Rattle.mq_end.specs.declared.happening.Happening.TheVariants as happens
+use Rattle.mq_end.specs.Codes.{close_code, refusal_code}
+use Rattle.mq_client.specs.declared.halt.Halt.{Halt}
+use Rattle.mq_client.specs.declared.halt.Halt.TheVariants.{Closed, Lost, Refused, NotSubscribed, NotKept, Memory}
+
+-- why a program stops before it is done
+abbrev pub halt_line : Halt → List ℕ
+halt_line (Closed reason) = codes "closed " ++ (close_code reason ++ codes "\n")
+halt_line Lost = codes "connection failed\n"
+halt_line (Refused why) = codes "refused " ++ (refusal_code why ++ codes "\n")
+halt_line NotSubscribed = codes "not subscribed\n"
+halt_line NotKept = codes "session not written\n"
+halt_line Memory = codes "out of memory\n"
+
+-- ---- publish
+
+-- how many messages were published
+abbrev pub published_line : ℕ → List ℕ
+published_line count = codes "published " ++ (decimal count ++ codes "\n")
+
+-- ---- collect
+
+-- the bytes of a payload as digits, or `-` where there are none
+abbrev pub payload_word : List ℕ → List ℕ
+payload_word [] = codes "-"
+payload_word (b ∷ bs) = hex_of (b ∷ bs)
+
+-- a message: its topic, its quality of service, its payload
+abbrev pub message_line : Message → List ℕ
+message_line m = escaped m.topic ++ (codes " " ++ (decimal (qos_number m.qos) ++ (codes " " ++ (payload_word m.payload ++ codes "\n"))))
+
+-- of what an end tells, the messages that are handed on are printed
+abbrev pub told_line : Happening → List ℕ
+told_line (happens.Up present) = []
+told_line (happens.Handed m) = message_line m
+told_line (happens.Subscribe id requests) = []
+told_line (happens.Unsubscribe id filters) = []
+told_line (happens.SubAck id given) = []
+told_line (happens.UnsubAck id) = []
+told_line happens.Pong = []
+
+abbrev pub told_lines : List Happening → List ℕ
+told_lines happenings = flat_map told_line happenings
+
+abbrev pub subscribed_line : List ℕ
+subscribed_line = codes "subscribed\n"

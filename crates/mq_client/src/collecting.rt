@@ -1,0 +1,225 @@
+//! The program `collect`.
+
+ghost use Rattle.std.specs.Prelude.{◌≡◌, ◌-◌, ◌∷◌, [], true, length, IfOk, IfSome, OnErr, OnOk};
+ghost use Rattle.std.specs.List.{flat_map};
+ghost use Rattle.mq_line.specs.Lines.{Prints};
+ghost use Rattle.mq_client.specs.Course.{Subscription};
+ghost use Rattle.mq_client.specs.Halts.{closes_of};
+ghost use Rattle.mq_client.specs.Collecting.{Begins, Gathers, IsAnswered, IsCollectDone, Keeps, grants, handed, request_of};
+
+use crate::clock::Clock;
+use crate::halt::Halt;
+use crate::keeper::Keeper;
+use crate::peer::Peer;
+use crate::printing::{write_halt, write_told};
+use crate::stream::Stream;
+use mq_end::Happening;
+use mq_packet::{NonEmpty, Request, SubAckCode};
+use mq_topic::{Qos, TopicFilter};
+use std::alloc::Global;
+use std::io;
+use std::io::Write;
+
+/// What is to be collected.
+#[derive(Clone, Copy, Debug)]
+pub struct Wish<'a> {
+    /// Which topic names.
+    pub filter: &'a TopicFilter,
+    /// The greatest quality of service asked for.
+    pub qos: Qos,
+    /// How many messages, at least.
+    pub count: u32,
+}
+
+// What is asked for.
+fn requests_of(alloc: Global, wish: &Wish<'_>) -> Result<NonEmpty<Request>, Halt>
+    ensures ok { IfOk result (λ requests. requests ≡ request_of wish.now ∷ []) }
+    ensures goes_on { closes_of result ≡ [] }
+{
+    let request = Request {
+        filter: wish.filter.clone()?,
+        qos: wish.qos,
+    };
+    let mut requests = Vec::new(alloc);
+    match requests.push(request) {
+        Ok(()) => Ok(NonEmpty::from_vec(requests)),
+        Err(_) => Err(Halt::Memory),
+    }
+}
+
+// Whether an answer of the server grants what was asked for (3.9.3).
+fn grants(codes: &[SubAckCode]) -> bool
+    ensures { result ≡ grants codes.now }
+{
+    match codes {
+        [SubAckCode::Granted(_), ..] => true,
+        [SubAckCode::Failure, ..] | [] => false,
+    }
+}
+
+// Whether the server granted the subscription, where it has answered.
+fn answer_in(happenings: &[Happening]) -> Option<bool>
+    ensures { IfSome result (λ granted. IsAnswered granted happenings.now) }
+{
+    for happening in happenings {
+        if let Happening::SubAck { codes, .. } = happening {
+            return Some(grants(codes.as_slice()));
+        }
+    }
+    None
+}
+
+// How many messages are handed on.
+fn handed(happening: &Happening) -> u32
+    ensures { result ≡ length (handed happening.now) }
+{
+    match happening {
+        Happening::Handed(_) => 1,
+        Happening::Up { .. }
+        | Happening::Subscribe { .. }
+        | Happening::Unsubscribe { .. }
+        | Happening::SubAck { .. }
+        | Happening::UnsubAck(_)
+        | Happening::Pong => 0,
+    }
+}
+
+// How many messages are wanted still, after those that were handed on.
+fn left_after(happenings: &[Happening], left: u32) -> u32
+    ensures { result ≡ left - length (flat_map handed happenings.now) }
+{
+    let mut left = left;
+    for happening in happenings {
+        left = left.saturating_sub(handed(happening));
+    }
+    left
+}
+
+// Takes in what comes, keeps what is told of it, and writes what came of it.
+fn keep<S: Stream, C: Clock, K: Keeper>(
+    peer: &mut Peer<S, C, K>,
+    kept: &mut Vec<Happening>,
+) -> Result<(), Halt>
+    ensures { Keeps peer.old peer.new [] kept.old.items kept.new.items result }
+{
+    let progress = peer.hear()?;
+    let closed = progress.closed;
+    let mut told = progress.happenings.into_vec();
+    match kept.append(&mut told) {
+        Ok(()) => peer.answer(closed),
+        Err(_) => Err(Halt::Memory),
+    }
+}
+
+// Waits until the connection is up.
+fn await_up<S: Stream, C: Clock, K: Keeper>(
+    peer: &mut Peer<S, C, K>,
+    kept: &mut Vec<Happening>,
+) -> Result<(), Halt>
+    ensures { Keeps peer.old peer.new [] kept.old.items kept.new.items result }
+{
+    for _ in 0..u64::MAX {
+        keep(peer, kept)?;
+        if peer.is_up() {
+            return Ok(());
+        }
+    }
+    Err(Halt::Lost)
+}
+
+// Waits until the server has answered.
+fn await_answer<S: Stream, C: Clock, K: Keeper>(
+    peer: &mut Peer<S, C, K>,
+    kept: &mut Vec<Happening>,
+) -> Result<(), Halt>
+    ensures kept { Keeps peer.old peer.new [] kept.old.items kept.new.items result }
+    ensures granted { OnOk result (IsAnswered true kept.new.items) }
+{
+    for _ in 0..u64::MAX {
+        keep(peer, kept)?;
+        match answer_in(kept.as_slice()) {
+            Some(true) => return Ok(()),
+            Some(false) => return Err(Halt::NotSubscribed),
+            None => {}
+        }
+    }
+    Err(Halt::Lost)
+}
+
+// Connects, and subscribes.
+fn begin<S: Stream, C: Clock, K: Keeper>(
+    alloc: Global,
+    peer: &mut Peer<S, C, K>,
+    wish: &Wish<'_>,
+    clean: bool,
+    kept: &mut Vec<Happening>,
+) -> Result<(), Halt>
+    ensures ok { OnOk result (Keeps peer.old peer.new (Subscription (request_of wish.now ∷ []) ∷ []) kept.old.items kept.new.items result) }
+    ensures granted { OnOk result (IsAnswered true kept.new.items) }
+    ensures err { OnErr result (Begins peer.old peer.new wish.now kept.old.items kept.new.items result) }
+{
+    peer.open(clean)?;
+    await_up(peer, kept)?;
+    peer.subscribe(requests_of(alloc, wish)?)?;
+    peer.write()?;
+    await_answer(peer, kept)
+}
+
+// Prints what comes, until so many messages were handed on and none waits for its release.
+fn gather<S: Stream, C: Clock, K: Keeper, W: Write>(
+    peer: &mut Peer<S, C, K>,
+    count: u32,
+    output: &mut W,
+) -> io::Result<Result<(), Halt>>
+    ensures { IfOk result (Gathers peer.old peer.new (W.contents output.old) (W.contents output.new) count) }
+{
+    let mut left = count;
+    for _ in 0..u64::MAX {
+        if left == 0 && peer.is_released() && peer.is_up() {
+            return Ok(Ok(()));
+        }
+        let progress = match peer.hear() {
+            Ok(progress) => progress,
+            Err(halt) => return Ok(Err(halt)),
+        };
+        write_told(output, progress.happenings.as_slice())?;
+        output.flush()?;
+        left = left_after(progress.happenings.as_slice(), left);
+        if let Err(halt) = peer.answer(progress.closed) {
+            return Ok(Err(halt));
+        }
+    }
+    Ok(Err(Halt::Lost))
+}
+
+/// Connects, with clean session or not, subscribes, and prints each message that is handed on, until there are as many as are wanted and
+/// none waits for its release; then it leaves. Answers the status of the program. What was handed on is printed before it is
+/// acknowledged, or, before the subscription is answered, kept.
+pub fn collect<S: Stream, C: Clock, K: Keeper, W: Write>(
+    alloc: Global,
+    peer: &mut Peer<S, C, K>,
+    wish: &Wish<'_>,
+    clean: bool,
+    output: &mut W,
+) -> io::Result<u8>
+    ensures { IfOk result (λ status. Prints (W.contents output.old) (W.contents output.new)
+        (IsCollectDone peer.old peer.new wish.now status)) }
+{
+    let mut kept = Vec::new(alloc);
+    let begun = begin(alloc, peer, wish, clean, &mut kept);
+    if let Err(halt) = begun {
+        write_told(output, kept.as_slice())?;
+        return write_halt(output, halt);
+    }
+    writeln!(output, "subscribed")?;
+    write_told(output, kept.as_slice())?;
+    output.flush()?;
+    let left = left_after(kept.as_slice(), wish.count);
+    if let Err(halt) = gather(peer, left, output)? {
+        return write_halt(output, halt);
+    }
+    if let Err(halt) = peer.leave() {
+        return write_halt(output, halt);
+    }
+    Ok(0)
+}

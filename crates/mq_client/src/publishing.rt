@@ -1,0 +1,126 @@
+//! The program `publish`.
+
+ghost use Rattle.std.specs.Prelude.{◌≡◌, [], IfErr, IfOk, OnOk};
+ghost use Rattle.mq_line.specs.Lines.{Prints};
+ghost use Rattle.mq_client.specs.Halts.{closes_of};
+ghost use Rattle.mq_client.specs.Publishing.{AskedAll, AskedMore, IsPublishDone, Published, PublishHalts, asks_of, text_message};
+
+use crate::clock::Clock;
+use crate::halt::Halt;
+use crate::keeper::Keeper;
+use crate::peer::Peer;
+use crate::printing::write_halt;
+use crate::stream::Stream;
+use bytes::Bytes;
+use mq_end::PublishRefusal;
+use mq_packet::{Message, Payload};
+use mq_topic::{Qos, TopicName};
+use std::alloc::Global;
+use std::io;
+use std::io::Write;
+
+/// Texts that are to be published.
+#[derive(Clone, Copy, Debug)]
+pub struct Texts<'a> {
+    /// What they are published to.
+    pub topic: &'a TopicName,
+    /// How often each is handed on.
+    pub qos: Qos,
+    /// RETAIN: the server keeps the last of them for later subscribers.
+    pub retain: bool,
+    /// What they say.
+    pub texts: &'a [&'a str],
+}
+
+// The message of a text.
+fn message_of(alloc: Global, texts: &Texts<'_>, text: &str) -> Result<Message, Halt>
+    ensures ok { IfOk result (λ m. m ≡ text_message texts.now text.now) }
+    ensures goes_on { closes_of result ≡ [] }
+{
+    let bytes = Bytes::copy_from_slice(alloc, text.as_bytes())?;
+    let Some(payload) = Payload::new(bytes) else {
+        return Err(Halt::Refused(PublishRefusal::TooLarge));
+    };
+    Ok(Message {
+        topic: texts.topic.clone()?,
+        payload,
+        qos: texts.qos,
+        retain: texts.retain,
+    })
+}
+
+// Publishes the texts from `next` on, up to one that has to wait.
+fn publish_more<S: Stream, C: Clock, K: Keeper>(
+    alloc: Global,
+    peer: &mut Peer<S, C, K>,
+    texts: &Texts<'_>,
+    next: &mut usize,
+) -> Result<(), Halt>
+    ensures went { AskedMore peer.old peer.new (asks_of texts.now) next.old next.new }
+    ensures goes_on { closes_of result ≡ [] }
+{
+    while *next < texts.texts.len() && peer.is_up() {
+        let message = message_of(alloc, texts, texts.texts[*next])?;
+        if !peer.publish(message)? {
+            return Ok(());
+        }
+        *next += 1;
+    }
+    Ok(())
+}
+
+// Publishes all texts, and waits until they are acknowledged.
+fn publish_acknowledged<S: Stream, C: Clock, K: Keeper>(
+    alloc: Global,
+    peer: &mut Peer<S, C, K>,
+    texts: &Texts<'_>,
+) -> Result<(), Halt>
+    ensures ok { OnOk result (AskedAll peer.old peer.new texts.now) }
+    ensures err { IfErr result (PublishHalts peer.old peer.new texts.now) }
+{
+    let mut next = 0;
+    for _ in 0..u64::MAX {
+        peer.listen()?;
+        publish_more(alloc, peer, texts, &mut next)?;
+        peer.write()?;
+        if next == texts.texts.len() && peer.is_up() && peer.is_idle() {
+            return Ok(());
+        }
+    }
+    Err(Halt::Lost)
+}
+
+/// Connects, with clean session or not, publishes the texts in order, waits until all of them are acknowledged, and leaves.
+pub fn publish_all<S: Stream, C: Clock, K: Keeper>(
+    alloc: Global,
+    peer: &mut Peer<S, C, K>,
+    texts: &Texts<'_>,
+    clean: bool,
+) -> Result<(), Halt>
+    ensures ok { OnOk result (Published peer.old peer.new texts.now) }
+    ensures err { IfErr result (PublishHalts peer.old peer.new texts.now) }
+{
+    peer.open(clean)?;
+    publish_acknowledged(alloc, peer, texts)?;
+    peer.leave()
+}
+
+/// Does that, and prints how many texts were published, or why it stopped; answers the status of the program.
+pub fn publish<S: Stream, C: Clock, K: Keeper, W: Write>(
+    alloc: Global,
+    peer: &mut Peer<S, C, K>,
+    texts: &Texts<'_>,
+    clean: bool,
+    output: &mut W,
+) -> io::Result<u8>
+    ensures { IfOk result (λ status. Prints (W.contents output.old) (W.contents output.new)
+        (IsPublishDone peer.old peer.new texts.now status)) }
+{
+    match publish_all(alloc, peer, texts, clean) {
+        Ok(()) => {
+            writeln!(output, "published {}", texts.texts.len())?;
+            Ok(0)
+        }
+        Err(halt) => write_halt(output, halt),
+    }
+}

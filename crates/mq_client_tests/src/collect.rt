@@ -1,0 +1,144 @@
+use crate::compare::expect_told;
+use crate::script::{Line, line_of, peer_at, told};
+use mq_client::{Wish, collect};
+use mq_topic::{Qos, TopicFilter};
+use std::alloc::Global;
+use std::process::Abort;
+use std::test::Fail;
+
+// The status, what is printed, and what is written, where so many messages of `a/#` are collected.
+fn collected(alloc: Global, line: Line, count: u32) -> Result<String, Fail> {
+    let filter = TopicFilter::parse(alloc, "a/#")?;
+    let wish = Wish {
+        filter: &filter,
+        qos: Qos::Q2,
+        count,
+    };
+    let mut peer = peer_at(alloc, line)?;
+    let mut output = Vec::new(alloc);
+    let status = collect(alloc, &mut peer, &wish, false, &mut output)?;
+    told(
+        alloc,
+        status,
+        output.as_slice(),
+        peer.stream().written.as_slice(),
+    )
+}
+
+fn expect(rt: &impl Abort, alloc: Global, rows: &[(&str, Line, u32, &str)]) -> Result<(), Fail> {
+    for (name, line, count, wanted) in rows {
+        expect_told(rt, collected(alloc, *line, *count), *wanted, *name)?;
+    }
+    Ok(())
+}
+
+#[test]
+fn messages_are_printed(rt: HostRuntime) -> Result<(), Fail> {
+    let rows = [
+        (
+            "none",
+            line_of(&["20020000", "9003000102"]),
+            0,
+            "0 subscribed\n100d00044d5154540400003c000177820800010003612f2302e000",
+        ),
+        (
+            "two",
+            line_of(&[
+                "20020000",
+                "9003000102",
+                "34090003612f6200016869",
+                "62020001",
+                "34090003612f620002796f",
+                "62020002",
+            ]),
+            2,
+            "0 subscribed\na/b 2 6869\na/b 2 796f\n100d00044d5154540400003c000177820800010003612f230250020001700200015002000270020002e000",
+        ),
+        (
+            "before the answer",
+            line_of(&["20020100", "30070003612f626869", "9003000102"]),
+            1,
+            "0 subscribed\na/b 0 6869\n100d00044d5154540400003c000177820800010003612f2302e000",
+        ),
+        (
+            "escaped",
+            line_of(&["20020000", "9003000102", "30070005612f206225"]),
+            1,
+            "0 subscribed\na/%20b%25 0 -\n100d00044d5154540400003c000177820800010003612f2302e000",
+        ),
+        (
+            "more than wanted",
+            line_of(&[
+                "20020000",
+                "9003000102",
+                "30070003612f62686930070003612f62796f",
+            ]),
+            1,
+            "0 subscribed\na/b 0 6869\na/b 0 796f\n100d00044d5154540400003c000177820800010003612f2302e000",
+        ),
+    ];
+    expect(&rt, rt.alloc(), &rows)
+}
+
+#[test]
+fn connections_end(rt: HostRuntime) -> Result<(), Fail> {
+    let rows = [
+        (
+            "refused",
+            line_of(&["20020000", "9003000180"]),
+            1,
+            "1 not subscribed\n100d00044d5154540400003c000177820800010003612f2302",
+        ),
+        (
+            "lost before the answer",
+            line_of(&["20020100", "30070003612f626869"]),
+            1,
+            "1 a/b 0 6869\nconnection failed\n100d00044d5154540400003c000177820800010003612f2302",
+        ),
+        (
+            "closed behind a message",
+            line_of(&["20020000", "9003000102", "30070003612f626869f000"]),
+            2,
+            "1 subscribed\na/b 0 6869\nclosed C1\n100d00044d5154540400003c000177820800010003612f2302",
+        ),
+    ];
+    expect(&rt, rt.alloc(), &rows)
+}
+
+// The connection is lost at each write in turn: what was handed on is printed all the same.
+#[test]
+fn writes_fail(rt: HostRuntime) -> Result<(), Fail> {
+    let reads = &[
+        "20020000",
+        "9003000102",
+        "34090003612f6200016869",
+        "62020001",
+    ];
+    for (fails_at, wanted) in [
+        (1, "1 connection failed\n"),
+        (2, "1 connection failed\n100d00044d5154540400003c000177"),
+        (
+            3,
+            "1 subscribed\na/b 2 6869\nconnection failed\n100d00044d5154540400003c000177820800010003612f2302",
+        ),
+        (
+            4,
+            "1 subscribed\na/b 2 6869\nconnection failed\n100d00044d5154540400003c000177820800010003612f230250020001",
+        ),
+        (
+            5,
+            "1 subscribed\na/b 2 6869\nconnection failed\n100d00044d5154540400003c000177820800010003612f23025002000170020001",
+        ),
+        (
+            6,
+            "0 subscribed\na/b 2 6869\n100d00044d5154540400003c000177820800010003612f23025002000170020001e000",
+        ),
+    ] {
+        let line = Line {
+            fails_at,
+            ..line_of(reads)
+        };
+        expect(&rt, rt.alloc(), &[("a write fails", line, 1, wanted)])?;
+    }
+    Ok(())
+}

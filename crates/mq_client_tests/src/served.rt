@@ -1,0 +1,172 @@
+//! A stream at a server end.
+
+use crate::compare::expect_told;
+use crate::script::{Steps, new_client, put, told};
+use bytes::Bytes;
+use mq_client::{Arrival, Broken, Nowhere, Peer, Stream, Texts, Wish, collect, publish};
+use mq_decode::Limits;
+use mq_end::{Happening, Progress, ServerConfig, ServerEnd};
+use mq_packet::{Message, NonEmpty, PacketId, Payload, SubAckCode};
+use mq_topic::{Qos, TopicFilter, TopicName};
+use std::alloc::Global;
+use std::test::Fail;
+
+// A server end that answers at once, so many bytes at a read; it grants each subscription, and publishes a message of each quality of
+// service to whoever subscribes. The payloads that it is handed are remembered.
+#[derive(Drop)]
+struct Served {
+    alloc: Global,
+    server: ServerEnd,
+    most: usize,
+    handed: Vec<u8>,
+}
+
+// A message to `a/b` of this quality of service.
+fn message(alloc: Global, qos: Qos) -> Option<Message> {
+    let topic = TopicName::parse(alloc, "a/b").ok()?;
+    let payload = Payload::new(Bytes::copy_from_slice(alloc, b"hi").ok()?)?;
+    Some(Message {
+        topic,
+        payload,
+        qos,
+        retain: false,
+    })
+}
+
+impl Served {
+    fn new(alloc: Global, most: usize) -> Result<Served, Fail> {
+        let limits = Limits::new(1_048_576).ok_or("no limits")?;
+        let config = ServerConfig {
+            limits,
+            capacity: 100,
+            window: None,
+        };
+        let mut server = ServerEnd::new(alloc, config);
+        server.opened(0);
+        Ok(Served {
+            alloc,
+            server,
+            most,
+            handed: Vec::new(alloc),
+        })
+    }
+
+    fn grant(&mut self, id: PacketId) -> Option<()> {
+        for qos in [Qos::Q2, Qos::Q1] {
+            self.server.publish(message(self.alloc, qos)?).ok()?;
+        }
+        let mut codes = Vec::new(self.alloc);
+        codes.push(SubAckCode::Granted(Qos::Q2)).ok()?;
+        if codes.is_empty() {
+            return None;
+        }
+        self.server.suback(id, NonEmpty::from_vec(codes)).ok()?;
+        self.server.publish(message(self.alloc, Qos::Q0)?).ok()?;
+        Some(())
+    }
+
+    fn answer(&mut self, progress: &Progress) -> Option<()> {
+        for happening in progress.happenings.as_slice() {
+            match happening {
+                Happening::Handed(message) => {
+                    let payload = message.payload.as_slice();
+                    self.handed.extend_from_slice(payload).ok()?;
+                }
+                Happening::Subscribe { id, .. } => self.grant(*id)?,
+                _ => {}
+            }
+        }
+        Some(())
+    }
+}
+
+impl Stream for Served {
+    fn read(&mut self, room: &mut [u8]) -> Arrival {
+        let output = self.server.output();
+        let count = output.len().min(self.most);
+        let count = put(room, &output[..count]);
+        if count == 0 {
+            return Arrival::Nothing;
+        }
+        self.server.take_output(count);
+        Arrival::Bytes(count)
+    }
+
+    fn write_all(&mut self, bytes: &[u8]) -> Result<(), Broken> {
+        let progress = self.server.receive(0, bytes);
+        match self.answer(&progress) {
+            Some(()) => Ok(()),
+            None => Err(Broken),
+        }
+    }
+}
+
+fn peer_of(alloc: Global, most: usize) -> Result<Peer<Served, Steps, Nowhere>, Fail> {
+    let client = new_client(alloc, 100)?;
+    let served = Served::new(alloc, most)?;
+    Ok(Peer::new(client, served, Steps { now: 0, step: 1 }, Nowhere))
+}
+
+// What is published, so many bytes at a read, and the payloads that the server was handed.
+fn published(alloc: Global, qos: Qos, most: usize) -> Result<String, Fail> {
+    let topic = TopicName::parse(alloc, "a/b")?;
+    let texts = Texts {
+        topic: &topic,
+        qos,
+        retain: true,
+        texts: &["one", "two", "three"],
+    };
+    let mut peer = peer_of(alloc, most)?;
+    let mut output = Vec::new(alloc);
+    let status = publish(alloc, &mut peer, &texts, true, &mut output)?;
+    told(
+        alloc,
+        status,
+        output.as_slice(),
+        peer.stream().handed.as_slice(),
+    )
+}
+
+#[test]
+fn a_server_gets_each_text_once(rt: HostRuntime) -> Result<(), Fail> {
+    for qos in [Qos::Q0, Qos::Q1, Qos::Q2] {
+        for most in [1, 3, 4096] {
+            let told = published(rt.alloc(), qos, most);
+            expect_told(
+                &rt,
+                told,
+                "0 published 3\n6f6e6574776f7468726565",
+                "published",
+            )?;
+        }
+    }
+    Ok(())
+}
+
+fn collected(alloc: Global, most: usize) -> Result<String, Fail> {
+    let filter = TopicFilter::parse(alloc, "a/#")?;
+    let wish = Wish {
+        filter: &filter,
+        qos: Qos::Q2,
+        count: 3,
+    };
+    let mut peer = peer_of(alloc, most)?;
+    let mut output = Vec::new(alloc);
+    let status = collect(alloc, &mut peer, &wish, true, &mut output)?;
+    told(
+        alloc,
+        status,
+        output.as_slice(),
+        peer.stream().handed.as_slice(),
+    )
+}
+
+#[test]
+fn messages_come_from_a_server(rt: HostRuntime) -> Result<(), Fail> {
+    for most in [1, 3, 4096] {
+        let told = collected(rt.alloc(), most);
+        let wanted = "0 subscribed\na/b 2 6869\na/b 1 6869\na/b 0 6869\n";
+        expect_told(&rt, told, wanted, "collected")?;
+    }
+    Ok(())
+}
