@@ -1,5 +1,5 @@
 -- A replay goes on by a step.
-use Rattle.std.proofs.Common.{◌≡◌, List, [], ◌∷◌, ◌++◌, sym, subst, refl}
+use Rattle.std.proofs.Common.{List, [], ◌∷◌, ◌++◌, sym, subst, refl}
 use Rattle.mq_route.specs.Hub.{HubState}
 use Rattle.mq_route.specs.Step.{HubStep}
 use Rattle.mq_book.specs.declared.entry.Entry.{Entry}

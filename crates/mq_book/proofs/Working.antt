@@ -1,5 +1,5 @@
 -- Steps that are made one after another.
-use Rattle.std.proofs.Common.{length-append, ◌≡◌, ℕ, ◌+◌, ◌≤◌, List, [], ◌∷◌, ◌++◌, length, refl, sym, subst, arith}
+use Rattle.std.proofs.Common.{length-append, ◌≡◌, List, [], ◌∷◌, ◌++◌, refl, sym, subst, arith}
 use Rattle.mq_route.specs.declared.event.HubEvent.{HubEvent}
 use Rattle.mq_route.specs.declared.reply.HubReply.{HubReply}
 use Rattle.mq_book.specs.Works.{Made, Chain, Ran}

@@ -1,9 +1,9 @@
 -- What a worker makes of its connections.
-use Rattle.std.specs.Prelude.{◌≡◌, ℕ, ◌+◌, ◌≤◌, List, [], ◌∷◌, ◌++◌, length, All}
+use Rattle.std.specs.Prelude.{◌≡◌, ℕ, ◌+◌, ◌≤◌, List, [], ◌∷◌, ◌++◌, length}
+use Rattle.std.specs.List.{AllByRecursion}
 use Rattle.mq_route.specs.declared.event.HubEvent.{HubEvent}
 use Rattle.mq_route.specs.declared.reply.HubReply.{HubReply}
 use Rattle.mq_book.specs.declared.entry.Receipt.{Receipt}
-use Rattle.mq_book.specs.Pages.{Worker}
 
 -- a step that was made: the event, and what came of it
 pub record Made : Type 0 where
@@ -38,7 +38,7 @@ pub record Files (d : DeskState) (event : HubEvent) (reply : HubReply) (d2 : Des
 pub record Worked (least : ℕ) (d d2 : DeskState) : Type 0 where
   pub more : List Receipt
   pub added : d2.receipts ≡ d.receipts ++ more
-  pub own : All (λ r. r.worker ≡ d.worker) more
+  pub own : AllByRecursion (λ r. r.worker ≡ d.worker) more
   pub same : d2.worker ≡ d.worker
   pub counted : d2.count ≡ d.count + length more
   pub enough : least ≤ length more

@@ -1,6 +1,6 @@
 //! A broker with the journal of its steps.
 
-ghost use Rattle.std.specs.Prelude.{◌≡◌, ◌+◌, ◌<◌, ◌∷◌, [], ◌++◌, length, None, IfOk, IfErr, OnOk};
+ghost use Rattle.std.specs.Prelude.{◌≡◌, ◌+◌, ◌<◌, ◌∷◌, [], ◌++◌, length, None, IfOk, IfErr, OnOk, OnErr};
 ghost use Rattle.mq_route.specs.Step.{HubStep, event_refusal};
 ghost use Rattle.mq_book.specs.Pages.{RefusedAs};
 ghost use Rattle.mq_book.specs.Replays.{Replay};
@@ -10,6 +10,7 @@ use crate::journal::Journal;
 use crate::refusal::BookRefusal;
 use crate::reply::{refusal, step_twice};
 use crate::share::Share;
+use crate::stop::OnFull;
 use mq_hub::Hub;
 use mq_route::HubEvent;
 use std::alloc::Global;
@@ -124,6 +125,30 @@ impl<L: Ledger> Book<L> {
                 })
             }
             Err(_) => Err((BookRefusal::Memory, event)),
+        }
+    }
+
+    /// Makes a step, and hands a journal that is full out and drops it first where it is told so.
+    pub(crate) fn step_on<R: Wait>(
+        &mut self,
+        rt: &R,
+        worker: &mut Share<L>,
+        event: HubEvent,
+        on_full: OnFull,
+    ) -> Result<Receipt, BookRefusal>
+        ensures own { IfOk result (λ r. r.worker ≡ worker.old.worker) }
+        ensures counted { OnOk result (worker.new ≡ record { worker = worker.old.worker; count = worker.old.count + 1 }) }
+        ensures unchanged { OnErr result (worker.new ≡ worker.old) }
+    {
+        let event = match self.step(rt, worker, event) {
+            Ok(receipt) => return Ok(receipt),
+            Err((BookRefusal::JournalFull, event)) if on_full == OnFull::Checkpoint => event,
+            Err((why, _)) => return Err(why),
+        };
+        let _ = self.checkpoint();
+        match self.step(rt, worker, event) {
+            Ok(receipt) => Ok(receipt),
+            Err((why, _)) => Err(why),
         }
     }
 

@@ -4,6 +4,7 @@
 mod attending;
 mod auditing;
 mod book;
+mod desk;
 mod entry;
 mod journal;
 mod refusal;
@@ -16,6 +17,7 @@ mod stop;
 pub use crate::attending::{Clock, Door, Steps, attend};
 pub use crate::auditing::audit;
 pub use crate::book::Book;
+pub use crate::desk::{Desk, work, work_through};
 pub use crate::entry::{Entry, Receipt};
 pub use crate::journal::Journal;
 pub use crate::refusal::BookRefusal;

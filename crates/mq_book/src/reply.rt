@@ -73,8 +73,8 @@ impl SharedReply {
         Ok(())
     }
 
-    // Another owner of the reply. It takes no memory, and waits only while the reply has as many owners as can be counted, 2^63.
-    fn another<R: Wait>(&self, rt: &R) -> SharedReply
+    /// Another owner of the reply. It takes no memory, and waits only while the reply has as many owners as can be counted, 2^63.
+    pub(crate) fn another<R: Wait>(&self, rt: &R) -> SharedReply
         ensures { result ≡ self.now }
     {
         for _ in rt.forever() {

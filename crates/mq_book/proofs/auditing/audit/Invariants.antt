@@ -1,4 +1,4 @@
-use Rattle.std.proofs.Common.{◌≡◌, ◌↔◌, length}
+use Rattle.std.proofs.Common.{◌↔◌, length}
 use Rattle.mq_book.specs.Receipts.{Stand}
 use Rattle.mq_book.proofs.auditing.audit.Given as goal
 
