@@ -1,0 +1,5 @@
+pub mod Ends
+pub mod Pages
+pub mod Receipts
+pub mod Replays
+pub mod Works

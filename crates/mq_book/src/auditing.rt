@@ -1,0 +1,50 @@
+//! Whether receipts stand in a journal.
+
+ghost use Rattle.std.specs.Prelude.{◌≡◌, ◌≤◌, ◌↔◌, IsTrue};
+ghost use Rattle.mq_book.specs.Receipts.{Stand, StandsAt};
+
+use crate::entry::{Entry, Receipt};
+use crate::journal::Journal;
+use crate::same::are_same_replies;
+
+/// Whether the receipts stand in this journal, at strictly increasing places, with their workers and replies. It takes no memory.
+pub fn audit(journal: &Journal, receipts: &[Receipt]) -> bool
+    ensures { IsTrue result ↔ Stand journal.now.first journal.now.entries 0 receipts.now }
+{
+    let entries = journal.entries();
+    let first = journal.first();
+    let mut from = 0u64;
+    let mut rest = receipts;
+    while let [receipt, more @ ..] = rest {
+        if receipt.place < from || !stands(entries, first, receipt) {
+            return false;
+        }
+        match receipt.place.checked_add(1) {
+            Some(next) => from = next,
+            None => {
+                return match more {
+                    [] => true,
+                    [next, ..] => receipt.place < next.place,
+                };
+            }
+        }
+        rest = more;
+    }
+    true
+}
+
+// Whether the entry at the receipt's place has its worker and its reply.
+fn stands(entries: &[Entry], first: u64, receipt: &Receipt) -> bool
+    ensures { IsTrue result ↔ StandsAt first entries.now receipt.now }
+{
+    if receipt.place < first {
+        return false;
+    }
+    match entries.get((receipt.place - first) as usize) {
+        Some(entry) => {
+            entry.worker == receipt.worker
+                && are_same_replies(entry.reply.as_reply(), receipt.reply.as_reply())
+        }
+        None => false,
+    }
+}

@@ -1,0 +1,129 @@
+//! A reply that a journal and a worker share.
+
+ghost use Rattle.std.specs.Prelude.{◌≡◌, IfOk, IfErr, IfSome, OnOk, OnErr, None, Err};
+ghost use Rattle.mq_route.specs.Step.{HubStep, event_refusal};
+
+use bytes::Bytes;
+use mq_end::Items;
+use mq_hub::HubOver;
+use mq_route::{HubEvent, HubRefusal, HubReply};
+use mq_topic::FilterStore;
+use std::alloc::{AllocError, Global};
+use std::marker::Model;
+use std::sync::{Arc, Wait};
+
+/// What came of an event, with several owners. Contracts see it as the reply.
+#[derive(Debug, Drop)]
+pub struct SharedReply {
+    cell: Arc<HubReply>,
+}
+
+impl Model for SharedReply {
+    ghost use Rattle.std.specs.Arc.{arc_value};
+    ghost use Rattle.mq_route.specs.declared.reply.HubReply.{HubReply};
+
+    ghost Value = { HubReply };
+
+    ghost view = { λ s. arc_value s.cell };
+}
+
+impl SharedReply {
+    /// A reply with one owner. Errs where memory runs out.
+    pub fn new(alloc: Global, reply: HubReply) -> Result<SharedReply, AllocError>
+        ensures { IfOk result (λ s. s ≡ reply) }
+    {
+        match Arc::new(alloc, reply) {
+            Ok(cell) => Ok(SharedReply { cell }),
+            Err(_) => Err(AllocError),
+        }
+    }
+
+    /// The reply.
+    pub fn as_reply(&self) -> &HubReply
+        ensures { result.now ≡ self.now }
+    {
+        &self.cell
+    }
+
+    // Room for a reply that is still to come. Errs where memory runs out.
+    fn room(alloc: Global) -> Result<SharedReply, AllocError> {
+        let blank = HubReply {
+            acts: Items::from_vec(Vec::new(alloc)),
+            output: Bytes::new(),
+            alive: false,
+        };
+        SharedReply::new(alloc, blank)
+    }
+
+    // An event comes to a broker, and this becomes its reply. It is refused as the broker refuses it, and then the broker stays.
+    fn take_step<S: FilterStore>(
+        &mut self,
+        hub: &mut HubOver<S>,
+        event: &HubEvent,
+    ) -> Result<(), HubRefusal>
+        requires { event_refusal event.now hub.old ≡ None }
+        ensures step { OnOk result (HubStep hub.old event.now self.new hub.new) }
+        ensures memory { IfErr result (λ why. why ≡ HubRefusal.Memory) }
+        ensures err { OnErr result (hub.new ≡ hub.old) }
+    {
+        let Some(slot) = Arc::get_mut(&mut self.cell) else {
+            return Err(HubRefusal::Memory);
+        };
+        *slot = hub.step(event)?;
+        Ok(())
+    }
+
+    /// Another owner of the reply. It takes no memory, and waits only while the reply has as many owners as can be counted, 2^63.
+    pub(crate) fn another<R: Wait>(&self, rt: &R) -> SharedReply
+        ensures { result ≡ self.now }
+    {
+        for _ in rt.forever() {
+            if let Ok(cell) = Arc::try_clone(&self.cell) {
+                return SharedReply { cell };
+            }
+        }
+        unreachable!()
+    }
+}
+
+/// Why a broker refuses an event, memory aside. It takes no memory.
+pub(crate) fn refusal<S: FilterStore>(hub: &HubOver<S>, event: &HubEvent) -> Option<HubRefusal>
+    ensures { result ≡ event_refusal event.now hub.now }
+{
+    match event {
+        HubEvent::Opened(conn) if hub.knows(*conn) => Some(HubRefusal::ConnInUse),
+        HubEvent::Opened(_) | HubEvent::Tick(_) => None,
+        HubEvent::Bytes(conn, _) | HubEvent::Ended(conn) | HubEvent::Collect(conn) => {
+            if hub.knows(*conn) {
+                None
+            } else {
+                Some(HubRefusal::UnknownConn)
+            }
+        }
+    }
+}
+
+/// An event comes to a broker, as by `HubOver::step`, and its reply is given twice. The two share one place in memory, which is taken before
+/// the step, so nothing changes where it is refused.
+pub fn step_twice<S: FilterStore, R: Wait>(
+    rt: &R,
+    alloc: Global,
+    hub: &mut HubOver<S>,
+    event: &HubEvent,
+) -> Result<(SharedReply, SharedReply), HubRefusal>
+    ensures step { IfOk result (λ r. HubStep hub.old event.now r.0 hub.new) }
+    ensures twice { IfOk result (λ r. r.1 ≡ r.0) }
+    ensures refused { IfSome (event_refusal event.now hub.old) (λ why. result ≡ Err why) }
+    ensures memory { event_refusal event.now hub.old ≡ None → IfErr result (λ why. why ≡ HubRefusal.Memory) }
+    ensures err { OnErr result (hub.new ≡ hub.old) }
+{
+    if let Some(why) = refusal(hub, event) {
+        return Err(why);
+    }
+    let Ok(mut reply) = SharedReply::room(alloc) else {
+        return Err(HubRefusal::Memory);
+    };
+    reply.take_step(hub, event)?;
+    let again = reply.another(rt);
+    Ok((reply, again))
+}

@@ -1,0 +1,89 @@
+//! Receipts that stand in a journal, and others.
+
+ghost use Rattle.std.specs.Prelude.{◌≡◌};
+
+use crate::steps::hub;
+use bytes::Bytes;
+use mq_book::{Book, Journal, Receipt, Share, SharedReply, audit};
+use mq_end::Items;
+use mq_hub::{Conn, HubEvent, HubReply};
+use std::alloc::Global;
+use std::marker::Brand;
+use std::process::Abort;
+use std::sync::Wait;
+use std::sync::ledger::{Blank, Ledger};
+use std::test::Fail;
+
+// A receipt: its worker, its place, and whether its reply says that the connection is open.
+type Row = (u16, u64, bool);
+
+// Lists of receipts, and whether they stand in a journal whose one entry, at place 0, is of worker 7 that opened a connection.
+const ROWS: [(&[Row], bool); 7] = [
+    (&[], true),
+    (&[(7, 0, true)], true),
+    (&[(7, 1, true)], false),
+    (&[(7, 0, true), (7, 0, true)], false),
+    (&[(7, 0, true), (7, 1, true)], false),
+    (&[(8, 0, true)], false),
+    (&[(7, 0, false)], false),
+];
+
+fn receipt(alloc: Global, row: Row) -> Result<Receipt, Fail> {
+    let (worker, place, alive) = row;
+    let reply = HubReply {
+        acts: Items::from_vec(Vec::new(alloc)),
+        output: Bytes::new(),
+        alive,
+    };
+    Ok(Receipt {
+        worker,
+        place,
+        reply: SharedReply::new(alloc, reply)?,
+    })
+}
+
+fn receipts(alloc: Global, rows: &[Row]) -> Result<Vec<Receipt>, Fail> {
+    let mut receipts = Vec::new(alloc);
+    for row in rows {
+        receipts.push(receipt(alloc, *row)?)?;
+    }
+    Ok(receipts)
+}
+
+// A journal of one entry, and the receipt of its step.
+fn journal<L: Ledger, R: Wait>(
+    rt: &R,
+    alloc: Global,
+    blank: Blank,
+) -> Result<(Journal, Receipt), Fail>
+    requires name { blank.name ≡ L.name }
+    requires parts { blank.parts ≡ L.parts }
+    requires one { blank.parts ≡ 1 }
+{
+    let (steps, part) = blank.open::<L>();
+    let mut book = Book::new(alloc, hub(alloc)?, 1, steps);
+    let mut share = Share::new(7, part);
+    let event = HubEvent::Opened(Conn { worker: 7, nth: 0 });
+    match book.step(rt, &mut share, event) {
+        Ok(receipt) => Ok((book.checkpoint(), receipt)),
+        Err(_) => Err("no step".into()),
+    }
+}
+
+fn walk<R: Wait + Abort>(rt: &R, alloc: Global) -> Result<(), Fail> {
+    let (journal, own) = journal::<Brand, R>(rt, alloc, Blank::new(1))?;
+    let mut owns = Vec::new(alloc);
+    owns.push(own)?;
+    assert!(rt; audit(&journal, owns.as_slice()), "its own receipt");
+    for (rows, wanted) in &ROWS {
+        let receipts = receipts(alloc, rows)?;
+        let stands = audit(&journal, receipts.as_slice());
+        assert_eq!(rt; stands, *wanted, "{:?}", rows);
+    }
+    Ok(())
+}
+
+#[test]
+fn audits(rt: HostRuntime) -> Result<(), Fail> {
+    walk(&rt, rt.alloc())
+}

@@ -1,0 +1,7 @@
+//! Tests of the book of a broker: rows of steps, and of receipts that stand in a journal.
+#![tactic(auto)]
+
+#[cfg(test)]
+mod audited;
+#[cfg(test)]
+mod steps;
