@@ -218,7 +218,7 @@ pending_nil limit = record { not_whole = λ p first rest h e. no_bytes p first r
 pub front_stops : (limit : Bounds) (b : List ℕ) (old : List Packet) (e : DecodeError) → IsFront limit b (Err e) → Stops limit b old old e
 front_stops limit b old e h = taken_stops limit b 0 old old e (taken_none limit b old) h
 
--- a fault, or want of memory, at the front of more bytes
+-- a fault, or lack of memory, at the front of more bytes
 pub front_more : (limit : Bounds) (b more : List ℕ) (e : DecodeError) → IsFront limit b (Err e) → IsFront limit (b ++ more) (Err e)
 front_more limit b more (errors.Fault fault) h = faulty_more limit b more fault.kind fault.place h
 front_more limit b more errors.Memory h = omega (arith, length-append b more, h)

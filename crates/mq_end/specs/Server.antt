@@ -94,7 +94,7 @@ abbrev pub server_publish_refusal : ℕ → ℕ → Message → End → Option P
 server_publish_refusal limit capacity m e = if e.known then publish_refusal limit capacity m e else Some refusals.NoSession
 
 -- Why not all of these messages could be published one after another, the first that stands: one of them would be refused
--- for want of a session (3.1.2.4), of a connection, or for its size (2.2.3); or fewer identifiers are free than messages need
+-- for lack of a session (3.1.2.4), of a connection, or for its size (2.2.3); or fewer identifiers are free than messages need
 -- one (2.3.1).
 abbrev pub ready_refusal : ℕ → ℕ → List Message → End → Option PublishRefusal
 ready_refusal limit capacity ms e =

@@ -158,7 +158,7 @@ impl ClientEnd {
     }
 
     /// Begins a connection: CONNECT is put out (3.1). A connection that is open is dropped first, and what waits to be
-    /// written of an earlier one is gone. With clean session the session is discarded (3.1.2.4). Errs where memory runs
+    /// written of an earlier one is gone. With clean session the session is discarded (3.1.2.4). Fails if memory runs
     /// out, and then nothing changes.
     pub fn connect(&mut self, now: u64, clean: bool) -> Result<(), AllocError>
         ensures end { OnOk result (self.new.link.end ≡ (connects (connect_of self.old.config clean) self.old.link.end).end) }
@@ -210,7 +210,7 @@ impl ClientEnd {
     }
 
     /// Publishes a message, and answers its packet identifier, where it has one (2.3.1). While the end is not up, one of
-    /// quality of service 1 or 2 is kept, and goes out when the end comes up. Errs with the first refusal that stands, and
+    /// quality of service 1 or 2 is kept, and goes out when the end comes up. Fails with the first refusal that stands, and
     /// then nothing changes.
     pub fn publish(&mut self, message: Message) -> Result<Option<PacketId>, PublishRefusal>
         ensures refused { IfSome (publish_refusal self.old.link.limit.most self.old.link.capacity message self.old.link.end)
@@ -224,7 +224,7 @@ impl ClientEnd {
         self.link.publish(message)
     }
 
-    /// Subscribes, and answers the packet identifier of the SUBSCRIBE, which is in use until its SUBACK (3.8). Errs with
+    /// Subscribes, and answers the packet identifier of the SUBSCRIBE, which is in use until its SUBACK (3.8). Fails with
     /// the first refusal that stands, and then nothing changes.
     pub fn subscribe(&mut self, requests: NonEmpty<Request>) -> Result<PacketId, PublishRefusal>
         ensures refused { IfSome (subscribe_refusal self.old.link.limit.most self.old.link.capacity requests self.old.link.end)
@@ -239,7 +239,7 @@ impl ClientEnd {
     }
 
     /// Gives subscriptions up, and answers the packet identifier of the UNSUBSCRIBE, which is in use until its UNSUBACK
-    /// (3.10). Errs with the first refusal that stands, and then nothing changes.
+    /// (3.10). Fails with the first refusal that stands, and then nothing changes.
     pub fn unsubscribe(
         &mut self,
         filters: NonEmpty<TopicFilter>,
@@ -256,7 +256,7 @@ impl ClientEnd {
     }
 
     /// Leaves: DISCONNECT is put out, and the end closes (3.14). The session stays but for the identifiers of SUBSCRIBE
-    /// and UNSUBSCRIBE; after clean session 1 it is gone (3.1.2.4). Errs where the end is not up or memory runs out, and
+    /// and UNSUBSCRIBE; after clean session 1 it is gone (3.1.2.4). Fails if the end is not up or memory runs out, and
     /// then nothing changes.
     pub fn disconnect(&mut self) -> Result<(), PublishRefusal>
         ensures refused { IfSome (leave_refusal self.old.link.end) (λ why. result ≡ Err why) }
@@ -269,7 +269,7 @@ impl ClientEnd {
     }
 
     /// It is this moment: where the end is up, and a keep-alive has gone by since its CONNECT or its last PINGREQ, it puts
-    /// out PINGREQ (3.1.2.10, 3.12). It never closes, so that the answer is `None`. Errs where memory runs out for that, and
+    /// out PINGREQ (3.1.2.10, 3.12). It never closes, so that the answer is `None`. Fails if memory runs out for that, and
     /// then nothing changes.
     pub fn tick(&mut self, now: u64) -> Result<Option<CloseReason>, AllocError>
         ensures ok { OnOk result (Ticks now self.old.link self.new.link) }

@@ -134,7 +134,7 @@ impl Link {
         let _ = self.session.sender.on_pubcomp(id);
     }
 
-    /// A packet of a message's flow comes to an end that is up; any other closes it (4.3, 4.8). Errs where memory runs out,
+    /// A packet of a message's flow comes to an end that is up; any other closes it (4.3, 4.8). Fails if memory runs out,
     /// which it does within the room only where an identifier is stored, and then nothing changes.
     #[tactic(auto, using(crate::proofs::Outcomes::quiet))]
     pub(crate) fn take_flow(&mut self, packet: Packet) -> Result<Outcome, AllocError>

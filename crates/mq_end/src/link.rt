@@ -180,7 +180,7 @@ impl Link {
         self.output.forget_room();
     }
 
-    /// A packet is put out. Errs where memory runs out, which it doesn't within the room, and then nothing changes.
+    /// A packet is put out. Fails if memory runs out, which it doesn't within the room, and then nothing changes.
     pub(crate) fn write(&mut self, packet: &Packet) -> Result<(), AllocError>
         ensures ok { OnOk result ((b : List ℕ) × Spells packet.now b × (self.new ≡ record self.old { output = self.old.output ++ b })) }
         ensures within { length (fields packet.now) < 2 ^ 28

@@ -111,7 +111,7 @@ impl Link {
         Ok(self.close(CloseReason::Refused(code)))
     }
 
-    /// Puts out what answers a CONNECT that is accepted: CONNACK, and what is sent again (3.2, 4.4). Errs where memory runs
+    /// Puts out what answers a CONNECT that is accepted: CONNACK, and what is sent again (3.2, 4.4). Fails if memory runs
     /// out, and then nothing changes.
     fn write_accepted(&mut self, clean: bool, session_present: bool) -> Result<(), AllocError>
         ensures ok { OnOk result (PutsOut (packets.ConnAck (connacks.Accepted session_present)

@@ -59,7 +59,7 @@ impl Output {
         self.bytes.len() - self.gone
     }
 
-    /// Makes room for so many bytes behind those that wait. Errs where memory runs out, and then nothing changes.
+    /// Makes room for so many bytes behind those that wait. Fails if memory runs out, and then nothing changes.
     pub(crate) fn reserve(&mut self, more: usize) -> Result<(), AllocError>
         ensures ok { OnOk result (length self.old.bytes + more ≤ self.new.room) }
         ensures more { self.old.room ≤ self.new.room }
@@ -72,7 +72,7 @@ impl Output {
         Ok(())
     }
 
-    /// Appends bytes. Errs where memory runs out, and then nothing changes.
+    /// Appends bytes. Fails if memory runs out, and then nothing changes.
     pub(crate) fn append(&mut self, bytes: &[u8]) -> Result<(), AllocError>
         ensures ok { OnOk result (self.new ≡ record self.old { bytes = self.old.bytes ++ bytes.now }) }
         ensures err { OnErr result (self.new ≡ self.old) }
@@ -80,7 +80,7 @@ impl Output {
         self.bytes.extend_from_slice(bytes)
     }
 
-    /// Appends the bytes of a packet (chapter 3). Errs where memory runs out, which it doesn't within the room, or the packet is
+    /// Appends the bytes of a packet (chapter 3). Fails if memory runs out, which it doesn't within the room, or the packet is
     /// too large, and then nothing changes.
     pub(crate) fn append_packet(&mut self, packet: &Packet) -> Result<(), AllocError>
         ensures ok { OnOk result
@@ -97,7 +97,7 @@ impl Output {
     }
 
     /// Appends the bytes of the PUBLISH of a message (3.3), which stays where it is. It has a delivery exactly where the quality of
-    /// service is over 0. Errs where memory runs out, which it doesn't within the room, or the packet is too large, and then
+    /// service is over 0. Fails if memory runs out, which it doesn't within the room, or the packet is too large, and then
     /// nothing changes.
     pub(crate) fn append_publish(
         &mut self,

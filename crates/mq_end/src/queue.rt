@@ -55,7 +55,7 @@ impl ByteQueue {
         self.len() == 0
     }
 
-    /// Appends bytes. Errs where memory runs out, and then nothing changes.
+    /// Appends bytes. Fails if memory runs out, and then nothing changes.
     pub fn append(&mut self, bytes: &[u8]) -> Result<(), AllocError>
         ensures ok { OnOk result (self.new ≡ self.old ++ bytes.now) }
         ensures err { OnErr result (self.new ≡ self.old) }
@@ -63,7 +63,7 @@ impl ByteQueue {
         self.output.append(bytes)
     }
 
-    /// Appends the bytes of a packet (chapter 3). Errs where memory runs out or the packet is too large, and then
+    /// Appends the bytes of a packet (chapter 3). Fails if memory runs out or the packet is too large, and then
     /// nothing changes.
     pub fn append_packet(&mut self, packet: &Packet) -> Result<(), AllocError>
         ensures ok { OnOk result
@@ -74,7 +74,7 @@ impl ByteQueue {
     }
 
     /// Appends the bytes of the PUBLISH of a message (3.3), which stays where it is. It has a delivery exactly where the quality of
-    /// service is over 0. Errs where memory runs out or the packet is too large, and then nothing changes.
+    /// service is over 0. Fails if memory runs out or the packet is too large, and then nothing changes.
     pub fn append_publish(
         &mut self,
         message: &Message,

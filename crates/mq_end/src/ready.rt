@@ -74,14 +74,14 @@ impl Link {
         self.state == State::Up
     }
 
-    /// Whether one of the messages is refused for want of a session (3.1.2.4).
+    /// Whether one of the messages is refused for lack of a session (3.1.2.4).
     fn lacks_session(&self, messages: &[Message]) -> bool
         ensures { result ≡ list_any (λ m. not self.now.end.known) messages.now }
     {
         !self.known && !messages.is_empty()
     }
 
-    /// Whether one of the messages is refused for want of a connection (4.3.1).
+    /// Whether one of the messages is refused for lack of a connection (4.3.1).
     fn lacks_connection(&self, messages: &[Message]) -> bool
         ensures { result ≡ list_any (λ m. not (has_identifier m.qos) && not (is_up self.now.end.state)) messages.now }
     {
@@ -124,7 +124,7 @@ impl Link {
         size_of_all(messages)
     }
 
-    /// Makes room for messages, and for so many bytes more. Errs where memory runs out.
+    /// Makes room for messages, and for so many bytes more. Fails if memory runs out.
     fn make_room(&mut self, messages: &[Message], more: usize) -> Result<(), AllocError>
         ensures room { OnOk result (HasRoom messages.now more self.new) }
         ensures same { self.new ≡ record self.old { room = self.new.room } }

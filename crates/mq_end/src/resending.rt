@@ -15,7 +15,7 @@ use mq_packet::{Delivery, Packet};
 use std::alloc::AllocError;
 
 impl Link {
-    /// Puts out what is sent again, straight from what the sender keeps. Errs where memory runs out, and then nothing changes.
+    /// Puts out what is sent again, straight from what the sender keeps. Fails if memory runs out, and then nothing changes.
     pub(crate) fn write_resent(&mut self) -> Result<(), AllocError>
         ensures ok { OnOk result (PutsOut (resent self.old.end.book) self.old.output self.new.output) }
         ensures state { self.new ≡ record self.old { output = self.new.output } }

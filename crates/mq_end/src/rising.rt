@@ -56,7 +56,7 @@ impl Link {
         size_of_resent(&self.session.sender)?.checked_add(7)
     }
 
-    /// Makes room to come up by this CONNECT on a new connection, and then for messages and for so many bytes more. Errs where memory
+    /// Makes room to come up by this CONNECT on a new connection, and then for messages and for so many bytes more. Fails if memory
     /// runs out.
     pub(crate) fn ready_to_rise(
         &mut self,

@@ -168,7 +168,7 @@ impl ServerEnd {
     }
 
     /// Makes room to come up by this CONNECT on a new connection: for CONNACK and for all that is sent again, and then for messages to
-    /// be published and for so many bytes more (3.2, 4.4). So `opened` and a `take_packet` of the CONNECT are not refused. Errs where
+    /// be published and for so many bytes more (3.2, 4.4). So `opened` and a `take_packet` of the CONNECT are not refused. Fails if
     /// memory runs out; no room that was made before is lost.
     pub fn ready_to_rise(
         &mut self,
@@ -211,7 +211,7 @@ impl ServerEnd {
     }
 
     /// Makes room for messages, and for so many bytes that are put out beside their PUBLISHes: then these messages can be
-    /// published, and these bytes be put out, without more memory. Errs with the first refusal that stands for one of them, with
+    /// published, and these bytes be put out, without more memory. Fails with the first refusal that stands for one of them, with
     /// `Full` where fewer identifiers are free than they need, or where memory runs out; no room that was made before is lost.
     pub fn ready(&mut self, messages: &[Message], more: usize) -> Result<(), PublishRefusal>
         ensures refused { IfSome (ready_refusal self.old.limit.most self.old.capacity messages.now self.old.end)
@@ -226,7 +226,7 @@ impl ServerEnd {
     }
 
     /// Publishes a message to the client, and answers its packet identifier, where it has one (2.3.1). While the end is
-    /// not up, one of quality of service 1 or 2 is kept, and goes out when the end comes up. Errs with the first refusal
+    /// not up, one of quality of service 1 or 2 is kept, and goes out when the end comes up. Fails with the first refusal
     /// that stands, and then nothing changes. Within the room for messages memory doesn't run out.
     pub fn publish(&mut self, message: Message) -> Result<Option<PacketId>, PublishRefusal>
         ensures refused { IfSome (server_publish_refusal self.old.limit.most self.old.capacity message self.old.end)
@@ -245,7 +245,7 @@ impl ServerEnd {
         self.link.publish(message)
     }
 
-    /// Answers a SUBSCRIBE of the client: SUBACK is put out, with this packet identifier and these codes (3.9). Errs with
+    /// Answers a SUBSCRIBE of the client: SUBACK is put out, with this packet identifier and these codes (3.9). Fails with
     /// the first refusal that stands, and then nothing changes.
     pub fn suback(
         &mut self,
@@ -263,7 +263,7 @@ impl ServerEnd {
         self.link.suback(id, codes)
     }
 
-    /// Answers an UNSUBSCRIBE of the client: UNSUBACK is put out, with this packet identifier (3.11). Errs with the first
+    /// Answers an UNSUBSCRIBE of the client: UNSUBACK is put out, with this packet identifier (3.11). Fails with the first
     /// refusal that stands, and then nothing changes.
     pub fn unsuback(&mut self, id: PacketId) -> Result<(), PublishRefusal>
         ensures refused { IfSome (unsuback_refusal self.old.limit.most self.old.end) (λ why. result ≡ Err why) }

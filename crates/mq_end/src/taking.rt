@@ -90,7 +90,7 @@ impl Link {
         }
     }
 
-    /// A packet comes to a server. Errs where memory runs out, which it does within the room only where an identifier is stored,
+    /// A packet comes to a server. Fails if memory runs out, which it does within the room only where an identifier is stored,
     /// and then nothing changes.
     pub(crate) fn take_server(&mut self, packet: Packet) -> Result<Outcome, AllocError>
         ensures ok { IfOk result (λ outcome. Gives (server_gets packet self.old.end) outcome self.old self.new) }
@@ -107,7 +107,7 @@ impl Link {
         }
     }
 
-    /// A packet comes to the end. Errs where memory runs out, and then nothing changes.
+    /// A packet comes to the end. Fails if memory runs out, and then nothing changes.
     fn take_one(&mut self, role: Role, packet: Packet) -> Result<Outcome, AllocError>
         ensures ok { IfOk result (λ outcome. Gives (gets_as role packet self.old.end) outcome self.old self.new) }
         ensures err { OnErr result (self.new ≡ self.old) }
@@ -118,7 +118,7 @@ impl Link {
         }
     }
 
-    /// A packet comes to the end, and what comes of it is told. Answers why it closed, where it did. Errs where memory runs out,
+    /// A packet comes to the end, and what comes of it is told. Answers why it closed, where it did. Fails if memory runs out,
     /// and then nothing changes.
     #[tactic(auto, using(crate::proofs::Outcomes::told_behind))]
     pub(crate) fn take(

@@ -2,7 +2,7 @@
 //!
 //! A list begins with a line `new`, which says what it is of: a session, the saved form of one, a client or a server end, or a queue of
 //! bytes. Each line after it is a row: an act, ` = ` and what it tells, where it tells something, and ` | ` and what is seen then, where
-//! something is. Of an end that is its output, which is written then.
+//! something is. Of an end that is its output, which is written then. `next 3` behind that is the identifier that its session gives next.
 //!
 //! `at 90000` before an act is its moment, 0 if it stands not there; `times 20` says how often it is done, and what it tells last counts;
 //! `writing 3` that so many bytes of an end's output are written, and what waits still is seen. A line that begins with `#` is a remark, and the

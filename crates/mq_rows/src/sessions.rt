@@ -179,8 +179,8 @@ fn add_reaction(told: &mut String, reaction: Reaction) -> Result<(), Wrong> {
     Ok(write!(told, "{reaction:?}")?)
 }
 
-// Adds the identifier that comes next.
-fn add_next(told: &mut String, sender: &Sender) -> Result<(), Wrong> {
+/// Adds the identifier that comes next.
+pub(crate) fn add_next(told: &mut String, sender: &Sender) -> Result<(), Wrong> {
     match sender.next_id() {
         Some(id) => write!(told, "{}", id.get())?,
         None => told.push_str("none")?,

@@ -7,6 +7,7 @@ use crate::words::Words;
 use crate::wrong::Wrong;
 use crate::{clients, forms, queues, servers};
 use mq_end::{ByteQueue, ClientEnd, ServerEnd};
+use mq_flow::Session;
 use std::alloc::Global;
 use std::mem;
 
@@ -136,6 +137,25 @@ impl Subject {
         } else {
             Err(Wrong::Words)
         }
+    }
+
+    // The session that it is, or that it has.
+    fn session(&self) -> Option<&Session> {
+        match self {
+            Subject::Session(books) => Some(&books.session),
+            Subject::Client(client) => client.session(),
+            Subject::Server(server) => server.session(),
+            Subject::Nothing | Subject::Form(_) | Subject::Queue(_) => None,
+        }
+    }
+
+    /// Adds the identifier that its session gives next.
+    pub(crate) fn see_next(&self, seen: &mut String) -> Result<(), Wrong> {
+        let Some(session) = self.session() else {
+            return Err(Wrong::Words);
+        };
+        seen.push_str(" next ")?;
+        sessions::add_next(seen, &session.sender)
     }
 
     /// Adds what is seen of it; so many bytes of its output are written, or all.

@@ -71,6 +71,9 @@ impl<'a> Walk<'a> {
             self.subject.tell(alloc, act, &mut self.told)?;
         }
         self.subject.see(act.written, &mut self.seen)?;
+        if row.seen.contains(" next ") {
+            self.subject.see_next(&mut self.seen)?;
+        }
         Ok(self.told.as_str() == row.told && self.seen.as_str() == row.seen)
     }
 
