@@ -55,6 +55,14 @@ abbrev pub dropped_line : Side → Bool → List ℕ
 dropped_line side false = []
 dropped_line side true = line_of side (codes "dropped")
 
+-- the client goes on after its program ended, or memory ran out for that
+abbrev pub anew_line : Result ⊤ PublishRefusal → List ℕ
+anew_line (Ok done) = line_of Client (codes "restarted")
+anew_line (Err why) = line_of Client (codes "refused " ++ refusal_code why)
+
+abbrev pub restarted_lines : Bool → Result ⊤ PublishRefusal → List ℕ
+restarted_lines was_open outcome = dropped_line Client was_open ++ anew_line outcome
+
 -- the client left, or it could not
 abbrev pub left_line : Result ⊤ PublishRefusal → List ℕ
 left_line (Ok done) = closed_line Client (Some closes.Left)
@@ -99,6 +107,7 @@ abbrev pub answer_lines : Answer → List ℕ
 answer_lines (answers.Published side outcome) = published_line side outcome
 answer_lines (answers.Delivered d) = delivery_lines d
 answer_lines (answers.Dropped side was_open) = dropped_line side was_open
+answer_lines (answers.Restarted was_open outcome) = restarted_lines was_open outcome
 answer_lines (answers.Left outcome) = left_line outcome
 answer_lines (answers.Opened o) = opening_lines o
 answer_lines (answers.Ticked side outcome) = ticked_line side outcome

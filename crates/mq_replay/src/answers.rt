@@ -3,7 +3,7 @@
 ghost use Rattle.std.specs.Prelude.{◌++◌, OnOk};
 ghost use Rattle.std.specs.List.{flat_map};
 ghost use Rattle.std.specs.Io.KnownBytes.{Appends};
-ghost use Rattle.mq_replay.specs.Printing.{answer_lines, bytes_line, closed_line, delivery_lines, dropped_line, happening_line, idle_line, left_line, lost_line, opening_lines, published_line, refused_line, settling_lines, ticked_line};
+ghost use Rattle.mq_replay.specs.Printing.{anew_line, answer_lines, bytes_line, closed_line, delivery_lines, dropped_line, happening_line, idle_line, left_line, lost_line, opening_lines, published_line, refused_line, restarted_lines, settling_lines, ticked_line};
 
 use crate::words::{HandedText, IdWord};
 use mq_end::{CloseReason, Happening, PublishRefusal};
@@ -149,6 +149,31 @@ fn write_opening<W: Write>(output: &mut W, opening: Opening) -> io::Result<()>
     write_refused(output, opening.refused)
 }
 
+// That the client goes on after its program ended, or that memory ran out for that.
+fn write_anew<W: Write>(output: &mut W, outcome: Result<(), PublishRefusal>) -> io::Result<()>
+    ensures { OnOk result
+        (Appends (W.contents output.old) (W.contents output.new) (anew_line outcome)) }
+{
+    let client = SideWord(Side::Client);
+    match outcome {
+        Ok(()) => writeln!(output, "{client} restarted"),
+        Err(why) => writeln!(output, "{client} refused {}", why.code()),
+    }
+}
+
+// The connection that is lost when the client's program ends, and whether the client goes on.
+fn write_restarted<W: Write>(
+    output: &mut W,
+    was_open: bool,
+    outcome: Result<(), PublishRefusal>,
+) -> io::Result<()>
+    ensures { OnOk result
+        (Appends (W.contents output.old) (W.contents output.new) (restarted_lines was_open outcome)) }
+{
+    write_dropped(output, Side::Client, was_open)?;
+    write_anew(output, outcome)
+}
+
 // That the client left, or why it could not.
 fn write_left<W: Write>(output: &mut W, outcome: Result<(), PublishRefusal>) -> io::Result<()>
     ensures { OnOk result
@@ -206,6 +231,7 @@ pub(crate) fn write_answer<W: Write>(output: &mut W, answer: &Answer) -> io::Res
         Answer::Published(side, outcome) => write_published(output, *side, *outcome),
         Answer::Delivered(delivery) => write_delivery(output, delivery),
         Answer::Dropped(side, was_open) => write_dropped(output, *side, *was_open),
+        Answer::Restarted(was_open, outcome) => write_restarted(output, *was_open, *outcome),
         Answer::Left(outcome) => write_left(output, *outcome),
         Answer::Opened(opening) => write_opening(output, *opening),
         Answer::Ticked(side, outcome) => write_ticked(output, *side, *outcome),

@@ -166,6 +166,7 @@ step_writes (Event (events.Publish side m)) h = record {
 }
 step_writes (Event (events.Deliver side n)) h = (decimal n, inl (number n h), refl)
 step_writes (Event (events.Drop side)) h = refl
+step_writes (Event events.Restart) h = refl
 step_writes (Event events.Leave) h = refl
 step_writes (Event events.Open) h = refl
 step_writes (Event (events.Tick side n)) h = (decimal n, number n h, refl)
@@ -176,6 +177,7 @@ step_solid (Event (events.Publish side m)) h =
     (solid_publish m.retain, (solid_side side, (solid_qos m.qos, (solid_codes escaped_byte solid_escape m.topic (name_bytes m.topic h.0), (solid_bytes m.payload h.1, tt)))))
 step_solid (Event (events.Deliver side n)) h = (refl, (solid_side side, (solid_number n h, tt)))
 step_solid (Event (events.Drop side)) h = (refl, (solid_side side, tt))
+step_solid (Event events.Restart) h = (refl, tt)
 step_solid (Event events.Leave) h = (refl, tt)
 step_solid (Event events.Open) h = (refl, tt)
 step_solid (Event (events.Tick side n)) h = (refl, (solid_side side, (solid_number n h, tt)))
@@ -189,6 +191,7 @@ step_back : (step : Step) → KeepsBounds step → words_of (bare_line step) ≡
 step_back (Event (events.Publish side m)) h = line_words _ _ (step_solid (Event (events.Publish side m)) h)
 step_back (Event (events.Deliver side n)) h = line_words _ _ (step_solid (Event (events.Deliver side n)) h)
 step_back (Event (events.Drop side)) h = line_words _ _ (step_solid (Event (events.Drop side)) h)
+step_back (Event events.Restart) h = line_words _ _ (step_solid (Event events.Restart) h)
 step_back (Event events.Leave) h = line_words _ _ (step_solid (Event events.Leave) h)
 step_back (Event events.Open) h = line_words _ _ (step_solid (Event events.Open) h)
 step_back (Event (events.Tick side n)) h = line_words _ _ (step_solid (Event (events.Tick side n)) h)

@@ -28,7 +28,7 @@ use Rattle.mq_schedule.proofs.Octets.{name_bytes}
 -- ---- words
 
 -- a word is at most one number
-same_number : (a b : ℕ) (v w : List ℕ) → v ≡ w → IsNumber a v → IsNumber b w → a ≡ b
+pub same_number : (a b : ℕ) (v w : List ℕ) → v ≡ w → IsNumber a v → IsNumber b w → a ≡ b
 same_number a b v w e h k = sym h.value ∙ ap (digits_value 10) e ∙ k.value
 
 -- `all` is no number
@@ -57,7 +57,7 @@ same_retain false true e = absurd (cc e)
 same_retain true false e = absurd (cc e)
 same_retain true true e = refl
 
-same_qos : (a b : Qos) → qos_number a ≡ qos_number b → a ≡ b
+pub same_qos : (a b : Qos) → qos_number a ≡ qos_number b → a ≡ b
 same_qos Q0 Q0 e = refl
 same_qos Q0 Q1 e = absurd (cc e)
 same_qos Q0 Q2 e = absurd (cc e)
@@ -75,7 +75,7 @@ digits_no_dash b bytes lt e =
     absurd (cc two)
 
 -- a word is at most one payload
-same_payload : (a b : List ℕ) → IsBytes a → IsBytes b → bytes_word a ≡ bytes_word b → a ≡ b
+pub same_payload : (a b : List ℕ) → IsBytes a → IsBytes b → bytes_word a ≡ bytes_word b → a ≡ b
 same_payload [] [] h k e = refl
 same_payload [] (y ∷ b) h k e = absurd (digits_no_dash y (hex_of b) (k 0) e)
 same_payload (x ∷ a) [] h k e = absurd (digits_no_dash x (hex_of a) (h 0) (sym e))
@@ -91,6 +91,7 @@ abbrev mark_of : Step → ℕ
 mark_of (Event (events.Publish side m)) = 98
 mark_of (Event (events.Deliver side n)) = 0
 mark_of (Event (events.Drop side)) = 111
+mark_of (Event events.Restart) = 115
 mark_of (Event events.Leave) = 97
 mark_of (Event events.Open) = 101
 mark_of (Event (events.Tick side n)) = 99
@@ -101,6 +102,7 @@ event_mark : (event : WorldEvent) → mark_of (Event event) ≢ 116
 event_mark (events.Publish side m) e = absurd (omega (arith, e))
 event_mark (events.Deliver side n) e = absurd (omega (arith, e))
 event_mark (events.Drop side) e = absurd (omega (arith, e))
+event_mark events.Restart e = absurd (omega (arith, e))
 event_mark events.Leave e = absurd (omega (arith, e))
 event_mark events.Open e = absurd (omega (arith, e))
 event_mark (events.Tick side n) e = absurd (omega (arith, e))
@@ -113,6 +115,7 @@ marked : (step : Step) (words : List (List ℕ)) → Writes step words → mark 
 marked (Event (events.Publish side m)) words h = ap mark h.words_are ∙ publish_mark m.retain
 marked (Event (events.Deliver side n)) words h = ap mark h.2
 marked (Event (events.Drop side)) words h = ap mark h
+marked (Event events.Restart) words h = ap mark h
 marked (Event events.Leave) words h = ap mark h
 marked (Event events.Open) words h = ap mark h
 marked (Event (events.Tick side n)) words h = ap mark h.2
@@ -152,6 +155,7 @@ same_step a b words h k = by_kinds a b (sym (marked a words h) ∙ marked b word
         let same = sym h ∙ k in
         let sides : side_word s ≡ side_word t = cc same in
         ap (λ (side : Side). Event (events.Drop side)) (same_side s t sides)
+    by_kinds (Event events.Restart) (Event events.Restart) e h k = refl
     by_kinds (Event events.Leave) (Event events.Leave) e h k = refl
     by_kinds (Event events.Open) (Event events.Open) e h k = refl
     by_kinds (Event (events.Tick s m)) (Event (events.Tick t n)) e h k =

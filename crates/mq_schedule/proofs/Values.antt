@@ -46,7 +46,7 @@ payload_found (Some p) word bytes other some are e fits same =
 pub name_is : (word text name : List ℕ) → IsBytes text → word ≡ escaped text → IsTopicName name × (word ≡ escaped name) → name ≡ text
 name_is word text name are e h = same_codes escaped_byte escaped_code name text (name_bytes name h.0) are (sym h.1 ∙ e)
 
--- a name has no fault but want of memory
+-- a name has no fault but lack of memory
 pub name_memory : (text name : List ℕ) (fault : TopicFault) → name ≡ text → IsTopicName name → IfNone (name_fault text) (fault ≡ faults.Memory) → fault ≡ faults.Memory
 name_memory text name fault same h memory =
     let none : name_fault text ≡ None = ap name_fault (sym same) ∙ (laws.name name h.text.utf8).1 h in

@@ -15,6 +15,7 @@ pub no_amount : (words : List (List ℕ)) (to count : List ℕ) → words ≡ to
 no_amount words to count e none (Event (events.Publish side m)) h = let same : codes "to" ≡ publish_word m.retain = cc (h.words_are) in to_publishes m.retain same
 no_amount words to count e none (Event (events.Deliver side n)) h = let same : h.0 ≡ count = cc (h.2, e) in none n (subst (IsAmount n) same h.1)
 no_amount words to count e none (Event (events.Drop side)) h = absurd (cc h)
+no_amount words to count e none (Event events.Restart) h = absurd (cc h)
 no_amount words to count e none (Event events.Leave) h = absurd (cc h)
 no_amount words to count e none (Event events.Open) h = absurd (cc h)
 no_amount words to count e none (Event (events.Tick side n)) h = absurd (cc h.2)

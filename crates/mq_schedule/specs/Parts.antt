@@ -55,6 +55,7 @@ abbrev pub KeepsBounds : Step → Type 0
 KeepsBounds (Event (events.Publish side m)) = IsTopicName m.topic × IsBytes m.payload × (length m.payload < 2 ^ 28)
 KeepsBounds (Event (events.Deliver side n)) = n < 2 ^ 64
 KeepsBounds (Event (events.Drop side)) = ⊤
+KeepsBounds (Event events.Restart) = ⊤
 KeepsBounds (Event events.Leave) = ⊤
 KeepsBounds (Event events.Open) = ⊤
 KeepsBounds (Event (events.Tick side n)) = n < 2 ^ 64

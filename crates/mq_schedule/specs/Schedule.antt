@@ -68,6 +68,7 @@ abbrev pub Writes : Step → List (List ℕ) → Type 0
 Writes (Event (events.Publish side m)) words = IsPublication side m words
 Writes (Event (events.Deliver side n)) words = (amount : List ℕ) × IsAmount n amount × (words ≡ codes "to" ∷ side_word side ∷ amount ∷ [])
 Writes (Event (events.Drop side)) words = words ≡ codes "drop" ∷ side_word side ∷ []
+Writes (Event events.Restart) words = words ≡ codes "restart" ∷ []
 Writes (Event events.Leave) words = words ≡ codes "leave" ∷ []
 Writes (Event events.Open) words = words ≡ codes "open" ∷ []
 Writes (Event (events.Tick side n)) words = (ms : List ℕ) × IsNumber n ms × (words ≡ codes "tick" ∷ side_word side ∷ ms ∷ [])

@@ -29,6 +29,7 @@ abbrev pub step_words : Step → List (List ℕ)
 step_words (Event (events.Publish side m)) = publish_word m.retain ∷ side_word side ∷ decimal (qos_number m.qos) ∷ escaped m.topic ∷ bytes_word m.payload ∷ []
 step_words (Event (events.Deliver side n)) = codes "to" ∷ side_word side ∷ decimal n ∷ []
 step_words (Event (events.Drop side)) = codes "drop" ∷ side_word side ∷ []
+step_words (Event events.Restart) = codes "restart" ∷ []
 step_words (Event events.Leave) = codes "leave" ∷ []
 step_words (Event events.Open) = codes "open" ∷ []
 step_words (Event (events.Tick side n)) = codes "tick" ∷ side_word side ∷ decimal n ∷ []

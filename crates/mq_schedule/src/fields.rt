@@ -29,8 +29,8 @@ pub(crate) fn side(word: &str) -> Option<Side>
     }
 }
 
-// Decimal digits, without a sign.
-pub(crate) fn number(word: &str) -> Option<u64>
+/// The number of decimal digits, without a sign.
+pub fn number(word: &str) -> Option<u64>
     ensures { Finds (λ n. IsNumber n word.now) result }
 {
     if word.starts_with('+') {
@@ -49,8 +49,8 @@ pub(crate) fn amount(word: &str) -> Option<usize>
     Some(number(word)? as usize)
 }
 
-// A quality of service (4.3).
-pub(crate) fn qos(word: &str) -> Option<Qos>
+/// A quality of service (4.3).
+pub fn qos(word: &str) -> Option<Qos>
     ensures { Finds (λ qos. IsNumber (qos_number qos) word.now) result }
 {
     Qos::from_number(u8::try_from(number(word)?).ok()?)
@@ -95,8 +95,8 @@ fn no_name(fault: TopicFault) -> Result<Option<TopicName>, AllocError>
     }
 }
 
-// A topic name (4.7), as it is printed.
-pub(crate) fn topic(alloc: Global, word: &str) -> Result<Option<TopicName>, AllocError>
+/// A topic name (4.7), as it is printed.
+pub fn topic(alloc: Global, word: &str) -> Result<Option<TopicName>, AllocError>
     ensures { IfOk result (Finds (λ name. IsTopicName name × (word.now ≡ escaped name))) }
 {
     let Some(bytes) = unescaped(alloc, word.as_bytes())? else {
@@ -111,8 +111,8 @@ pub(crate) fn topic(alloc: Global, word: &str) -> Result<Option<TopicName>, Allo
     }
 }
 
-// A payload as hexadecimal digits, or `-` for none.
-pub(crate) fn payload(alloc: Global, word: &str) -> Result<Option<Payload>, AllocError>
+/// A payload as hexadecimal digits, or `-` for none.
+pub fn payload(alloc: Global, word: &str) -> Result<Option<Payload>, AllocError>
     ensures { IfOk result (Finds (λ payload. IsBytes payload × (length payload < 2 ^ 28)
         × (word.now ≡ bytes_word payload))) }
 {

@@ -11,7 +11,10 @@ mod steps;
 mod words;
 mod writing;
 
+pub use crate::fields::{number, payload, qos, topic};
 pub use crate::laws::schedule_laws;
+pub use crate::printed::unescaped;
 pub use crate::read::{ScheduleFault, read_schedule};
 pub use crate::schedule::{Schedule, Step};
+pub use crate::words::{Words, first_part, first_word};
 pub use crate::writing::{BytesWord, SideWord, write_schedule};

@@ -76,8 +76,8 @@ fn first_byte(printed: &[u8]) -> Option<(u8, &[u8])>
     Some((byte, after))
 }
 
-// The bytes of a text that is printed so.
-pub(crate) fn unescaped(alloc: Global, printed: &[u8]) -> Result<Option<Vec<u8>>, AllocError>
+/// The bytes of a text that is printed so.
+pub fn unescaped(alloc: Global, printed: &[u8]) -> Result<Option<Vec<u8>>, AllocError>
     ensures { IfOk result (FindsBytes (λ text. IsBytes text × (printed.now ≡ escaped text))) }
 {
     let mut text = Vec::new(alloc);

@@ -88,6 +88,7 @@ pub(crate) fn step(alloc: Global, line: &str) -> Result<Option<Step>, AllocError
         "to" => Ok(delivery(words)),
         "drop" => Ok(loss(words)),
         "tick" => Ok(tick(words)),
+        "restart" if words.is_empty() => Ok(Some(Step::Event(Event::Restart))),
         "leave" if words.is_empty() => Ok(Some(Step::Event(Event::Leave))),
         "open" if words.is_empty() => Ok(Some(Step::Event(Event::Open))),
         "settle" if words.is_empty() => Ok(Some(Step::Settle)),

@@ -5,8 +5,8 @@ ghost use Rattle.mq_schedule.specs.Parts.{last_word, parts, parts_left};
 
 use std::marker::Model;
 
-// The part of a text before the first character of a kind, and the text after that, which a last part has not.
-pub(crate) fn first_part(text: &str, by: char) -> (&str, Option<&str>)
+/// The part of a text before the first character of a kind, and the text after that, which a last part has not.
+pub fn first_part(text: &str, by: char) -> (&str, Option<&str>)
     requires { by < 128 }
     ensures { parts by text.now ≡ result.0.now ∷ parts_left by result.1 }
 {
@@ -18,7 +18,7 @@ pub(crate) fn first_part(text: &str, by: char) -> (&str, Option<&str>)
 
 /// The words of a line that are left, parted by one space each. Contracts see the list of them.
 #[derive(Drop)]
-pub(crate) struct Words<'a> {
+pub struct Words<'a> {
     left: Option<&'a str>,
 }
 
@@ -32,8 +32,8 @@ impl<'a> Model for Words<'a> {
     ghost view = { λ w. parts_left 32 w.left };
 }
 
-// The first word of a line, and the words after it.
-pub(crate) fn first_word(line: &str) -> (&str, Words<'_>)
+/// The first word of a line, and the words after it.
+pub fn first_word(line: &str) -> (&str, Words<'_>)
     ensures { parts 32 line.now ≡ result.0.now ∷ result.1 }
 {
     let (word, left) = first_part(line, ' ');
@@ -41,15 +41,15 @@ pub(crate) fn first_word(line: &str) -> (&str, Words<'_>)
 }
 
 impl<'a> Words<'a> {
-    // Whether none is left.
-    pub(crate) fn is_empty(&self) -> bool
+    /// Whether none is left.
+    pub fn is_empty(&self) -> bool
         ensures { IsTrue result ↔ (self.now ≡ []) }
     {
         self.left.is_none()
     }
 
-    // The next word.
-    fn next(&mut self) -> Option<&'a str>
+    /// Takes the next word.
+    pub fn next(&mut self) -> Option<&'a str>
         ensures some { IfSome result (λ word. self.old ≡ word.now ∷ self.new) }
         ensures none { IfNone result (self.old ≡ []) }
     {
@@ -89,8 +89,8 @@ impl<'a> Words<'a> {
         Some((first, second, Some(self.one()?)))
     }
 
-    // The words, where four are left.
-    pub(crate) fn four(mut self) -> Option<(&'a str, &'a str, &'a str, &'a str)>
+    /// The words, where four are left.
+    pub fn four(mut self) -> Option<(&'a str, &'a str, &'a str, &'a str)>
         ensures some { IfSome result (λ four.
             self.entry ≡ four.0.now ∷ four.1.now ∷ four.2.now ∷ four.3.now ∷ []) }
         ensures none { IfNone result (length self.entry ≢ 4) }

@@ -110,6 +110,7 @@ fn write_step(text: &mut String, step: &Step) -> Result<(), AllocError>
         Step::Event(Event::Publish(side, message)) => write_publication(text, *side, message),
         Step::Event(Event::Deliver(side, count)) => write_delivery(text, *side, *count),
         Step::Event(Event::Drop(side)) => writeln!(text, "drop {}", SideWord(*side)),
+        Step::Event(Event::Restart) => writeln!(text, "restart"),
         Step::Event(Event::Leave) => writeln!(text, "leave"),
         Step::Event(Event::Open) => writeln!(text, "open"),
         Step::Event(Event::Tick(side, more)) => write_tick(text, *side, *more),

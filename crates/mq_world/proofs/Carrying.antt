@@ -28,7 +28,7 @@ use Rattle.mq_world.specs.declared.side.Side.{Side}
 use Rattle.mq_world.specs.declared.side.Side.TheVariants.{Client, Server}
 use Rattle.mq_world.specs.Half.{Half, Outcome, Action, Publishes, Arrives, Drops, Leaves, Pings, joined, kept, put, took, arrival, publication, May}
 use Rattle.mq_world.specs.Half.{moved, gets}
-use Rattle.mq_world.specs.Machine.{Machine, Move, By, Opens, Run, IsAllowed, after, blank_machine}
+use Rattle.mq_world.specs.Machine.{Machine, Move, By, Opens, Restarts, Run, IsAllowed, after, blank_machine, without_keep_alive}
 use Rattle.mq_world.specs.Orders.{Each}
 use Rattle.mq_world.specs.Carried.{IsCarried, IsEntry, IsPublication, CarriesOnly, PublishOnly, CarriedLaw}
 use Rattle.mq_world.proofs.Lists.{each_append, each_filter, each_mapped}
@@ -213,12 +213,15 @@ module _ (test : Message → Bool) where
   abbrev pub Allowed : Move → Type 0
   Allowed (By side action) = Passes action
   Allowed Opens = Unit {0}
+  Allowed Restarts = Unit {0}
 
   after_well : (limit capacity : ℕ) (w : Machine) (move : Move) → IsAllowed limit capacity w move → Allowed move → Well w.client → Well w.server
       → Well (after w move).client × Well (after w move).server
   after_well limit capacity w (By Client action) may t c s = let m = move_well limit capacity Client action w.client may t c in (m.0, put_well _ w.server m.1 s)
   after_well limit capacity w (By Server action) may t c s = let m = move_well limit capacity Server action w.server may t s in (put_well _ w.client m.1 c, m.0)
   after_well limit capacity w Opens may t c s = ((over_well w.client.end c.0, tt), (over_well w.server.end s.0, (refl, tt)))
+  after_well limit capacity w Restarts may t c s =
+      let m = move_well limit capacity Client Drops (without_keep_alive w.client) tt tt c in (m.0, put_well _ w.server m.1 s)
 
   first_of : (move : Move) (moves : List Move) → PublishOnly test (move ∷ moves) → Allowed move × PublishOnly test moves
   first_of (By side (Publishes i m)) moves p = (p.0, p.1)
@@ -227,6 +230,7 @@ module _ (test : Message → Bool) where
   first_of (By side Leaves) moves p = (tt, p)
   first_of (By side Pings) moves p = (tt, p)
   first_of Opens moves p = (tt, p)
+  first_of Restarts moves p = (tt, p)
 
   run_well : (limit capacity : ℕ) (w : Machine) (moves : List Move) (v : Machine) → PublishOnly test moves → Run limit capacity w moves v
       → Well w.client → Well w.server → Well v.client × Well v.server

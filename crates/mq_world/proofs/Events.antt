@@ -3,7 +3,7 @@ use Rattle.mq_decode.specs.Laws.{ReadsAgain}
 use Rattle.mq_end.specs.Laws.{ClosingLaws}
 use Rattle.mq_world.specs.OverBytes.{OverBytes}
 use Rattle.mq_world.proofs.Standing.{blank, alike, unheard, seen_headline}
-use Rattle.mq_world.proofs.Moving.{publish, drop, drop_both, opened, leave, ping}
+use Rattle.mq_world.proofs.Moving.{publish, drop, drop_both, restart, opened, leave, ping}
 use Rattle.mq_world.proofs.Delivering.{deliver}
 
 pub law : ReadsAgain → ClosingLaws → OverBytes
@@ -15,6 +15,7 @@ law reads laws = record {
   publish = publish;
   drop = drop;
   drop_both = drop_both;
+  restart = restart;
   opened = opened;
   leave = leave;
   ping = ping;

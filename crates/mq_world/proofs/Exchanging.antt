@@ -22,7 +22,7 @@ use Rattle.mq_end.specs.Receiving.{Ending, Waits, Closes, Breaks, Starves}
 use Rattle.mq_world.specs.declared.side.Side.{Side}
 use Rattle.mq_world.specs.declared.side.Side.TheVariants.{Client, Server}
 use Rattle.mq_world.specs.Half.{Half, Accepted, HandedOn, Action, Publishes, Arrives, Drops, Leaves, Pings, kept, joined, put, arrival, moved, gets}
-use Rattle.mq_world.specs.Machine.{Machine, Move, By, Opens, Run, after, blank_machine}
+use Rattle.mq_world.specs.Machine.{Machine, Move, By, Opens, Restarts, Run, after, blank_machine}
 use Rattle.mq_world.specs.Orders.{IsAt, messages}
 use Rattle.mq_world.specs.Settling.{Idle, AllHanded, queue, arrivals, delivered, exchange, settled}
 use Rattle.mq_world.specs.Identifiers.{half_of}
@@ -68,6 +68,7 @@ after_quiet m (By Client action) c s =
 after_quiet m (By Server action) c s =
     (joined_quiet m.client.end.state m.client.coming (moved Server action m.server).out c, moved_quiet Server action m.server s)
 after_quiet m Opens c s = (λ e. refl, λ e. cc)
+after_quiet m Restarts c s = (λ e. refl, joined_quiet m.server.end.state m.server.coming [] s)
 
 run_quiet : (limit capacity : ℕ) (m : Machine) (moves : List Move) (v : Machine) → Run limit capacity m moves v → Quiet m.client → Quiet m.server
     → Quiet v.client × Quiet v.server

@@ -1,5 +1,5 @@
 -- A world whose windows are not less than its capacity: no answer tells of a close because of a window.
-use Rattle.std.proofs.Common.{◌≡◌, ◌≢◌, ℕ, Bool, true, false, cond, ◌&&◌, Option, None, Some, Ok, Err, List, [], ◌∷◌, ◌++◌, length, take, drop, refl}
+use Rattle.std.proofs.Common.{◌≡◌, ◌≢◌, ℕ, ◌&&◌, Option, Some, Ok, Err, List, [], ◌∷◌, length, take, drop}
 use Rattle.std.proofs.Common.{sym, ap, subst, ◌∙◌}
 use Rattle.std.specs.List.{All}
 use Rattle.std.proofs.lemmas.Bool.{cond_both}
@@ -7,7 +7,6 @@ use Rattle.std.proofs.lemmas.List.{take-append-drop}
 use Rattle.std.proofs.lemmas.List.Elements.{All-nil, All-cons, All-append}
 use Rattle.mq_decode.specs.Limits.{Bounds}
 use Rattle.mq_flow.specs.Window.{Spans}
-use Rattle.mq_end.specs.declared.reason.CloseReason.{CloseReason}
 use Rattle.mq_end.specs.declared.reason.CloseReason.TheVariants as reasons
 use Rattle.mq_end.specs.End.{End, Reply, closes, silent, is_live, is_up}
 use Rattle.mq_end.specs.KeepAlive.{is_late}
@@ -21,7 +20,6 @@ use Rattle.mq_world.specs.declared.answer.Answer.TheVariants as answers
 use Rattle.mq_world.specs.declared.answer.Delivery.{Delivery}
 use Rattle.mq_world.specs.declared.answer.Settling.{Settling}
 use Rattle.mq_world.specs.Machine.{Machine}
-use Rattle.mq_world.specs.Identifiers.{half_of}
 use Rattle.mq_world.specs.Carries.{Wired, IsSpanned, HaveWindow}
 use Rattle.mq_world.specs.OverBytes.{OverBytes, Stands, near}
 use Rattle.mq_world.specs.Time.{later, time_closes}
@@ -105,11 +103,13 @@ pub fits_done : (limit : Bounds) (capacity : ℕ) (event : Event) (answer : Answ
     → Does limit capacity event answer w v → IsSpanned capacity w → IsNeverFull answer
 fits_done limit capacity event (answers.Published at r) w v m s h spans = tt
 fits_done limit capacity event (answers.Dropped at b) w v m s h spans = tt
+fits_done limit capacity event (answers.Restarted b r) w v m s h spans = tt
 fits_done limit capacity event (answers.Left r) w v m s h spans = tt
 fits_done limit capacity event (answers.Opened o) w v m s h spans = tt
 fits_done limit capacity (events.Deliver side count) (answers.Delivered d) w v m s h spans = fits_delivered limit capacity side w v m count d s h spans
 fits_done limit capacity (events.Publish side message) (answers.Delivered d) w v m s h spans = absurd h
 fits_done limit capacity (events.Drop side) (answers.Delivered d) w v m s h spans = absurd h
+fits_done limit capacity events.Restart (answers.Delivered d) w v m s h spans = absurd h
 fits_done limit capacity events.Leave (answers.Delivered d) w v m s h spans = absurd h
 fits_done limit capacity events.Open (answers.Delivered d) w v m s h spans = absurd h
 fits_done limit capacity (events.Tick side more) (answers.Delivered d) w v m s h spans = absurd h
@@ -118,12 +118,14 @@ fits_done limit capacity (events.Tick side more) (answers.Ticked at (Ok closed))
 fits_done limit capacity (events.Publish side message) (answers.Ticked at (Ok closed)) w v m s h spans = absurd h
 fits_done limit capacity (events.Deliver side count) (answers.Ticked at (Ok closed)) w v m s h spans = absurd h
 fits_done limit capacity (events.Drop side) (answers.Ticked at (Ok closed)) w v m s h spans = absurd h
+fits_done limit capacity events.Restart (answers.Ticked at (Ok closed)) w v m s h spans = absurd h
 fits_done limit capacity events.Leave (answers.Ticked at (Ok closed)) w v m s h spans = absurd h
 fits_done limit capacity events.Open (answers.Ticked at (Ok closed)) w v m s h spans = absurd h
 fits_done limit capacity event (answers.Ticked at (Err why)) w v m s h spans = tt
 fits_done limit capacity (events.Publish side message) (answers.Settled o) w v m s h spans = absurd h
 fits_done limit capacity (events.Deliver side count) (answers.Settled o) w v m s h spans = absurd h
 fits_done limit capacity (events.Drop side) (answers.Settled o) w v m s h spans = absurd h
+fits_done limit capacity events.Restart (answers.Settled o) w v m s h spans = absurd h
 fits_done limit capacity events.Leave (answers.Settled o) w v m s h spans = absurd h
 fits_done limit capacity events.Open (answers.Settled o) w v m s h spans = absurd h
 fits_done limit capacity (events.Tick side more) (answers.Settled o) w v m s h spans = absurd h

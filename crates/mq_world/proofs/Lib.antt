@@ -24,6 +24,7 @@ pub mod Delivering
 pub mod Exchanging
 pub mod Events
 pub mod Worlds
+pub mod Anew
 pub mod Telling
 pub mod Clocks
 pub mod Settled

@@ -23,7 +23,8 @@ use Rattle.mq_end.specs.Client.{client_open_gets, client_up_gets, client_gets_in
 use Rattle.mq_end.specs.Server.{connect_gets, refuses, server_open_gets, server_up_gets, server_gets_in}
 use Rattle.mq_world.specs.declared.side.Side.TheVariants.{Client, Server}
 use Rattle.mq_world.specs.Half.{Half, Action, Publishes, Arrives, Drops, Leaves, Pings, joined, kept, put, arrival, May, moved}
-use Rattle.mq_world.specs.Machine.{Machine, Move, By, Opens, Run, IsAllowed, after, blank_machine, first_packet, opened_client, opened_server}
+use Rattle.mq_world.specs.Machine.{Machine, Move, By, Opens, Restarts, Run, IsAllowed, after, blank_machine, first_packet, opened_client, opened_server}
+use Rattle.mq_world.specs.Machine.{without_keep_alive}
 use Rattle.mq_world.proofs.Lists.{Each, each_append}
 use Rattle.mq_world.proofs.Both.{Both, upon}
 use Rattle.mq_world.proofs.Whole.{after_keeps, blank_holds}
@@ -198,6 +199,10 @@ after_marks limit capacity w Opens may kc ks m =
     (opened_server (connects first_packet w.client.end).out (record w.server { end = record w.server.end { clean = d } })) in
     let half : P false w.server.end.clean = subst (λ (d : Bool). P false d) (sym ks) (λ k. ((m k).0, tt)) in
     subst (λ (b : Bool). P b w.server.end.clean) (sym kc) half
+after_marks limit capacity w Restarts may kc ks m =
+    let h : Half = without_keep_alive w.client in
+    let P : Bool → Type 0 = λ b. Marks (moved Client Drops (record h { end = record h.end { clean = b } })).half w.server in
+    subst P (sym kc) (client_marks limit capacity Drops h.end.state h.coming h w.server tt m)
 
 -- both things that a run keeps
 abbrev pub Well : ℕ → Machine → Type 0

@@ -6,6 +6,8 @@ use Rattle.mq_packet.specs.declared.message.Message.{Message}
 use Rattle.mq_packet.specs.declared.packet.Packet.TheVariants as packets
 use Rattle.mq_decode.specs.Limits.{Bounds}
 use Rattle.mq_decode.specs.Grammar.{Stream}
+use Rattle.std.proofs.lemmas.Bool.{cond_both}
+use Rattle.mq_flow.specs.Sender.{SenderBook, blank_book, no_claims}
 use Rattle.mq_end.specs.End.{End, is_live, is_up, over}
 use Rattle.mq_end.specs.Both.{publishes, publishes_at, has_identifier}
 use Rattle.mq_end.specs.Client.{connects, leaves, leave_refusal}
@@ -15,12 +17,12 @@ use Rattle.mq_end.specs.State.{EndState, Spelled, PutsOut}
 use Rattle.mq_world.specs.declared.side.Side.{Side}
 use Rattle.mq_world.specs.declared.side.Side.TheVariants.{Client, Server}
 use Rattle.mq_world.specs.Half.{Half, Publishes, Drops, Leaves, Pings, moved, publication, refusal, accepted_with}
-use Rattle.mq_world.specs.Machine.{Machine, By, Opens, Run, after, first_packet}
+use Rattle.mq_world.specs.Machine.{Machine, By, Opens, Restarts, Run, after, first_packet, without_keep_alive}
 use Rattle.mq_world.specs.Identifiers.{half_of}
 use Rattle.mq_world.specs.Carries.{WiredSide, Wired, CarriesSide}
-use Rattle.mq_world.specs.OverBytes.{Stands, Follows, near, far, facing, written, SameBounds, with_more, cut_off, accepting}
+use Rattle.mq_world.specs.OverBytes.{Stands, Follows, near, far, facing, written, SameBounds, made_anew, with_more, cut_off, accepting}
 use Rattle.mq_world.proofs.Wires.{spelled_within}
-use Rattle.mq_world.proofs.Standing.{reached_on, side_near, follows_one, no_more_bytes, all_put_out}
+use Rattle.mq_world.proofs.Standing.{reached_on, side_near, follows, follows_one, no_more_bytes, all_put_out}
 
 -- ---- publishing
 
@@ -108,6 +110,35 @@ drop_both limit capacity w m c s k ce cb se sb =
     }
 
 -- ---- the client
+
+-- an end that is made anew is one whose connection is over, and that knows no keep-alive
+anew_is_over : (e : End) → made_anew e ≡ over (record e { keep_alive = 0 })
+anew_is_over e = λ i. record (over (record e { keep_alive = 0 })) { book = unclaimed i }
+  where
+    unclaimed : no_claims (over e).book ≡ (over e).book
+    unclaimed = cond_both e.clean blank_book (no_claims e.book) (λ (b : SenderBook). no_claims b ≡ b) (λ t. refl) (λ f. refl)
+
+pub restart : (limit : Bounds) (capacity : ℕ) (w : Wired) (m : Machine) (new : EndState) → Stands limit capacity w m
+    → new.end ≡ made_anew w.client.state.end → SameBounds w.client.state new
+    → Follows limit capacity m (Restarts ∷ []) (record { client = cut_off new w.client; server = w.server })
+restart limit capacity w m new k after bounds =
+    let c = k.carries.client in
+    let h : Half = without_keep_alive m.client in
+    let x : WiredSide = record w.client { state = record w.client.state { end = record w.client.state.end { keep_alive = 0 } } } in
+    let carries : CarriesSide limit capacity x h = record {
+      end = ap (λ (e : End). let f : End = record e { keep_alive = 0 } in f) c.end;
+      bytes = c.bytes;
+      output = c.output;
+      reserved = c.reserved;
+      limits = c.limits;
+      room = c.room;
+      accepted = c.accepted;
+      handed = c.handed;
+      freed = c.freed;
+    } in
+    subst (λ (y : WiredSide). Follows limit capacity m (Restarts ∷ []) (record { client = cut_off new w.client; server = y })) (no_more_bytes w.server)
+    (follows limit capacity Client w m (Restarts ∷ []) (cut_off new w.client) (moved Client Drops h).half [] [] k (tt, refl) refl
+    (over_side limit capacity x h new carries (after ∙ anew_is_over w.client.state.end) bounds))
 
 pub opened : (limit : Bounds) (capacity : ℕ) (w : Wired) (m : Machine) (c s : EndState) → Stands limit capacity w m
     → c.end ≡ (connects first_packet w.client.state.end).end → PutsOut (packets.Connect first_packet ∷ []) [] c.output → c.held ≡ []

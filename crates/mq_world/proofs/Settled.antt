@@ -21,7 +21,7 @@ use Rattle.mq_world.proofs.Worlds.{live_or_not, stands_opened}
 
 -- ---- one delivery after another
 
--- the end did not close for want of memory
+-- the end did not close for lack of memory
 abbrev pub IsFed : Delivery → Type 0
 IsFed d = d.progress.closed ≢ Some reasons.Memory
 

@@ -18,7 +18,7 @@ use Rattle.mq_world.specs.declared.answer.Answer.TheVariants as answers
 use Rattle.mq_world.specs.declared.answer.Delivery.{Delivery}
 use Rattle.mq_world.specs.declared.answer.Opening.{Opening}
 use Rattle.mq_world.specs.Half.{Accepted, Publishes, Drops, Leaves, Pings, accepted_with, freed_with}
-use Rattle.mq_world.specs.Machine.{Machine, Move, By, Opens, Run, after}
+use Rattle.mq_world.specs.Machine.{Machine, Move, By, Opens, Restarts, Run, after}
 use Rattle.mq_world.specs.Carries.{Wired, WiredSide}
 use Rattle.mq_world.specs.OverBytes.{OverBytes, Stands, Follows, Alike, near, handed_with}
 use Rattle.mq_world.specs.Time.{later, time_moves}
@@ -184,6 +184,14 @@ told_event law limit capacity (events.Publish side message) (answers.Published f
     }
 told_event law limit capacity (events.Deliver side count) (answers.Delivered d) w v m s h = told_delivery law limit capacity side w v m count d s h
 told_event law limit capacity (events.Drop side) (answers.Dropped from was_open) w v m s h = told_loss limit capacity side from was_open v m (h.1.moves m s)
+told_event law limit capacity events.Restart (answers.Restarted was_open (Ok done)) w v m s h =
+    let f = h.moves m s in
+    let same = same_machine (after m Restarts) f.machine f.run.1 in
+    record { moves = Restarts ∷ []; follows = f; client = same.0; server = same.1 }
+told_event law limit capacity events.Restart (answers.Restarted was_open (Err why)) w v m s h =
+    let f = h.lost.moves m s in
+    let same = same_machine (after m (By Client Drops)) f.machine f.run.1 in
+    record { moves = By Client Drops ∷ []; follows = f; client = same.0; server = same.1 }
 told_event law limit capacity events.Leave (answers.Left (Ok done)) w v m s h =
     let f = h.moves m s in
     let same = same_machine (after m (By Client Leaves)) f.machine f.run.1 in

@@ -13,8 +13,8 @@ use Rattle.mq_end.specs.Laws.{MayHave}
 use Rattle.mq_end.proofs.Soundness.{laws as sound}
 use Rattle.mq_world.specs.declared.side.Side.{Side}
 use Rattle.mq_world.specs.declared.side.Side.TheVariants.{Client, Server}
-use Rattle.mq_world.specs.Half.{Half, Publishes}
-use Rattle.mq_world.specs.Machine.{Machine, Move, By, Opens, Run, IsAllowed, after, blank_machine}
+use Rattle.mq_world.specs.Half.{Half, Publishes, Drops}
+use Rattle.mq_world.specs.Machine.{Machine, Move, By, Opens, Restarts, Run, IsAllowed, after, blank_machine, without_keep_alive}
 use Rattle.mq_world.specs.Orders.{messages, others_from}
 use Rattle.mq_world.specs.Headline.{AtMostOnce, AtLeastOnce, ExactlyOnce, HeadlineLaw}
 use Rattle.mq_world.specs.Identifiers.{half_of, IdentifiersLaw}
@@ -36,12 +36,19 @@ blank_holds capacity window = record {
   queue_y = tt;
 }
 
+-- nothing that holds between two sides speaks of a keep-alive
+forgets_keep_alive : (capacity : ℕ) (x y : Half) → Both capacity x y → Both capacity (without_keep_alive x) y
+forgets_keep_alive capacity x y b =
+    record { to_y = b.to_y; to_x = b.to_x; own_x = b.own_x; own_y = b.own_y; kept_x = b.kept_x; kept_y = b.kept_y; queue_x = b.queue_x; queue_y = b.queue_y }
+
 pub after_keeps : (limit capacity : ℕ) (w : Machine) (move : Move) → IsAllowed limit capacity w move → Both capacity w.client w.server
     → Both capacity (after w move).client (after w move).server
 after_keeps limit capacity w (By Client action) may b = moved_keeps limit capacity Client action w.client w.server may b
 after_keeps limit capacity w (By Server action) may b =
     turned capacity _ _ (moved_keeps limit capacity Server action w.server w.client may (turned capacity w.client w.server b))
 after_keeps limit capacity w Opens may b = opened_keeps capacity w.client w.server b
+after_keeps limit capacity w Restarts may b =
+    moved_keeps limit capacity Client Drops (without_keep_alive w.client) w.server tt (forgets_keep_alive capacity w.client w.server b)
 
 pub run_keeps : (limit capacity : ℕ) (w : Machine) (moves : List Move) (v : Machine) → Run limit capacity w moves v → Both capacity w.client w.server
     → Both capacity v.client v.server

@@ -1,5 +1,5 @@
 -- The receiving windows over every run: they stay, and what comes fits one that is not less than the capacity.
-use Rattle.std.proofs.Common.{◌≡◌, ◌≢◌, ℕ, ◌+◌, ◌≤◌, Bool, true, false, not, ◌&&◌, eqb, Option, Some, None, cond, List, [], ◌∷◌, ◌++◌, map, filter}
+use Rattle.std.proofs.Common.{◌≡◌, ◌≢◌, ℕ, ◌≤◌, Bool, true, not, ◌&&◌, eqb, Option, Some, None, cond, List, [], ◌∷◌, ◌++◌, map, filter}
 use Rattle.std.proofs.Common.{length, refl, sym, ap, subst, ◌∙◌, arith}
 use Rattle.std.proofs.lemmas.Bool.{cond_both}
 use Rattle.std.proofs.lemmas.List.{length-append, length-map}
@@ -7,7 +7,6 @@ use Rattle.mq_topic.specs.declared.qos.Qos.{Qos}
 use Rattle.mq_topic.specs.declared.qos.Qos.TheVariants.{Q0, Q1, Q2}
 use Rattle.mq_packet.specs.declared.message.Message.{Message}
 use Rattle.mq_packet.specs.declared.publish.Delivery.{Delivery}
-use Rattle.mq_packet.specs.declared.connect.Connect.{Connect}
 use Rattle.mq_packet.specs.declared.connack.ConnAck.{ConnAck}
 use Rattle.mq_packet.specs.declared.connack.ConnAck.TheVariants as connacks
 use Rattle.mq_packet.specs.declared.connack.RefusalCode.TheVariants.{IdentifierRejected}
@@ -25,15 +24,15 @@ use Rattle.mq_end.specs.declared.state.State.TheVariants.{Closed, Open, Up}
 use Rattle.mq_end.specs.declared.happening.Happening.TheVariants as happens
 use Rattle.mq_end.specs.declared.reason.CloseReason.{CloseReason}
 use Rattle.mq_end.specs.declared.reason.CloseReason.TheVariants as reasons
-use Rattle.mq_end.specs.End.{End, Reply, tells, closes, comes_up, renewed, first_reason, one_by_one}
+use Rattle.mq_end.specs.End.{End, Reply, tells, closes, comes_up, first_reason, one_by_one}
 use Rattle.mq_end.specs.Both.{stores, publish_gets, flow_gets, publishes_at}
 use Rattle.mq_end.specs.Client.{connack_gets, client_open_gets, client_up_gets}
-use Rattle.mq_end.specs.Server.{connect_gets, refuses, server_open_gets, server_up_gets}
+use Rattle.mq_end.specs.Server.{refuses, server_open_gets, server_up_gets}
 use Rattle.mq_end.proofs.Windows.{client_keeps, server_keeps}
 use Rattle.mq_world.specs.declared.side.Side.{Side}
 use Rattle.mq_world.specs.declared.side.Side.TheVariants.{Client, Server}
 use Rattle.mq_world.specs.Half.{Half, Action, Publishes, Arrives, Drops, Leaves, Pings, kept, put, took, gets, arrival, moved}
-use Rattle.mq_world.specs.Machine.{Machine, Move, By, Opens, Run, after, blank_machine}
+use Rattle.mq_world.specs.Machine.{Machine, Move, By, Opens, Restarts, Run, after, blank_machine}
 use Rattle.mq_world.specs.Carries.{Reached}
 use Rattle.mq_world.proofs.Second.{spanned}
 use Rattle.mq_world.proofs.Lists.{ids}
@@ -74,6 +73,7 @@ after_windows : (m : Machine) (move : Move) → SameWindows m (after m move)
 after_windows m (By Client action) = (moved_window Client action m.client, refl)
 after_windows m (By Server action) = (refl, moved_window Server action m.server)
 after_windows m Opens = (refl, refl)
+after_windows m Restarts = (refl, refl)
 
 pub run_windows : (limit capacity : ℕ) (m : Machine) (moves : List Move) (v : Machine) → Run limit capacity m moves v → SameWindows m v
 run_windows limit capacity m [] v run = (ap (λ (u : Machine). u.client.end.window) run, ap (λ (u : Machine). u.server.end.window) run)

@@ -27,7 +27,7 @@ use Rattle.mq_world.specs.declared.side.Side.TheVariants.{Client, Server}
 use Rattle.mq_world.specs.Half.{Half, Publishes, joined, put}
 use Rattle.mq_world.specs.Machine.{Machine, Move, By, Run, after, blank_machine, first_packet}
 use Rattle.mq_world.specs.Orders.{Each}
-use Rattle.mq_world.specs.Carried.{IsCarried, PublishOnly}
+use Rattle.mq_world.specs.Carried.{IsCarried, IsEntry, PublishOnly}
 use Rattle.mq_world.specs.Carries.{fits, Reached, WiredSide, CarriesSide}
 use Rattle.mq_world.proofs.Steps.{not_refused}
 use Rattle.mq_world.proofs.Carrying.{carried}
@@ -114,6 +114,11 @@ pub reached_fits : (limit capacity : ℕ) (m : Machine) → Reached limit capaci
 reached_fits limit capacity m r =
     let h = carried (fits limit) limit capacity r.0 r.1 m (run_fits limit capacity (blank_machine r.0) r.1 m r.2) r.2 in
     (h.0.coming, h.1.coming)
+
+-- and so are the messages that its client holds
+pub reached_entries : (limit capacity : ℕ) (m : Machine) → Reached limit capacity m → Each (IsEntry (fits limit)) m.client.end.book.entries
+reached_entries limit capacity m r =
+    (carried (fits limit) limit capacity r.0 r.1 m (run_fits limit capacity (blank_machine r.0) r.1 m r.2) r.2).0.entries
 
 -- ---- the wire toward a side grows by what the other side puts out
 

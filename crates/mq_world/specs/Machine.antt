@@ -6,7 +6,7 @@ use Rattle.mq_end.specs.Client.{connects}
 use Rattle.mq_end.specs.Server.{opens}
 use Rattle.mq_world.specs.declared.side.Side.{Side}
 use Rattle.mq_world.specs.declared.side.Side.TheVariants.{Client, Server}
-use Rattle.mq_world.specs.Half.{Half, Action, blank_half, May, moved, put}
+use Rattle.mq_world.specs.Half.{Half, Action, Drops, blank_half, May, moved, put}
 
 -- The machine: both sides.
 pub record Machine : Type 0 where
@@ -22,10 +22,12 @@ blank_machine window = record { client = blank_half window; server = blank_half 
 abbrev pub first_packet : Connect
 first_packet = record { client_id = 119 ∷ []; clean_session = false; keep_alive = 60; will = None; login = None }
 
--- A move: a side does something, or a new connection is opened.
+-- A move: a side does something; or a new connection is opened; or the client's program ends, and goes on with the session that it
+-- saved (3.1.2.4, 4.1).
 pub data Move : Type 0 where
   By : Side → Action → Move
   Opens : Move
+  Restarts : Move
 
 -- the client of a new connection: the queue toward it is empty
 abbrev pub opened_client : Half → Half
@@ -35,17 +37,27 @@ opened_client h = record h { end = (connects first_packet h.end).end; coming = [
 abbrev pub opened_server : List Packet → Half → Half
 opened_server ps h = record h { end = (opens h.end).end; coming = ps }
 
--- when a move may be made; a connection may be opened at any time
+-- a side that knows no keep-alive until its next connection (3.1.2.10)
+abbrev pub without_keep_alive : Half → Half
+without_keep_alive h = record h { end = record h.end { keep_alive = 0 } }
+
+-- when a move may be made; a connection may be opened at any time, and a program may end at any time
 abbrev pub IsAllowed : ℕ → ℕ → Machine → Move → Type 0
 IsAllowed limit capacity w (By Client action) = May limit capacity Client action w.client
 IsAllowed limit capacity w (By Server action) = May limit capacity Server action w.server
 IsAllowed limit capacity w Opens = Unit {0}
+IsAllowed limit capacity w Restarts = Unit {0}
 
--- the machine after a move: what a side puts out joins the queue toward the other
+-- The machine after a move: what a side puts out joins the queue toward the other. Where the client's program ends, its connection is
+-- lost: this is a drop, but that the keep-alive is not saved.
 abbrev pub after : Machine → Move → Machine
 after w (By Client action) = record { client = (moved Client action w.client).half; server = put (moved Client action w.client).out w.server }
 after w (By Server action) = record { client = put (moved Server action w.server).out w.client; server = (moved Server action w.server).half }
 after w Opens = record { client = opened_client w.client; server = opened_server (connects first_packet w.client.end).out w.server }
+after w Restarts = record {
+  client = (moved Client Drops (without_keep_alive w.client)).half;
+  server = put (moved Client Drops (without_keep_alive w.client)).out w.server;
+}
 
 -- The machine may make these moves, one after another, from one machine to another; limit bounds the remaining length of
 -- what is published, capacity the identifiers in use at a side.

@@ -10,7 +10,7 @@ use Rattle.mq_flow.specs.Window.{Spans}
 use Rattle.mq_end.specs.declared.happening.Happening.{Happening}
 use Rattle.mq_end.specs.declared.reason.CloseReason.{CloseReason}
 use Rattle.mq_end.specs.declared.reason.CloseReason.TheVariants as reasons
-use Rattle.mq_end.specs.End.{End, Reply, blank_end, is_live, is_up, over}
+use Rattle.mq_end.specs.End.{End, Reply, blank_end, is_live, is_up, over, resumed}
 use Rattle.mq_end.specs.Both.{publishes, has_identifier}
 use Rattle.mq_end.specs.Client.{connects, leaves, leave_refusal}
 use Rattle.mq_end.specs.Server.{opens}
@@ -20,7 +20,7 @@ use Rattle.mq_end.specs.Receiving.{Receives, Shows}
 use Rattle.mq_world.specs.declared.side.Side.{Side}
 use Rattle.mq_world.specs.declared.side.Side.TheVariants.{Client, Server}
 use Rattle.mq_world.specs.Half.{HandedOn, Publishes, Drops, Leaves, Pings, none_accepted, none_handed, gets, refusal, told, freed_with, accepted_with}
-use Rattle.mq_world.specs.Machine.{Machine, Move, By, Opens, Run, blank_machine, first_packet}
+use Rattle.mq_world.specs.Machine.{Machine, Move, By, Opens, Restarts, Run, blank_machine, first_packet}
 use Rattle.mq_world.specs.Headline.{Headline}
 use Rattle.mq_world.specs.Identifiers.{half_of}
 use Rattle.mq_world.specs.Carries.{WiredSide, Wired, Carries, Reached, Comes, AreArrivals, seen}
@@ -63,6 +63,10 @@ written state = record state { output = []; room = no_bytes state.room }
 -- its bounds stay
 abbrev pub SameBounds : EndState → EndState → Type 0
 SameBounds old new = (new.limit ≡ old.limit) × (new.capacity ≡ old.capacity)
+
+-- the end of a program that ended, made anew: it goes on with the session that the end without a connection had (3.1.2.4, 4.1)
+abbrev pub made_anew : End → End
+made_anew e = resumed e.window (over e).known (over e).book (over e).received (over e).last
 
 -- bytes go on their way to a side, behind all others (4.6)
 abbrev pub with_more : List ℕ → WiredSide → WiredSide
@@ -176,6 +180,10 @@ pub record OverBytes : Type 0 where
       → c.end ≡ over w.client.state.end → SameBounds w.client.state c
       → s.end ≡ over w.server.state.end → SameBounds w.server.state s
       → Follows limit capacity m (By Client Drops ∷ By Server Drops ∷ []) (record { client = cut_off c w.client; server = cut_off s w.server })
+  -- the client's program ends, and goes on with its session
+  pub restart : (limit : Bounds) (capacity : ℕ) (w : Wired) (m : Machine) (new : EndState) → Stands limit capacity w m
+      → new.end ≡ made_anew w.client.state.end → SameBounds w.client.state new
+      → Follows limit capacity m (Restarts ∷ []) (record { client = cut_off new w.client; server = w.server })
   -- a new connection is opened
   pub opened : (limit : Bounds) (capacity : ℕ) (w : Wired) (m : Machine) (c s : EndState) → Stands limit capacity w m
       → c.end ≡ (connects first_packet w.client.state.end).end → PutsOut (packets.Connect first_packet ∷ []) [] c.output → c.held ≡ []

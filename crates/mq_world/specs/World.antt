@@ -23,7 +23,7 @@ use Rattle.mq_world.specs.declared.answer.Delivery.{Delivery}
 use Rattle.mq_world.specs.declared.answer.Opening.{Opening}
 use Rattle.mq_world.specs.declared.answer.Settling.{Settling}
 use Rattle.mq_world.specs.Half.{Publishes, Drops, Leaves, refusal, freed_with}
-use Rattle.mq_world.specs.Machine.{Machine, Move, By, Opens, blank_machine}
+use Rattle.mq_world.specs.Machine.{Machine, Move, By, Opens, Restarts, blank_machine}
 use Rattle.mq_world.specs.Carries.{Wired, IsSpanned}
 use Rattle.mq_world.specs.OverBytes.{Stands, Follows, Delivers, ReceivesAt, SameBounds, near, far, facing, with_more, hearing, handed_with, left_on}
 use Rattle.mq_world.specs.SettlesOver.{HoldsNothing}
@@ -116,6 +116,20 @@ pub record IsLost (limit : Bounds) (capacity : ℕ) (side : Side) (was_open : Bo
   pub times : SameTimes old new
   pub moves : Moves limit capacity old (By side Drops ∷ []) new
 
+-- The client's program ends, and goes on with its session as it was saved and loaded (3.1.2.4, 4.1). Its connection is lost, and the bytes
+-- on their way to it; no time goes by, and the server is as it was.
+pub record IsRestarted (limit : Bounds) (capacity : ℕ) (was_open : Bool) (old new : Wired) : Type 0 where
+  pub said : was_open ≡ is_live old.client.state.end.state
+  pub wire : new.client.wire ≡ []
+  pub server : new.server ≡ old.server
+  pub clock : new.client.clock ≡ old.client.clock
+  pub moves : Moves limit capacity old (Restarts ∷ []) new
+
+-- Memory runs out for that, and the end whose connection is lost stays.
+pub record IsNotRestarted (limit : Bounds) (capacity : ℕ) (was_open : Bool) (why : PublishRefusal) (old new : Wired) : Type 0 where
+  pub reason : why ≡ refusals.Memory
+  pub lost : IsLost limit capacity Client was_open old new
+
 -- A connection is opened (3.1), earlier ones are lost; where memory runs out for CONNECT, both ends are closed.
 pub record IsOpened (limit : Bounds) (capacity : ℕ) (o : Opening) (old new : Wired) : Type 0 where
   pub client_dropped : o.client_dropped ≡ is_live old.client.state.end.state
@@ -161,6 +175,8 @@ Does limit capacity (events.Publish side m) (answers.Published at (Ok id)) old n
 Does limit capacity (events.Publish side m) (answers.Published at (Err why)) old new = (at ≡ side) × IsRefused limit capacity side m why old new
 Does limit capacity (events.Deliver side count) (answers.Delivered d) old new = IsDelivered limit capacity side count d old new
 Does limit capacity (events.Drop side) (answers.Dropped at was_open) old new = (at ≡ side) × IsLost limit capacity side was_open old new
+Does limit capacity events.Restart (answers.Restarted was_open (Ok done)) old new = IsRestarted limit capacity was_open old new
+Does limit capacity events.Restart (answers.Restarted was_open (Err why)) old new = IsNotRestarted limit capacity was_open why old new
 Does limit capacity events.Leave (answers.Left (Ok done)) old new = IsLeft limit capacity old new
 Does limit capacity events.Leave (answers.Left (Err why)) old new = IsNotLeft why old new
 Does limit capacity events.Open (answers.Opened o) old new = IsOpened limit capacity o old new
@@ -193,7 +209,7 @@ exchanges = Server ∷ Client ∷ Server ∷ Client ∷ Server ∷ Client ∷ []
 abbrev pub IsIdle : End → Type 0
 IsIdle e = (e.book.entries ≡ []) × (e.book.released ≡ [])
 
--- Memory did not run out while a world settled: not for CONNECT, and no end closed for want of it.
+-- Memory did not run out while a world settled: not for CONNECT, and no end closed for lack of it.
 abbrev pub MetNoWant : Answer → Type 0
 MetNoWant (answers.Settled s) = (s.opening.refused ≡ false) × All (λ d. d.progress.closed ≢ Some reasons.Memory) s.deliveries
 MetNoWant answer = ⊥

@@ -51,6 +51,9 @@ pub enum Answer {
     Delivered(Delivery),
     /// The connection of a side is lost. The flag says whether it was open.
     Dropped(Side, bool),
+    /// The client was dropped, and made anew from its session as it was saved; or memory ran out for that, and the client that was
+    /// dropped stays. The flag says whether it was open.
+    Restarted(bool, Result<(), PublishRefusal>),
     /// The client left, or leaving was refused.
     Left(Result<(), PublishRefusal>),
     /// A connection was opened.
@@ -97,6 +100,7 @@ impl Clone for Answer {
             Answer::Published(side, outcome) => Answer::Published(*side, *outcome),
             Answer::Delivered(delivery) => Answer::Delivered(delivery.clone()?),
             Answer::Dropped(side, was_open) => Answer::Dropped(*side, *was_open),
+            Answer::Restarted(was_open, outcome) => Answer::Restarted(*was_open, *outcome),
             Answer::Left(outcome) => Answer::Left(*outcome),
             Answer::Opened(opening) => Answer::Opened(*opening),
             Answer::Ticked(side, outcome) => Answer::Ticked(*side, *outcome),

@@ -13,6 +13,9 @@ pub enum Event {
     Deliver(Side, usize),
     /// The connection of a side is lost, with all bytes on their way to it (4.2).
     Drop(Side),
+    /// The program of the client ends, and its connection is lost. It goes on with the session, which is saved, and loaded from what
+    /// was saved (3.1.2.4, 4.1).
+    Restart,
     /// The user of the client leaves: the client sends DISCONNECT and closes (3.14).
     Leave,
     /// The client opens a new connection (3.1); earlier ones are lost at both sides.

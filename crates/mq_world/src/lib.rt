@@ -10,6 +10,7 @@ mod event;
 mod laws;
 mod making;
 mod pair;
+mod restarting;
 mod side;
 mod trace;
 mod world;

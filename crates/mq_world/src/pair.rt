@@ -1,6 +1,6 @@
 //! Two ends that are joined by two wires of bytes, and what they do at each event.
 
-ghost use Rattle.std.specs.Prelude.{◌≡◌, ◌++◌, ◌↔◌, ◌&&◌, ℕ, true, false, not, nat_lt, take, drop, length, OnOk, OnErr, IfOk, IsTrue};
+ghost use Rattle.std.specs.Prelude.{◌≡◌, ◌++◌, ◌↔◌, ◌<◌, ◌&&◌, ℕ, true, false, not, nat_lt, take, drop, length, OnOk, OnErr, IfOk, IfSome, IsTrue};
 ghost use Rattle.mq_decode.specs.Limits.{Bounds};
 ghost use Rattle.mq_end.specs.End.{is_live};
 ghost use Rattle.mq_end.specs.Publishing.{connect_of};
@@ -14,6 +14,7 @@ ghost use Rattle.mq_world.specs.World.{Does, IsDelivered, IsOpened, IsSettled, I
 use crate::answer::{Answer, Delivery, Opening, Settling};
 use crate::event::Event;
 use crate::laws::{over_bytes, settles_over_bytes};
+use crate::restarting::{Terms, client_config, made_anew};
 use crate::side::Side;
 use crate::trace::Trace;
 use mq_end::{ByteQueue, ClientEnd, CloseReason, Items, PublishRefusal, ServerEnd, State};
@@ -186,6 +187,35 @@ impl Pair {
         }
     }
 
+    // Ends the program of the client, which goes on with its session as it was saved. If memory runs out for that, the end that
+    // was dropped stays.
+    fn restart(&mut self, terms: Terms) -> Answer
+        requires config { connect_of self.old.client.config false ≡ first_packet }
+        requires stands { (m : Machine) × Stands terms.limits terms.capacity (wired_of self.old) m }
+        requires window { self.old.client.link.end.window ≡ terms.window }
+        requires some { IfSome terms.window (λ window. 0 < window) }
+        ensures does { (limit : Bounds) (capacity : ℕ) (m : Machine) → Stands limit capacity (wired_of self.old) m
+            → Does limit capacity Event.Restart result (wired_of self.old) (wired_of self.new) }
+        ensures config { connect_of self.new.client.config false ≡ first_packet }
+        ensures answers { self.new.trace.answers ≡ self.old.trace.answers }
+    {
+        over_bytes();
+        let _most = terms.limits.max_packet();
+        let was_open = is_live(self.client.state());
+        self.client.dropped();
+        self.to_client.clear();
+        let Ok(config) = client_config(self.alloc, terms) else {
+            return Answer::Restarted(was_open, Err(PublishRefusal::Memory));
+        };
+        let Ok(client) = made_anew(self.alloc, &self.client, config) else {
+            return Answer::Restarted(was_open, Err(PublishRefusal::Memory));
+        };
+        self.client = client;
+        // As after each event, no room is kept for bytes that wait to be written.
+        let _none = self.client.take_all_output();
+        Answer::Restarted(was_open, Ok(()))
+    }
+
     // Lets the client leave. Fails if memory runs out for the wire.
     fn leave(&mut self) -> Result<Answer, AllocError>
         ensures does { IfOk result (λ answer. (limit : Bounds) (capacity : ℕ) (m : Machine) → Stands limit capacity (wired_of self.old) m
@@ -266,11 +296,14 @@ impl Pair {
     }
 
     /// Makes an event happen. Fails if memory runs out for the wires, an account or a copy.
-    pub(crate) fn make(&mut self, event: &Event) -> Result<Answer, AllocError>
+    pub(crate) fn make(&mut self, event: &Event, terms: Terms) -> Result<Answer, AllocError>
         requires config { connect_of self.old.client.config false ≡ first_packet }
+        requires stands { (m : Machine) × Stands terms.limits terms.capacity (wired_of self.old) m }
+        requires window { self.old.client.link.end.window ≡ terms.window }
+        requires some { IfSome terms.window (λ window. 0 < window) }
         ensures does { IfOk result (λ answer. (limit : Bounds) (capacity : ℕ) (m : Machine) → Stands limit capacity (wired_of self.old) m
             → Does limit capacity event.now answer (wired_of self.old) (wired_of self.new)) }
-        ensures config { self.new.client.config ≡ self.old.client.config }
+        ensures config { connect_of self.new.client.config false ≡ first_packet }
         ensures answers { self.new.trace.answers ≡ self.old.trace.answers }
     {
         match event {
@@ -278,6 +311,7 @@ impl Pair {
             Event::Publish(Side::Server, message) => self.publish_at_server(message),
             Event::Deliver(side, count) => Ok(Answer::Delivered(self.deliver(*side, *count)?)),
             Event::Drop(side) => Ok(self.lose(*side)),
+            Event::Restart => Ok(self.restart(terms)),
             Event::Leave => self.leave(),
             Event::Open => Ok(Answer::Opened(self.open())),
             Event::Tick(Side::Client, more) => self.tick_client(*more),

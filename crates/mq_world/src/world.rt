@@ -15,12 +15,12 @@ use crate::answer::Answer;
 use crate::event::Event;
 use crate::laws::over_bytes;
 use crate::pair::Pair;
+use crate::restarting::{Terms, client_config};
 use crate::side::Side;
 use crate::trace::Trace;
 use mq_decode::Limits;
-use mq_end::{ByteQueue, ClientConfig, ClientEnd, ServerConfig, ServerEnd};
+use mq_end::{ByteQueue, ClientEnd, ServerConfig, ServerEnd};
 use mq_flow::Session;
-use mq_wire::Text;
 use std::alloc::{AllocError, Global};
 use std::marker::Model;
 
@@ -39,7 +39,7 @@ pub struct World {
 }
 
 impl Model for World {
-    ghost use Rattle.std.specs.Prelude.{◌≡◌, false};
+    ghost use Rattle.std.specs.Prelude.{◌≡◌, ◌<◌, false, IfSome};
     ghost use Rattle.std.specs.Coded.{codes, coded_ℕ};
     ghost use Rattle.std.specs.FinSet as set;
     ghost use Rattle.std.specs.Ordering.{nat_cmp};
@@ -63,7 +63,7 @@ impl Model for World {
       answers = w.pair.trace.answers.items;
     } };
 
-    ghost invariant = { λ w. (connect_of w.pair.client.config false ≡ first_packet)
+    ghost invariant = { λ w. (connect_of w.pair.client.config false ≡ first_packet) × IfSome w.window (λ window. 0 < window)
         × (w.failed ≡ false → (m : Machine) × Stands w.limits w.capacity (wired_of w.pair) m × HaveWindow w.window (wired_of w.pair)) };
 }
 
@@ -120,18 +120,12 @@ impl World {
     {
         over_bytes();
         let _least = limits.max_packet();
-        let Ok(id) = Text::new(alloc, "w") else {
-            return Err(AllocError);
-        };
-        let config = ClientConfig {
-            id,
-            keep_alive: 60,
-            will: None,
-            login: None,
+        let terms = Terms {
             limits,
             capacity,
             window,
         };
+        let config = client_config(alloc, terms)?;
         let server = ServerConfig {
             limits,
             capacity,
@@ -182,7 +176,12 @@ impl World {
             return Err(AllocError);
         }
         self.failed = true;
-        let answer = self.pair.make(event)?;
+        let terms = Terms {
+            limits: self.limits,
+            capacity: self.capacity,
+            window: self.window,
+        };
+        let answer = self.pair.make(event, terms)?;
         self.pair.trace.answers.push(answer.clone()?)?;
         self.failed = false;
         Ok(answer)

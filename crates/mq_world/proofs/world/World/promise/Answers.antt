@@ -9,13 +9,13 @@ use Rattle.mq_world.proofs.world.World.promise.Goals as goal
 
 pub returns-clause-carries : goal.returns-clause-carries
 returns-clause-carries c = subst (λ (w : WorldState). w.failed ≡ false → (m : Machine) × Stands w.limit w.capacity w.wired m) c.self.view_is
-    (λ (e : c.self.inside.failed ≡ false). let s = c.self.invariant.1 e in (s.0, s.1))
+    (λ (e : c.self.inside.failed ≡ false). let s = c.self.invariant.2 e in (s.0, s.1))
 
 pub returns-clause-window : goal.returns-clause-window
 returns-clause-window c =
-    subst (λ (w : WorldState). w.failed ≡ false → HaveWindow w.window w.wired) c.self.view_is (λ (e : c.self.inside.failed ≡ false). (c.self.invariant.1 e).2)
+    subst (λ (w : WorldState). w.failed ≡ false → HaveWindow w.window w.wired) c.self.view_is (λ (e : c.self.inside.failed ≡ false). (c.self.invariant.2 e).2)
 
 pub returns-clause-headline : goal.returns-clause-headline
 returns-clause-headline c = subst (λ (w : WorldState). w.failed ≡ false → Headline (seen w.wired)) c.self.view_is
-    (λ (e : c.self.inside.failed ≡ false). let s = c.self.invariant.1 e in
+    (λ (e : c.self.inside.failed ≡ false). let s = c.self.invariant.2 e in
     c.over_bytes.ensures.headline c.self.inside.limits c.self.inside.capacity (wired_of c.self.inside.pair) s.0 s.1)

@@ -7,5 +7,5 @@ use Rattle.mq_world.proofs.world.World.trace.Goals as goal
 
 pub returns-clause-headline : goal.returns-clause-headline
 returns-clause-headline c = subst (λ (w : WorldState). w.failed ≡ false → Headline (seen w.wired)) c.self.view_is
-    (λ (e : c.self.inside.failed ≡ false). let s = c.self.invariant.1 e in
+    (λ (e : c.self.inside.failed ≡ false). let s = c.self.invariant.2 e in
     c.over_bytes.ensures.headline c.self.inside.limits c.self.inside.capacity (wired_of c.self.inside.pair) s.0 s.1)
