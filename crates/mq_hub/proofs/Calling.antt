@@ -102,7 +102,7 @@ module _ (spelling : SpellingLaws) (call : Call) (p : Packet) (size : ℕ) (old 
         kept = λ ms more room. (kept ms more (with_size ms more room)).1;
       }
 
--- ---- for want of memory
+-- ---- for lack of memory
 
 pub same_ends : (key : ℕ) (ts : List Tenant) → changed_at (λ s. s) key ts ≡ ts
 same_ends key [] = refl

@@ -1,21 +1,21 @@
 -- The table of connections: a name's connection, and the connection on which a client is up.
-use Rattle.std.proofs.Common.{◌≡◌, ℕ, ◌+◌, Bool, true, false, ◌&&◌, ◌||◌, cond, List, [], ◌∷◌, ◌++◌, Option, Some, None, refl, sym, ap, ap₂, subst, ◌∙◌, arith, zero-add, eqb, eqb-true, eq-eqb, true≢false}
+use Rattle.std.proofs.Common.{◌≡◌, ◌≤◌, ℕ, ◌+◌, Bool, true, false, ◌&&◌, ◌||◌, cond, List, [], ◌∷◌, map, ◌++◌, Option, Some, None, refl, sym, ap, ap₂, subst, ◌∙◌, arith, zero-add, eqb, eqb-true, eq-eqb, true≢false}
 use Rattle.std.proofs.lemmas.Bool.{cond-true, cond-false, and_parts, or_parts}
 use Rattle.std.proofs.lemmas.List.Sums.{sum_by-cons}
 use Rattle.std.proofs.lemmas.Map.{keys-set_value}
 use Rattle.std.specs.List.{AllByRecursion, IsDistinct, count_by}
 use Rattle.std.specs.Map.{keys_of, lookup, remove_entry, set_value}
 use Rattle.std.specs.Option.{is_some}
-use Rattle.mq_decode.specs.Limits.{Bounds}
 use Rattle.mq_route.specs.declared.conn.Conn.{Conn}
 use Rattle.mq_route.specs.declared.stage.Stage.{Stage}
 use Rattle.mq_route.specs.declared.stage.Stage.TheVariants.{Fresh, UpFor, Shut}
 use Rattle.mq_route.specs.Arrives.{heard}
 use Rattle.mq_route.specs.Hub.{Line, is_for, is_line, key_on, knows, stage_of, up_on, with_line, without_line}
 use Rattle.mq_route.specs.Routed.{same_conn}
+use Rattle.mq_route.specs.Step.{is_late_on}
 use Rattle.mq_route.specs.Welcome.{up_count}
 use Rattle.mq_hub.specs.declared.connection.Connection.{Connection}
-use Rattle.mq_hub.specs.Lines.{lines_of, line_of, ups_of, up_in, has_key, AreUpOnce, IsServed, IsReading, AreLines}
+use Rattle.mq_hub.specs.Lines.{lines_of, line_of, ups_of, up_in, has_key, AreUpOnce, Service, service, IsServed, IsServedBy, IsTimely, AreLines}
 
 abbrev pub Entry : Type 0
 Entry = Conn × Connection
@@ -29,9 +29,9 @@ IsNamed e = e.0 ≡ e.1.conn
 abbrev pub AreNamed : List Entry → Type 0
 AreNamed es = AllByRecursion IsNamed es
 
-pub are_named : (limits : Bounds) (es : List Entry) → AllByRecursion (IsServed limits) es → AreNamed es
-are_named limits [] served = tt
-are_named limits (e ∷ es) served = (served.0.0, are_named limits es served.1)
+pub are_named : (by : Service) (es : List Entry) → AllByRecursion (IsServed by) es → AreNamed es
+are_named by [] served = tt
+are_named by (e ∷ es) served = (served.0.0, are_named by es served.1)
 
 -- ---- names
 
@@ -151,14 +151,14 @@ taken_out k (e ∷ es) named distinct = go (same_conn k e.0) refl (taken_out k e
 
 -- ---- each stands under its name, with its decoder
 
-pub served_set : (limits : Bounds) (k : Conn) (es : List Entry) (c w : Connection) → AllByRecursion (IsServed limits) es → lookup (same_conn k) es ≡ Some c
-    → w.conn ≡ c.conn → IsReading limits w → AllByRecursion (IsServed limits) (set_value (same_conn k) es w)
-served_set limits k [] c w served there same reading = tt
-served_set limits k (e ∷ es) c w served there same reading = go (same_conn k e.0) refl (served_set limits k es c w served.1)
+pub served_set : (by : Service) (k : Conn) (es : List Entry) (c w : Connection) → AllByRecursion (IsServed by) es → lookup (same_conn k) es ≡ Some c
+    → w.conn ≡ c.conn → IsServedBy by w → AllByRecursion (IsServed by) (set_value (same_conn k) es w)
+served_set by k [] c w served there same reading = tt
+served_set by k (e ∷ es) c w served there same reading = go (same_conn k e.0) refl (served_set by k es c w served.1)
   where
     go : (b : Bool) → same_conn k e.0 ≡ b
-        → (lookup (same_conn k) es ≡ Some c → w.conn ≡ c.conn → IsReading limits w → AllByRecursion (IsServed limits) (set_value (same_conn k) es w))
-        → AllByRecursion (IsServed limits) (set_value (same_conn k) (e ∷ es) w)
+        → (lookup (same_conn k) es ≡ Some c → w.conn ≡ c.conn → IsServedBy by w → AllByRecursion (IsServed by) (set_value (same_conn k) es w))
+        → AllByRecursion (IsServed by) (set_value (same_conn k) (e ∷ es) w)
     go true here rest =
         let v : Some e.1 ≡ Some c = sym (cond-true (same_conn k e.0) (Some e.1) (lookup (same_conn k) es) here) ∙ there in
         let is : e.1 ≡ c = cc in
@@ -166,28 +166,57 @@ served_set limits k (e ∷ es) c w served there same reading = go (same_conn k e
     go false here rest =
         rw here (served.0, rest (sym (cond-false (same_conn k e.0) (Some e.1) (lookup (same_conn k) es) here) ∙ there) same reading)
 
-pub served_at : (limits : Bounds) (k : Conn) (es : List Entry) (c : Connection) → AllByRecursion (IsServed limits) es → lookup (same_conn k) es ≡ Some c → IsReading limits c
-served_at limits k [] c served there = absurd cc
-served_at limits k (e ∷ es) c served there = go (same_conn k e.0) refl (served_at limits k es c served.1)
+pub served_at : (by : Service) (k : Conn) (es : List Entry) (c : Connection) → AllByRecursion (IsServed by) es → lookup (same_conn k) es ≡ Some c → IsServedBy by c
+served_at by k [] c served there = absurd cc
+served_at by k (e ∷ es) c served there = go (same_conn k e.0) refl (served_at by k es c served.1)
   where
-    go : (b : Bool) → same_conn k e.0 ≡ b → (lookup (same_conn k) es ≡ Some c → IsReading limits c) → IsReading limits c
+    go : (b : Bool) → same_conn k e.0 ≡ b → (lookup (same_conn k) es ≡ Some c → IsServedBy by c) → IsServedBy by c
     go true here rest =
         let v : Some e.1 ≡ Some c = sym (cond-true (same_conn k e.0) (Some e.1) (lookup (same_conn k) es) here) ∙ there in
         let is : e.1 ≡ c = cc in
-        subst (λ (x : Connection). IsReading limits x) is served.0.1
+        subst (λ (x : Connection). IsServedBy by x) is served.0.1
     go false here rest = rest (sym (cond-false (same_conn k e.0) (Some e.1) (lookup (same_conn k) es) here) ∙ there)
 
-pub served_last : (limits : Bounds) (e : Entry) (es : List Entry) → AllByRecursion (IsServed limits) es → IsServed limits e → AllByRecursion (IsServed limits) (es ++ e ∷ [])
-served_last limits e [] served own = (own, tt)
-served_last limits e (d ∷ es) served own = (served.0, served_last limits e es served.1 own)
+pub served_last : (by : Service) (e : Entry) (es : List Entry) → AllByRecursion (IsServed by) es → IsServed by e → AllByRecursion (IsServed by) (es ++ e ∷ [])
+served_last by e [] served own = (own, tt)
+served_last by e (d ∷ es) served own = (served.0, served_last by e es served.1 own)
 
-pub served_without : (limits : Bounds) (k : Conn) (es : List Entry) → AllByRecursion (IsServed limits) es → AllByRecursion (IsServed limits) (remove_entry (same_conn k) es)
-served_without limits k [] served = tt
-served_without limits k (e ∷ es) served = go (same_conn k e.0) (served_without limits k es served.1)
+pub served_without : (by : Service) (k : Conn) (es : List Entry) → AllByRecursion (IsServed by) es → AllByRecursion (IsServed by) (remove_entry (same_conn k) es)
+served_without by k [] served = tt
+served_without by k (e ∷ es) served = go (same_conn k e.0) (served_without by k es served.1)
   where
-    go : (b : Bool) → AllByRecursion (IsServed limits) (remove_entry (same_conn k) es) → AllByRecursion (IsServed limits) (cond b es (e ∷ remove_entry (same_conn k) es))
+    go : (b : Bool) → AllByRecursion (IsServed by) (remove_entry (same_conn k) es) → AllByRecursion (IsServed by) (cond b es (e ∷ remove_entry (same_conn k) es))
     go true rest = served.1
     go false rest = (served.0, rest)
+
+-- ---- none is late before its time
+
+pub still_timely : (due : ℕ) (s t : Stage) → s ≡ t → IsTimely due t → IsTimely due s
+still_timely due s t same timely = subst (IsTimely due) (sym same) timely
+
+pub timely_sooner : (due sooner : ℕ) (s : Stage) → sooner ≤ due → IsTimely due s → IsTimely sooner s
+timely_sooner due sooner s le timely = λ now within. timely now (omega (arith, within, le))
+
+served_sooner : (by : Service) (due : ℕ) (es : List Entry) → due ≤ by.due → AllByRecursion (IsServed by) es → AllByRecursion (IsServed (service by.bounds due)) es
+served_sooner by due [] le served = tt
+served_sooner by due (e ∷ es) le served =
+    ((served.0.0, (served.0.1.0, timely_sooner by.due due e.1.stage le served.0.1.1)), served_sooner by due es le served.1)
+
+served_until : (by : Service) (due : ℕ) (es : List Entry) → AllByRecursion (λ (e : Entry). IsTimely due e.1.stage) es → AllByRecursion (IsServed by) es
+    → AllByRecursion (IsServed (service by.bounds due)) es
+served_until by due [] timely served = tt
+served_until by due (e ∷ es) timely served = ((served.0.0, (served.0.1.0, timely.0)), served_until by due es timely.1 served.1)
+
+-- of the entries and of their connections
+pub timely_values : (due : ℕ) (es : List Entry) → AllByRecursion (λ (c : Connection). IsTimely due c.stage) (map (λ (e : Entry). e.1) es)
+    → AllByRecursion (λ (e : Entry). IsTimely due e.1.stage) es
+timely_values due [] all = tt
+timely_values due (e ∷ es) all = (all.0, timely_values due es all.1)
+
+-- up to `due` none is late
+pub in_time : (by : Service) (now : ℕ) (es : List Entry) → now ≤ by.due → AllByRecursion (IsServed by) es → AllByRecursion (λ (x : Line). is_late_on now x.stage ≡ false) (lines_of es)
+in_time by now [] within served = tt
+in_time by now (e ∷ es) within served = (served.0.1.1 now within, in_time by now es within served.1)
 
 -- ---- the connection on which a client is up
 
@@ -528,14 +557,14 @@ distinct_set : (k : Conn) (es : List Entry) (w : Connection) → IsDistinct same
 distinct_set k es w distinct = subst (λ (ks : List Conn). IsDistinct same_conn ks) (sym (keys-set_value (same_conn k) es w)) distinct
 
 -- a connection is up for what it was up for
-pub kept_same : (limits : Bounds) (k : Conn) (es : List Entry) (c w : Connection) (find : ℕ → Option Conn) (count : ℕ) → AreLines limits es find count
-    → lookup (same_conn k) es ≡ Some c → w.conn ≡ c.conn → IsReading limits w → key_on w.stage ≡ key_on c.stage → AreLines limits (set_value (same_conn k) es w) find count
-kept_same limits k es c w find count kept there same reading still =
-    let named = are_named limits es kept.served in
+pub kept_same : (by : Service) (k : Conn) (es : List Entry) (c w : Connection) (find : ℕ → Option Conn) (count : ℕ) → AreLines by es find count
+    → lookup (same_conn k) es ≡ Some c → w.conn ≡ c.conn → IsServedBy by w → key_on w.stage ≡ key_on c.stage → AreLines by (set_value (same_conn k) es w) find count
+kept_same by k es c w find count kept there same reading still =
+    let named = are_named by es kept.served in
     let ups : ups_of (set_value (same_conn k) es w) ≡ ups_of es =
     ups_set k es c w named there same ∙ ap (λ (o : Option ℕ). first_up k o (ups_of es)) (still ∙ sym (key_there k es c named there)) ∙ first_same k (ups_of es) in
     record {
-      served = served_set limits k es c w kept.served there same reading;
+      served = served_set by k es c w kept.served there same reading;
       distinct = distinct_set k es w kept.distinct;
       singly = subst (λ (us : List Up). AreUpOnce us) (sym ups) kept.singly;
       found = λ key. kept.found key ∙ ap (up_in key) (sym ups);
@@ -543,17 +572,17 @@ kept_same limits k es c w find count kept there same reading still =
     }
 
 -- it comes up
-pub kept_rise : (limits : Bounds) (k : Conn) (key : ℕ) (es : List Entry) (c w : Connection) (find after : ℕ → Option Conn) (count more : ℕ) → AreLines limits es find count
-    → lookup (same_conn k) es ≡ Some c → w.conn ≡ c.conn → IsReading limits w → key_on c.stage ≡ None → key_on w.stage ≡ Some key → up_in key (ups_of es) ≡ None
-    → ((n : ℕ) → after n ≡ cond (eqb key n) (Some k) (find n)) → more ≡ count + 1 → AreLines limits (set_value (same_conn k) es w) after more
-kept_rise limits k key es c w find after count more kept there same reading fresh up none says one =
-    let named = are_named limits es kept.served in
+pub kept_rise : (by : Service) (k : Conn) (key : ℕ) (es : List Entry) (c w : Connection) (find after : ℕ → Option Conn) (count more : ℕ) → AreLines by es find count
+    → lookup (same_conn k) es ≡ Some c → w.conn ≡ c.conn → IsServedBy by w → key_on c.stage ≡ None → key_on w.stage ≡ Some key → up_in key (ups_of es) ≡ None
+    → ((n : ℕ) → after n ≡ cond (eqb key n) (Some k) (find n)) → more ≡ count + 1 → AreLines by (set_value (same_conn k) es w) after more
+kept_rise by k key es c w find after count more kept there same reading fresh up none says one =
+    let named = are_named by es kept.served in
     let us = ups_of es in
     let stand = stands_there k es c named there in
     let free = key_there k es c named there ∙ fresh in
     let ups : ups_of (set_value (same_conn k) es w) ≡ first_up k (Some key) us = ups_set k es c w named there same ∙ ap (λ (o : Option ℕ). first_up k o us) up in
     record {
-      served = served_set limits k es c w kept.served there same reading;
+      served = served_set by k es c w kept.served there same reading;
       distinct = distinct_set k es w kept.distinct;
       singly = subst (λ (vs : List Up). AreUpOnce vs) (sym ups) (singly_rise k key us stand free none kept.singly);
       found = λ n. says n ∙ ap (λ (o : Option Conn). cond (eqb key n) (Some k) o) (kept.found n) ∙ sym (up_rise k key n us stand free none) ∙ ap (up_in n) (sym ups);
@@ -561,11 +590,11 @@ kept_rise limits k key es c w find after count more kept there same reading fres
     }
 
 -- it goes down
-pub kept_shut : (limits : Bounds) (k : Conn) (key : ℕ) (es : List Entry) (c w : Connection) (find after : ℕ → Option Conn) (count less : ℕ) → AreLines limits es find count
-    → lookup (same_conn k) es ≡ Some c → w.conn ≡ c.conn → IsReading limits w → key_on c.stage ≡ Some key → key_on w.stage ≡ None
-    → ((n : ℕ) → after n ≡ cond (eqb key n) None (find n)) → less + 1 ≡ count → AreLines limits (set_value (same_conn k) es w) after less
-kept_shut limits k key es c w find after count less kept there same reading up down says one =
-    let named = are_named limits es kept.served in
+pub kept_shut : (by : Service) (k : Conn) (key : ℕ) (es : List Entry) (c w : Connection) (find after : ℕ → Option Conn) (count less : ℕ) → AreLines by es find count
+    → lookup (same_conn k) es ≡ Some c → w.conn ≡ c.conn → IsServedBy by w → key_on c.stage ≡ Some key → key_on w.stage ≡ None
+    → ((n : ℕ) → after n ≡ cond (eqb key n) None (find n)) → less + 1 ≡ count → AreLines by (set_value (same_conn k) es w) after less
+kept_shut by k key es c w find after count less kept there same reading up down says one =
+    let named = are_named by es kept.served in
     let us = ups_of es in
     let own = key_there k es c named there ∙ up in
     let ups : ups_of (set_value (same_conn k) es w) ≡ first_up k None us = ups_set k es c w named there same ∙ ap (λ (o : Option ℕ). first_up k o us) down in
@@ -573,27 +602,49 @@ kept_shut limits k key es c w find after count less kept there same reading up d
     let all = kept.counted in
     let last : less ≡ ups_count (first_up k None us) = omega (arith, fewer, all, one) in
     record {
-      served = served_set limits k es c w kept.served there same reading;
+      served = served_set by k es c w kept.served there same reading;
       distinct = distinct_set k es w kept.distinct;
       singly = subst (λ (vs : List Up). AreUpOnce vs) (sym ups) (singly_shut k key us own kept.singly);
       found = λ n. says n ∙ ap (λ (o : Option Conn). cond (eqb key n) None o) (kept.found n) ∙ sym (up_shut k key n us own kept.singly) ∙ ap (up_in n) (sym ups);
       counted = last ∙ ap ups_count (sym ups);
     }
 
+-- an earlier moment will do too
+pub kept_sooner : (by : Service) (due : ℕ) (es : List Entry) (find : ℕ → Option Conn) (count : ℕ) → due ≤ by.due → AreLines by es find count
+    → AreLines (service by.bounds due) es find count
+kept_sooner by due es find count le kept = record {
+  served = served_sooner by due es le kept.served;
+  distinct = kept.distinct;
+  singly = kept.singly;
+  found = kept.found;
+  counted = kept.counted;
+}
+
+-- and so does any up to which none is late
+pub kept_until : (by : Service) (due : ℕ) (es : List Entry) (find : ℕ → Option Conn) (count : ℕ) → AllByRecursion (λ (e : Entry). IsTimely due e.1.stage) es
+    → AreLines by es find count → AreLines (service by.bounds due) es find count
+kept_until by due es find count timely kept = record {
+  served = served_until by due es timely kept.served;
+  distinct = kept.distinct;
+  singly = kept.singly;
+  found = kept.found;
+  counted = kept.counted;
+}
+
 -- one is found that is up
-pub is_found : (limits : Bounds) (k : Conn) (key : ℕ) (es : List Entry) (c : Connection) (find : ℕ → Option Conn) (count : ℕ) → AreLines limits es find count
+pub is_found : (by : Service) (k : Conn) (key : ℕ) (es : List Entry) (c : Connection) (find : ℕ → Option Conn) (count : ℕ) → AreLines by es find count
     → lookup (same_conn k) es ≡ Some c → key_on c.stage ≡ Some key → is_some (find key) ≡ true
-is_found limits k key es c find count kept there up =
-    ap is_some (kept.found key) ∙ up_there k key (ups_of es) (key_there k es c (are_named limits es kept.served) there ∙ up)
+is_found by k key es c find count kept there up =
+    ap is_some (kept.found key) ∙ up_there k key (ups_of es) (key_there k es c (are_named by es kept.served) there ∙ up)
 
 -- one is opened
-pub kept_last : (limits : Bounds) (c : Connection) (es : List Entry) (find : ℕ → Option Conn) (count : ℕ) → AreLines limits es find count
-    → c.stage ≡ Fresh → IsReading limits c → IsDistinct same_conn (keys_of (es ++ (c.conn, c) ∷ [])) → AreLines limits (es ++ (c.conn, c) ∷ []) find count
-kept_last limits c es find count kept fresh reading distinct =
+pub kept_last : (by : Service) (c : Connection) (es : List Entry) (find : ℕ → Option Conn) (count : ℕ) → AreLines by es find count
+    → c.stage ≡ Fresh → IsServedBy by c → IsDistinct same_conn (keys_of (es ++ (c.conn, c) ∷ [])) → AreLines by (es ++ (c.conn, c) ∷ []) find count
+kept_last by c es find count kept fresh reading distinct =
     let us = ups_of es in
     let ups : ups_of (es ++ (c.conn, c) ∷ []) ≡ us ++ (c.conn, None) ∷ [] = ups_last (c.conn, c) es ∙ ap (λ (s : Stage). us ++ (c.conn, key_on s) ∷ []) fresh in
     record {
-      served = served_last limits (c.conn, c) es kept.served (refl, reading);
+      served = served_last by (c.conn, c) es kept.served (refl, reading);
       distinct = distinct;
       singly = subst (λ (vs : List Up). AreUpOnce vs) (sym ups) (singly_last c.conn us kept.singly);
       found = λ key. kept.found key ∙ sym (up_last key c.conn us) ∙ ap (up_in key) (sym ups);
@@ -614,13 +665,13 @@ key_is k (e ∷ es) named = go (is_line k (line_of e.1)) refl (key_is k es named
         ∙ rest ∙ ap key_on (sym (cond-false (is_line k (line_of e.1)) e.1.stage (stage_of k (lines_of es)) same))
 
 -- one that isn't up is over
-pub kept_without : (limits : Bounds) (k : Conn) (es : List Entry) (find : ℕ → Option Conn) (count : ℕ) → AreLines limits es find count
-    → key_on (stage_of k (lines_of es)) ≡ None → IsDistinct same_conn (keys_of (remove_entry (same_conn k) es)) → AreLines limits (remove_entry (same_conn k) es) find count
-kept_without limits k es find count kept down distinct =
-    let named = are_named limits es kept.served in
+pub kept_without : (by : Service) (k : Conn) (es : List Entry) (find : ℕ → Option Conn) (count : ℕ) → AreLines by es find count
+    → key_on (stage_of k (lines_of es)) ≡ None → IsDistinct same_conn (keys_of (remove_entry (same_conn k) es)) → AreLines by (remove_entry (same_conn k) es) find count
+kept_without by k es find count kept down distinct =
+    let named = are_named by es kept.served in
     let none = key_is k es named ∙ down in
     record {
-      served = served_without limits k es kept.served;
+      served = served_without by k es kept.served;
       distinct = distinct;
       singly = singly_removed k es named none kept.singly;
       found = λ key. kept.found key ∙ sym (ups_removed k es named none key);
@@ -628,9 +679,9 @@ kept_without limits k es find count kept down distinct =
     }
 
 -- the map of those that are up says the same
-pub kept_found : (limits : Bounds) (es : List Entry) (find after : ℕ → Option Conn) (count again : ℕ) → AreLines limits es find count
-    → ((n : ℕ) → after n ≡ find n) → again ≡ count → AreLines limits es after again
-kept_found limits es find after count again kept says same = record {
+pub kept_found : (by : Service) (es : List Entry) (find after : ℕ → Option Conn) (count again : ℕ) → AreLines by es find count
+    → ((n : ℕ) → after n ≡ find n) → again ≡ count → AreLines by es after again
+kept_found by es find after count again kept says same = record {
   served = kept.served;
   distinct = kept.distinct;
   singly = kept.singly;

@@ -1,4 +1,4 @@
--- A whole packet comes on a connection: its moment is noted first, also where the connection is closed for want of memory.
+-- A whole packet comes on a connection: its moment is noted first, also where the connection is closed for lack of memory.
 use Rattle.std.proofs.Common.{◌≡◌, ℕ, Result, IfSome, Ok, Err, OnOk, Bool, true, false, cond, List, [], ◌∷◌, Option, Some, None, refl, sym, ap, ap₂, ◌∙◌}
 use Rattle.std.proofs.lemmas.Bool.{cond-true, cond-false}
 use Rattle.mq_packet.specs.declared.packet.Packet.{Packet}

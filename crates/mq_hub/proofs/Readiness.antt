@@ -288,7 +288,7 @@ none_large s (m ∷ ms) all = ap₂ (λ (a b : Bool). a || b) (go (ltb s.limit.m
     go true e = let l = ltb-true s.limit.most (publish_size m) e in let fits = all.0.fits in absurd (omega arith)
     go false e = e
 
--- nothing stands against messages that may go but want of identifiers
+-- nothing stands against messages that may go but lack of identifiers
 full_only : (s : EndState) (ms : List Message) → AllByRecursion (λ m. MayGo m s) ms
     → ready_refusal s.limit.most s.capacity ms s.end ≡ cond (ltb (s.capacity - length (uses s.end.book)) (count ms)) (Some refusals.Full) None
 full_only s ms all = rw (none_unknown s ms all, none_down s ms all, none_large s ms all) refl

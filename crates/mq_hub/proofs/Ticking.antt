@@ -207,6 +207,26 @@ module _ (now : ℕ) where
   all_passed zero (x ∷ xs) past all = absurd (omega (arith, past))
   all_passed (suc i) (x ∷ xs) past all = (all.0, all_passed i xs (omega (arith, past)) all.1)
 
+-- ---- none is late
+
+all_in_time : (now : ℕ) (xs : List Line) (w : Work) → AreInTime now xs → Ticks now xs w w
+all_in_time now [] w all = Done w
+all_in_time now (x ∷ xs) w all = InTime x xs w w all.0 (all_in_time now xs w all.1)
+
+-- then nothing is done
+pub none_late : (now : ℕ) (h : HubState) → AreInTime now h.lines → TicksTo now h h []
+none_late now h all = record {
+  work = begin h;
+  ticks = all_in_time now h.lines (begin h) all;
+  hub = refl;
+  did = refl;
+}
+
+-- wherever the bytes lie that wait
+pub in_time_seen : (now : ℕ) (ts : List Tenant) (xs : List Line) → AreInTime now xs → AreInTime now (all_seen ts xs)
+in_time_seen now ts [] all = tt
+in_time_seen now ts (x ∷ xs) all = (all.0, in_time_seen now ts xs all.1)
+
 -- ---- names stand once
 
 module _ (now : ℕ) (x : Line) (k : Conn) where

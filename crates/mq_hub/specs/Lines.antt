@@ -1,11 +1,13 @@
 -- The table of connections (4.2).
-use Rattle.std.specs.Prelude.{◌≡◌, ℕ, ◌==◌, List, [], ◌∷◌, map, Bool, false, Option, Some, None, is_some, if◌then◌else◌}
+use Rattle.std.specs.Prelude.{◌≡◌, ◌≤◌, ℕ, ◌==◌, List, [], ◌∷◌, map, Bool, false, Option, Some, None, is_some, if◌then◌else◌}
 use Rattle.std.specs.List.{AllByRecursion, IsDistinct, count_by}
 use Rattle.std.specs.Map.{keys_of}
 use Rattle.mq_decode.specs.Limits.{Bounds}
 use Rattle.mq_route.specs.declared.conn.Conn.{Conn}
+use Rattle.mq_route.specs.declared.stage.Stage.{Stage}
 use Rattle.mq_route.specs.Hub.{Line, key_on}
 use Rattle.mq_route.specs.Routed.{same_conn}
+use Rattle.mq_route.specs.Step.{is_late_on}
 use Rattle.mq_hub.specs.declared.connection.Connection.{Connection}
 
 -- The connections in the order in which they were opened; the bounds within which packets are read on each; how many more may be opened without
@@ -27,9 +29,25 @@ lines_of es = map (λ e. line_of e.1) es
 abbrev pub IsReading : Bounds → Connection → Type 0
 IsReading limits c = (c.decoder.limit ≡ limits) × (c.decoder.failed ≡ None)
 
--- a connection stands under its name
-abbrev pub IsServed : Bounds → Conn × Connection → Type 0
-IsServed limits e = (e.0 ≡ e.1.conn) × IsReading limits e.1
+-- How connections are served: packets are read within these bounds, and up to the moment `due` no connection is late.
+pub record Service : Type 0 where
+  pub bounds : Bounds
+  pub due : ℕ
+
+abbrev pub service : Bounds → ℕ → Service
+service bounds due = record { bounds = bounds; due = due }
+
+-- it is late at no moment up to this one (3.1.2.10)
+abbrev pub IsTimely : ℕ → Stage → Type 0
+IsTimely due s = (now : ℕ) → now ≤ due → is_late_on now s ≡ false
+
+-- a connection is served so
+abbrev pub IsServedBy : Service → Connection → Type 0
+IsServedBy by c = IsReading by.bounds c × IsTimely by.due c.stage
+
+-- and stands under its name
+abbrev pub IsServed : Service → Conn × Connection → Type 0
+IsServed by e = (e.0 ≡ e.1.conn) × IsServedBy by e.1
 
 -- each connection, with the key of the session for which it is up
 abbrev pub ups_of : List (Conn × Connection) → List (Conn × Option ℕ)
@@ -51,8 +69,8 @@ AreUpOnce (u ∷ us) = ((key : ℕ) → u.1 ≡ Some key → up_in key us ≡ No
 
 -- What the table keeps true: each connection stands under its name, once; no two are up for one client, `find` gives that connection, and
 -- `count` is how many are up.
-pub record AreLines (limits : Bounds) (es : List (Conn × Connection)) (find : ℕ → Option Conn) (count : ℕ) : Type 0 where
-  pub served : AllByRecursion (IsServed limits) es
+pub record AreLines (by : Service) (es : List (Conn × Connection)) (find : ℕ → Option Conn) (count : ℕ) : Type 0 where
+  pub served : AllByRecursion (IsServed by) es
   pub distinct : IsDistinct same_conn (keys_of es)
   pub singly : AreUpOnce (ups_of es)
   pub found : (key : ℕ) → find key ≡ up_in key (ups_of es)

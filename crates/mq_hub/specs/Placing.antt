@@ -44,7 +44,7 @@ AreApart (c ∷ cs) = (is_among c.0 cs ≡ false) × AreApart cs
 
 -- ---- room for them
 
--- A message may go to a session: nothing stands against it but want of identifiers and of memory. A session is known (3.1.2.4), one
+-- A message may go to a session: nothing stands against it but lack of identifiers and of memory. A session is known (3.1.2.4), one
 -- with quality of service 0 goes only to a client that is up (4.3.1), and its PUBLISH is within the limit (2.2.3).
 pub record MayGo (m : Message) (s : EndState) : Type 0 where
   pub known : s.end.known ≡ true
@@ -81,7 +81,7 @@ pub record IsReadyAt (key : ℕ) (ms : List Message) (more : ℕ) (ts : List Ten
 abbrev pub AreReady : ℕ → List Tenant → List (ℕ × Message) → Type 0
 AreReady more ts copies = AllByRecursion (λ c. IsReadyAt c.0 (c.1 ∷ []) more ts) copies
 
--- What comes of making an end ready for messages and for so many bytes more: the first refusal that stands, or want of memory, or
+-- What comes of making an end ready for messages and for so many bytes more: the first refusal that stands, or lack of memory, or
 -- the room; nothing else of the end changes, and no room that was made before is lost.
 pub record Readies (ms : List Message) (more : ℕ) (answer : Result ⊤ PublishRefusal) (old new : EndState) : Type 0 where
   pub refused : IfSome (ready_refusal old.limit.most old.capacity ms old.end) (λ why. answer ≡ Err why)

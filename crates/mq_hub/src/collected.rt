@@ -51,7 +51,7 @@ impl<S: FilterStore> HubOver<S> {
         }
     }
 
-    /// What waits to be written on a connection that is known is taken. Errs where memory runs out, and then nothing changes.
+    /// What waits to be written on a connection that is known is taken. Fails if memory runs out, and then nothing changes.
     pub(crate) fn collected(&mut self, conn: Conn) -> Result<HubReply, HubRefusal>
         requires { knows conn self.old.lines ≡ true }
         ensures step { IfOk result (λ reply. HubStep self.old (HubEvent.Collect conn) reply self.new) }

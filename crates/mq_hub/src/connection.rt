@@ -1,9 +1,10 @@
 //! A connection at a broker (4.2).
 
-ghost use Rattle.std.specs.Prelude.{◌≡◌, [], None, IfOk};
+ghost use Rattle.std.specs.Prelude.{◌≡◌, ◌≤◌, ℕ, [], None, false, IfOk};
 ghost use Rattle.mq_route.specs.Arrives.{heard};
 ghost use Rattle.mq_route.specs.Hub.{key_on};
-ghost use Rattle.mq_hub.specs.Lines.{line_of, IsReading};
+ghost use Rattle.mq_hub.specs.Lines.{line_of, IsReading, IsTimely};
+ghost use Rattle.mq_end.specs.KeepAlive.{is_late};
 
 use mq_decode::{Decoder, Limits};
 use mq_end::ByteQueue;
@@ -40,8 +41,18 @@ impl Model for BoxedConnection {
     ghost view = { λ b. b.connection.value };
 }
 
+// The last moment at which a connection is not late that was heard at this one (3.1.2.10).
+fn last_in_time(moment: u64, keep_alive: u16) -> u64
+    ensures { (now : ℕ) → now ≤ result → is_late moment keep_alive now ≡ false }
+{
+    if keep_alive == 0 {
+        return u64::MAX;
+    }
+    moment.saturating_add(1_500 * u64::from(keep_alive))
+}
+
 impl BoxedConnection {
-    /// A connection that is opened (4.2): nothing came, and nothing waits. Errs where memory runs out.
+    /// A connection that is opened (4.2): nothing came, and nothing waits. Fails if memory runs out.
     pub(crate) fn new(
         alloc: Global,
         conn: Conn,
@@ -74,6 +85,16 @@ impl BoxedConnection {
         match &self.connection.stage {
             Stage::UpFor(key, _, _) => Some(*key),
             Stage::Fresh | Stage::Shut => None,
+        }
+    }
+
+    /// The last moment at which it is not late (3.1.2.10).
+    pub(crate) fn last_in_time(&self) -> u64
+        ensures { IsTimely result self.now.stage }
+    {
+        match &self.connection.stage {
+            Stage::UpFor(_, terms, moment) => last_in_time(*moment, terms.keep_alive),
+            Stage::Fresh | Stage::Shut => u64::MAX,
         }
     }
 

@@ -38,7 +38,7 @@ impl Doings {
         }
     }
 
-    /// Makes room for so many more acts. Errs where memory runs out. The acts stay.
+    /// Makes room for so many more acts. Fails if memory runs out. The acts stay.
     pub(crate) fn reserve(&mut self, count: usize) -> Result<(), AllocError>
         ensures ok { OnOk result (count ≤ self.new.room) }
         ensures same { self.new.acts ≡ self.old.acts }

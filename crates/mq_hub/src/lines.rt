@@ -1,15 +1,17 @@
 //! The connections of a broker (4.2).
 
-ghost use Rattle.std.specs.Prelude.{◌≡◌, ◌+◌, ◌≤◌, ◌<◌, ℕ, [], ◌∷◌, ◌++◌, length, slice_get, Some, None, nat_eq, true, false, is_some, if◌then◌else◌, OnOk, IfSome};
+ghost use Rattle.std.specs.Prelude.{◌≡◌, ◌+◌, ◌≤◌, ◌<◌, ℕ, [], ◌∷◌, ◌++◌, length, slice_get, Some, None, nat_eq, true, false, is_some, if◌then◌else◌, OnOk, IfSome, IsTrue};
 ghost use Rattle.std.specs.HashMap.{get, hash_map_len, spare};
-ghost use Rattle.std.specs.List.{IsDistinct};
+ghost use Rattle.std.specs.List.{AllByRecursion, IsDistinct};
 ghost use Rattle.std.specs.Map.{keys_of, remove_entry};
+ghost use Rattle.indexmap.specs.IndexMap.{values};
 ghost use Rattle.std.specs.Option.{option_copied, option_map};
 ghost use Rattle.mq_route.specs.Arrives.{heard};
 ghost use Rattle.mq_route.specs.Hub.{held_on, key_on, knows, stage_of, up_on, waiting_on, with_line, without_line};
 ghost use Rattle.mq_route.specs.Routed.{same_conn};
 ghost use Rattle.mq_route.specs.Welcome.{up_count};
-ghost use Rattle.mq_hub.specs.Lines.{line_of, IsReading};
+ghost use Rattle.mq_hub.specs.Lines.{line_of, IsReading, IsTimely};
+ghost use Rattle.mq_hub.specs.Ticking.{AreInTime};
 
 use crate::connection::{BoxedConnection, Connection};
 use indexmap::IndexMap;
@@ -34,18 +36,20 @@ pub(crate) struct Lines {
     limits: Limits,
     by_conn: ByConn,
     ups: Ups,
+    /// Up to this moment none is late.
+    due: u64,
 }
 
 impl Model for Lines {
     ghost use Rattle.std.specs.Prelude.{nat_eq};
     ghost use Rattle.std.specs.HashMap.{get, hash_map_len, spare};
-    ghost use Rattle.mq_hub.specs.Lines.{AreLines, LineTable, lines_of};
+    ghost use Rattle.mq_hub.specs.Lines.{AreLines, LineTable, lines_of, service};
 
     ghost Value = { LineTable };
 
     ghost view = { λ t. record { lines = lines_of t.by_conn.entries; limits = t.limits; room = spare t.by_conn; rises = spare t.ups } };
 
-    ghost invariant = { λ t. AreLines t.limits t.by_conn.entries (get nat_eq t.ups) (hash_map_len t.ups) };
+    ghost invariant = { λ t. AreLines (service t.limits t.due) t.by_conn.entries (get nat_eq t.ups) (hash_map_len t.ups) };
 }
 
 // Writes down on which connection a client is up, where there is memory for one more.
@@ -78,6 +82,25 @@ fn take_out(by_conn: &mut ByConn, conn: Conn)
     let _ = by_conn.shift_remove(&conn);
 }
 
+// The sooner one of two moments.
+fn sooner(one: u64, other: u64) -> u64
+    ensures own { result ≤ one }
+    ensures other { result ≤ other }
+{
+    one.min(other)
+}
+
+// A moment up to which no connection is late, the last one that there is.
+fn soonest(by_conn: &ByConn) -> u64
+    ensures { AllByRecursion (λ c. IsTimely result c.stage) (values by_conn.now) }
+{
+    let mut due = u64::MAX;
+    for boxed in by_conn.values() {
+        due = sooner(due, boxed.last_in_time());
+    }
+    due
+}
+
 impl Lines {
     /// No connections; packets are read within these limits on each. It takes no memory.
     pub(crate) fn new(alloc: Global, limits: Limits) -> Lines
@@ -88,10 +111,11 @@ impl Lines {
             limits,
             by_conn: IndexMap::new(alloc),
             ups: HashMap::new(alloc),
+            due: u64::MAX,
         }
     }
 
-    /// Makes room for so many more to be opened, and to come up. Errs where memory runs out. The connections stay.
+    /// Makes room for so many more to be opened, and to come up. Fails if memory runs out. The connections stay.
     pub(crate) fn reserve(&mut self, count: usize) -> Result<(), AllocError>
         ensures ok { OnOk result ((count ≤ self.new.room) × (count ≤ self.new.rises)) }
         ensures same { self.new.lines ≡ self.old.lines }
@@ -226,6 +250,7 @@ impl Lines {
             return;
         };
         boxed.rise(key, terms, now);
+        self.due = sooner(self.due, boxed.last_in_time());
         note_up(&mut self.ups, key, conn);
     }
 
@@ -240,6 +265,7 @@ impl Lines {
             return;
         };
         boxed.heard(now);
+        self.due = sooner(self.due, boxed.last_in_time());
     }
 
     /// Exchanges the decoder of a connection for another. It takes no memory.
@@ -272,6 +298,20 @@ impl Lines {
             return;
         };
         boxed.swap_waiting(waiting);
+    }
+
+    /// Whether it is known without a look at any that none is late at this moment (3.1.2.10).
+    pub(crate) fn are_in_time(&self, now: u64) -> bool
+        ensures { IsTrue result → AreInTime now self.now.lines }
+    {
+        now <= self.due
+    }
+
+    /// Looks at each for the moment up to which none is late.
+    pub(crate) fn look_ahead(&mut self)
+        ensures { self.new ≡ self.old }
+    {
+        self.due = soonest(&self.by_conn);
     }
 
     /// A connection that isn't up is over, and not known any more (4.2). It takes no memory.

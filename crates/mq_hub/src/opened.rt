@@ -10,7 +10,7 @@ use mq_route::{Conn, HubEvent, HubRefusal, HubReply};
 use mq_topic::FilterStore;
 
 impl<S: FilterStore> HubOver<S> {
-    /// A connection is opened, whose name isn't known (4.2): its CONNECT is waited for. Errs where memory runs out, and then nothing
+    /// A connection is opened, whose name isn't known (4.2): its CONNECT is waited for. Fails if memory runs out, and then nothing
     /// changes.
     pub(crate) fn opened(&mut self, conn: Conn) -> Result<HubReply, HubRefusal>
         requires { knows conn self.old.lines ≡ false }

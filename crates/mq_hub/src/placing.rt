@@ -47,7 +47,7 @@ fn copies_found(
 }
 
 /// The copies of a message that are due, one for each client with a subscription that matches, by ascending key (3.3.5). They
-/// share the message's bytes. Errs where memory runs out.
+/// share the message's bytes. Fails if memory runs out.
 pub(crate) fn copies_of<S: FilterStore>(
     alloc: Global,
     store: &S,
@@ -68,7 +68,7 @@ pub(crate) fn copies_of<S: FilterStore>(
 }
 
 /// The retained messages that new subscriptions of one client are sent, request by request (3.3.1.3, 3.8.4). They share the
-/// bytes of those that are retained. Errs where memory runs out.
+/// bytes of those that are retained. Fails if memory runs out.
 pub(crate) fn retained_copies(
     alloc: Global,
     retained: &Retained,
@@ -85,7 +85,7 @@ pub(crate) fn retained_copies(
 }
 
 /// Makes the session of a client ready for messages that may go to it, and for so many bytes more that are put out beside their
-/// PUBLISHes. `false` where fewer identifiers are free than the messages need (2.3.1). Errs where memory runs out.
+/// PUBLISHes. `false` where fewer identifiers are free than the messages need (2.3.1). Fails if memory runs out.
 pub(crate) fn make_room_for(
     sessions: &mut Sessions,
     key: ClientKey,
@@ -108,7 +108,7 @@ pub(crate) fn make_room_for(
 }
 
 /// Makes the session of each copy ready for it, and for so many bytes more. `false` where one has no identifier free for its
-/// copy (2.3.1). Errs where memory runs out.
+/// copy (2.3.1). Fails if memory runs out.
 pub(crate) fn make_room(
     sessions: &mut Sessions,
     copies: &[Due],
@@ -178,7 +178,7 @@ pub(crate) fn place_all(sessions: &mut Sessions, copies: Vec<Due>)
     publish_all(sessions, copies);
 }
 
-/// The acts that say that copies are placed. They share the messages' bytes. Errs where memory runs out.
+/// The acts that say that copies are placed. They share the messages' bytes. Fails if memory runs out.
 pub(crate) fn placed_acts(alloc: Global, copies: &[Due]) -> Result<Vec<Act>, AllocError>
     ensures { IfOk result (λ acts. acts.items ≡ placed_acts copies.now) }
 {

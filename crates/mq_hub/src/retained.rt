@@ -84,7 +84,7 @@ impl Retained {
         }
     }
 
-    /// Makes room for so many more messages. Errs where memory runs out. The messages stay.
+    /// Makes room for so many more messages. Fails if memory runs out. The messages stay.
     pub(crate) fn reserve(&mut self, count: usize) -> Result<(), AllocError>
         ensures ok { OnOk result (count ≤ self.new.room) }
         ensures same { self.new.messages ≡ self.old.messages }
@@ -113,7 +113,7 @@ impl Retained {
     }
 
     /// What a new subscription is sent (3.3.1.3, 3.8.4): copies of the messages that its filter matches, in their order,
-    /// with RETAIN. Errs where memory runs out.
+    /// with RETAIN. Fails if memory runs out.
     pub(crate) fn matching(
         &self,
         alloc: Global,

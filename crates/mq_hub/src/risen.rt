@@ -63,7 +63,7 @@ impl<S: FilterStore> Tables<S> {
         self.sessions.ready_to_rise(key, connect, messages)
     }
 
-    /// A copy of the bytes that wait in the end of the session of a key. Errs where memory runs out.
+    /// A copy of the bytes that wait in the end of the session of a key. Fails if memory runs out.
     pub(crate) fn copy_output(&self, alloc: Global, key: ClientKey) -> Result<ByteQueue, AllocError>
         ensures { IfOk result (λ b. IfSome (tenant_of key self.now.sessions.tenants) (λ t. b ≡ t.end.output)) }
     {

@@ -39,7 +39,7 @@ impl<S: FilterStore> HubOver<S> {
 }
 
 /// Events come one after another to a new broker over a store without rows: the broker to which they came, the reply to each, and what was
-/// taken from each client and placed for it. The first that is refused ends it, and so does want of memory.
+/// taken from each client and placed for it. The first that is refused ends it, and so does lack of memory.
 pub fn hub_run_over<S: FilterStore + Drop>(
     alloc: Global,
     config: HubConfig,

@@ -153,7 +153,7 @@ impl Sessions {
         self.tenants.len()
     }
 
-    /// Makes room for so many more. Errs where memory runs out. The sessions stay.
+    /// Makes room for so many more. Fails if memory runs out. The sessions stay.
     pub(crate) fn reserve(&mut self, count: usize) -> Result<(), AllocError>
         ensures ok { OnOk result (count ≤ self.new.room) }
         ensures same { self.new.tenants ≡ self.old.tenants }

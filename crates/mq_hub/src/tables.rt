@@ -58,7 +58,7 @@ impl<S: FilterStore> Tables<S> {
         }
     }
 
-    /// A connection is opened, whose name isn't known (4.2). Errs where memory runs out, and then the tables stay, but for their room.
+    /// A connection is opened, whose name isn't known (4.2). Fails if memory runs out, and then the tables stay, but for their room.
     pub(crate) fn open(&mut self, alloc: Global, conn: Conn) -> Result<(), AllocError>
         requires { knows conn self.old.lines.lines ≡ false }
         ensures ok { OnOk result (self.new.lines.lines

@@ -1,6 +1,6 @@
 //! A moment comes to a broker (3.1.2.10).
 
-ghost use Rattle.std.specs.Prelude.{◌≡◌, ◌+◌, [], drop, false, length, max, slice_get, Some, IfOk, IfErr, IfSome, OnErr, OnOk};
+ghost use Rattle.std.specs.Prelude.{◌≡◌, ◌+◌, [], drop, false, length, max, slice_get, Some, IfOk, IfErr, IfSome, IsTrue, OnErr, OnOk};
 ghost use Rattle.mq_end.specs.KeepAlive.{is_late};
 ghost use Rattle.mq_route.specs.Hub.{knows};
 ghost use Rattle.mq_route.specs.Step.{HubStep, told};
@@ -65,7 +65,7 @@ impl<S: FilterStore> HubOver<S> {
     }
 
     // The connections that are late at this moment are closed one after another, in the order in which they were opened, and then none is
-    // late. Where memory runs out for one it errs, and it and those behind it are left to the next time.
+    // late. Where memory runs out for one it fails, and it and those behind it are left to the next time.
     fn close_late(&mut self, now: u64, doings: &mut Doings) -> Result<(), AllocError>
         requires none { doings.old.acts ≡ [] }
         ensures ticks { TicksTo now self.old self.new doings.new.acts }
@@ -81,6 +81,32 @@ impl<S: FilterStore> HubOver<S> {
         Ok(())
     }
 
+    // Whether it is known without a look at any connection that none is late at this moment.
+    fn are_in_time(&self, now: u64) -> bool
+        ensures { IsTrue result → AreInTime now self.now.lines }
+    {
+        self.tables.lines.are_in_time(now)
+    }
+
+    // Looks at each connection for the moment up to which none is late.
+    fn look_ahead(&mut self)
+        ensures { self.new ≡ self.old }
+    {
+        self.tables.lines.look_ahead();
+    }
+
+    // Closes what is late at this moment, where something may be.
+    fn look_round(&mut self, now: u64, doings: &mut Doings)
+        requires none { doings.old.acts ≡ [] }
+        ensures ticks { TicksTo now self.old self.new doings.new.acts }
+    {
+        if self.are_in_time(now) {
+            return;
+        }
+        let _ = self.close_late(now, doings);
+        self.look_ahead();
+    }
+
     /// It is this moment, in milliseconds: connections from whose clients nothing came for one and a half times their keep-alive are
     /// closed (3.1.2.10). Where memory runs out for the acts of one, it and those behind it are left to the next time: it is never refused.
     pub(crate) fn ticked(&mut self, now: u64) -> Result<HubReply, HubRefusal>
@@ -90,7 +116,7 @@ impl<S: FilterStore> HubOver<S> {
     {
         let mut doings = Doings::new(self.alloc);
         let clock = self.tell(now);
-        let _ = self.close_late(clock, &mut doings);
+        self.look_round(clock, &mut doings);
         Ok(doings.into_reply(true))
     }
 }

@@ -4,18 +4,18 @@ use Rattle.std.specs.List.{IsDistinct}
 use Rattle.std.specs.Map.{keys_of}
 use Rattle.mq_route.specs.Routed.{same_conn}
 use Rattle.mq_route.specs.Hub.{key_on, stage_of, without_line}
-use Rattle.mq_hub.specs.Lines.{LineTable, lines_of, AreLines}
+use Rattle.mq_hub.specs.Lines.{service, LineTable, lines_of, AreLines}
 use Rattle.mq_hub.proofs.Connections.{Entry, are_named, kept_without, taken_out}
 use Rattle.mq_hub.proofs.lines.Lines.remove.Goals as goal
 
 pub invariant_of-self : goal.invariant_of-self
 invariant_of-self c =
-    let limits = c.self.inside.limits in
+    let by = service c.self.inside.limits c.self.inside.due in
     let es = c.self.inside.by_conn.entries in
     let ups = c.self.inside.ups in
     let left = c.take_out.ensures.entries in
-    subst (λ (rs : List Entry). AreLines limits rs (get eqb ups) (hash_map_len ups)) (sym left)
-    (kept_without limits c.args.conn es (get eqb ups) (hash_map_len ups) c.self.invariant
+    subst (λ (rs : List Entry). AreLines by rs (get eqb ups) (hash_map_len ups)) (sym left)
+    (kept_without by c.args.conn es (get eqb ups) (hash_map_len ups) c.self.invariant
     (ap (λ (v : LineTable). key_on (stage_of c.args.conn v.lines)) c.self.view_is ∙ c.requires)
     (subst (λ (rs : List Entry). IsDistinct same_conn (keys_of rs)) left c.take_out.ensures.distinct))
 
@@ -23,5 +23,5 @@ pub returns-clause-lines : goal.returns-clause-lines
 returns-clause-lines c =
     let es = c.self.inside.by_conn.entries in
     ap lines_of c.take_out.ensures.entries
-    ∙ taken_out c.args.conn es (are_named c.self.inside.limits es c.self.invariant.served) c.self.invariant.distinct
+    ∙ taken_out c.args.conn es (are_named (service c.self.inside.limits c.self.inside.due) es c.self.invariant.served) c.self.invariant.distinct
     ∙ ap (λ (v : LineTable). without_line c.args.conn v.lines) c.self.view_is

@@ -1,6 +1,6 @@
 use Rattle.std.proofs.Common.{◌∙◌, refl, sym, ap}
 use Rattle.mq_route.specs.Hub.{Line, knows, waiting_on}
-use Rattle.mq_hub.specs.Lines.{LineTable}
+use Rattle.mq_hub.specs.Lines.{service, LineTable}
 use Rattle.mq_hub.specs.declared.connection.Connection.{Connection}
 use Rattle.mq_hub.proofs.Connections.{are_named, found_by, has, lacks}
 use Rattle.mq_hub.proofs.lines.Lines.waiting.Goals as goal
@@ -8,18 +8,18 @@ use Rattle.mq_hub.proofs.lines.Lines.waiting.Goals as goal
 pub returns-in-Some-clause-known : goal.returns-in-Some-clause-known
 returns-in-Some-clause-known c =
     let es = c.self.inside.by_conn.entries in
-    sym (has c.args.conn es c.in-Some.boxed.now (are_named c.self.inside.limits es c.self.invariant.served) c.in-Some.ensures.value)
+    sym (has c.args.conn es c.in-Some.boxed.now (are_named (service c.self.inside.limits c.self.inside.due) es c.self.invariant.served) c.in-Some.ensures.value)
     ∙ ap (λ (v : LineTable). knows c.args.conn v.lines) c.self.view_is
 
 pub returns-in-Some-clause-waiting : goal.returns-in-Some-clause-waiting
 returns-in-Some-clause-waiting c =
     let es = c.self.inside.by_conn.entries in
     ap (λ (x : Connection). x.waiting) c.connection.ensures
-    ∙ sym (found_by (λ (x : Line). x.waiting) c.args.conn (waiting_on c.args.conn) (λ x xs. refl) es c.in-Some.boxed.now (are_named c.self.inside.limits es c.self.invariant.served) (sym c.in-Some.ensures.value))
+    ∙ sym (found_by (λ (x : Line). x.waiting) c.args.conn (waiting_on c.args.conn) (λ x xs. refl) es c.in-Some.boxed.now (are_named (service c.self.inside.limits c.self.inside.due) es c.self.invariant.served) (sym c.in-Some.ensures.value))
     ∙ ap (λ (v : LineTable). waiting_on c.args.conn v.lines) c.self.view_is
 
 pub returns-in-None-clause-known : goal.returns-in-None-clause-known
 returns-in-None-clause-known c =
     let es = c.self.inside.by_conn.entries in
-    sym (lacks c.args.conn es (are_named c.self.inside.limits es c.self.invariant.served) c.in-None.ensures.value)
+    sym (lacks c.args.conn es (are_named (service c.self.inside.limits c.self.inside.due) es c.self.invariant.served) c.in-None.ensures.value)
     ∙ ap (λ (v : LineTable). knows c.args.conn v.lines) c.self.view_is

@@ -1,0 +1,13 @@
+pub mod Lengths
+pub mod Packets
+pub mod Rises
+pub mod Faults
+pub mod Stored
+pub mod Walk
+pub mod Endings
+pub mod Again
+pub mod Answers
+pub mod Broker
+pub mod Ends
+pub mod Coming
+pub mod Sharp
