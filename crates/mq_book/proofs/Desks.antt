@@ -1,10 +1,14 @@
 -- What the steps at a desk come to.
-use Rattle.std.proofs.Common.{◌≡◌, ℕ, ◌+◌, List, [], ◌∷◌, ◌++◌, length, refl, sym, ap, subst, ◌∙◌, arith, append_assoc, append-nil}
+use Rattle.std.proofs.Common.{◌≡◌, ℕ, ◌+◌, ◌≤◌, Result, Ok, Err, OnOk, OnErr, List, [], ◌∷◌, ◌++◌, length, refl, sym, ap, subst, ◌∙◌, arith, append_assoc, append-nil}
 use Rattle.std.specs.List.{AllByRecursion}
 use Rattle.mq_route.specs.declared.event.HubEvent.{HubEvent}
 use Rattle.mq_route.specs.declared.reply.HubReply.{HubReply}
 use Rattle.mq_book.specs.declared.entry.Receipt.{Receipt}
-use Rattle.mq_book.specs.Works.{Made, Chain, Ran, DeskState, Files, Worked}
+use Rattle.mq_book.specs.Pages.{Worker}
+use Rattle.mq_book.specs.Serving.{Breaks, Closes, Line}
+use Rattle.mq_book.specs.Works.{Made, Chain, Ran, Counts, DeskState, Files, Worked}
+use Rattle.mq_book.proofs.Serving.{serves_ran}
+use Rattle.mq_route.specs.declared.conn.Conn.{Conn}
 
 -- receipts that name one worker name the other, who is the same
 named : (a b : ℕ) (rs : List Receipt) → a ≡ b → AllByRecursion (λ r. r.worker ≡ a) rs → AllByRecursion (λ r. r.worker ≡ b) rs
@@ -54,3 +58,51 @@ worked_of n d w ran = let all = chained d ran.made w ran.chain in record {
 pub files : (d : DeskState) (e : HubEvent) (x : Receipt) (w : DeskState) → x.worker ≡ d.worker
     → w ≡ record { worker = d.worker; count = d.count + 1; receipts = d.receipts ++ x ∷ [] } → Files d e x.reply w
 files d e x w own is = record { receipt = x; own = own; said = refl; after = is }
+
+worked_closed : (conn : Conn) (d w : DeskState) (a b : Line) → Closes Files 2 2 conn d w a b → Worked 2 d w
+worked_closed conn d w a b p = worked_of 2 d w (serves_ran Files 2 conn d w a b [] p.0 p.2)
+
+worked_broken : (conn : Conn) (d w : DeskState) (a b : Line) → Breaks Files 0 2 conn d w a b → Worked 0 d w
+worked_broken conn d w a b p = worked_of 0 d w (serves_ran Files 0 conn d w a b p.0 p.1 p.3)
+
+pub worked_ok : {T E : Type 0} (r : Result T E) (conn : Conn) (d w : DeskState) (a b : Line) → OnOk r (Closes Files 2 2 conn d w a b) → OnOk r (Worked 2 d w)
+worked_ok (Ok x) conn d w a b p = worked_closed conn d w a b p
+worked_ok (Err e) conn d w a b p = tt
+
+pub worked_any : {T E : Type 0} (r : Result T E) (conn : Conn) (d w : DeskState) (a b : Line) → OnOk r (Closes Files 2 2 conn d w a b)
+    → OnErr r (Breaks Files 0 2 conn d w a b) → Worked 0 d w
+worked_any (Ok x) conn d w a b p q =
+    let all = worked_closed conn d w a b p in record {
+      more = all.more;
+      added = all.added;
+      own = all.own;
+      same = all.same;
+      counted = all.counted;
+      enough = omega arith;
+    }
+worked_any (Err e) conn d w a b p q = worked_broken conn d w a b q
+
+-- ---- steps of which no receipt is kept
+
+-- a worker of the same number counted so many more
+pub record Counted (least : ℕ) (w v : Worker) : Type 0 where
+  pub same : v.worker ≡ w.worker
+  pub more : w.count + least ≤ v.count
+
+counts_all : (w : Worker) (ms : List Made) (v : Worker) → Chain Counts w ms v → Counted (length ms) w v
+counts_all w [] v is = record { same = ap (λ (x : Worker). x.worker) is; more = omega (arith, ap (λ (x : Worker). x.count) is) }
+counts_all w (m ∷ ms) v c =
+    let on = counts_all c.0 ms v c.2 in record {
+      same = on.same ∙ ap (λ (x : Worker). x.worker) c.1;
+      more = omega (arith, on.more, ap (λ (x : Worker). x.count) c.1);
+    }
+
+counts_ran : (n : ℕ) (w v : Worker) → Ran Counts n w v → Counted n w v
+counts_ran n w v ran =
+    let all = counts_all w ran.made v ran.chain in record { same = all.same; more = omega (arith, all.more, ran.enough) }
+
+pub counts_closed : (conn : Conn) (w v : Worker) (a b : Line) → Closes Counts 2 2 conn w v a b → Counted 2 w v
+counts_closed conn w v a b p = counts_ran 2 w v (serves_ran Counts 2 conn w v a b [] p.0 p.2)
+
+pub counts_broken : (conn : Conn) (w v : Worker) (a b : Line) → Breaks Counts 0 2 conn w v a b → Counted 0 w v
+counts_broken conn w v a b p = counts_ran 0 w v (serves_ran Counts 0 conn w v a b p.0 p.1 p.3)

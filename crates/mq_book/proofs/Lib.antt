@@ -1,3 +1,4 @@
 pub mod Desks
 pub mod Replaying
+pub mod Serving
 pub mod Working

@@ -3,3 +3,4 @@ pub mod Pages
 pub mod Receipts
 pub mod Replays
 pub mod Works
+pub mod Serving

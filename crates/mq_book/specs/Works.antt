@@ -4,6 +4,7 @@ use Rattle.std.specs.List.{AllByRecursion}
 use Rattle.mq_route.specs.declared.event.HubEvent.{HubEvent}
 use Rattle.mq_route.specs.declared.reply.HubReply.{HubReply}
 use Rattle.mq_book.specs.declared.entry.Receipt.{Receipt}
+use Rattle.mq_book.specs.Pages.{Worker}
 
 -- a step that was made: the event, and what came of it
 pub record Made : Type 0 where
@@ -33,6 +34,10 @@ pub record Files (d : DeskState) (event : HubEvent) (reply : HubReply) (d2 : Des
   pub own : receipt.worker ≡ d.worker
   pub said : receipt.reply ≡ reply
   pub after : d2 ≡ record { worker = d.worker; count = d.count + 1; receipts = d.receipts ++ receipt ∷ [] }
+
+-- it made a step, and keeps no receipt
+abbrev pub Counts : Worker → HubEvent → HubReply → Worker → Type 0
+Counts w event reply w2 = w2 ≡ record { worker = w.worker; count = w.count + 1 }
 
 -- It made so many steps at least: it keeps a receipt for each, of its own number, and counted them.
 pub record Worked (least : ℕ) (d d2 : DeskState) : Type 0 where

@@ -19,15 +19,14 @@ pub fn audit(journal: &Journal, receipts: &[Receipt]) -> bool
         if receipt.place < from || !stands(entries, first, receipt) {
             return false;
         }
-        match receipt.place.checked_add(1) {
-            Some(next) => from = next,
-            None => {
-                return match more {
-                    [] => true,
-                    [next, ..] => receipt.place < next.place,
-                };
-            }
-        }
+        let Some(next) = receipt.place.checked_add(1) else {
+            // No place comes after it.
+            return match more {
+                [] => true,
+                [later, ..] => receipt.place < later.place,
+            };
+        };
+        from = next;
         rest = more;
     }
     true

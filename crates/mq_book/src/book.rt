@@ -1,6 +1,6 @@
 //! A broker with the journal of its steps.
 
-ghost use Rattle.std.specs.Prelude.{◌≡◌, ◌+◌, ◌<◌, ◌∷◌, [], ◌++◌, length, None, IfOk, IfErr, OnOk, OnErr};
+ghost use Rattle.std.specs.Prelude.{◌≡◌, ◌+◌, ◌<◌, ◌∷◌, [], ◌++◌, length, None, Ok, Err, IfOk, IfErr, OnOk, OnErr};
 ghost use Rattle.mq_route.specs.Step.{HubStep, event_refusal};
 ghost use Rattle.mq_book.specs.Pages.{RefusedAs};
 ghost use Rattle.mq_book.specs.Replays.{Replay};
@@ -12,13 +12,23 @@ use crate::reply::{refusal, step_twice};
 use crate::share::Share;
 use crate::stop::OnFull;
 use mq_hub::Hub;
-use mq_route::HubEvent;
+use mq_route::{HubEvent, HubReply};
 use std::alloc::Global;
 use std::marker::Model;
 use std::mem;
 use std::snapshot::Snapshot;
 use std::sync::ledger::Ledger;
 use std::sync::{Wait, ledger};
+
+/// How much a journal that is handed out when it is full gets before it is handed out: its bytes, with `ACT` for each act and `ENTRY` for each
+/// entry.
+const MOST_WEIGHT: usize = 16_777_216;
+
+/// What an act counts.
+const ACT: usize = 128;
+
+/// What an entry counts.
+const ENTRY: usize = 256;
 
 /// A broker with the journal of its steps since its base: by these entries the base, which contracts alone see, became the broker.
 #[derive(Drop)]
@@ -29,6 +39,7 @@ pub struct Book<L: Ledger> {
     entries: Vec<Entry>,
     hub: Hub,
     limit: usize,
+    weight: usize,
     steps: ledger::Book<L>,
 }
 
@@ -63,6 +74,7 @@ impl<L: Ledger> Book<L> {
             entries: Vec::new(alloc),
             hub,
             limit,
+            weight: 0,
             steps,
         }
     }
@@ -111,12 +123,14 @@ impl<L: Ledger> Book<L> {
             Ok((reply, again)) => {
                 let place = self.first + count;
                 let number = worker.worker;
+                let weight = weight_of(&event, reply.as_reply());
                 let entry = Entry {
                     worker: number,
                     event,
                     reply: again,
                 };
                 let _ = self.entries.push(entry);
+                self.weight = self.weight.saturating_add(weight);
                 self.steps.add(&mut worker.part, 1);
                 Ok(Receipt {
                     worker: number,
@@ -128,28 +142,37 @@ impl<L: Ledger> Book<L> {
         }
     }
 
-    /// Makes a step, and hands a journal that is full out and drops it first where it is told so.
+    /// Makes a step. A journal that is full, or heavy, is handed out first, with the answer, where it is told so.
     pub(crate) fn step_on<R: Wait>(
         &mut self,
         rt: &R,
         worker: &mut Share<L>,
         event: HubEvent,
         on_full: OnFull,
-    ) -> Result<Receipt, BookRefusal>
-        ensures own { IfOk result (λ r. r.worker ≡ worker.old.worker) }
-        ensures counted { OnOk result (worker.new ≡ record { worker = worker.old.worker; count = worker.old.count + 1 }) }
-        ensures unchanged { OnErr result (worker.new ≡ worker.old) }
+    ) -> (Result<Receipt, BookRefusal>, Option<Journal>)
+        ensures own { IfOk result.0 (λ r. r.worker ≡ worker.old.worker) }
+        ensures counted { OnOk result.0 (worker.new ≡ record { worker = worker.old.worker; count = worker.old.count + 1 }) }
+        ensures unchanged { OnErr result.0 (worker.new ≡ worker.old) }
     {
-        let event = match self.step(rt, worker, event) {
-            Ok(receipt) => return Ok(receipt),
-            Err((BookRefusal::JournalFull, event)) if on_full == OnFull::Checkpoint => event,
-            Err((why, _)) => return Err(why),
-        };
-        let _ = self.checkpoint();
-        match self.step(rt, worker, event) {
-            Ok(receipt) => Ok(receipt),
-            Err((why, _)) => Err(why),
+        if on_full == OnFull::Stop {
+            return (told(self.step(rt, worker, event)), None);
         }
+        let heavy = self.lighten();
+        match self.step(rt, worker, event) {
+            Err((BookRefusal::JournalFull, event)) => {
+                let full = self.checkpoint();
+                (told(self.step(rt, worker, event)), Some(full))
+            }
+            answer => (told(answer), heavy),
+        }
+    }
+
+    // Hands out a journal that is heavy.
+    fn lighten(&mut self) -> Option<Journal> {
+        if self.weight < MOST_WEIGHT {
+            return None;
+        }
+        Some(self.checkpoint())
     }
 
     /// Makes the broker as it is the base, and hands out the journal up to it.
@@ -167,6 +190,7 @@ impl<L: Ledger> Book<L> {
         let entries = mem::replace(&mut self.entries, Vec::new(self.alloc));
         let first = self.first;
         self.first += entries.len() as u64;
+        self.weight = 0;
         Journal {
             base: mem::replace(&mut self.base, Snapshot::of(&self.hub)),
             first,
@@ -183,4 +207,28 @@ impl<L: Ledger> Book<L> {
     {
         self.steps.audit(all);
     }
+}
+
+// The answer to a worker, which has no use for an event that is handed back.
+fn told(answer: Result<Receipt, (BookRefusal, HubEvent)>) -> Result<Receipt, BookRefusal>
+    ensures ok { IfOk answer (λ r. result ≡ Ok r) }
+    ensures err { IfErr answer (λ e. result ≡ Err e.0) }
+{
+    match answer {
+        Ok(receipt) => Ok(receipt),
+        Err((why, _)) => Err(why),
+    }
+}
+
+// What a step adds to what a journal keeps.
+fn weight_of(event: &HubEvent, reply: &HubReply) -> usize {
+    let came = match event {
+        HubEvent::Bytes(_, piece) => piece.len(),
+        _ => 0,
+    };
+    let went = reply.output.len();
+    let acts = reply.acts.as_slice().len().saturating_mul(ACT);
+    came.saturating_add(went)
+        .saturating_add(acts)
+        .saturating_add(ENTRY)
 }

@@ -28,7 +28,7 @@ impl Model for SharedReply {
 }
 
 impl SharedReply {
-    /// A reply with one owner. Errs where memory runs out.
+    /// A reply with one owner. Fails if memory runs out.
     pub fn new(alloc: Global, reply: HubReply) -> Result<SharedReply, AllocError>
         ensures { IfOk result (λ s. s ≡ reply) }
     {
@@ -45,7 +45,7 @@ impl SharedReply {
         &self.cell
     }
 
-    // Room for a reply that is still to come. Errs where memory runs out.
+    // Room for a reply that is still to come. Fails if memory runs out.
     fn room(alloc: Global) -> Result<SharedReply, AllocError> {
         let blank = HubReply {
             acts: Items::from_vec(Vec::new(alloc)),

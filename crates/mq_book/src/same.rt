@@ -97,7 +97,7 @@ fn are_all_same(one: &[Act], other: &[Act]) -> bool
 }
 
 /// Whether two replies are the same. It takes no memory.
-pub(crate) fn are_same_replies(one: &HubReply, other: &HubReply) -> bool
+pub fn are_same_replies(one: &HubReply, other: &HubReply) -> bool
     ensures { IsTrue result ↔ (one.now ≡ other.now) }
 {
     one.alive == other.alive

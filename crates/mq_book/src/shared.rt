@@ -19,7 +19,7 @@ pub struct SharedHub<L: Ledger> {
 }
 
 impl<L: Ledger> SharedHub<L> {
-    /// A book over a new broker, and a share for each of so many workers, which have the numbers from 0 on. Errs where memory runs out.
+    /// A book over a new broker, and a share for each of so many workers, which have the numbers from 0 on. Fails if memory runs out.
     pub fn new(
         alloc: Global,
         blank: Blank,

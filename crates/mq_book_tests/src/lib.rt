@@ -4,4 +4,6 @@
 #[cfg(test)]
 mod audited;
 #[cfg(test)]
+mod gone;
+#[cfg(test)]
 mod steps;
