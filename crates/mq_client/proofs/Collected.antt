@@ -5,8 +5,8 @@ use Rattle.mq_end.specs.declared.happening.Happening.{Happening}
 use Rattle.mq_end.specs.declared.reason.CloseReason.{CloseReason}
 use Rattle.mq_client.specs.declared.halt.Halt.{Halt}
 use Rattle.mq_client.specs.declared.halt.Halt.TheVariants.{Closed, Lost, Refused, NotSubscribed, NotKept, Memory}
-use Rattle.mq_client.specs.Course.{Ask, Moment, Went}
-use Rattle.mq_client.specs.Collecting.{Keeps, Misses}
+use Rattle.mq_client.specs.Course.{Ask, Moment, Went, WentFirst}
+use Rattle.mq_client.specs.Collecting.{Keeps, KeepsFirst, Misses}
 use Rattle.mq_client.specs.Halts.{closes_of, halt_closes}
 use Rattle.mq_client.proofs.Courses.{answered, went_then}
 
@@ -71,3 +71,30 @@ keeps_as a b asks x y h p k =
       kept = k.kept;
       misses = misses_none (Err h) [] (sym p);
     }
+
+-- ---- the first of what is asked for
+
+-- it stopped, and nothing was told
+pub keeps_first : (a b : Moment) (all : List Ask) (x : List Happening) (r : Result ⊤ Halt) → WentFirst a b all [] [] → closes_of r ≡ [] → KeepsFirst a b all x x r
+keeps_first a b all x r w p = record { asks = w.asks; rest = w.rest; parts = w.parts; keeps = keeps_went a b w.asks x r w.went p }
+
+-- it stopped, and all was asked for
+pub first_all : (a b : Moment) (all : List Ask) (x y : List Happening) (r : Result ⊤ Halt) → Keeps a b all x y r → KeepsFirst a b all x y r
+first_all a b all x y r k = record { asks = all; rest = []; parts = sym (append-nil all); keeps = k }
+
+-- it stopped, and nothing was asked for
+pub first_none : (a b : Moment) (all : List Ask) (x y : List Happening) (r : Result ⊤ Halt) → Keeps a b [] x y r → KeepsFirst a b all x y r
+first_none a b all x y r k = record { asks = []; rest = all; parts = refl; keeps = k }
+
+-- more would have been asked for
+pub first_before : (a b : Moment) (all more : List Ask) (x y : List Happening) (r : Result ⊤ Halt) → KeepsFirst a b all x y r → KeepsFirst a b (all ++ more) x y r
+first_before a b all more x y r k = record { asks = k.asks; rest = k.rest ++ more; parts = ap (λ z. z ++ more) k.parts ∙ append_assoc k.asks k.rest more; keeps = k.keeps }
+
+-- other things were asked for before
+pub first_after : (a b c : Moment) (all more : List Ask) (x y z : List Happening) (r : Result ⊤ Halt) → Keeps a b all x y (Ok tt) → KeepsFirst b c more y z r → KeepsFirst a c (all ++ more) x z r
+first_after a b c all more x y z r k f = record {
+  asks = all ++ f.asks;
+  rest = f.rest;
+  parts = ap (λ u. all ++ u) f.parts ∙ sym (append_assoc all f.asks f.rest);
+  keeps = keeps_then a b c all f.asks x y z r k f.keeps;
+}

@@ -3,3 +3,5 @@ pub mod Published
 pub mod Collected
 pub mod Gathered
 pub mod Collects
+pub mod Resumed
+pub mod Wholes

@@ -1,15 +1,15 @@
 -- How far the publishing of texts has come.
-use Rattle.std.proofs.Common.{◌≡◌, ◌<◌, ◌+◌, ℕ, List, [], ◌∷◌, ◌++◌, length, take, map, refl, sym, ap, subst, ◌∙◌, append-nil, append_assoc, get_or, arith, Result, Ok, Err, true, IfErr, OnOk}
+use Rattle.std.proofs.Common.{◌≡◌, ◌<◌, ◌+◌, ℕ, List, [], ◌∷◌, ◌++◌, length, take, drop, map, refl, sym, ap, subst, ◌∙◌, append-nil, append_assoc, get_or, arith, Result, Ok, Err, Bool, true, IfErr, OnOk}
 use Rattle.std.specs.Bool.{⊤}
-use Rattle.std.proofs.lemmas.List.{take_all, take_more, take-map, map-append}
+use Rattle.std.proofs.lemmas.List.{take_all, take_more, take-append-drop, take-map, map-append}
 use Rattle.mq_end.specs.declared.happening.Happening.{Happening}
 use Rattle.mq_end.specs.declared.reason.CloseReason.{CloseReason}
 use Rattle.mq_end.specs.End.{is_up}
 use Rattle.mq_client.specs.declared.halt.Halt.{Halt}
 use Rattle.mq_client.specs.declared.publishing.Texts.{Texts}
-use Rattle.mq_client.specs.Course.{Ask, IsIdle, Leaves, Moment, Publication, Went}
+use Rattle.mq_client.specs.Course.{Ask, IsIdle, Leaves, Moment, Opening, Publication, Went, WentFirst}
 use Rattle.mq_client.specs.Halts.{closes_of, halt_closes}
-use Rattle.mq_client.specs.Publishing.{AskedAll, AskedFirst, AskedMore, PublishHalts, Published, asks_of, text_message}
+use Rattle.mq_client.specs.Publishing.{AskedAll, AskedFirst, AskedMore, PublishHalts, Published, asks_of, publishes, text_message}
 use Rattle.mq_client.proofs.Courses.{answered, went_none, went_then}
 
 pub more_none : (a : Moment) (all : List Ask) (n : ℕ) → AskedMore a a all n n
@@ -48,26 +48,55 @@ first_more a b c all from to f m = record {
   went = subst (λ z. Went a c z f.told []) (sym m.parts) (subst (λ z. Went a c (take from all ++ m.more) z []) (append-nil f.told) (went_then a b c (take from all) m.more f.told [] [] [] f.went m.went));
 }
 
--- another course came before
-pub first_after : (a b c : Moment) (all : List Ask) (n : ℕ) (rs : List CloseReason) → Went a b [] [] [] → AskedFirst b c all n rs → AskedFirst a c all n rs
-first_after a b c all n rs w f = record { told = f.told; went = went_then a b c [] (take n all) [] f.told [] rs w f.went }
+-- it stops: the first so many were published
+pub first_halts : (a b : Moment) (all : List Ask) (n : ℕ) (h : Halt) → AskedFirst a b all n (halt_closes h) → PublishHalts a b all h
+first_halts a b all n h f = (f.told, record { asks = take n all; rest = drop n all; parts = sym (take-append-drop n all); went = f.went })
+
+-- it stops for what closes nothing
+pub first_stops : (a b : Moment) (all : List Ask) (n : ℕ) (h : Halt) → halt_closes h ≡ [] → AskedFirst a b all n [] → PublishHalts a b all h
+first_stops a b all n h none f = first_halts a b all n h (subst (λ rs. AskedFirst a b all n rs) (sym none) f)
 
 -- all were
-pub all_asked : (a b : Moment) (t : Texts) (n : ℕ) → n ≡ length t.texts.now → AskedFirst a b (asks_of t) n [] → is_up b.client.link.end.state ≡ true → IsIdle b.client.link.end → AskedAll a b t
+pub all_asked : (a b : Moment) (t : Texts) (n : ℕ) → n ≡ length t.texts.now → AskedFirst a b (asks_of t) n [] → is_up b.client.link.end.state ≡ true → IsIdle b.client.link.end
+    → AskedAll a b (asks_of t)
 all_asked a b t n full f up idle =
     let whole : take n (asks_of t) ≡ asks_of t = ap (λ z. take z (asks_of t)) full ∙ take-map (λ text. Publication (text_message t text.now)) (length t.texts.now) t.texts.now ∙ ap (map (λ text. Publication (text_message t text.now))) (take_all (length t.texts.now) t.texts.now (omega arith)) in
     record { told = f.told; went = subst (λ z. Went a b z f.told []) whole f.went; up = up; idle = idle }
 
-pub all_after : (a b c : Moment) (t : Texts) → Went a b [] [] [] → AskedAll b c t → AskedAll a c t
-all_after a b c t w f = record { told = f.told; went = went_then a b c [] (asks_of t) [] f.told [] [] w f.went; up = f.up; idle = f.idle }
+-- ---- behind the opening of a connection
+
+-- it stopped before a text was published
+pub opens_halts : (a b : Moment) (clean : Bool) (t : Texts) (h : Halt) → halt_closes h ≡ [] → WentFirst a b (Opening clean ∷ []) [] [] → PublishHalts a b (publishes clean t) h
+opens_halts a b clean t h none f = (
+  [],
+  record {
+    asks = f.asks;
+    rest = f.rest ++ asks_of t;
+    parts = ap (λ z. z ++ asks_of t) f.parts ∙ append_assoc f.asks f.rest (asks_of t);
+    went = subst (λ rs. Went a b f.asks [] rs) (sym none) f.went;
+  },
+)
+
+-- it stopped later
+pub opened_halts : (a b c : Moment) (clean : Bool) (t : Texts) (h : Halt) → Went a b (Opening clean ∷ []) [] [] → PublishHalts b c (asks_of t) h → PublishHalts a c (publishes clean t) h
+opened_halts a b c clean t h w p = (
+  p.0,
+  record {
+    asks = Opening clean ∷ p.1.asks;
+    rest = p.1.rest;
+    parts = ap (λ z. Opening clean ∷ z) p.1.parts;
+    went = went_then a b c (Opening clean ∷ []) p.1.asks [] p.0 [] (halt_closes h) w p.1.went;
+  },
+)
+
+pub opened_all : (a b c : Moment) (clean : Bool) (t : Texts) → Went a b (Opening clean ∷ []) [] [] → AskedAll b c (asks_of t) → AskedAll a c (publishes clean t)
+opened_all a b c clean t w f = record { told = f.told; went = went_then a b c (Opening clean ∷ []) (asks_of t) [] f.told [] [] w f.went; up = f.up; idle = f.idle }
 
 -- the client leaves then, or can't
-pub left_then : (r : Result ⊤ Halt) (a b c : Moment) (t : Texts) → AskedAll a b t → OnOk r (Leaves b c) → OnOk r (Published a c t)
-left_then (Ok x) a b c t f p = record { last = b; asked = f; leaves = p }
-left_then (Err e) a b c t f p = tt
+pub left_then : (r : Result ⊤ Halt) (a b c : Moment) (clean : Bool) (t : Texts) → AskedAll a b (publishes clean t) → OnOk r (Leaves b c) → OnOk r (Published a c clean t)
+left_then (Ok x) a b c clean t f p = record { last = b; asked = f; leaves = p }
+left_then (Err e) a b c clean t f p = tt
 
-pub halts_then : (r : Result ⊤ Halt) (a b c : Moment) (t : Texts) → AskedAll a b t → Went b c [] [] [] → closes_of r ≡ [] → IfErr r (PublishHalts a c t)
-halts_then (Ok x) a b c t f w p = tt
-halts_then (Err e) a b c t f w p =
-    let whole : take (length t.texts.now) (asks_of t) ≡ asks_of t = take-map (λ text. Publication (text_message t text.now)) (length t.texts.now) t.texts.now ∙ ap (map (λ text. Publication (text_message t text.now))) (take_all (length t.texts.now) t.texts.now (omega arith)) in
-    (length t.texts.now, record { told = f.told; went = subst (λ z. Went a c z f.told (halt_closes e)) (sym whole) (answered a b c (asks_of t) f.told (halt_closes e) [] f.went w p) })
+pub halts_then : (r : Result ⊤ Halt) (a b c : Moment) (all : List Ask) → AskedAll a b all → Went b c [] [] [] → closes_of r ≡ [] → IfErr r (PublishHalts a c all)
+halts_then (Ok x) a b c all f w p = tt
+halts_then (Err e) a b c all f w p = (f.told, record { asks = all; rest = []; parts = sym (append-nil all); went = answered a b c all f.told (halt_closes e) [] f.went w p })

@@ -14,13 +14,17 @@ use Rattle.mq_end.specs.End.{is_up}
 use Rattle.mq_client.specs.declared.halt.Halt.{Halt}
 use Rattle.mq_client.specs.declared.halt.Halt.TheVariants.{Memory}
 use Rattle.mq_client.specs.declared.collecting.Wish.{Wish}
-use Rattle.mq_client.specs.Course.{Ask, Leaves, Moment, Subscription, Went}
+use Rattle.mq_client.specs.Course.{Ask, Leaves, Moment, Opening, Subscription, Went}
 use Rattle.mq_client.specs.Halts.{closes_of, halt_status}
 use Rattle.mq_client.specs.Printed.{halt_line, subscribed_line, told_line}
 
 -- what is asked for (3.8.3)
 abbrev pub request_of : Wish → Request
 request_of w = record { filter = w.filter.now; qos = w.qos }
+
+-- one connection, with clean session or not (3.1), and then the subscription
+abbrev pub collects : Bool → Wish → List Ask
+collects clean w = Opening clean ∷ Subscription (request_of w ∷ []) ∷ []
 
 -- the first code grants what was asked for (3.9.3)
 abbrev pub grants : List SubAckCode → Bool
@@ -62,9 +66,12 @@ pub record Keeps (a b : Moment) (asks : List Ask) (old new : List Happening) (r 
   pub kept : new ≡ old ++ told
   pub misses : Misses r rest reasons
 
--- It stopped: the subscription was asked for once, or not yet.
-abbrev pub Begins : Moment → Moment → Wish → List Happening → List Happening → Result ⊤ Halt → Type 0
-Begins a b wish old new r = (asks : List Ask) × ((asks ≡ []) ⊎ (asks ≡ Subscription (request_of wish ∷ []) ∷ [])) × Keeps a b asks old new r
+-- It stopped: the first of these were asked for, in order, and nothing else.
+pub record KeepsFirst (a b : Moment) (all : List Ask) (old new : List Happening) (r : Result ⊤ Halt) : Type 0 where
+  pub asks : List Ask
+  pub rest : List Ask
+  pub parts : all ≡ asks ++ rest
+  pub keeps : Keeps a b asks old new r
 
 -- What was told is printed; where all is well, at least so many messages were handed on, none waits for its release (4.3.3), and the
 -- connection is up.
@@ -76,12 +83,12 @@ pub record Gathers (a b : Moment) (old new : Option (List ℕ)) (count : ℕ) (r
   pub released : OnOk r (b.client.link.end.received ≡ none_received)
   pub up : OnOk r (is_up b.client.link.end.state ≡ true)
 
--- The subscription was asked for once, and granted; so many messages were handed on and all are released; then the client left.
+-- A connection began, and the subscription was asked for once, and granted; so many messages were handed on and all are released; then the client left.
 -- `subscribed` is printed, and then each message that was handed on, in order.
-pub record Collected (a b : Moment) (wish : Wish) (text : List ℕ) : Type 0 where
+pub record Collected (a b : Moment) (clean : Bool) (wish : Wish) (text : List ℕ) : Type 0 where
   pub last : Moment
   pub told : List Happening
-  pub went : Went a last (Subscription (request_of wish ∷ []) ∷ []) told []
+  pub went : Went a last (collects clean wish) told []
   pub answered : IsAnswered true told
   pub enough : wish.count ≤ length (flat_map handed told)
   pub released : last.client.link.end.received ≡ none_received
@@ -94,19 +101,20 @@ IsFirstLine line told = (line ≡ []) ⊎ ((line ≡ subscribed_line) × IsAnswe
 
 -- It stopped before. Each message that was handed on is printed, in order, and then why it stopped; but where memory ran out, those that
 -- came with the last bytes may be missing.
-pub record CollectHalts (a b : Moment) (wish : Wish) (halt : Halt) (text : List ℕ) : Type 0 where
+pub record CollectHalts (a b : Moment) (clean : Bool) (wish : Wish) (halt : Halt) (text : List ℕ) : Type 0 where
   pub asks : List Ask
   pub told : List Happening
   pub rest : List Happening
   pub reasons : List CloseReason
   pub went : Went a b asks (told ++ rest) reasons
-  pub asked : (asks ≡ []) ⊎ (asks ≡ Subscription (request_of wish ∷ []) ∷ [])
+  pub others : List Ask
+  pub asked : collects clean wish ≡ asks ++ others
   pub misses : Misses (Err halt) rest reasons
   pub line : List ℕ
   pub first : IsFirstLine line told
   pub lines : text ≡ line ++ (flat_map told_line told ++ halt_line halt)
 
 -- the status and the lines of `collect`
-abbrev pub IsCollectDone : Moment → Moment → Wish → ℕ → List ℕ → Type 0
-IsCollectDone a b wish status text =
-    (Collected a b wish text × (status ≡ 0)) ⊎ ((halt : Halt) × CollectHalts a b wish halt text × (status ≡ halt_status halt))
+abbrev pub IsCollectDone : Moment → Moment → Bool → Wish → ℕ → List ℕ → Type 0
+IsCollectDone a b clean wish status text =
+    (Collected a b clean wish text × (status ≡ 0)) ⊎ ((halt : Halt) × CollectHalts a b clean wish halt text × (status ≡ halt_status halt))

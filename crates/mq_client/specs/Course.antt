@@ -1,4 +1,5 @@
--- The course of a client end at a stream: the calls of it, in order, and the bytes that came and went (3.1 to 3.14, 4.2).
+-- The course of a client end at a stream: the calls of it, in order, the bytes that came and went, and what was kept of its session
+-- before bytes went (3.1 to 3.14, 4.1, 4.2).
 use Rattle.std.specs.Prelude.{◌≡◌, ℕ, Bool, true, false, List, [], ◌∷◌, ◌++◌, Option, None, Result, Ok, Err, option_to_list}
 use Rattle.std.specs.List.{flat_map}
 use Rattle.std.specs.Io.KnownBytes.{Appends, Consumes}
@@ -14,15 +15,19 @@ use Rattle.mq_end.specs.Publishing.{Accepts, ClientState, connect_of}
 use Rattle.mq_end.specs.Receiving.{Acts, ClientReceives}
 use Rattle.mq_end.specs.Requests.{Requests, Ticks}
 use Rattle.mq_client.specs.declared.halt.Halt.{Halt}
+use Rattle.mq_client.specs.Keeping.{Holds, saved_of}
 
--- a client end at a stream, with the bytes that are to come and those that went, where these are known
+-- a client end at a stream, with the bytes that are to come and those that went, and with what is kept of its session, where these are known
 pub record Moment : Type 0 where
   pub client : ClientState
   pub coming : Option (List ℕ)
   pub written : Option (List ℕ)
+  pub kept : Option (List ℕ)
 
--- what the user of the end asks of it: that a message is published (3.3), or a subscription (3.8)
+-- what the user of the end asks of it: a connection, with clean session or not (3.1), that a message is published (3.3), or a
+-- subscription (3.8)
 pub data Ask : Type 0 where
+  Opening : Bool → Ask
   Publication : Message → Ask
   Subscription : List Request → Ask
 
@@ -41,8 +46,8 @@ pub data Step : Type 0 where
   Tick : ℕ → Step
   -- the client leaves (3.14)
   Leave : Step
-  -- these bytes, the first of those that wait, go over the stream
-  Write : List ℕ → Step
+  -- this is kept, the saved form of the session, and then these bytes, the first of those that wait, go over the stream
+  Write : List ℕ → List ℕ → Step
   -- the connection is lost (4.2)
   Lose : Step
 
@@ -65,7 +70,8 @@ pub record Subscribes (requests : List Request) (a b : ClientState) : Type 0 whe
   pub id : ℕ
   pub asks : Requests id (subscribes id requests a.link.end) a.link b.link
 
-pub record Writes (bytes : List ℕ) (a b : ClientState) : Type 0 where
+pub record Writes (form bytes : List ℕ) (a b : ClientState) : Type 0 where
+  pub saved : form ≡ saved_of a
   pub rest : List ℕ
   pub parts : a.link.output ≡ bytes ++ rest
   pub left : b.link ≡ record a.link { output = rest; room = no_bytes a.link.room }
@@ -83,7 +89,7 @@ Does (Publish m) a b = Publishes m a b
 Does (Subscribe requests) a b = Subscribes requests a b
 Does (Tick now) a b = Ticks now a.link b.link
 Does Leave a b = Acts (leaves a.link.end) a.link b.link
-Does (Write bytes) a b = Writes bytes a b
+Does (Write form bytes) a b = Writes form bytes a b
 Does Lose a b = Loses a b
 
 -- steps one after another
@@ -100,11 +106,17 @@ heard s = []
 
 -- the bytes that went
 abbrev pub sent : Step → List ℕ
-sent (Write bytes) = bytes
+sent (Write form bytes) = bytes
 sent s = []
+
+-- what is kept before bytes go
+abbrev pub forms : Step → List (List ℕ)
+forms (Write form bytes) = form ∷ []
+forms s = []
 
 -- what was asked for
 abbrev pub asked : Step → List Ask
+asked (Connect now clean) = Opening clean ∷ []
 asked (Publish m) = Publication m ∷ []
 asked (Subscribe requests) = Subscription requests ∷ []
 asked s = []
@@ -120,15 +132,24 @@ closed (Hear bytes happenings why) = option_to_list why
 closed s = []
 
 -- From one moment to another the end went through steps, by which this was asked for, this was told, and the end closed for
--- these reasons. It took in the bytes that came over the stream, and what went over the stream is what it put out.
+-- these reasons. It took in the bytes that came over the stream, and what went over the stream is what it put out, each time behind the
+-- keeping of the session as it then was.
 pub record Went (a b : Moment) (asks : List Ask) (happenings : List Happening) (reasons : List CloseReason) : Type 0 where
   pub steps : List Step
   pub runs : Runs a.client steps b.client
   pub comes : Consumes a.coming b.coming (flat_map heard steps)
   pub goes : Appends a.written b.written (flat_map sent steps)
+  pub holds : Holds a.kept b.kept (flat_map forms steps)
   pub asks_are : asks ≡ flat_map asked steps
   pub happenings_are : happenings ≡ flat_map told steps
   pub reasons_are : reasons ≡ flat_map closed steps
+
+-- the first of these were asked for, in order, and nothing else
+pub record WentFirst (a b : Moment) (all : List Ask) (happenings : List Happening) (reasons : List CloseReason) : Type 0 where
+  pub asks : List Ask
+  pub rest : List Ask
+  pub parts : all ≡ asks ++ rest
+  pub went : Went a b asks happenings reasons
 
 -- The client leaves: behind what waits, DISCONNECT is the last that goes over the stream (3.14).
 pub record Leaves (a b : Moment) : Type 0 where

@@ -7,6 +7,9 @@ use Rattle.mq_packet.specs.declared.message.Message.{Message}
 use Rattle.mq_end.specs.declared.happening.Happening.{Happening}
 use Rattle.mq_end.specs.declared.happening.Happening.TheVariants as happens
 use Rattle.mq_end.specs.Codes.{close_code, refusal_code}
+use Rattle.mq_flow.specs.Codes.{load_code}
+use Rattle.mq_client.specs.declared.loading.Unloaded.{Unloaded}
+use Rattle.mq_client.specs.declared.loading.Unloaded.TheVariants as unloaded
 use Rattle.mq_client.specs.declared.halt.Halt.{Halt}
 use Rattle.mq_client.specs.declared.halt.Halt.TheVariants.{Closed, Lost, Refused, NotSubscribed, NotKept, Memory}
 
@@ -19,11 +22,21 @@ halt_line NotSubscribed = codes "not subscribed\n"
 halt_line NotKept = codes "session not written\n"
 halt_line Memory = codes "out of memory\n"
 
+-- why a file gives no session
+abbrev pub unloaded_line : Unloaded → List ℕ
+unloaded_line unloaded.Unread = codes "file not read\n"
+unloaded_line (unloaded.Session why) = codes "session " ++ (load_code why ++ codes "\n")
+unloaded_line unloaded.Memory = codes "out of memory\n"
+
 -- ---- publish
 
 -- how many messages were published
 abbrev pub published_line : ℕ → List ℕ
 published_line count = codes "published " ++ (decimal count ++ codes "\n")
+
+-- how many messages of a session are to be sent on
+abbrev pub resumed_line : ℕ → List ℕ
+resumed_line count = codes "resumed " ++ (decimal count ++ codes "\n")
 
 -- ---- collect
 

@@ -3,18 +3,17 @@
 ghost use Rattle.std.specs.Prelude.{◌≡◌, ◌-◌, ◌∷◌, [], true, length, IfOk, IfSome, OnErr, OnOk};
 ghost use Rattle.std.specs.List.{flat_map};
 ghost use Rattle.mq_line.specs.Lines.{Prints};
-ghost use Rattle.mq_client.specs.Course.{Subscription};
+ghost use Rattle.mq_client.specs.Course.{Opening, Subscription};
 ghost use Rattle.mq_client.specs.Halts.{closes_of};
-ghost use Rattle.mq_client.specs.Collecting.{Begins, Gathers, IsAnswered, IsCollectDone, Keeps, grants, handed, request_of};
+ghost use Rattle.mq_client.specs.Collecting.{Gathers, IsAnswered, IsCollectDone, Keeps, KeepsFirst, collects, grants, handed, request_of};
 
-use crate::clock::Clock;
 use crate::halt::Halt;
 use crate::keeper::Keeper;
 use crate::peer::Peer;
 use crate::printing::{write_halt, write_told};
-use crate::stream::Stream;
 use mq_end::Happening;
 use mq_packet::{NonEmpty, Request, SubAckCode};
+use mq_stream::{Clock, Stream};
 use mq_topic::{Qos, TopicFilter};
 use std::alloc::Global;
 use std::io;
@@ -146,23 +145,55 @@ fn await_answer<S: Stream, C: Clock, K: Keeper>(
     Err(Halt::Lost)
 }
 
-// Connects, and subscribes.
-fn begin<S: Stream, C: Clock, K: Keeper>(
+// Connects, with clean session or not, and waits until the connection is up.
+fn rise<S: Stream, C: Clock, K: Keeper>(
+    peer: &mut Peer<S, C, K>,
+    clean: bool,
+    kept: &mut Vec<Happening>,
+) -> Result<(), Halt>
+    ensures ok { OnOk result
+        (Keeps peer.old peer.new (Opening clean ∷ []) kept.old.items kept.new.items result) }
+    ensures err { OnErr result
+        (KeepsFirst peer.old peer.new (Opening clean ∷ []) kept.old.items kept.new.items result) }
+{
+    peer.open(clean)?;
+    await_up(peer, kept)
+}
+
+// Subscribes, and waits until the server has granted it.
+fn ask<S: Stream, C: Clock, K: Keeper>(
+    alloc: Global,
+    peer: &mut Peer<S, C, K>,
+    wish: &Wish<'_>,
+    kept: &mut Vec<Happening>,
+) -> Result<(), Halt>
+    ensures ok { OnOk result (Keeps peer.old peer.new (Subscription (request_of wish.now ∷ []) ∷ [])
+        kept.old.items kept.new.items result) }
+    ensures granted { OnOk result (IsAnswered true kept.new.items) }
+    ensures err { OnErr result (KeepsFirst peer.old peer.new
+        (Subscription (request_of wish.now ∷ []) ∷ []) kept.old.items kept.new.items result) }
+{
+    peer.subscribe(requests_of(alloc, wish)?)?;
+    peer.write()?;
+    await_answer(peer, kept)
+}
+
+/// Connects, with clean session or not, and subscribes; what is told until the server has granted it is kept.
+pub fn begin<S: Stream, C: Clock, K: Keeper>(
     alloc: Global,
     peer: &mut Peer<S, C, K>,
     wish: &Wish<'_>,
     clean: bool,
     kept: &mut Vec<Happening>,
 ) -> Result<(), Halt>
-    ensures ok { OnOk result (Keeps peer.old peer.new (Subscription (request_of wish.now ∷ []) ∷ []) kept.old.items kept.new.items result) }
+    ensures ok { OnOk result
+        (Keeps peer.old peer.new (collects clean wish.now) kept.old.items kept.new.items result) }
     ensures granted { OnOk result (IsAnswered true kept.new.items) }
-    ensures err { OnErr result (Begins peer.old peer.new wish.now kept.old.items kept.new.items result) }
+    ensures err { OnErr result (KeepsFirst peer.old peer.new (collects clean wish.now)
+        kept.old.items kept.new.items result) }
 {
-    peer.open(clean)?;
-    await_up(peer, kept)?;
-    peer.subscribe(requests_of(alloc, wish)?)?;
-    peer.write()?;
-    await_answer(peer, kept)
+    rise(peer, clean, kept)?;
+    ask(alloc, peer, wish, kept)
 }
 
 // Prints what comes, until so many messages were handed on and none waits for its release.
@@ -203,7 +234,7 @@ pub fn collect<S: Stream, C: Clock, K: Keeper, W: Write>(
     output: &mut W,
 ) -> io::Result<u8>
     ensures { IfOk result (λ status. Prints (W.contents output.old) (W.contents output.new)
-        (IsCollectDone peer.old peer.new wish.now status)) }
+        (IsCollectDone peer.old peer.new clean wish.now status)) }
 {
     let mut kept = Vec::new(alloc);
     let begun = begin(alloc, peer, wish, clean, &mut kept);

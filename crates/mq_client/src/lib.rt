@@ -1,21 +1,27 @@
-//! The two client programs, `publish` and `collect`, over any stream and any clock: all of them but the socket.
+//! The two client programs, `publish` and `collect`, over any stream and any clock, and whole: over connections that are made, and over a
+//! session in a file.
 //!
 //! A `Peer` is a client end at a stream. Its contracts say that the run of the end and what went over the stream are one another's.
 #![tactic(auto)]
 
-mod clock;
 mod collecting;
+mod dial;
+mod file;
 mod halt;
 mod keeper;
+mod loading;
 mod peer;
 mod printing;
+mod programs;
 mod publishing;
-mod stream;
 
-pub use crate::clock::{Clock, Elapsed};
-pub use crate::collecting::{Wish, collect};
+pub use crate::collecting::{Wish, begin, collect};
+pub use crate::dial::{Connection, Dial, Loopback};
+pub use crate::file::SessionFile;
 pub use crate::halt::Halt;
-pub use crate::keeper::{Keeper, NotKept, Nowhere};
+pub use crate::keeper::{Keeper, NotKept, Nowhere, Store, Stored};
+pub use crate::loading::{Unloaded, load, new_client, saved_client};
 pub use crate::peer::Peer;
-pub use crate::publishing::{Texts, publish, publish_all};
-pub use crate::stream::{Arrival, Broken, Socket, Stream};
+pub use crate::printing::write_halt;
+pub use crate::programs::{collect_messages, publish_session, publish_texts};
+pub use crate::publishing::{Texts, publish, publish_all, resume};

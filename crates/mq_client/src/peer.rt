@@ -1,20 +1,21 @@
 //! A client end at a stream.
 
-ghost use Rattle.std.specs.Prelude.{◌≡◌, ◌≤◌, ◌↔◌, ◌∷◌, [], true, List, length, take, IfOk, IsTrue, OnErr, OnOk, option_to_list};
+ghost use Rattle.std.specs.Prelude.{◌≡◌, ◌≤◌, ◌+◌, ◌↔◌, ◌∷◌, [], true, List, length, take, IfOk, IsTrue, OnErr, OnOk, option_to_list};
 ghost use Rattle.std.specs.Io.KnownBytes.{Appends, Consumes, Keeps};
 ghost use Rattle.mq_packet.specs.declared.message.Message.{Message};
 ghost use Rattle.mq_flow.specs.Receiver.{none_received};
 ghost use Rattle.mq_end.specs.declared.happening.Happening.{Happening};
 ghost use Rattle.mq_end.specs.End.{is_up};
-ghost use Rattle.mq_client.specs.Course.{IsIdle, Leaves, Subscription, Went, asked_by};
+ghost use Rattle.mq_client.specs.Course.{IsIdle, Leaves, Opening, Subscription, Went, WentFirst, asked_by};
 ghost use Rattle.mq_client.specs.Halts.{closes_of, halt_closes};
+ghost use Rattle.mq_client.specs.Publishing.{resumed_of};
 
-use crate::clock::Clock;
 use crate::halt::Halt;
-use crate::keeper::Keeper;
-use crate::stream::Stream;
+use crate::keeper::{Keeper, NotKept};
 use mq_end::{ClientEnd, CloseReason, Progress, PublishRefusal, State};
+use mq_flow::Sender;
 use mq_packet::{Message, NonEmpty, Request};
+use mq_stream::{Clock, Stream};
 use std::marker::Model;
 
 /// How many bytes are read at a time.
@@ -23,7 +24,8 @@ const CHUNK: usize = 4096;
 /// So many reads in a row that bring nothing end the connection.
 const MOST_QUIET: u32 = 900;
 
-/// A client end at a stream, with a clock, and with who keeps its session. Contracts see the end and what went over the stream.
+/// A client end at a stream, with a clock, and with who keeps its session. Contracts see the end, what went over the stream, and what is
+/// kept.
 #[derive(Drop)]
 pub struct Peer<S: Stream, C: Clock, K: Keeper> {
     client: ClientEnd,
@@ -43,7 +45,7 @@ impl<S: Stream, C: Clock, K: Keeper> Model for Peer<S, C, K> {
 
     ghost coded = { Prim.hlevel (codes, set.code {R = nat_cmp} coded_ℕ) };
 
-    ghost view = { λ p. record { client = p.client; coming = S.coming p.stream; written = S.written p.stream } };
+    ghost view = { λ p. record { client = p.client; coming = S.coming p.stream; written = S.written p.stream; kept = K.kept p.keeper } };
 }
 
 // Why a refusal stops a program.
@@ -53,6 +55,16 @@ fn halt_of(why: PublishRefusal) -> Halt
     match why {
         PublishRefusal::Memory => Halt::Memory,
         _ => Halt::Refused(why),
+    }
+}
+
+// Why a session that was not kept stops a program.
+fn unkept(why: NotKept) -> Halt
+    ensures { halt_closes result ≡ [] }
+{
+    match why {
+        NotKept::Unwritten => Halt::NotKept,
+        NotKept::Memory => Halt::Memory,
     }
 }
 
@@ -67,12 +79,21 @@ fn waits(why: PublishRefusal) -> Result<bool, Halt>
     }
 }
 
+// How many messages a sender is not through with.
+fn in_use(sender: &Sender) -> usize
+    ensures { result ≡ length sender.now.book.entries + length sender.now.book.released }
+{
+    let _capacity = sender.capacity();
+    sender.entries().count() + sender.released()
+}
+
 impl<S: Stream, C: Clock, K: Keeper> Peer<S, C, K> {
     /// A client at a stream.
     pub fn new(client: ClientEnd, stream: S, clock: C, keeper: K) -> Peer<S, C, K>
         ensures client { result.client ≡ client }
         ensures coming { result.coming ≡ S.coming stream }
         ensures written { result.written ≡ S.written stream }
+        ensures kept { result.kept ≡ K.kept keeper }
     {
         Peer {
             client,
@@ -98,6 +119,13 @@ impl<S: Stream, C: Clock, K: Keeper> Peer<S, C, K> {
         &self.stream
     }
 
+    /// Who keeps its session.
+    pub fn keeper(&self) -> &K
+        ensures { K.kept result.now ≡ self.now.kept }
+    {
+        &self.keeper
+    }
+
     // Tells the client the time, so that it keeps its connection alive (3.1.2.10).
     fn tick(&mut self) -> Result<(), Halt>
         ensures went { Went self.old self.new [] [] [] }
@@ -108,15 +136,15 @@ impl<S: Stream, C: Clock, K: Keeper> Peer<S, C, K> {
         Ok(())
     }
 
-    // Writes what the client put out, behind the keeping of its session. Where the stream fails, the connection is lost.
-    pub(crate) fn write(&mut self) -> Result<(), Halt>
+    /// Writes what the client put out, behind the keeping of its session. Where the stream fails, the connection is lost.
+    pub fn write(&mut self) -> Result<(), Halt>
         ensures went { Went self.old self.new [] [] [] }
         ensures goes_on { closes_of result ≡ [] }
         ensures all { OnOk result
             (Appends self.old.written self.new.written self.old.client.link.output) }
     {
-        if self.keeper.keep(&self.client).is_err() {
-            return Err(Halt::NotKept);
+        if let Err(why) = self.keeper.keep(&self.client) {
+            return Err(unkept(why));
         }
         let bytes = self.client.take_all_output();
         match self.stream.write_all(bytes.as_slice()) {
@@ -128,9 +156,11 @@ impl<S: Stream, C: Clock, K: Keeper> Peer<S, C, K> {
         }
     }
 
-    // Begins a connection, with clean session or not (3.1).
-    pub(crate) fn open(&mut self, clean: bool) -> Result<(), Halt>
-        ensures went { Went self.old self.new [] [] [] }
+    /// Begins a connection, with clean session or not (3.1).
+    pub fn open(&mut self, clean: bool) -> Result<(), Halt>
+        ensures ok { OnOk result (Went self.old self.new (Opening clean ∷ []) [] []) }
+        ensures err { OnErr result
+            (WentFirst self.old self.new (Opening clean ∷ []) [] []) }
         ensures goes_on { closes_of result ≡ [] }
     {
         let now = self.clock.now();
@@ -153,6 +183,7 @@ impl<S: Stream, C: Clock, K: Keeper> Peer<S, C, K> {
             × Consumes self.old.coming self.new.coming (take n room.new)) }
         ensures same { OnOk result (self.new.client ≡ self.old.client) }
         ensures written { OnOk result (Keeps self.old.written self.new.written) }
+        ensures kept { OnOk result (self.new.kept ≡ self.old.kept) }
         ensures went { OnErr result (Went self.old self.new [] [] []) }
         ensures goes_on { closes_of result ≡ [] }
     {
@@ -172,8 +203,8 @@ impl<S: Stream, C: Clock, K: Keeper> Peer<S, C, K> {
         }
     }
 
-    // Takes in what comes within the limit of a read.
-    pub(crate) fn hear(&mut self) -> Result<Progress, Halt>
+    /// Takes in what comes within the limit of a read.
+    pub fn hear(&mut self) -> Result<Progress, Halt>
         ensures went { IfOk result
             (λ p. Went self.old self.new [] p.happenings (option_to_list p.closed)) }
         ensures lost { OnErr result (Went self.old self.new [] [] []) }
@@ -186,8 +217,8 @@ impl<S: Stream, C: Clock, K: Keeper> Peer<S, C, K> {
         Ok(self.client.receive(now, &room[..count]))
     }
 
-    // Writes what came of it, also where the client closed.
-    pub(crate) fn answer(&mut self, closed: Option<CloseReason>) -> Result<(), Halt>
+    /// Writes what came of it, also where the client closed.
+    pub fn answer(&mut self, closed: Option<CloseReason>) -> Result<(), Halt>
         ensures went { Went self.old self.new [] [] [] }
         ensures closes { closes_of result ≡ option_to_list closed }
     {
@@ -198,23 +229,23 @@ impl<S: Stream, C: Clock, K: Keeper> Peer<S, C, K> {
         }
     }
 
-    // Takes in what comes, and writes what came of it.
-    pub(crate) fn listen(&mut self) -> Result<(), Halt>
+    /// Takes in what comes, and writes what came of it.
+    pub fn listen(&mut self) -> Result<(), Halt>
         ensures { (told : List Happening) × Went self.old self.new [] told (closes_of result) }
     {
         let progress = self.hear()?;
         self.answer(progress.closed)
     }
 
-    // Whether the connection is up.
-    pub(crate) fn is_up(&self) -> bool
+    /// Whether the connection is up.
+    pub fn is_up(&self) -> bool
         ensures { result ≡ is_up self.now.client.link.end.state }
     {
         self.client.state() == State::Up
     }
 
-    // Whether all that the client published is acknowledged (4.3.2, 4.3.3).
-    pub(crate) fn is_idle(&self) -> bool
+    /// Whether all that the client published is acknowledged (4.3.2, 4.3.3).
+    pub fn is_idle(&self) -> bool
         ensures { IsTrue result ↔ IsIdle self.now.client.link.end }
     {
         match self.client.session() {
@@ -223,8 +254,8 @@ impl<S: Stream, C: Clock, K: Keeper> Peer<S, C, K> {
         }
     }
 
-    // Whether no message of quality of service 2 waits for its release (4.3.3).
-    pub(crate) fn is_released(&self) -> bool
+    /// Whether no message of quality of service 2 waits for its release (4.3.3).
+    pub fn is_released(&self) -> bool
         ensures { IsTrue result ↔ (self.now.client.link.end.received ≡ none_received) }
     {
         match self.client.session() {
@@ -233,8 +264,18 @@ impl<S: Stream, C: Clock, K: Keeper> Peer<S, C, K> {
         }
     }
 
-    // Publishes a message. `false` says that it has to wait, until the connection is up or an acknowledgement has come.
-    pub(crate) fn publish(&mut self, message: Message) -> Result<bool, Halt>
+    // How many messages of its session are not acknowledged, or released and not completed (4.3.2, 4.3.3).
+    pub(crate) fn resumed(&self) -> usize
+        ensures { result ≡ resumed_of self.now.client.link.end }
+    {
+        match self.client.session() {
+            Some(session) => in_use(&session.sender),
+            None => 0,
+        }
+    }
+
+    /// Publishes a message. `false` says that it has to wait, until the connection is up or an acknowledgement has come.
+    pub fn publish(&mut self, message: Message) -> Result<bool, Halt>
         ensures went { Went self.old self.new (asked_by result message) [] [] }
         ensures goes_on { closes_of result ≡ [] }
     {
@@ -257,8 +298,8 @@ impl<S: Stream, C: Clock, K: Keeper> Peer<S, C, K> {
         Ok(())
     }
 
-    // Leaves (3.14).
-    pub(crate) fn leave(&mut self) -> Result<(), Halt>
+    /// Leaves (3.14).
+    pub fn leave(&mut self) -> Result<(), Halt>
         requires { is_up self.old.client.link.end.state ≡ true }
         ensures went { Went self.old self.new [] [] [] }
         ensures goes_on { closes_of result ≡ [] }

@@ -3,10 +3,11 @@
 ghost use Rattle.std.specs.Prelude.{◌≡◌, Some, IfOk, OnOk};
 ghost use Rattle.std.specs.List.{flat_map};
 ghost use Rattle.std.specs.Io.KnownBytes.{Appends};
-ghost use Rattle.mq_client.specs.Halts.{halt_status};
-ghost use Rattle.mq_client.specs.Printed.{halt_line, message_line, payload_word, told_line};
+ghost use Rattle.mq_client.specs.Halts.{halt_status, unloaded_status};
+ghost use Rattle.mq_client.specs.Printed.{halt_line, message_line, payload_word, told_line, unloaded_line};
 
 use crate::halt::Halt;
+use crate::loading::Unloaded;
 use mq_end::Happening;
 use mq_line::{Escaped, Hex};
 use mq_packet::Message;
@@ -28,8 +29,8 @@ impl fmt::Display for PayloadWord<'_> {
     }
 }
 
-// Writes why a program stops, and answers its status.
-pub(crate) fn write_halt<W: Write>(output: &mut W, halt: Halt) -> io::Result<u8>
+/// Writes why a program stops, and answers its status.
+pub fn write_halt<W: Write>(output: &mut W, halt: Halt) -> io::Result<u8>
     ensures printed { OnOk result
         (Appends (W.contents output.old) (W.contents output.new) (halt_line halt)) }
     ensures status { IfOk result (λ status. status ≡ halt_status halt) }
@@ -43,6 +44,20 @@ pub(crate) fn write_halt<W: Write>(output: &mut W, halt: Halt) -> io::Result<u8>
         Halt::Memory => writeln!(output, "out of memory")?,
     }
     Ok(halt.status())
+}
+
+// Writes why a file gives no session, and answers the status of the program.
+pub(crate) fn write_unloaded<W: Write>(output: &mut W, why: Unloaded) -> io::Result<u8>
+    ensures printed { OnOk result
+        (Appends (W.contents output.old) (W.contents output.new) (unloaded_line why)) }
+    ensures status { IfOk result (λ status. status ≡ unloaded_status why) }
+{
+    match why {
+        Unloaded::Unread => writeln!(output, "file not read")?,
+        Unloaded::Session(why) => writeln!(output, "session {}", why.code())?,
+        Unloaded::Memory => writeln!(output, "out of memory")?,
+    }
+    Ok(why.status())
 }
 
 // Writes a message, at once.

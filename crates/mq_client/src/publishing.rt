@@ -3,17 +3,16 @@
 ghost use Rattle.std.specs.Prelude.{◌≡◌, [], IfErr, IfOk, OnOk};
 ghost use Rattle.mq_line.specs.Lines.{Prints};
 ghost use Rattle.mq_client.specs.Halts.{closes_of};
-ghost use Rattle.mq_client.specs.Publishing.{AskedAll, AskedMore, IsPublishDone, Published, PublishHalts, asks_of, text_message};
+ghost use Rattle.mq_client.specs.Publishing.{AskedAll, AskedMore, IsPublishDone, IsResumeDone, Published, PublishHalts, asks_of, publishes, text_message};
 
-use crate::clock::Clock;
 use crate::halt::Halt;
 use crate::keeper::Keeper;
 use crate::peer::Peer;
 use crate::printing::write_halt;
-use crate::stream::Stream;
 use bytes::Bytes;
 use mq_end::PublishRefusal;
 use mq_packet::{Message, Payload};
+use mq_stream::{Clock, Stream};
 use mq_topic::{Qos, TopicName};
 use std::alloc::Global;
 use std::io;
@@ -75,8 +74,8 @@ fn publish_acknowledged<S: Stream, C: Clock, K: Keeper>(
     peer: &mut Peer<S, C, K>,
     texts: &Texts<'_>,
 ) -> Result<(), Halt>
-    ensures ok { OnOk result (AskedAll peer.old peer.new texts.now) }
-    ensures err { IfErr result (PublishHalts peer.old peer.new texts.now) }
+    ensures ok { OnOk result (AskedAll peer.old peer.new (asks_of texts.now)) }
+    ensures err { IfErr result (PublishHalts peer.old peer.new (asks_of texts.now)) }
 {
     let mut next = 0;
     for _ in 0..u64::MAX {
@@ -97,8 +96,8 @@ pub fn publish_all<S: Stream, C: Clock, K: Keeper>(
     texts: &Texts<'_>,
     clean: bool,
 ) -> Result<(), Halt>
-    ensures ok { OnOk result (Published peer.old peer.new texts.now) }
-    ensures err { IfErr result (PublishHalts peer.old peer.new texts.now) }
+    ensures ok { OnOk result (Published peer.old peer.new clean texts.now) }
+    ensures err { IfErr result (PublishHalts peer.old peer.new (publishes clean texts.now)) }
 {
     peer.open(clean)?;
     publish_acknowledged(alloc, peer, texts)?;
@@ -114,7 +113,7 @@ pub fn publish<S: Stream, C: Clock, K: Keeper, W: Write>(
     output: &mut W,
 ) -> io::Result<u8>
     ensures { IfOk result (λ status. Prints (W.contents output.old) (W.contents output.new)
-        (IsPublishDone peer.old peer.new texts.now status)) }
+        (IsPublishDone peer.old peer.new clean texts.now status)) }
 {
     match publish_all(alloc, peer, texts, clean) {
         Ok(()) => {
@@ -123,4 +122,21 @@ pub fn publish<S: Stream, C: Clock, K: Keeper, W: Write>(
         }
         Err(halt) => write_halt(output, halt),
     }
+}
+
+/// Goes on with a session: prints how many messages of it are to be sent on, and publishes texts without a clean session; what is not
+/// acknowledged is sent again once the connection is up (4.4). Answers the status of the program.
+pub fn resume<S: Stream, C: Clock, K: Keeper, W: Write>(
+    alloc: Global,
+    peer: &mut Peer<S, C, K>,
+    texts: &Texts<'_>,
+    output: &mut W,
+) -> io::Result<u8>
+    ensures { IfOk result (λ status. Prints (W.contents output.old) (W.contents output.new)
+        (IsResumeDone peer.old peer.new texts.now status)) }
+{
+    let resumed = peer.resumed();
+    writeln!(output, "resumed {resumed}")?;
+    output.flush()?;
+    publish(alloc, peer, texts, false, output)
 }

@@ -1,4 +1,5 @@
-//! Tests of the two client programs, over streams that are none: one that gives what is written down, and one at a server end.
+//! Tests of the two client programs, over streams that are none: one that gives what is written down, and one at a server end;
+//! and of sessions in a file, on a disk that is none.
 #![tactic(auto)]
 
 #[cfg(test)]
@@ -6,8 +7,14 @@ mod collect;
 #[cfg(test)]
 mod compare;
 #[cfg(test)]
+mod disk;
+#[cfg(test)]
 mod publish;
 #[cfg(test)]
 mod script;
 #[cfg(test)]
 mod served;
+#[cfg(test)]
+mod session;
+#[cfg(test)]
+mod side;

@@ -2,9 +2,10 @@
 
 ghost use Rattle.std.specs.Prelude.{◌≡◌, ◌≤◌, length};
 
-use mq_client::{Arrival, Broken, Clock, Nowhere, Peer, Stream};
+use mq_client::{Nowhere, Peer};
 use mq_decode::Limits;
 use mq_end::{ClientConfig, ClientEnd};
+use mq_stream::{Arrival, Broken, Clock, Stream};
 use mq_wire::Text;
 use std::alloc::{AllocError, Global};
 use std::test::Fail;

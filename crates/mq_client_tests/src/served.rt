@@ -3,10 +3,11 @@
 use crate::compare::expect_told;
 use crate::script::{Steps, new_client, put, told};
 use bytes::Bytes;
-use mq_client::{Arrival, Broken, Nowhere, Peer, Stream, Texts, Wish, collect, publish};
+use mq_client::{Nowhere, Peer, Texts, Wish, collect, publish};
 use mq_decode::Limits;
 use mq_end::{Happening, Progress, ServerConfig, ServerEnd};
 use mq_packet::{Message, NonEmpty, PacketId, Payload, SubAckCode};
+use mq_stream::{Arrival, Broken, Stream};
 use mq_topic::{Qos, TopicFilter, TopicName};
 use std::alloc::Global;
 use std::test::Fail;

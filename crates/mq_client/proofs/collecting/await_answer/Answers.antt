@@ -1,7 +1,8 @@
 use Rattle.std.proofs.Common.{[], refl}
 use Rattle.std.proofs.lemmas.Result.{err_from_is_err_and}
 use Rattle.mq_client.specs.declared.halt.Halt.TheVariants.{NotSubscribed}
-use Rattle.mq_client.proofs.Collected.{keeps_as, keeps_then}
+use Rattle.mq_client.proofs.Collected.{keeps_as, keeps_then, keeps_went}
+use Rattle.mq_client.proofs.Courses.{went_none}
 use Rattle.mq_client.proofs.collecting.await_answer.Goals as goal
 
 pub returns-in_err-keep-clause-kept : goal.returns-in_err-keep-clause-kept
@@ -17,3 +18,6 @@ returns-in-Some-false-clause-kept g c = keeps_as _ _ [] _ _ NotSubscribed refl (
 
 pub loop-preserved : goal.loop-preserved
 loop-preserved g c = keeps_then _ _ _ [] [] _ _ _ _ c.loop.invariant c.in_ok-keep.ensures
+
+pub loop-init : goal.loop-init
+loop-init g c = keeps_went _ _ _ _ _ (went_none _) refl

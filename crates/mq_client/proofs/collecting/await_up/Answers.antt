@@ -1,6 +1,7 @@
-use Rattle.std.proofs.Common.{[]}
+use Rattle.std.proofs.Common.{[], refl}
 use Rattle.std.proofs.lemmas.Result.{err_from_is_err_and}
-use Rattle.mq_client.proofs.Collected.{keeps_then}
+use Rattle.mq_client.proofs.Collected.{keeps_then, keeps_went}
+use Rattle.mq_client.proofs.Courses.{went_none}
 use Rattle.mq_client.proofs.collecting.await_up.Goals as goal
 
 pub returns-in_err-keep : goal.returns-in_err-keep
@@ -13,3 +14,6 @@ returns-then-is_up g c = keeps_then _ _ _ [] [] _ _ _ _ c.loop.invariant c.in_ok
 
 pub loop-preserved : goal.loop-preserved
 loop-preserved g c = keeps_then _ _ _ [] [] _ _ _ _ c.loop.invariant c.in_ok-keep.ensures
+
+pub loop-init : goal.loop-init
+loop-init g c = keeps_went _ _ _ _ _ (went_none _) refl

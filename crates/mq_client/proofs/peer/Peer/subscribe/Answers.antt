@@ -4,4 +4,4 @@ use Rattle.mq_client.proofs.Courses.{stepped}
 use Rattle.mq_client.proofs.peer.Peer.subscribe.Goals as goal
 
 pub returns-clause-went : goal.returns-clause-went
-returns-clause-went g c = rw (← c.self.view_is) (stepped (Subscribe c.args.requests) _ _ _ _ refl refl (record { id = c.in_default.field-0; asks = c.in_default.ensures.ok }))
+returns-clause-went g c = rw (← c.self.view_is) (stepped (Subscribe c.args.requests) _ _ _ _ _ refl refl refl (record { id = c.in_default.field-0; asks = c.in_default.ensures.ok }))

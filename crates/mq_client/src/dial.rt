@@ -1,0 +1,62 @@
+//! Connections that are made.
+
+use mq_stream::{Broken, Clock, Duplex, Elapsed, Stream};
+use std::net::{Net, OpenStream, SocketAddr};
+use std::time::{Duration, Instant};
+use std::{io, time};
+
+/// How long a read waits for bytes, in milliseconds.
+const READ_LIMIT: u64 = 100;
+
+/// How long a write waits for room, and a connection for its answer, in seconds.
+const LIMIT: u64 = 30;
+
+/// A connection: its stream, and a clock that starts with it.
+#[derive(Drop)]
+pub struct Connection<S: Stream, C: Clock> {
+    /// The stream.
+    pub stream: S,
+    /// The clock.
+    pub clock: C,
+}
+
+/// Who makes connections.
+pub trait Dial<S: Stream, C: Clock> {
+    /// Makes a connection.
+    fn dial(&mut self) -> Result<Connection<S, C>, Broken>;
+}
+
+/// Who makes connections to a port of this machine. No read waits longer than 100 milliseconds for bytes, and no write longer than 30
+/// seconds for room.
+#[derive(Drop)]
+pub struct Loopback<'a, R: Net + time::Clock> {
+    /// The system.
+    pub rt: &'a R,
+    /// The port.
+    pub port: u16,
+}
+
+// A connection to this port, with its limits.
+fn connect<R: Net>(net: &R, port: u16) -> io::Result<R::Stream> {
+    let address = SocketAddr::from(([127, 0, 0, 1], port));
+    let stream = net.connect_timeout(address, Duration::from_secs(LIMIT))?;
+    stream.set_read_timeout(Some(Duration::from_millis(READ_LIMIT)))?;
+    stream.set_write_timeout(Some(Duration::from_secs(LIMIT)))?;
+    stream.set_nodelay(true)?;
+    Ok(stream)
+}
+
+impl<'a, R: Net + time::Clock> Dial<Duplex<R::Stream>, Elapsed<'a, R>> for Loopback<'a, R> {
+    fn dial(&mut self) -> Result<Connection<Duplex<R::Stream>, Elapsed<'a, R>>, Broken> {
+        let Ok(start) = Instant::now(self.rt) else {
+            return Err(Broken);
+        };
+        match connect(self.rt, self.port) {
+            Ok(stream) => Ok(Connection {
+                stream: Duplex(stream),
+                clock: Elapsed::since(self.rt, start),
+            }),
+            Err(_) => Err(Broken),
+        }
+    }
+}

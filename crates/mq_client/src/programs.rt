@@ -1,0 +1,180 @@
+//! The programs whole, over any connections and files.
+
+ghost use Rattle.std.specs.Prelude.{◌≡◌, IfOk};
+ghost use Rattle.mq_line.specs.Lines.{Prints};
+ghost use Rattle.mq_client.specs.Program.{IsNewClient};
+ghost use Rattle.mq_client.specs.Programs.{IsClientOf, IsMessagesDone, IsSessionDone, IsTextsDone};
+
+use crate::collecting::{Wish, collect};
+use crate::dial::Dial;
+use crate::file::SessionFile;
+use crate::halt::Halt;
+use crate::keeper::{Keeper, Nowhere, Stored};
+use crate::loading::{Unloaded, load, new_client};
+use crate::peer::Peer;
+use crate::printing::{write_halt, write_unloaded};
+use crate::publishing::{Texts, publish, publish_all, resume};
+use mq_end::ClientEnd;
+use mq_stream::{Clock, Stream};
+use mq_wire::Text;
+use std::alloc::Global;
+use std::io;
+use std::io::Write;
+use std::rt::Files;
+
+// A client at a connection that is made for it.
+fn connected<S: Stream, C: Clock, K: Keeper, D: Dial<S, C>>(
+    client: ClientEnd,
+    dialer: &mut D,
+    keeper: K,
+) -> Result<Peer<S, C, K>, Halt>
+where
+    K: Drop,
+    ensures { IfOk result (λ peer. peer.client ≡ client) }
+{
+    match dialer.dial() {
+        Ok(connection) => Ok(Peer::new(client, connection.stream, connection.clock, keeper)),
+        Err(_) => Err(Halt::Lost),
+    }
+}
+
+// A new client at a connection that is made for it; its session ends with the program.
+fn newly_connected<S: Stream, C: Clock, D: Dial<S, C>>(
+    alloc: Global,
+    id: &Text,
+    dialer: &mut D,
+) -> Result<Peer<S, C, Nowhere>, Halt>
+    ensures { IfOk result (λ peer. IsNewClient id.now peer.client) }
+{
+    connected(new_client(alloc, id)?, dialer, Nowhere)
+}
+
+/// Makes a connection, and publishes texts over a clean session, as `publish` does.
+pub fn publish_texts<S: Stream + Drop, C: Clock + Drop, D: Dial<S, C>, W: Write>(
+    alloc: Global,
+    id: &Text,
+    texts: &Texts<'_>,
+    dialer: &mut D,
+    output: &mut W,
+) -> io::Result<u8>
+    ensures { IfOk result (λ status. Prints (W.contents output.old) (W.contents output.new)
+        (IsTextsDone id.now texts.now status)) }
+{
+    match newly_connected(alloc, id, dialer) {
+        Ok(mut peer) => publish(alloc, &mut peer, texts, true, output),
+        Err(halt) => write_halt(output, halt),
+    }
+}
+
+/// Makes a connection, and prints the messages that come, as `collect` does.
+pub fn collect_messages<S: Stream + Drop, C: Clock + Drop, D: Dial<S, C>, W: Write>(
+    alloc: Global,
+    id: &Text,
+    wish: &Wish<'_>,
+    clean: bool,
+    dialer: &mut D,
+    output: &mut W,
+) -> io::Result<u8>
+    ensures { IfOk result (λ status. Prints (W.contents output.old) (W.contents output.new)
+        (IsMessagesDone id.now clean wish.now status)) }
+{
+    match newly_connected(alloc, id, dialer) {
+        Ok(mut peer) => collect(alloc, &mut peer, wish, clean, output),
+        Err(halt) => write_halt(output, halt),
+    }
+}
+
+// Connects with a clean session and leaves, so that the server has no session of the client any more (3.1.2.4, 3.14).
+fn start_anew<S: Stream + Drop, C: Clock + Drop, D: Dial<S, C>>(
+    alloc: Global,
+    id: &Text,
+    texts: &Texts<'_>,
+    dialer: &mut D,
+) -> Result<(), Halt> {
+    let mut peer = newly_connected(alloc, id, dialer)?;
+    let none = Texts {
+        texts: &[],
+        ..*texts
+    };
+    publish_all(alloc, &mut peer, &none, true)
+}
+
+// Why a program ends before it goes on with a session.
+#[derive(Clone, Copy)]
+enum Unstarted {
+    Unloaded(Unloaded),
+    Halted(Halt),
+}
+
+// A new client, whose session begins empty at both ends.
+fn anew<S: Stream + Drop, C: Clock + Drop, D: Dial<S, C>>(
+    alloc: Global,
+    id: &Text,
+    texts: &Texts<'_>,
+    dialer: &mut D,
+) -> Result<ClientEnd, Halt>
+    ensures { IfOk result (IsNewClient id.now) }
+{
+    start_anew(alloc, id, texts, dialer)?;
+    Ok(new_client(alloc, id)?)
+}
+
+// The client with the session of a file, or with a new one where there is no file.
+fn client_of<S: Stream + Drop, C: Clock + Drop, D: Dial<S, C>, R: Files>(
+    alloc: Global,
+    id: &Text,
+    texts: &Texts<'_>,
+    files: &R,
+    name: &str,
+    dialer: &mut D,
+) -> Result<ClientEnd, Unstarted>
+    ensures { IfOk result (IsClientOf id.now) }
+{
+    match load(alloc, files, name, id) {
+        Ok(Some(client)) => Ok(client),
+        Ok(None) => match anew(alloc, id, texts, dialer) {
+            Ok(client) => Ok(client),
+            Err(halt) => Err(Unstarted::Halted(halt)),
+        },
+        Err(why) => Err(Unstarted::Unloaded(why)),
+    }
+}
+
+// A client whose session stands in a file, at a connection that is made for it.
+fn kept_client<'a, S: Stream, C: Clock, D: Dial<S, C>, R: Files>(
+    alloc: Global,
+    client: ClientEnd,
+    files: &'a R,
+    name: &'a str,
+    dialer: &mut D,
+) -> Result<Peer<S, C, Stored<SessionFile<'a, R>>>, Halt>
+    ensures { IfOk result (λ peer. peer.client ≡ client) }
+{
+    let store = SessionFile::new(alloc, files, name)?;
+    connected(client, dialer, Stored { alloc, store })
+}
+
+/// Publishes texts over a session that stands in a file, as `resume` does. Where there is no file of this name, a connection with a clean
+/// session is made first, and left, so that both sessions begin empty; the file is first written after that.
+pub fn publish_session<S: Stream + Drop, C: Clock + Drop, D: Dial<S, C>, R: Files, W: Write>(
+    alloc: Global,
+    id: &Text,
+    texts: &Texts<'_>,
+    files: &R,
+    name: &str,
+    dialer: &mut D,
+    output: &mut W,
+) -> io::Result<u8>
+    ensures { IfOk result (λ status. Prints (W.contents output.old) (W.contents output.new)
+        (IsSessionDone id.now texts.now status)) }
+{
+    let client = match client_of(alloc, id, texts, files, name, dialer) {
+        Ok(client) => client,
+        Err(Unstarted::Unloaded(why)) => return write_unloaded(output, why),
+        Err(Unstarted::Halted(halt)) => return write_halt(output, halt),
+    };
+    match kept_client(alloc, client, files, name, dialer) {
+        Ok(mut peer) => resume(alloc, &mut peer, texts, output),
+        Err(halt) => write_halt(output, halt),
+    }
+}

@@ -1,0 +1,273 @@
+//! `publish` over a session that stands in a file.
+
+use crate::compare::expect_told;
+use crate::disk::{Disk, Lent};
+use crate::script::bytes_of;
+use crate::side::{Dialer, Side};
+use mq_client::{Texts, publish_session};
+use mq_topic::{Qos, TopicName};
+use mq_wire::Text;
+use std::alloc::Global;
+use std::cell::RefCell;
+use std::process::Abort;
+use std::test::Fail;
+
+// The status and what is printed, where these texts are published to `t` for the client `w`.
+fn run(alloc: Global, disk: &Disk, side: &RefCell<Side>, texts: &[&str]) -> Result<String, Fail> {
+    let id = Text::new(alloc, "w")?;
+    let topic = TopicName::parse(alloc, "t")?;
+    let texts = Texts {
+        topic: &topic,
+        qos: Qos::Q2,
+        retain: false,
+        texts,
+    };
+    let mut output = Vec::new(alloc);
+    let status = publish_session(
+        alloc,
+        &id,
+        &texts,
+        &Lent(disk),
+        "s",
+        &mut Dialer(side),
+        &mut output,
+    )?;
+    let mut told = String::new(alloc);
+    write!(told, "{status}")?;
+    for byte in output.as_slice() {
+        let char = if *byte == b'\n' {
+            '|'
+        } else {
+            char::from(*byte)
+        };
+        told.push(char)?;
+    }
+    Ok(told)
+}
+
+// Bytes as hexadecimal digits.
+fn push_digits(told: &mut String, bytes: &[u8]) -> Result<(), Fail> {
+    for byte in bytes {
+        write!(told, "{byte:02x}")?;
+    }
+    Ok(())
+}
+
+// The file of a disk, and what a server was handed.
+fn left(alloc: Global, disk: &Disk, side: &RefCell<Side>) -> Result<String, Fail> {
+    let mut told = String::new(alloc);
+    match disk.file.try_borrow() {
+        Ok(file) => match &*file {
+            Some(bytes) => push_digits(&mut told, bytes.as_slice())?,
+            None => told.push_str("no file")?,
+        },
+        Err(_) => return Err("the disk is in use".into()),
+    }
+    match side.try_borrow() {
+        Ok(side) => {
+            write!(told, " {} ", side.connections)?;
+            for byte in side.handed.as_slice() {
+                told.push(char::from(*byte))?;
+            }
+        }
+        Err(_) => return Err("the server is in use".into()),
+    }
+    Ok(told)
+}
+
+// A run over a file of these hexadecimal digits, and what is left.
+fn run_over(alloc: Global, file: Option<&str>, texts: &[&str]) -> Result<String, Fail> {
+    let file = match file {
+        Some(digits) => Some(bytes_of(alloc, digits)?),
+        None => None,
+    };
+    let disk = Disk::new(alloc, file);
+    let side = RefCell::new(Side::new(alloc)?);
+    let mut told = run(alloc, &disk, &side, texts)?;
+    let left = left(alloc, &disk, &side)?;
+    told.push_str(left.as_str())?;
+    Ok(told)
+}
+
+// What the file holds before, the texts, and what is printed, what the file holds then, and what the server has.
+static GONE_ON: [(&str, Option<&str>, &[&str], &str); 9] = [
+    (
+        "a message of before, of version 1",
+        Some("4d5153010004000100010001020100000174000000017800000000"),
+        &[],
+        "0resumed 1|published 0|4d5153020001770100040001000000000000 1 x",
+    ),
+    (
+        "a message of before and a text",
+        Some("4d515302000177000004000100010001020100000174000000017800000000"),
+        &["y"],
+        "0resumed 1|published 1|4d5153020001770100040002000000000000 1 xy",
+    ),
+    (
+        "no file",
+        None,
+        &["x", "y"],
+        "0resumed 0|published 2|4d5153020001770100640002000000000000 2 xy",
+    ),
+    (
+        "no file and no text",
+        None,
+        &[],
+        "0resumed 0|published 0|4d5153020001770100640000000000000000 2 ",
+    ),
+    (
+        "no version",
+        Some("4d5153030001770100040001000000000000"),
+        &["y"],
+        "2session L1|4d5153030001770100040001000000000000 0 ",
+    ),
+    (
+        "malformed",
+        Some("4d5153020001770200040001000000000000"),
+        &["y"],
+        "2session L2|4d5153020001770200040001000000000000 0 ",
+    ),
+    ("empty", Some(""), &["y"], "2session L1| 0 "),
+    (
+        "of another client",
+        Some("4d5153020001760100040001000000000000"),
+        &["y"],
+        "2session L4|4d5153020001760100040001000000000000 0 ",
+    ),
+    (
+        "cut",
+        Some("4d51530200017701000400010000000000"),
+        &["y"],
+        "2session L2|4d51530200017701000400010000000000 0 ",
+    ),
+];
+
+#[test]
+fn a_session_goes_on(rt: HostRuntime) -> Result<(), Fail> {
+    for (name, file, texts, wanted) in &GONE_ON {
+        let told = run_over(rt.alloc(), *file, *texts);
+        expect_told(&rt, told, *wanted, *name)?;
+    }
+    Ok(())
+}
+
+// A run at which a write is lost behind so many of its bytes, and a run again, with the texts or without; what is printed, and what is left.
+fn lost_at(alloc: Global, lost_at: u32, cut: usize, again: &[&str]) -> Result<String, Fail> {
+    let disk = Disk::new(alloc, None);
+    let mut side = Side::new(alloc)?;
+    side.lost_at = lost_at;
+    side.cut = cut;
+    let side = RefCell::new(side);
+    let mut told = run(alloc, &disk, &side, &["x", "y"])?;
+    let second = run(alloc, &disk, &side, again)?;
+    told.push_str(second.as_str())?;
+    let left = left(alloc, &disk, &side)?;
+    told.push_str(left.as_str())?;
+    Ok(told)
+}
+
+// The connection is lost at each write in turn: CONNECT and DISCONNECT with a clean session, CONNECT, the PUBLISHes, the PUBRELs, DISCONNECT.
+// The texts that were published before are handed on once in all, and those that were not are published by the run after.
+#[test]
+fn each_text_is_handed_on_once(rt: HostRuntime) -> Result<(), Fail> {
+    let rows: [(u32, &[&str], &str); 6] = [
+        (
+            1,
+            &["x", "y"],
+            "1connection failed|0resumed 0|published 2|4d5153020001770100640002000000000000 3 xy",
+        ),
+        (
+            2,
+            &["x", "y"],
+            "1connection failed|0resumed 0|published 2|4d5153020001770100640002000000000000 3 xy",
+        ),
+        (
+            3,
+            &["x", "y"],
+            "1resumed 0|connection failed|0resumed 0|published 2|4d5153020001770100640002000000000000 3 xy",
+        ),
+        (
+            4,
+            &[],
+            "1resumed 0|connection failed|0resumed 2|published 0|4d5153020001770100640002000000000000 3 xy",
+        ),
+        (
+            5,
+            &[],
+            "1resumed 0|connection failed|0resumed 2|published 0|4d5153020001770100640002000000000000 3 xy",
+        ),
+        (
+            6,
+            &[],
+            "1resumed 0|connection failed|0resumed 0|published 0|4d5153020001770100640002000000000000 3 xy",
+        ),
+    ];
+    for (number, again, wanted) in rows {
+        for cut in [0, 5, 4096] {
+            let told = lost_at(rt.alloc(), number, cut, again);
+            expect_told(&rt, told, wanted, "a write is lost")?;
+        }
+    }
+    Ok(())
+}
+
+// How many times a server was written to.
+fn writes_of(side: &RefCell<Side>) -> u32 {
+    match side.try_borrow() {
+        Ok(side) => side.writes,
+        Err(_) => 0,
+    }
+}
+
+// A run on a disk that takes so many forms, and a run again on one that takes all; and how many times the first one wrote to the server.
+fn unwritten(alloc: Global, renames: u32, again: &[&str]) -> Result<String, Fail> {
+    let disk = Disk::new(alloc, None);
+    disk.renames.set(renames);
+    let side = RefCell::new(Side::new(alloc)?);
+    let mut told = run(alloc, &disk, &side, &["x", "y"])?;
+    write!(told, "{} ", writes_of(&side))?;
+    disk.renames.set(u32::MAX);
+    let second = run(alloc, &disk, &side, again)?;
+    told.push_str(second.as_str())?;
+    let left = left(alloc, &disk, &side)?;
+    told.push_str(left.as_str())?;
+    Ok(told)
+}
+
+// The disk takes no form, or one, and so on: that of CONNECT, of CONNACK, of the PUBLISHes, of the PUBRECs, of the PUBCOMPs. Nothing that a
+// change put out goes out where its form was not taken; so the run again hands each text on once.
+#[test]
+fn a_form_is_not_written(rt: HostRuntime) -> Result<(), Fail> {
+    let rows: [(u32, &[&str], &str); 5] = [
+        (
+            0,
+            &["x", "y"],
+            "1resumed 0|session not written|2 0resumed 0|published 2|4d5153020001770100640002000000000000 4 xy",
+        ),
+        (
+            1,
+            &["x", "y"],
+            "1resumed 0|session not written|3 0resumed 0|published 2|4d5153020001770100640002000000000000 3 xy",
+        ),
+        (
+            2,
+            &["x", "y"],
+            "1resumed 0|session not written|3 0resumed 0|published 2|4d5153020001770100640002000000000000 3 xy",
+        ),
+        (
+            3,
+            &[],
+            "1resumed 0|session not written|4 0resumed 2|published 0|4d5153020001770100640002000000000000 3 xy",
+        ),
+        (
+            4,
+            &[],
+            "1resumed 0|session not written|5 0resumed 2|published 0|4d5153020001770100640002000000000000 3 xy",
+        ),
+    ];
+    for (renames, again, wanted) in rows {
+        let told = unwritten(rt.alloc(), renames, again);
+        expect_told(&rt, told, wanted, "a form is not written")?;
+    }
+    Ok(())
+}
