@@ -1,16 +1,17 @@
 -- From the parser's matches to a job.
-use Rattle.std.proofs.Common.{◌≡◌, ℕ, refl, sym, ◌∙◌, Bool, true, false, codes, List, Bor, Option, Some, None, Result, Ok, option_map}
-use Rattle.std.specs.Prelude.{Box, IfSome}
+use Rattle.std.proofs.Common.{◌≡◌, ℕ, refl, sym, ap, ◌∙◌, Bool, true, false, codes, List, [], Bor, Option, Some, None, Result, Ok, option_map}
+use Rattle.std.specs.Prelude.{Box, IfSome, unwrap_or}
 use Rattle.std.specs.Box.{box_value}
 use Rattle.std.specs.Str.Parse.{ParsesUnsigned}
 use Rattle.clap.specs.Simple.{is_simple}
-use Rattle.clap.specs.Words.{ReadsOne, Row, Text, first_value, one_text, rows_of, subcommand_rows}
+use Rattle.clap.specs.Words.{ReadsOne, Row, Text, first_value, matched_of, one_text, raw_values, rows_of, subcommand_rows}
 use Rattle.clap.specs.declared.parser.matches.ArgMatches.TheViews.{out-SubCommand}
 use Rattle.clap.specs.declared.parser.matches.Found.{Found}
 use Rattle.clap.specs.declared.parser.matches.SubCommand.{SubCommand}
 use Rattle.clap.proofs.OnLiterals.{clap_on_literals}
-use Rattle.clap.proofs.WalkLemmas.{first_value-rows, one_text-rows}
-use Rattle.mq_cli.specs.CommandLine.{GivesFlag, GivesNumber, HasWord, program_words}
+use Rattle.clap.proofs.WalkLemmas.{first_value-rows, one_text-rows, raw_values-rows}
+use Rattle.mq_cli.specs.CommandLine.{GivesFlag, GivesNumber, GivesTexts, HasWord}
+use Rattle.mq_cli.specs.Grammar.{program_words}
 
 pub program_is_simple : is_simple program_words ≡ true
 unfolding clap_on_literals
@@ -30,6 +31,12 @@ command_met (Some b) name rows n r = cc
 pub word_given : {Z : Type 0} (o : Option (Box SubCommand Z)) (name word : Text) (f : Found) (v : Option (Bor Text)) → Met o name f → option_map (λ s. s.now) v ≡ first_value f word
     → HasWord (subcommand_rows o) name word (option_map (λ s. s.now) v)
 word_given o name word f v met read = (rows_of f, command_met o name (rows_of f) met.named met.rows, sym (first_value-rows f word) ∙ sym read)
+
+-- all values of a word
+pub texts_given : {Z : Type 0} (o : Option (Box SubCommand Z)) (name word : Text) (f : Found) (read : Option (List Text)) (texts : List Text) → Met o name f → read ≡ option_map raw_values (matched_of f word)
+    → unwrap_or read [] ≡ texts → GivesTexts (subcommand_rows o) name word texts
+texts_given o name word f read texts met same values =
+    (rows_of f, command_met o name (rows_of f) met.named met.rows, ap (λ (o : Option (List Text)). unwrap_or o []) (sym (raw_values-rows f word) ∙ sym same) ∙ values)
 
 -- the number of an option
 pub number_given : {Z E : Type 0} (G : List ℕ → Result ℕ E → Type 0) (o : Option (Box SubCommand Z)) (name word : Text) (f : Found) (v : Option ℕ) → Met o name f

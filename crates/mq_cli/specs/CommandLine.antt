@@ -1,55 +1,18 @@
 -- What the words of a command line ask for.
-use Rattle.std.specs.Prelude.{◌≡◌, ◌≢◌, ◌⊎◌, ℕ, pos, Bool, true, false, List, Option, Some, None, codes}
+use Rattle.std.specs.Prelude.{◌≡◌, ◌≢◌, ◌⊎◌, ◌≤◌, ℕ, Bool, true, false, List, [], length, map, Option, Some, None, option_map, unwrap_or, codes}
 use Rattle.std.specs.Str.Parse.{IsNumeral, digits_value, without_leading_plus}
-use Rattle.clap.specs.Simple.{on_top}
-use Rattle.clap.specs.Words.{App, Row, Rule, Text, first_of, new_app, new_rule, one_of, with_rule, with_subcommand}
-use Rattle.clap.specs.declared.builder.action.ArgAction.TheVariants.{SetTrue}
-use Rattle.clap.specs.declared.builder.value_parser.ValueParser.{ValueParser}
-use Rattle.clap.specs.declared.builder.value_parser.ValueParser.TheVariants.{Signed, Unsigned}
+use Rattle.clap.specs.Words.{Row, Text, all_of, first_of, one_of}
+use Rattle.mq_topic.specs.Qos.{qos_number}
+use Rattle.mq_topic.specs.declared.qos.Qos.{Qos}
 use Rattle.mq_cli.specs.declared.jobs.Job.{Job}
 use Rattle.mq_cli.specs.declared.jobs.Job.TheVariants.{Show, ShowFrom, Check, Match, Replay, Random}
 use Rattle.mq_cli.specs.declared.jobs.Source.{Source}
 use Rattle.mq_cli.specs.declared.jobs.Source.TheVariants.{File, Standard}
-
--- ---- the commands
-
--- a command with one word, which has to be there
-abbrev pub word_words : Text → Text → App
-word_words name word = with_rule (new_app name) (record (new_rule word) { required = true })
-
--- `match FILTER NAME`
-abbrev pub match_words : App
-match_words = with_rule (word_words (codes "match") (codes "FILTER")) (record (new_rule (codes "NAME")) { required = true })
-
--- the flag `--lenient`
-abbrev pub lenient_rule : Rule
-lenient_rule = record (new_rule (codes "LENIENT")) { long = Some (codes "lenient"); action = Some SetTrue }
-
--- `check [--lenient] FILE`
-abbrev pub check_words : App
-check_words = with_rule (word_words (codes "check") (codes "FILE")) lenient_rule
-
--- `show [--lenient] HEX`, or `--file FILE` in place of the digits
-abbrev pub show_words : App
-show_words = with_rule (with_rule (with_rule (new_app (codes "show")) (new_rule (codes "HEX"))) (record (new_rule (codes "FILE")) { long = Some (codes "file") })) lenient_rule
-
--- an option with a number of this kind, which has to be there
-abbrev pub number_rule : Text → Text → ValueParser → Rule
-number_rule word name kind = record (new_rule word) { long = Some name; parser = Some kind; required = true }
-
--- `random --start START --steps STEPS`: a number of 64 bits, and one of 32
-abbrev pub random_words : App
-random_words = with_rule (with_rule (new_app (codes "random")) (number_rule (codes "START") (codes "start") (Unsigned 0 18446744073709551615))) (number_rule (codes "STEPS") (codes "steps") (Signed (pos 0) (pos 4294967295)))
-
--- the program's name, and one of its commands: `show`, `check`
-abbrev pub stream_words : App
-stream_words = with_subcommand (with_subcommand (on_top (λ s. record s { has_version = true; subcommand_required = true; arg_required_else_help = true }) (new_app (codes "mqtt"))) show_words.top) check_words.top
-
--- `match`, `replay FILE`, `random`
-abbrev pub program_words : App
-program_words = with_subcommand (with_subcommand (with_subcommand stream_words match_words.top) (word_words (codes "replay") (codes "FILE")).top) random_words.top
-
--- ---- the jobs
+use Rattle.mq_cli.specs.declared.jobs.Command.{Command}
+use Rattle.mq_cli.specs.declared.jobs.Command.TheVariants as commands
+use Rattle.mq_cli.specs.declared.jobs.Serve.{Serve}
+use Rattle.mq_cli.specs.declared.jobs.Publish.{Publish}
+use Rattle.mq_cli.specs.declared.jobs.Collect.{Collect}
 
 -- the command of this name was met, and this is what it has for a word: its value, or nothing
 abbrev pub HasWord : Option (Text × List Row) → Text → Text → Option Text → Type 0
@@ -104,6 +67,54 @@ IsJobOf command (Check source lenient) = GivesSource command (codes "check") (co
 IsJobOf command (Match filter name) = GivesWord command (codes "match") (codes "FILTER") filter.now × GivesWord command (codes "match") (codes "NAME") name.now
 IsJobOf command (Replay source) = GivesSource command (codes "replay") (codes "FILE") source
 IsJobOf command (Random start steps) = GivesNumber command (codes "random") (codes "START") start × GivesNumber command (codes "random") (codes "STEPS") steps
+
+-- the option `--qos` of this command has the number of this quality of service
+abbrev pub GivesQos : Option (Text × List Row) → Text → Qos → Type 0
+GivesQos command name qos = GivesNumber command name (codes "QOS") (qos_number qos)
+
+-- the option `--id` of this command has this value, of 65,535 bytes at most (1.5.3)
+abbrev pub GivesId : Option (Text × List Row) → Text → Text → Type 0
+GivesId command name id = GivesWord command name (codes "ID") id × (length id ≤ 65535)
+
+-- the command of this name was met, and these are all values of a word
+abbrev pub GivesTexts : Option (Text × List Row) → Text → Text → List Text → Type 0
+GivesTexts command name word texts = (rows : List Row) × (command ≡ Some (name, rows)) × (unwrap_or (all_of word rows) [] ≡ texts)
+
+-- the words of `serve`, with 1 to 64 workers
+pub record IsServe (command : Option (Text × List Row)) (serve : Serve) : Type 0 where
+  pub port : GivesNumber command (codes "serve") (codes "PORT") serve.port
+  pub connections : GivesNumber command (codes "serve") (codes "CONNECTIONS") serve.connections
+  pub workers : GivesNumber command (codes "serve") (codes "WORKERS") serve.workers
+  pub some : 1 ≤ serve.workers
+  pub few : serve.workers ≤ 64
+
+-- the words of `publish`; without texts they name a session
+pub record IsPublish (command : Option (Text × List Row)) (publish : Publish) : Type 0 where
+  pub port : GivesNumber command (codes "publish") (codes "PORT") publish.port
+  pub id : GivesId command (codes "publish") publish.id.now
+  pub topic : GivesWord command (codes "publish") (codes "TOPIC") publish.topic.now
+  pub qos : GivesQos command (codes "publish") publish.qos
+  pub retain : GivesFlag command (codes "publish") (codes "RETAIN") publish.retain
+  pub session : HasWord command (codes "publish") (codes "SESSION") (option_map (λ file. file.now) publish.session)
+  pub texts : GivesTexts command (codes "publish") (codes "TEXT") (map (λ text. text.now) publish.texts.items)
+  pub some : publish.session ≡ None → publish.texts.items ≢ []
+
+-- the words of `collect`
+pub record IsCollect (command : Option (Text × List Row)) (collect : Collect) : Type 0 where
+  pub port : GivesNumber command (codes "collect") (codes "PORT") collect.port
+  pub id : GivesId command (codes "collect") collect.id.now
+  pub filter : GivesWord command (codes "collect") (codes "FILTER") collect.filter.now
+  pub qos : GivesQos command (codes "collect") collect.qos
+  pub count : GivesNumber command (codes "collect") (codes "COUNT") collect.count
+  pub clean : GivesFlag command (codes "collect") (codes "CLEAN") collect.clean
+
+-- the command that was met, and its values, are this one
+abbrev pub IsCommandOf : Option (Text × List Row) → Command → Type 0
+IsCommandOf command (commands.Job job) = IsJobOf command job
+IsCommandOf command (commands.Serve serve) = IsServe command serve
+IsCommandOf command (commands.Publish publish) = IsPublish command publish
+IsCommandOf command (commands.Collect collect) = IsCollect command collect
+IsCommandOf command (commands.Loopback source) = GivesSource command (codes "loopback") (codes "FILE") source
 
 -- where the bytes come from that a job reads
 abbrev pub job_source : Job → Option Source

@@ -5,7 +5,7 @@ use Rattle.std.specs.declared.io.ErrorKind.TheVariants.{OutOfMemory, BrokenPipe}
 use Rattle.mq_cli.specs.declared.failure.Failure.{Failure}
 use Rattle.mq_cli.specs.declared.failure.Failure.TheVariants.{Words, Memory, Output, Closed}
 
--- 2 for words that can't be read, 3 for want of memory, 4 where the output failed or was closed
+-- 2 for words that can't be read, 3 for lack of memory, 4 where the output failed or was closed
 abbrev pub failure_status : Failure → ℕ
 failure_status Words = 2
 failure_status Memory = 3

@@ -1,6 +1,7 @@
 pub mod Count
 pub mod CommandLine
 pub mod Failure
+pub mod Grammar
 pub mod Hexadecimal
 pub mod Printed
 pub mod Random

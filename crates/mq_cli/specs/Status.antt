@@ -44,7 +44,7 @@ abbrev pub widest : Bool → Bounds
 widest lenient = record { most = 268435455; lenient = lenient }
 
 -- the status and the lines of `show`: those of what is shown within the limit of the standard, 2 for what is no hexadecimal, or 3
--- for want of memory
+-- for lack of memory
 abbrev pub IsShowDone : Bool → List ℕ → ℕ → List ℕ → Type 0
 IsShowDone lenient digits status text =
     ((shown : Shown) × Shows (widest lenient) digits shown × (status ≡ end_status shown.end) × (text ≡ shown_lines shown.packets.items shown.end)) ⊎ ((status ≡ 2) × (text ≡ bad_hex) × (¬ IsHexadecimal digits)) ⊎ ((status ≡ 3) × (text ≡ no_memory))
@@ -53,7 +53,7 @@ IsShowDone lenient digits status text =
 abbrev pub end_of_rest : ℕ → StreamEnd
 end_of_rest held = if held == 0 then Whole else Held held
 
--- the status and the line where bytes can't be read on: 2 where a read may fail or there are too many, or 3 for want of memory
+-- the status and the line where bytes can't be read on: 2 where a read may fail or there are too many, or 3 for lack of memory
 abbrev pub IsCutShort : Option (List ℕ) → Bool → ℕ → List ℕ → Type 0
 IsCutShort left fails status line = ((status ≡ 2) × (line ≡ file_not_read) × IsUnread left fails) ⊎ ((status ≡ 3) × (line ≡ no_memory))
 
@@ -65,7 +65,7 @@ IsStreamShown lenient left fails status text =
     ((packets : List Packet) × (line : List ℕ) × IfSome left (λ bytes. AreFirst (widest lenient) bytes packets) × IsCutShort left fails status line × (text ≡ flat_map packet_line packets ++ line))
 
 -- the status and the lines of `check`: those of what a file has, where its bytes are known, or 2 where a read may fail or the bytes are
--- too many, or 3 for want of memory
+-- too many, or 3 for lack of memory
 abbrev pub IsCheckDone : Bool → Option (List ℕ) → Bool → ℕ → List ℕ → Type 0
 IsCheckDone lenient left fails status text =
     ((count : PacketCount) × IfSome left (Counts (widest lenient) count) × (status ≡ count_status count.end) × (text ≡ count_lines count)) ⊎ IsCutShort left fails status text
@@ -81,7 +81,7 @@ match_outcome (Some fault) name matches = (2, topic_line (codes "filter") fault)
 match_outcome None (Some fault) matches = (2, topic_line (codes "name") fault)
 match_outcome None None matches = (match_status matches, match_line matches)
 
--- those, or 3 for want of memory
+-- those, or 3 for lack of memory
 abbrev pub IsMatchDone : List ℕ → List ℕ → ℕ → List ℕ → Type 0
 IsMatchDone filter name status text =
     ((status, text) ≡ match_outcome (filter_fault filter) (name_fault name) (is_match filter name)) ⊎ ((status ≡ 3) × (text ≡ no_memory))
@@ -97,7 +97,7 @@ IsTextReplayed text status printed =
     ((schedule : Schedule) × IsSchedule (lines_of text) schedule × IsReplay schedule printed × (status ≡ 0)) ⊎ ((line : ℕ) × IsBadLine (lines_of text) line × (status ≡ 2) × (printed ≡ bad_line line)) ⊎ ((front : List ℕ) × IsCutOff text front × (status ≡ 3) × (printed ≡ front ++ no_memory))
 
 -- the status and the lines of `replay`: those of a file's schedule, where its bytes are known, or 2 where a read may fail or the bytes
--- are no UTF-8, or 3 for want of memory
+-- are no UTF-8, or 3 for lack of memory
 abbrev pub IsReplayDone : Option (List ℕ) → Bool → ℕ → List ℕ → Type 0
 IsReplayDone left fails status printed =
     ((text : List ℕ) × IfSome left (λ bytes. bytes ≡ text) × IsTextReplayed text status printed) ⊎ ((status ≡ 2) × (printed ≡ file_not_read) × ((fails ≡ true) ⊎ IfSome left (λ bytes. ¬ IsUtf8 bytes))) ⊎ ((status ≡ 3) × (printed ≡ no_memory))

@@ -3,6 +3,8 @@
 ghost use Rattle.std.specs.Prelude.{◌≡◌};
 ghost use Rattle.mq_cli.specs.CommandLine.{job_source};
 
+use mq_topic::Qos;
+
 /// Where the bytes of a job come from.
 #[derive(Clone, Copy, Debug, PartialEq, Eq)]
 pub enum Source<'a> {
@@ -12,7 +14,69 @@ pub enum Source<'a> {
     Standard,
 }
 
-/// What the program is asked to do.
+/// What the words of a command line ask for.
+#[derive(Debug, Drop, PartialEq, Eq)]
+pub enum Command<'a> {
+    /// A job, which reads bytes and prints.
+    Job(Job<'a>),
+    /// To serve as a broker.
+    Serve(Serve),
+    /// To publish texts as a client.
+    Publish(Publish<'a>),
+    /// To print the messages that come to a client.
+    Collect(Collect<'a>),
+    /// To run the broker and the clients of a loopback file.
+    Loopback(Source<'a>),
+}
+
+/// A broker on this machine.
+#[derive(Clone, Copy, Debug, PartialEq, Eq)]
+pub struct Serve {
+    /// The port that it listens on; 0 takes a free one.
+    pub port: u16,
+    /// How many connections it serves before it ends.
+    pub connections: u32,
+    /// How many threads serve them, 1 to 64.
+    pub workers: u8,
+}
+
+/// A client that publishes.
+#[derive(Debug, Drop, PartialEq, Eq)]
+pub struct Publish<'a> {
+    /// The port of the broker, on this machine.
+    pub port: u16,
+    /// The client identifier, of 65,535 bytes at most.
+    pub id: &'a str,
+    /// What is given for the topic name, and may be none.
+    pub topic: &'a str,
+    /// The quality of service of the messages.
+    pub qos: Qos,
+    /// Whether the broker is asked to keep the last message for clients that come later (3.3.1.3).
+    pub retain: bool,
+    /// The file that keeps the session from one run to the next.
+    pub session: Option<&'a str>,
+    /// The payloads, one message each; none only where there is a file for the session.
+    pub texts: Vec<&'a str>,
+}
+
+/// A client that takes messages and prints them.
+#[derive(Clone, Copy, Debug, PartialEq, Eq)]
+pub struct Collect<'a> {
+    /// The port of the broker, on this machine.
+    pub port: u16,
+    /// The client identifier, of 65,535 bytes at most.
+    pub id: &'a str,
+    /// What is given for the topic filter, and may be none.
+    pub filter: &'a str,
+    /// The greatest quality of service that it asks for.
+    pub qos: Qos,
+    /// How many messages it waits for.
+    pub count: u32,
+    /// Whether it begins with a clean session and keeps none (3.1.2.4).
+    pub clean: bool,
+}
+
+/// What the program is asked to print.
 #[derive(Clone, Copy, Debug, PartialEq, Eq)]
 pub enum Job<'a> {
     /// To print the packets of bytes.

@@ -5,6 +5,7 @@
 mod count;
 mod failure;
 mod front;
+mod grammar;
 mod input;
 mod jobs;
 mod output;
@@ -18,8 +19,8 @@ mod words;
 pub use crate::count::{CountEnd, CountFault, PacketCount, count_packets};
 pub use crate::failure::Failure;
 pub use crate::input::{Fallible, JobInput};
-pub use crate::jobs::{Job, Source};
+pub use crate::jobs::{Collect, Command, Job, Publish, Serve, Source};
 pub use crate::output::{perform, perform_file};
 pub use crate::show::{ShowFault, shown};
 pub use crate::stream::{Shown, StreamEnd};
-pub use crate::words::{WordsFault, job};
+pub use crate::words::{WordsFault, command};

@@ -1,29 +1,25 @@
 //! The words of the command line.
 
-ghost use Rattle.std.specs.Prelude.{◌≡◌, false, codes, map, option_map, IfOk, IfSome};
-ghost use Rattle.clap.specs.Words.{app_of, new_app, rule_of, subcommand_of, subcommand_rows_of};
-ghost use Rattle.clap.specs.declared.builder.command.Command.TheViews.{out-Command};
-ghost use Rattle.mq_cli.specs.CommandLine.{GivesFlag, GivesNumber, GivesSource, GivesWord, HasWord, IsDigitsJob, IsJobOf, IsSource, check_words, lenient_rule, match_words, number_rule, program_words, random_words, show_words, stream_words, word_words};
+ghost use Rattle.std.specs.Prelude.{◌≡◌, ◌≤◌, ◌≢◌, [], None, codes, map, option_map, IfOk, IfSome};
+ghost use Rattle.clap.specs.Words.{subcommand_of, subcommand_rows_of};
+ghost use Rattle.mq_cli.specs.CommandLine.{GivesFlag, GivesId, GivesNumber, GivesQos, GivesSource, GivesTexts, GivesWord, HasWord, IsCollect, IsCommandOf, IsDigitsJob, IsJobOf, IsPublish, IsServe, IsSource};
+ghost use Rattle.mq_cli.specs.Grammar.{program_words};
 
-use crate::jobs::{Job, Source};
-use clap::builder::ValueParser;
+use crate::grammar::command_line;
+use crate::jobs::{Collect, Command, Job, Publish, Serve, Source};
 use clap::error::ErrorKind;
-use clap::{Arg, ArgAction, ArgMatches, Command, Error as ParseError, value_parser};
+use clap::{ArgMatches, Error as ParseError};
+use mq_topic::Qos;
 use std::alloc::{AllocError, Global};
 use thiserror::Error;
 
-/// What the statuses mean, for the help.
-const STATUSES: &str = "Status:
-  0  done, and nothing is wrong
-  1  a fault, less than a whole packet, or a no
-  2  words, digits, a file, a filter, a name or a line of a schedule that can't be read
-  3  out of memory
-  4  the output failed, or was closed";
+/// The most threads that serve.
+const MOST_WORKERS: u8 = 64;
 
-/// What is wrong with a `show` that the command line's parser takes all the same.
-const WANTS: &str = "show wants HEX or --file FILE, and not both";
+/// The most bytes that a client identifier has (1.5.3).
+const MOST_ID: usize = 65_535;
 
-/// Why words are no job.
+/// Why words are no command.
 #[derive(Debug, Drop, Error)]
 pub enum WordsFault {
     /// They ask for help or for the version, or they can't be read. The error says which, has the text
@@ -48,176 +44,6 @@ impl From<ParseError> for WordsFault {
             _ => WordsFault::Words(error),
         }
     }
-}
-
-// What the help says of a command.
-#[derive(Clone, Copy)]
-struct Texts<'a> {
-    name: &'a str,
-    about: &'a str,
-    example: &'a str,
-}
-
-// A command with one word, which has to be there.
-fn word_command<'a>(
-    alloc: Global,
-    texts: Texts<'a>,
-    word: &'a str,
-    help: &'a str,
-) -> Result<Command<'a>, AllocError>
-    ensures words { IfOk result
-        (λ command. app_of command ≡ word_words texts.entry.name.now word.now) }
-    ensures local { IfOk result (λ command. (out-Command command).has_globals ≡ false) }
-{
-    let word = Arg::new(alloc, word).help(help).required(true);
-    new_command(alloc, texts).arg(word)
-}
-
-// A command without words.
-fn new_command<'a>(alloc: Global, texts: Texts<'a>) -> Command<'a>
-    ensures words { app_of result ≡ new_app texts.entry.name.now }
-    ensures local { (out-Command result).has_globals ≡ false }
-{
-    Command::new(alloc, texts.name)
-        .about(texts.about)
-        .after_help(texts.example)
-}
-
-// The flag `--lenient`.
-fn lenient_flag<'a>(alloc: Global) -> Arg<'a>
-    ensures rule { rule_of result ≡ lenient_rule }
-    ensures local { result.global ≡ false }
-{
-    Arg::new(alloc, "LENIENT")
-        .long("lenient")
-        .help("Takes a remaining length with more bytes than it needs")
-        .action(ArgAction::SetTrue)
-}
-
-// `show [--lenient] HEX`, or `--file FILE` in place of the digits.
-fn show_command<'a>(alloc: Global) -> Result<Command<'a>, AllocError>
-    ensures words { IfOk result (λ command. app_of command ≡ show_words) }
-    ensures local { IfOk result (λ command. (out-Command command).has_globals ≡ false) }
-{
-    let texts = Texts {
-        name: "show",
-        about: "Prints each packet of a stream of bytes on a line, and how the stream ends",
-        example: "Example: mqtt show 62020001c000",
-    };
-    let digits = Arg::new(alloc, "HEX").help(
-        "The bytes, two hexadecimal digits each; `-` takes them from the standard input",
-    );
-    let file = Arg::new(alloc, "FILE").long("file").help(
-        "Shows the bytes of this file instead; `-` is the standard input",
-    );
-    new_command(alloc, texts)
-        .arg(digits)?
-        .arg(file)?
-        .arg(lenient_flag(alloc))
-}
-
-// `check [--lenient] FILE`.
-fn check_command<'a>(alloc: Global) -> Result<Command<'a>, AllocError>
-    ensures words { IfOk result (λ command. app_of command ≡ check_words) }
-    ensures local { IfOk result (λ command. (out-Command command).has_globals ≡ false) }
-{
-    let texts = Texts {
-        name: "check",
-        about: "Counts the packets of a file, and says how it ends",
-        example: "Example: mqtt check stream.bin",
-    };
-    let file = "The file that has the bytes; `-` is the standard input";
-    word_command(alloc, texts, "FILE", file)?.arg(lenient_flag(alloc))
-}
-
-// `match FILTER NAME`.
-fn match_command<'a>(alloc: Global) -> Result<Command<'a>, AllocError>
-    ensures words { IfOk result (λ command. app_of command ≡ match_words) }
-    ensures local { IfOk result (λ command. (out-Command command).has_globals ≡ false) }
-{
-    let texts = Texts {
-        name: "match",
-        about: "Says whether a topic filter matches a topic name",
-        example: "Example: mqtt match 'sport/#' sport",
-    };
-    let name = Arg::new(alloc, "NAME")
-        .help("The topic name")
-        .required(true);
-    word_command(alloc, texts, "FILTER", "The topic filter")?.arg(name)
-}
-
-// `replay FILE`.
-fn replay_command<'a>(alloc: Global) -> Result<Command<'a>, AllocError>
-    ensures words { IfOk result
-        (λ command. app_of command ≡ word_words (codes "replay") (codes "FILE")) }
-    ensures local { IfOk result (λ command. (out-Command command).has_globals ≡ false) }
-{
-    let texts = Texts {
-        name: "replay",
-        about: "Makes the events of a schedule between two ends, and prints what comes of each",
-        example: "Example: mqtt replay schedule.txt",
-    };
-    let file = "The file that has the schedule; `-` is the standard input";
-    word_command(alloc, texts, "FILE", file)
-}
-
-// An option with a number of this kind, which has to be there.
-fn number_option<'a>(
-    alloc: Global,
-    word: &'a str,
-    name: &'a str,
-    help: &'a str,
-    kind: ValueParser<'a>,
-) -> Arg<'a>
-    ensures rule { rule_of result ≡ number_rule word.now name.now kind.entry }
-    ensures local { result.global ≡ false }
-{
-    Arg::new(alloc, word)
-        .long(name)
-        .help(help)
-        .value_parser(kind)
-        .required(true)
-}
-
-// `random --start START --steps STEPS`.
-fn random_command<'a>(alloc: Global) -> Result<Command<'a>, AllocError>
-    ensures words { IfOk result (λ command. app_of command ≡ random_words) }
-    ensures local { IfOk result (λ command. (out-Command command).has_globals ≡ false) }
-{
-    let texts = Texts {
-        name: "random",
-        about: "Prints a schedule that is made up, for `replay`",
-        example: "Example: mqtt random --start 7 --steps 300",
-    };
-    let seeds = "What it is made up from: the same start, the same schedule";
-    let start = number_option(alloc, "START", "start", seeds, value_parser!(u64));
-    let counts = "How many events it has";
-    let steps = number_option(alloc, "STEPS", "steps", counts, value_parser!(u32));
-    new_command(alloc, texts).arg(start)?.arg(steps)
-}
-
-// The command line with the commands on streams of packets.
-fn stream_commands<'a>(alloc: Global) -> Result<Command<'a>, AllocError>
-    ensures { IfOk result (λ command. app_of command ≡ stream_words) }
-{
-    Command::new(alloc, "mqtt")
-        .version("0.1.0")
-        .about("Reads and writes MQTT 3.1.1")
-        .after_help(STATUSES)
-        .subcommand_required(true)
-        .arg_required_else_help(true)
-        .subcommand(show_command(alloc)?)?
-        .subcommand(check_command(alloc)?)
-}
-
-// The whole command line.
-fn command<'a>(alloc: Global) -> Result<Command<'a>, AllocError>
-    ensures { IfOk result (λ command. app_of command ≡ program_words) }
-{
-    stream_commands(alloc)?
-        .subcommand(match_command(alloc)?)?
-        .subcommand(replay_command(alloc)?)?
-        .subcommand(random_command(alloc)?)
 }
 
 // What this command has for a word, where the command was met: its value, or nothing.
@@ -271,6 +97,62 @@ fn number_of(matches: &ArgMatches<'_>, command: &str, word: &str) -> Option<u64>
 {
     let met = matches.subcommand_matches(command)?;
     met.get_one(word)
+}
+
+// The number of 32 bits that an option of this command has, where that was met.
+fn count_of(matches: &ArgMatches<'_>, command: &str, word: &str) -> Option<u32>
+    ensures { IfSome result
+        (GivesNumber (subcommand_rows_of matches.now) command.now word.now) }
+{
+    u32::try_from(number_of(matches, command, word)?).ok()
+}
+
+// The port that this command has, where that was met.
+fn port_of(matches: &ArgMatches<'_>, command: &str) -> Option<u16>
+    ensures { IfSome result
+        (GivesNumber (subcommand_rows_of matches.now) command.now (codes "PORT")) }
+{
+    u16::try_from(number_of(matches, command, "PORT")?).ok()
+}
+
+// The quality of service that this command has, where that was met.
+fn qos_of(matches: &ArgMatches<'_>, command: &str) -> Option<Qos>
+    ensures { IfSome result (GivesQos (subcommand_rows_of matches.now) command.now) }
+{
+    let number = u8::try_from(number_of(matches, command, "QOS")?).ok()?;
+    Qos::from_number(number)
+}
+
+// The client identifier that this command has, where that was met and it is not too long.
+fn id_of<'a>(matches: &ArgMatches<'a>, command: &str) -> Option<&'a str>
+    ensures { IfSome result
+        (λ id. GivesId (subcommand_rows_of matches.now) command.now id.now) }
+{
+    let id = word_of(matches, command, "ID")?;
+    if id.len() > MOST_ID {
+        return None;
+    }
+    Some(id)
+}
+
+// All values of a word of this command, where the command was met.
+fn texts_of<'a>(
+    alloc: Global,
+    matches: &ArgMatches<'a>,
+    command: &str,
+    word: &str,
+) -> Result<Option<Vec<&'a str>>, AllocError>
+    ensures { IfOk result (λ found. IfSome found (λ texts.
+        GivesTexts (subcommand_rows_of matches.now) command.now word.now
+        (map (λ text. text.now) texts.items))) }
+{
+    let Some(met) = matches.subcommand_matches(command) else {
+        return Ok(None);
+    };
+    match met.get_strs(word) {
+        Some(texts) => Ok(Some(texts.to_vec(alloc)?)),
+        None => Ok(Some(Vec::new(alloc))),
+    }
 }
 
 // The job of `show` where digits stand, or `-` in their place.
@@ -334,7 +216,7 @@ fn random_job<'a>(matches: &ArgMatches<'a>) -> Option<Job<'a>>
     ensures { IfSome result (IsJobOf (subcommand_rows_of matches.now)) }
 {
     let start = number_of(matches, "random", "START")?;
-    let steps = u32::try_from(number_of(matches, "random", "STEPS")?).ok()?;
+    let steps = count_of(matches, "random", "STEPS")?;
     Some(Job::Random { start, steps })
 }
 
@@ -357,21 +239,150 @@ fn job_of<'a>(matches: &ArgMatches<'a>) -> Option<Job<'a>>
     }
 }
 
-/// The job that the words of a command line ask for. The first word is the program's name.
+// How many threads serve, where `serve` was met, and they are 1 to 64.
+fn workers_of(matches: &ArgMatches<'_>) -> Option<u8>
+    ensures { IfSome result (λ workers.
+        GivesNumber (subcommand_rows_of matches.now) (codes "serve") (codes "WORKERS") workers
+        × (1 ≤ workers) × (workers ≤ 64)) }
+{
+    let workers = u8::try_from(number_of(matches, "serve", "WORKERS")?).ok()?;
+    if workers == 0 || workers > MOST_WORKERS {
+        return None;
+    }
+    Some(workers)
+}
+
+// What `serve` asks for, where that was met.
+fn serve_of(matches: &ArgMatches<'_>) -> Option<Serve>
+    ensures { IfSome result (IsServe (subcommand_rows_of matches.now)) }
+{
+    let port = port_of(matches, "serve")?;
+    let connections = count_of(matches, "serve", "CONNECTIONS")?;
+    let workers = workers_of(matches)?;
+    Some(Serve {
+        port,
+        connections,
+        workers,
+    })
+}
+
+// What `publish` asks for, where that was met, with its texts.
+fn publish_with<'a>(matches: &ArgMatches<'a>, texts: Vec<&'a str>) -> Option<Publish<'a>>
+    ensures { IfSome result (λ publish. (publish.texts ≡ texts.entry)
+        × (GivesTexts (subcommand_rows_of matches.now) (codes "publish") (codes "TEXT")
+        (map (λ text. text.now) texts.entry.items)
+        → IsPublish (subcommand_rows_of matches.now) publish)) }
+{
+    let session = given_of(matches, "publish", "SESSION")?;
+    if texts.is_empty() && session.is_none() {
+        return None;
+    }
+    Some(Publish {
+        port: port_of(matches, "publish")?,
+        id: id_of(matches, "publish")?,
+        topic: word_of(matches, "publish", "TOPIC")?,
+        qos: qos_of(matches, "publish")?,
+        retain: flag_of(matches, "publish", "RETAIN")?,
+        session,
+        texts,
+    })
+}
+
+// What `publish` asks for, where that was met.
+fn publish_of<'a>(
+    alloc: Global,
+    matches: &ArgMatches<'a>,
+) -> Result<Option<Publish<'a>>, AllocError>
+    ensures { IfOk result (λ found. IfSome found
+        (IsPublish (subcommand_rows_of matches.now))) }
+{
+    match texts_of(alloc, matches, "publish", "TEXT")? {
+        Some(texts) => Ok(publish_with(matches, texts)),
+        None => Ok(None),
+    }
+}
+
+// What `collect` asks for, where that was met.
+fn collect_of<'a>(matches: &ArgMatches<'a>) -> Option<Collect<'a>>
+    ensures { IfSome result (IsCollect (subcommand_rows_of matches.now)) }
+{
+    Some(Collect {
+        port: port_of(matches, "collect")?,
+        id: id_of(matches, "collect")?,
+        filter: word_of(matches, "collect", "FILTER")?,
+        qos: qos_of(matches, "collect")?,
+        count: count_of(matches, "collect", "COUNT")?,
+        clean: flag_of(matches, "collect", "CLEAN")?,
+    })
+}
+
+// The file of `loopback`, where that was met.
+fn loopback_of<'a>(matches: &ArgMatches<'a>) -> Option<Source<'a>>
+    ensures { IfSome result
+        (GivesSource (subcommand_rows_of matches.now) (codes "loopback") (codes "FILE")) }
+{
+    source_of(matches, "loopback", "FILE")
+}
+
+// What the command that was met asks for.
+fn command_of<'a>(
+    alloc: Global,
+    matches: &ArgMatches<'a>,
+) -> Result<Option<Command<'a>>, AllocError>
+    ensures { IfOk result (λ found. IfSome found
+        (IsCommandOf (subcommand_rows_of matches.now))) }
+{
+    if let Some(job) = job_of(matches) {
+        return Ok(Some(Command::Job(job)));
+    }
+    if let Some(serve) = serve_of(matches) {
+        return Ok(Some(Command::Serve(serve)));
+    }
+    if let Some(collect) = collect_of(matches) {
+        return Ok(Some(Command::Collect(collect)));
+    }
+    if let Some(source) = loopback_of(matches) {
+        return Ok(Some(Command::Loopback(source)));
+    }
+    match publish_of(alloc, matches)? {
+        Some(publish) => Ok(Some(Command::Publish(publish))),
+        None => Ok(None),
+    }
+}
+
+// What is wrong with words that the command line's parser takes, and that are no command all the same.
+fn complaint(matches: &ArgMatches<'_>) -> (ErrorKind, &'static str) {
+    match matches.subcommand_name() {
+        Some("serve") => (ErrorKind::ValueValidation, "serve has 1 to 64 workers"),
+        Some("publish") if id_of(matches, "publish").is_some() => (
+            ErrorKind::MissingRequiredArgument,
+            "publish wants TEXT, or --session FILE",
+        ),
+        Some("publish" | "collect") => (
+            ErrorKind::ValueValidation,
+            "an ID has 65,535 bytes at most",
+        ),
+        _ => (
+            ErrorKind::MissingRequiredArgument,
+            "show wants HEX or --file FILE, and not both",
+        ),
+    }
+}
+
+/// What the words of a command line ask for. The first word is the program's name.
 /// An error has the text for the user, or says that memory ran out; which words it refuses is that of
 /// the command line's parser.
-pub fn job<'a>(alloc: Global, words: &'a [&'a str]) -> Result<Job<'a>, WordsFault>
+pub fn command<'a>(alloc: Global, words: &'a [&'a str]) -> Result<Command<'a>, WordsFault>
     ensures { IfOk result
-        (IsJobOf (subcommand_of program_words (map (λ word. word.now) words.entry.now))) }
+        (IsCommandOf (subcommand_of program_words (map (λ word. word.now) words.entry.now))) }
 {
-    let mut command = command(alloc)?;
-    let matches = command.try_get_matches_from_mut(words)?;
-    match job_of(&matches) {
-        Some(job) => Ok(job),
-        None => Err(
-            command
-                .error(ErrorKind::MissingRequiredArgument, WANTS)?
-                .into(),
-        ),
+    let mut line = command_line(alloc)?;
+    let matches = line.try_get_matches_from_mut(words)?;
+    match command_of(alloc, &matches)? {
+        Some(command) => Ok(command),
+        None => {
+            let (kind, message) = complaint(&matches);
+            Err(line.error(kind, message)?.into())
+        }
     }
 }

@@ -1,0 +1,93 @@
+-- The command line: its commands, and the words of each.
+use Rattle.std.specs.Prelude.{pos, true, Some, codes}
+use Rattle.clap.specs.Simple.{on_top}
+use Rattle.clap.specs.Words.{App, Rule, Text, new_app, new_rule, with_rule, with_subcommand}
+use Rattle.clap.specs.declared.builder.action.ArgAction.TheVariants.{Append, SetTrue}
+use Rattle.clap.specs.declared.builder.value_parser.ValueParser.{ValueParser}
+use Rattle.clap.specs.declared.builder.value_parser.ValueParser.TheVariants.{Signed, Unsigned}
+
+-- a command with one word, which has to be there
+abbrev pub word_words : Text → Text → App
+word_words name word = with_rule (new_app name) (record (new_rule word) { required = true })
+
+-- `match FILTER NAME`
+abbrev pub match_words : App
+match_words = with_rule (word_words (codes "match") (codes "FILTER")) (record (new_rule (codes "NAME")) { required = true })
+
+-- a flag
+abbrev pub flag_rule : Text → Text → Rule
+flag_rule word name = record (new_rule word) { long = Some name; action = Some SetTrue }
+
+-- the flag `--lenient`
+abbrev pub lenient_rule : Rule
+lenient_rule = flag_rule (codes "LENIENT") (codes "lenient")
+
+-- `check [--lenient] FILE`
+abbrev pub check_words : App
+check_words = with_rule (word_words (codes "check") (codes "FILE")) lenient_rule
+
+-- an option with the name of a file
+abbrev pub file_rule : Text → Text → Rule
+file_rule word name = record (new_rule word) { long = Some name }
+
+-- `show [--lenient] HEX`, or `--file FILE` in place of the digits
+abbrev pub show_words : App
+show_words = with_rule (with_rule (with_rule (new_app (codes "show")) (new_rule (codes "HEX"))) (file_rule (codes "FILE") (codes "file"))) lenient_rule
+
+-- an option with a number of this kind, which has to be there
+abbrev pub number_rule : Text → Text → ValueParser → Rule
+number_rule word name kind = record (new_rule word) { long = Some name; parser = Some kind; required = true }
+
+-- `random --start START --steps STEPS`: a number of 64 bits, and one of 32
+abbrev pub random_words : App
+random_words = with_rule (with_rule (new_app (codes "random")) (number_rule (codes "START") (codes "start") (Unsigned 0 18446744073709551615))) (number_rule (codes "STEPS") (codes "steps") (Signed (pos 0) (pos 4294967295)))
+
+-- an option with a text, which has to be there
+abbrev pub text_rule : Text → Text → Rule
+text_rule word name = record (new_rule word) { long = Some name; required = true }
+
+-- `--port PORT`: a number of 16 bits
+abbrev pub port_rule : Rule
+port_rule = number_rule (codes "PORT") (codes "port") (Signed (pos 0) (pos 65535))
+
+-- `--qos QOS`: at most 2
+abbrev pub qos_rule : Rule
+qos_rule = number_rule (codes "QOS") (codes "qos") (Signed (pos 0) (pos 2))
+
+-- `serve --port PORT --connections CONNECTIONS --workers WORKERS`: a number of 32 bits, and one from 1 to 64
+abbrev pub serve_words : App
+serve_words = with_rule (with_rule (with_rule (new_app (codes "serve")) port_rule) (number_rule (codes "CONNECTIONS") (codes "connections") (Signed (pos 0) (pos 4294967295)))) (number_rule (codes "WORKERS") (codes "workers") (Signed (pos 1) (pos 64)))
+
+-- the options of a client: `--port PORT --id ID`, one for its topic name or filter, and `--qos QOS`
+abbrev pub client_words : Text → Rule → App
+client_words name topics = with_rule (with_rule (with_rule (with_rule (new_app name) port_rule) (text_rule (codes "ID") (codes "id"))) topics) qos_rule
+
+-- any number of words TEXT
+abbrev pub texts_rule : Rule
+texts_rule = record (new_rule (codes "TEXT")) { action = Some Append }
+
+-- `publish`, of a client with `--topic TOPIC`, and `[--retain] [--session FILE] TEXT..`
+abbrev pub publish_words : App
+publish_words =
+    with_rule (with_rule (with_rule (client_words (codes "publish") (text_rule (codes "TOPIC") (codes "topic"))) (flag_rule (codes "RETAIN") (codes "retain"))) (file_rule (codes "SESSION") (codes "session"))) texts_rule
+
+-- `collect`, of a client with `--filter FILTER`, and `--count COUNT [--clean]`
+abbrev pub collect_words : App
+collect_words =
+    with_rule (with_rule (client_words (codes "collect") (text_rule (codes "FILTER") (codes "filter"))) (number_rule (codes "COUNT") (codes "count") (Signed (pos 0) (pos 4294967295)))) (flag_rule (codes "CLEAN") (codes "clean"))
+
+-- the program's name, and one of its commands: `show`, `check`
+abbrev pub stream_words : App
+stream_words = with_subcommand (with_subcommand (on_top (λ s. record s { has_version = true; subcommand_required = true; arg_required_else_help = true }) (new_app (codes "mqtt"))) show_words.top) check_words.top
+
+-- `match`, `replay FILE`, `random`
+abbrev pub job_words : App
+job_words = with_subcommand (with_subcommand (with_subcommand stream_words match_words.top) (word_words (codes "replay") (codes "FILE")).top) random_words.top
+
+-- `serve`, `publish`, `collect`
+abbrev pub socket_words : App
+socket_words = with_subcommand (with_subcommand (with_subcommand job_words serve_words.top) publish_words.top) collect_words.top
+
+-- `loopback FILE`
+abbrev pub program_words : App
+program_words = with_subcommand socket_words (word_words (codes "loopback") (codes "FILE")).top

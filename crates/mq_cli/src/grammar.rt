@@ -1,0 +1,374 @@
+//! The command line as its parser takes it: each command with its words, and what the help says.
+
+ghost use Rattle.std.specs.Prelude.{◌≡◌, false, codes, IfOk};
+ghost use Rattle.clap.specs.Words.{app_of, new_app, rule_of, with_rule};
+ghost use Rattle.clap.specs.declared.builder.command.Command.TheViews.{out-Command};
+ghost use Rattle.mq_cli.specs.Grammar.{check_words, client_words, collect_words, file_rule, flag_rule, job_words, lenient_rule, match_words, number_rule, port_rule, program_words, publish_words, qos_rule, random_words, serve_words, show_words, socket_words, stream_words, text_rule, texts_rule, word_words};
+
+use clap::builder::ValueParser;
+use clap::{Arg, ArgAction, Command, value_parser};
+use std::alloc::{AllocError, Global};
+
+/// What the statuses mean, for the help.
+const STATUSES: &str = "Status:
+  0  done, and nothing is wrong
+  1  a fault, less than a whole packet, a no, or a connection that failed
+  2  words, digits, a file, a filter, a name or a line of a file that can't be read
+  3  out of memory
+  4  the output failed, or was closed";
+
+// What the help says of a command.
+#[derive(Clone, Copy)]
+struct Texts<'a> {
+    name: &'a str,
+    about: &'a str,
+    example: &'a str,
+}
+
+// A command with one word, which has to be there.
+fn word_command<'a>(
+    alloc: Global,
+    texts: Texts<'a>,
+    word: &'a str,
+    help: &'a str,
+) -> Result<Command<'a>, AllocError>
+    ensures words { IfOk result
+        (λ command. app_of command ≡ word_words texts.entry.name.now word.now) }
+    ensures local { IfOk result (λ command. (out-Command command).has_globals ≡ false) }
+{
+    let word = Arg::new(alloc, word).help(help).required(true);
+    new_command(alloc, texts).arg(word)
+}
+
+// A command without words.
+fn new_command<'a>(alloc: Global, texts: Texts<'a>) -> Command<'a>
+    ensures words { app_of result ≡ new_app texts.entry.name.now }
+    ensures local { (out-Command result).has_globals ≡ false }
+{
+    Command::new(alloc, texts.name)
+        .about(texts.about)
+        .after_help(texts.example)
+}
+
+// A command with one word more.
+fn with_arg<'a>(command: Command<'a>, arg: Arg<'a>) -> Result<Command<'a>, AllocError>
+    requires { arg.global ≡ false }
+    ensures words { IfOk result
+        (λ new. app_of new ≡ with_rule (app_of command.entry) (rule_of arg.entry)) }
+    ensures local { IfOk result (λ new. (out-Command new).has_globals
+        ≡ (out-Command command.entry).has_globals) }
+{
+    command.arg(arg)
+}
+
+// A flag.
+fn flag<'a>(alloc: Global, word: &'a str, name: &'a str, help: &'a str) -> Arg<'a>
+    ensures rule { rule_of result ≡ flag_rule word.now name.now }
+    ensures local { result.global ≡ false }
+{
+    Arg::new(alloc, word)
+        .long(name)
+        .help(help)
+        .action(ArgAction::SetTrue)
+}
+
+// The flag `--lenient`.
+fn lenient_flag<'a>(alloc: Global) -> Arg<'a>
+    ensures rule { rule_of result ≡ lenient_rule }
+    ensures local { result.global ≡ false }
+{
+    let help = "Takes a remaining length with more bytes than it needs";
+    flag(alloc, "LENIENT", "lenient", help)
+}
+
+// An option with the name of a file, which may be left out.
+fn file_option<'a>(alloc: Global, word: &'a str, name: &'a str, help: &'a str) -> Arg<'a>
+    ensures rule { rule_of result ≡ file_rule word.now name.now }
+    ensures local { result.global ≡ false }
+{
+    Arg::new(alloc, word).long(name).help(help)
+}
+
+// `show [--lenient] HEX`, or `--file FILE` in place of the digits.
+fn show_command<'a>(alloc: Global) -> Result<Command<'a>, AllocError>
+    ensures words { IfOk result (λ command. app_of command ≡ show_words) }
+    ensures local { IfOk result (λ command. (out-Command command).has_globals ≡ false) }
+{
+    let texts = Texts {
+        name: "show",
+        about: "Prints each packet of a stream of bytes on a line, and how the stream ends",
+        example: "Example: mqtt show 62020001c000",
+    };
+    let digits = Arg::new(alloc, "HEX").help(
+        "The bytes, two hexadecimal digits each; `-` takes them from the standard input",
+    );
+    let name = "Shows the bytes of this file instead; `-` is the standard input";
+    let file = file_option(alloc, "FILE", "file", name);
+    let command = with_arg(new_command(alloc, texts), digits)?;
+    let command = with_arg(command, file)?;
+    with_arg(command, lenient_flag(alloc))
+}
+
+// `check [--lenient] FILE`.
+fn check_command<'a>(alloc: Global) -> Result<Command<'a>, AllocError>
+    ensures words { IfOk result (λ command. app_of command ≡ check_words) }
+    ensures local { IfOk result (λ command. (out-Command command).has_globals ≡ false) }
+{
+    let texts = Texts {
+        name: "check",
+        about: "Counts the packets of a file, and says how it ends",
+        example: "Example: mqtt check stream.bin",
+    };
+    let file = "The file that has the bytes; `-` is the standard input";
+    let command = word_command(alloc, texts, "FILE", file)?;
+    with_arg(command, lenient_flag(alloc))
+}
+
+// `match FILTER NAME`.
+fn match_command<'a>(alloc: Global) -> Result<Command<'a>, AllocError>
+    ensures words { IfOk result (λ command. app_of command ≡ match_words) }
+    ensures local { IfOk result (λ command. (out-Command command).has_globals ≡ false) }
+{
+    let texts = Texts {
+        name: "match",
+        about: "Says whether a topic filter matches a topic name",
+        example: "Example: mqtt match 'sport/#' sport",
+    };
+    let name = Arg::new(alloc, "NAME")
+        .help("The topic name")
+        .required(true);
+    let command = word_command(alloc, texts, "FILTER", "The topic filter")?;
+    with_arg(command, name)
+}
+
+// `replay FILE`.
+fn replay_command<'a>(alloc: Global) -> Result<Command<'a>, AllocError>
+    ensures words { IfOk result
+        (λ command. app_of command ≡ word_words (codes "replay") (codes "FILE")) }
+    ensures local { IfOk result (λ command. (out-Command command).has_globals ≡ false) }
+{
+    let texts = Texts {
+        name: "replay",
+        about: "Makes the events of a schedule between two ends, and prints what comes of each",
+        example: "Example: mqtt replay schedule.txt",
+    };
+    let file = "The file that has the schedule; `-` is the standard input";
+    word_command(alloc, texts, "FILE", file)
+}
+
+// An option with a number of this kind, which has to be there.
+fn number_option<'a>(
+    alloc: Global,
+    word: &'a str,
+    name: &'a str,
+    help: &'a str,
+    kind: ValueParser<'a>,
+) -> Arg<'a>
+    ensures rule { rule_of result ≡ number_rule word.now name.now kind.entry }
+    ensures local { result.global ≡ false }
+{
+    Arg::new(alloc, word)
+        .long(name)
+        .help(help)
+        .value_parser(kind)
+        .required(true)
+}
+
+// `random --start START --steps STEPS`.
+fn random_command<'a>(alloc: Global) -> Result<Command<'a>, AllocError>
+    ensures words { IfOk result (λ command. app_of command ≡ random_words) }
+    ensures local { IfOk result (λ command. (out-Command command).has_globals ≡ false) }
+{
+    let texts = Texts {
+        name: "random",
+        about: "Prints a schedule that is made up, for `replay`",
+        example: "Example: mqtt random --start 7 --steps 300",
+    };
+    let seeds = "What it is made up from: the same start, the same schedule";
+    let start = number_option(alloc, "START", "start", seeds, value_parser!(u64));
+    let counts = "How many events it has";
+    let steps = number_option(alloc, "STEPS", "steps", counts, value_parser!(u32));
+    let command = with_arg(new_command(alloc, texts), start)?;
+    with_arg(command, steps)
+}
+
+// An option with a text, which has to be there.
+fn text_option<'a>(alloc: Global, word: &'a str, name: &'a str, help: &'a str) -> Arg<'a>
+    ensures rule { rule_of result ≡ text_rule word.now name.now }
+    ensures local { result.global ≡ false }
+{
+    Arg::new(alloc, word).long(name).help(help).required(true)
+}
+
+// The option `--port PORT`.
+fn port_option<'a>(alloc: Global, help: &'a str) -> Arg<'a>
+    ensures rule { rule_of result ≡ port_rule }
+    ensures local { result.global ≡ false }
+{
+    number_option(alloc, "PORT", "port", help, value_parser!(u16))
+}
+
+// The option `--qos QOS`.
+fn qos_option<'a>(alloc: Global, help: &'a str) -> Arg<'a>
+    ensures rule { rule_of result ≡ qos_rule }
+    ensures local { result.global ≡ false }
+{
+    let kind = value_parser!(u8).range(0..=2);
+    number_option(alloc, "QOS", "qos", help, kind)
+}
+
+// `serve --port PORT --connections CONNECTIONS --workers WORKERS`.
+fn serve_command<'a>(alloc: Global) -> Result<Command<'a>, AllocError>
+    ensures words { IfOk result (λ command. app_of command ≡ serve_words) }
+    ensures local { IfOk result (λ command. (out-Command command).has_globals ≡ false) }
+{
+    let texts = Texts {
+        name: "serve",
+        about: "Serves as a broker, and prints the sessions that it has at the end",
+        example: "Example: mqtt serve --port 1883 --connections 3 --workers 1",
+    };
+    let port = port_option(alloc, "The port that it listens on; 0 takes a free one");
+    let counts = "How many connections it serves before it ends";
+    let connections = number_option(
+        alloc,
+        "CONNECTIONS",
+        "connections",
+        counts,
+        value_parser!(u32),
+    );
+    let kind = value_parser!(u8).range(1..=64);
+    let threads = "How many threads serve, 1 to 64";
+    let workers = number_option(alloc, "WORKERS", "workers", threads, kind);
+    let command = with_arg(new_command(alloc, texts), port)?;
+    let command = with_arg(command, connections)?;
+    with_arg(command, workers)
+}
+
+// A command of a client, with the options that name the broker, the client, its topics and a quality of service.
+fn client_command<'a>(
+    alloc: Global,
+    texts: Texts<'a>,
+    topics: Arg<'a>,
+) -> Result<Command<'a>, AllocError>
+    requires { topics.global ≡ false }
+    ensures words { IfOk result (λ command.
+        app_of command ≡ client_words texts.entry.name.now (rule_of topics.entry)) }
+    ensures local { IfOk result (λ command. (out-Command command).has_globals ≡ false) }
+{
+    let port = port_option(alloc, "The port of the broker, on this machine");
+    let command = with_arg(new_command(alloc, texts), port)?;
+    let name = "The client identifier, 65,535 bytes at most";
+    let command = with_arg(command, text_option(alloc, "ID", "id", name))?;
+    let command = with_arg(command, topics)?;
+    let qos = qos_option(alloc, "The greatest quality of service of the messages");
+    with_arg(command, qos)
+}
+
+// Any number of words `TEXT`.
+fn texts_word<'a>(alloc: Global) -> Arg<'a>
+    ensures rule { rule_of result ≡ texts_rule }
+    ensures local { result.global ≡ false }
+{
+    Arg::new(alloc, "TEXT")
+        .help("The texts, one message each; with --session there may be none")
+        .action(ArgAction::Append)
+}
+
+// `publish --port PORT --id ID --topic TOPIC --qos QOS [--retain] [--session FILE] TEXT..`.
+fn publish_command<'a>(alloc: Global) -> Result<Command<'a>, AllocError>
+    ensures words { IfOk result (λ command. app_of command ≡ publish_words) }
+    ensures local { IfOk result (λ command. (out-Command command).has_globals ≡ false) }
+{
+    let texts = Texts {
+        name: "publish",
+        about: "Publishes texts as a client of a broker on this machine",
+        example: "Example: mqtt publish --port 1883 --id p --topic a/b --qos 2 hi yo",
+    };
+    let topic = text_option(alloc, "TOPIC", "topic", "The topic name of the texts");
+    let retain = "Asks the broker to keep the last text for clients that come later";
+    let kept = "Keeps the session in this file, and goes on with it where the file is there";
+    let file = file_option(alloc, "SESSION", "session", kept);
+    let retain = flag(alloc, "RETAIN", "retain", retain);
+    let command = with_arg(client_command(alloc, texts, topic)?, retain)?;
+    let command = with_arg(command, file)?;
+    with_arg(command, texts_word(alloc))
+}
+
+// `collect --port PORT --id ID --filter FILTER --qos QOS --count COUNT [--clean]`.
+fn collect_command<'a>(alloc: Global) -> Result<Command<'a>, AllocError>
+    ensures words { IfOk result (λ command. app_of command ≡ collect_words) }
+    ensures local { IfOk result (λ command. (out-Command command).has_globals ≡ false) }
+{
+    let texts = Texts {
+        name: "collect",
+        about: "Prints messages that a broker on this machine hands on to a client",
+        example: "Example: mqtt collect --port 1883 --id c --filter 'a/#' --qos 2 --count 2",
+    };
+    let filter = text_option(
+        alloc,
+        "FILTER",
+        "filter",
+        "The topic filter of the messages",
+    );
+    let counts = "How many messages it waits for";
+    let count = number_option(alloc, "COUNT", "count", counts, value_parser!(u32));
+    let clean = "Begins with a clean session, and keeps none";
+    let command = with_arg(client_command(alloc, texts, filter)?, count)?;
+    with_arg(command, flag(alloc, "CLEAN", "clean", clean))
+}
+
+// `loopback FILE`.
+fn loopback_command<'a>(alloc: Global) -> Result<Command<'a>, AllocError>
+    ensures words { IfOk result
+        (λ command. app_of command ≡ word_words (codes "loopback") (codes "FILE")) }
+    ensures local { IfOk result (λ command. (out-Command command).has_globals ≡ false) }
+{
+    let texts = Texts {
+        name: "loopback",
+        about: "Runs a broker and clients beside each other, and prints what the clients collect",
+        example: "Example: mqtt loopback clients.txt",
+    };
+    let file = "The file that has a line for each client; `-` is the standard input";
+    word_command(alloc, texts, "FILE", file)
+}
+
+// The command line with the commands on streams of packets.
+fn stream_commands<'a>(alloc: Global) -> Result<Command<'a>, AllocError>
+    ensures { IfOk result (λ command. app_of command ≡ stream_words) }
+{
+    Command::new(alloc, "mqtt")
+        .version("0.1.0")
+        .about("Reads and writes MQTT 3.1.1")
+        .after_help(STATUSES)
+        .subcommand_required(true)
+        .arg_required_else_help(true)
+        .subcommand(show_command(alloc)?)?
+        .subcommand(check_command(alloc)?)
+}
+
+// The command line with the commands that open no socket.
+fn job_commands<'a>(alloc: Global) -> Result<Command<'a>, AllocError>
+    ensures { IfOk result (λ command. app_of command ≡ job_words) }
+{
+    stream_commands(alloc)?
+        .subcommand(match_command(alloc)?)?
+        .subcommand(replay_command(alloc)?)?
+        .subcommand(random_command(alloc)?)
+}
+
+// The command line with the commands of a broker and of its clients.
+fn socket_commands<'a>(alloc: Global) -> Result<Command<'a>, AllocError>
+    ensures { IfOk result (λ command. app_of command ≡ socket_words) }
+{
+    job_commands(alloc)?
+        .subcommand(serve_command(alloc)?)?
+        .subcommand(publish_command(alloc)?)?
+        .subcommand(collect_command(alloc)?)
+}
+
+/// The whole command line.
+pub(crate) fn command_line<'a>(alloc: Global) -> Result<Command<'a>, AllocError>
+    ensures { IfOk result (λ command. app_of command ≡ program_words) }
+{
+    socket_commands(alloc)?.subcommand(loopback_command(alloc)?)
+}
