@@ -1,0 +1,34 @@
+-- What `serve` prints: lines, each with its end.
+use Rattle.std.specs.Prelude.{◌≡◌, ℕ, List, ◌++◌, codes, decimal, map}
+use Rattle.std.specs.Cmp.Lexicographic.{slice_cmp}
+use Rattle.std.specs.List.{flat_map}
+use Rattle.std.specs.List.Sorted.{IsPermutation, IsSorted}
+use Rattle.std.specs.Ordering.{nat_cmp}
+use Rattle.mq_line.specs.Lines.{escaped}
+use Rattle.mq_route.specs.Hub.{HubState}
+use Rattle.mq_serve.specs.declared.ending.ServeEnd.{ServeEnd}
+use Rattle.mq_serve.specs.declared.ending.ServeEnd.TheVariants.{Net, JournalFull, Refused, Memory}
+
+-- why it ends before all connections were served
+abbrev pub end_line : ServeEnd → List ℕ
+end_line Net = codes "connection failed\n"
+end_line JournalFull = codes "journal full\n"
+end_line Refused = codes "broker refused\n"
+end_line Memory = codes "out of memory\n"
+
+-- a session, by its client identifier (3.1.3.1)
+abbrev pub session_line : List ℕ → List ℕ
+session_line name = codes "session " ++ (escaped name ++ codes "\n")
+
+-- how many connections were served
+abbrev pub served_line : ℕ → List ℕ
+served_line count = codes "served " ++ (decimal count ++ codes "\n")
+
+-- what is printed at the end
+abbrev pub end_lines : List (List ℕ) → ℕ → List ℕ
+end_lines names count = flat_map session_line names ++ served_line count
+
+-- the client identifiers of a broker's sessions, ascending by their bytes
+pub record AreSessions (hub : HubState) (names : List (List ℕ)) : Type 0 where
+  pub clients : IsPermutation (map (λ s. s.client) hub.sessions) names
+  pub sorted : IsSorted (slice_cmp nat_cmp) names
