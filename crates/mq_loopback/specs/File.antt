@@ -1,0 +1,94 @@
+-- Loopback files as they are written: a line for each client.
+use Rattle.std.specs.Prelude.{◌≡◌, ◌≢◌, ⊤, ℕ, ◌+◌, ◌^◌, ◌≤◌, ◌<◌, List, [], ◌∷◌, ◌++◌, length, map, codes}
+use Rattle.std.specs.List.{AllByRecursion, AllZip}
+use Rattle.hex.specs.Hex.{IsBytes}
+use Rattle.mq_wire.specs.Text.{IsText}
+use Rattle.mq_topic.specs.Qos.{qos_number}
+use Rattle.mq_topic.specs.Topic.{IsTopicFilter, IsTopicName}
+use Rattle.mq_line.specs.Lines.{escaped}
+use Rattle.mq_schedule.specs.Schedule.{IsNumber, bytes_word, words_of}
+use Rattle.mq_loopback.specs.declared.client.Client.{Client}
+use Rattle.mq_loopback.specs.declared.client.Collector.{Collector}
+use Rattle.mq_loopback.specs.declared.client.Publisher.{Publisher}
+use Rattle.mq_loopback.specs.declared.client.Role.{Role}
+use Rattle.mq_loopback.specs.declared.client.Role.TheVariants as roles
+
+-- ---- lines
+
+-- how many messages, a number of 32 bits
+pub record IsCount (n : ℕ) (word : List ℕ) : Type 0 where
+  pub number : IsNumber n word
+  pub bound : n < 2 ^ 32
+
+-- `collect`, a client identifier (3.1.3.1) and a topic filter as they are printed, a quality of service, and how many messages
+pub record IsCollectorLine (name : List ℕ) (c : Collector) (words : List (List ℕ)) : Type 0 where
+  pub qos : List ℕ
+  pub count : List ℕ
+  pub named : IsText name
+  pub filter : IsTopicFilter c.filter
+  pub quality : IsNumber (qos_number c.qos) qos
+  pub least : IsCount c.count count
+  pub words_are : words ≡ codes "collect" ∷ escaped name ∷ escaped c.filter ∷ qos ∷ count ∷ []
+
+-- bytes that may be a payload (3.3.3)
+pub record IsPayload (bytes : List ℕ) : Type 0 where
+  pub are : IsBytes bytes
+  pub few : length bytes < 2 ^ 28
+
+-- words, one or more, for a payload each
+pub record ArePayloads (payloads : List (List ℕ)) (words : List (List ℕ)) : Type 0 where
+  pub some : payloads ≢ []
+  pub are : AllByRecursion IsPayload payloads
+  pub words_are : words ≡ map bytes_word payloads
+
+-- `publish`, a client identifier and a topic name as they are printed, a quality of service, and one payload or more
+pub record IsPublisherLine (name : List ℕ) (p : Publisher) (words : List (List ℕ)) : Type 0 where
+  pub qos : List ℕ
+  pub named : IsText name
+  pub topic : IsTopicName p.topic
+  pub quality : IsNumber (qos_number p.qos) qos
+  pub last : List (List ℕ)
+  pub payloads : ArePayloads p.payloads last
+  pub words_are : words ≡ codes "publish" ∷ escaped name ∷ escaped p.topic ∷ qos ∷ last
+
+-- the words say that a client of this name has this role
+abbrev pub SaysOf : List ℕ → Role → List (List ℕ) → Type 0
+SaysOf name (roles.Collector c) words = IsCollectorLine name c words
+SaysOf name (roles.Publisher p) words = IsPublisherLine name p words
+
+abbrev pub Says : Client → List (List ℕ) → Type 0
+Says c words = SaysOf c.name c.role words
+
+-- ---- files
+
+-- none of the clients has this name
+abbrev pub IsFresh : List ℕ → List Client → Type 0
+IsFresh name clients = AllByRecursion (λ c. c.name ≢ name) clients
+
+-- no two of the clients have the same name
+abbrev pub AreApart : List Client → Type 0
+AreApart [] = ⊤
+AreApart (c ∷ clients) = IsFresh c.name clients × AreApart clients
+
+-- a line says a client that may come after these: there are fewer than 64, and none of them has its name
+pub record Joins (clients : List Client) (c : Client) (line : List ℕ) : Type 0 where
+  pub room : length clients < 64
+  pub fresh : IsFresh c.name clients
+  pub says : Says c (words_of line)
+
+-- each line says a client; no two have the same name, and there are at most 64
+pub record AreClients (clients : List Client) (lines : List (List ℕ)) : Type 0 where
+  pub said : AllZip (λ c line. Says c (words_of line)) clients lines
+  pub apart : AreApart clients
+  pub few : length clients ≤ 64
+
+-- the lines before this one, counted from 1, are clients, and with it they are none
+pub record IsBadLine (lines : List (List ℕ)) (n : ℕ) : Type 0 where
+  pub clients : List Client
+  pub front : List (List ℕ)
+  pub line : List ℕ
+  pub others : List (List ℕ)
+  pub lines_are : lines ≡ front ++ line ∷ others
+  pub place : n ≡ length front + 1
+  pub before : AreClients clients front
+  pub bad : (more : List Client) → ¬ AreClients more (front ++ line ∷ [])

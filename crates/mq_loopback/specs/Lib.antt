@@ -1,0 +1,6 @@
+pub mod File
+pub mod Laws
+pub mod Ordered
+pub mod Judged
+pub mod Printed
+pub mod Program

@@ -1,0 +1,8 @@
+//! What a text says as a loopback file.
+
+ghost use Rattle.mq_loopback.specs.Laws.{FileLaws};
+
+/// A text is at most one list of clients, and then no line of it is bad; and at most one line is.
+pub fn file_laws()
+    ensures { FileLaws }
+{}

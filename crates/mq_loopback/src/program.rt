@@ -1,0 +1,115 @@
+//! The program `loopback`.
+
+ghost use Rattle.std.specs.Prelude.{◌<◌, ◌≤◌, IfOk, length};
+ghost use Rattle.mq_line.specs.Lines.{Prints};
+ghost use Rattle.mq_loopback.specs.Program.{Ends, IsInputRun, IsLoopback};
+
+use crate::client::Client;
+use crate::judging::judge;
+use crate::ordering::all_ordered;
+use crate::printing::{write_bad_line, write_play_end, write_played, write_unread};
+use crate::reading::{ClientsFault, read_clients};
+use crate::stage::{Played, play};
+use mq_serve::{ServeEnd, broker_config, write_end};
+use std::alloc::Global;
+use std::fs::File;
+use std::io;
+use std::io::{ErrorKind, Read, Write};
+use std::net::{Net, TcpListener, TcpStream};
+use std::rt::Files;
+use std::sync::Wait;
+use std::thread::Threads;
+use std::time::Clock;
+
+/// Writes what is left when all clients are done: what each collector collected, in order, and what is said of the journal and of the receipts.
+/// Answers the status.
+pub fn tell<W: Write>(
+    alloc: Global,
+    clients: &[Client],
+    played: Played,
+    output: &mut W,
+) -> io::Result<u8>
+    ensures { IfOk result (λ status. Prints (W.contents output.old) (W.contents output.new) (Ends clients.now status)) }
+{
+    let Played {
+        collected,
+        journal,
+        receipts,
+    } = played;
+    let Ok(lists) = all_ordered(alloc, collected) else {
+        return write_end(output, ServeEnd::Memory);
+    };
+    match judge(alloc, broker_config(), &journal, receipts.as_slice()) {
+        Ok(verdict) => write_played(output, clients, lists.as_slice(), verdict),
+        Err(_) => write_end(output, ServeEnd::Memory),
+    }
+}
+
+// Runs a broker and these clients, and prints what comes of it.
+fn run_clients<R, W>(rt: &R, alloc: Global, clients: &[Client], output: &mut W) -> io::Result<u8>
+where
+    R: Net<Listener = TcpListener, Stream = TcpStream> + Threads + Wait + Clock + Sync,
+    W: Write,
+    requires { (0 < length clients.now) × (length clients.now ≤ 64) }
+    ensures { IfOk result (λ status. Prints (W.contents output.old) (W.contents output.new) (Ends clients.now status)) }
+{
+    match play(rt, alloc, clients) {
+        Ok(played) => tell(alloc, clients, played, output),
+        Err(end) => write_play_end(output, end),
+    }
+}
+
+/// Runs a broker and the clients of a text, and prints what comes of it; answers the status.
+pub fn run<R, W>(rt: &R, alloc: Global, text: &str, output: &mut W) -> io::Result<u8>
+where
+    R: Net<Listener = TcpListener, Stream = TcpStream> + Threads + Wait + Clock + Sync,
+    W: Write,
+    ensures { IfOk result (λ status. Prints (W.contents output.old) (W.contents output.new) (IsLoopback text.now status)) }
+{
+    match read_clients(alloc, text) {
+        Ok(clients) => run_clients(rt, alloc, clients.as_slice(), output),
+        Err(ClientsFault::Line(line)) => write_bad_line(output, line),
+        Err(ClientsFault::Memory) => write_end(output, ServeEnd::Memory),
+    }
+}
+
+/// The same, with the text that an input has.
+pub fn loopback<R, I, W>(rt: &R, alloc: Global, input: &mut I, output: &mut W) -> io::Result<u8>
+where
+    R: Net<Listener = TcpListener, Stream = TcpStream> + Threads + Wait + Clock + Sync,
+    I: Read,
+    W: Write,
+    ensures { IfOk result (λ status. Prints (W.contents output.old) (W.contents output.new) (IsInputRun status)) }
+{
+    let mut bytes = Vec::new(alloc);
+    if let Err(error) = input.read_to_end(&mut bytes) {
+        return write_no_file(output, &error);
+    }
+    match str::from_utf8(bytes.as_slice()) {
+        Ok(text) => run(rt, alloc, text, output),
+        Err(_) => write_unread(output),
+    }
+}
+
+// Writes why there is no text, and answers the status.
+fn write_no_file<W: Write>(output: &mut W, error: &io::Error) -> io::Result<u8>
+    ensures { IfOk result (λ status. Prints (W.contents output.old) (W.contents output.new) (IsInputRun status)) }
+{
+    match error.kind() {
+        ErrorKind::OutOfMemory => write_end(output, ServeEnd::Memory),
+        _ => write_unread(output),
+    }
+}
+
+/// The same, with the text of the file of this name.
+pub fn loopback_file<R, W>(rt: &R, alloc: Global, name: &str, output: &mut W) -> io::Result<u8>
+where
+    R: Net<Listener = TcpListener, Stream = TcpStream> + Files + Threads + Wait + Clock + Sync,
+    W: Write,
+    ensures { IfOk result (λ status. Prints (W.contents output.old) (W.contents output.new) (IsInputRun status)) }
+{
+    match File::open(rt, name) {
+        Ok(mut file) => loopback(rt, alloc, &mut file, output),
+        Err(error) => write_no_file(output, &error),
+    }
+}

@@ -1,0 +1,176 @@
+//! A broker and the clients of a loopback file, beside each other.
+
+ghost use Rattle.std.specs.Prelude.{◌≡◌, ◌<◌, ◌≤◌, length};
+
+use crate::cast::Cast;
+use crate::client::Client;
+use mq_book::{Journal, Receipt};
+use mq_client::Halt;
+use mq_packet::Message;
+use mq_serve::{Closed, Gate, Hall, Records, ServeEnd, man_both};
+use std::alloc::{AllocError, Global};
+use std::io;
+use std::io::ErrorKind;
+use std::marker::Brand;
+use std::net::{Ipv4Addr, Net, SocketAddr, TcpListener, TcpStream};
+use std::sync::Wait;
+use std::sync::ledger::{Blank, Ledger};
+use std::thread::Threads;
+use std::time::{Clock, Duration, Instant};
+use thiserror::Error;
+
+/// How many entries the journal has at most.
+const JOURNAL: usize = 1_000_000;
+
+/// How long a client's read waits for bytes, in milliseconds.
+const READ_LIMIT: u64 = 100;
+
+/// How long a connection waits for its answer, and a client's write for room, in seconds.
+const LIMIT: u64 = 30;
+
+/// What is left when all clients are done.
+#[derive(Drop)]
+pub struct Played {
+    /// What each client collected, in the order of the clients and as it was handed on.
+    pub collected: Vec<Vec<Message>>,
+    /// The journal of the broker.
+    pub journal: Journal,
+    /// The receipts of each worker.
+    pub receipts: Vec<Vec<Receipt>>,
+}
+
+/// Why clients and broker end before all is done.
+#[derive(Clone, Copy, Debug, PartialEq, Eq, Error)]
+pub enum PlayEnd {
+    /// The broker ended.
+    #[error("{0}")]
+    Broker(ServeEnd),
+    /// A client had a fault.
+    #[error("{0}")]
+    Client(Halt),
+}
+
+impl From<AllocError> for PlayEnd {
+    ghost use Rattle.std.specs.Prelude.{◌≡◌};
+    ghost use Rattle.mq_serve.specs.declared.ending.ServeEnd.TheVariants.{Memory};
+    ghost use Rattle.mq_loopback.specs.declared.stage.PlayEnd.TheVariants.{Broker};
+
+    ghost from_gives = { λ _ end. end ≡ Broker Memory };
+
+    fn from(_e: AllocError) -> PlayEnd {
+        PlayEnd::Broker(ServeEnd::Memory)
+    }
+}
+
+impl From<ServeEnd> for PlayEnd {
+    ghost use Rattle.std.specs.Prelude.{◌≡◌};
+    ghost use Rattle.mq_loopback.specs.declared.stage.PlayEnd.TheVariants.{Broker};
+
+    ghost from_gives = { λ why end. end ≡ Broker why };
+
+    fn from(end: ServeEnd) -> PlayEnd {
+        PlayEnd::Broker(end)
+    }
+}
+
+// Where clients and broker meet: the gate of the broker, and a connection to it for each client.
+#[derive(Drop)]
+struct Stage {
+    gate: Gate,
+    streams: Vec<TcpStream>,
+}
+
+// A connection to this address, with its limits, which sends its bytes at once.
+fn connect<R>(rt: &R, address: SocketAddr) -> io::Result<TcpStream>
+where
+    R: Net<Listener = TcpListener, Stream = TcpStream>,
+{
+    let stream = rt.connect_timeout(address, Duration::from_secs(LIMIT))?;
+    stream.set_nodelay(true)?;
+    stream.set_read_timeout(Some(Duration::from_millis(READ_LIMIT)))?;
+    stream.set_write_timeout(Some(Duration::from_secs(LIMIT)))?;
+    Ok(stream)
+}
+
+// So many connections to a free port of this machine.
+fn open_stage<R>(rt: &R, alloc: Global, count: u16) -> io::Result<Stage>
+where
+    R: Net<Listener = TcpListener, Stream = TcpStream>,
+{
+    let listener = TcpListener::bind(rt, (Ipv4Addr::LOCALHOST, 0))?;
+    let address = listener.local_addr()?;
+    let mut streams = Vec::with_capacity(alloc, usize::from(count))?;
+    for _ in 0..count {
+        streams.push(connect(rt, address)?)?;
+    }
+    Ok(Stage {
+        gate: Gate::new(listener, u32::from(count)),
+        streams,
+    })
+}
+
+// Why there is no stage.
+fn end_of(error: &io::Error) -> ServeEnd {
+    match error.kind() {
+        ErrorKind::OutOfMemory => ServeEnd::Memory,
+        _ => ServeEnd::Net,
+    }
+}
+
+// Runs so many workers beside the clients, and gives what they leave.
+fn play_by<L: Ledger + Send + Sync + 'static, R>(
+    rt: &R,
+    alloc: Global,
+    blank: Blank,
+    workers: u16,
+    stage: Stage,
+    clients: &[Client],
+) -> Result<Played, PlayEnd>
+where
+    R: Net<Listener = TcpListener, Stream = TcpStream> + Threads + Wait + Clock + Sync,
+    requires name { blank.name ≡ L.name }
+    requires parts { blank.parts ≡ L.parts }
+    requires each { blank.parts ≡ workers }
+    requires some { (0 < workers) × (workers ≤ 64) }
+{
+    let Ok(start) = Instant::now(rt) else {
+        return Err(PlayEnd::Broker(ServeEnd::Net));
+    };
+    let Stage { gate, streams } = stage;
+    let records = Records::Kept(JOURNAL);
+    let (hall, stations) = Hall::<L>::open(rt, alloc, blank, workers, gate, start, records)?;
+    let cast = Cast::new(alloc, clients);
+    let acts = cast.acts(streams)?;
+    let (served, collected) = man_both(rt, &hall, stations, &cast, acts);
+    let closed = hall.close(served?)?;
+    match cast.into_fault() {
+        Some(fault) => Err(PlayEnd::Client(fault)),
+        None => Ok(leave(closed, collected?)),
+    }
+}
+
+// What a broker leaves, and what was collected.
+fn leave<L: Ledger>(closed: Closed<L>, collected: Vec<Vec<Message>>) -> Played {
+    let Closed { mut book, receipts } = closed;
+    Played {
+        collected,
+        journal: book.checkpoint(),
+        receipts,
+    }
+}
+
+/// Runs a broker with as many workers as there are clients, 1 to 64, beside the clients. Fails where the port can't be opened, where the
+/// broker ends, where a client has a fault, and where memory runs out.
+pub fn play<R>(rt: &R, alloc: Global, clients: &[Client]) -> Result<Played, PlayEnd>
+where
+    R: Net<Listener = TcpListener, Stream = TcpStream> + Threads + Wait + Clock + Sync,
+    requires { (0 < length clients.now) × (length clients.now ≤ 64) }
+{
+    let workers = clients.len() as u16;
+    let stage = match open_stage(rt, alloc, workers) {
+        Ok(stage) => stage,
+        Err(error) => return Err(PlayEnd::Broker(end_of(&error))),
+    };
+    let blank = Blank::new(u64::from(workers));
+    play_by::<Brand, R>(rt, alloc, blank, workers, stage, clients)
+}
