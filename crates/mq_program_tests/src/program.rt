@@ -1,15 +1,17 @@
+mod clients;
 mod files;
 mod lenient;
 mod randoms;
 pub(crate) mod replays;
+mod restarts;
 mod streams;
 mod windows;
 
 use crate::compare::expect_printed;
 use clap::error::ErrorKind;
 use mq_cli::{
-    CountEnd, Fallible, Job, JobInput, ShowFault, Source, StreamEnd, WordsFault, count_packets,
-    job, perform, shown,
+    Command, CountEnd, Fallible, Job, JobInput, ShowFault, Source, StreamEnd, WordsFault, command,
+    count_packets, perform, shown,
 };
 use mq_decode::{DecodeFault, FaultKind, Limits};
 use std::alloc::Global;
@@ -357,7 +359,7 @@ fn tells_of_failed_reads(rt: HostRuntime) -> Result<(), Fail> {
 
 // The kind of the error that the words are.
 fn error_of(alloc: Global, words: &[&str]) -> Option<ErrorKind> {
-    match job(alloc, words) {
+    match command(alloc, words) {
         Err(WordsFault::Words(error)) => Some(error.kind()),
         _ => None,
     }
@@ -365,9 +367,9 @@ fn error_of(alloc: Global, words: &[&str]) -> Option<ErrorKind> {
 
 // The job that words ask for, where they ask for this one.
 fn asks_for(alloc: Global, words: &[&str], wanted: Job<'_>) -> bool {
-    match job(alloc, words) {
-        Ok(read) => read == wanted,
-        Err(_) => false,
+    match command(alloc, words) {
+        Ok(Command::Job(read)) => read == wanted,
+        _ => false,
     }
 }
 
@@ -483,7 +485,7 @@ fn refuses_numbers(rt: HostRuntime) {
 
 #[test]
 fn prints_help(rt: HostRuntime) -> Result<(), Fail> {
-    let Err(WordsFault::Words(error)) = job(rt.alloc(), &["mqtt", "show", "--help"]) else {
+    let Err(WordsFault::Words(error)) = command(rt.alloc(), &["mqtt", "show", "--help"]) else {
         return Err("no help".into());
     };
     let text = format!(in rt.alloc(); "{error}")?;
@@ -507,15 +509,15 @@ Example: mqtt show 62020001c000
 
 #[test]
 fn tells_of_the_statuses(rt: HostRuntime) -> Result<(), Fail> {
-    let Err(WordsFault::Words(error)) = job(rt.alloc(), &["mqtt", "--help"]) else {
+    let Err(WordsFault::Words(error)) = command(rt.alloc(), &["mqtt", "--help"]) else {
         return Err("no help".into());
     };
     let text = format!(in rt.alloc(); "{error}")?;
     let statuses = "
 Status:
   0  done, and nothing is wrong
-  1  a fault, less than a whole packet, or a no
-  2  words, digits, a file, a filter, a name or a line of a schedule that can't be read
+  1  a fault, less than a whole packet, a no, or a connection that failed
+  2  words, digits, a file, a filter, a name or a line of a file that can't be read
   3  out of memory
   4  the output failed, or was closed
 ";

@@ -34,7 +34,7 @@ static TEXTS: [(&str, usize); 24] = [
 ];
 
 // Lines that are steps.
-static GOOD: [&str; 21] = [
+static GOOD: [&str; 22] = [
     "pub c 2 t 78",
     "pub s 0 t -",
     "pubr s 0 a/%25%20b -",
@@ -53,13 +53,14 @@ static GOOD: [&str; 21] = [
     "tick s 060000",
     "tick s 90000",
     "tick c 18446744073709551615",
+    "restart",
     "leave",
     "open",
     "settle",
 ];
 
 // Lines that are none.
-static BAD: [&str; 61] = [
+static BAD: [&str; 64] = [
     "",
     " ",
     "open ",
@@ -83,6 +84,9 @@ static BAD: [&str; 61] = [
     "to s ALL",
     "to s  7",
     "to s 18446744073709551616",
+    "restart c",
+    "restart ",
+    "Restart",
     "leave c",
     "leave ",
     "Leave",
@@ -183,6 +187,7 @@ fn shown_step(alloc: Global, step: &Step) -> Result<String, AllocError> {
             format!(in alloc; "deliver {side:?} {count}\n")
         }
         Step::Event(Event::Drop(side)) => format!(in alloc; "drop {side:?}\n"),
+        Step::Event(Event::Restart) => format!(in alloc; "restart\n"),
         Step::Event(Event::Leave) => format!(in alloc; "leave\n"),
         Step::Event(Event::Tick(side, more)) => format!(in alloc; "tick {side:?} {more}\n"),
         Step::Event(Event::Open) => format!(in alloc; "open\n"),
@@ -220,15 +225,15 @@ fn read_and_shown(alloc: Global, text: &str) -> Result<String, Fail> {
 fn reads_what_is_written(rt: HostRuntime) -> Result<(), Fail> {
     let alloc = rt.alloc();
     let text = "world 65536 4\npub c 2 t 78\npubr s 0 a/%25%20b -\npub s 1 %c3%a9 00ff\nto s 7\n\
-                to c all\ndrop c\nleave\ntick s 090000\nopen\nsettle";
+                to c all\ndrop c\nrestart\nleave\ntick s 090000\nopen\nsettle";
     let want = "65536 4\npublish Client \"t\" [120] 2 false\npublish Server \"a/% b\" [] 0 true\n\
                 publish Server \"é\" [0, 255] 1 false\ndeliver Server 7\n\
-                deliver Client 18446744073709551615\ndrop Client\nleave\ntick Server 90000\nopen\nsettle\n";
+                deliver Client 18446744073709551615\ndrop Client\nrestart\nleave\ntick Server 90000\nopen\nsettle\n";
     expect_told(&rt, read_and_shown(alloc, text), want, "")
 }
 
 // Schedules, and how they are written.
-static WRITTEN: [(&str, &str); 9] = [
+static WRITTEN: [(&str, &str); 10] = [
     ("world 64 1", "world 64 1\n"),
     ("world 0065536 04\n", "world 65536 4\n"),
     (
@@ -248,6 +253,7 @@ static WRITTEN: [(&str, &str); 9] = [
         "world 64 1\nto s 7\nto c 18446744073709551615\n",
     ),
     ("world 64 1\ndrop c\ndrop s", "world 64 1\ndrop c\ndrop s\n"),
+    ("world 64 1\nrestart", "world 64 1\nrestart\n"),
     (
         "world 64 1\ntick c 060000\ntick s 0",
         "world 64 1\ntick c 60000\ntick s 0\n",

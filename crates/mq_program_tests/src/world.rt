@@ -5,6 +5,7 @@ mod leaving;
 mod loss;
 mod making;
 mod publish;
+mod restart;
 mod run;
 mod window;
 
@@ -29,6 +30,8 @@ enum Step {
     Deliver(Side, usize),
     // The connection of a side is lost.
     Lose(Side),
+    // The program of the client ends and goes on.
+    Restart,
     // The user of the client leaves.
     Leave,
     // The clock of a side goes on by so many milliseconds.
@@ -66,6 +69,7 @@ fn event_of(alloc: Global, step: Step) -> Result<Event, Fail> {
         Step::Open => Event::Open,
         Step::Deliver(side, count) => Event::Deliver(side, count),
         Step::Lose(side) => Event::Drop(side),
+        Step::Restart => Event::Restart,
         Step::Leave => Event::Leave,
         Step::Tick(side, more) => Event::Tick(side, more),
         Step::Publish(side, qos, topic, payload) => {

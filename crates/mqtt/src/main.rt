@@ -1,9 +1,15 @@
 //! The program `mqtt`: it does the job that its words ask for, and prints to the standard output.
 #![tactic(auto)]
 
-use mq_cli::{Failure, Fallible, Job, Source, WordsFault, job, perform, perform_file};
+use mq_cli::{Command, Failure, Fallible, Job, Source, WordsFault, command, perform, perform_file};
+use mq_programs::{run_client, run_loopback, run_serve};
 use std::io::{BufReader, BufWriter, Input, Write};
+use std::net::{Net, TcpListener, TcpStream};
 use std::process::ExitCode;
+use std::rt::Files;
+use std::sync::Wait;
+use std::thread::Threads;
+use std::time::Clock;
 use std::{env, io};
 
 /// Does a job, and prints to the standard output through a buffer.
@@ -27,13 +33,39 @@ fn perform_into<W: Write>(rt: &HostRuntime, job: &Job<'_>, output: &mut W) -> io
     }
 }
 
+/// Runs a client program, and prints to the standard output through a buffer.
+fn run_buffered(rt: &HostRuntime, command: &Command<'_>) -> Result<u8, Failure> {
+    let mut output = BufWriter::new(rt.alloc(), io::writer(rt))?;
+    let status = run_client(rt, rt.alloc(), command, &mut output)?;
+    output.flush()?;
+    Ok(status)
+}
+
+/// Runs the broker and the clients of a file, and prints to the standard output through a buffer.
+fn run_looped<R>(rt: &HostRuntime, host: &R, source: Source<'_>) -> Result<u8, Failure>
+where
+    R: Net<Listener = TcpListener, Stream = TcpStream> + Files + Threads + Wait + Clock + Sync,
+{
+    let alloc = rt.alloc();
+    let mut output = BufWriter::new(alloc, io::writer(rt))?;
+    let status = run_loopback(host, alloc, source, &mut rt.reader(), &mut output)?;
+    output.flush()?;
+    Ok(status)
+}
+
 /// Does what the words ask for, and answers the status.
-fn run(rt: &HostRuntime) -> Result<u8, Failure> {
+fn run<R>(rt: &HostRuntime, host: &R) -> Result<u8, Failure>
+where
+    R: Net<Listener = TcpListener, Stream = TcpStream> + Files + Threads + Wait + Clock + Sync,
+{
     let alloc = rt.alloc();
     let words: Vec<String> = env::args(rt).map_err(Failure::of_words)?.collect(alloc)?;
     let words: Vec<&str> = words.iter().map(|word| word.as_str()).collect(alloc)?;
-    match job(alloc, words.as_slice()) {
-        Ok(job) => perform_job(rt, &job),
+    match command(alloc, words.as_slice()) {
+        Ok(Command::Job(job)) => perform_job(rt, &job),
+        Ok(Command::Serve(words)) => run_serve(host, alloc, &words, &mut io::writer(rt)),
+        Ok(Command::Loopback(source)) => run_looped(rt, host, source),
+        Ok(client) => run_buffered(rt, &client),
         Err(WordsFault::Words(error)) => {
             error.print(rt)?;
             Ok(if error.use_stderr() { 2 } else { 0 })
@@ -52,7 +84,7 @@ fn tell(rt: &HostRuntime, failure: Failure) {
 }
 
 fn main(rt: HostRuntime) -> ExitCode {
-    match run(&rt) {
+    match run(&rt, &rt) {
         Ok(status) => ExitCode::from(status),
         Err(failure) => {
             tell(&rt, failure);

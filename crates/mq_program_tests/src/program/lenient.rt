@@ -2,7 +2,7 @@
 
 use super::printed;
 use crate::compare::expect_printed;
-use mq_cli::{Job, Source, job};
+use mq_cli::{Command, Job, Source, command};
 use std::io;
 use std::test::Fail;
 
@@ -55,11 +55,15 @@ fn reads_the_flag(rt: HostRuntime) {
         ["mqtt", "show", "--lenient", "c000"],
         ["mqtt", "show", "c000", "--lenient"],
     ] {
-        let read = job(rt.alloc(), &words);
-        assert!(rt; matches!(read, Ok(Job::Show { hex, lenient: true }) if hex == "c000"));
+        let read = command(rt.alloc(), &words);
+        assert!(rt;
+            matches!(read, Ok(Command::Job(Job::Show { hex, lenient: true })) if hex == "c000")
+        );
     }
     let words = ["mqtt", "check", "--lenient", "a.bin"];
-    let read = job(rt.alloc(), &words);
+    let read = command(rt.alloc(), &words);
     let source = Source::File("a.bin");
-    assert!(rt; matches!(read, Ok(job) if job == Job::Check { source, lenient: true }));
+    assert!(rt;
+        matches!(read, Ok(Command::Job(job)) if job == Job::Check { source, lenient: true })
+    );
 }

@@ -1,6 +1,7 @@
 //! Schedules that are replayed: what each prints, byte for byte, and its status.
 
 use super::printed;
+use super::restarts::RESTARTS;
 use crate::compare::expect_printed;
 use mq_cli::{Job, Source, perform};
 use std::alloc::Global;
@@ -9,7 +10,7 @@ use std::test::Fail;
 
 // A schedule, and what it prints.
 pub(crate) struct Replay {
-    name: &'static str,
+    pub(crate) name: &'static str,
     pub(crate) schedule: &'static str,
     pub(crate) printed: &'static str,
 }
@@ -391,6 +392,9 @@ fn goes_on(alloc: Global, replay: &Replay) -> Result<bool, Fail> {
 #[test]
 fn schedules_print_their_replays(rt: HostRuntime) -> Result<(), Fail> {
     for replay in &ALONE {
+        assert!(rt; prints(rt.alloc(), replay)?, "{}", replay.name);
+    }
+    for replay in &RESTARTS {
         assert!(rt; prints(rt.alloc(), replay)?, "{}", replay.name);
     }
     for replay in &AFTER {

@@ -95,6 +95,8 @@ pub(crate) fn told(alloc: Global, answer: &Answer) -> Result<String, AllocError>
         Answer::Published(_, Err(why)) => write!(text, "refused {why:?}")?,
         Answer::Delivered(delivery) => add_delivery(&mut text, delivery)?,
         Answer::Dropped(_, was_open) => write!(text, "dropped {was_open}")?,
+        Answer::Restarted(was_open, Ok(())) => write!(text, "restarted {was_open}")?,
+        Answer::Restarted(_, Err(why)) => write!(text, "refused {why:?}")?,
         Answer::Left(Ok(())) => text.push_str("left")?,
         Answer::Left(Err(why)) => write!(text, "refused {why:?}")?,
         Answer::Opened(opening) => add_opening(&mut text, *opening)?,

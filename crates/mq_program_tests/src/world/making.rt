@@ -22,6 +22,7 @@ fn add_event(text: &mut String, event: &Event) -> Result<(), AllocError> {
         }
         Event::Deliver(side, count) => write!(text, "deliver {side:?} {count}"),
         Event::Drop(side) => write!(text, "drop {side:?}"),
+        Event::Restart => text.push_str("restart"),
         Event::Leave => text.push_str("leave"),
         Event::Open => text.push_str("open"),
         Event::Tick(side, more) => write!(text, "tick {side:?} {more}"),

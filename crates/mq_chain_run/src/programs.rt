@@ -1,0 +1,91 @@
+//! The programs that the lines ask for.
+
+use crate::fault::Fault;
+use mq_cli::{Command, Serve, command};
+use mq_programs::{run_client, run_serve_on};
+use std::alloc::{AllocError, Global};
+use std::fs;
+use std::io::{Read, Write};
+use std::net::{Net, TcpListener};
+use std::rt::Files;
+use std::sync::Wait;
+use std::thread::Threads;
+use std::time::Clock;
+
+/// A program that has run.
+#[derive(Drop)]
+pub(crate) struct Ran {
+    /// What it printed.
+    pub(crate) printed: Vec<u8>,
+    /// Its status.
+    pub(crate) status: u8,
+}
+
+// What stands for a word of a line.
+fn word_of<'a>(word: &'a str, port: &'a str) -> &'a str {
+    match word {
+        "PORT" => port,
+        "''" => "",
+        other => other,
+    }
+}
+
+// The words of a line.
+fn words_of<'a>(alloc: Global, line: &'a str, port: &'a str) -> Result<Vec<&'a str>, AllocError> {
+    line.split(' ')
+        .map(|word| word_of(word, port))
+        .collect(alloc)
+}
+
+/// The broker that a line asks for.
+pub(crate) fn serve_of(alloc: Global, line: &str) -> Result<Serve, Fault> {
+    let words = words_of(alloc, line, "0")?;
+    match command(alloc, words.as_slice())? {
+        Command::Serve(serve) => Ok(serve),
+        _ => Err(Fault::Line),
+    }
+}
+
+/// The broker of these words, at a listener that is there.
+pub(crate) fn run_broker<R>(
+    rt: &R,
+    alloc: Global,
+    listener: TcpListener,
+    words: &Serve,
+) -> Result<Ran, Fault>
+where
+    R: Net + Threads + Wait + Clock + Sync,
+{
+    let mut printed = Vec::new(alloc);
+    let status = run_serve_on(rt, alloc, listener, words, &mut printed)?;
+    Ok(Ran { printed, status })
+}
+
+// The bytes of a file, as digits.
+fn run_dump<R: Files>(rt: &R, alloc: Global, name: &str) -> Result<Ran, Fault> {
+    let mut file = fs::open(rt, name)?;
+    let mut bytes = Vec::new(alloc);
+    file.read_to_end(&mut bytes)?;
+    let digits = hex::encode(alloc, bytes.as_slice())?;
+    let mut printed = Vec::new(alloc);
+    writeln!(printed, "{digits}")?;
+    Ok(Ran { printed, status: 0 })
+}
+
+/// The program that a line asks for, with the broker at this port.
+pub(crate) fn run_line<R: Net + Clock + Files>(
+    rt: &R,
+    alloc: Global,
+    line: &str,
+    port: u16,
+) -> Result<Ran, Fault> {
+    if let Some(name) = line.strip_prefix("xxd -p ") {
+        return run_dump(rt, alloc, name);
+    }
+    let port = format!(in alloc; "{port}")?;
+    let words = words_of(alloc, line, port.as_str())?;
+    let command = command(alloc, words.as_slice())?;
+    let mut printed = Vec::new(alloc);
+    let status = run_client(rt, alloc, &command, &mut printed)?;
+    Ok(Ran { printed, status })
+}
