@@ -1,0 +1,37 @@
+//! What comes of a section.
+
+use std::fmt;
+
+/// What comes of a section that is done twice.
+#[derive(Clone, Copy, Debug, PartialEq, Eq)]
+pub(crate) enum Outcome {
+    /// Twice the same.
+    Same,
+    /// A world stopped for lack of memory, and what it did before is the same.
+    Stopped,
+    /// A call was refused for lack of memory, and was made again; all answers are the same.
+    Again,
+    /// The first other answer names the refusal.
+    GoesOn,
+    /// Another answer came in the place of a refusal.
+    Other,
+}
+
+impl Outcome {
+    /// Whether this may come.
+    pub(crate) fn may_come(self) -> bool {
+        self != Outcome::Other
+    }
+}
+
+impl fmt::Display for Outcome {
+    fn fmt<W: fmt::Write>(&self, f: &mut fmt::Formatter<W>) -> fmt::Result {
+        f.write_str(match self {
+            Outcome::Same => "the same",
+            Outcome::Stopped => "out of memory",
+            Outcome::Again => "asked again",
+            Outcome::GoesOn => "goes on",
+            Outcome::Other => "another answer",
+        })
+    }
+}
