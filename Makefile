@@ -5,7 +5,7 @@ PREFIX ?= /usr/local
 ARGS ?= --help
 STREAMS ?= small publish16 publish1024 publish65536 mixed
 
-.PHONY: all bin/mqtt test program install try bench-c clean
+.PHONY: all bin/mqtt test program interop refusals install try bench-c bench-loopback clean
 
 # Proves the program and everything below it, builds it, and runs it once.
 all: bin/mqtt
@@ -27,6 +27,18 @@ test:
 program: bin/mqtt
 	.ci/program bin/mqtt
 
+# Runs the program beside mosquitto's broker and clients, where they are installed.
+interop: bin/mqtt
+	.ci/interop bin/mqtt
+
+# Refuses each allocation of the sections of mq_refusals in turn, each in a run of its own, by a library that is loaded before the C library.
+refusals:
+	@command -v $(CC) >/dev/null || { echo 'There is no C compiler here called $(CC): name one, as make refusals CC=clang.' >&2; exit 1; }
+	cd crates/mq_refusals && $(RT) run < stdin
+	mkdir -p bin
+	$(CC) -std=gnu11 -O2 -shared -fPIC -o bin/refuse.so bench/refuse.c
+	.ci/refusals crates/mq_refusals/out/mq_refusals bin/refuse.so
+
 install: bin/mqtt
 	mkdir -p $(DESTDIR)$(PREFIX)/bin
 	install -m 755 bin/mqtt $(DESTDIR)$(PREFIX)/bin/mqtt
@@ -43,6 +55,12 @@ bench-c:
 	mkdir -p bin
 	$(CC) -std=c11 -O3 -o bin/same_tests bench/same_tests.c
 	bin/same_tests $(STREAMS)
+
+# Loads the program's broker, and mosquitto's where it is installed, with messages over 127.0.0.1, and prints how many a second each delivers and how long
+# one takes: make bench-loopback DELIVERIES=10000
+bench-loopback: bin/mqtt
+	@command -v $(CC) >/dev/null || { echo 'There is no C compiler here called $(CC): name one, as make bench-loopback CC=clang.' >&2; exit 1; }
+	CC='$(CC)' bench/loopback.sh bin/mqtt $(DELIVERIES)
 
 clean:
 	rm -rf bin

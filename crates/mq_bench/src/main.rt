@@ -5,9 +5,13 @@
 
 mod broker;
 mod clients;
+mod ends;
 mod figures;
+mod hostile;
 mod in_flight;
 mod measure;
+mod memory;
+mod pair;
 mod plain;
 mod replays;
 mod sample;
@@ -20,6 +24,7 @@ mod work;
 use anyhow::Context;
 use std::env;
 use std::process::ExitCode;
+use std::rt::{Clock, Files};
 use stores::Filters;
 use subject::Subject;
 
@@ -28,6 +33,19 @@ const WEIGHED: [(&str, Filters); 3] = [
     ("rows_plain", Filters::Plain),
     ("rows_plus", Filters::Plus),
     ("rows_shared", Filters::Shared),
+];
+
+/// The word that lists what can be measured, as no word does.
+const LIST: &str = "list";
+
+/// The words that stand alone.
+const NAMES: [&str; 6] = [
+    topics::NAME,
+    replays::NAME,
+    in_flight::NAME,
+    broker::NAME,
+    ends::NAME,
+    LIST,
 ];
 
 /// What the filters are like of the store that a word names.
@@ -48,6 +66,10 @@ fn list(rt: &impl Print) -> anyhow::Result<()> {
     println!(rt; "{:<14} {}", replays::NAME, replays::EXPLANATION)?;
     println!(rt; "{:<14} {}", in_flight::NAME, in_flight::EXPLANATION)?;
     println!(rt; "{:<14} {}", broker::NAME, broker::EXPLANATION)?;
+    println!(rt; "{:<14} {}", ends::NAME, ends::EXPLANATION)?;
+    for (name, count) in hostile::WORDS {
+        println!(rt; "{name:<14} {count} pieces of any bytes to decoders, ends and a broker")?;
+    }
     Ok(())
 }
 
@@ -55,13 +77,25 @@ fn list(rt: &impl Print) -> anyhow::Result<()> {
 fn is_known(word: &String) -> bool {
     Subject::named(word.as_str()).is_some()
         || weighed(word.as_str()).is_some()
-        || [topics::NAME, replays::NAME, in_flight::NAME, broker::NAME].contains(&word.as_str())
+        || hostile::count_of(word.as_str()).is_some()
+        || NAMES.contains(&word.as_str())
 }
 
 /// Says that the words cannot be read.
 fn refuse(rt: &impl Eprint, word: &str) -> anyhow::Result<ExitCode> {
     eprintln!(rt; "mq_bench: cannot measure {word:?}; without words it lists what it can")?;
     Ok(ExitCode::from(2))
+}
+
+/// Measures the memory of a store, lets pieces come to all, or lists what can be measured, as a word says.
+fn measure_other<R: Files + AllocGlobal + Print + Clock>(rt: &R, word: &str) -> anyhow::Result<()> {
+    if let Some(filters) = weighed(word) {
+        return topics::weigh(rt, filters);
+    }
+    match hostile::count_of(word) {
+        Some(count) => hostile::measure(rt, rt.alloc(), count),
+        None => list(rt),
+    }
 }
 
 fn main(rt: HostRuntime) -> anyhow::Result<ExitCode> {
@@ -83,11 +117,8 @@ fn main(rt: HostRuntime) -> anyhow::Result<ExitCode> {
             None if word.as_str() == replays::NAME => replays::measure(&rt, alloc)?,
             None if word.as_str() == in_flight::NAME => in_flight::measure(&rt, alloc)?,
             None if word.as_str() == broker::NAME => broker::measure(&rt, alloc)?,
-            None => {
-                if let Some(filters) = weighed(word.as_str()) {
-                    topics::weigh(&rt, filters)?;
-                }
-            }
+            None if word.as_str() == ends::NAME => ends::measure(&rt)?,
+            None => measure_other(&rt, word.as_str())?,
         }
     }
     Ok(ExitCode::SUCCESS)

@@ -1,11 +1,12 @@
 //! Stores of subscriptions with few rows and with many, timed and printed.
 
+use crate::memory::resident;
 use anyhow::{Context, ensure};
 use mq_topic::{ClientKey, FilterStore, Qos, TopicFilter, TopicName};
 use std::alloc::Global;
+use std::fmt;
 use std::rt::{Clock, Files};
 use std::time::Instant;
-use std::{fmt, fs};
 
 /// How many filters are made before the time is taken, and then set.
 const BATCH: u32 = 1_000;
@@ -231,18 +232,6 @@ pub(crate) fn measure<S: FilterStore + Drop>(
         "topics: {named}, {rows} rows, {filters}: set {set} ns, matching {few} ns, of many names {many} ns, removal {removal} ns a row"
     )?;
     Ok(())
-}
-
-/// The bytes of memory that the program keeps, by what the system says of it.
-fn resident<R: Files + Alloc>(rt: &R) -> anyhow::Result<u64> {
-    let text = fs::read_to_string(rt, "/proc/self/statm")?;
-    let pages = text
-        .as_str()
-        .split(' ')
-        .nth(1)
-        .context("no number of pages")?;
-    let pages: u64 = pages.parse()?;
-    Ok(pages.saturating_mul(4_096))
 }
 
 /// Fills a store, and prints how many bytes a row takes. The program has to be a new one, which has freed nothing yet.

@@ -1,0 +1,255 @@
+//! What a broker does with any bytes.
+
+use crate::hostile::at_ends::CAPACITY;
+use crate::hostile::ledger::{WINDOW, number_of_close};
+use crate::hostile::tally::{ACTS, CLOSES, HUB_REFUSALS, Tally};
+use bytes::Bytes;
+use mq_decode::{Limits, PacketView, View, view};
+use mq_hub::{Act, Conn, Hub, HubClose, HubConfig, HubEvent, HubRefusal, HubReply};
+use std::alloc::{AllocError, Global};
+
+/// How many connections there are.
+pub(crate) const CONNS: usize = 4;
+
+/// A broker, and what it did.
+#[derive(Drop)]
+pub(crate) struct AtHub {
+    alloc: Global,
+    limits: Limits,
+    hub: Hub,
+    now: u64,
+    /// For each connection at least as many bytes as are held of it, and may be answered.
+    credits: [u64; CONNS],
+    /// Whether each connection is to begin.
+    begins: [bool; CONNS],
+    /// How many bytes came, and went in answers, messages aside.
+    pub(crate) came: u64,
+    pub(crate) answered: u64,
+    /// How many bytes went in all.
+    pub(crate) went: u64,
+    /// What it did.
+    pub(crate) acts: Tally,
+    /// Why it closed connections.
+    pub(crate) closes: Tally,
+    /// Why it refused events.
+    pub(crate) refusals: Tally,
+    /// How many of its answers are none that may come.
+    pub(crate) wrong: u64,
+}
+
+/// The connection of this number.
+fn conn(number: usize) -> Conn {
+    Conn {
+        worker: 0,
+        nth: (number % CONNS) as u32,
+    }
+}
+
+/// A broker to which nothing happened.
+fn new_hub(alloc: Global, limits: Limits) -> Hub {
+    let config = HubConfig {
+        limits,
+        capacity: CAPACITY,
+        window: Some(WINDOW),
+        max_conns: 3,
+        max_sessions: 3,
+        users: None,
+    };
+    Hub::new(alloc, config)
+}
+
+/// The number of what a broker did.
+fn number_of(act: &Act) -> usize {
+    match act {
+        Act::Up(_, _, _) => 1,
+        Act::Took(_, _) => 2,
+        Act::Placed(_, _) => 3,
+        Act::Subscribed(_, _, _) => 4,
+        Act::Unsubscribed(_, _) => 5,
+        Act::Will(_, _) => 6,
+        Act::WillDropped(_) => 7,
+        Act::Closed(_, _) => 8,
+        Act::Removed(_) => 9,
+    }
+}
+
+/// The number of the code of a reason.
+fn number_of_hub_close(why: HubClose) -> usize {
+    match why {
+        HubClose::Own(why) => number_of_close(why),
+        HubClose::TargetFull => 8,
+        HubClose::TakenOver => 9,
+        HubClose::PeerEnded => 10,
+    }
+}
+
+/// How many bytes of answers a broker's output has: all but its messages, PUBLISH and PUBREL; `None` where it is no packets.
+fn answers_in(output: &[u8], limits: Limits) -> Option<u64> {
+    let mut rest = output;
+    let mut bytes = 0u64;
+    for _ in 0..output.len() {
+        let View::Whole(packet, size) = view(rest, limits) else {
+            break;
+        };
+        if !matches!(packet, PacketView::Publish(_) | PacketView::PubRel(_)) {
+            bytes = bytes.saturating_add(size as u64);
+        }
+        let (_, after) = rest.split_at(size);
+        rest = after;
+    }
+    if rest.is_empty() { Some(bytes) } else { None }
+}
+
+impl AtHub {
+    /// A broker to which nothing happened.
+    pub(crate) fn new(alloc: Global, limits: Limits) -> AtHub {
+        AtHub {
+            alloc,
+            limits,
+            hub: new_hub(alloc, limits),
+            now: 0,
+            credits: [0; CONNS],
+            begins: [true; CONNS],
+            came: 0,
+            answered: 0,
+            went: 0,
+            acts: Tally::new(&ACTS),
+            closes: Tally::new(&CLOSES),
+            refusals: Tally::new(&HUB_REFUSALS),
+            wrong: 0,
+        }
+    }
+
+    /// The broker is another one, to which nothing happened.
+    pub(crate) fn renew(&mut self) {
+        self.hub = new_hub(self.alloc, self.limits);
+        self.credits = [0; CONNS];
+        self.begins = [true; CONNS];
+    }
+
+    fn expect(&mut self, holds: bool) {
+        if !holds {
+            self.wrong = self.wrong.saturating_add(1);
+        }
+    }
+
+    /// Whether a connection is to begin.
+    pub(crate) fn begins(&self, number: usize) -> bool {
+        self.begins.get(number).copied().unwrap_or(true)
+    }
+
+    fn set_begins(&mut self, number: usize, begins: bool) {
+        if let Some(there) = self.begins.get_mut(number) {
+            *there = begins;
+        }
+    }
+
+    /// What the broker did.
+    fn tell(&mut self, reply: &HubReply) {
+        for act in reply.acts.as_slice() {
+            self.acts.count(number_of(act));
+            match act {
+                Act::Up(conn, _, _) => self.set_begins(conn.nth as usize, false),
+                Act::Closed(conn, why) => {
+                    self.set_begins(conn.nth as usize, true);
+                    self.closes.count(number_of_hub_close(*why));
+                }
+                _ => {}
+            }
+        }
+    }
+
+    /// An event comes; answers what came of it, where it was not refused.
+    fn step(&mut self, event: &HubEvent) -> Option<HubReply> {
+        match self.hub.step(event) {
+            Ok(reply) => {
+                self.tell(&reply);
+                Some(reply)
+            }
+            Err(why) => {
+                self.refused(why);
+                None
+            }
+        }
+    }
+
+    fn refused(&mut self, why: HubRefusal) {
+        let number = match why {
+            HubRefusal::UnknownConn => 1,
+            HubRefusal::ConnInUse => 2,
+            HubRefusal::Memory => 3,
+        };
+        self.refusals.count(number);
+        self.expect(why != HubRefusal::Memory);
+    }
+
+    /// What waits on a connection goes; answers how many bytes of answers that were. One that is closed is over.
+    fn collect(&mut self, number: usize) -> u64 {
+        if !self.hub.knows(conn(number)) {
+            return 0;
+        }
+        let Some(reply) = self.step(&HubEvent::Collect(conn(number))) else {
+            return 0;
+        };
+        let output = reply.output.as_slice();
+        self.went = self.went.saturating_add(output.len() as u64);
+        let answers = answers_in(output, self.limits);
+        self.expect(answers.is_some());
+        if !reply.alive {
+            self.step(&HubEvent::Ended(conn(number)));
+        }
+        answers.unwrap_or(0)
+    }
+
+    /// What waits anywhere goes; answers how many bytes of answers that were.
+    fn collect_all(&mut self) -> u64 {
+        let mut answers = 0u64;
+        for number in 0..CONNS {
+            answers = answers.saturating_add(self.collect(number));
+        }
+        answers
+    }
+
+    /// So many bytes came on a connection, and answers of so many went.
+    fn pass(&mut self, number: usize, came: u64, answers: u64) {
+        self.came = self.came.saturating_add(came);
+        self.answered = self.answered.saturating_add(answers);
+        let most = self.credits.get(number).copied().unwrap_or(0);
+        let most = most.saturating_add(came);
+        self.expect(answers <= most);
+        if let Some(credit) = self.credits.get_mut(number) {
+            *credit = most.saturating_sub(answers);
+        }
+    }
+
+    /// Something happens, by a number, or nothing: it is later, a connection ends, or one is asked for that is not known.
+    pub(crate) fn use_it(&mut self, number: u32, on: usize) {
+        match number {
+            0..=2 => {
+                self.now = self.now.saturating_add(1_000);
+                self.step(&HubEvent::Tick(self.now));
+            }
+            3 | 4 => {
+                self.step(&HubEvent::Ended(conn(on)));
+                self.set_begins(on, true);
+            }
+            _ => {}
+        }
+        if !self.hub.knows(conn(on)) {
+            self.step(&HubEvent::Opened(conn(on)));
+            if let Some(credit) = self.credits.get_mut(on) {
+                *credit = 0;
+            }
+        }
+        self.collect_all();
+    }
+
+    /// A piece comes on a connection.
+    pub(crate) fn take(&mut self, number: usize, piece: &[u8]) -> Result<(), AllocError> {
+        let bytes = Bytes::copy_from_slice(self.alloc, piece)?;
+        self.step(&HubEvent::Bytes(conn(number), bytes));
+        let answers = self.collect_all();
+        self.pass(number, piece.len() as u64, answers);
+        Ok(())
+    }
+}

@@ -1,0 +1,122 @@
+//! A client end and a server end, whose bytes come to one another.
+
+use anyhow::{Context, ensure};
+use mq_decode::Limits;
+use mq_end::{ClientConfig, ClientEnd, Happening, ServerConfig, ServerEnd, State};
+use mq_packet::Message;
+use mq_wire::Text;
+use std::alloc::Global;
+
+/// The limits of both ends.
+fn limits() -> anyhow::Result<Limits> {
+    Limits::new(1_048_576).context("no limits")
+}
+
+/// A client end to which nothing happened.
+pub(crate) fn idle_client(alloc: Global) -> anyhow::Result<ClientEnd> {
+    let config = ClientConfig {
+        id: Text::new(alloc, "meter")?,
+        keep_alive: 0,
+        will: None,
+        login: None,
+        limits: limits()?,
+        capacity: u16::MAX,
+        window: None,
+    };
+    Ok(ClientEnd::new(alloc, config))
+}
+
+/// A server end to which nothing happened.
+pub(crate) fn idle_server(alloc: Global) -> anyhow::Result<ServerEnd> {
+    let config = ServerConfig {
+        limits: limits()?,
+        capacity: u16::MAX,
+        window: None,
+    };
+    Ok(ServerEnd::new(alloc, config))
+}
+
+/// How many messages are handed on.
+fn handed(happenings: &[Happening]) -> usize {
+    let is_handed = |it: &&Happening| matches!(it, Happening::Handed(_));
+    happenings.iter().filter(is_handed).count()
+}
+
+/// A client end and a server end.
+#[derive(Drop)]
+pub(crate) struct Pair {
+    pub(crate) client: ClientEnd,
+    pub(crate) server: ServerEnd,
+}
+
+impl Pair {
+    /// Both ends are up.
+    pub(crate) fn new(alloc: Global) -> anyhow::Result<Pair> {
+        let mut pair = Pair {
+            client: idle_client(alloc)?,
+            server: idle_server(alloc)?,
+        };
+        pair.server.opened(0);
+        pair.client.connect(0, false)?;
+        pair.to_server()?;
+        pair.to_client()?;
+        ensure!(pair.is_up(), "the ends are not up");
+        Ok(pair)
+    }
+
+    fn is_up(&self) -> bool {
+        self.client.state() == State::Up && self.server.state() == State::Up
+    }
+
+    /// Whether no message waits at the client for anything.
+    pub(crate) fn is_idle(&self) -> bool {
+        match self.client.session() {
+            Some(session) => session.sender.is_idle(),
+            None => false,
+        }
+    }
+
+    /// The bytes that wait at the client come to the server; answers how many messages it hands on.
+    fn to_server(&mut self) -> anyhow::Result<usize> {
+        let progress = self.server.receive(0, self.client.output());
+        ensure!(progress.closed.is_none(), "the server closed");
+        let written = self.client.output().len();
+        self.client.take_output(written);
+        Ok(handed(progress.happenings.as_slice()))
+    }
+
+    /// The bytes that wait at the server come to the client.
+    fn to_client(&mut self) -> anyhow::Result<()> {
+        if self.server.output().is_empty() {
+            return Ok(());
+        }
+        let progress = self.client.receive(0, self.server.output());
+        ensure!(progress.closed.is_none(), "the client closed");
+        let written = self.server.output().len();
+        self.server.take_output(written);
+        Ok(())
+    }
+
+    /// The client publishes a message, and all bytes go to and fro until none waits: one exchange at quality of service 1, two at 2.
+    pub(crate) fn exchange(&mut self, message: Message) -> anyhow::Result<()> {
+        self.client.publish(message)?;
+        let mut count = 0usize;
+        for _ in 0..2 {
+            if self.client.output().is_empty() {
+                break;
+            }
+            count = count.saturating_add(self.to_server()?);
+            self.to_client()?;
+        }
+        ensure!(count == 1, "a message is not handed on once");
+        Ok(())
+    }
+
+    /// The client publishes a message, whose bytes are written and come nowhere.
+    pub(crate) fn publish(&mut self, message: Message) -> anyhow::Result<()> {
+        self.client.publish(message)?;
+        let written = self.client.output().len();
+        self.client.take_output(written);
+        Ok(())
+    }
+}
