@@ -103,7 +103,7 @@ fn keep<S: Stream, C: Clock, K: Keeper>(
 {
     let progress = peer.hear()?;
     let closed = progress.closed;
-    let mut told = progress.happenings.into_vec();
+    let mut told = progress.happenings.into_vec()?;
     match kept.append(&mut told) {
         Ok(()) => peer.answer(closed),
         Err(_) => Err(Halt::Memory),

@@ -5,6 +5,7 @@ pub mod Windows
 pub mod Outcomes
 pub mod Replies
 pub mod Received
+pub mod Fews
 pub mod Hearing
 pub mod Openings
 pub mod Accepted

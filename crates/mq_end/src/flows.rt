@@ -12,7 +12,7 @@ use crate::happening::Happening;
 use crate::link::Link;
 use crate::outcome::Outcome;
 use crate::reason::CloseReason;
-use mq_flow::Receiver;
+use mq_flow::{Reaction, Receiver};
 use mq_packet::{Delivery, Message, Packet, PacketId, Publish};
 use mq_topic::Qos;
 use std::alloc::AllocError;
@@ -96,11 +96,10 @@ impl Link {
     fn take_puback(&mut self, id: PacketId) -> Outcome
         ensures { Gives (flow_gets (packets.PubAck id) self.old.end) result self.old self.new }
     {
-        if !self.session.sender.awaits_puback(id) {
-            return Outcome::nothing();
+        match self.session.sender.on_puback(id) {
+            Reaction::Freed => Outcome::acknowledges(id),
+            Reaction::Release(_) | Reaction::Stray => Outcome::nothing(),
         }
-        let _ = self.session.sender.on_puback(id);
-        Outcome::acknowledges(id)
     }
 
     /// PUBREC, which PUBREL answers (3.5, 4.3.3).

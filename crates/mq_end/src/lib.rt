@@ -5,6 +5,7 @@
 
 mod client;
 mod config;
+mod few;
 mod flows;
 mod happening;
 mod items;
@@ -32,6 +33,7 @@ mod told;
 
 pub use crate::client::ClientEnd;
 pub use crate::config::{ClientConfig, ServerConfig};
+pub use crate::few::Few;
 pub use crate::happening::Happening;
 pub use crate::items::Items;
 pub use crate::laws::{

@@ -1,9 +1,9 @@
 //! What is told of packets so far.
 
-ghost use Rattle.std.specs.Prelude.{◌≡◌, ◌<◌, ◌++◌, [], option_to_list, vec_len, vec_capacity, OnOk};
+ghost use Rattle.std.specs.Prelude.{◌≡◌, ◌<◌, ◌++◌, [], option_to_list, OnOk};
 
+use crate::few::{Few, Gathered};
 use crate::happening::Happening;
-use crate::items::Items;
 use crate::outcome::Outcome;
 use crate::progress::Progress;
 use crate::reason::CloseReason;
@@ -13,8 +13,8 @@ use std::alloc::{AllocError, Global};
 /// What is told of packets so far.
 #[derive(Debug, Drop)]
 pub(crate) struct Told {
-    pub(crate) happenings: Vec<Happening>,
-    pub(crate) acknowledged: Vec<PacketId>,
+    pub(crate) happenings: Gathered<Happening>,
+    pub(crate) acknowledged: Gathered<PacketId>,
 }
 
 impl Told {
@@ -24,8 +24,8 @@ impl Told {
         ensures acknowledged { result.acknowledged.items ≡ [] }
     {
         Told {
-            happenings: Vec::new(alloc),
-            acknowledged: Vec::new(alloc),
+            happenings: Gathered::new(alloc),
+            acknowledged: Gathered::new(alloc),
         }
     }
 
@@ -33,17 +33,17 @@ impl Told {
     pub(crate) fn reserve(&mut self) -> Result<(), AllocError>
         ensures happenings { self.new.happenings.items ≡ self.old.happenings.items }
         ensures acknowledged { self.new.acknowledged.items ≡ self.old.acknowledged.items }
-        ensures happening_room { OnOk result (vec_len self.new.happenings < vec_capacity self.new.happenings) }
-        ensures acknowledged_room { OnOk result (vec_len self.new.acknowledged < vec_capacity self.new.acknowledged) }
+        ensures happening_room { OnOk result (0 < self.new.happenings.room) }
+        ensures acknowledged_room { OnOk result (0 < self.new.acknowledged.room) }
     {
-        self.happenings.reserve(1)?;
-        self.acknowledged.reserve(1)
+        self.happenings.reserve()?;
+        self.acknowledged.reserve()
     }
 
     /// Tells what came of one more packet, within the room for it, and answers why the end closed, where it did.
     pub(crate) fn add(&mut self, outcome: Outcome) -> Option<CloseReason>
-        requires happening { vec_len self.old.happenings < vec_capacity self.old.happenings }
-        requires acknowledged { vec_len self.old.acknowledged < vec_capacity self.old.acknowledged }
+        requires happening { 0 < self.old.happenings.room }
+        requires acknowledged { 0 < self.old.acknowledged.room }
         ensures happenings { self.new.happenings.items ≡ self.old.happenings.items ++ option_to_list outcome.happening }
         ensures acknowledged { self.new.acknowledged.items ≡ self.old.acknowledged.items ++ option_to_list outcome.acknowledged }
         ensures closed { result ≡ outcome.closed }
@@ -54,10 +54,10 @@ impl Told {
             closed,
         } = outcome;
         if let Some(happening) = happening {
-            self.happenings.push_reserved(happening);
+            self.happenings.push(happening);
         }
         if let Some(id) = acknowledged {
-            self.acknowledged.push_reserved(id);
+            self.acknowledged.push(id);
         }
         closed
     }
@@ -73,8 +73,8 @@ impl Told {
             acknowledged,
         } = self;
         Progress {
-            happenings: Items::from_vec(happenings),
-            acknowledged: Items::from_vec(acknowledged),
+            happenings: Few::from_gathered(happenings),
+            acknowledged: Few::from_gathered(acknowledged),
             closed,
         }
     }

@@ -74,7 +74,7 @@ fn gather<S: Stream, C: Clock>(
             return Ok(());
         }
         let progress = peer.hear()?;
-        keep_handed(messages, progress.happenings.into_vec())?;
+        keep_handed(messages, progress.happenings.into_vec()?)?;
         peer.answer(progress.closed)?;
     }
     Err(Halt::Lost)

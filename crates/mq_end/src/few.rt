@@ -1,0 +1,160 @@
+//! Lists that are short for the most part: one item needs no memory of its own.
+
+ghost use Rattle.std.specs.Prelude.{◌≡◌, ◌<◌, ◌∷◌, ◌++◌, [], OnOk, IfOk};
+ghost use Rattle.std.specs.List.{AllZip};
+
+use std::alloc::{AllocError, Global};
+use std::marker::Model;
+
+/// Items that come one after another: a single one stands in `first`, several stand in `more`.
+#[derive(Debug, Drop)]
+pub(crate) struct Gathered<T> {
+    first: Option<[T; 1]>,
+    more: Vec<T>,
+}
+
+// The item of an array of one.
+fn only<T>(one: [T; 1]) -> T
+    ensures { one ≡ result ∷ [] }
+{
+    let [item] = one;
+    item
+}
+
+impl<T> Model for Gathered<T> {
+    ghost use Rattle.std.specs.Prelude.{◌≡◌, ◌++◌, true, [], is_some, unwrap_or, vec_len, vec_capacity};
+    ghost use Rattle.mq_end.specs.Few.{Gathering, room_of};
+
+    ghost Value = { Gathering T };
+
+    ghost view = { λ g. record {
+      items = unwrap_or g.first [] ++ g.more.items;
+      room = room_of (is_some g.first) (vec_len g.more) (vec_capacity g.more);
+    } };
+
+    ghost invariant = { λ g. is_some g.first ≡ true → vec_len g.more ≡ 0 };
+}
+
+impl<T: Drop> Gathered<T> {
+    /// None yet. It takes no memory.
+    pub(crate) fn new(alloc: Global) -> Gathered<T>
+        ensures { result.items ≡ [] }
+    {
+        Gathered {
+            first: None,
+            more: Vec::new(alloc),
+        }
+    }
+
+    /// Makes room for one more item. The first one needs no memory.
+    #[tactic(auto, using(crate::proofs::Fews::room_for_one, crate::proofs::Fews::room_behind, crate::proofs::Fews::moved))]
+    pub(crate) fn reserve(&mut self) -> Result<(), AllocError>
+        ensures items { self.new.items ≡ self.old.items }
+        ensures room { OnOk result (0 < self.new.room) }
+    {
+        if self.first.is_some() {
+            self.more.reserve(2)?;
+            if let Some(one) = self.first.take() {
+                self.more.push_reserved(only(one));
+            }
+            return Ok(());
+        }
+        if self.more.is_empty() {
+            return Ok(());
+        }
+        self.more.reserve(1)
+    }
+
+    /// Puts an item last, within the room for it.
+    #[tactic(auto, using(crate::proofs::Fews::is_alone, crate::proofs::Fews::is_behind))]
+    pub(crate) fn push(&mut self, item: T)
+        requires room { 0 < self.old.room }
+        ensures items { self.new.items ≡ self.old.items ++ item ∷ [] }
+    {
+        if self.more.is_empty() {
+            self.first = Some([item]);
+        } else {
+            self.more.push_reserved(item);
+        }
+    }
+
+    fn as_slice(&self) -> &[T]
+        ensures { result.now ≡ self.now.items }
+    {
+        match &self.first {
+            Some(one) => one.as_slice(),
+            None => self.more.as_slice(),
+        }
+    }
+
+    fn into_vec(self) -> Result<Vec<T>, AllocError>
+        ensures { IfOk result (λ v. v.items ≡ self.items) }
+    {
+        let Gathered { first, more } = self;
+        let mut items = more;
+        if let Some(one) = first {
+            items.reserve(1)?;
+            items.push_reserved(only(one));
+        }
+        Ok(items)
+    }
+}
+
+impl<T: Clone> Clone for Gathered<T> {
+    ghost is_clone = { λ g copy. AllZip T.is_clone g.items copy.items };
+
+    /// Clones of the items.
+    fn clone(&self) -> Result<Gathered<T>, AllocError> {
+        let first = self.first.clone()?;
+        let more = self.more.clone()?;
+        Ok(Gathered { first, more })
+    }
+}
+
+/// A list, which may be empty and takes no memory of its own for a single item. Contracts see it as the list of its items.
+#[derive(Debug, Drop)]
+pub struct Few<T> {
+    gathered: Gathered<T>,
+}
+
+impl<T> Model for Few<T> {
+    ghost use Rattle.std.specs.Prelude.{List};
+
+    ghost Value = { List T };
+
+    ghost view = { λ l. l.gathered.items };
+}
+
+impl<T: Drop> Few<T> {
+    /// The list of what was gathered.
+    pub(crate) fn from_gathered(gathered: Gathered<T>) -> Few<T>
+        ensures { result ≡ gathered.items }
+    {
+        Few { gathered }
+    }
+
+    /// The items.
+    pub fn as_slice(&self) -> &[T]
+        ensures { result.now ≡ self.now }
+    {
+        self.gathered.as_slice()
+    }
+
+    /// The items as a vector: a single one needs memory for it. Fails if memory runs out.
+    pub fn into_vec(self) -> Result<Vec<T>, AllocError>
+        ensures { IfOk result (λ v. v.items ≡ self) }
+    {
+        let Few { gathered } = self;
+        gathered.into_vec()
+    }
+}
+
+impl<T: Clone> Clone for Few<T> {
+    ghost is_clone = { λ list copy. AllZip T.is_clone list copy };
+
+    /// A list of clones of the items.
+    fn clone(&self) -> Result<Few<T>, AllocError> {
+        let gathered = self.gathered.clone()?;
+        Ok(Few { gathered })
+    }
+}
