@@ -71,7 +71,7 @@ fn subscriber(number: u16) -> Conn {
 }
 
 /// A broker without users and with many places.
-fn broker(alloc: Global) -> anyhow::Result<Hub> {
+pub(crate) fn broker(alloc: Global) -> anyhow::Result<Hub> {
     let config = HubConfig {
         limits: Limits::new(1_048_576).context("no limits")?,
         capacity: u16::MAX,
@@ -84,7 +84,7 @@ fn broker(alloc: Global) -> anyhow::Result<Hub> {
 }
 
 /// An event, after which its connection is open.
-fn step(hub: &mut Hub, event: &HubEvent) -> anyhow::Result<()> {
+pub(crate) fn step(hub: &mut Hub, event: &HubEvent) -> anyhow::Result<()> {
     ensure!(hub.step(event)?.alive, "a connection was closed");
     Ok(())
 }
@@ -105,7 +105,7 @@ fn add_publishers(alloc: Global, hub: &mut Hub, flow: Flow) -> anyhow::Result<()
         let conn = publisher(number);
         let name = format!(in alloc; "publisher-{number}")?;
         step(hub, &HubEvent::Opened(conn))?;
-        step(hub, &clients::comes(alloc, conn, name.as_str())?)?;
+        step(hub, &clients::comes(alloc, conn, name.as_str(), true)?)?;
     }
     Ok(())
 }

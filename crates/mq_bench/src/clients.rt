@@ -40,9 +40,14 @@ fn request(alloc: Global, filter: &str, qos: Qos) -> anyhow::Result<Request> {
     Ok(Request { filter, qos })
 }
 
-/// A client comes, whose session ends with the connection.
-pub(crate) fn comes(alloc: Global, conn: Conn, client: &str) -> anyhow::Result<HubEvent> {
-    let packets = vec![in alloc; connect(alloc, client, true)?]?;
+/// A client comes; a clean session ends with the connection.
+pub(crate) fn comes(
+    alloc: Global,
+    conn: Conn,
+    client: &str,
+    clean_session: bool,
+) -> anyhow::Result<HubEvent> {
+    let packets = vec![in alloc; connect(alloc, client, clean_session)?]?;
     sent(alloc, conn, packets.as_slice())
 }
 

@@ -1,6 +1,6 @@
 //! A message from a client end to a server end and back, and the memory of ends, measured and printed.
 
-use crate::memory::resident;
+use crate::memory::{print_bytes, resident};
 use crate::pair::{Pair, idle_client, idle_server};
 use crate::sample::made_up_bytes;
 use anyhow::{Context, ensure};
@@ -128,18 +128,6 @@ fn measure_all(rt: &(impl Print + Clock), alloc: Global) -> anyhow::Result<()> {
     Ok(())
 }
 
-/// Prints how many bytes one of so many takes, where there were as many before as this.
-fn print_bytes<R: Files + Alloc + Print>(
-    rt: &R,
-    what: &str,
-    before: u64,
-    count: usize,
-) -> anyhow::Result<()> {
-    let bytes = resident(rt)?.saturating_sub(before) / (count as u64).max(1);
-    println!(rt; "{NAME}: {what}: {bytes} bytes of memory")?;
-    Ok(())
-}
-
 /// So many client ends to which nothing happened.
 fn add_clients(alloc: Global, clients: &mut Vec<ClientEnd>) -> anyhow::Result<()> {
     for _ in 0..ENDS {
@@ -180,7 +168,7 @@ fn weigh_flight<R: Files + AllocGlobal + Print>(
 ) -> anyhow::Result<()> {
     let before = resident(rt)?;
     fly(pair, message)?;
-    print_bytes(rt, "a message in flight", before, usize::from(FLIGHT))
+    print_bytes(rt, NAME, "a message in flight", before, usize::from(FLIGHT))
 }
 
 /// Prints what a message of quality of service 2 in flight takes at a client that is made for it.
@@ -212,21 +200,21 @@ impl Kept {
     fn weigh_clients<R: Files + AllocGlobal + Print>(&mut self, rt: &R) -> anyhow::Result<()> {
         let before = resident(rt)?;
         add_clients(rt.alloc(), &mut self.clients)?;
-        print_bytes(rt, "an idle client end", before, ENDS)
+        print_bytes(rt, NAME, "an idle client end", before, ENDS)
     }
 
     /// Prints what a server end takes, to which nothing happened.
     fn weigh_servers<R: Files + AllocGlobal + Print>(&mut self, rt: &R) -> anyhow::Result<()> {
         let before = resident(rt)?;
         add_servers(rt.alloc(), &mut self.servers)?;
-        print_bytes(rt, "an idle server end", before, ENDS)
+        print_bytes(rt, NAME, "an idle server end", before, ENDS)
     }
 
     /// Prints what a client end and a server end take together, which are up.
     fn weigh_pairs<R: Files + AllocGlobal + Print>(&mut self, rt: &R) -> anyhow::Result<()> {
         let before = resident(rt)?;
         add_pairs(rt.alloc(), &mut self.pairs)?;
-        print_bytes(rt, "a client and a server end, up", before, ENDS)
+        print_bytes(rt, NAME, "a client and a server end, up", before, ENDS)
     }
 
     /// Prints what ends take, and what a message in flight does.

@@ -15,6 +15,7 @@ mod pair;
 mod plain;
 mod replays;
 mod sample;
+mod seats;
 mod stores;
 mod stream;
 mod subject;
@@ -39,11 +40,12 @@ const WEIGHED: [(&str, Filters); 3] = [
 const LIST: &str = "list";
 
 /// The words that stand alone.
-const NAMES: [&str; 6] = [
+const NAMES: [&str; 7] = [
     topics::NAME,
     replays::NAME,
     in_flight::NAME,
     broker::NAME,
+    seats::NAME,
     ends::NAME,
     LIST,
 ];
@@ -66,6 +68,7 @@ fn list(rt: &impl Print) -> anyhow::Result<()> {
     println!(rt; "{:<14} {}", replays::NAME, replays::EXPLANATION)?;
     println!(rt; "{:<14} {}", in_flight::NAME, in_flight::EXPLANATION)?;
     println!(rt; "{:<14} {}", broker::NAME, broker::EXPLANATION)?;
+    println!(rt; "{:<14} {}", seats::NAME, seats::EXPLANATION)?;
     println!(rt; "{:<14} {}", ends::NAME, ends::EXPLANATION)?;
     for (name, count) in hostile::WORDS {
         println!(rt; "{name:<14} {count} pieces of any bytes to decoders, ends and a broker")?;
@@ -117,6 +120,7 @@ fn main(rt: HostRuntime) -> anyhow::Result<ExitCode> {
             None if word.as_str() == replays::NAME => replays::measure(&rt, alloc)?,
             None if word.as_str() == in_flight::NAME => in_flight::measure(&rt, alloc)?,
             None if word.as_str() == broker::NAME => broker::measure(&rt, alloc)?,
+            None if word.as_str() == seats::NAME => seats::measure(&rt)?,
             None if word.as_str() == ends::NAME => ends::measure(&rt)?,
             None => measure_other(&rt, word.as_str())?,
         }

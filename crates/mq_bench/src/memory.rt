@@ -15,3 +15,16 @@ pub(crate) fn resident<R: Files + Alloc>(rt: &R) -> anyhow::Result<u64> {
     let pages: u64 = pages.parse()?;
     Ok(pages.saturating_mul(4_096))
 }
+
+/// Prints how many bytes one of so many takes, where there were as many before as this.
+pub(crate) fn print_bytes<R: Files + Alloc + Print>(
+    rt: &R,
+    name: &str,
+    what: &str,
+    before: u64,
+    count: usize,
+) -> anyhow::Result<()> {
+    let bytes = resident(rt)?.saturating_sub(before) / (count as u64).max(1);
+    println!(rt; "{name}: {what}: {bytes} bytes of memory")?;
+    Ok(())
+}

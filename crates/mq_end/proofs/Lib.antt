@@ -6,6 +6,7 @@ pub mod Outcomes
 pub mod Replies
 pub mod Received
 pub mod Fews
+pub mod Outputs
 pub mod Hearing
 pub mod Openings
 pub mod Accepted

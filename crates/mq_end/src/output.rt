@@ -120,6 +120,7 @@ impl Output {
     }
 
     /// Takes bytes from the front; the room that they had is gone. It takes no memory.
+    #[tactic(auto, using(crate::proofs::Outputs::moved_up))]
     pub(crate) fn take(&mut self, count: usize)
         requires { count ≤ length self.old.bytes }
         ensures { self.new ≡ record { bytes = drop count self.old.bytes; room = self.old.room - count } }
@@ -128,7 +129,7 @@ impl Output {
         self.room = self.room.saturating_sub(count);
         let left = self.bytes.len() - self.gone;
         if left <= self.gone {
-            self.bytes.rotate_left(self.gone);
+            self.bytes.copy_within(self.gone.., 0);
             self.bytes.truncate(left);
             self.gone = 0;
         }
