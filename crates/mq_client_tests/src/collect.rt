@@ -25,84 +25,96 @@ fn collected(alloc: Global, line: Line, count: u32) -> Result<String, Fail> {
     )
 }
 
-fn expect(rt: &impl Abort, alloc: Global, rows: &[(&str, Line, u32, &str)]) -> Result<(), Fail> {
-    for (name, line, count, wanted) in rows {
-        expect_told(rt, collected(alloc, *line, *count), *wanted, *name)?;
+// A name, what comes, how many messages are wanted, and the status, what is printed and what is written.
+type Row = (&'static str, &'static [&'static str], u32, &'static str);
+
+// Messages that are collected.
+const COLLECTED: [Row; 5] = [
+    (
+        "none",
+        &["20020000", "9003000102"],
+        0,
+        "0 subscribed\n100d00044d5154540400003c000177820800010003612f2302e000",
+    ),
+    (
+        "two",
+        &[
+            "20020000",
+            "9003000102",
+            "34090003612f6200016869",
+            "62020001",
+            "34090003612f620002796f",
+            "62020002",
+        ],
+        2,
+        "0 subscribed\na/b 2 6869\na/b 2 796f\n100d00044d5154540400003c000177820800010003612f230250020001700200015002000270020002e000",
+    ),
+    (
+        "before the answer",
+        &["20020100", "30070003612f626869", "9003000102"],
+        1,
+        "0 subscribed\na/b 0 6869\n100d00044d5154540400003c000177820800010003612f2302e000",
+    ),
+    (
+        "escaped",
+        &["20020000", "9003000102", "30070005612f206225"],
+        1,
+        "0 subscribed\na/%20b%25 0 -\n100d00044d5154540400003c000177820800010003612f2302e000",
+    ),
+    (
+        "more than wanted",
+        &[
+            "20020000",
+            "9003000102",
+            "30070003612f62686930070003612f62796f",
+        ],
+        1,
+        "0 subscribed\na/b 0 6869\na/b 0 796f\n100d00044d5154540400003c000177820800010003612f2302e000",
+    ),
+];
+
+// Connections that end before all messages are there.
+const ENDED: [Row; 3] = [
+    (
+        "refused",
+        &["20020000", "9003000180"],
+        1,
+        "1 not subscribed\n100d00044d5154540400003c000177820800010003612f2302",
+    ),
+    (
+        "lost before the answer",
+        &["20020100", "30070003612f626869"],
+        1,
+        "1 a/b 0 6869\nconnection failed\n100d00044d5154540400003c000177820800010003612f2302",
+    ),
+    (
+        "closed behind a message",
+        &["20020000", "9003000102", "30070003612f626869f000"],
+        2,
+        "1 subscribed\na/b 0 6869\nclosed C1\n100d00044d5154540400003c000177820800010003612f2302",
+    ),
+];
+
+fn expect(rt: &impl Abort, alloc: Global, rows: &[Row]) -> Result<(), Fail> {
+    for (name, reads, count, wanted) in rows {
+        expect_told(
+            rt,
+            collected(alloc, line_of(*reads), *count),
+            *wanted,
+            *name,
+        )?;
     }
     Ok(())
 }
 
 #[test]
 fn messages_are_printed(rt: HostRuntime) -> Result<(), Fail> {
-    let rows = [
-        (
-            "none",
-            line_of(&["20020000", "9003000102"]),
-            0,
-            "0 subscribed\n100d00044d5154540400003c000177820800010003612f2302e000",
-        ),
-        (
-            "two",
-            line_of(&[
-                "20020000",
-                "9003000102",
-                "34090003612f6200016869",
-                "62020001",
-                "34090003612f620002796f",
-                "62020002",
-            ]),
-            2,
-            "0 subscribed\na/b 2 6869\na/b 2 796f\n100d00044d5154540400003c000177820800010003612f230250020001700200015002000270020002e000",
-        ),
-        (
-            "before the answer",
-            line_of(&["20020100", "30070003612f626869", "9003000102"]),
-            1,
-            "0 subscribed\na/b 0 6869\n100d00044d5154540400003c000177820800010003612f2302e000",
-        ),
-        (
-            "escaped",
-            line_of(&["20020000", "9003000102", "30070005612f206225"]),
-            1,
-            "0 subscribed\na/%20b%25 0 -\n100d00044d5154540400003c000177820800010003612f2302e000",
-        ),
-        (
-            "more than wanted",
-            line_of(&[
-                "20020000",
-                "9003000102",
-                "30070003612f62686930070003612f62796f",
-            ]),
-            1,
-            "0 subscribed\na/b 0 6869\na/b 0 796f\n100d00044d5154540400003c000177820800010003612f2302e000",
-        ),
-    ];
-    expect(&rt, rt.alloc(), &rows)
+    expect(&rt, rt.alloc(), &COLLECTED)
 }
 
 #[test]
 fn connections_end(rt: HostRuntime) -> Result<(), Fail> {
-    let rows = [
-        (
-            "refused",
-            line_of(&["20020000", "9003000180"]),
-            1,
-            "1 not subscribed\n100d00044d5154540400003c000177820800010003612f2302",
-        ),
-        (
-            "lost before the answer",
-            line_of(&["20020100", "30070003612f626869"]),
-            1,
-            "1 a/b 0 6869\nconnection failed\n100d00044d5154540400003c000177820800010003612f2302",
-        ),
-        (
-            "closed behind a message",
-            line_of(&["20020000", "9003000102", "30070003612f626869f000"]),
-            2,
-            "1 subscribed\na/b 0 6869\nclosed C1\n100d00044d5154540400003c000177820800010003612f2302",
-        ),
-    ];
-    expect(&rt, rt.alloc(), &rows)
+    expect(&rt, rt.alloc(), &ENDED)
 }
 
 // The connection is lost at each write in turn: what was handed on is printed all the same.
@@ -138,7 +150,7 @@ fn writes_fail(rt: HostRuntime) -> Result<(), Fail> {
             fails_at,
             ..line_of(reads)
         };
-        expect(&rt, rt.alloc(), &[("a write fails", line, 1, wanted)])?;
+        expect_told(&rt, collected(rt.alloc(), line, 1), wanted, "a write fails")?;
     }
     Ok(())
 }

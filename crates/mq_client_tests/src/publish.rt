@@ -26,122 +26,138 @@ fn published(alloc: Global, line: Line, qos: Qos, texts: &[&str]) -> Result<Stri
     )
 }
 
-fn expect(
-    rt: &impl Abort,
-    alloc: Global,
-    rows: &[(&str, Line, Qos, &[&str], &str)],
-) -> Result<(), Fail> {
-    for (name, line, qos, texts, wanted) in rows {
-        expect_told(rt, published(alloc, *line, *qos, *texts), *wanted, *name)?;
+// A name, what comes, the quality of service, the texts, and the status, what is printed and what is written.
+type Row = (
+    &'static str,
+    &'static [&'static str],
+    Qos,
+    &'static [&'static str],
+    &'static str,
+);
+
+// Texts that are published.
+const PUBLISHED: [Row; 4] = [
+    (
+        "at most once",
+        &["20020000"],
+        Qos::Q0,
+        &["x"],
+        "0 published 1\n100d00044d5154540402003c000177300400017478e000",
+    ),
+    (
+        "at least once",
+        &["20020000", "40020001", "", "40020002"],
+        Qos::Q1,
+        &["x", "y"],
+        "0 published 2\n100d00044d5154540402003c00017732060001740001783206000174000279e000",
+    ),
+    (
+        "exactly once",
+        &["2002", "0000", "50020001", "70020001"],
+        Qos::Q2,
+        &["x"],
+        "0 published 1\n100d00044d5154540402003c000177340600017400017862020001e000",
+    ),
+    (
+        "nothing",
+        &["20020000"],
+        Qos::Q2,
+        &[],
+        "0 published 0\n100d00044d5154540402003c000177e000",
+    ),
+];
+
+// Connections that end before all texts are published.
+const ENDED: [Row; 5] = [
+    (
+        "refused",
+        &["20020005"],
+        Qos::Q1,
+        &["x"],
+        "1 closed C3\n100d00044d5154540402003c000177",
+    ),
+    (
+        "unexpected",
+        &["d000"],
+        Qos::Q1,
+        &["x"],
+        "1 closed C2\n100d00044d5154540402003c000177",
+    ),
+    (
+        "no packet",
+        &["20020000f000"],
+        Qos::Q1,
+        &["x"],
+        "1 closed C1\n100d00044d5154540402003c000177",
+    ),
+    (
+        "ended",
+        &[],
+        Qos::Q1,
+        &["x"],
+        "1 connection failed\n100d00044d5154540402003c000177",
+    ),
+    (
+        "not acknowledged",
+        &["20020000"],
+        Qos::Q1,
+        &["x"],
+        "1 connection failed\n100d00044d5154540402003c0001773206000174000178",
+    ),
+];
+
+fn expect(rt: &impl Abort, alloc: Global, rows: &[Row]) -> Result<(), Fail> {
+    for (name, reads, qos, texts, wanted) in rows {
+        let told = published(alloc, line_of(*reads), *qos, *texts);
+        expect_told(rt, told, *wanted, *name)?;
     }
     Ok(())
 }
 
 #[test]
 fn texts_are_published(rt: HostRuntime) -> Result<(), Fail> {
-    let rows: [(&str, Line, Qos, &[&str], &str); 6] = [
-        (
-            "at most once",
-            line_of(&["20020000"]),
-            Qos::Q0,
-            &["x"],
-            "0 published 1\n100d00044d5154540402003c000177300400017478e000",
-        ),
-        (
-            "at least once",
-            line_of(&["20020000", "40020001", "", "40020002"]),
-            Qos::Q1,
-            &["x", "y"],
-            "0 published 2\n100d00044d5154540402003c00017732060001740001783206000174000279e000",
-        ),
-        (
-            "exactly once",
-            line_of(&["2002", "0000", "50020001", "70020001"]),
-            Qos::Q2,
-            &["x"],
-            "0 published 1\n100d00044d5154540402003c000177340600017400017862020001e000",
-        ),
-        (
-            "full",
-            Line {
-                capacity: 1,
-                ..line_of(&["20020000", "40020001", "40020002"])
-            },
-            Qos::Q1,
-            &["x", "y"],
-            "0 published 2\n100d00044d5154540402003c00017732060001740001783206000174000279e000",
-        ),
-        (
-            "nothing",
-            line_of(&["20020000"]),
-            Qos::Q2,
-            &[],
-            "0 published 0\n100d00044d5154540402003c000177e000",
-        ),
-        (
-            "pings",
-            Line {
-                step: 60_000,
-                ..line_of(&["20020000", "d000", "40020001"])
-            },
-            Qos::Q1,
-            &["x"],
-            "0 published 1\n100d00044d5154540402003c0001773206000174000178c000c000e000",
-        ),
-    ];
-    expect(&rt, rt.alloc(), &rows)
+    expect(&rt, rt.alloc(), &PUBLISHED)
 }
 
 #[test]
 fn connections_end(rt: HostRuntime) -> Result<(), Fail> {
-    let rows: [(&str, Line, Qos, &[&str], &str); 6] = [
-        (
-            "refused",
-            line_of(&["20020005"]),
-            Qos::Q1,
-            &["x"],
-            "1 closed C3\n100d00044d5154540402003c000177",
-        ),
-        (
-            "unexpected",
-            line_of(&["d000"]),
-            Qos::Q1,
-            &["x"],
-            "1 closed C2\n100d00044d5154540402003c000177",
-        ),
-        (
-            "no packet",
-            line_of(&["20020000f000"]),
-            Qos::Q1,
-            &["x"],
-            "1 closed C1\n100d00044d5154540402003c000177",
-        ),
-        (
-            "ended",
-            line_of(&[]),
-            Qos::Q1,
-            &["x"],
-            "1 connection failed\n100d00044d5154540402003c000177",
-        ),
-        (
-            "not acknowledged",
-            line_of(&["20020000"]),
-            Qos::Q1,
-            &["x"],
-            "1 connection failed\n100d00044d5154540402003c0001773206000174000178",
-        ),
-        (
-            "never answered",
-            Line {
-                is_quiet: true,
-                ..line_of(&["20020000"])
-            },
-            Qos::Q1,
-            &["x"],
-            "1 connection failed\n100d00044d5154540402003c0001773206000174000178",
-        ),
-    ];
-    expect(&rt, rt.alloc(), &rows)
+    expect(&rt, rt.alloc(), &ENDED)
+}
+
+// A client that takes one message at a time waits before each further one.
+#[test]
+fn a_full_client_waits(rt: HostRuntime) -> Result<(), Fail> {
+    let line = Line {
+        capacity: 1,
+        ..line_of(&["20020000", "40020001", "40020002"])
+    };
+    let told = published(rt.alloc(), line, Qos::Q1, &["x", "y"]);
+    let wanted =
+        "0 published 2\n100d00044d5154540402003c00017732060001740001783206000174000279e000";
+    expect_told(&rt, told, wanted, "full")
+}
+
+// A client that hears nothing for a minute asks whether the server is there.
+#[test]
+fn a_client_pings(rt: HostRuntime) -> Result<(), Fail> {
+    let line = Line {
+        step: 60_000,
+        ..line_of(&["20020000", "d000", "40020001"])
+    };
+    let told = published(rt.alloc(), line, Qos::Q1, &["x"]);
+    let wanted = "0 published 1\n100d00044d5154540402003c0001773206000174000178c000c000e000";
+    expect_told(&rt, told, wanted, "pings")
+}
+
+#[test]
+fn a_client_is_never_answered(rt: HostRuntime) -> Result<(), Fail> {
+    let line = Line {
+        is_quiet: true,
+        ..line_of(&["20020000"])
+    };
+    let told = published(rt.alloc(), line, Qos::Q1, &["x"]);
+    let wanted = "1 connection failed\n100d00044d5154540402003c0001773206000174000178";
+    expect_told(&rt, told, wanted, "never answered")
 }
 
 // The connection is lost at each write in turn.
@@ -168,11 +184,8 @@ fn writes_fail(rt: HostRuntime) -> Result<(), Fail> {
             fails_at,
             ..line_of(reads)
         };
-        expect(
-            &rt,
-            rt.alloc(),
-            &[("a write fails", line, Qos::Q2, &["x"], wanted)],
-        )?;
+        let told = published(rt.alloc(), line, Qos::Q2, &["x"]);
+        expect_told(&rt, told, wanted, "a write fails")?;
     }
     Ok(())
 }
