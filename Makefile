@@ -13,14 +13,14 @@ all: bin/mqtt
 
 # The program lies at bin/mqtt only once it is proved.
 bin/mqtt:
-	@echo 'Proves the program and all below it, and builds it. The first time that takes half an hour of processors or more; after that, what changed.' >&2
+	@echo 'Proves the program and all below it, and builds it. The first time that takes some 130 minutes of a processor; after that, what changed.' >&2
 	cd crates/mqtt && $(RT) run -- show c000
 	mkdir -p bin
 	cp crates/mqtt/out/mqtt bin/mqtt
 
 # The merge gate: every proof from nothing, every test, every edit that must be refused, and each program.
 test:
-	@echo 'Proves every crate from nothing and tries each edit: an hour or more on four processors, twice that on two.' >&2
+	@echo 'Proves every crate from nothing and tries each edit: one to two hours on four processors.' >&2
 	bash .ci/run
 
 # Runs the program on what its stored run can't have, and the snippets of README.
