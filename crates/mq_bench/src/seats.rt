@@ -51,7 +51,13 @@ fn weigh<R: Files + AllocGlobal + Print>(rt: &R, hub: &mut Hub) -> anyhow::Resul
     print_bytes(rt, NAME, "an idle session", before, count)?;
     let before = resident(rt)?;
     add_connections(rt.alloc(), hub)?;
-    print_bytes(rt, NAME, "an open connection, beside its session", before, count)
+    print_bytes(
+        rt,
+        NAME,
+        "an open connection, beside its session",
+        before,
+        count,
+    )
 }
 
 /// Measures what a broker keeps, and prints it. The program has to be a new one, which has freed nothing yet.
