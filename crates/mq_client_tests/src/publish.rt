@@ -1,68 +1,64 @@
 use crate::compare::expect_told;
-use crate::script::{Line, line_of, peer_at, told};
+use crate::script::{Line, Scripted, line_of, peer_at, told};
 use mq_client::{Texts, publish};
 use mq_topic::{Qos, TopicName};
 use std::alloc::Global;
 use std::process::Abort;
 use std::test::Fail;
 
-// The status, what is printed, and what is written, where these texts are published to `t`.
-fn published(alloc: Global, line: Line, qos: Qos, texts: &[&str]) -> Result<String, Fail> {
+// The status, what is printed, and what is written, where texts are published at a peer.
+fn told_of(alloc: Global, peer: &mut Scripted, texts: &Texts<'_>) -> Result<String, Fail> {
+    let mut output = Vec::new(alloc);
+    let status = publish(alloc, peer, texts, true, &mut output)?;
+    let written = peer.stream().written.as_slice();
+    told(alloc, status, output.as_slice(), written)
+}
+
+// The same, where these texts, with a space between them, are published to `t`.
+fn published(alloc: Global, line: Line, qos: Qos, texts: &str) -> Result<String, Fail> {
     let topic = TopicName::parse(alloc, "t")?;
+    let list: Vec<&str> = texts.split_whitespace().collect(alloc)?;
     let texts = Texts {
         topic: &topic,
         qos,
         retain: false,
-        texts,
+        texts: list.as_slice(),
     };
     let mut peer = peer_at(alloc, line)?;
-    let mut output = Vec::new(alloc);
-    let status = publish(alloc, &mut peer, &texts, true, &mut output)?;
-    told(
-        alloc,
-        status,
-        output.as_slice(),
-        peer.stream().written.as_slice(),
-    )
+    told_of(alloc, &mut peer, &texts)
 }
 
 // A name, what comes, the quality of service, the texts, and the status, what is printed and what is written.
-type Row = (
-    &'static str,
-    &'static [&'static str],
-    Qos,
-    &'static [&'static str],
-    &'static str,
-);
+type Row = (&'static str, &'static str, Qos, &'static str, &'static str);
 
 // Texts that are published.
 const PUBLISHED: [Row; 4] = [
     (
         "at most once",
-        &["20020000"],
+        "20020000",
         Qos::Q0,
-        &["x"],
+        "x",
         "0 published 1\n100d00044d5154540402003c000177300400017478e000",
     ),
     (
         "at least once",
-        &["20020000", "40020001", "", "40020002"],
+        "20020000 40020001 - 40020002",
         Qos::Q1,
-        &["x", "y"],
+        "x y",
         "0 published 2\n100d00044d5154540402003c00017732060001740001783206000174000279e000",
     ),
     (
         "exactly once",
-        &["2002", "0000", "50020001", "70020001"],
+        "2002 0000 50020001 70020001",
         Qos::Q2,
-        &["x"],
+        "x",
         "0 published 1\n100d00044d5154540402003c000177340600017400017862020001e000",
     ),
     (
         "nothing",
-        &["20020000"],
+        "20020000",
         Qos::Q2,
-        &[],
+        "",
         "0 published 0\n100d00044d5154540402003c000177e000",
     ),
 ];
@@ -71,37 +67,37 @@ const PUBLISHED: [Row; 4] = [
 const ENDED: [Row; 5] = [
     (
         "refused",
-        &["20020005"],
+        "20020005",
         Qos::Q1,
-        &["x"],
+        "x",
         "1 closed C3\n100d00044d5154540402003c000177",
     ),
     (
         "unexpected",
-        &["d000"],
+        "d000",
         Qos::Q1,
-        &["x"],
+        "x",
         "1 closed C2\n100d00044d5154540402003c000177",
     ),
     (
         "no packet",
-        &["20020000f000"],
+        "20020000f000",
         Qos::Q1,
-        &["x"],
+        "x",
         "1 closed C1\n100d00044d5154540402003c000177",
     ),
     (
         "ended",
-        &[],
+        "",
         Qos::Q1,
-        &["x"],
+        "x",
         "1 connection failed\n100d00044d5154540402003c000177",
     ),
     (
         "not acknowledged",
-        &["20020000"],
+        "20020000",
         Qos::Q1,
-        &["x"],
+        "x",
         "1 connection failed\n100d00044d5154540402003c0001773206000174000178",
     ),
 ];
@@ -129,9 +125,9 @@ fn connections_end(rt: HostRuntime) -> Result<(), Fail> {
 fn a_full_client_waits(rt: HostRuntime) -> Result<(), Fail> {
     let line = Line {
         capacity: 1,
-        ..line_of(&["20020000", "40020001", "40020002"])
+        ..line_of("20020000 40020001 40020002")
     };
-    let told = published(rt.alloc(), line, Qos::Q1, &["x", "y"]);
+    let told = published(rt.alloc(), line, Qos::Q1, "x y");
     let wanted =
         "0 published 2\n100d00044d5154540402003c00017732060001740001783206000174000279e000";
     expect_told(&rt, told, wanted, "full")
@@ -142,9 +138,9 @@ fn a_full_client_waits(rt: HostRuntime) -> Result<(), Fail> {
 fn a_client_pings(rt: HostRuntime) -> Result<(), Fail> {
     let line = Line {
         step: 60_000,
-        ..line_of(&["20020000", "d000", "40020001"])
+        ..line_of("20020000 d000 40020001")
     };
-    let told = published(rt.alloc(), line, Qos::Q1, &["x"]);
+    let told = published(rt.alloc(), line, Qos::Q1, "x");
     let wanted = "0 published 1\n100d00044d5154540402003c0001773206000174000178c000c000e000";
     expect_told(&rt, told, wanted, "pings")
 }
@@ -153,9 +149,9 @@ fn a_client_pings(rt: HostRuntime) -> Result<(), Fail> {
 fn a_client_is_never_answered(rt: HostRuntime) -> Result<(), Fail> {
     let line = Line {
         is_quiet: true,
-        ..line_of(&["20020000"])
+        ..line_of("20020000")
     };
-    let told = published(rt.alloc(), line, Qos::Q1, &["x"]);
+    let told = published(rt.alloc(), line, Qos::Q1, "x");
     let wanted = "1 connection failed\n100d00044d5154540402003c0001773206000174000178";
     expect_told(&rt, told, wanted, "never answered")
 }
@@ -163,7 +159,7 @@ fn a_client_is_never_answered(rt: HostRuntime) -> Result<(), Fail> {
 // The connection is lost at each write in turn.
 #[test]
 fn writes_fail(rt: HostRuntime) -> Result<(), Fail> {
-    let reads = &["20020000", "50020001", "70020001"];
+    let reads = "20020000 50020001 70020001";
     for (fails_at, wanted) in [
         (1, "1 connection failed\n"),
         (2, "1 connection failed\n100d00044d5154540402003c000177"),
@@ -184,7 +180,7 @@ fn writes_fail(rt: HostRuntime) -> Result<(), Fail> {
             fails_at,
             ..line_of(reads)
         };
-        let told = published(rt.alloc(), line, Qos::Q2, &["x"]);
+        let told = published(rt.alloc(), line, Qos::Q2, "x");
         expect_told(&rt, told, wanted, "a write fails")?;
     }
     Ok(())

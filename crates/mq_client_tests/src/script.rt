@@ -10,13 +10,12 @@ use mq_wire::Text;
 use std::alloc::{AllocError, Global};
 use std::test::Fail;
 
-/// Each read gives the next bytes, of hexadecimal digits; none where there are no digits. Where they are over, the stream ends, or it is
-/// quiet from then on. What is written is remembered, up to the write that fails.
+/// Each read gives the bytes of the next word, which is hexadecimal digits; none for `-`. Where they are over, the stream ends, or it is quiet
+/// from then on. What is written is remembered, up to the write that fails.
 #[derive(Drop)]
 pub(crate) struct Script {
     pub(crate) alloc: Global,
-    pub(crate) reads: &'static [&'static str],
-    pub(crate) next: usize,
+    pub(crate) reads: &'static str,
     pub(crate) is_quiet: bool,
     pub(crate) written: Vec<u8>,
     pub(crate) writes: u32,
@@ -56,15 +55,16 @@ pub(crate) fn put(room: &mut [u8], bytes: &[u8]) -> usize
 
 impl Stream for Script {
     fn read(&mut self, room: &mut [u8]) -> Arrival {
-        let Some(hex) = self.reads.get(self.next) else {
+        if self.reads.is_empty() {
             return if self.is_quiet {
                 Arrival::Nothing
             } else {
                 Arrival::End
             };
-        };
-        self.next = self.next.saturating_add(1);
-        let Ok(bytes) = bytes_of(self.alloc, *hex) else {
+        }
+        let (hex, rest) = self.reads.split_once(' ').unwrap_or((self.reads, ""));
+        self.reads = rest;
+        let Ok(bytes) = bytes_of(self.alloc, hex) else {
             return Arrival::Failed;
         };
         if bytes.is_empty() {
@@ -125,14 +125,14 @@ pub(crate) fn new_client(alloc: Global, capacity: u16) -> Result<ClientEnd, Fail
 #[derive(Clone, Copy)]
 pub(crate) struct Line {
     pub(crate) capacity: u16,
-    pub(crate) reads: &'static [&'static str],
+    pub(crate) reads: &'static str,
     pub(crate) is_quiet: bool,
     pub(crate) fails_at: u32,
     pub(crate) step: u64,
 }
 
 /// A line that gives these bytes, and then ends.
-pub(crate) fn line_of(reads: &'static [&'static str]) -> Line {
+pub(crate) fn line_of(reads: &'static str) -> Line {
     Line {
         capacity: 100,
         reads,
@@ -142,13 +142,15 @@ pub(crate) fn line_of(reads: &'static [&'static str]) -> Line {
     }
 }
 
+/// A client at such a stream, whose session no file keeps.
+pub(crate) type Scripted = Peer<Script, Steps, Nowhere>;
+
 /// A client at such a stream.
-pub(crate) fn peer_at(alloc: Global, line: Line) -> Result<Peer<Script, Steps, Nowhere>, Fail> {
+pub(crate) fn peer_at(alloc: Global, line: Line) -> Result<Scripted, Fail> {
     let client = new_client(alloc, line.capacity)?;
     let script = Script {
         alloc,
         reads: line.reads,
-        next: 0,
         is_quiet: line.is_quiet,
         written: Vec::new(alloc),
         writes: 0,
