@@ -1,8 +1,10 @@
-//! Tests of sessions and of both ends that are no rows of `mq_rows`: sentences, and the snippets of README.
+//! Tests of sessions and of both ends that are no rows of `mq_rows`: sentences, the snippets of README, and lists that are given away.
 #![tactic(auto)]
 
 #[cfg(test)]
 mod compare;
+#[cfg(test)]
+mod given;
 #[cfg(test)]
 mod readme;
 #[cfg(test)]

@@ -140,7 +140,7 @@ fn config(alloc: Global) -> Result<ClientConfig, Fail> {
     })
 }
 
-fn new_client(alloc: Global) -> Result<ClientEnd, Fail> {
+pub(crate) fn new_client(alloc: Global) -> Result<ClientEnd, Fail> {
     let config = config(alloc)?;
     if config.capacity == 0 || config.window.is_some() {
         return Err(Fail::new("no room"));
