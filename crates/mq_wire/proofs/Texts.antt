@@ -1,14 +1,15 @@
 -- Texts: the laws of reading.
-use Rattle.std.proofs.Common.{◌≡◌, ℕ, ◌+◌, ◌-◌, ◌*◌, ◌/◌, ◌%◌, ◌<◌, ◌≤◌, Bool, true, false, cond, ltb, List, [], ◌∷◌, ◌++◌, length, take, drop, slice_range, get_or, Result, Ok, Err, refl, sym, ap, subst, ◌∙◌, add-zero, arith, inl, inr}
-use Rattle.std.specs.Str.{IsUtf8, is_utf8}
-use Rattle.std.proofs.lemmas.Bool.{cases_Bool, le-ltb, ltb-false}
+use Rattle.std.proofs.Common.{◌≡◌, ℕ, zero, suc, ◌+◌, ◌-◌, ◌*◌, ◌/◌, ◌%◌, ◌<◌, ◌≤◌, Bool, true, false, true≢false, cond, ltb, ◌||◌, ◌==◌, List, [], ◌∷◌, ◌++◌, length, take, drop, slice_range, get_or, Result, Ok, Err, refl, sym, ap, subst, ◌∙◌, add-zero, arith, inl, inr}
+use Rattle.std.specs.List.{list_any}
+use Rattle.std.specs.Str.{IsUtf8, IsAscii, is_utf8}
+use Rattle.std.proofs.lemmas.Bool.{cases_Bool, le-ltb, ltb-false, or_left}
 use Rattle.std.proofs.lemmas.List.{take_at, length-append, length-take, length-drop, take-append-drop, take-take, get_or-drop, drop-drop}
 use Rattle.std.proofs.Math.Seq.{drop-append_seam}
-use Rattle.std.proofs.lemmas.Str.{IsUtf8-from_is_utf8, is_utf8-from_IsUtf8}
+use Rattle.std.proofs.lemmas.Str.{IsUtf8-from_is_utf8, IsUtf8-from_ascii, is_utf8-from_IsUtf8}
 use Rattle.mq_wire.specs.declared.text.FieldFault.{FieldFault}
 use Rattle.mq_wire.specs.declared.text.FieldFault.TheVariants.{Past, NotUtf8, Nul}
 use Rattle.mq_wire.specs.Number.{number, number_in, NumberLaws}
-use Rattle.mq_wire.specs.Text.{IsText, has_nul, counted}
+use Rattle.mq_wire.specs.Text.{IsText, has_nul, is_special, counted}
 use Rattle.mq_wire.specs.Bytes.{AreBytes}
 use Rattle.mq_wire.specs.TextReading.{read_text, checked_text, with_place, text_end, text_bytes, TextLaws}
 
@@ -21,6 +22,44 @@ not_utf8 t fails =
 
 pub is_text : (t : List ℕ) → IsUtf8 t → has_nul t ≡ false → length t < 65536 → IsText t
 is_text t utf8 no_nul short = record { utf8 = is_utf8-from_IsUtf8 t utf8; no_nul = no_nul; short = short }
+
+-- ---- characters of ASCII
+
+-- the first byte and the others, where none is special
+record Plain (b : ℕ) (t : List ℕ) : Type 0 where
+  some : (b == 0) ≡ false
+  ascii : b < 128
+  others : list_any is_special t ≡ false
+
+low : (b : ℕ) → (b == 0) ≡ false → is_special b ≡ false → b < 128
+low b some e = omega (arith, ltb-false 127 b (subst (λ x. (x || ltb 127 b) ≡ false) some e))
+
+plain_parts : (b : ℕ) (t : List ℕ) → list_any is_special (b ∷ t) ≡ false → Plain b t
+plain_parts b t none =
+    elim (cases_Bool (is_special b)) [
+      | inl special ↦ absurd (true≢false (sym (or_left (is_special b) (list_any is_special t) special) ∙ none))
+      | inr e ↦
+          elim (cases_Bool (b == 0)) [
+            | inl nul ↦ absurd (true≢false (sym (or_left (b == 0) (ltb 127 b) nul) ∙ e))
+            | inr some ↦ record { some = some; ascii = low b some e; others = subst (λ x. (x || list_any is_special t) ≡ false) e none }
+          ]
+    ]
+
+plain_ascii : (t : List ℕ) → list_any is_special t ≡ false → IsAscii t
+plain_ascii [] none i = omega arith
+plain_ascii (b ∷ t) none zero = (plain_parts b t none).ascii
+plain_ascii (b ∷ t) none (suc i) = plain_ascii t (plain_parts b t none).others i
+
+plain_nul : (t : List ℕ) → list_any is_special t ≡ false → has_nul t ≡ false
+plain_nul [] none = refl
+plain_nul (b ∷ t) none = rw ((plain_parts b t none).some) (plain_nul t (plain_parts b t none).others)
+
+-- what has no special byte is UTF-8 without U+0000
+pub plain_utf8 : (t : List ℕ) → list_any is_special t ≡ false → IsUtf8 t
+plain_utf8 t none = IsUtf8-from_ascii t (plain_ascii t none)
+
+pub plain_text : (t : List ℕ) → list_any is_special t ≡ false → length t < 65536 → IsText t
+plain_text t none short = is_text t (plain_utf8 t none) (plain_nul t none) short
 
 -- ---- numbers in bytes
 

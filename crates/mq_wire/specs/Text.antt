@@ -1,5 +1,5 @@
 -- Texts (1.5.3).
-use Rattle.std.specs.Prelude.{◌≡◌, ℕ, ◌<◌, Bool, true, false, List, ◌++◌, length, ◌==◌}
+use Rattle.std.specs.Prelude.{◌≡◌, ℕ, ◌<◌, Bool, true, false, List, ◌++◌, length, ◌==◌, ◌||◌, nat_lt}
 use Rattle.std.specs.List.{list_any}
 use Rattle.std.specs.Str.{is_utf8}
 use Rattle.mq_wire.specs.Number.{number}
@@ -7,6 +7,10 @@ use Rattle.mq_wire.specs.Number.{number}
 -- U+0000 is in t: it alone has a byte 0 in UTF-8
 abbrev pub has_nul : List ℕ → Bool
 has_nul t = list_any (λ b. b == 0) t
+
+-- b is U+0000, or part of a character beyond ASCII
+abbrev pub is_special : ℕ → Bool
+is_special b = (b == 0) || nat_lt 127 b
 
 -- the bytes t are UTF-8, without surrogates, and of at most 65,535 bytes, and have no U+0000
 pub record IsText (t : List ℕ) : Type 0 where

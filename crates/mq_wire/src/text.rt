@@ -2,7 +2,8 @@
 //! a count of two bytes stands before the bytes.
 
 ghost use Rattle.std.specs.Prelude.{◌≡◌, ◌+◌, ◌<◌, ◌↔◌, ◌≤◌, true, length, slice_range, IfOk, IfErr, IsErrOf};
-ghost use Rattle.mq_wire.specs.Text.{IsText, has_nul};
+ghost use Rattle.std.specs.List.{list_any};
+ghost use Rattle.mq_wire.specs.Text.{IsText, has_nul, is_special};
 ghost use Rattle.mq_wire.specs.TextReading.{TextLaws, checked_text, read_text};
 
 use crate::number::number_at;
@@ -150,11 +151,28 @@ impl<'a> TextRef<'a> {
     }
 }
 
+// Whether a byte is none of a character of ASCII but U+0000. All are read before the answer, so that many are tested at once.
+#[tactic(auto, using(std::proofs::lemmas::List::Folds::list_any_more))]
+fn has_special(bytes: &[u8]) -> bool
+    ensures { result ≡ list_any is_special bytes.now }
+{
+    let mut special = false;
+    for byte in bytes {
+        special |= (*byte == 0) | (*byte > 127);
+    }
+    special
+}
+
 // The text that these bytes are.
 fn checked_text(bytes: &[u8]) -> Result<TextRef<'_>, FieldFault>
     requires { length bytes.now < 65536 }
     ensures { result ≡ checked_text bytes.now }
 {
+    if !has_special(bytes) {
+        // SAFETY: what is ASCII is UTF-8.
+        let text = unsafe { str::from_utf8_unchecked(bytes) };
+        return Ok(TextRef { text });
+    }
     let Ok(text) = simdutf8::compat::from_utf8(bytes) else {
         return Err(FieldFault::NotUtf8);
     };
