@@ -1,6 +1,6 @@
 //! Lists that are short for the most part: one item needs no memory of its own.
 
-ghost use Rattle.std.specs.Prelude.{◌≡◌, ◌<◌, ◌∷◌, ◌++◌, [], OnOk, IfOk};
+ghost use Rattle.std.specs.Prelude.{◌≡◌, ◌<◌, ◌∷◌, ◌++◌, [], length, OnOk, OnErr, IfOk};
 ghost use Rattle.std.specs.List.{AllZip};
 
 use std::alloc::{AllocError, Global};
@@ -88,13 +88,15 @@ impl<T: Drop> Gathered<T> {
     }
 
     fn into_vec(self) -> Result<Vec<T>, AllocError>
-        ensures { IfOk result (λ v. v.items ≡ self.items) }
+        ensures items { IfOk result (λ v. v.items ≡ self.items) }
+        ensures single { OnErr result (length self.items ≡ 1) }
     {
         let Gathered { first, more } = self;
         let mut items = more;
         if let Some(one) = first {
+            let item = only(one);
             items.reserve(1)?;
-            items.push_reserved(only(one));
+            items.push_reserved(item);
         }
         Ok(items)
     }
@@ -140,9 +142,10 @@ impl<T: Drop> Few<T> {
         self.gathered.as_slice()
     }
 
-    /// The items as a vector: a single one needs memory for it. Fails if memory runs out.
+    /// The items as a vector. A single one needs memory for it, and only then it fails, if memory runs out.
     pub fn into_vec(self) -> Result<Vec<T>, AllocError>
-        ensures { IfOk result (λ v. v.items ≡ self) }
+        ensures items { IfOk result (λ v. v.items ≡ self) }
+        ensures single { OnErr result (length self ≡ 1) }
     {
         let Few { gathered } = self;
         gathered.into_vec()
