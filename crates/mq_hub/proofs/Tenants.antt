@@ -1,6 +1,6 @@
 -- The table of sessions: a key's place, its session, and the keys of client identifiers.
 use Rattle.std.proofs.Common.{◌≡◌, ℕ, zero, suc, ◌+◌, ◌<◌, ◌≤◌, Bool, true, false, cond, not, List, [], ◌∷◌, ◌++◌, length, get_or, take, drop, slice_get, Option, Some, None, refl, sym, ap, subst, ◌∙◌, arith, eqb, ltb, eqb-true, eq-eqb, ltb-true, ltb-false, lt-ltb, true≢false}
-use Rattle.std.proofs.lemmas.Bool.{cond-true, cond-false, ne_eqb}
+use Rattle.std.proofs.lemmas.Bool.{cond-true, cond-false, le-ltb, ne_eqb}
 use Rattle.std.proofs.Math.ListN.{set}
 use Rattle.std.specs.List.{AllByRecursion, prefix_len, remove}
 use Rattle.std.specs.List.Sorted.{IsPartitionedBy}
@@ -19,17 +19,26 @@ use Rattle.mq_hub.proofs.Bytes.{same_bytes, bytes_symm, bytes_itself}
 abbrev pub place : ℕ → List Tenant → ℕ
 place key ts = prefix_len (λ t. ltb t.key key) ts
 
+above : (low : ℕ) (ts : List Tenant) → AllByRecursion (λ s. low < s.key) ts → (j : ℕ) (d : Tenant) → j < length ts → low < (get_or ts j d).key
+above low [] all j d l = absurd (omega arith)
+above low (t ∷ ts) all zero d l = all.0
+above low (t ∷ ts) all (suc j) d l = above low ts all.1 j d (omega arith)
+
+-- where a session has the key, as many keys are below as stand before it
+pub known_place : (key : ℕ) (ts : List Tenant) (i : ℕ) (d : Tenant) → AreAscending ts → i < length ts → (get_or ts i d).key ≡ key → i ≡ place key ts
+known_place key [] i d up within same = absurd (omega arith)
+known_place key (t ∷ ts) zero d up within same = rw (le-ltb t.key key (omega (arith, same))) refl
+known_place key (t ∷ ts) (suc i) d up within same =
+    let low : ltb t.key key ≡ true = lt-ltb t.key key (omega (arith, above t.key ts up.0 i d (omega arith), same)) in
+    let rest : i ≡ place key ts = known_place key ts i d up.1 (omega arith) same in
+    rw low (omega arith)
+
 -- those whose keys are below stand in front
 pub partitioned : (key : ℕ) (ts : List Tenant) → AreAscending ts → IsPartitionedBy (λ t. ltb t.key key) ts
 partitioned key [] up i j d a b p = absurd (omega arith)
 partitioned key (t ∷ ts) up zero zero d a b p = p
 partitioned key (t ∷ ts) up zero (suc j) d a b p =
     lt-ltb t.key key (omega (arith, above t.key ts up.0 j d (omega arith), ltb-true (get_or ts j d).key key p))
-  where
-    above : (low : ℕ) (ts : List Tenant) → AllByRecursion (λ s. low < s.key) ts → (j : ℕ) (d : Tenant) → j < length ts → low < (get_or ts j d).key
-    above low [] all j d l = absurd (omega arith)
-    above low (t ∷ ts) all zero d l = all.0
-    above low (t ∷ ts) all (suc j) d l = above low ts all.1 j d (omega arith)
 partitioned key (t ∷ ts) up (suc i) zero d a b p = absurd (omega arith)
 partitioned key (t ∷ ts) up (suc i) (suc j) d a b p = partitioned key ts up.1 i j d (omega arith) (omega arith) p
 

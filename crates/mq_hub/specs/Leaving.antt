@@ -1,5 +1,5 @@
 -- A connection on which a client is up is closed (3.1.2.4, 4.8).
-use Rattle.std.specs.Prelude.{ℕ, Bool, List, [], Option, Some, None}
+use Rattle.std.specs.Prelude.{ℕ, Bool, List, [], Option, None}
 use Rattle.mq_packet.specs.declared.connect.Will.{Will}
 use Rattle.mq_end.specs.End.{over}
 use Rattle.mq_end.specs.State.{EndState, no_bytes}

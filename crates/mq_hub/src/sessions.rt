@@ -52,12 +52,30 @@ impl Model for Sessions {
     ghost invariant = { λ t. AreSessions t.tenants.items (get (pointwise nat_eq) t.keys) };
 }
 
+// The place of a session's key, where no session between it and the first one has ended: keys are given in order.
+fn guessed(tenants: &[Seat], key: ClientKey) -> Option<usize>
+    requires { AreAscending tenants.now }
+    ensures value { IfSome result (λ at. at ≡ prefix_len (λ t. nat_lt t.key key) tenants.now) }
+    ensures bound { IfSome result (λ at. at ≤ length tenants.now) }
+{
+    let first = tenants.first()?.tenant().key;
+    let at = key.get().checked_sub(first.get())? as usize;
+    if at < tenants.len() && tenants[at].tenant().key == key {
+        Some(at)
+    } else {
+        None
+    }
+}
+
 // How many sessions have a key below this one.
 fn place(tenants: &[Seat], key: ClientKey) -> usize
     requires { AreAscending tenants.now }
     ensures value { result ≡ prefix_len (λ t. nat_lt t.key key) tenants.now }
     ensures bound { result ≤ length tenants.now }
 {
+    if let Some(at) = guessed(tenants, key) {
+        return at;
+    }
     tenants.partition_point(
         |seat: &Seat| -> bool
             ensures { result ≡ nat_lt seat.now.key key }
