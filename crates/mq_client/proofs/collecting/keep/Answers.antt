@@ -10,7 +10,7 @@ returns-in_err-progress g c =
 
 pub returns-in-Ok : goal.returns-in-Ok
 returns-in-Ok g c =
-    let kept = c.in-Ok.ensures.items ∙ ap (λ z. c.args.kept.now.items ++ z) c.in_ok-told.ensures in
+    let kept = c.in-Ok.ensures.items ∙ ap (λ z. c.args.kept.now.items ++ z) c.in_ok-told.ensures.items in
     keeps_all _ _ _ c.in_ok-progress.progress.happenings _ _ (option_to_list c.in_ok-progress.progress.closed) _ c.in_ok-progress.ensures.went c.answer.ensures.went c.answer.ensures.closes kept
 
 pub returns : goal.returns
