@@ -1,26 +1,65 @@
 //! The packet at the front of bytes.
 
-ghost use Rattle.std.specs.Prelude.{◌≡◌, ◌+◌, ◌<◌, ◌≤◌, ◌++◌, ℕ, List, length, Ok, Some, IfOk, IfNone, IfSome};
+ghost use Rattle.std.specs.Prelude.{◌≡◌, ◌+◌, ◌<◌, ◌≤◌, ◌++◌, ℕ, List, length, take, Ok, Some, IfOk, IfNone, IfSome};
 ghost use Rattle.mq_packet.specs.declared.packet.Packet.{Packet};
 ghost use Rattle.mq_decode.specs.declared.fault.FaultKind.{FaultKind};
 ghost use Rattle.mq_decode.specs.Front.{front_at};
 ghost use Rattle.mq_decode.specs.Grammar.{Faulty, IsFront, Pending, ReadsWithin};
-ghost use Rattle.mq_decode.specs.Views.{IsView, LiesInFront, view_read};
+ghost use Rattle.mq_decode.specs.Views.{IsView, LiesAtEnd, LiesInFront, packet_of, view_read};
 
 use crate::body::body;
 use crate::fault::{DecodeError, DecodeFault};
 use crate::header::header_at;
 use crate::laws::{pending_is_short, reads_again};
 use crate::limits::Limits;
-use crate::packet_view::View;
+use crate::packet_view::{PacketView, View};
 use bytes::Bytes;
-use mq_packet::Packet;
+use mq_packet::{Packet, PacketId};
 use mq_wire::{length_laws, number_laws, text_laws};
 use std::alloc::Global;
 
-// What stands at the front, as the definitions read it.
+// An acknowledgement (3.4 to 3.7, 3.11), whose only field is an identifier, where it stands at the front, whole and right.
+#[tactic(auto, unfolding(crate::specs::Front::front_at, crate::specs::Front::header_at, mq_wire::specs::Reading::read_length, crate::specs::Bodies::only_identifier_at, crate::specs::Fields::identifier_at, crate::specs::Fields::number_at))]
+fn acknowledgement(limits: Limits, bytes: &[u8]) -> Option<PacketView<'_>>
+    ensures read { IfSome result
+        (λ packet. front_at limits bytes.now ≡ Ok (Some (packet_of packet, 4))) }
+    ensures end { IfSome result (LiesAtEnd (take 4 bytes.now)) }
+{
+    let [first, 2, _, _, ..] = bytes else {
+        return None;
+    };
+    if limits.max_packet() < 2 {
+        return None;
+    }
+    let id = PacketId::new(mq_wire::number_at(bytes, 2))?;
+    match first {
+        0x40 => Some(PacketView::PubAck(id)),
+        0x50 => Some(PacketView::PubRec(id)),
+        0x62 => Some(PacketView::PubRel(id)),
+        0x70 => Some(PacketView::PubComp(id)),
+        0xB0 => Some(PacketView::UnsubAck(id)),
+        _ => None,
+    }
+}
+
+// A packet without fields (3.12 to 3.14) that stands at the front.
+#[tactic(auto, unfolding(crate::specs::Front::front_at, crate::specs::Front::header_at, mq_wire::specs::Reading::read_length))]
+fn bare_packet(limits: Limits, bytes: &[u8]) -> Option<PacketView<'_>>
+    ensures read { IfSome result
+        (λ packet. front_at limits bytes.now ≡ Ok (Some (packet_of packet, 2))) }
+    ensures end { IfSome result (LiesAtEnd (take 2 bytes.now)) }
+{
+    match bytes {
+        [0xC0, 0, ..] => Some(PacketView::PingReq),
+        [0xD0, 0, ..] => Some(PacketView::PingResp),
+        [0xE0, 0, ..] => Some(PacketView::Disconnect),
+        _ => None,
+    }
+}
+
+// What stands at the front, whichever it is.
 #[tactic(auto, unfolding(crate::specs::Front::front_at))]
-fn read_front(limits: Limits, bytes: &[u8]) -> View<'_>
+fn read_any(limits: Limits, bytes: &[u8]) -> View<'_>
     ensures read { view_read result ≡ front_at limits bytes.now }
     ensures end { LiesInFront bytes.now result }
 {
@@ -42,6 +81,21 @@ fn read_front(limits: Limits, bytes: &[u8]) -> View<'_>
             place: end.saturating_sub(bad.left),
         }),
     }
+}
+
+// What stands at the front, as the definitions read it. The packets of two and of four bytes are the most frequent, and need no
+// reader of a header.
+fn read_front(limits: Limits, bytes: &[u8]) -> View<'_>
+    ensures read { view_read result ≡ front_at limits bytes.now }
+    ensures end { LiesInFront bytes.now result }
+{
+    if let Some(packet) = acknowledgement(limits, bytes) {
+        return View::Whole(packet, 4);
+    }
+    if let Some(packet) = bare_packet(limits, bytes) {
+        return View::Whole(packet, 2);
+    }
+    read_any(limits, bytes)
 }
 
 /// What stands at the front of bytes: a packet that lies there and how many bytes it takes, less than a
