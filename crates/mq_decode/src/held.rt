@@ -101,6 +101,16 @@ impl Held {
         self.copied
     }
 
+    /// Whether a piece has no bytes to put here.
+    #[inline(always)]
+    pub(crate) fn gets_nothing(&self, piece: &[u8]) -> bool
+        ensures value { result ≡ (length piece.now == 0) }
+        ensures count { self.now.copied < 2 ^ 64 }
+    {
+        let _copied = self.copied;
+        piece.is_empty()
+    }
+
     /// Whether a piece has bytes, and fewer than the packet is known to want.
     #[inline(always)]
     pub(crate) fn wants_over(&self, piece: &[u8]) -> bool

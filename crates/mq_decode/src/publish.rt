@@ -100,7 +100,7 @@ impl<'a> PublishView<'a> {
     {
         let fields = shared_fields(alloc, whole, self.fields)?;
         let start = payload_start(&self.topic, self.delivery);
-        let (topic, payload) = parts(&fields, &self.topic, start)?;
+        let (topic, payload) = parts(fields, &self.topic, start)?;
         let message = Message {
             topic,
             payload,
@@ -135,22 +135,22 @@ fn shared_fields(alloc: Global, whole: Option<&Bytes>, fields: &[u8]) -> Result<
 
 // The topic name at the front of the fields, and the payload that ends them. Both share one block.
 fn parts(
-    fields: &Bytes,
+    mut fields: Bytes,
     topic: &TextRef<'_>,
     start: usize,
 ) -> Result<(TopicName, Payload), AllocError>
-    requires topic_in { 2 + length topic.now ≤ length fields.now }
-    requires topic { slice_range fields.now 2 (2 + length topic.now) ≡ topic.now }
+    requires topic_in { 2 + length topic.now ≤ length fields }
+    requires topic { slice_range fields 2 (2 + length topic.now) ≡ topic.now }
     requires name { is_topic_name topic.now ≡ true }
-    requires payload_in { start ≤ length fields.now }
-    requires small { length fields.now < 2 ^ 28 }
+    requires payload_in { start ≤ length fields }
+    requires small { length fields < 2 ^ 28 }
     ensures topic { IfOk result (λ x. x.0 ≡ topic.now) }
-    ensures payload { IfOk result (λ x. x.1 ≡ drop start fields.now) }
+    ensures payload { IfOk result (λ x. x.1 ≡ drop start fields) }
 {
     let end = 2 + topic.as_str().len();
     let name = topic.shared(fields.slice(2..end)?);
-    let payload = fields.slice(start..)?;
-    Ok((TopicName::from_text(name), Payload::new(payload).unwrap()))
+    fields.advance(start);
+    Ok((TopicName::from_text(name), Payload::new(fields).unwrap()))
 }
 
 // The identifier of a quality of service over 0.

@@ -136,6 +136,7 @@ pub(crate) fn take_held(
 /// Fills up the packet that is held with the bytes of `piece`, up to its end, and takes it once it is
 /// whole. Answers it with how many bytes of the piece went in; `None` where all of them did and it is
 /// not whole.
+#[inline(never)]
 pub(crate) fn fill_up(
     alloc: Global,
     limits: Limits,
@@ -276,6 +277,9 @@ pub(crate) fn take_next(
     ensures wants { OnOk result (Wants limits held.new.bytes held.new.wants) }
     ensures err { IfErr result (λ e. IsFront limits (held.old.bytes ++ piece.now) (Err e)) }
 {
+    if held.gets_nothing(piece) {
+        return Ok(None);
+    }
     if held.wants_over(piece) {
         held.hold(piece)?;
         return Ok(None);
