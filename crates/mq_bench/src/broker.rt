@@ -263,16 +263,32 @@ fn measure_flows(
     Ok(())
 }
 
+/// Measures a broker to which so many other sessions are added first.
+fn measure_beside(
+    rt: &(impl Print + Clock),
+    alloc: Global,
+    hub: &mut Hub,
+    beside: u32,
+) -> anyhow::Result<()> {
+    add_others(alloc, hub, beside)?;
+    for qos in [Qos::Q0, Qos::Q1, Qos::Q2] {
+        for payload in PAYLOADS {
+            measure_flows(rt, alloc, hub, beside, qos, payload)?;
+        }
+    }
+    Ok(())
+}
+
+/// Measures a broker of its own beside so many sessions.
+fn measure_anew(rt: &(impl Print + Clock), alloc: Global, beside: u32) -> anyhow::Result<()> {
+    let mut hub = broker(alloc)?;
+    measure_beside(rt, alloc, &mut hub, beside)
+}
+
 /// Measures a broker, and prints how many messages a second come to it.
 pub(crate) fn measure(rt: &(impl Print + Clock), alloc: Global) -> anyhow::Result<()> {
     for beside in BESIDE {
-        let mut hub = broker(alloc)?;
-        add_others(alloc, &mut hub, beside)?;
-        for qos in [Qos::Q0, Qos::Q1, Qos::Q2] {
-            for payload in PAYLOADS {
-                measure_flows(rt, alloc, &mut hub, beside, qos, payload)?;
-            }
-        }
+        measure_anew(rt, alloc, beside)?;
     }
     Ok(())
 }

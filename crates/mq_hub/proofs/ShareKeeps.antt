@@ -235,14 +235,13 @@ has_sessions config clock next t kept = record {
 
 -- ---- the step
 
--- the same act, message, broker and acts
-pub goes_as : (a b : Act) (m n : Message) (h i g : HubState) (x y z : List Act) → a ≡ b → m ≡ n → h ≡ i → x ≡ y
-    → GoesBy (share a m) h x g z → GoesBy (share b n) i y g z
-goes_as a b m n h i g x y z act message hub did goes =
-    subst (λ (c : Act). GoesBy (share c n) i y g z) act
-    (subst (λ (p : Message). GoesBy (share a p) i y g z) message
+-- the same message, broker and acts
+pub goes_as : (a : Act) (m n : Message) (h i g : HubState) (x y z : List Act) → m ≡ n → h ≡ i → x ≡ y
+    → GoesBy (share a m) h x g z → GoesBy (share a n) i y g z
+goes_as a m n h i g x y z message hub did goes =
+    subst (λ (p : Message). GoesBy (share a p) i y g z) message
     (subst (λ (s : HubState). GoesBy (share a m) s y g z) hub
-    (subst (λ (d : List Act). GoesBy (share a m) h d g z) did goes)))
+    (subst (λ (d : List Act). GoesBy (share a m) h d g z) did goes))
 
 -- ---- and whether there is room
 

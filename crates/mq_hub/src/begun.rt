@@ -14,7 +14,7 @@ use crate::greeted::{rise_with_room, terms_of};
 use crate::hub::HubOver;
 use crate::session::{Seat, Tenant};
 use crate::tables::Tables;
-use mq_packet::BoxedConnect;
+use mq_packet::{BoxedConnect, Connect};
 use mq_route::{Act, Conn, Stage, Terms};
 use mq_topic::{ClientKey, FilterStore};
 use mq_wire::Text;
@@ -65,6 +65,16 @@ impl<S: FilterStore> Tables<S> {
     }
 }
 
+// What of a CONNECT matters as long as its connection is up, and the client's name once more.
+fn terms_and_name(connect: &Connect, client: &Text) -> Result<(Terms, Text), AllocError>
+    ensures terms { IfOk result (λ x. x.0 ≡ terms_of connect.now) }
+    ensures name { IfOk result (λ x. x.1 ≡ client.now) }
+{
+    let terms = terms_of(connect)?;
+    let name = client.clone()?;
+    Ok((terms, name))
+}
+
 impl<S: FilterStore> HubOver<S> {
     /// The key that the next new session gets.
     pub(crate) fn next_key(&self) -> ClientKey
@@ -74,7 +84,19 @@ impl<S: FilterStore> HubOver<S> {
         ClientKey::new(self.next_key as u32)
     }
 
-    /// A session of this client with the next key, whose end takes a CONNECT in.
+    // A session of this client with the next key, whose end takes a CONNECT in.
+    fn begun_seat(&self, connect: BoxedConnect, client: Text) -> Result<Seat, AllocError>
+        requires { self.now.next_key < 2 ^ 32 }
+        ensures { IfOk result (λ seat. IsBegun connect client self.now seat) }
+    {
+        let key = self.next_key();
+        let mut end = self.blank();
+        rise_with_room(&mut end, connect, self.clock)?;
+        Seat::new(self.alloc, Tenant { client, key, end })
+    }
+
+    /// A session of this client with the next key, whose end takes a CONNECT in, its name once more, and what of the CONNECT matters from
+    /// then on.
     pub(crate) fn beginning(
         &self,
         connect: BoxedConnect,
@@ -85,12 +107,8 @@ impl<S: FilterStore> HubOver<S> {
         ensures seat { IfOk result (λ b. IsBegun connect client self.now b.seat) }
         ensures terms { IfOk result (λ b. b.terms ≡ terms_of connect) }
     {
-        let terms = terms_of(connect.as_connect())?;
-        let name = client.clone()?;
-        let key = self.next_key();
-        let mut end = self.blank();
-        rise_with_room(&mut end, connect, self.clock)?;
-        let seat = Seat::new(self.alloc, Tenant { client, key, end })?;
+        let (terms, name) = terms_and_name(connect.as_connect(), &client)?;
+        let seat = self.begun_seat(connect, client)?;
         Ok(Beginning { name, seat, terms })
     }
 

@@ -1,6 +1,6 @@
 //! Copies of messages that are placed for clients (3.3.5, 3.8.4).
 
-ghost use Rattle.std.specs.Prelude.{◌≡◌, ◌≤◌, ◌++◌, ◌&&◌, ℕ, List, true, false, IfOk, Ok};
+ghost use Rattle.std.specs.Prelude.{◌≡◌, ◌≤◌, ◌++◌, ◌&&◌, ℕ, List, true, false, IfOk, OnOk, Ok};
 ghost use Rattle.mq_packet.specs.declared.message.Message.{Message};
 ghost use Rattle.mq_route.specs.Hub.{HubState, copies_of, for_key};
 ghost use Rattle.mq_route.specs.declared.act.Act.{Act};
@@ -178,13 +178,12 @@ pub(crate) fn place_all(sessions: &mut Sessions, copies: Vec<Due>)
     publish_all(sessions, copies);
 }
 
-/// The acts that say that copies are placed. They share the messages' bytes. Fails if memory runs out.
-pub(crate) fn placed_acts(alloc: Global, copies: &[Due]) -> Result<Vec<Act>, AllocError>
-    ensures { IfOk result (λ acts. acts.items ≡ placed_acts copies.now) }
+/// Appends the acts that say that copies are placed. They share the messages' bytes. Fails if memory runs out.
+pub(crate) fn push_placed(acts: &mut Vec<Act>, copies: &[Due]) -> Result<(), AllocError>
+    ensures { OnOk result (acts.new.items ≡ acts.old.items ++ placed_acts copies.now) }
 {
-    let mut acts = Vec::new(alloc);
     for due in copies {
         acts.push(Act::Placed(due.0, due.1.clone()?))?;
     }
-    Ok(acts)
+    Ok(())
 }

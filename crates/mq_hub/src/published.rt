@@ -16,7 +16,7 @@ ghost use Rattle.mq_hub.specs.Keeps.{HubKeeps};
 ghost use Rattle.mq_hub.specs.Placing.{AreFor};
 ghost use Rattle.mq_hub.specs.Receiving.{IsReceived};
 ghost use Rattle.mq_hub.specs.Seen.{hub_of};
-ghost use Rattle.mq_hub.specs.Sharing.{IsDrawnUp};
+ghost use Rattle.mq_hub.specs.Sharing.{IsDrawnUp, Says};
 
 use crate::doings::Doings;
 use crate::hub::HubOver;
@@ -40,7 +40,7 @@ impl<S: FilterStore> Tables<S> {
         key: ClientKey,
         publish: &Publish,
     ) -> Result<Sharing, AllocError>
-        ensures act { IfOk result (λ s. s.act ≡ Act.Took key publish.now.message) }
+        ensures act { IfOk result (λ s. Says (Act.Took key publish.now.message) s) }
         ensures message { IfOk result (λ s. s.message ≡ publish.now.message) }
         ensures drawn { IfOk result (λ s. IsDrawnUp s) }
         ensures copies { IfOk result (λ s. (config : HubConfig) (clock next_key : ℕ)

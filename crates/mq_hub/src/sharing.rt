@@ -1,13 +1,15 @@
 //! A message that is shared: it is retained, and placed for all that match (3.3.1.3, 3.3.5).
 
 ghost use Rattle.std.specs.Prelude.{◌≡◌, ◌+◌, ◌≤◌, ◌<◌, ◌++◌, ℕ, length};
+ghost use Rattle.mq_route.specs.declared.act.Act.{Act};
 ghost use Rattle.mq_route.specs.declared.config.HubConfig.{HubConfig};
 ghost use Rattle.mq_route.specs.Copies.{kept};
 ghost use Rattle.mq_route.specs.Hub.{copies_of};
 ghost use Rattle.mq_route.specs.Work.{share};
 ghost use Rattle.mq_hub.specs.Does.{GoesBy};
-ghost use Rattle.mq_hub.specs.Placing.{placed_acts, placed_all, with_retained, with_tenants, AreApart, AreReady, CanPlace};
+ghost use Rattle.mq_hub.specs.Placing.{placed_all, with_retained, with_tenants, AreApart, AreReady, CanPlace};
 ghost use Rattle.mq_hub.specs.Seen.{HubTables, hub_of};
+ghost use Rattle.mq_hub.specs.Sharing.{Says};
 
 use crate::doings::Doings;
 use crate::placing::{Due, place_all};
@@ -24,11 +26,9 @@ pub(crate) struct Sharing {
     pub(crate) name: TopicName,
     /// The message.
     pub(crate) message: Message,
-    /// What says that it is taken, or that it is a will's.
-    pub(crate) act: Act,
     /// The copies that are due.
     pub(crate) copies: Vec<Due>,
-    /// The acts that say that these are placed.
+    /// The acts that say that it is taken, or that it is a will's, and that these are placed.
     pub(crate) acts: Vec<Act>,
 }
 
@@ -44,7 +44,7 @@ pub(crate) fn say_all(doings: &mut Doings, acts: Vec<Act>)
 }
 
 impl Sharing {
-    /// The message is retained (3.3.1.3) and its copies are placed (3.3.5), after the act that says so: the step goes on so. It
+    /// The message is retained (3.3.1.3) and its copies are placed (3.3.5), after the act that it says first: the step goes on so. It
     /// takes no memory.
     pub(crate) fn perform(
         self,
@@ -56,26 +56,23 @@ impl Sharing {
         requires retained { 0 < retained.old.room }
         requires apart { AreApart self.copies.items }
         requires ready { AreReady 0 sessions.old.tenants self.copies.items }
-        requires acts { self.acts.items ≡ placed_acts self.copies.items }
-        requires room { length self.acts.items < doings.old.room }
-        ensures goes { (config : HubConfig) (clock : ℕ) (next_key : ℕ) (t : HubTables) → t.sessions.tenants ≡ sessions.old.tenants
+        requires room { length self.acts.items ≤ doings.old.room }
+        ensures goes { (config : HubConfig) (clock : ℕ) (next_key : ℕ) (t : HubTables) (act : Act) → Says act self → t.sessions.tenants ≡ sessions.old.tenants
             → t.retained.messages ≡ retained.old.messages → CanPlace t → copies_of self.message (hub_of config clock next_key t) ≡ self.copies.items
-            → GoesBy (share self.act self.message) (hub_of config clock next_key t) doings.old.acts
+            → GoesBy (share act self.message) (hub_of config clock next_key t) doings.old.acts
             (hub_of config clock next_key (with_tenants sessions.new.tenants (with_retained retained.new.messages t))) doings.new.acts }
         ensures retained { retained.new.messages ≡ kept self.message retained.old.messages }
         ensures tenants { sessions.new.tenants ≡ placed_all self.copies.items sessions.old.tenants }
         ensures room { sessions.new.room ≡ sessions.old.room }
-        ensures left { doings.old.room ≤ doings.new.room + (1 + length self.acts.items) }
+        ensures left { doings.old.room ≤ doings.new.room + length self.acts.items }
     {
         let Sharing {
             name,
             message,
-            act,
             copies,
             acts,
         } = self;
         retained.keep(name, message);
-        doings.say(act);
         say_all(doings, acts);
         place_all(sessions, copies);
     }

@@ -52,9 +52,9 @@ returns-clause-goes g c = λ e config clock next_key kept.
     let here : HubState = hub_of config clock next_key p in
     let due : copies_of s.message here ≡ s.copies.items =
     ap (λ (n : Message). copies_of n here) c.in_ok-sharing.ensures.message ∙ ap (copies_of m) same ∙ sym (c.in_ok-sharing.ensures.copies config clock next_key) in
-    goes_as s.act c.args.act s.message m here (hub_of config clock next_key t) (hub_of config clock next_key c.share.new.self) c.prepare.new.doings.acts
-    c.args.doings.now.acts c.share.new.doings.acts c.in_ok-sharing.ensures.act c.in_ok-sharing.ensures.message same c.prepare.ensures.acts
-    (c.share.ensures.goes config clock next_key (kept_alike config next_key t p c.prepare.ensures.alike kept) due)
+    goes_as c.args.act s.message m here (hub_of config clock next_key t) (hub_of config clock next_key c.share.new.self) c.prepare.new.doings.acts
+    c.args.doings.now.acts c.share.new.doings.acts c.in_ok-sharing.ensures.message same c.prepare.ensures.acts
+    (c.share.ensures.goes config clock next_key c.args.act (kept_alike config next_key t p c.prepare.ensures.alike kept) c.in_ok-sharing.ensures.act due)
 
 pub returns-clause-enough : goal.returns-clause-enough
 returns-clause-enough g c = λ config clock next_key kept.

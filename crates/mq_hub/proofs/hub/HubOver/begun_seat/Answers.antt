@@ -2,17 +2,18 @@ use Rattle.std.proofs.Common.{◌∙◌, ap}
 use Rattle.mq_end.specs.State.{EndState}
 use Rattle.mq_route.specs.Hub.{HubState}
 use Rattle.mq_hub.specs.Rising.{risen, roomed}
-use Rattle.mq_hub.proofs.hub.HubOver.beginning.Goals as goal
+use Rattle.mq_hub.proofs.Subscriber.{if_ok}
+use Rattle.mq_hub.proofs.hub.HubOver.begun_seat.Goals as goal
 
-pub returns-clause-seat : goal.returns-clause-seat
-returns-clause-seat g c =
+pub returns : goal.returns
+returns g c =
     let rose = c.in_ok-rise_with_room.ensures.ok in
     let e : EndState = roomed rose.0 c.blank-end.result in
     let end = rose.1 ∙ ap (λ (h : HubState). risen c.args.connect h.clock e) c.self.view_is in
-    record {
+    if_ok c.new.result (λ seat is. record {
       end = e;
       fresh = c.blank-end.ensures.end;
       capacity = c.blank-end.ensures.capacity;
       limit = c.blank-end.ensures.limit;
-      after = c.in_ok-seat.ensures ∙ (λ i. record { client = c.args.client; key = c.next_key-key.ensures i; end = end i });
-    }
+      after = is ∙ (λ i. record { client = c.args.client; key = c.next_key-key.ensures i; end = end i });
+    }) c.new.ensures
