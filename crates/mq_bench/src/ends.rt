@@ -171,11 +171,16 @@ fn weigh_flight<R: Files + AllocGlobal + Print>(
     print_bytes(rt, NAME, "a message in flight", before, usize::from(FLIGHT))
 }
 
-/// Prints what a message of quality of service 2 in flight takes at a client that is made for it.
+/// Prints what a message in flight takes at a client that is made for it.
+fn weigh_one<R: Files + AllocGlobal + Print>(rt: &R, message: &Message) -> anyhow::Result<()> {
+    let mut pair = Pair::new(rt.alloc())?;
+    weigh_flight(rt, &mut pair, message)
+}
+
+/// Prints what a message of quality of service 2 in flight takes.
 fn weigh_message<R: Files + AllocGlobal + Print>(rt: &R) -> anyhow::Result<()> {
     let message = message(rt.alloc(), Qos::Q2, made_up_bytes(rt.alloc(), 16)?)?;
-    let mut pair = Pair::new(rt.alloc())?;
-    weigh_flight(rt, &mut pair, &message)
+    weigh_one(rt, &message)
 }
 
 /// Ends that are kept, so that none takes memory that another one had.

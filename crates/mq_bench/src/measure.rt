@@ -92,6 +92,26 @@ fn print_heading(rt: &impl Print, subject: Subject, stream: &Stream<'_>) -> anyh
     Ok(())
 }
 
+/// Measures each work on a stream, and prints a row for each.
+fn measure_works(
+    rt: &(impl Print + Clock),
+    alloc: Global,
+    stream: &Stream<'_>,
+) -> anyhow::Result<()> {
+    let plain = Plain {
+        scan: time(rt, alloc, Work::Scan, stream)?,
+        copy: time(rt, alloc, Work::Copy, stream)?,
+    };
+    print_row(rt, alloc, Work::Scan, plain.scan, plain)?;
+    print_row(rt, alloc, Work::Copy, plain.copy, plain)?;
+    measure_work(rt, alloc, Work::View, stream, plain)?;
+    for piece in PIECES {
+        measure_work(rt, alloc, Work::Decode(piece), stream, plain)?;
+    }
+    measure_work(rt, alloc, Work::Step(65_536), stream, plain)?;
+    measure_work(rt, alloc, Work::Encode, stream, plain)
+}
+
 /// Does every work on the stream of a subject, and prints the figures.
 fn measure_stream(
     rt: &(impl Print + Clock),
@@ -101,18 +121,7 @@ fn measure_stream(
     let packets = sample::packets(alloc, subject)?;
     let stream = Stream::new(alloc, packets.as_slice(), STREAM)?;
     print_heading(rt, subject, &stream)?;
-    let plain = Plain {
-        scan: time(rt, alloc, Work::Scan, &stream)?,
-        copy: time(rt, alloc, Work::Copy, &stream)?,
-    };
-    print_row(rt, alloc, Work::Scan, plain.scan, plain)?;
-    print_row(rt, alloc, Work::Copy, plain.copy, plain)?;
-    measure_work(rt, alloc, Work::View, &stream, plain)?;
-    for piece in PIECES {
-        measure_work(rt, alloc, Work::Decode(piece), &stream, plain)?;
-    }
-    measure_work(rt, alloc, Work::Step(65_536), &stream, plain)?;
-    measure_work(rt, alloc, Work::Encode, &stream, plain)
+    measure_works(rt, alloc, &stream)
 }
 
 /// Measures a subject, and prints a table for each of its streams.

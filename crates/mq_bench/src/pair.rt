@@ -50,18 +50,29 @@ pub(crate) struct Pair {
 }
 
 impl Pair {
-    /// Both ends are up.
-    pub(crate) fn new(alloc: Global) -> anyhow::Result<Pair> {
-        let mut pair = Pair {
+    /// Nothing happened to both ends.
+    fn idle(alloc: Global) -> anyhow::Result<Pair> {
+        Ok(Pair {
             client: idle_client(alloc)?,
             server: idle_server(alloc)?,
-        };
-        pair.server.opened(0);
-        pair.client.connect(0, false)?;
-        pair.to_server()?;
-        pair.to_client()?;
-        ensure!(pair.is_up(), "the ends are not up");
+        })
+    }
+
+    /// Both ends are up.
+    pub(crate) fn new(alloc: Global) -> anyhow::Result<Pair> {
+        let mut pair = Pair::idle(alloc)?;
+        pair.come_up()?;
         Ok(pair)
+    }
+
+    /// The client connects.
+    fn come_up(&mut self) -> anyhow::Result<()> {
+        self.server.opened(0);
+        self.client.connect(0, false)?;
+        self.to_server()?;
+        self.to_client()?;
+        ensure!(self.is_up(), "the ends are not up");
+        Ok(())
     }
 
     fn is_up(&self) -> bool {

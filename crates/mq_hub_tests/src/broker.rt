@@ -92,14 +92,28 @@ fn walk<S: FilterStore>(
     Ok(())
 }
 
+// And so does one over the trie.
+fn walk_trie(rt: &impl Abort, alloc: Global, kind: Kind, rows: &[Row]) -> Result<(), Fail>
+    requires { 0 < kind.capacity }
+{
+    let mut hub = Hub::new(alloc, config(alloc, kind)?);
+    walk(rt, alloc, &mut hub, rows)
+}
+
+// And so does one over the list.
+fn walk_list(rt: &impl Abort, alloc: Global, kind: Kind, rows: &[Row]) -> Result<(), Fail>
+    requires { 0 < kind.capacity }
+{
+    let mut hub = HubOver::with_store(alloc, config(alloc, kind)?, ListStore::new(alloc));
+    walk(rt, alloc, &mut hub, rows)
+}
+
 // And so does one over each store.
 fn walk_both(rt: &impl Abort, alloc: Global, kind: Kind, rows: &[Row]) -> Result<(), Fail>
     requires { 0 < kind.capacity }
 {
-    let mut hub = Hub::new(alloc, config(alloc, kind)?);
-    walk(rt, alloc, &mut hub, rows)?;
-    let mut plain = HubOver::with_store(alloc, config(alloc, kind)?, ListStore::new(alloc));
-    walk(rt, alloc, &mut plain, rows)
+    walk_trie(rt, alloc, kind, rows)?;
+    walk_list(rt, alloc, kind, rows)
 }
 
 // ---- tests
@@ -308,14 +322,19 @@ fn a_run_ends_at_the_first_event_that_is_refused(rt: HostRuntime) -> Result<(), 
 }
 
 // Whether a connection is known before it is opened, while it is, and after.
-fn known(alloc: Global) -> Result<[bool; 3], Fail> {
-    let mut hub = Hub::new(alloc, config(alloc, WIDE)?);
+fn known_by(alloc: Global, hub: &mut Hub) -> Result<[bool; 3], Fail> {
     let conn = Conn { worker: 0, nth: 1 };
     let before = hub.knows(conn);
-    let _ = answer(alloc, &mut hub, Happens::Opens(1))?;
+    let _ = answer(alloc, hub, Happens::Opens(1))?;
     let during = hub.knows(conn);
-    let _ = answer(alloc, &mut hub, Happens::Ends(1))?;
+    let _ = answer(alloc, hub, Happens::Ends(1))?;
     Ok([before, during, hub.knows(conn)])
+}
+
+// The same of a broker that is made for it.
+fn known(alloc: Global) -> Result<[bool; 3], Fail> {
+    let mut hub = Hub::new(alloc, config(alloc, WIDE)?);
+    known_by(alloc, &mut hub)
 }
 
 #[test]

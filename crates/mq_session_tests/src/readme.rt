@@ -190,12 +190,17 @@ fn converse(alloc: Global, client: &mut ClientEnd, socket: &mut Vec<u8>) -> Resu
     Ok(count)
 }
 
-// What the client tells, and how many bytes it wrote.
-fn conversation(alloc: Global) -> Result<String, Fail> {
+// What a client tells, and how many bytes it wrote.
+fn conversation_of(alloc: Global, client: &mut ClientEnd) -> Result<String, Fail> {
     let mut socket = Vec::new(alloc);
-    let mut client = new_client(alloc)?;
-    let count = converse(alloc, &mut client, &mut socket)?;
+    let count = converse(alloc, client, &mut socket)?;
     Ok(format!(in alloc; "{count} {}", socket.len())?)
+}
+
+// The same of a client that is made for it.
+fn conversation(alloc: Global) -> Result<String, Fail> {
+    let mut client = new_client(alloc)?;
+    conversation_of(alloc, &mut client)
 }
 
 #[test]
@@ -203,13 +208,24 @@ fn a_client_converses(rt: HostRuntime) -> Result<(), Fail> {
     expect_told(&rt, conversation(rt.alloc()), "1 31", "")
 }
 
+// The saved form of a new session is put behind the bytes.
+fn save_new(alloc: Global, bytes: &mut Vec<u8>) -> Result<(), Fail> {
+    let session = Session::new(alloc, 4);
+    Ok(session.save(bytes)?)
+}
+
+// The capacity of the session that is loaded of a saved form.
+fn loaded_capacity(alloc: Global, bytes: &[u8]) -> Result<u16, Fail> {
+    let session = Session::load(alloc, bytes)?;
+    Ok(session.sender.capacity())
+}
+
 // How many bytes the saved form of a new session has, and the capacity of what is loaded of it.
 fn saved(alloc: Global) -> Result<String, Fail> {
     let mut bytes = Vec::new(alloc);
-    let session = Session::new(alloc, 4);
-    session.save(&mut bytes)?;
-    let session = Session::load(alloc, bytes.as_slice())?;
-    Ok(format!(in alloc; "{} {}", bytes.len(), session.sender.capacity())?)
+    save_new(alloc, &mut bytes)?;
+    let capacity = loaded_capacity(alloc, bytes.as_slice())?;
+    Ok(format!(in alloc; "{} {capacity}", bytes.len())?)
 }
 
 #[test]
