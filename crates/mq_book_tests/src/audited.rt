@@ -50,6 +50,19 @@ fn receipts(alloc: Global, rows: &[Row]) -> Result<Vec<Receipt>, Fail> {
     Ok(receipts)
 }
 
+// The journal of a book after one step, and the receipt of the step.
+fn sealed<L: Ledger, R: Wait>(
+    rt: &R,
+    book: &mut Book<L>,
+    share: &mut Share<L>,
+) -> Result<(Journal, Receipt), Fail> {
+    let event = HubEvent::Opened(Conn { worker: 7, nth: 0 });
+    match book.step(rt, share, event) {
+        Ok(receipt) => Ok((book.checkpoint(), receipt)),
+        Err(_) => Err("no step".into()),
+    }
+}
+
 // A journal of one entry, and the receipt of its step.
 fn journal<L: Ledger, R: Wait>(
     rt: &R,
@@ -63,24 +76,34 @@ fn journal<L: Ledger, R: Wait>(
     let (steps, part) = blank.open::<L>();
     let mut book = Book::new(alloc, hub(alloc)?, 1, steps);
     let mut share = Share::new(7, part);
-    let event = HubEvent::Opened(Conn { worker: 7, nth: 0 });
-    match book.step(rt, &mut share, event) {
-        Ok(receipt) => Ok((book.checkpoint(), receipt)),
-        Err(_) => Err("no step".into()),
+    sealed(rt, &mut book, &mut share)
+}
+
+// The receipts of rows stand in a journal, or don't, as they are to.
+fn walk_rows(rt: &impl Abort, alloc: Global, journal: &Journal) -> Result<(), Fail> {
+    for (rows, wanted) in &ROWS {
+        let receipts = receipts(alloc, rows)?;
+        let stands = audit(journal, receipts.as_slice());
+        assert_eq!(rt; stands, *wanted, "{:?}", rows);
     }
+    Ok(())
+}
+
+// So do the receipts of its own.
+fn walk_by(
+    rt: &impl Abort,
+    alloc: Global,
+    journal: &Journal,
+    owns: &[Receipt],
+) -> Result<(), Fail> {
+    assert!(rt; audit(journal, owns), "its own receipt");
+    walk_rows(rt, alloc, journal)
 }
 
 fn walk<R: Wait + Abort>(rt: &R, alloc: Global) -> Result<(), Fail> {
     let (journal, own) = journal::<Brand, R>(rt, alloc, Blank::new(1))?;
-    let mut owns = Vec::new(alloc);
-    owns.push(own)?;
-    assert!(rt; audit(&journal, owns.as_slice()), "its own receipt");
-    for (rows, wanted) in &ROWS {
-        let receipts = receipts(alloc, rows)?;
-        let stands = audit(&journal, receipts.as_slice());
-        assert_eq!(rt; stands, *wanted, "{:?}", rows);
-    }
-    Ok(())
+    let owns = [own];
+    walk_by(rt, alloc, &journal, &owns)
 }
 
 #[test]

@@ -3,7 +3,7 @@
 ghost use Rattle.std.specs.Prelude.{◌≡◌, ◌<◌, None, IfOk};
 
 use bytes::Bytes;
-use mq_book::{Book, Receipt, Share};
+use mq_book::{Book, BookRefusal, Journal, Receipt, Share};
 use mq_decode::Limits;
 use mq_hub::{Conn, Hub, HubConfig, HubEvent};
 use std::alloc::Global;
@@ -61,6 +61,25 @@ fn event(happens: Happens) -> Option<HubEvent> {
     }
 }
 
+// The place of an event's step, or why there is none.
+fn step<L: Ledger, R: Wait>(
+    rt: &R,
+    book: &mut Book<L>,
+    share: &mut Share<L>,
+    event: HubEvent,
+) -> Result<u64, BookRefusal> {
+    match book.step(rt, share, event) {
+        Ok(Receipt { place, .. }) => Ok(place),
+        Err((why, _)) => Err(why),
+    }
+}
+
+// How many entries a journal has, and from which place on.
+fn counted(alloc: Global, journal: &Journal) -> Result<String, Fail> {
+    let count = journal.entries().len();
+    Ok(format!(in alloc; "{count} from {}", journal.first())?)
+}
+
 // What a book answers to what happens.
 fn answer<L: Ledger, R: Wait>(
     rt: &R,
@@ -70,14 +89,26 @@ fn answer<L: Ledger, R: Wait>(
     happens: Happens,
 ) -> Result<String, Fail> {
     let Some(event) = event(happens) else {
-        let journal = book.checkpoint();
-        let count = journal.entries().len();
-        return Ok(format!(in alloc; "{count} from {}", journal.first())?);
+        return counted(alloc, &book.checkpoint());
     };
-    match book.step(rt, share, event) {
-        Ok(Receipt { place, .. }) => Ok(format!(in alloc; "place {place}")?),
-        Err((why, _)) => Ok(format!(in alloc; "{why}")?),
+    match step(rt, book, share, event) {
+        Ok(place) => Ok(format!(in alloc; "place {place}")?),
+        Err(why) => Ok(format!(in alloc; "{why}")?),
     }
+}
+
+// A book answers each of the events so.
+fn walk_by<L: Ledger, R: Wait + Abort>(
+    rt: &R,
+    alloc: Global,
+    book: &mut Book<L>,
+    share: &mut Share<L>,
+) -> Result<(), Fail> {
+    for (happens, wanted) in &ROWS {
+        let text = answer(rt, alloc, book, share, *happens)?;
+        assert_eq!(rt; text.as_str(), *wanted, "{:?}", happens);
+    }
+    Ok(())
 }
 
 fn walk<L: Ledger, R: Wait + Abort>(rt: &R, alloc: Global, blank: Blank) -> Result<(), Fail>
@@ -88,11 +119,7 @@ fn walk<L: Ledger, R: Wait + Abort>(rt: &R, alloc: Global, blank: Blank) -> Resu
     let (steps, part) = blank.open::<L>();
     let mut book = Book::new(alloc, hub(alloc)?, 1, steps);
     let mut share = Share::new(0, part);
-    for (happens, wanted) in &ROWS {
-        let text = answer(rt, alloc, &mut book, &mut share, *happens)?;
-        assert_eq!(rt; text.as_str(), *wanted, "{:?}", happens);
-    }
-    Ok(())
+    walk_by(rt, alloc, &mut book, &mut share)
 }
 
 #[test]
