@@ -90,6 +90,24 @@ impl<'a> Cast<'a> {
         Ok(messages)
     }
 
+    // Does what a client does at its connection, and gives what it collected.
+    fn play_at<R: Wait + Clock>(
+        &self,
+        rt: &R,
+        player: &mut Player<'_, R>,
+        client: &Client,
+    ) -> Result<Vec<Message>, Halt> {
+        match &client.role {
+            Role::Collector(collector) => self.collect(rt, player, collector),
+            Role::Publisher(publisher) => {
+                if self.start.wait(rt) {
+                    publish(player, publisher)?;
+                }
+                Ok(Vec::new(self.alloc))
+            }
+        }
+    }
+
     // Does what a client does, and gives what it collected.
     fn play<R: Wait + Clock>(&self, rt: &R, act: Act<'a>) -> Result<Vec<Message>, Halt> {
         let Act { client, stream } = act;
@@ -102,15 +120,7 @@ impl<'a> Cast<'a> {
             Elapsed::since(rt, start),
             Nowhere,
         );
-        match &client.role {
-            Role::Collector(collector) => self.collect(rt, &mut player, collector),
-            Role::Publisher(publisher) => {
-                if self.start.wait(rt) {
-                    publish(&mut player, publisher)?;
-                }
-                Ok(Vec::new(self.alloc))
-            }
-        }
+        self.play_at(rt, &mut player, client)
     }
 }
 

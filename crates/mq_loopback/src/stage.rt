@@ -1,13 +1,13 @@
 //! A broker and the clients of a loopback file, beside each other.
 
-ghost use Rattle.std.specs.Prelude.{◌≡◌, ◌<◌, ◌≤◌, length};
+ghost use Rattle.std.specs.Prelude.{◌≡◌, ◌<◌, ◌≤◌, length, vec_len, IfOk};
 
 use crate::cast::Cast;
 use crate::client::Client;
 use mq_book::{Journal, Receipt};
 use mq_client::Halt;
 use mq_packet::Message;
-use mq_serve::{Closed, Gate, Hall, Records, ServeEnd, man_both};
+use mq_serve::{Closed, Gate, Hall, Records, ServeEnd, Served, man_both};
 use std::alloc::{AllocError, Global};
 use std::io;
 use std::io::ErrorKind;
@@ -142,8 +142,21 @@ where
     let cast = Cast::new(alloc, clients);
     let acts = cast.acts(streams)?;
     let (served, collected) = man_both(rt, &hall, stations, &cast, acts);
+    ended(hall, served, cast.into_fault(), collected)
+}
+
+// What is left of a broker and of clients that are done, or why there is nothing.
+fn ended<L: Ledger>(
+    hall: Hall<L>,
+    served: Result<Vec<Served<L>>, AllocError>,
+    fault: Option<Halt>,
+    collected: Result<Vec<Vec<Message>>, AllocError>,
+) -> Result<Played, PlayEnd>
+    requires all { IfOk served (λ s. vec_len s ≡ L.parts) }
+    requires some { 0 < L.parts }
+{
     let closed = hall.close(served?)?;
-    match cast.into_fault() {
+    match fault {
         Some(fault) => Err(PlayEnd::Client(fault)),
         None => Ok(leave(closed, collected?)),
     }
