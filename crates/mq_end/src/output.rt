@@ -1,14 +1,16 @@
 //! What an end puts out, until it is written.
 
-ghost use Rattle.std.specs.Prelude.{◌≡◌, ℕ, ◌+◌, ◌-◌, ◌<◌, ◌≤◌, ◌^◌, List, [], ◌++◌, length, drop, take, true, IsOk, OnOk, OnErr};
+ghost use Rattle.std.specs.Prelude.{◌≡◌, ℕ, ◌+◌, ◌-◌, ◌<◌, ◌≤◌, ◌^◌, List, [], ◌++◌, length, drop, take, true, IsOk, IfOk, OnOk, OnErr};
 ghost use Rattle.mq_packet.specs.Publication.{fits_delivery};
 ghost use Rattle.mq_packet.specs.Spelling.{Spells, fields};
 ghost use Rattle.mq_end.specs.Ready.{whole_size};
 
+use bytes::Bytes;
 use mq_packet::{Delivery, Message, Packet, encode_into, encode_publish_into};
 use mq_wire::length_laws;
 use std::alloc::{AllocError, Global};
 use std::marker::Model;
+use std::mem;
 
 /// Bytes that wait to be written, the oldest first: they are appended at the end and taken from the front, at a cost that
 /// grows with the bytes and not with what waits. Contracts see them as a list, and how many may wait without more memory.
@@ -149,6 +151,32 @@ impl Output {
     {
         self.bytes.clear();
         self.gone = 0;
+    }
+
+    /// Takes all bytes, in one block that its owners share: none is copied. Fails if memory runs out for the count of the owners, which
+    /// it doesn't where no byte waits, and then the bytes stay.
+    pub(crate) fn take_bytes(&mut self) -> Result<Bytes, AllocError>
+        ensures bytes { IfOk result (λ b. b ≡ self.old.bytes) }
+        ensures taken { OnOk result (self.new.bytes ≡ []) }
+        ensures none { self.old.bytes ≡ [] → IsOk result }
+        ensures err { OnErr result (self.new.bytes ≡ self.old.bytes) }
+    {
+        if self.len() == 0 {
+            return Ok(Bytes::new());
+        }
+        self.room = 0;
+        let none = Vec::new(*self.bytes.allocator());
+        match Bytes::from_vec(mem::replace(&mut self.bytes, none)) {
+            Ok(mut bytes) => {
+                bytes.advance(self.gone);
+                self.gone = 0;
+                Ok(bytes)
+            }
+            Err(failed) => {
+                self.bytes = failed.value;
+                Err(AllocError)
+            }
+        }
     }
 
     /// No more than what waits already may wait without more memory.

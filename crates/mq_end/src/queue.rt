@@ -1,10 +1,11 @@
 //! Bytes that wait.
 
-ghost use Rattle.std.specs.Prelude.{◌≡◌, ℕ, ◌≤◌, ◌==◌, List, [], ◌++◌, length, drop, take, true, OnOk, OnErr};
+ghost use Rattle.std.specs.Prelude.{◌≡◌, ℕ, ◌≤◌, ◌==◌, List, [], ◌++◌, length, drop, take, true, IsOk, IfOk, OnOk, OnErr};
 ghost use Rattle.mq_packet.specs.Publication.{fits_delivery};
 ghost use Rattle.mq_packet.specs.Spelling.{Spells};
 
 use crate::output::Output;
+use bytes::Bytes;
 use mq_packet::{Delivery, Message, Packet};
 use std::alloc::{AllocError, Global};
 use std::marker::Model;
@@ -95,6 +96,17 @@ impl ByteQueue {
         ensures { self.new ≡ drop count self.old }
     {
         self.output.take(count);
+    }
+
+    /// Takes all bytes, in one block that its owners share: none is copied. It takes memory for the count of the owners, and none where
+    /// no byte waits. Fails if memory runs out, and then the bytes stay.
+    pub fn take_bytes(&mut self) -> Result<Bytes, AllocError>
+        ensures bytes { IfOk result (λ b. b ≡ self.old) }
+        ensures taken { OnOk result (self.new ≡ []) }
+        ensures none { self.old ≡ [] → IsOk result }
+        ensures err { OnErr result (self.new ≡ self.old) }
+    {
+        self.output.take_bytes()
     }
 
     /// Keeps the first bytes alone. It takes no memory.

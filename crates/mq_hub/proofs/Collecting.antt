@@ -1,20 +1,21 @@
 -- All bytes that wait on a connection are taken.
-use Rattle.std.proofs.Common.{◌≡◌, ◌||◌, ℕ, Bool, true, false, cond, List, [], ◌∷◌, Option, Some, None, refl, sym, ap, ap₂, subst, ◌∙◌, eqb, true≢false}
-use Rattle.std.proofs.lemmas.Bool.{cond_both, cond-true, cond-false, or_parts}
+use Rattle.std.proofs.Common.{◌≡◌, ℕ, Bool, true, false, List, [], ◌∷◌, Some, None, refl, sym, ap, ap₂, subst, ◌∙◌, eqb}
+use Rattle.std.proofs.lemmas.Bool.{cond_both, cond-true, cond-false}
 use Rattle.std.specs.List.{AllByRecursion}
-use Rattle.std.specs.Option.{is_some, IfSome}
-use Rattle.mq_end.specs.State.{EndState}
+use Rattle.std.specs.Option.{is_some}
+use Rattle.mq_end.specs.State.{EndState, Room}
 use Rattle.mq_route.specs.declared.config.HubConfig.{HubConfig}
 use Rattle.mq_route.specs.declared.conn.Conn.{Conn}
 use Rattle.mq_route.specs.declared.stage.Stage.{Stage}
 use Rattle.mq_route.specs.declared.stage.Stage.TheVariants.{Fresh, UpFor, Shut}
 use Rattle.mq_route.specs.declared.stage.Terms.{Terms}
-use Rattle.mq_route.specs.Hub.{Line, changed, is_line, key_on, knows, stage_of, waiting_on, with_line}
+use Rattle.mq_route.specs.Hub.{Line, changed, is_line, key_on, stage_of, waiting_on, with_line}
 use Rattle.mq_route.specs.Step.{collected}
 use Rattle.mq_hub.specs.declared.session.Tenant.{Tenant}
+use Rattle.mq_hub.specs.Collecting.{drained}
 use Rattle.mq_hub.specs.Keeps.{HubKeeps, IsHoused, IsQuiet, IsSeated, Stands}
 use Rattle.mq_hub.specs.Seen.{HubTables, all_seen, hub_of, output_of, seen, waiting_by}
-use Rattle.mq_hub.specs.Sessions.{drained, served_by, sessions_of, tenant_of, with_server}
+use Rattle.mq_hub.specs.Sessions.{served_by, sessions_of, tenant_of, with_server}
 use Rattle.mq_hub.proofs.Changing.{output_here, own_bytes, seen_changed, seen_served, seen_still, waiting_up}
 use Rattle.mq_hub.proofs.Keeping.{all_seated_same, apart_same, housed_same, kept_by, stage_same, up_same}
 use Rattle.mq_hub.proofs.Serving.{all_housed_as, all_owned_as, all_seated_with, below_as, seat_of, sessions_as}
@@ -50,7 +51,7 @@ quiet_emptied k (x ∷ xs) all =
     none (UpFor key terms moment) = tt
     none Shut = tt
 
-still_lines : (k : Conn) (xs : List Line) → with_line (λ x. x) k xs ≡ xs
+pub still_lines : (k : Conn) (xs : List Line) → with_line (λ x. x) k xs ≡ xs
 still_lines k [] = refl
 still_lines k (x ∷ xs) = λ i. cond_both (is_line k x) x x (λ (y : Line). y ≡ x) (λ e. refl) (λ e. refl) i ∷ still_lines k xs i
 
@@ -68,27 +69,9 @@ output_found key t (s ∷ ts) there = go (eqb s.key key) refl (output_found key 
     go false at rest =
         cond-false (eqb s.key key) s.end.output (output_of key ts) at ∙ rest (sym (cond-false (eqb s.key key) (Some s) (tenant_of key ts) at) ∙ there)
 
-output_none : (key : ℕ) (ts : List Tenant) → tenant_of key ts ≡ None → output_of key ts ≡ []
-output_none key [] none = refl
-output_none key (s ∷ ts) none = go (eqb s.key key) refl (output_none key ts)
-  where
-    go : (b : Bool) → eqb s.key key ≡ b → (tenant_of key ts ≡ None → output_of key ts ≡ []) → output_of key (s ∷ ts) ≡ []
-    go true at rest = let w : Some s ≡ None = sym (cond-true (eqb s.key key) (Some s) (tenant_of key ts) at) ∙ none in absurd cc
-    go false at rest =
-        cond-false (eqb s.key key) s.end.output (output_of key ts) at ∙ rest (sym (cond-false (eqb s.key key) (Some s) (tenant_of key ts) at) ∙ none)
-
 pub waits_up : (k : Conn) (key : ℕ) (t : Tenant) (ts : List Tenant) (xs : List Line) → key_on (stage_of k xs) ≡ Some key → tenant_of key ts ≡ Some t
     → waiting_on k (all_seen ts xs) ≡ t.end.output
 waits_up k key t ts xs up there = let at = is_up_for key (stage_of k xs) up in waiting_up k key at.terms at.moment ts xs at.is ∙ output_found key t ts there
-
-pub waits_none : (k : Conn) (key : ℕ) (ts : List Tenant) (xs : List Line) → key_on (stage_of k xs) ≡ Some key → tenant_of key ts ≡ None → waiting_on k (all_seen ts xs) ≡ []
-waits_none k key ts xs up none = let at = is_up_for key (stage_of k xs) up in waiting_up k key at.terms at.moment ts xs at.is ∙ output_none key ts none
-
-pub unknown_waits : (k : Conn) (xs : List Line) → knows k xs ≡ false → waiting_on k xs ≡ []
-unknown_waits k [] none = refl
-unknown_waits k (x ∷ xs) none =
-    let p = or_parts (is_line k x) (knows k xs) none in
-    cond-false (is_line k x) x.waiting (waiting_on k xs) p.0 ∙ unknown_waits k xs p.1
 
 -- ---- the session of one that is up
 
@@ -105,19 +88,6 @@ housed_at most k key ts (x ∷ xs) all up = go (is_line k x) refl (housed_at mos
     go true same rest = of x.stage all.0 (ap key_on (sym (cond-true (is_line k x) x.stage (stage_of k xs) same)) ∙ up)
     go false differ rest = rest (ap key_on (sym (cond-false (is_line k x) x.stage (stage_of k xs) differ)) ∙ up)
 
--- the session of a key whose end is drained, by this list of sessions
-pub record IsDrained (key : ℕ) (ts us : List Tenant) : Type 0 where
-  pub session : Tenant
-  pub there : tenant_of key ts ≡ Some session
-  pub after : us ≡ with_server key (drained session.end) ts
-
-pub is_drained : (key : ℕ) (ts us : List Tenant) → Stands ts key → IfSome (tenant_of key ts) (λ s. us ≡ with_server key (drained s.end) ts) → IsDrained key ts us
-is_drained key ts us stands says = go (tenant_of key ts) refl stands says
-  where
-    go : (o : Option Tenant) → tenant_of key ts ≡ o → is_some o ≡ true → IfSome o (λ s. us ≡ with_server key (drained s.end) ts) → IsDrained key ts us
-    go None e there is = absurd (true≢false (sym there))
-    go (Some s) e there is = record { session = s; there = e; after = is }
-
 pub served_twice : (key : ℕ) (d e : EndState) (ts : List Tenant) → with_server key e (with_server key d ts) ≡ with_server key e ts
 served_twice key d e [] = refl
 served_twice key d e (s ∷ ts) = go (eqb s.key key) refl (served_twice key d e ts)
@@ -129,26 +99,16 @@ served_twice key d e (s ∷ ts) = go (eqb s.key key) refl (served_twice key d e 
         ∙ sym (cond-true (eqb s.key key) (record s { end = e }) s at)) rest
     go false at rest = ap₂ (λ (x : Tenant) (xs : List Tenant). x ∷ xs) (ap (served_by key e) (cond-false (eqb s.key key) (record s { end = d }) s at)) rest
 
--- an end is taken out, drained and put back
-pub drained_as : (key : ℕ) (ts us vs : List Tenant) (blank taken back : EndState) → us ≡ with_server key blank ts → IfSome (tenant_of key ts) (λ s. taken ≡ s.end) → back ≡ drained taken
-    → vs ≡ with_server key back us → IfSome (tenant_of key ts) (λ s. vs ≡ with_server key (drained s.end) ts)
-drained_as key ts us vs blank taken back first says left second = go (tenant_of key ts) says
-  where
-    go : (o : Option Tenant) → IfSome o (λ s. taken ≡ s.end) → IfSome o (λ s. vs ≡ with_server key (drained s.end) ts)
-    go None is = tt
-    go (Some s) is =
-        second ∙ ap (with_server key back) first ∙ served_twice key blank back ts ∙ ap (λ (e : EndState). with_server key e ts) (left ∙ ap drained is)
-
 -- ---- of one that is up
 
-module _ (config : HubConfig) (next key : ℕ) (s : Tenant) (t u : HubTables) (there : tenant_of key t.sessions.tenants ≡ Some s) (kept : HubKeeps config next t)
-    (rows : u.rows ≡ t.rows) (retained : u.retained.messages ≡ t.retained.messages) (tenants : u.sessions.tenants ≡ with_server key (drained s.end) t.sessions.tenants)
+module _ (config : HubConfig) (next key : ℕ) (room : Room) (s : Tenant) (t u : HubTables) (there : tenant_of key t.sessions.tenants ≡ Some s) (kept : HubKeeps config next t)
+    (rows : u.rows ≡ t.rows) (retained : u.retained.messages ≡ t.retained.messages) (tenants : u.sessions.tenants ≡ with_server key (drained room s.end) t.sessions.tenants)
     (lines : u.lines.lines ≡ t.lines.lines) where
   pub kept_drained : u.lines.limits ≡ t.lines.limits → HubKeeps config next u
   kept_drained limits =
       let ts = t.sessions.tenants in
       let xs = t.lines.lines in
-      let e : EndState = drained s.end in
+      let e : EndState = drained room s.end in
       let seat = seat_of (IsSeated config xs) key s ts there kept.seated in
       let here : IsSeated config xs (record s { end = e }) = record {
         capacity = seat.capacity;
@@ -180,7 +140,7 @@ module _ (config : HubConfig) (next key : ℕ) (s : Tenant) (t u : HubTables) (t
   hub_drained clock k up =
       let ts = t.sessions.tenants in
       let xs = t.lines.lines in
-      let e : EndState = drained s.end in
+      let e : EndState = drained room s.end in
       let at = is_up_for key (stage_of k xs) up in
       let stands : Stands ts key = ap is_some there in
       let here : (x : Line) → x.stage ≡ UpFor key at.terms at.moment → seen (with_server key e ts) x ≡ emptied (seen ts x) =

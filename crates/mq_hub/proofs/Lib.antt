@@ -14,6 +14,7 @@ pub mod DueCopies
 pub mod Filing
 pub mod Forgetting
 pub mod Fronting
+pub mod GivingAway
 pub mod Going
 pub mod Granting
 pub mod Handing

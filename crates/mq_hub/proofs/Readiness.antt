@@ -190,6 +190,18 @@ changed_length f key (t ∷ ts) = ap suc (changed_length f key ts)
 abbrev rooming : Room → EndState → EndState
 rooming r s = record s { room = r }
 
+reroomed_same : (room : Room) (key : ℕ) (ts : List Tenant) → map roomless (changed_at (rooming room) key ts) ≡ map roomless ts
+reroomed_same room key [] = refl
+reroomed_same room key (t ∷ ts) = ap₂ (λ (x : Tenant) (xs : List Tenant). x ∷ xs) (one (eqb t.key key)) (reroomed_same room key ts)
+  where
+    one : (b : Bool) → roomless (cond b (record t { end = rooming room t.end }) t) ≡ roomless t
+    one true = refl
+    one false = refl
+
+-- the end of a session has other room
+pub other_room : (room : Room) (key : ℕ) (t : Tenant) (ts : List Tenant) → AreAscending ts → tenant_of key ts ≡ Some t → AreSameButRoom ts (with_server key (record t.end { room = room }) ts)
+other_room room key t ts up there = ap (map roomless) (same_change (rooming room) key t ts up there) ∙ reroomed_same room key ts
+
 pub same_sessions : (old new : List Tenant) → AreSameButRoom old new → sessions_of new ≡ sessions_of old
 same_sessions old new same = sym (go new) ∙ ap (map session_of) same ∙ go old
   where
@@ -301,15 +313,7 @@ module _ (key : ℕ) (ms : List Message) (more : ℕ) (answer : Result ⊤ Publi
   readied = r.after ∙ ap (λ (e : EndState). with_server key e old) r.readies.same ∙ same_change (rooming r.end.room) key r.tenant old up r.there
 
   pub ready_same : AreSameButRoom old new
-  ready_same = ap (map roomless) readied ∙ go old
-    where
-      one : (t : Tenant) (b : Bool) → roomless (cond b (record t { end = rooming r.end.room t.end }) t) ≡ roomless t
-      one t true = refl
-      one t false = refl
-
-      go : (ts : List Tenant) → map roomless (changed_at (rooming r.end.room) key ts) ≡ map roomless ts
-      go [] = refl
-      go (t ∷ ts) = ap₂ (λ (x : Tenant) (xs : List Tenant). x ∷ xs) (one t (eqb t.key key)) (go ts)
+  ready_same = ap (map roomless) readied ∙ reroomed_same r.end.room key old
 
   pub ready_still : AreStillReady old new
   ready_still k others n was = subst (λ (ts : List Tenant). IsReadyAt k others n ts) (sym readied) (go (eqb key k) refl)

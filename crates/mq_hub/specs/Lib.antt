@@ -1,4 +1,5 @@
 pub mod Subscribing
+pub mod Collecting
 pub mod Coming
 pub mod Answers
 pub mod Calls

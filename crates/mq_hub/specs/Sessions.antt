@@ -1,7 +1,7 @@
 -- The table of sessions (3.1.2.4).
 use Rattle.std.specs.Prelude.{◌≡◌, ℕ, ◌<◌, ◌==◌, not, if◌then◌else◌, List, [], ◌∷◌, map, filter, Option, Some, None}
 use Rattle.std.specs.List.{AllByRecursion}
-use Rattle.mq_end.specs.State.{EndState, no_bytes}
+use Rattle.mq_end.specs.State.{EndState}
 use Rattle.mq_route.specs.Hub.{HubSession, key_of}
 use Rattle.mq_hub.specs.declared.session.Tenant.{Tenant}
 
@@ -29,10 +29,6 @@ served_by key e t = if t.key == key then record t { end = e } else t
 -- the sessions, that of a key with another end
 abbrev pub with_server : ℕ → EndState → List Tenant → List Tenant
 with_server key e ts = map (served_by key e) ts
-
--- an end of which all bytes that wait are taken
-abbrev pub drained : EndState → EndState
-drained e = record e { output = []; room = no_bytes e.room }
 
 -- the sessions without that of a key
 abbrev pub without_tenant : ℕ → List Tenant → List Tenant

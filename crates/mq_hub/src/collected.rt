@@ -1,6 +1,6 @@
 //! What waits to be written on a connection is taken from a broker (4.2).
 
-ghost use Rattle.std.specs.Prelude.{◌≡◌, true, IfOk, IfErr, OnErr};
+ghost use Rattle.std.specs.Prelude.{◌≡◌, true, IfOk, IfErr, OnOk, OnErr};
 ghost use Rattle.mq_route.specs.Hub.{is_open, knows, new_end, stage_of, waiting_on};
 ghost use Rattle.mq_route.specs.Step.{HubStep, collected};
 
@@ -9,15 +9,9 @@ use bytes::Bytes;
 use mq_end::{Items, ServerConfig, ServerEnd};
 use mq_route::{Conn, HubEvent, HubRefusal, HubReply};
 use mq_topic::FilterStore;
+use std::alloc::AllocError;
 
 impl<S: FilterStore> HubOver<S> {
-    // The bytes that wait on a connection.
-    fn output(&self, conn: Conn) -> &[u8]
-        ensures { result.now ≡ waiting_on conn self.now.lines }
-    {
-        self.tables.output(conn)
-    }
-
     /// Whether a connection is open.
     pub(crate) fn is_open(&self, conn: Conn) -> bool
         ensures { result ≡ is_open (stage_of conn self.now.lines) }
@@ -39,30 +33,31 @@ impl<S: FilterStore> HubOver<S> {
         ServerEnd::new(self.alloc, config)
     }
 
-    // No byte waits on a connection that is known any more. It takes no memory.
-    fn empty(&mut self, conn: Conn)
+    // The bytes that wait on a connection that is known are taken, and none is copied. Out of memory they stay.
+    fn collect(&mut self, conn: Conn) -> Result<Bytes, AllocError>
         requires { knows conn self.old.lines ≡ true }
-        ensures { self.new ≡ collected conn self.old }
+        ensures bytes { IfOk result (λ b. b ≡ waiting_on conn self.old.lines) }
+        ensures taken { OnOk result (self.new ≡ collected conn self.old) }
+        ensures err { OnErr result (self.new ≡ self.old) }
     {
-        let blank = self.blank();
         match self.tables.key(conn) {
-            Some(key) => self.tables.drain(key, blank),
-            None => self.tables.empty(self.alloc, conn),
+            Some(key) => self.tables.collect_up(key),
+            None => self.tables.collect_own(conn),
         }
     }
 
-    /// What waits to be written on a connection that is known is taken. Fails if memory runs out, and then nothing changes.
+    /// What waits to be written on a connection that is known is taken, and none of it is copied. Fails if memory runs out for the count
+    /// of its owners, and then nothing changes.
     pub(crate) fn collected(&mut self, conn: Conn) -> Result<HubReply, HubRefusal>
         requires { knows conn self.old.lines ≡ true }
         ensures step { IfOk result (λ reply. HubStep self.old (HubEvent.Collect conn) reply self.new) }
         ensures memory { IfErr result (λ why. why ≡ HubRefusal.Memory) }
         ensures err { OnErr result (self.new ≡ self.old) }
     {
-        let Ok(output) = Bytes::copy_from_slice(self.alloc, self.output(conn)) else {
+        let alive = self.is_open(conn);
+        let Ok(output) = self.collect(conn) else {
             return Err(HubRefusal::Memory);
         };
-        let alive = self.is_open(conn);
-        self.empty(conn);
         Ok(HubReply {
             acts: Items::from_vec(Vec::new(self.alloc)),
             output,

@@ -1,11 +1,12 @@
 //! A connection at a broker (4.2).
 
-ghost use Rattle.std.specs.Prelude.{◌≡◌, ◌≤◌, ℕ, [], None, false, IfOk};
+ghost use Rattle.std.specs.Prelude.{◌≡◌, ◌≤◌, ℕ, [], None, false, IfOk, OnOk, OnErr};
 ghost use Rattle.mq_route.specs.Arrives.{heard};
 ghost use Rattle.mq_route.specs.Hub.{key_on};
 ghost use Rattle.mq_hub.specs.Lines.{line_of, IsReading, IsTimely};
 ghost use Rattle.mq_end.specs.KeepAlive.{is_late};
 
+use bytes::Bytes;
 use mq_decode::{Decoder, Limits};
 use mq_end::ByteQueue;
 use mq_route::{Conn, Stage, Terms};
@@ -135,6 +136,17 @@ impl BoxedConnection {
     {
         let connection = &mut *self.connection;
         mem::swap(&mut connection.decoder, decoder);
+    }
+
+    /// The bytes that wait are taken, and none is copied. Out of memory they stay.
+    pub(crate) fn collect(&mut self) -> Result<Bytes, AllocError>
+        ensures own { self.new ≡ record self.old { waiting = self.new.waiting } }
+        ensures bytes { IfOk result (λ b. b ≡ self.old.waiting) }
+        ensures taken { OnOk result (self.new.waiting ≡ []) }
+        ensures err { OnErr result (self.new.waiting ≡ self.old.waiting) }
+    {
+        let connection = &mut *self.connection;
+        connection.waiting.take_bytes()
     }
 
     /// Exchanges the bytes that wait for others. It takes no memory.

@@ -1,6 +1,6 @@
 //! The connections of a broker (4.2).
 
-ghost use Rattle.std.specs.Prelude.{◌≡◌, ◌+◌, ◌≤◌, ◌<◌, ℕ, [], ◌∷◌, ◌++◌, length, slice_get, Some, None, nat_eq, true, false, is_some, if◌then◌else◌, OnOk, IfSome, IsTrue};
+ghost use Rattle.std.specs.Prelude.{◌≡◌, ◌+◌, ◌≤◌, ◌<◌, ℕ, [], ◌∷◌, ◌++◌, length, slice_get, Some, None, nat_eq, true, false, is_some, if◌then◌else◌, OnOk, OnErr, IfOk, IfSome, IsTrue};
 ghost use Rattle.std.specs.HashMap.{get, hash_map_len, spare};
 ghost use Rattle.std.specs.List.{AllByRecursion, IsDistinct};
 ghost use Rattle.std.specs.Map.{keys_of, remove_entry};
@@ -14,6 +14,7 @@ ghost use Rattle.mq_hub.specs.Lines.{line_of, IsReading, IsTimely};
 ghost use Rattle.mq_hub.specs.Ticking.{AreInTime};
 
 use crate::connection::{BoxedConnection, Connection};
+use bytes::Bytes;
 use indexmap::IndexMap;
 use mq_decode::{Decoder, Limits};
 use mq_end::ByteQueue;
@@ -162,17 +163,6 @@ impl Lines {
         }
     }
 
-    /// The bytes that wait on a connection while it isn't up; `None` where it isn't known.
-    pub(crate) fn waiting(&self, conn: Conn) -> Option<&ByteQueue>
-        ensures known { is_some result ≡ knows conn self.now.lines }
-        ensures waiting { IfSome result (λ b. b.now ≡ waiting_on conn self.now.lines) }
-    {
-        match self.by_conn.get(&conn) {
-            Some(boxed) => Some(&boxed.connection().waiting),
-            None => None,
-        }
-    }
-
     /// The connection on which the client of a session is up.
     pub(crate) fn up_on(&self, key: ClientKey) -> Option<Conn>
         ensures { result ≡ up_on key self.now.lines }
@@ -283,6 +273,20 @@ impl Lines {
             return;
         };
         boxed.swap_decoder(decoder);
+    }
+
+    /// The waiting bytes of a connection are taken, and none is copied. Out of memory they stay.
+    pub(crate) fn collect(&mut self, conn: Conn) -> Result<Bytes, AllocError>
+        requires { knows conn self.old.lines ≡ true }
+        ensures bytes { IfOk result (λ b. b ≡ waiting_on conn self.old.lines) }
+        ensures taken { OnOk result (self.new.lines ≡ with_line (λ x. record x { waiting = [] }) conn self.old.lines) }
+        ensures err { OnErr result (self.new.lines ≡ self.old.lines) }
+        ensures limits { self.new.limits ≡ self.old.limits }
+    {
+        let Some(boxed) = self.by_conn.get_mut(&conn) else {
+            return Ok(Bytes::new());
+        };
+        boxed.collect()
     }
 
     /// Exchanges the waiting bytes of a connection for others. It takes no memory.

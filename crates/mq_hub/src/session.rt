@@ -6,12 +6,14 @@ ghost use Rattle.mq_end.specs.Ready.{HasRise, HasRoom};
 ghost use Rattle.mq_packet.specs.declared.connect.Connect.{Connect};
 ghost use Rattle.mq_packet.specs.declared.message.Message.{Message};
 ghost use Rattle.mq_hub.specs.Calls.{IsAllowed, Serves};
+ghost use Rattle.mq_hub.specs.Collecting.{Collects};
 ghost use Rattle.mq_hub.specs.Leaving.{parted};
 ghost use Rattle.mq_hub.specs.Placing.{published, IsReady, Readies};
 ghost use Rattle.mq_hub.specs.Rising.{left, risen};
 
 use crate::call::{Call, serve};
 use crate::greeted::rise;
+use bytes::Bytes;
 use mq_end::{ByteQueue, Outcome, PublishRefusal, ServerEnd};
 use mq_flow::next_laws;
 use mq_packet::{BoxedConnect, Connect, Message, spelling_laws};
@@ -95,6 +97,15 @@ impl Seat {
         tenant.end.ready(messages, more)
     }
 
+    /// The bytes that wait in its end are taken, and none is copied. Out of memory they stay.
+    pub(crate) fn collect(&mut self) -> Result<Bytes, AllocError>
+        ensures end { Collects result self.old.end self.new.end }
+        ensures tenant { self.new ≡ record self.old { end = self.new.end } }
+    {
+        let tenant = &mut *self.tenant;
+        collect_from(&mut tenant.end)
+    }
+
     /// Its end loses its connection (3.1.2.4); the bytes that waited are exchanged for others, which are let go.
     pub(crate) fn part(&mut self, output: &mut ByteQueue)
         ensures tenant { self.new ≡ record self.old { end = parted self.old.end } }
@@ -162,6 +173,23 @@ impl Seat {
     {
         let tenant = &mut *self.tenant;
         rise(&mut tenant.end, connect, now);
+    }
+}
+
+// The bytes that wait in an end are taken, and none is copied. Out of memory they stay.
+fn collect_from(end: &mut ServerEnd) -> Result<Bytes, AllocError>
+    ensures { Collects result end.old end.new }
+{
+    if end.output().is_empty() {
+        return Ok(Bytes::new());
+    }
+    let mut output = end.take_all_output();
+    match output.take_bytes() {
+        Ok(bytes) => Ok(bytes),
+        Err(error) => {
+            end.swap_output(&mut output);
+            Err(error)
+        }
     }
 }
 

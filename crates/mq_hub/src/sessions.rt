@@ -9,13 +9,15 @@ ghost use Rattle.mq_route.specs.Hub.{key_of};
 ghost use Rattle.mq_packet.specs.declared.connect.Connect.{Connect};
 ghost use Rattle.mq_packet.specs.declared.message.Message.{Message};
 ghost use Rattle.mq_hub.specs.Calls.{CanServe, ServesAt};
+ghost use Rattle.mq_hub.specs.Collecting.{CollectsAt};
 ghost use Rattle.mq_hub.specs.Leaving.{parted};
 ghost use Rattle.mq_hub.specs.Placing.{placed_at, AreSameButRoom, AreStillReady, IsReadyAt, ReadiesAt};
 ghost use Rattle.mq_hub.specs.Rising.{left, risen, HasRiseAt, IsEnlarged};
-ghost use Rattle.mq_hub.specs.Sessions.{drained, sessions_of, tenant_of, with_server, without_tenant, AreBelow, AreAscending};
+ghost use Rattle.mq_hub.specs.Sessions.{sessions_of, tenant_of, with_server, without_tenant, AreBelow, AreAscending};
 
 use crate::call::Call;
 use crate::session::{Seat, Tenant};
+use bytes::Bytes;
 use mq_end::{ByteQueue, Outcome, PublishRefusal, ServerEnd};
 use mq_packet::{BoxedConnect, Connect, Message};
 use mq_topic::ClientKey;
@@ -218,18 +220,6 @@ impl Sessions {
         swap_at(self.tenants.as_mut_slice(), key, end);
     }
 
-    /// The bytes that wait in the end of the session of a key are taken; `blank` is put in its place for that while. It takes no memory.
-    pub(crate) fn drain(&mut self, key: ClientKey, blank: ServerEnd)
-        requires { IsSome (tenant_of key self.old.tenants) }
-        ensures tenants { IfSome (tenant_of key self.old.tenants) (λ t. self.new.tenants ≡ with_server key (drained t.end) self.old.tenants) }
-        ensures room { self.new.room ≡ self.old.room }
-    {
-        let mut end = blank;
-        self.swap_end(key, &mut end);
-        let _ = end.take_all_output();
-        self.swap_end(key, &mut end);
-    }
-
     /// The end of the session of a key loses its connection (3.1.2.4); the bytes that waited are exchanged for others, which are let go.
     /// It takes no memory.
     pub(crate) fn part(&mut self, key: ClientKey, output: &mut ByteQueue)
@@ -251,6 +241,27 @@ impl Sessions {
         let tenant = take_at(&mut self.tenants, key)?;
         drop_key(&mut self.keys, &tenant.client);
         Some(tenant)
+    }
+}
+
+// The bytes that wait in the end of the session of a key are taken, and none is copied.
+fn collect_at(tenants: &mut [Seat], key: ClientKey) -> Result<Bytes, AllocError>
+    requires ascending { AreAscending tenants.old }
+    requires there { IsSome (tenant_of key tenants.old) }
+    ensures { CollectsAt key result tenants.old tenants.new }
+{
+    let at = place(tenants, key);
+    tenants[at].collect()
+}
+
+impl Sessions {
+    /// The bytes that wait in the end of the session of a key are taken, and none is copied. Out of memory they stay.
+    pub(crate) fn collect(&mut self, key: ClientKey) -> Result<Bytes, AllocError>
+        requires { IsSome (tenant_of key self.old.tenants) }
+        ensures collects { CollectsAt key result self.old.tenants self.new.tenants }
+        ensures room { self.new.room ≡ self.old.room }
+    {
+        collect_at(self.tenants.as_mut_slice(), key)
     }
 }
 

@@ -1,19 +1,20 @@
 //! The tables of a broker.
 
-ghost use Rattle.std.specs.Prelude.{◌≡◌, ◌≤◌, ℕ, List, Some, None, [], ◌∷◌, ◌++◌, true, false, OnOk, OnErr, IsSome, IfSome};
+ghost use Rattle.std.specs.Prelude.{◌≡◌, ◌≤◌, ℕ, List, Some, None, [], ◌∷◌, ◌++◌, true, false, OnOk, OnErr, IfOk, IsSome, IfSome};
 ghost use Rattle.mq_route.specs.Hub.{held_on, is_open, key_of, key_on, knows, stage_of, waiting_on, with_line, without_line};
+ghost use Rattle.mq_hub.specs.Collecting.{CollectsAt};
 ghost use Rattle.mq_hub.specs.Coming.{hears, holds};
 ghost use Rattle.mq_hub.specs.Leaving.{left_with, parted};
-ghost use Rattle.mq_hub.specs.Seen.{all_seen};
-ghost use Rattle.mq_hub.specs.Sessions.{drained, sessions_of, tenant_of, with_server, without_tenant};
+ghost use Rattle.mq_hub.specs.Sessions.{sessions_of, tenant_of, with_server, without_tenant};
 ghost use Rattle.mq_topic.specs.Rows.{without_client};
 
 use crate::connection::BoxedConnection;
 use crate::lines::Lines;
 use crate::retained::Retained;
 use crate::sessions::Sessions;
+use bytes::Bytes;
 use mq_decode::{Decoder, Limits};
-use mq_end::{ByteQueue, ServerEnd};
+use mq_end::ByteQueue;
 use mq_route::{Conn, Stage};
 use mq_topic::{ClientKey, FilterStore};
 use std::alloc::{AllocError, Global};
@@ -73,22 +74,6 @@ impl<S: FilterStore> Tables<S> {
         Ok(())
     }
 
-    /// The bytes that wait on a connection.
-    pub(crate) fn output(&self, conn: Conn) -> &[u8]
-        ensures { result.now ≡ waiting_on conn (all_seen self.now.sessions.tenants self.now.lines.lines) }
-    {
-        match self.lines.key(conn) {
-            Some(key) => match self.sessions.get(key) {
-                Some(tenant) => tenant.end.output(),
-                None => &[],
-            },
-            None => match self.lines.waiting(conn) {
-                Some(queue) => queue.as_slice(),
-                None => &[],
-            },
-        }
-    }
-
     /// The key of the session for which a connection is up.
     pub(crate) fn key(&self, conn: Conn) -> Option<ClientKey>
         ensures { result ≡ key_on (stage_of conn self.now.lines.lines) }
@@ -106,25 +91,25 @@ impl<S: FilterStore> Tables<S> {
         }
     }
 
-    /// The bytes that wait in the end of a session are taken; `blank` is put in its place for that while. It takes no memory.
-    pub(crate) fn drain(&mut self, key: ClientKey, blank: ServerEnd)
+    /// The bytes that wait in the end of a session are taken, and none is copied. Out of memory they stay.
+    pub(crate) fn collect_up(&mut self, key: ClientKey) -> Result<Bytes, AllocError>
         requires { IsSome (tenant_of key self.old.sessions.tenants) }
-        ensures tenants { IfSome (tenant_of key self.old.sessions.tenants) (λ t.
-            self.new.sessions.tenants ≡ with_server key (drained t.end) self.old.sessions.tenants) }
+        ensures collects { CollectsAt key result self.old.sessions.tenants self.new.sessions.tenants }
         ensures rest { self.new ≡ record self.old { sessions = self.new.sessions } }
     {
-        self.sessions.drain(key, blank);
+        self.sessions.collect(key)
     }
 
-    /// The bytes that wait on a connection while it isn't up are taken. It takes no memory.
-    pub(crate) fn empty(&mut self, alloc: Global, conn: Conn)
+    /// The bytes that wait on a connection while it isn't up are taken, and none is copied. Out of memory they stay.
+    pub(crate) fn collect_own(&mut self, conn: Conn) -> Result<Bytes, AllocError>
         requires { knows conn self.old.lines.lines ≡ true }
-        ensures lines { self.new.lines.lines ≡ with_line (λ x. record x { waiting = [] }) conn self.old.lines.lines }
+        ensures bytes { IfOk result (λ b. b ≡ waiting_on conn self.old.lines.lines) }
+        ensures taken { OnOk result (self.new.lines.lines ≡ with_line (λ x. record x { waiting = [] }) conn self.old.lines.lines) }
+        ensures err { OnErr result (self.new.lines.lines ≡ self.old.lines.lines) }
         ensures limits { self.new.lines.limits ≡ self.old.lines.limits }
         ensures rest { self.new ≡ record self.old { lines = self.new.lines } }
     {
-        let mut none = ByteQueue::new(alloc);
-        self.lines.swap_waiting(conn, &mut none);
+        self.lines.collect(conn)
     }
 
     /// A connection is closed: what it holds of a packet is gone, what waits stays (4.8). It takes no memory.

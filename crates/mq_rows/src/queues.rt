@@ -45,11 +45,18 @@ fn waiting(queue: &ByteQueue, words: &mut Words<'_>) -> Result<usize, Wrong>
     Ok(count)
 }
 
-/// Does an act, which tells nothing.
-pub(crate) fn act(
+// `give`: all bytes are given away, and told.
+fn give(queue: &mut ByteQueue, told: &mut String) -> Result<(), Wrong> {
+    let bytes = queue.take_bytes()?;
+    Ok(add_word(told, bytes.as_slice())?)
+}
+
+/// Does an act, and adds what it tells.
+pub(crate) fn tell(
     alloc: Global,
     queue: &mut ByteQueue,
     words: &mut Words<'_>,
+    told: &mut String,
 ) -> Result<(), Wrong> {
     match words.word()? {
         "append" => append(alloc, queue, words)?,
@@ -58,6 +65,7 @@ pub(crate) fn act(
         "take" => queue.take(waiting(queue, words)?),
         "truncate" => queue.truncate(waiting(queue, words)?),
         "clear" => queue.clear(),
+        "give" => give(queue, told)?,
         _ => return Err(Wrong::Words),
     }
     Ok(())

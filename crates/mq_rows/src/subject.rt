@@ -119,7 +119,7 @@ impl Subject {
             Subject::Form(form) => forms::tell(alloc, form.as_slice(), words, told),
             Subject::Client(client) => clients::tell(alloc, client, moment, words, told),
             Subject::Server(server) => servers::tell(alloc, server, moment, words, told),
-            Subject::Queue(queue) => queues::act(alloc, queue, words),
+            Subject::Queue(queue) => queues::tell(alloc, queue, words, told),
         }
     }
 
