@@ -56,24 +56,54 @@ fn weighed(word: &str) -> Option<Filters> {
     Some(*filters)
 }
 
-/// Names each subject and says what it is.
-fn list(rt: &impl Print) -> anyhow::Result<()> {
+/// What stands behind the words that stand alone, but for the stores.
+const EXPLAINED: [(&str, &str); 5] = [
+    (replays::NAME, replays::EXPLANATION),
+    (in_flight::NAME, in_flight::EXPLANATION),
+    (broker::NAME, broker::EXPLANATION),
+    (seats::NAME, seats::EXPLANATION),
+    (ends::NAME, ends::EXPLANATION),
+];
+
+/// Names each stream and says what it is.
+fn list_streams(rt: &impl Print) -> anyhow::Result<()> {
     for subject in Subject::ALL {
         println!(rt; "{:<14} {}", subject.name(), subject.explanation())?;
     }
+    Ok(())
+}
+
+/// Names what is measured of stores, and says what it is.
+fn list_stores(rt: &impl Print) -> anyhow::Result<()> {
     println!(rt; "{:<14} {}", topics::NAME, topics::EXPLANATION)?;
     for (name, filters) in WEIGHED {
         println!(rt; "{name:<14} the memory of a store of 1,000,000 rows, {filters}")?;
     }
-    println!(rt; "{:<14} {}", replays::NAME, replays::EXPLANATION)?;
-    println!(rt; "{:<14} {}", in_flight::NAME, in_flight::EXPLANATION)?;
-    println!(rt; "{:<14} {}", broker::NAME, broker::EXPLANATION)?;
-    println!(rt; "{:<14} {}", seats::NAME, seats::EXPLANATION)?;
-    println!(rt; "{:<14} {}", ends::NAME, ends::EXPLANATION)?;
+    Ok(())
+}
+
+/// Names what is measured of whole works, and says what it is.
+fn list_works(rt: &impl Print) -> anyhow::Result<()> {
+    for (name, explanation) in EXPLAINED {
+        println!(rt; "{name:<14} {explanation}")?;
+    }
+    Ok(())
+}
+
+/// Names what any bytes come to, and says how many pieces.
+fn list_hostile(rt: &impl Print) -> anyhow::Result<()> {
     for (name, count) in hostile::WORDS {
         println!(rt; "{name:<14} {count} pieces of any bytes to decoders, ends and a broker")?;
     }
     Ok(())
+}
+
+/// Names each thing that can be measured, and says what it is.
+fn list(rt: &impl Print) -> anyhow::Result<()> {
+    list_streams(rt)?;
+    list_stores(rt)?;
+    list_works(rt)?;
+    list_hostile(rt)
 }
 
 /// Whether a word names what can be measured.
@@ -101,29 +131,44 @@ fn measure_other<R: Files + AllocGlobal + Print + Clock>(rt: &R, word: &str) -> 
     }
 }
 
-fn main(rt: HostRuntime) -> anyhow::Result<ExitCode> {
+/// Measures what a word names.
+fn measure_word<R: Files + AllocGlobal + Print + Clock>(rt: &R, word: &str) -> anyhow::Result<()> {
     let alloc = rt.alloc();
+    if let Some(subject) = Subject::named(word) {
+        return measure::measure(rt, alloc, subject);
+    }
+    match word {
+        topics::NAME => topics::measure(rt, alloc),
+        replays::NAME => replays::measure(rt, alloc),
+        in_flight::NAME => in_flight::measure(rt, alloc),
+        broker::NAME => broker::measure(rt, alloc),
+        seats::NAME => seats::measure(rt),
+        ends::NAME => ends::measure(rt),
+        _ => measure_other(rt, word),
+    }
+}
+
+/// Measures what the words name, one after another, unless one of them names nothing.
+fn perform<R: Files + AllocGlobal + Print + Eprint + Clock>(
+    rt: &R,
+    words: &[String],
+) -> anyhow::Result<ExitCode> {
+    if words.is_empty() {
+        list(rt)?;
+    }
+    if let Some(word) = words.iter().find(|word| !is_known(word)) {
+        return refuse(rt, word.as_str());
+    }
+    for word in words {
+        measure_word(rt, word.as_str())?;
+    }
+    Ok(ExitCode::SUCCESS)
+}
+
+fn main(rt: HostRuntime) -> anyhow::Result<ExitCode> {
     let words: Vec<String> = env::args(&rt)
         .context("reading the words")?
         .skip(1)
-        .collect(alloc)?;
-    if words.is_empty() {
-        list(&rt)?;
-    }
-    if let Some(word) = words.iter().find(|word| !is_known(word)) {
-        return refuse(&rt, word.as_str());
-    }
-    for word in &words {
-        match Subject::named(word.as_str()) {
-            Some(subject) => measure::measure(&rt, alloc, subject)?,
-            None if word.as_str() == topics::NAME => topics::measure(&rt, alloc)?,
-            None if word.as_str() == replays::NAME => replays::measure(&rt, alloc)?,
-            None if word.as_str() == in_flight::NAME => in_flight::measure(&rt, alloc)?,
-            None if word.as_str() == broker::NAME => broker::measure(&rt, alloc)?,
-            None if word.as_str() == seats::NAME => seats::measure(&rt)?,
-            None if word.as_str() == ends::NAME => ends::measure(&rt)?,
-            None => measure_other(&rt, word.as_str())?,
-        }
-    }
-    Ok(ExitCode::SUCCESS)
+        .collect(rt.alloc())?;
+    perform(&rt, words.as_slice())
 }

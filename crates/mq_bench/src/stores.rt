@@ -214,20 +214,20 @@ fn rows_of(filters: Filters, clients: u32, rows: u32) -> u32 {
 
 /// Measures a store without rows, `named` so, as it gets so many rows, is asked about few names often and about many names, and
 /// loses clients, and prints the nanoseconds of each.
-pub(crate) fn measure<S: FilterStore + Drop>(
+pub(crate) fn measure<S: FilterStore>(
     rt: &(impl Print + Clock),
     alloc: Global,
     named: &str,
-    mut store: S,
+    store: &mut S,
     filters: Filters,
     rows: u32,
     asked: [Asked; 2],
 ) -> anyhow::Result<()> {
-    let set = fill(rt, alloc, &mut store, filters, rows)? / u64::from(rows).max(1);
-    let few = matching(rt, alloc, &store, filters, rows, asked[0])?;
-    let many = matching(rt, alloc, &store, filters, rows, asked[1])?;
+    let set = fill(rt, alloc, store, filters, rows)? / u64::from(rows).max(1);
+    let few = matching(rt, alloc, store, filters, rows, asked[0])?;
+    let many = matching(rt, alloc, store, filters, rows, asked[1])?;
     let gone = u64::from(rows_of(filters, LEAVING, rows)).max(1);
-    let removal = time_removal(rt, &mut store, LEAVING)? / gone;
+    let removal = time_removal(rt, store, LEAVING)? / gone;
     println!(rt;
         "topics: {named}, {rows} rows, {filters}: set {set} ns, matching {few} ns, of many names {many} ns, removal {removal} ns a row"
     )?;
@@ -235,15 +235,15 @@ pub(crate) fn measure<S: FilterStore + Drop>(
 }
 
 /// Fills a store, and prints how many bytes a row takes. The program has to be a new one, which has freed nothing yet.
-pub(crate) fn weigh<R: Files + AllocGlobal + Print + Clock, S: FilterStore + Drop>(
+pub(crate) fn weigh<R: Files + AllocGlobal + Print + Clock, S: FilterStore>(
     rt: &R,
     named: &str,
-    mut store: S,
+    store: &mut S,
     filters: Filters,
     rows: u32,
 ) -> anyhow::Result<()> {
     let before = resident(rt)?;
-    fill(rt, rt.alloc(), &mut store, filters, rows)?;
+    fill(rt, rt.alloc(), store, filters, rows)?;
     let bytes = resident(rt)?.saturating_sub(before) / u64::from(rows).max(1);
     println!(rt; "topics: {named}, {rows} rows, {filters}: {bytes} bytes a row")?;
     Ok(())

@@ -95,16 +95,36 @@ fn time_matches(rt: &impl Clock, filter: &TopicFilter, names: &[TopicName]) -> a
     Ok(u64::try_from(time.as_nanos()).unwrap_or(u64::MAX))
 }
 
+/// Measures a plain store of so many rows.
+fn measure_list(
+    rt: &(impl Print + Clock),
+    alloc: Global,
+    filters: Filters,
+    rows: u32,
+) -> anyhow::Result<()> {
+    let mut store = ListStore::new(alloc);
+    stores::measure(rt, alloc, "list", &mut store, filters, rows, LIST_ASKED)
+}
+
+/// Measures a trie of so many rows.
+fn measure_trie(
+    rt: &(impl Print + Clock),
+    alloc: Global,
+    filters: Filters,
+    rows: u32,
+) -> anyhow::Result<()> {
+    let mut store = TrieStore::new(alloc);
+    stores::measure(rt, alloc, "trie", &mut store, filters, rows, TRIE_ASKED)
+}
+
 /// Measures stores of so many rows of each kind, and prints how long each call takes.
 fn measure_stores(rt: &(impl Print + Clock), alloc: Global) -> anyhow::Result<()> {
     for filters in Filters::ALL {
         for rows in LIST_ROWS {
-            let store = ListStore::new(alloc);
-            stores::measure(rt, alloc, "list", store, filters, rows, LIST_ASKED)?;
+            measure_list(rt, alloc, filters, rows)?;
         }
         for rows in TRIE_ROWS {
-            let store = TrieStore::new(alloc);
-            stores::measure(rt, alloc, "trie", store, filters, rows, TRIE_ASKED)?;
+            measure_trie(rt, alloc, filters, rows)?;
         }
     }
     Ok(())
@@ -115,7 +135,8 @@ pub(crate) fn weigh<R: Files + AllocGlobal + Print + Clock>(
     rt: &R,
     filters: Filters,
 ) -> anyhow::Result<()> {
-    stores::weigh(rt, "trie", TrieStore::new(rt.alloc()), filters, WEIGHED)
+    let mut store = TrieStore::new(rt.alloc());
+    stores::weigh(rt, "trie", &mut store, filters, WEIGHED)
 }
 
 /// Measures the matching of a filter, and stores, and prints what each takes.

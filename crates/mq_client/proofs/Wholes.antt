@@ -1,5 +1,5 @@
 -- The programs whole.
-use Rattle.std.proofs.Common.{◌≡◌, ℕ, Bool, true, List, Option, Result, Ok, Err, IfOk, OnOk, inl, subst, sym}
+use Rattle.std.proofs.Common.{◌≡◌, ℕ, Bool, true, List, Option, Result, Ok, Err, IfOk, OnOk, inl, inr, subst, sym}
 use Rattle.std.specs.Io.KnownBytes.{Appends}
 use Rattle.mq_line.specs.Lines.{Prints}
 use Rattle.mq_end.specs.Publishing.{ClientState}
@@ -7,7 +7,7 @@ use Rattle.mq_client.specs.declared.collecting.Wish.{Wish}
 use Rattle.mq_client.specs.declared.publishing.Texts.{Texts}
 use Rattle.mq_client.specs.Course.{Moment}
 use Rattle.mq_client.specs.Program.{IsNewClient}
-use Rattle.mq_client.specs.Programs.{IsClientOf, IsMessagesDone, IsSessionDone, IsTextsDone}
+use Rattle.mq_client.specs.Programs.{IsClientOf, IsKeptDone, IsMessagesDone, IsSessionDone, IsTextsDone}
 use Rattle.mq_client.specs.Publishing.{IsPublishDone, IsResumeDone}
 use Rattle.mq_client.specs.Collecting.{IsCollectDone}
 
@@ -27,7 +27,19 @@ pub messages_done : {E : Type 0} → (r : Result ℕ E) (id : List ℕ) (clean :
 messages_done (Ok status) id clean wish a b w v new p = (p.0, p.1, inl (a, b, new, p.2))
 messages_done (Err e) id clean wish a b w v new p = tt
 
-pub session_done : {E : Type 0} → (r : Result ℕ E) (id : List ℕ) (t : Texts) (client : ClientState) (a b : Moment) (w v : Option (List ℕ)) → IsClientOf id client → a.client ≡ client
-    → IfOk r (λ status. Prints w v (IsResumeDone a b t status)) → IfOk r (λ status. Prints w v (IsSessionDone id t status))
-session_done (Ok status) id t client a b w v own same p = (p.0, p.1, inl (a, b, subst (IsClientOf id) (sym same) own, p.2))
-session_done (Err e) id t client a b w v own same p = tt
+pub kept_done : {E : Type 0} → (r : Result ℕ E) (client : ClientState) (t : Texts) (a b : Moment) (w v : Option (List ℕ)) → a.client ≡ client
+    → IfOk r (λ status. Prints w v (IsResumeDone a b t status)) → IfOk r (λ status. Prints w v (IsKeptDone client t status))
+kept_done (Ok status) client t a b w v same p = (p.0, p.1, inl (a, b, same, p.2))
+kept_done (Err e) client t a b w v same p = tt
+
+pub session_done : {E : Type 0} → (r : Result ℕ E) (id : List ℕ) (client : ClientState) (t : Texts) (w v : Option (List ℕ)) → IsClientOf id client
+    → IfOk r (λ status. Prints w v (IsKeptDone client t status)) → IfOk r (λ status. Prints w v (IsSessionDone id t status))
+session_done (Ok status) id client t w v own p = (
+  p.0,
+  p.1,
+  elim p.2 [
+    | inl x ↦ inl (x.0, x.1, subst (IsClientOf id) (sym x.2) own, x.3)
+    | inr halts ↦ inr (inl halts)
+  ],
+)
+session_done (Err e) id client t w v own p = tt

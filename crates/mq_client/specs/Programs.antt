@@ -32,7 +32,11 @@ IsClientOf id c = IsNewClient id c ⊎ ((bytes : List ℕ) × GoesOn id bytes c)
 abbrev pub IsUnloaded : ℕ → List ℕ → Type 0
 IsUnloaded status text = (why : Unloaded) × (status ≡ unloaded_status why) × (text ≡ unloaded_line why)
 
--- `publish` by such a client, over its session
+-- `publish` by this client, over its session
+abbrev pub IsKeptDone : ClientState → Texts → ℕ → List ℕ → Type 0
+IsKeptDone client t status text = ((a : Moment) × (b : Moment) × (a.client ≡ client) × IsResumeDone a b t status text) ⊎ HaltsBefore status text
+
+-- `publish` by a client of this identifier, over its session
 abbrev pub IsSessionDone : List ℕ → Texts → ℕ → List ℕ → Type 0
 IsSessionDone id t status text =
     ((a : Moment) × (b : Moment) × IsClientOf id a.client × IsResumeDone a b t status text) ⊎ (HaltsBefore status text ⊎ IsUnloaded status text)

@@ -3,7 +3,7 @@
 ghost use Rattle.std.specs.Prelude.{◌≡◌, IfOk};
 ghost use Rattle.mq_line.specs.Lines.{Prints};
 ghost use Rattle.mq_client.specs.Program.{IsNewClient};
-ghost use Rattle.mq_client.specs.Programs.{IsClientOf, IsMessagesDone, IsSessionDone, IsTextsDone};
+ghost use Rattle.mq_client.specs.Programs.{IsClientOf, IsKeptDone, IsMessagesDone, IsSessionDone, IsTextsDone};
 
 use crate::collecting::{Wish, collect};
 use crate::dial::Dial;
@@ -154,6 +154,25 @@ fn kept_client<'a, S: Stream, C: Clock, D: Dial<S, C>, R: Files>(
     connected(client, dialer, Stored { alloc, store })
 }
 
+// Publishes texts over the session of a client, which stands in a file, at a connection that is made for it.
+fn publish_kept<S: Stream + Drop, C: Clock + Drop, D: Dial<S, C>, R: Files, W: Write>(
+    alloc: Global,
+    client: ClientEnd,
+    texts: &Texts<'_>,
+    files: &R,
+    name: &str,
+    dialer: &mut D,
+    output: &mut W,
+) -> io::Result<u8>
+    ensures { IfOk result (λ status. Prints (W.contents output.old) (W.contents output.new)
+        (IsKeptDone client texts.now status)) }
+{
+    match kept_client(alloc, client, files, name, dialer) {
+        Ok(mut peer) => resume(alloc, &mut peer, texts, output),
+        Err(halt) => write_halt(output, halt),
+    }
+}
+
 /// Publishes texts over a session that stands in a file, as `resume` does. Where there is no file of this name, a connection with a clean
 /// session is made first, and left, so that both sessions begin empty; the file is first written after that.
 pub fn publish_session<S: Stream + Drop, C: Clock + Drop, D: Dial<S, C>, R: Files, W: Write>(
@@ -168,13 +187,9 @@ pub fn publish_session<S: Stream + Drop, C: Clock + Drop, D: Dial<S, C>, R: File
     ensures { IfOk result (λ status. Prints (W.contents output.old) (W.contents output.new)
         (IsSessionDone id.now texts.now status)) }
 {
-    let client = match client_of(alloc, id, texts, files, name, dialer) {
-        Ok(client) => client,
-        Err(Unstarted::Unloaded(why)) => return write_unloaded(output, why),
-        Err(Unstarted::Halted(halt)) => return write_halt(output, halt),
-    };
-    match kept_client(alloc, client, files, name, dialer) {
-        Ok(mut peer) => resume(alloc, &mut peer, texts, output),
-        Err(halt) => write_halt(output, halt),
+    match client_of(alloc, id, texts, files, name, dialer) {
+        Ok(client) => publish_kept(alloc, client, texts, files, name, dialer, output),
+        Err(Unstarted::Unloaded(why)) => write_unloaded(output, why),
+        Err(Unstarted::Halted(halt)) => write_halt(output, halt),
     }
 }

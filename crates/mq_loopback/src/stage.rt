@@ -142,33 +142,46 @@ where
     let cast = Cast::new(alloc, clients);
     let acts = cast.acts(streams)?;
     let (served, collected) = man_both(rt, &hall, stations, &cast, acts);
-    ended(hall, served, cast.into_fault(), collected)
+    ended(hall, served, collected_by(cast.into_fault(), collected))
+}
+
+// What the clients collected, or why they did not.
+fn collected_by(
+    fault: Option<Halt>,
+    collected: Result<Vec<Vec<Message>>, AllocError>,
+) -> Result<Vec<Vec<Message>>, PlayEnd> {
+    match fault {
+        Some(fault) => Err(PlayEnd::Client(fault)),
+        None => Ok(collected?),
+    }
 }
 
 // What is left of a broker and of clients that are done, or why there is nothing.
 fn ended<L: Ledger>(
     hall: Hall<L>,
     served: Result<Vec<Served<L>>, AllocError>,
-    fault: Option<Halt>,
-    collected: Result<Vec<Vec<Message>>, AllocError>,
+    collected: Result<Vec<Vec<Message>>, PlayEnd>,
 ) -> Result<Played, PlayEnd>
     requires all { IfOk served (λ s. vec_len s ≡ L.parts) }
     requires some { 0 < L.parts }
 {
     let closed = hall.close(served?)?;
-    match fault {
-        Some(fault) => Err(PlayEnd::Client(fault)),
-        None => Ok(leave(closed, collected?)),
-    }
+    left(closed, collected)
 }
 
-// What a broker leaves, and what was collected.
-fn leave<L: Ledger>(closed: Closed<L>, collected: Vec<Vec<Message>>) -> Played {
+// What a broker leaves, and what was collected, or why nothing was.
+fn left<L: Ledger>(
+    closed: Closed<L>,
+    collected: Result<Vec<Vec<Message>>, PlayEnd>,
+) -> Result<Played, PlayEnd> {
     let Closed { mut book, receipts } = closed;
-    Played {
-        collected,
-        journal: book.checkpoint(),
-        receipts,
+    match collected {
+        Ok(collected) => Ok(Played {
+            collected,
+            journal: book.checkpoint(),
+            receipts,
+        }),
+        Err(end) => Err(end),
     }
 }
 

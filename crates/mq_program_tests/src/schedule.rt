@@ -153,7 +153,7 @@ fn bad_step(alloc: Global, step: &str) -> Result<Option<usize>, AllocError> {
 #[test]
 fn reads_steps(rt: HostRuntime) -> Result<(), Fail> {
     let alloc = rt.alloc();
-    for step in GOOD {
+    for step in &GOOD {
         assert_eq!(rt; bad_step(alloc, step)?, Some(0), "{step}");
     }
     Ok(())
@@ -162,7 +162,7 @@ fn reads_steps(rt: HostRuntime) -> Result<(), Fail> {
 #[test]
 fn refuses_what_is_no_step(rt: HostRuntime) -> Result<(), Fail> {
     let alloc = rt.alloc();
-    for step in BAD {
+    for step in &BAD {
         assert_eq!(rt; bad_step(alloc, step)?, Some(2), "{step}");
     }
     Ok(())

@@ -1,5 +1,7 @@
 //! Client ends: what each call tells, and what they put out.
 
+ghost use Rattle.std.specs.Prelude.{◌≡◌, IfOk, None};
+
 use crate::brief::{
     add_asked, add_done, add_late, add_progress, add_published, add_session, add_state,
 };
@@ -16,7 +18,9 @@ use mq_wire::Text;
 use std::alloc::Global;
 
 // What the user of the client `w` says of it, with a keep-alive of 60 seconds: `ROOM LIMIT`.
-fn config(alloc: Global, words: &mut Words<'_>) -> Result<ClientConfig, Wrong> {
+fn config(alloc: Global, words: &mut Words<'_>) -> Result<ClientConfig, Wrong>
+    ensures { IfOk result (λ config. config.window ≡ None) }
+{
     let capacity = words.short()?;
     let limits = words.limits()?;
     Ok(ClientConfig {
@@ -33,7 +37,7 @@ fn config(alloc: Global, words: &mut Words<'_>) -> Result<ClientConfig, Wrong> {
 /// `new client ROOM LIMIT`.
 pub(crate) fn new_client(alloc: Global, words: &mut Words<'_>) -> Result<ClientEnd, Wrong> {
     let config = config(alloc, words)?;
-    if config.capacity == 0 || config.window.is_some() {
+    if config.capacity == 0 {
         return Err(Wrong::Words);
     }
     Ok(ClientEnd::new(alloc, config))
@@ -60,15 +64,9 @@ fn save(alloc: Global, client: &ClientEnd, told: &mut String) -> Result<(), Wron
 }
 
 // Adds what the client saves that goes on with a saved session, or why it doesn't go on with it.
-fn go_on(
-    alloc: Global,
-    config: ClientConfig,
-    saved: Saved,
-    told: &mut String,
-) -> Result<(), Wrong> {
-    if config.window.is_some() {
-        return Err(Wrong::Words);
-    }
+fn go_on(alloc: Global, config: ClientConfig, saved: Saved, told: &mut String) -> Result<(), Wrong>
+    requires { config.window ≡ None }
+{
     match ClientEnd::with_saved(alloc, config, saved) {
         Ok(client) => save(alloc, &client, told),
         Err(why) => Ok(write!(told, "{why:?}")?),

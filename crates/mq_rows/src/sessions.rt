@@ -1,5 +1,8 @@
 //! Sessions: what each call on their books answers, and what the books are then.
 
+ghost use Rattle.std.specs.Prelude.{◌≡◌, IfOk, OnOk};
+ghost use Rattle.mq_topic.specs.declared.qos.Qos.TheVariants.{Q0};
+
 use crate::values::{add_hex, bytes_of, message};
 use crate::words::Words;
 use crate::wrong::Wrong;
@@ -124,6 +127,17 @@ fn add_received(
     Ok(())
 }
 
+// A message that a PUBLISH of this quality of service, 1 or 2, carries.
+fn received_message(alloc: Global, qos: Qos) -> Result<Message, Wrong>
+    ensures own { IfOk result (λ message. qos ≡ message.qos) }
+    ensures acknowledged { OnOk result (qos ≡ Q0 → ⊥) }
+{
+    if qos == Qos::Q0 {
+        return Err(Wrong::Words);
+    }
+    message(alloc, "t", qos, vec![in alloc; b'x']?)
+}
+
 // `receive ID QOS`: a message comes.
 fn receive(
     alloc: Global,
@@ -133,10 +147,7 @@ fn receive(
 ) -> Result<(), Wrong> {
     let id = words.id()?;
     let qos = words.qos()?;
-    let message = message(alloc, "t", qos, vec![in alloc; b'x']?)?;
-    if message.qos != qos || qos == Qos::Q0 {
-        return Err(Wrong::Words);
-    }
+    let message = received_message(alloc, qos)?;
     let receiver = &mut books.session.receiver;
     add_received(told, &receiver.on_publish(id, qos, message, books.window))
 }

@@ -1,6 +1,6 @@
 //! Bytes and messages, made of words, and bytes as they are printed.
 
-ghost use Rattle.std.specs.Prelude.{◌<◌, IfOk};
+ghost use Rattle.std.specs.Prelude.{◌≡◌, ◌<◌, IfOk};
 
 use crate::words::Words;
 use crate::wrong::Wrong;
@@ -91,7 +91,9 @@ pub(crate) fn message(
     topic: &str,
     qos: Qos,
     payload: Vec<u8>,
-) -> Result<Message, Wrong> {
+) -> Result<Message, Wrong>
+    ensures { IfOk result (λ message. message.qos ≡ qos) }
+{
     let topic = TopicName::parse(alloc, topic).ok().ok_or(Wrong::Words)?;
     let payload = Payload::new(Bytes::from_vec(payload)?).ok_or(Wrong::Words)?;
     Ok(Message {

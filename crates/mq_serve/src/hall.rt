@@ -176,17 +176,10 @@ impl<L: Ledger> Hall<L> {
             gate,
             ..
         } = self;
-        if let Some(why) = first_stop(served.as_slice()) {
-            return Err(ServeEnd::from(why));
+        match stop_of(served.as_slice(), gate.into_inner().left()) {
+            Some(why) => Err(why),
+            None => Ok(gathered(alloc, shared, served)?),
         }
-        if gate.into_inner().left() > 0 {
-            return Err(ServeEnd::Net);
-        }
-        let (shares, receipts) = parted(alloc, served)?;
-        Ok(Closed {
-            book: gather(shares, shared),
-            receipts,
-        })
     }
 }
 
@@ -244,6 +237,34 @@ fn first_stop<L: Ledger>(served: &[Served<L>]) -> Option<WorkEnd> {
         }
     }
     None
+}
+
+// Why no whole book is left: a worker stopped, or so many connections were never taken.
+fn stop_of<L: Ledger>(served: &[Served<L>], left: u32) -> Option<ServeEnd> {
+    if let Some(why) = first_stop(served) {
+        return Some(ServeEnd::from(why));
+    }
+    if left > 0 {
+        return Some(ServeEnd::Net);
+    }
+    None
+}
+
+// The book, gathered from the shares that the workers hand back.
+fn gathered<L: Ledger>(
+    alloc: Global,
+    shared: SharedHub<L>,
+    served: Vec<Served<L>>,
+) -> Result<Closed<L>, AllocError>
+    requires all { vec_len served ≡ L.parts }
+    requires some { 0 < vec_len served }
+    ensures { IfOk result (λ c. c.book.first + length c.book.entries ≡ sum_by (λ s. s.share.count) served.items) }
+{
+    let (shares, receipts) = parted(alloc, served)?;
+    Ok(Closed {
+        book: gather(shares, shared),
+        receipts,
+    })
 }
 
 // The shares that the workers hand back, and their receipts.

@@ -4,7 +4,7 @@ use super::error_of;
 use clap::error::ErrorKind;
 use mq_cli::{Collect, Command, Publish, Serve, Source, WordsFault, command};
 use mq_topic::Qos;
-use std::alloc::Global;
+use std::alloc::{AllocError, Global};
 use std::test::Fail;
 
 static SERVED: [(&[&str], Serve); 3] = [
@@ -357,35 +357,50 @@ fn refuses_words_of_sockets(rt: HostRuntime) -> Result<(), Fail> {
     Ok(())
 }
 
+// What is wrong with words of `publish` that give this client identifier.
+fn error_of_publish(alloc: Global, id: &str) -> Option<ErrorKind> {
+    let start = [
+        "mqtt",
+        "publish",
+        "--port=1",
+        "--topic=t",
+        "--qos=1",
+        "x",
+        "--id",
+        id,
+    ];
+    error_of(alloc, &start)
+}
+
+// What is wrong with words of `collect` that give it.
+fn error_of_collect(alloc: Global, id: &str) -> Option<ErrorKind> {
+    let start = [
+        "mqtt",
+        "collect",
+        "--port=1",
+        "--filter=f",
+        "--qos=1",
+        "--count=1",
+        "--id",
+        id,
+    ];
+    error_of(alloc, &start)
+}
+
+// What is wrong with words of both that give one of so many bytes.
+fn errors_of_long_id(alloc: Global, size: usize) -> Result<[Option<ErrorKind>; 2], AllocError> {
+    let id = "a".repeat(alloc, size)?;
+    let id = id.as_str();
+    Ok([error_of_publish(alloc, id), error_of_collect(alloc, id)])
+}
+
 // A client identifier has 65,535 bytes at most (1.5.3).
 #[test]
 fn refuses_a_long_id(rt: HostRuntime) -> Result<(), Fail> {
     let alloc = rt.alloc();
-    for (size, kind) in [(65_535, None), (65_536, Some(ErrorKind::ValueValidation))] {
-        let id = "a".repeat(alloc, size)?;
-        let start = [
-            "mqtt",
-            "publish",
-            "--port=1",
-            "--topic=t",
-            "--qos=1",
-            "x",
-            "--id",
-            id.as_str(),
-        ];
-        assert_eq!(rt; error_of(alloc, &start), kind, "publish {size}");
-        let start = [
-            "mqtt",
-            "collect",
-            "--port=1",
-            "--filter=f",
-            "--qos=1",
-            "--count=1",
-            "--id",
-            id.as_str(),
-        ];
-        assert_eq!(rt; error_of(alloc, &start), kind, "collect {size}");
-    }
+    let refused = Some(ErrorKind::ValueValidation);
+    assert_eq!(rt; errors_of_long_id(alloc, 65_535)?, [None, None]);
+    assert_eq!(rt; errors_of_long_id(alloc, 65_536)?, [refused, refused]);
     Ok(())
 }
 

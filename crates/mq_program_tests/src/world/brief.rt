@@ -86,25 +86,31 @@ fn add_settling(text: &mut String, settling: &Settling) -> Result<(), AllocError
     write!(text, "; idle {}", settling.idle)
 }
 
-// An answer in short.
-pub(crate) fn told(alloc: Global, answer: &Answer) -> Result<String, AllocError> {
-    let mut text = String::new(alloc);
+// Appends an answer in short.
+fn add_answer(text: &mut String, answer: &Answer) -> Result<(), AllocError> {
     match answer {
         Answer::Published(_, Ok(Some(id))) => write!(text, "published {}", id.get())?,
         Answer::Published(_, Ok(None)) => text.push_str("published")?,
         Answer::Published(_, Err(why)) => write!(text, "refused {why:?}")?,
-        Answer::Delivered(delivery) => add_delivery(&mut text, delivery)?,
+        Answer::Delivered(delivery) => add_delivery(text, delivery)?,
         Answer::Dropped(_, was_open) => write!(text, "dropped {was_open}")?,
         Answer::Restarted(was_open, Ok(())) => write!(text, "restarted {was_open}")?,
         Answer::Restarted(_, Err(why)) => write!(text, "refused {why:?}")?,
         Answer::Left(Ok(())) => text.push_str("left")?,
         Answer::Left(Err(why)) => write!(text, "refused {why:?}")?,
-        Answer::Opened(opening) => add_opening(&mut text, *opening)?,
+        Answer::Opened(opening) => add_opening(text, *opening)?,
         Answer::Ticked(_, Ok(Some(closed))) => write!(text, "ticked, closed {closed:?}")?,
         Answer::Ticked(_, Ok(None)) => text.push_str("ticked")?,
         Answer::Ticked(_, Err(why)) => write!(text, "refused {why:?}")?,
-        Answer::Settled(settling) => add_settling(&mut text, settling)?,
+        Answer::Settled(settling) => add_settling(text, settling)?,
     }
+    Ok(())
+}
+
+// An answer in short.
+pub(crate) fn told(alloc: Global, answer: &Answer) -> Result<String, AllocError> {
+    let mut text = String::new(alloc);
+    add_answer(&mut text, answer)?;
     Ok(text)
 }
 
