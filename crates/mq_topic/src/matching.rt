@@ -7,14 +7,15 @@ ghost use Rattle.mq_topic.specs.Matching.{fits, fits_level, is_hash_alone, is_hi
 
 use crate::filter::TopicFilter;
 use crate::name::TopicName;
+use memchr::memchr;
 
 /// The first level of a text, and the text after it, which a last level has not.
 pub(crate) fn first_level(text: &str) -> (&str, Option<&str>)
     ensures levels { levels text.now ≡ result.0.now ∷ levels_left result.1 }
     ensures shorter { IfSome result.1 (λ after. length after.now < length text.now) }
 {
-    match text.split_once('/') {
-        Some((level, after)) => (level, Some(after)),
+    match memchr(b'/', text.as_bytes()) {
+        Some(end) => (&text[..end], Some(&text[end + 1..])),
         None => (text, None),
     }
 }
