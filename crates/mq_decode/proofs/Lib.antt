@@ -16,3 +16,4 @@ pub mod Waiting
 pub mod Wanting
 pub mod Filling
 pub mod Readers
+pub mod Sharing

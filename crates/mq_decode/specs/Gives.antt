@@ -1,5 +1,5 @@
 -- A reading gives a value, or the first field that is not of its kind.
-use Rattle.std.specs.Prelude.{◌≡◌, ℕ, ◌-◌, ◌≤◌, List, length, drop, Result, Ok, Err}
+use Rattle.std.specs.Prelude.{◌≡◌, ℕ, ◌-◌, ◌≤◌, List, length, take, drop, Result, Ok, Err}
 use Rattle.mq_decode.specs.declared.fault.BadField.{BadField}
 use Rattle.mq_decode.specs.declared.fault.FieldsError.{FieldsError}
 use Rattle.mq_decode.specs.declared.fault.FieldsError.TheVariants as errors
@@ -27,3 +27,7 @@ Gives view (Err e) read = Fails e read
 -- the bytes end with these
 abbrev pub EndsWith : List ℕ → List ℕ → Type 0
 EndsWith bytes rest = (length rest ≤ length bytes) × (drop (length bytes - length rest) bytes ≡ rest)
+
+-- the bytes begin with these
+abbrev pub BeginsWith : List ℕ → List ℕ → Type 0
+BeginsWith bytes front = take (length front) bytes ≡ front

@@ -64,7 +64,8 @@ impl Decoder {
     }
 
     /// Takes the next piece of the stream, and appends each packet that is whole now. Packets before
-    /// an error are appended and stand.
+    /// an error are appended and stand. Messages that lie whole in the piece share copies of its bytes, so one that is kept keeps up to
+    /// 4 KiB; `next_packet` gives each a block of its own.
     #[inline]
     pub fn feed(&mut self, piece: &[u8], out: &mut Vec<Packet>) -> Result<(), DecodeError>
         // The bytes held before and the piece are these packets, and what is held now.

@@ -98,7 +98,24 @@ impl<'a> PublishView<'a> {
         requires { IfSome whole (λ packet. EndsWith packet.now self.now.fields) }
         ensures { IfOk result (λ p. p ≡ self.now.publish) }
     {
-        let fields = shared_fields(alloc, whole, self.fields)?;
+        self.over(shared_fields(alloc, whole, self.fields)?)
+    }
+
+    /// A PUBLISH of its own, whose topic name and payload share the bytes of its packet, which the fields end. None is copied.
+    pub(crate) fn sharing(&self, packet: Bytes) -> Result<Publish, AllocError>
+        requires { EndsWith packet self.now.fields }
+        ensures { IfOk result (λ p. p ≡ self.now.publish) }
+    {
+        let mut fields = packet;
+        fields.advance(fields.len() - self.fields.len());
+        self.over(fields)
+    }
+
+    // The PUBLISH of these fields, which are its own.
+    fn over(&self, fields: Bytes) -> Result<Publish, AllocError>
+        requires { fields ≡ self.now.fields }
+        ensures { IfOk result (λ p. p ≡ self.now.publish) }
+    {
         let start = payload_start(&self.topic, self.delivery);
         let (topic, payload) = parts(fields, &self.topic, start)?;
         let message = Message {

@@ -3,7 +3,9 @@
 ghost use Rattle.std.specs.Prelude.{◌≡◌, ◌+◌, ◌<◌, ◌≤◌, ◌^◌, ◌++◌, [], ◌∷◌, length, take, drop, Err, IfOk, IfErr, IfNone, IfSome, IsTrue, OnOk};
 ghost use Rattle.mq_decode.specs.Copied.{Adds, Copies, counted_more, counted_next};
 ghost use Rattle.mq_decode.specs.Grammar.{Goes, IsFront, Pending, ReadsWithin, Stops, Wants};
-ghost use Rattle.mq_decode.specs.Views.{packet_of};
+ghost use Rattle.mq_packet.specs.declared.packet.Packet.TheVariants as packets;
+ghost use Rattle.mq_decode.specs.Gives.{BeginsWith, EndsWith};
+ghost use Rattle.mq_decode.specs.Views.{LiesAtEnd, packet_of};
 
 use crate::fault::DecodeError;
 use crate::front::{front, view};
@@ -11,10 +13,11 @@ use crate::header::header_at;
 use crate::held::Held;
 use crate::limits::Limits;
 use crate::packet_view::{PacketView, View};
+use crate::publish::PublishView;
 use bytes::Bytes;
-use mq_packet::Packet;
+use mq_packet::{Packet, Publish};
 use mq_wire::{length_laws, number_laws, text_laws};
-use std::alloc::Global;
+use std::alloc::{AllocError, Global};
 use std::mem;
 
 // Appends a packet. Where memory runs out the list is unchanged.
@@ -29,8 +32,53 @@ fn append(out: &mut Vec<Packet>, packet: Packet) -> Result<(), DecodeError>
     }
 }
 
-// Appends the packet that a view stands for. Where memory runs out the list is unchanged.
-fn append_owned(
+/// The most bytes of which messages of a piece share one copy; a longer packet has one of its own.
+const SHARED_COPY: usize = 4096;
+
+// How many bytes are copied for a packet of `size` bytes, and for those that follow it in `len` bytes: as many as
+// whole packets of this size take.
+fn copy_len(size: usize, len: usize) -> usize
+    requires { size ≤ len }
+    ensures whole { size ≤ result }
+    ensures within { result ≤ len }
+{
+    let many = SHARED_COPY - SHARED_COPY % size.max(1);
+    many.max(size).min(len)
+}
+
+// Sees to it that a copy of the front of all bytes has the first `size` of them: where it is shorter it is made anew.
+fn copy_front(alloc: Global, size: usize, bytes: &[u8], copy: &mut Bytes) -> Result<(), AllocError>
+    requires within { size ≤ length bytes.now }
+    requires copy { BeginsWith bytes.now copy.old }
+    ensures copy { OnOk result (BeginsWith bytes.now copy.new) }
+    ensures whole { OnOk result (size ≤ length copy.new) }
+{
+    if size <= copy.len() {
+        return Ok(());
+    }
+    let (front, _) = bytes.split_at(copy_len(size, bytes.len()));
+    *copy = Bytes::copy_from_slice(alloc, front)?;
+    Ok(())
+}
+
+// The first `size` bytes, out of a copy of the front of all bytes, of which the rest is left.
+fn share_front(
+    alloc: Global,
+    size: usize,
+    bytes: &[u8],
+    copy: &mut Bytes,
+) -> Result<Bytes, AllocError>
+    requires within { size ≤ length bytes.now }
+    requires copy { BeginsWith bytes.now copy.old }
+    ensures front { IfOk result (λ b. b ≡ take size bytes.now) }
+    ensures copy { OnOk result (BeginsWith (drop size bytes.now) copy.new) }
+{
+    copy_front(alloc, size, bytes, copy)?;
+    copy.split_to(size)
+}
+
+// Appends the packet that a view stands for, with bytes of its own. Where memory runs out the list is unchanged.
+fn append_alone(
     alloc: Global,
     packet: &PacketView<'_>,
     out: &mut Vec<Packet>,
@@ -51,6 +99,81 @@ fn append_owned(
     }
 }
 
+// The PUBLISH of its own that takes the first `size` bytes. It shares a copy of the front of all bytes, of which those that follow are
+// left.
+fn sharing_front(
+    alloc: Global,
+    publish: &PublishView<'_>,
+    size: usize,
+    bytes: &[u8],
+    copy: &mut Bytes,
+) -> Result<Publish, AllocError>
+    requires within { size ≤ length bytes.now }
+    requires end { EndsWith (take size bytes.now) publish.now.fields }
+    requires copy { BeginsWith bytes.now copy.old }
+    ensures publish { IfOk result (λ p. p ≡ publish.now.publish) }
+    ensures copy { OnOk result (BeginsWith (drop size bytes.now) copy.new) }
+{
+    let packet = share_front(alloc, size, bytes, copy)?;
+    publish.sharing(packet)
+}
+
+// Appends the PUBLISH that takes the first `size` bytes, as `sharing_front` gives it. Where memory runs out the list is unchanged.
+fn append_publish(
+    alloc: Global,
+    publish: &PublishView<'_>,
+    size: usize,
+    bytes: &[u8],
+    copy: &mut Bytes,
+    out: &mut Vec<Packet>,
+) -> Result<(), DecodeError>
+    requires within { size ≤ length bytes.now }
+    requires end { EndsWith (take size bytes.now) publish.now.fields }
+    requires copy { BeginsWith bytes.now copy.old }
+    ensures ok { OnOk result
+        (out.new.items ≡ out.old.items ++ packets.Publish publish.now.publish ∷ []) }
+    ensures copy { OnOk result (BeginsWith (drop size bytes.now) copy.new) }
+    ensures err { IfErr result
+        (λ e. (e ≡ DecodeError.Memory) × (out.new.items ≡ out.old.items)) }
+{
+    if out.reserve(1).is_err() {
+        return Err(DecodeError::Memory);
+    }
+    match sharing_front(alloc, publish, size, bytes, copy) {
+        Ok(publish) => {
+            out.push_reserved(Packet::Publish(publish));
+            Ok(())
+        }
+        Err(_) => Err(DecodeError::Memory),
+    }
+}
+
+// Appends the packet that a view of the first `size` bytes stands for. A message shares a copy of the front of all bytes, of which those
+// that follow are left. Where memory runs out the list is unchanged.
+#[inline(always)]
+fn append_owned(
+    alloc: Global,
+    packet: &PacketView<'_>,
+    size: usize,
+    bytes: &[u8],
+    copy: &mut Bytes,
+    out: &mut Vec<Packet>,
+) -> Result<(), DecodeError>
+    requires within { size ≤ length bytes.now }
+    requires end { LiesAtEnd (take size bytes.now) packet.now }
+    requires copy { BeginsWith bytes.now copy.old }
+    ensures ok { OnOk result (out.new.items ≡ out.old.items ++ packet_of packet.now ∷ []) }
+    ensures copy { OnOk result (BeginsWith (drop size bytes.now) copy.new) }
+    ensures err { IfErr result
+        (λ e. (e ≡ DecodeError.Memory) × (out.new.items ≡ out.old.items)) }
+{
+    if let PacketView::Publish(publish) = packet {
+        return append_publish(alloc, publish, size, bytes, copy, out);
+    }
+    copy.advance(size.min(copy.len()));
+    append_alone(alloc, packet, out)
+}
+
 /// Appends the packets that stand whole at the front, and answers how many bytes they take.
 pub(crate) fn take_packets(
     alloc: Global,
@@ -64,11 +187,13 @@ pub(crate) fn take_packets(
     ensures err { IfErr result (Stops limits bytes.now out.old.items out.new.items) }
 {
     let mut taken = 0;
+    // A copy of what follows, as far as it is there, which the messages share.
+    let mut copy = Bytes::new();
     loop {
         let (_, rest) = bytes.split_at(taken);
         match view(rest, limits) {
             View::Whole(packet, size) => {
-                append_owned(alloc, &packet, out)?;
+                append_owned(alloc, &packet, size, rest, &mut copy, out)?;
                 taken += size;
             }
             View::More => return Ok(taken),
