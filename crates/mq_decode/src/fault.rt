@@ -115,14 +115,14 @@ pub enum DecodeError {
 }
 
 /// The first field that is not of its kind, and how many bytes of the packet there are from it on.
-#[derive(Clone, Copy, Debug, PartialEq, Eq)]
+#[derive(Clone, Copy)]
 pub(crate) struct BadField {
     pub(crate) kind: FaultKind,
     pub(crate) left: usize,
 }
 
 /// Why fields were not read.
-#[derive(Clone, Copy, Debug, PartialEq, Eq)]
+#[derive(Clone, Copy)]
 pub(crate) enum FieldsError {
     Bad(BadField),
     Memory,

@@ -6,7 +6,7 @@ ghost use Rattle.mq_decode.specs.Connects.{flags_from, will_from, login_from};
 use mq_topic::Qos;
 
 /// What the flags byte of a CONNECT says.
-#[derive(Clone, Copy, Debug, PartialEq, Eq)]
+#[derive(Clone, Copy)]
 pub(crate) struct ConnectFlags {
     pub(crate) clean_session: bool,
     pub(crate) will: Option<WillFlags>,
@@ -15,7 +15,7 @@ pub(crate) struct ConnectFlags {
 }
 
 /// What it says of a will.
-#[derive(Clone, Copy, Debug, PartialEq, Eq)]
+#[derive(Clone, Copy)]
 pub(crate) struct WillFlags {
     pub(crate) qos: Qos,
     pub(crate) retain: bool,

@@ -11,7 +11,7 @@ use crate::limits::Limits;
 use mq_wire::{LengthReading, length_at, loose_length_at};
 
 /// The kind of a packet, where its fields start, and how many bytes they take.
-#[derive(Clone, Copy, Debug, PartialEq, Eq)]
+#[derive(Clone, Copy)]
 pub(crate) struct Header {
     pub(crate) kind: Kind,
     pub(crate) start: usize,

@@ -7,7 +7,7 @@ use crate::fault::FaultKind;
 use mq_topic::Qos;
 
 /// The type of a packet, with the flags of a PUBLISH.
-#[derive(Clone, Copy, Debug, PartialEq, Eq)]
+#[derive(Clone, Copy)]
 pub(crate) enum Kind {
     Connect,
     ConnAck,
@@ -26,7 +26,7 @@ pub(crate) enum Kind {
 }
 
 /// The flags of a PUBLISH (3.3.1).
-#[derive(Clone, Copy, Debug, PartialEq, Eq)]
+#[derive(Clone, Copy)]
 pub(crate) struct PublishFlags {
     pub(crate) dup: bool,
     pub(crate) qos: Qos,

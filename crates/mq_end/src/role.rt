@@ -1,7 +1,7 @@
 //! Which end it is.
 
 /// Which end of a connection it is.
-#[derive(Clone, Copy, Debug, PartialEq, Eq)]
+#[derive(Clone, Copy)]
 pub(crate) enum Role {
     /// The client.
     Client,

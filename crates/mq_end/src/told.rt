@@ -11,7 +11,7 @@ use mq_packet::PacketId;
 use std::alloc::{AllocError, Global};
 
 /// What is told of packets so far.
-#[derive(Debug, Drop)]
+#[derive(Drop)]
 pub(crate) struct Told {
     pub(crate) happenings: Gathered<Happening>,
     pub(crate) acknowledged: Gathered<PacketId>,

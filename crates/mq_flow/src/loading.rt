@@ -61,13 +61,13 @@ impl LoadError {
 }
 
 /// How many bytes there are from the bad field on.
-#[derive(Clone, Copy, Debug, PartialEq, Eq)]
+#[derive(Clone, Copy)]
 pub(crate) struct BadField {
     pub(crate) left: usize,
 }
 
 /// Why fields were not read.
-#[derive(Clone, Copy, Debug, PartialEq, Eq)]
+#[derive(Clone, Copy)]
 pub(crate) enum Unread {
     Bad(BadField),
     Memory,
@@ -96,7 +96,7 @@ impl From<AllocError> for Unread {
 }
 
 /// Quality of service, whether it was sent, RETAIN.
-#[derive(Clone, Copy, Debug, PartialEq, Eq)]
+#[derive(Clone, Copy)]
 pub(crate) struct Flags {
     pub(crate) qos: Qos,
     pub(crate) sent: bool,

@@ -10,7 +10,7 @@ use mq_packet::{NonEmpty, Packet, PacketId, SubAckCode, spelling_laws};
 use std::alloc::AllocError;
 
 /// What a broker has the end of a session do.
-#[derive(Debug, Drop)]
+#[derive(Drop)]
 pub(crate) enum Call {
     /// A whole packet came from the client, at this moment: the end takes it in (3.1 to 3.14).
     Takes(u64, Packet),

@@ -16,7 +16,7 @@ use std::marker::Model;
 use std::mem;
 
 /// A connection, with what of it no session has (4.2).
-#[derive(Debug, Drop)]
+#[derive(Drop)]
 pub(crate) struct Connection {
     /// Its name.
     pub(crate) conn: Conn,
@@ -29,7 +29,7 @@ pub(crate) struct Connection {
 }
 
 /// A connection behind a box, so that a table of them moves few bytes. Contracts see the connection.
-#[derive(Debug, Drop)]
+#[derive(Drop)]
 pub(crate) struct BoxedConnection {
     connection: Box<Connection>,
 }

@@ -11,7 +11,7 @@ use mq_route::Conn;
 use mq_topic::{ClientKey, FilterStore};
 
 /// What stands at the front of the bytes that come on a connection.
-#[derive(Clone, Copy, Debug, PartialEq, Eq)]
+#[derive(Clone, Copy)]
 pub(crate) enum Next {
     /// A packet came, which used this many bytes of the piece.
     Packet(usize),

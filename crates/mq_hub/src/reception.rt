@@ -16,7 +16,7 @@ use mq_packet::{PacketId, Publish};
 use mq_topic::{ClientKey, FilterStore, Qos};
 
 /// What comes of a PUBLISH at an end that is up (4.3).
-#[derive(Clone, Copy, Debug, PartialEq, Eq)]
+#[derive(Clone, Copy)]
 pub(crate) enum Reception {
     /// Its message is handed on.
     Handed,

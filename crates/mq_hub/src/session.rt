@@ -24,7 +24,7 @@ use std::marker::Model;
 use std::mem;
 
 /// The session of a client, with its server end (3.1.2.4).
-#[derive(Debug, Drop)]
+#[derive(Drop)]
 pub(crate) struct Tenant {
     /// The client identifier.
     pub(crate) client: Text,
@@ -35,7 +35,7 @@ pub(crate) struct Tenant {
 }
 
 /// A session behind a box, so that a table of them moves few bytes. Contracts see the session.
-#[derive(Debug, Drop)]
+#[derive(Drop)]
 pub(crate) struct Seat {
     tenant: Box<Tenant>,
 }

@@ -91,7 +91,7 @@ pub(crate) fn login_refusal(config: &HubConfig, connect: &Connect) -> Option<Ref
 }
 
 /// The numbers of a broker that bound who may connect.
-#[derive(Clone, Copy, Debug, PartialEq, Eq)]
+#[derive(Clone, Copy)]
 pub(crate) struct Counts {
     /// How many connections are up.
     pub(crate) up: usize,
@@ -102,7 +102,7 @@ pub(crate) struct Counts {
 }
 
 /// How the session of a client stands.
-#[derive(Clone, Copy, Debug, PartialEq, Eq)]
+#[derive(Clone, Copy)]
 pub(crate) struct Standing {
     /// The client is up on a connection.
     pub(crate) is_up: bool,

@@ -18,7 +18,7 @@ use std::alloc::{AllocError, Global};
 use std::sync::ArcStr;
 
 /// The number of a node.
-#[derive(Clone, Copy, Debug, PartialEq, Eq)]
+#[derive(Clone, Copy)]
 pub(crate) struct NodeId(usize);
 
 // A node: the place where the filters that begin with the same levels go on. What is read on the way

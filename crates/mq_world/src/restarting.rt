@@ -14,7 +14,7 @@ use mq_wire::Text;
 use std::alloc::{AllocError, Global};
 
 /// What both ends of a world are made with.
-#[derive(Clone, Copy, Debug, PartialEq, Eq)]
+#[derive(Clone, Copy)]
 pub(crate) struct Terms {
     pub(crate) limits: Limits,
     pub(crate) capacity: u16,
