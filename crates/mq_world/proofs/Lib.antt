@@ -3,6 +3,7 @@ pub mod Lists
 pub mod Places
 pub mod Second
 pub mod First
+pub mod Given
 pub mod Queues
 pub mod Both
 pub mod Flows

@@ -1,6 +1,6 @@
 //! A client and a server under a list of events.
 
-ghost use Rattle.std.specs.Prelude.{◌≡◌, ◌<◌, ◌≤◌, ◌↔◌, All, None, Some, ◌∷◌, ◌++◌, [], true, false, IfOk, IfSome, IsSome, IsErr, OnOk, OnErr};
+ghost use Rattle.std.specs.Prelude.{◌≡◌, ◌<◌, ◌≤◌, ◌↔◌, All, None, Some, ◌∷◌, ◌++◌, [], true, false, Ok, IfOk, IfSome, IsSome, IsErr, OnOk, OnErr};
 ghost use Rattle.mq_flow.specs.Window.{Spans};
 ghost use Rattle.mq_world.specs.Carries.{Wired, HaveWindow, seen};
 ghost use Rattle.mq_world.specs.Headline.{Headline};
@@ -65,6 +65,17 @@ impl Model for World {
 
     ghost invariant = { λ w. (connect_of w.pair.client.config false ≡ first_packet) × IfSome w.window (λ window. 0 < window)
         × (w.failed ≡ false → (m : Machine) × Stands w.limits w.capacity (wired_of w.pair) m × HaveWindow w.window (wired_of w.pair)) };
+}
+
+// Gives a value where what was done with it did not fail, and else lets go of it.
+fn given<T: Drop>(value: T, done: Result<(), AllocError>) -> Result<T, AllocError>
+    ensures ok { OnOk done (result ≡ Ok value) }
+    ensures err { OnErr done (IsErr result) }
+{
+    match done {
+        Ok(()) => Ok(value),
+        Err(error) => Err(error),
+    }
 }
 
 impl World {
@@ -236,9 +247,7 @@ impl World {
         ensures window { IfOk result (λ world. world.window ≡ None) }
         ensures failed { IfOk result (λ world. world.failed ≡ false) }
     {
-        let mut world = World::new(alloc, limits, capacity)?;
-        world.make_all(events)?;
-        Ok(world)
+        World::run_with(alloc, limits, capacity, None, events)
     }
 
     /// Makes a world like `with_window`, and the events happen in it, in order. It keeps the same promise as `run`, for each
@@ -261,9 +270,31 @@ impl World {
         ensures window { IfOk result (λ world. world.window ≡ Some window) }
         ensures failed { IfOk result (λ world. world.failed ≡ false) }
     {
-        let mut world = World::with_window(alloc, limits, capacity, window)?;
-        world.make_all(events)?;
-        Ok(world)
+        World::run_with(alloc, limits, capacity, Some(window), events)
+    }
+
+    // Makes a world, with a receiving window if there is one, and the events happen in it, in order. Fails if memory runs out.
+    fn run_with(
+        alloc: Global,
+        limits: Limits,
+        capacity: u16,
+        window: Option<u16>,
+        events: &[Event],
+    ) -> Result<World, AllocError>
+        requires capacity { 0 < capacity }
+        requires window { IfSome window (λ window. 0 < window) }
+        ensures headline { IfOk result (λ world. Headline (seen world.wired)) }
+        ensures events { IfOk result (λ world. (start : Wired) × IsNew limits capacity window start
+            × Leads limits capacity events.now world.answers start world.wired) }
+        ensures fits { IfOk result (λ world. Spans window capacity → All IsNeverFull world.answers) }
+        ensures limit { IfOk result (λ world. world.limit ≡ limits) }
+        ensures capacity { IfOk result (λ world. world.capacity ≡ capacity) }
+        ensures window { IfOk result (λ world. world.window ≡ window) }
+        ensures failed { IfOk result (λ world. world.failed ≡ false) }
+    {
+        let mut world = World::begin(alloc, limits, capacity, window)?;
+        let made = world.make_all(events);
+        given(world, made)
     }
 
     // Makes events happen, in order, in a world in which nothing has happened. Fails if memory runs out.
