@@ -1,9 +1,9 @@
 -- Events that come to a broker one after another.
 use Rattle.std.proofs.Common.{◌≡◌, ◌<◌, ◌⊎◌, ℕ, zero, suc}
-use Rattle.std.proofs.Common.{List, [], ◌∷◌, ◌++◌, length, map, take, drop, get_or, Option, Some, None, Result, Err, inl, inr, refl, sym, ap, subst, ◌∙◌, arith}
+use Rattle.std.proofs.Common.{List, [], ◌∷◌, ◌++◌, length, map, take, drop, get_or, Option, Some, None, Result, Ok, Err, inl, inr, refl, sym, ap, subst, ◌∙◌, arith}
 use Rattle.std.specs.List.{flat_map}
 use Rattle.std.specs.Option.{IfSome}
-use Rattle.std.specs.Result.{IfErr}
+use Rattle.std.specs.Result.{IfOk, IfErr}
 use Rattle.mq_route.specs.declared.act.Act.{Act}
 use Rattle.mq_route.specs.declared.config.HubConfig.{HubConfig}
 use Rattle.mq_route.specs.declared.event.HubEvent.{HubEvent}
@@ -99,3 +99,11 @@ run_is config first hub events replies accounts trace new p keys are said told =
       (subst (λ (rs : List HubReply). AreAccounts 0 (flat_map (λ r. r.acts) rs) trace.accounts) (sym p.replied)
       (subst (AreAccounts 0 (flat_map (λ r. r.acts) replies)) (sym told) are));
 }
+
+-- ---- what stands beside a value
+
+-- what holds of the value and of what was made with it holds of the two
+pub beside_gives : {A U E : Type 0} (made : Result U E) (r : Result (A × U) E) (value : A) (P : A × U → Type 0) → IfOk made (λ m. r ≡ Ok (value, m)) → IfErr made (λ e. r ≡ Err e)
+    → IfOk made (λ m. P (value, m)) → IfOk r P
+beside_gives (Ok m) r value P ok err holds = subst (λ s. IfOk s P) (sym ok) holds
+beside_gives (Err e) r value P ok err holds = subst (λ s. IfOk s P) (sym err) tt

@@ -1,10 +1,12 @@
 -- Events that come to a broker one after another.
-use Rattle.std.specs.Prelude.{◌≡◌, List, ◌∷◌, ◌++◌, map, Some}
+use Rattle.std.specs.Prelude.{◌≡◌, List, ◌∷◌, ◌++◌, length, map, Some}
+use Rattle.std.specs.List.{flat_map}
 use Rattle.mq_route.specs.declared.event.HubEvent.{HubEvent}
 use Rattle.mq_route.specs.declared.refusal.HubRefusal.{HubRefusal}
 use Rattle.mq_route.specs.declared.reply.HubReply.{HubReply}
+use Rattle.mq_route.specs.declared.trace.HubTrace.{HubTrace}
 use Rattle.mq_route.specs.Hub.{HubState}
-use Rattle.mq_route.specs.Runs.{Episode, Follows}
+use Rattle.mq_route.specs.Runs.{AreAccounts, Episode, Follows}
 use Rattle.mq_route.specs.Step.{event_refusal}
 
 -- Events came to a broker one after another, with these replies: then it is `new`.
@@ -13,6 +15,12 @@ pub record IsFollowed (old : HubState) (events : List HubEvent) (replies : List 
   pub came : map (λ e. e.event) episodes ≡ events
   pub replied : map (λ e. e.reply) episodes ≡ replies
   pub follows : Follows old episodes new
+
+-- Events came to a broker one after another, with the replies of this trace: then it is `new`, and the trace has one account for each key that was given.
+pub record IsTraced (old : HubState) (events : List HubEvent) (trace : HubTrace) (new : HubState) : Type 0 where
+  pub followed : IsFollowed old events trace.replies new
+  pub keys : length trace.accounts ≡ new.next_key
+  pub accounts : AreAccounts 0 (flat_map (λ r. r.acts) trace.replies) trace.accounts
 
 -- One of these events is refused, for this reason, after those before it came.
 pub record IsRefused (old : HubState) (events : List HubEvent) (why : HubRefusal) : Type 0 where

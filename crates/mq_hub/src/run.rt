@@ -1,10 +1,10 @@
 //! Events come to a broker one after another.
 
-ghost use Rattle.std.specs.Prelude.{◌≡◌, ◌<◌, ◌⊎◌, [], length, IfOk, IfErr, IfSome};
+ghost use Rattle.std.specs.Prelude.{◌≡◌, ◌<◌, ◌⊎◌, [], length, Ok, Err, IfOk, IfErr, IfSome};
 ghost use Rattle.std.specs.List.{flat_map};
 ghost use Rattle.mq_route.specs.Hub.{new_hub};
 ghost use Rattle.mq_route.specs.Runs.{AreAccounts, IsRun};
-ghost use Rattle.mq_hub.specs.Running.{IsFollowed, IsRefused};
+ghost use Rattle.mq_hub.specs.Running.{IsFollowed, IsRefused, IsTraced};
 
 use crate::accounts::accounts_of;
 use crate::hub::{Hub, HubOver};
@@ -21,10 +21,11 @@ impl<S: FilterStore> HubOver<S> {
     {
         let mut replies = Vec::new(self.alloc);
         for event in events {
-            let reply = self.step(event)?;
-            let Ok(()) = replies.push(reply) else {
+            if replies.reserve(1).is_err() {
                 return Err(HubRefusal::Memory);
-            };
+            }
+            let reply = self.step(event)?;
+            replies.push_reserved(reply);
         }
         Ok(replies)
     }
@@ -35,6 +36,32 @@ impl<S: FilterStore> HubOver<S> {
         ensures accounts { IfOk result (λ accounts. AreAccounts 0 (flat_map (λ r. r.acts) replies.now) accounts.items) }
     {
         accounts_of(self.alloc, self.next_key as usize, replies)
+    }
+
+    // Events come one after another, up to one that is refused: the reply to each, and the accounts of all clients to which a key was given.
+    fn traced(&mut self, events: &[HubEvent]) -> Result<HubTrace, HubRefusal>
+        ensures trace { IfOk result (λ trace. IsTraced self.old events.now trace self.new) }
+        ensures err { IfErr result (λ why. (why ≡ HubRefusal.Memory) ⊎ IsRefused self.old events.now why) }
+    {
+        let replies = self.follow(events)?;
+        let Ok(accounts) = self.accounts(replies.as_slice()) else {
+            return Err(HubRefusal::Memory);
+        };
+        Ok(HubTrace {
+            replies: Items::from_vec(replies),
+            accounts: Items::from_vec(accounts),
+        })
+    }
+}
+
+// A value beside what was made with it, where that did not fail; else it lets go of the value.
+fn beside<T: Drop, U>(value: T, made: Result<U, HubRefusal>) -> Result<(T, U), HubRefusal>
+    ensures ok { IfOk made (λ made. result ≡ Ok (value, made)) }
+    ensures err { IfErr made (λ why. result ≡ Err why) }
+{
+    match made {
+        Ok(made) => Ok((value, made)),
+        Err(why) => Err(why),
     }
 }
 
@@ -53,15 +80,8 @@ pub fn hub_run_over<S: FilterStore + Drop>(
     ensures err { IfErr result (λ why. (why ≡ HubRefusal.Memory) ⊎ IsRefused (new_hub config) events.now why) }
 {
     let mut hub = HubOver::with_store(alloc, config, store);
-    let replies = hub.follow(events)?;
-    let Ok(accounts) = hub.accounts(replies.as_slice()) else {
-        return Err(HubRefusal::Memory);
-    };
-    let trace = HubTrace {
-        replies: Items::from_vec(replies),
-        accounts: Items::from_vec(accounts),
-    };
-    Ok((hub, trace))
+    let traced = hub.traced(events);
+    beside(hub, traced)
 }
 
 /// Events come one after another to a new broker.

@@ -22,7 +22,7 @@ loop-event-preserved g c =
     ap (λ (n : ℕ). take n events) (add-one i) ∙ take-suc events i event within ∙ ap (λ (e : HubEvent). take i events ++ e ∷ []) (sym c.event-item.is) in
     let last : IsFollowed h (take i events ++ event ∷ []) (replies ++ reply ∷ []) new =
     followed_last h c.loop-event.self new (take i events) replies event reply c.loop-event.invariant c.in_ok-reply.ensures.step in
-    followed_so h new (take (i + 1) events) (take i events ++ event ∷ []) c.push.new.self.items (replies ++ reply ∷ []) front c.in-Ok.ensures.items last
+    followed_so h new (take (i + 1) events) (take i events ++ event ∷ []) c.push_reserved.new.self.items (replies ++ reply ∷ []) front (c.push_reserved.ensures.items ∙ ap (λ (rs : List HubReply). rs ++ reply ∷ []) c.reserve.ensures.items) last
 
 pub returns-in_err-reply-clause-err : goal.returns-in_err-reply-clause-err
 returns-in_err-reply-clause-err g c =
