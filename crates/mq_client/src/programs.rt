@@ -34,7 +34,11 @@ where
 {
     match dialer.dial() {
         Ok(connection) => Ok(Peer::new(client, connection.stream, connection.clock, keeper)),
-        Err(_) => Err(Halt::Lost),
+        Err(_) => {
+            drop(client);
+            drop(keeper);
+            Err(Halt::Lost)
+        }
     }
 }
 
@@ -61,7 +65,11 @@ pub fn publish_texts<S: Stream + Drop, C: Clock + Drop, D: Dial<S, C>, W: Write>
         (IsTextsDone id.now texts.now status)) }
 {
     match newly_connected(alloc, id, dialer) {
-        Ok(mut peer) => publish(alloc, &mut peer, texts, true, output),
+        Ok(mut peer) => {
+            let status = publish(alloc, &mut peer, texts, true, output);
+            drop(peer);
+            status
+        }
         Err(halt) => write_halt(output, halt),
     }
 }
@@ -79,7 +87,11 @@ pub fn collect_messages<S: Stream + Drop, C: Clock + Drop, D: Dial<S, C>, W: Wri
         (IsMessagesDone id.now clean wish.now status)) }
 {
     match newly_connected(alloc, id, dialer) {
-        Ok(mut peer) => collect(alloc, &mut peer, wish, clean, output),
+        Ok(mut peer) => {
+            let status = collect(alloc, &mut peer, wish, clean, output);
+            drop(peer);
+            status
+        }
         Err(halt) => write_halt(output, halt),
     }
 }
@@ -96,7 +108,9 @@ fn start_anew<S: Stream + Drop, C: Clock + Drop, D: Dial<S, C>>(
         texts: &[],
         ..*texts
     };
-    publish_all(alloc, &mut peer, &none, true)
+    let done = publish_all(alloc, &mut peer, &none, true);
+    drop(peer);
+    done
 }
 
 // Why a program ends before it goes on with a session.
@@ -150,8 +164,13 @@ fn kept_client<'a, S: Stream, C: Clock, D: Dial<S, C>, R: Files>(
 ) -> Result<Peer<S, C, Stored<SessionFile<'a, R>>>, Halt>
     ensures { IfOk result (λ peer. peer.client ≡ client) }
 {
-    let store = SessionFile::new(alloc, files, name)?;
-    connected(client, dialer, Stored { alloc, store })
+    match SessionFile::new(alloc, files, name) {
+        Ok(store) => connected(client, dialer, Stored { alloc, store }),
+        Err(error) => {
+            drop(client);
+            Err(Halt::from(error))
+        }
+    }
 }
 
 // Publishes texts over the session of a client, which stands in a file, at a connection that is made for it.
@@ -168,7 +187,11 @@ fn publish_kept<S: Stream + Drop, C: Clock + Drop, D: Dial<S, C>, R: Files, W: W
         (IsKeptDone client texts.now status)) }
 {
     match kept_client(alloc, client, files, name, dialer) {
-        Ok(mut peer) => resume(alloc, &mut peer, texts, output),
+        Ok(mut peer) => {
+            let status = resume(alloc, &mut peer, texts, output);
+            drop(peer);
+            status
+        }
         Err(halt) => write_halt(output, halt),
     }
 }

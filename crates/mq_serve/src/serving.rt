@@ -62,9 +62,17 @@ where
         start,
         Records::Passing(JOURNAL),
     )?;
-    let served = man_all(rt, &hall, stations)?;
+    let served = match man_all(rt, &hall, stations) {
+        Ok(served) => served,
+        Err(why) => {
+            drop(hall);
+            return Err(why.into());
+        }
+    };
     let closed = hall.close(served)?;
-    Ok(closed.book.hub().sessions()?)
+    let names = closed.book.hub().sessions();
+    drop(closed);
+    Ok(names?)
 }
 
 // The same, with a count of steps of its own.

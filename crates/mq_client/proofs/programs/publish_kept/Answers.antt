@@ -2,4 +2,4 @@ use Rattle.mq_client.proofs.Wholes.{kept_done}
 use Rattle.mq_client.proofs.programs.publish_kept.Goals as goal
 
 pub returns-in-Ok : goal.returns-in-Ok
-returns-in-Ok g c = kept_done c.resume.result c.args.client c.args.texts.now c.in-Ok.peer c.resume.new.peer (g.W.Write.contents c.args.output.now) (g.W.Write.contents c.resume.new.output) c.in-Ok.ensures c.resume.ensures
+returns-in-Ok g c = kept_done c.resume-status.result c.args.client c.args.texts.now c.in-Ok.peer c.resume-status.new.peer (g.W.Write.contents c.args.output.now) (g.W.Write.contents c.resume-status.new.output) c.in-Ok.ensures c.resume-status.ensures
