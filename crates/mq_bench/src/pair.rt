@@ -12,28 +12,44 @@ fn limits() -> anyhow::Result<Limits> {
     Limits::new(1_048_576).context("no limits")
 }
 
-/// A client end to which nothing happened.
-pub(crate) fn idle_client(alloc: Global) -> anyhow::Result<ClientEnd> {
+// A client end within these limits, to which nothing happened.
+fn client_within(alloc: Global, limits: Limits) -> anyhow::Result<ClientEnd> {
     let config = ClientConfig {
         id: Text::new(alloc, "meter")?,
         keep_alive: 0,
         will: None,
         login: None,
-        limits: limits()?,
+        limits,
         capacity: u16::MAX,
         window: None,
     };
     Ok(ClientEnd::new(alloc, config))
 }
 
-/// A server end to which nothing happened.
-pub(crate) fn idle_server(alloc: Global) -> anyhow::Result<ServerEnd> {
+// A server end within these limits, to which nothing happened.
+fn server_within(alloc: Global, limits: Limits) -> ServerEnd {
     let config = ServerConfig {
-        limits: limits()?,
+        limits,
         capacity: u16::MAX,
         window: None,
     };
-    Ok(ServerEnd::new(alloc, config))
+    ServerEnd::new(alloc, config)
+}
+
+/// A client end to which nothing happened.
+pub(crate) fn idle_client(alloc: Global) -> anyhow::Result<ClientEnd> {
+    client_within(alloc, limits()?)
+}
+
+/// A server end to which nothing happened.
+pub(crate) fn idle_server(alloc: Global) -> anyhow::Result<ServerEnd> {
+    Ok(server_within(alloc, limits()?))
+}
+
+// A value with which nothing failed; else it is let go of.
+fn given<T: Drop>(value: T, done: anyhow::Result<()>) -> anyhow::Result<T> {
+    done?;
+    Ok(value)
 }
 
 /// How many messages are handed on.
@@ -52,17 +68,18 @@ pub(crate) struct Pair {
 impl Pair {
     /// Nothing happened to both ends.
     fn idle(alloc: Global) -> anyhow::Result<Pair> {
+        let limits = limits()?;
         Ok(Pair {
-            client: idle_client(alloc)?,
-            server: idle_server(alloc)?,
+            client: client_within(alloc, limits)?,
+            server: server_within(alloc, limits),
         })
     }
 
     /// Both ends are up.
     pub(crate) fn new(alloc: Global) -> anyhow::Result<Pair> {
         let mut pair = Pair::idle(alloc)?;
-        pair.come_up()?;
-        Ok(pair)
+        let up = pair.come_up();
+        given(pair, up)
     }
 
     /// The client connects.

@@ -87,6 +87,8 @@ impl ClientEnd {
         ensures config { IfSome result (λ client. client.config ≡ config) }
     {
         if !fits_within(config.limits, &session) {
+            drop(config);
+            drop(session);
             return None;
         }
         let link = Link::with_session(alloc, config.limits, config.window, session, false);
@@ -116,9 +118,13 @@ impl ClientEnd {
         ensures config { IfOk result (λ client. client.config ≡ config) }
     {
         if names_another(&saved.client, &config.id) {
+            drop(config);
+            drop(saved);
             return Err(LoadError::AnotherClient);
         }
         if !fits_within(config.limits, &saved.session) {
+            drop(config);
+            drop(saved);
             return Err(LoadError::TooLarge);
         }
         let link = Link::with_session(

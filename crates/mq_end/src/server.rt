@@ -82,6 +82,7 @@ impl ServerEnd {
         ensures room { IfSome result (λ server. server.room ≡ record { messages = session.sender.room; bytes = 0 }) }
     {
         if !fits_within(config.limits, &session) {
+            drop(session);
             return None;
         }
         let link = Link::with_session(alloc, config.limits, config.window, session, true);
