@@ -189,6 +189,34 @@ fn views_lend_the_fields(rt: HostRuntime) -> Result<(), Fail> {
     Ok(())
 }
 
+// The message of its own that a view of a PUBLISH gives.
+fn message_in(alloc: Global, row: &str) -> Result<String, Fail> {
+    let greatest = limits(268_435_455)?;
+    let bytes = bytes_of(alloc, row)?;
+    let View::Whole(PacketView::Publish(publish), _) = view(bytes.as_slice(), greatest) else {
+        return Err("no PUBLISH".into());
+    };
+    let message = publish.message(alloc)?;
+    let (topic, payload) = (message.topic.as_str(), message.payload.as_slice());
+    let (qos, retain) = (message.qos, message.retain);
+    Ok(format!(in alloc; "{topic} {payload:?} {qos:?} {retain}")?)
+}
+
+// What the messages of PUBLISHes say.
+static MESSAGES: [(&str, &str); 3] = [
+    ("31 07 0003612f62 6869", "a/b [104, 105] Q0 true"),
+    ("3c 09 0003612f62 0001 6869", "a/b [104, 105] Q2 false"),
+    ("32 05 000174 0102", "t [] Q1 false"),
+];
+
+#[test]
+fn messages_are_owned(rt: HostRuntime) -> Result<(), Fail> {
+    for (row, line) in &MESSAGES {
+        expect_told(&rt, message_in(rt.alloc(), *row), *line, *row)?;
+    }
+    Ok(())
+}
+
 // A request of its own, and its filter of its own.
 fn owned_request(alloc: Global, request: &RequestView<'_>) -> Result<String, Fail> {
     let owned = request.owned(alloc)?;

@@ -92,6 +92,13 @@ impl<'a> PublishView<'a> {
         self.delivery
     }
 
+    /// The message of its own, with a copy of the fields: topic name and payload share one block.
+    pub fn message(&self, alloc: Global) -> Result<Message, AllocError>
+        ensures { IfOk result (λ m. m ≡ self.now.publish.message) }
+    {
+        self.message_over(Bytes::copy_from_slice(alloc, self.fields)?)
+    }
+
     /// A PUBLISH of its own. Topic name and payload share one block: where `whole` is the packet whose
     /// end the fields are, its bytes, and else a copy of the fields.
     pub(crate) fn shared(&self, alloc: Global, whole: Option<&Bytes>) -> Result<Publish, AllocError>
@@ -116,15 +123,22 @@ impl<'a> PublishView<'a> {
         requires { fields ≡ self.now.fields }
         ensures { IfOk result (λ p. p ≡ self.now.publish) }
     {
+        Ok(Publish::new(self.message_over(fields)?, self.delivery))
+    }
+
+    // The message of these fields, which are its own.
+    fn message_over(&self, fields: Bytes) -> Result<Message, AllocError>
+        requires { fields ≡ self.now.fields }
+        ensures { IfOk result (λ m. m ≡ self.now.publish.message) }
+    {
         let start = payload_start(&self.topic, self.delivery);
         let (topic, payload) = parts(fields, &self.topic, start)?;
-        let message = Message {
+        Ok(Message {
             topic,
             payload,
             qos: self.qos,
             retain: self.retain,
-        };
-        Ok(Publish::new(message, self.delivery))
+        })
     }
 }
 
