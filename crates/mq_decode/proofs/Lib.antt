@@ -1,3 +1,4 @@
+pub mod Alone
 pub mod BodyLaws
 pub mod ConnectLaws
 pub mod Copying

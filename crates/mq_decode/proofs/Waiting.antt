@@ -17,7 +17,7 @@ short_goes limit held piece w old rest pending wants few rest_is =
     goes_all limit held piece (length piece) old old rest (omega arith) (none_goes limit held piece old rest (wants pending piece few) rest_is)
 
 -- all of it is copied
-copied : (limit : Bounds) (held piece : List ℕ) (old c : ℕ) → Pending limit (held ++ piece) → c ≡ counted_more old (length piece) → Copies limit held piece old c
+pub copied : (limit : Bounds) (held piece : List ℕ) (old c : ℕ) → Pending limit (held ++ piece) → c ≡ counted_more old (length piece) → Copies limit held piece old c
 copied limit [] piece old c pending count = (
   length piece,
   record {

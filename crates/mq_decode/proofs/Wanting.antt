@@ -14,7 +14,7 @@ use Rattle.mq_decode.specs.declared.header.Header.{Header}
 use Rattle.mq_decode.specs.declared.kind.Kind.{Kind}
 use Rattle.mq_decode.specs.Kind.{kind_at}
 use Rattle.mq_decode.specs.Bodies.{body_at}
-use Rattle.mq_decode.specs.Front.{header_of, header_after, header_at, packet_or_fault, front_after, front_at}
+use Rattle.mq_decode.specs.Front.{end_told, header_of, header_after, header_at, packet_or_fault, front_after, front_at}
 use Rattle.mq_decode.specs.Limits.{Bounds}
 use Rattle.mq_decode.specs.Grammar.{Pending, Wants}
 use Rattle.mq_decode.proofs.FieldLaws.{Wire}
@@ -84,3 +84,54 @@ complete_not w limit b h bytes e long pending =
     let read : front_after (Ok (Some h)) b ≡ Ok None = ap (λ (r : Result (Option Header) DecodeFault). front_after r b) (sym e) ∙ pending_none w limit b bytes pending in
     let enough : ltb (length b) (h.start + h.size) ≡ false = le-ltb _ _ long in
     never_none (h.start + h.size) (body_at h.kind (take h.size (drop h.start b))) (rw enough at read)
+
+-- ---- where the packet ends, as the header says
+
+told_some : (r : Result (Option Header) DecodeFault) (end : ℕ) → end_told r ≡ Ok (Some end) → (h : Header) × (r ≡ Ok (Some h)) × (h.start + h.size ≡ end)
+told_some (Err fault) end e = absurd cc
+told_some (Ok None) end e = absurd cc
+told_some (Ok (Some h)) end e = (h, refl, cc)
+
+told_none : (r : Result (Option Header) DecodeFault) → end_told r ≡ Ok None → r ≡ Ok None
+told_none (Err fault) e = absurd cc
+told_none (Ok None) e = refl
+told_none (Ok (Some h)) e = absurd cc
+
+told_fault : (r : Result (Option Header) DecodeFault) (fault : DecodeFault) → end_told r ≡ Err fault → r ≡ Err fault
+told_fault (Err fault) other e = cc
+told_fault (Ok None) fault e = absurd cc
+told_fault (Ok (Some h)) fault e = absurd cc
+
+-- less than that is pending
+pub short_pending : (w : Wire) (limit : Bounds) (b : List ℕ) (end : ℕ) → end_told (header_at limit b) ≡ Ok (Some end) → length b < end → Pending limit b
+unfolding front_at
+short_pending w limit b end e few =
+    let told = told_some (header_at limit b) end e in
+    let short : ltb (length b) (told.0.start + told.0.size) ≡ true = lt-ltb _ _ (omega (arith, told.2, few)) in
+    pending_at w limit b (ap (λ (r : Result (Option Header) DecodeFault). front_after r b) told.1 ∙ rw short refl)
+
+-- and wants what is missing
+pub short_wants : (w : Wire) (limit : Bounds) (b : List ℕ) (end n : ℕ) → AreBytes b → end_told (header_at limit b) ≡ Ok (Some end) → length b + n ≤ end → Wants limit b n
+short_wants w limit b end n bytes e within =
+    let told = told_some (header_at limit b) end e in
+    wants_rest w limit b told.0 n bytes told.1 (omega (arith, told.2, within))
+
+-- so much is not
+pub long_not : (w : Wire) (limit : Bounds) (b : List ℕ) (end : ℕ) → AreBytes b → end_told (header_at limit b) ≡ Ok (Some end) → end ≤ length b → Pending limit b → ⊥
+long_not w limit b end bytes e long pending =
+    let told = told_some (header_at limit b) end e in
+    complete_not w limit b told.0 bytes told.1 (omega (arith, told.2, long)) pending
+
+-- a header that is not whole is pending
+pub no_end_pending : (w : Wire) (limit : Bounds) (b : List ℕ) → end_told (header_at limit b) ≡ Ok None → Pending limit b
+unfolding front_at
+no_end_pending w limit b e = pending_at w limit b (ap (λ (r : Result (Option Header) DecodeFault). front_after r b) (told_none (header_at limit b) e))
+
+-- a fault is not
+pub bad_end_not : (w : Wire) (limit : Bounds) (b : List ℕ) (fault : DecodeFault) → AreBytes b → end_told (header_at limit b) ≡ Err fault → Pending limit b → ⊥
+unfolding front_at
+bad_end_not w limit b fault bytes e pending =
+    let read : front_at limit b ≡ Err fault = ap (λ (r : Result (Option Header) DecodeFault). front_after r b) (told_fault (header_at limit b) fault e) in
+    let none : front_at limit b ≡ Ok None = pending_none w limit b bytes pending in
+    let both : Ok None ≡ Err fault = sym none ∙ read in
+    absurd cc

@@ -43,6 +43,12 @@ len_told (Ok (Some h)) = Some (h.start + h.size)
 len_told (Ok None) = None
 len_told (Err fault) = None
 
+-- where the packet ends, as the header says, or its fault
+abbrev pub end_told : Result (Option Header) DecodeFault → Result (Option ℕ) DecodeFault
+end_told (Ok (Some h)) = Ok (Some (h.start + h.size))
+end_told (Ok None) = Ok None
+end_told (Err fault) = Err fault
+
 -- the packet and where it ends, or the place of its first bad field
 abbrev pub packet_or_fault : ℕ → Result Packet BadField → Result (Option (Packet × ℕ)) DecodeFault
 packet_or_fault end (Ok packet) = Ok (Some (packet, end))

@@ -1,5 +1,5 @@
 -- Streams of packets, and what may be left over (chapters 2 and 3).
-use Rattle.std.specs.Prelude.{◌≡◌, ℕ, ◌+◌, ◌-◌, ◌<◌, ◌≤◌, Bool, true, false, List, [], ◌∷◌, ◌++◌, length, take, Option, Some, None, Result, Ok, Err}
+use Rattle.std.specs.Prelude.{◌≡◌, ℕ, ◌+◌, ◌-◌, ◌<◌, ◌≤◌, Bool, true, false, List, [], ◌∷◌, ◌++◌, length, take, Option, Some, None, Result, Ok, Err, ◌⊎◌}
 use Rattle.mq_wire.specs.Length.{LooseLength, LengthUnder}
 use Rattle.mq_wire.specs.Reading.{IsTooLong, IsOverlong}
 use Rattle.mq_packet.specs.declared.packet.Packet.{Packet}
@@ -143,3 +143,11 @@ IsAlone limits b = (p : Packet) (first rest : List ℕ) → ReadsWithin limits p
 -- what is pending wants so many bytes: with less it is pending still
 abbrev pub Wants : Bounds → List ℕ → ℕ → Type 0
 Wants limits b n = Pending limits b → (more : List ℕ) → length more < n → Pending limits (b ++ more)
+
+-- b is read as a packet, and new is old with it
+abbrev pub Appends : Bounds → List ℕ → List Packet → List Packet → Type 0
+Appends limits b old new = (p : Packet) × ReadsWithin limits p b × (new ≡ old ++ p ∷ [])
+
+-- b is pending, and all of it is left, or it is read as a packet, and nothing is left
+abbrev pub Takes : Bounds → List ℕ → List Packet → List Packet → List ℕ → Type 0
+Takes limits b old new rest = (Pending limits b × (new ≡ old) × (rest ≡ b)) ⊎ (Appends limits b old new × (rest ≡ []))

@@ -1,9 +1,9 @@
 //! The fixed header of a packet (2.2): the first byte and the remaining length.
 
-ghost use Rattle.std.specs.Prelude.{◌≡◌, ◌+◌, ◌<◌, ◌≤◌, ◌^◌, length, IfOk, IfSome, OnSome};
+ghost use Rattle.std.specs.Prelude.{◌≡◌, ◌+◌, ◌<◌, ◌≤◌, ◌^◌, length, Ok, IfOk, IfSome, OnSome};
 ghost use Rattle.mq_wire.specs.Reading.{IsSmall, read_length};
 ghost use Rattle.mq_decode.specs.Kind.{size_fault};
-ghost use Rattle.mq_decode.specs.Front.{header_at};
+ghost use Rattle.mq_decode.specs.Front.{end_told, header_at};
 
 use crate::fault::{DecodeFault, FaultKind};
 use crate::kind::{Kind, fixed_size, kind_at};
@@ -73,5 +73,35 @@ pub(crate) fn header_at(limits: Limits, bytes: &[u8]) -> Result<Option<Header>, 
                 size: size as usize,
             })),
         },
+    }
+}
+
+// Where a packet of two or of four bytes ends, whose header stands at the front, or that its header is not whole, where only its first
+// byte does.
+#[inline(always)]
+#[tactic(auto, unfolding(crate::specs::Front::header_at, mq_wire::specs::Reading::read_length))]
+fn short_end(limits: Limits, bytes: &[u8]) -> Option<Option<usize>>
+    ensures { IfSome result (λ end. end_told (header_at limits bytes.now) ≡ Ok end) }
+{
+    match bytes {
+        [0x40 | 0x50 | 0x62 | 0x70 | 0xB0 | 0xC0 | 0xD0 | 0xE0] => Some(None),
+        [0x40 | 0x50 | 0x62 | 0x70 | 0xB0, 2, ..] if limits.max_packet() >= 2 => Some(Some(4)),
+        [0xC0 | 0xD0 | 0xE0, 0, ..] => Some(Some(2)),
+        _ => None,
+    }
+}
+
+/// Where the packet at the front of `bytes` ends, as its header says, `None` where that is not whole, or its fault.
+#[inline(always)]
+pub(crate) fn end_at(limits: Limits, bytes: &[u8]) -> Result<Option<usize>, DecodeFault>
+    ensures { result ≡ end_told (header_at limits bytes.now) }
+{
+    if let Some(end) = short_end(limits, bytes) {
+        return Ok(end);
+    }
+    match header_at(limits, bytes) {
+        Ok(Some(header)) => Ok(Some(header.start + header.size)),
+        Ok(None) => Ok(None),
+        Err(fault) => Err(fault),
     }
 }

@@ -1,12 +1,12 @@
 //! The bytes that a decoder holds.
 
-ghost use Rattle.std.specs.Prelude.{◌≡◌, ◌-◌, ◌<◌, ◌≤◌, ◌^◌, ◌++◌, [], length, true, IfErr, IfNone, IfOk, IfSome, IsFalse, IsTrue, OnOk, ◌==◌};
+ghost use Rattle.std.specs.Prelude.{◌≡◌, ◌-◌, ◌<◌, ◌≤◌, ◌^◌, ◌++◌, [], ◌∷◌, length, true, IfErr, IfNone, IfOk, IfSome, IsFalse, IsTrue, OnOk, ◌==◌};
 ghost use Rattle.mq_decode.specs.Copied.{counted_more};
-ghost use Rattle.mq_decode.specs.Grammar.{IsFront, Wants};
+ghost use Rattle.mq_decode.specs.Grammar.{IsFront, Pending, Wants};
 
 use crate::fault::DecodeError;
 use crate::limits::Limits;
-use crate::take::{take_held, wanted};
+use crate::take::{lacking, take_held, wanted};
 use mq_packet::Packet;
 use std::alloc::Global;
 use std::marker::Model;
@@ -60,6 +60,57 @@ impl Held {
                 Ok(())
             }
             Err(_) => Err(DecodeError::Memory),
+        }
+    }
+
+    /// Appends one byte, and counts it. What is wanted stays.
+    #[inline(always)]
+    pub(crate) fn hold_byte(&mut self, byte: u8) -> Result<(), DecodeError>
+        ensures ok { OnOk result (self.new.bytes ≡ self.old.bytes ++ byte ∷ []) }
+        ensures copied { OnOk result (self.new.copied ≡ counted_more self.old.copied 1) }
+        ensures wants { self.new.wants ≡ self.old.wants }
+        ensures err { IfErr result (λ e. e ≡ DecodeError.Memory) }
+    {
+        match self.bytes.push(byte) {
+            Ok(()) => {
+                self.copied = self.copied.saturating_add(1);
+                Ok(())
+            }
+            Err(_) => Err(DecodeError::Memory),
+        }
+    }
+
+    /// Whether the packet is known to want another byte behind the one that was put here last, which is one less of those that it wants.
+    #[inline(always)]
+    pub(crate) fn waits(&mut self) -> bool
+        ensures more { IsTrue result → 1 < self.old.wants }
+        ensures less { IsTrue result → self.new.wants ≡ self.old.wants - 1 }
+        ensures no { IsFalse result → self.new.wants ≡ self.old.wants }
+        ensures bytes { self.new.bytes ≡ self.old.bytes }
+        ensures copied { self.new.copied ≡ self.old.copied }
+    {
+        if self.wants > 1 {
+            self.wants -= 1;
+            true
+        } else {
+            false
+        }
+    }
+
+    /// Whether the packet is less than a whole one by its header; then it is noted how many bytes it wants.
+    pub(crate) fn lacks(&mut self, limits: Limits) -> bool
+        ensures less { IsTrue result → Pending limits self.old.bytes }
+        ensures wants { IsTrue result → Wants limits self.old.bytes self.new.wants }
+        ensures no { IsFalse result → Pending limits self.old.bytes → ⊥ }
+        ensures bytes { self.new.bytes ≡ self.old.bytes }
+        ensures copied { self.new.copied ≡ self.old.copied }
+    {
+        match lacking(limits, self.bytes.as_slice()) {
+            Some(count) => {
+                self.wants = count;
+                true
+            }
+            None => false,
         }
     }
 

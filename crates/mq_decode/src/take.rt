@@ -1,15 +1,15 @@
 //! Packets from the front of bytes, one after another.
 
-ghost use Rattle.std.specs.Prelude.{◌≡◌, ◌+◌, ◌<◌, ◌≤◌, ◌^◌, ◌++◌, [], ◌∷◌, length, take, drop, Err, IfOk, IfErr, IfNone, IfSome, IsTrue, OnOk};
+ghost use Rattle.std.specs.Prelude.{◌≡◌, ◌+◌, ◌<◌, ◌≤◌, ◌^◌, ◌++◌, [], ◌∷◌, length, take, drop, vec_len, vec_capacity, Err, IfOk, IfErr, IfNone, IfSome, IsFalse, IsTrue, OnOk};
 ghost use Rattle.mq_decode.specs.Copied.{Adds, Copies, counted_more, counted_next};
-ghost use Rattle.mq_decode.specs.Grammar.{Goes, IsFront, Pending, ReadsWithin, Stops, Wants};
+ghost use Rattle.mq_decode.specs.Grammar.{Appends, Goes, IsAlone, IsFront, Pending, ReadsWithin, Stops, Takes, Wants};
 ghost use Rattle.mq_packet.specs.declared.packet.Packet.TheVariants as packets;
 ghost use Rattle.mq_decode.specs.Gives.{BeginsWith, EndsWith};
 ghost use Rattle.mq_decode.specs.Views.{LiesAtEnd, packet_of};
 
 use crate::fault::DecodeError;
 use crate::front::{front, view};
-use crate::header::header_at;
+use crate::header::{end_at, header_at};
 use crate::held::Held;
 use crate::limits::Limits;
 use crate::packet_view::{PacketView, View};
@@ -77,7 +77,30 @@ fn share_front(
     copy.split_to(size)
 }
 
+// Appends the packet that a view stands for, within room for it, where it is no more than a kind and an identifier; answers whether it is.
+#[inline(always)]
+fn push_plain(packet: &PacketView<'_>, out: &mut Vec<Packet>) -> bool
+    requires { vec_len out.old < vec_capacity out.old }
+    ensures yes { IsTrue result → out.new.items ≡ out.old.items ++ packet_of packet.now ∷ [] }
+    ensures no { IsFalse result → out.new.items ≡ out.old.items }
+    ensures room { IsFalse result → vec_len out.new < vec_capacity out.new }
+{
+    match packet {
+        PacketView::PubAck(id) => out.push_reserved(Packet::PubAck(*id)),
+        PacketView::PubRec(id) => out.push_reserved(Packet::PubRec(*id)),
+        PacketView::PubRel(id) => out.push_reserved(Packet::PubRel(*id)),
+        PacketView::PubComp(id) => out.push_reserved(Packet::PubComp(*id)),
+        PacketView::UnsubAck(id) => out.push_reserved(Packet::UnsubAck(*id)),
+        PacketView::PingReq => out.push_reserved(Packet::PingReq),
+        PacketView::PingResp => out.push_reserved(Packet::PingResp),
+        PacketView::Disconnect => out.push_reserved(Packet::Disconnect),
+        _ => return false,
+    }
+    true
+}
+
 // Appends the packet that a view stands for, with bytes of its own. Where memory runs out the list is unchanged.
+#[inline(always)]
 fn append_alone(
     alloc: Global,
     packet: &PacketView<'_>,
@@ -89,6 +112,9 @@ fn append_alone(
 {
     if out.reserve(1).is_err() {
         return Err(DecodeError::Memory);
+    }
+    if push_plain(packet, out) {
+        return Ok(());
     }
     match packet.owned(alloc) {
         Ok(packet) => {
@@ -216,6 +242,29 @@ pub(crate) fn wanted(limits: Limits, held: &[u8]) -> usize
             .saturating_sub(held.len())
             .max(1),
         _ => 1,
+    }
+}
+
+/// How many bytes the packet at the front wants, where it is less than a whole one by its header; `None` where nothing is pending.
+pub(crate) fn lacking(limits: Limits, held: &[u8]) -> Option<usize>
+    ensures some { IfSome result (λ n. 0 < n) }
+    ensures pending { IfSome result (λ n. Pending limits held.now) }
+    ensures exact { IfSome result (λ n. Wants limits held.now n) }
+    ensures none { IfNone result (Pending limits held.now → ⊥) }
+{
+    number_laws();
+    text_laws();
+    length_laws();
+    match end_at(limits, held) {
+        Ok(Some(end)) => {
+            if held.len() < end {
+                Some(end - held.len())
+            } else {
+                None
+            }
+        }
+        Ok(None) => Some(1),
+        Err(_) => None,
     }
 }
 
@@ -412,6 +461,81 @@ pub(crate) fn take_next(
     take_found(alloc, limits, held, piece)
 }
 
+// Appends the packet that is held, which is whole or faulty. Where memory runs out the list is unchanged.
+fn append_held(
+    alloc: Global,
+    limits: Limits,
+    held: &mut Held,
+    out: &mut Vec<Packet>,
+) -> Result<(), DecodeError>
+    requires alone { IsAlone limits held.old.bytes }
+    requires whole { Pending limits held.old.bytes → ⊥ }
+    ensures ok { OnOk result (Appends limits held.old.bytes out.old.items out.new.items) }
+    ensures copied { held.new.copied ≡ held.old.copied }
+    ensures err { IfErr result (Stops limits held.old.bytes out.old.items out.new.items) }
+{
+    if held.as_slice().len() >= SHARED {
+        return match held.take(alloc, limits)? {
+            Some(found) => append(out, found.0),
+            None => Ok(()),
+        };
+    }
+    match view(held.as_slice(), limits) {
+        View::Whole(packet, _) => append_alone(alloc, &packet, out),
+        View::More => Ok(()),
+        View::Fault(fault) => Err(DecodeError::Fault(fault)),
+    }
+}
+
+// Takes the packet that is held, where it is whole.
+#[inline(never)]
+fn take_whole(
+    alloc: Global,
+    limits: Limits,
+    held: &mut Held,
+    out: &mut Vec<Packet>,
+) -> Result<(), DecodeError>
+    requires { IsAlone limits held.old.bytes }
+    ensures ok { OnOk result
+        (Takes limits held.old.bytes out.old.items out.new.items held.new.bytes) }
+    ensures copied { held.new.copied ≡ held.old.copied }
+    ensures wants { OnOk result (Wants limits held.new.bytes held.new.wants) }
+    ensures err { IfErr result (Stops limits held.old.bytes out.old.items out.new.items) }
+{
+    if held.lacks(limits) {
+        return Ok(());
+    }
+    append_held(alloc, limits, held, out)?;
+    held.clear(alloc);
+    Ok(())
+}
+
+// Takes a byte that follows what is held.
+#[inline(always)]
+fn take_byte(
+    alloc: Global,
+    limits: Limits,
+    held: &mut Held,
+    byte: u8,
+    out: &mut Vec<Packet>,
+) -> Result<(), DecodeError>
+    requires pending { Pending limits held.old.bytes }
+    requires wants { Wants limits held.old.bytes held.old.wants }
+    ensures ok { OnOk result (Goes limits (held.old.bytes ++ byte ∷ []) out.old.items
+        out.new.items held.new.bytes) }
+    ensures copied { OnOk result
+        (Copies limits held.old.bytes (byte ∷ []) held.old.copied held.new.copied) }
+    ensures wants { OnOk result (Wants limits held.new.bytes held.new.wants) }
+    ensures err { IfErr result
+        (Stops limits (held.old.bytes ++ byte ∷ []) out.old.items out.new.items) }
+{
+    held.hold_byte(byte)?;
+    if held.waits() {
+        return Ok(());
+    }
+    take_whole(alloc, limits, held, out)
+}
+
 /// Takes the packets of a piece that follows what is held.
 #[inline(never)]
 pub(crate) fn take_piece(
@@ -464,6 +588,9 @@ pub(crate) fn take_in(
     ensures err { IfErr result
         (Stops limits (held.old.bytes ++ piece.now) out.old.items out.new.items) }
 {
+    if let [byte] = piece {
+        return take_byte(alloc, limits, held, *byte, out);
+    }
     if held.wants_over(piece) {
         return held.hold(piece);
     }
