@@ -1,5 +1,5 @@
 -- What an end that is ready for messages stays ready for.
-use Rattle.std.proofs.Common.{◌≡◌, ℕ, ◌+◌, ◌-◌, ◌<◌, ◌≤◌, Bool, true, false, not, ◌&&◌, ◌||◌, cond, ltb, leb, eqb, List, [], ◌∷◌, ◌++◌, map, length, filter, Option, Some, None, refl, sym, ap, subst, ◌∙◌, arith}
+use Rattle.std.proofs.Common.{◌≡◌, ℕ, ◌+◌, ◌-◌, ◌≤◌, Bool, true, false, not, ◌&&◌, ◌||◌, cond, ltb, leb, eqb, List, [], ◌∷◌, ◌++◌, map, length, filter, Option, Some, None, refl, ap, ◌∙◌, arith}
 use Rattle.std.specs.List.{list_any}
 use Rattle.std.proofs.lemmas.Bool.{ltb-false, le-ltb, lt-leb}
 use Rattle.std.proofs.lemmas.List.{length-append, length-map}
@@ -11,7 +11,7 @@ use Rattle.mq_packet.specs.declared.packet.Packet.{Packet}
 use Rattle.mq_packet.specs.declared.packet.Packet.TheVariants as packets
 use Rattle.mq_flow.specs.declared.entry.Entry.{Entry}
 use Rattle.mq_flow.specs.declared.claim.Claimed.{Claimed}
-use Rattle.mq_flow.specs.Sender.{SenderBook, uses, accept, is_awaited, is_full, same_qos, without, without_entry, on_puback, on_pubrec, on_pubcomp}
+use Rattle.mq_flow.specs.Sender.{SenderBook, uses, accept, is_awaited, is_full, same_qos, without_entry, on_puback, on_pubrec, on_pubcomp}
 use Rattle.mq_flow.specs.Window.{fits_window}
 use Rattle.mq_end.specs.declared.state.State.{State}
 use Rattle.mq_end.specs.declared.state.State.TheVariants.{Closed, Open, Up}
@@ -19,7 +19,7 @@ use Rattle.mq_end.specs.declared.reason.CloseReason.{CloseReason}
 use Rattle.mq_end.specs.declared.reason.CloseReason.TheVariants as reasons
 use Rattle.mq_end.specs.declared.refusal.PublishRefusal.{PublishRefusal}
 use Rattle.mq_end.specs.declared.refusal.PublishRefusal.TheVariants as refusals
-use Rattle.mq_end.specs.End.{End, Reply, is_up, closes}
+use Rattle.mq_end.specs.End.{End, is_up, closes}
 use Rattle.mq_end.specs.Both.{has_identifier, publishes, publishes_at, publish_refusal, flow_gets, publish_gets, stores}
 use Rattle.mq_end.specs.Sizes.{publish_size}
 use Rattle.mq_end.specs.Server.{ready_refusal, server_publish_refusal, server_up_gets, server_gets_in, server_gets}

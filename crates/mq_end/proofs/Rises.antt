@@ -24,7 +24,7 @@ use Rattle.mq_end.specs.Both.{has_identifier}
 use Rattle.mq_end.specs.Server.{connect_gets, opens, refuses, server_gets, server_gets_in}
 use Rattle.mq_end.specs.Sizes.{publish_size}
 use Rattle.mq_end.specs.State.{EndState, Room}
-use Rattle.mq_end.specs.Ready.{AreSpellable, CanRise, FitsRoom, HasRise, HasRoom, packets_size, publishes_size, size_at_once, whole_size}
+use Rattle.mq_end.specs.Ready.{AreSpellable, CanRise, FitsRoom, HasRise, HasRoom, packets_size, publishes_size, size_at_once}
 use Rattle.mq_end.specs.Receiving.{TakesPacket}
 use Rattle.mq_end.proofs.Measures.{laws}
 use Rattle.mq_end.proofs.Rooms.{at_most_all, keeps_room, published, put_within, sizes_joined, up_is_live}

@@ -1,5 +1,5 @@
 -- Bytes that come to an end, walked packet by packet.
-use Rattle.std.proofs.Common.{◌≡◌, ◌⊎◌, inl, inr, ℕ, ◌<◌, ◌==◌, Bool, true, false, not, List, [], ◌∷◌, ◌++◌, length, take, drop, Option, Some, None, refl, sym, ap, subst, ◌∙◌, append_assoc}
+use Rattle.std.proofs.Common.{◌≡◌, ◌⊎◌, inl, inr, ℕ, ◌<◌, ◌≤◌, ◌==◌, Bool, true, false, not, List, [], ◌∷◌, ◌++◌, length, take, drop, Option, Some, None, refl, sym, ap, subst, ◌∙◌, append_assoc}
 use Rattle.std.proofs.Math.Dec.{eqb-suc-zero}
 use Rattle.std.proofs.lemmas.List.{append-nil, take-append-drop}
 use Rattle.mq_packet.specs.declared.packet.Packet.{Packet}
@@ -13,7 +13,7 @@ use Rattle.mq_end.specs.declared.role.Role.{Role}
 use Rattle.mq_end.specs.declared.told.Told.{Told}
 use Rattle.mq_end.specs.End.{End, Reply, one_by_one, closes}
 use Rattle.mq_end.specs.State.{EndState}
-use Rattle.mq_end.specs.Receiving.{Acts, Makes, Hears, IsBreak, TakesAll, gets_as, held_after, heard_as}
+use Rattle.mq_end.specs.Receiving.{Acts, Makes, Hears, IsBreak, TakesAll, TakesNext, gets_as, held_after, heard_as}
 use Rattle.mq_end.proofs.Replies.{makes_end}
 use Rattle.mq_end.proofs.Along.{Along, along_none, along_more, taken_shut, taken_starved}
 use Rattle.mq_end.proofs.Hearing.{break_made, hears_shut, hears_all, hears_starved, hears_fault, with_held}
@@ -88,6 +88,27 @@ next_of role piece old now mid told after came p n rest w reads state none =
 -- it came to the end, or there was no memory for it
 abbrev pub Came : Role → Packet → EndState → EndState → Told → Told → Option CloseReason → Type 0
 Came role p mid new u v closed = (r : Reply) × ((r ≡ gets_as role p mid.end) ⊎ (r ≡ closes reasons.Memory mid.end)) × (closed ≡ r.close) × Makes r mid new u v
+
+-- the next packet of what is held and a piece, and what came of it
+pub came_next : (role : Role) (piece : List ℕ) (n : ℕ) (closed : Option CloseReason) (old mid new : EndState) (t u : Told) (p : Packet)
+    → n ≤ length piece → ReadsWithin old.limit p (old.held ++ take n piece) → mid ≡ record old { held = mid.held } → mid.held ≡ [] → Came role p mid new t u closed → TakesNext role piece n closed old new t u
+came_next role piece n closed old mid new t u p within reads state none came =
+    let same : mid ≡ with_held old [] = state ∙ ap (λ (h : List ℕ). with_held old h) none in
+    let x = subst (λ (s : EndState). Came role p s new t u closed) same came in
+    record { within = within; packet = p; reads = reads; reply = x.0; does = x.1; close = x.2; makes = x.3 }
+
+-- nothing is held behind it where the end goes on
+pub next_held : (role : Role) (piece : List ℕ) (n : ℕ) (old new : EndState) (t u : Told) → TakesNext role piece n None old new t u → new.held ≡ []
+next_held role piece n old new t u x = ap (λ (s : EndState). s.held) x.makes.state ∙ ap (λ (c : Option CloseReason). held_after c []) (sym x.close)
+
+-- another packet was taken out of the bytes of a walk
+pub next_taken : (role : Role) (piece : List ℕ) (old now new : EndState) (told after u : Told) (came : Bool) (n : ℕ) (rest : List ℕ) (closed : Option CloseReason)
+    → Walked role piece old now told after came rest → (x : TakesNext role rest n closed now new after u) → Next role piece old (with_held now []) told after x.packet (drop n rest)
+next_taken role piece old now new told after u came n rest closed w x =
+    next_of role piece old now (with_held now []) told after came x.packet n rest w x.reads refl refl
+
+pub came_of : (role : Role) (rest : List ℕ) (n : ℕ) (closed : Option CloseReason) (now new : EndState) (t u : Told) → (x : TakesNext role rest n closed now new t u) → Came role x.packet (with_held now []) new t u closed
+came_of role rest n closed now new t u x = (x.reply, x.does, x.close, x.makes)
 
 not_empty : (ps : List Packet) (p : Packet) → true ≡ not (length (ps ++ p ∷ []) == 0)
 not_empty [] p = refl

@@ -1,5 +1,5 @@
 -- Each packet that comes leaves the receiving window as it is, and what is stored within it.
-use Rattle.std.proofs.Common.{◌≡◌, Bool, true, false, not, ◌&&◌, eqb, Option, Some, None, List, [], ◌∷◌, ℕ, length, refl, sym, subst, ◌∙◌}
+use Rattle.std.proofs.Common.{Bool, true, false, not, ◌&&◌, eqb, Option, Some, None, List, [], ◌∷◌, ℕ, length, refl, sym, subst, ◌∙◌}
 use Rattle.std.proofs.lemmas.Bool.{cond_both}
 use Rattle.mq_topic.specs.declared.qos.Qos.{Qos}
 use Rattle.mq_topic.specs.declared.qos.Qos.TheVariants.{Q0, Q1, Q2}
@@ -14,7 +14,7 @@ use Rattle.mq_packet.specs.declared.packet.Packet.TheVariants as packets
 use Rattle.mq_decode.specs.Limits.{Bounds}
 use Rattle.mq_decode.specs.declared.fault.DecodeFault.{DecodeFault}
 use Rattle.mq_flow.specs.Sender.{release, awaits_suback, awaits_unsuback}
-use Rattle.mq_flow.specs.Receiver.{ReceiverBook, none_received}
+use Rattle.mq_flow.specs.Receiver.{none_received}
 use Rattle.mq_flow.specs.Window.{fits_window, IsWithin}
 use Rattle.mq_flow.proofs.Windows.{same_within, within_after, none_within, removed_within, stored_within}
 use Rattle.mq_end.specs.declared.state.State.{State}

@@ -1,9 +1,9 @@
 -- What comes of bytes that an open end receives, cut anywhere (4.2, 4.6, 4.8).
-use Rattle.std.specs.Prelude.{◌≡◌, ◌⊎◌, ℕ, Bool, false, not, ◌&&◌, if◌then◌else◌, ◌<◌, List, [], ◌∷◌, ◌++◌, length, Option, Some, None, IsSome, option_to_list}
+use Rattle.std.specs.Prelude.{◌≡◌, ◌⊎◌, ℕ, Bool, false, not, ◌&&◌, if◌then◌else◌, ◌<◌, ◌≤◌, List, [], ◌∷◌, ◌++◌, length, take, Option, Some, None, IsSome, option_to_list}
 use Rattle.mq_packet.specs.declared.packet.Packet.{Packet}
 use Rattle.mq_decode.specs.declared.fault.DecodeFault.{DecodeFault}
 use Rattle.mq_decode.specs.Limits.{Bounds}
-use Rattle.mq_decode.specs.Grammar.{Stream, Pending, Faulty}
+use Rattle.mq_decode.specs.Grammar.{Stream, Pending, Faulty, ReadsWithin}
 use Rattle.mq_end.specs.declared.happening.Happening.{Happening}
 use Rattle.mq_end.specs.declared.reason.CloseReason.{CloseReason}
 use Rattle.mq_end.specs.declared.outcome.Outcome.{Outcome}
@@ -144,6 +144,17 @@ pub record Hears (role : Role) (now : ℕ) (piece : List ℕ) (old new : EndStat
   pub happenings : after.happenings.items ≡ told.happenings.items ++ reply.happenings
   pub acknowledged : after.acknowledged.items ≡ told.acknowledged.items ++ reply.freed
   pub close : closed ≡ reply.close
+
+-- The next whole packet of what is held and a piece came to an end of this role: it took so many bytes of the piece, this came of it, or
+-- there was no memory for it and the end closed; and why the end closed, where it did. Nothing is held behind it.
+pub record TakesNext (role : Role) (piece : List ℕ) (size : ℕ) (closed : Option CloseReason) (old new : EndState) (told now : Told) : Type 0 where
+  pub within : size ≤ length piece
+  pub packet : Packet
+  pub reads : ReadsWithin old.limit packet (old.held ++ take size piece)
+  pub reply : Reply
+  pub does : (reply ≡ gets_as role packet old.end) ⊎ (reply ≡ closes reasons.Memory old.end)
+  pub close : closed ≡ reply.close
+  pub makes : Makes reply (record old { held = [] }) new told now
 
 -- an end of this role receives bytes
 abbrev pub ReceivesAs : Role → List ℕ → EndState → EndState → List Happening → List ℕ → Option CloseReason → Type 0

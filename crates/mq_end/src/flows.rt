@@ -1,8 +1,9 @@
 //! The packets of a message's flow, which both ends take in alike (4.3).
 
-ghost use Rattle.std.specs.Prelude.{◌≡◌, false, IsOk, IfOk, OnOk, OnErr, None, Some};
+ghost use Rattle.std.specs.Prelude.{◌≡◌, true, false, IsOk, IfOk, OnOk, OnErr, None, Some};
 ghost use Rattle.mq_topic.specs.declared.qos.Qos.TheVariants.{Q1, Q2};
 ghost use Rattle.mq_packet.specs.declared.packet.Packet.TheVariants as packets;
+ghost use Rattle.mq_packet.specs.Publication.{fits_delivery};
 ghost use Rattle.mq_flow.specs.Receiver.{on_pubrel};
 ghost use Rattle.mq_end.specs.Both.{flow_gets, publish_gets, stores};
 ghost use Rattle.mq_end.specs.Ready.{FitsRoom, is_exactly_once};
@@ -76,6 +77,25 @@ impl Link {
         self.take_exactly_once(delivery, message)
     }
 
+    /// The message of a PUBLISH, with its delivery where it has one (3.3, 4.3).
+    pub(crate) fn take_message(
+        &mut self,
+        delivery: Option<Delivery>,
+        message: Message,
+    ) -> Result<Outcome, AllocError>
+        requires fits { fits_delivery message.qos delivery ≡ true }
+        ensures ok { IfOk result (λ outcome. Gives (publish_gets message.qos delivery message self.old.end) outcome self.old self.new) }
+        ensures within { is_exactly_once (packets.Publish (record { message = message; delivery = delivery })) ≡ false
+            → FitsRoom (publish_gets message.qos delivery message self.old.end).out self.old → IsOk result }
+        ensures err { OnErr result (self.new ≡ self.old) }
+    {
+        match (message.qos, delivery) {
+            (Qos::Q1, Some(delivery)) => self.take_at_least_once(delivery, message),
+            (Qos::Q2, Some(delivery)) => self.take_within_window(delivery, message),
+            _ => Ok(Outcome::tells(Happening::Handed(message))),
+        }
+    }
+
     /// PUBLISH (3.3, 4.3).
     fn take_publish(&mut self, publish: Publish) -> Result<Outcome, AllocError>
         ensures ok { IfOk result (λ outcome. Gives (flow_gets (packets.Publish publish) self.old.end) outcome self.old self.new) }
@@ -84,16 +104,11 @@ impl Link {
         ensures err { OnErr result (self.new ≡ self.old) }
     {
         let delivery = publish.delivery();
-        let message = publish.into_message();
-        match (message.qos, delivery) {
-            (Qos::Q1, Some(delivery)) => self.take_at_least_once(delivery, message),
-            (Qos::Q2, Some(delivery)) => self.take_within_window(delivery, message),
-            _ => Ok(Outcome::tells(Happening::Handed(message))),
-        }
+        self.take_message(delivery, publish.into_message())
     }
 
     /// PUBACK (3.4, 4.3.2).
-    fn take_puback(&mut self, id: PacketId) -> Outcome
+    pub(crate) fn take_puback(&mut self, id: PacketId) -> Outcome
         ensures { Gives (flow_gets (packets.PubAck id) self.old.end) result self.old self.new }
     {
         match self.session.sender.on_puback(id) {
@@ -103,7 +118,7 @@ impl Link {
     }
 
     /// PUBREC, which PUBREL answers (3.5, 4.3.3).
-    fn take_pubrec(&mut self, id: PacketId) -> Result<(), AllocError>
+    pub(crate) fn take_pubrec(&mut self, id: PacketId) -> Result<(), AllocError>
         ensures ok { OnOk result (Acts (flow_gets (packets.PubRec id) self.old.end) self.old self.new) }
         ensures within { FitsRoom (flow_gets (packets.PubRec id) self.old.end).out self.old → IsOk result }
         ensures err { OnErr result (self.new ≡ self.old) }
@@ -116,7 +131,7 @@ impl Link {
     }
 
     /// PUBREL, which PUBCOMP answers (3.6, 4.3.3).
-    fn take_pubrel(&mut self, id: PacketId) -> Result<(), AllocError>
+    pub(crate) fn take_pubrel(&mut self, id: PacketId) -> Result<(), AllocError>
         ensures ok { OnOk result (Acts (flow_gets (packets.PubRel id) self.old.end) self.old self.new) }
         ensures within { FitsRoom (flow_gets (packets.PubRel id) self.old.end).out self.old → IsOk result }
         ensures err { OnErr result (self.new ≡ self.old) }
@@ -127,7 +142,7 @@ impl Link {
     }
 
     /// PUBCOMP (3.7, 4.3.3).
-    fn take_pubcomp(&mut self, id: PacketId)
+    pub(crate) fn take_pubcomp(&mut self, id: PacketId)
         ensures { Acts (flow_gets (packets.PubComp id) self.old.end) self.old self.new }
     {
         let _ = self.session.sender.on_pubcomp(id);

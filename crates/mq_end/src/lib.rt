@@ -10,6 +10,7 @@ mod flows;
 mod happening;
 mod items;
 mod laws;
+mod lent;
 mod link;
 mod opening;
 mod outcome;

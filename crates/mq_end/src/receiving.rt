@@ -8,7 +8,7 @@ ghost use Rattle.mq_end.specs.End.{Reply, is_live, is_up};
 ghost use Rattle.mq_end.specs.Laws.{KeepsWindow};
 ghost use Rattle.mq_end.specs.Ready.{AreSpellable, FitsRoom, is_exactly_once};
 ghost use Rattle.mq_end.specs.Server.{server_gets};
-ghost use Rattle.mq_end.specs.Receiving.{Acts, HeardAs, Hears, IsBreak, ReceivesAs, TakesAs, TakesPacket, heard_as, is_answered, no_outcome};
+ghost use Rattle.mq_end.specs.Receiving.{Acts, HeardAs, Hears, IsBreak, ReceivesAs, TakesAs, TakesNext, TakesPacket, heard_as, is_answered, no_outcome};
 
 use crate::link::Link;
 use crate::outcome::Outcome;
@@ -17,7 +17,7 @@ use crate::reason::CloseReason;
 use crate::role::Role;
 use crate::state::State;
 use crate::told::Told;
-use mq_decode::{DecodeError, DecodeFault, FaultKind, PacketView, reads_again};
+use mq_decode::{DecodeError, DecodeFault, FaultKind, PacketView, View, reads_again, view};
 use mq_packet::{Packet, RefusalCode};
 use std::alloc::AllocError;
 
@@ -77,6 +77,56 @@ impl Link {
         }
     }
 
+    /// A packet that lies whole at the front of a piece comes to an end that holds nothing. Answers how many bytes it takes, and why the
+    /// end closed, where it did; `None` where no packet lies there or bytes are held, and then nothing changes.
+    fn take_lying(
+        &mut self,
+        role: Role,
+        piece: &[u8],
+        told: &mut Told,
+    ) -> Option<(usize, Option<CloseReason>)>
+        ensures packet { IfSome result (λ x. TakesNext role piece.now x.0 x.1 self.old self.new told.old told.new) }
+        ensures none { IfNone result (self.new ≡ self.old) }
+        ensures told { IfNone result (told.new ≡ told.old) }
+    {
+        if piece.is_empty() || self.decoder.held() > 0 {
+            return None;
+        }
+        match view(piece, self.limits) {
+            View::Whole(packet, size) => {
+                Some((size, self.take_lent_or_close(role, &packet, told)))
+            }
+            View::More | View::Fault(_) => None,
+        }
+    }
+
+    /// The next whole packet of what is held and a piece comes to the end. Answers how many bytes of the piece it takes, and why the end
+    /// closed, where it did. Returns `None` where they are less than a whole packet, and then all of the piece is held. After an error
+    /// nothing is held.
+    fn take_next(
+        &mut self,
+        role: Role,
+        piece: &[u8],
+        told: &mut Told,
+    ) -> Result<Option<(usize, Option<CloseReason>)>, DecodeError>
+        ensures packet { IfOk result (λ o. IfSome o (λ x. TakesNext role piece.now x.0 x.1 self.old self.new told.old told.new)) }
+        ensures less { IfOk result (λ o. IfNone o (Pending self.old.limit (self.old.held ++ piece.now))) }
+        ensures holds { IfOk result (λ o. IfNone o (self.new ≡ record self.old { held = self.old.held ++ piece.now })) }
+        ensures told { IfOk result (λ o. IfNone o (told.new ≡ told.old)) }
+        ensures err { IfErr result (λ e. IsFront self.old.limit (self.old.held ++ piece.now) (Err e)) }
+        ensures err_state { OnErr result (self.new ≡ record self.old { held = self.new.held }) }
+        ensures err_told { OnErr result (told.new ≡ told.old) }
+    {
+        if let Some(taken) = self.take_lying(role, piece, told) {
+            return Ok(Some(taken));
+        }
+        match self.next_packet(piece) {
+            Ok(Some((packet, size))) => Ok(Some((size, self.take_or_close(role, packet, told)))),
+            Ok(None) => Ok(None),
+            Err(error) => Err(error),
+        }
+    }
+
     /// Bytes come to an end with a connection, at this moment. Each whole packet is taken out of them and comes to the end, before the
     /// next one is looked at.
     fn take_bytes(
@@ -93,13 +143,11 @@ impl Link {
         let mut came = false;
         loop {
             let (_, rest) = piece.split_at(used);
-            match self.next_packet(rest) {
-                Ok(Some((packet, size))) => {
+            match self.take_next(role, rest, told) {
+                Ok(Some((_, Some(reason)))) => return Some(reason),
+                Ok(Some((size, None))) => {
                     used += size;
                     came = true;
-                    if let Some(reason) = self.take_or_close(role, packet, told) {
-                        return Some(reason);
-                    }
                 }
                 Ok(None) => {
                     self.hear(role, now, came);

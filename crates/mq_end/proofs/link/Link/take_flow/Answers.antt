@@ -1,6 +1,4 @@
-use Rattle.std.proofs.Common.{◌≡◌, None, Some, ap, sym, subst, ◌∙◌}
-use Rattle.mq_end.specs.declared.outcome.Outcome.{Outcome}
-use Rattle.mq_end.specs.declared.reason.CloseReason.{CloseReason}
+use Rattle.std.proofs.Common.{ap, sym, subst, ◌∙◌}
 use Rattle.mq_end.specs.declared.reason.CloseReason.TheVariants as reasons
 use Rattle.mq_end.specs.End.{Reply}
 use Rattle.mq_end.specs.Receiving.{Gives}
