@@ -154,6 +154,17 @@ module _ (t : Tree) (All : ℕ → Qos → Type 0) (first found later : Entries)
         w.left c q (among_map (Steps t n one.0) (λ at. Finds t at (n ∷ ns) c q) (λ at s. step_finds t c q at one.0 n ns s one.2) nodes ((step one.0).0 one.1));
   }
 
+  -- where no node is reached, all is found
+  pub walk_stops : (name : List (List ℕ)) → nodes ≡ [] → IsWalked t All first found nodes name → Gathers All first found
+  walk_stops name none w = record {
+    kept = w.kept;
+    finds = λ c q x. elim (w.finds c q x) [
+      | inl found ↦ found
+      | inr below ↦ absurd (subst (λ ns. Among (λ at. Finds t at name c q) ns) none below)
+    ];
+    sound = w.sound;
+  }
+
   pub walk_ends : (last : Entries) → IsWalked t All first found nodes []
       → Gathers (λ c q. Among (λ at. IsAt t (t.child at hash) c q) nodes) found later → Gathers (λ c q. Among (λ at. IsAt t at c q) nodes) later last → Gathers All first last
   walk_ends last w g h = record {

@@ -205,6 +205,10 @@ fn walk(
     nodes.push(from)?;
     let mut left = name;
     'levels: while let Some(text) = left {
+        // Where no node is reached, no level that is left reaches one.
+        if nodes.is_empty() {
+            return Ok(());
+        }
         let (level, after) = first_level(text);
         gather_rests(trie, &nodes, found)?;
         nodes = step(alloc, trie, &nodes, level)?;

@@ -1,11 +1,13 @@
-use Rattle.std.proofs.Common.{◌∷◌, [], Option, ap, subst, ◌∙◌, ◌↔◌}
+use Rattle.std.proofs.Common.{◌≡◌, ◌∷◌, [], Option, sym, ap, subst, ◌∙◌, ◌↔◌, arith, eqb-true}
+use Rattle.std.specs.Vec.{vec_len}
+use Rattle.std.proofs.lemmas.List.{nil_from_length}
 use Rattle.mq_topic.specs.Found.{Among, Finds, Gathers, IsAt, Steps}
 use Rattle.mq_topic.specs.Matching.{levels_left}
 use Rattle.mq_topic.specs.TrieView.{child_of, tree}
 use Rattle.mq_topic.specs.declared.trie_nodes.NodeId.{NodeId}
 use Rattle.mq_topic.proofs.Gathering.{Holds}
 use Rattle.mq_topic.proofs.Outcomes.{when_ok}
-use Rattle.mq_topic.proofs.Walking.{IsWalked, walk_begins, walk_ends, walk_level}
+use Rattle.mq_topic.proofs.Walking.{IsWalked, walk_begins, walk_ends, walk_level, walk_stops}
 use Rattle.mq_topic.proofs.trie_walk.walk.Goals as goal
 
 pub levels-init : goal.levels-init
@@ -48,3 +50,12 @@ returns c =
     when_ok c.gather_ends.result _ _
     (λ g. walk_ends t All begun found later nodes last walked gathered (subst (λ ns. Gathers (λ d q. Among (λ at. IsAt t at d q) ns) later last) c.deref-3.ensures.value g))
     c.gather_ends.ensures
+
+pub returns-then-is_empty : goal.returns-then-is_empty
+returns-then-is_empty c =
+    let t = tree c.args.trie.now in
+    let name = levels_left c.args.name in
+    let nodes = c.levels.nodes in
+    let size = eqb-true (vec_len nodes) 0 (sym c.is_empty.ensures ∙ c.if-is_empty.true) in
+    let none : nodes.items ≡ [] = nil_from_length nodes.items (omega (arith, size, nodes.ok)) in
+    walk_stops t (Finds t c.args.from name) c.args.found.now.entries c.levels.found.entries c.levels.found.entries nodes.items (levels_left c.levels.left) none c.levels.invariant
