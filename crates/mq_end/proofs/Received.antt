@@ -5,7 +5,7 @@ use Rattle.mq_packet.specs.declared.packet.Packet.{Packet}
 use Rattle.mq_decode.specs.declared.fault.FaultKind.{FaultKind}
 use Rattle.mq_decode.specs.declared.fault.DecodeFault.{DecodeFault}
 use Rattle.mq_decode.specs.Limits.{Bounds}
-use Rattle.mq_decode.specs.Grammar.{Stream, Faulty, AtFirst, AtLength, AtSize, AtField, Reading, Begins}
+use Rattle.mq_decode.specs.Grammar.{Stream, Pending, Faulty, AtFirst, AtLength, AtSize, AtField, Reading, Begins}
 use Rattle.mq_decode.specs.Laws.{ReadsAgain}
 use Rattle.mq_end.specs.declared.reason.CloseReason.{CloseReason}
 use Rattle.mq_end.specs.declared.reason.CloseReason.TheVariants as reasons
@@ -33,6 +33,13 @@ faulty_some limit b k place (AtFirst h) = subst (λ (t : List ℕ). 0 < length t
 faulty_some limit b k place (AtLength h) = subst (λ (t : List ℕ). 0 < length t) (sym h.bytes) (omega arith)
 faulty_some limit b k place (AtSize h) = subst (λ (t : List ℕ). 0 < length t) (sym h.bytes) (omega arith)
 faulty_some limit b k place (AtField h) = subst (λ (t : List ℕ). 0 < length t) (sym h.bytes) (omega arith)
+
+-- no bytes are less than a packet
+pub pending_nil : (limit : Bounds) → ReadsAgain → Pending limit []
+pending_nil limit again = record {
+  not_whole = λ p first rest h parts. absurd (omega (arith, again.some limit p first h, ap length parts, length-append first rest));
+  not_faulty = λ k place h. absurd (omega (arith, faulty_some limit [] k place h));
+}
 
 -- a packet takes a byte
 stream_some : (limit : Bounds) (p : Packet) (ps : List Packet) (b more : List ℕ) → ReadsAgain → Stream limit (p ∷ ps) b → 0 < length (b ++ more)

@@ -15,6 +15,7 @@ use Rattle.mq_end.specs.End.{End, Reply, one_by_one, closes}
 use Rattle.mq_end.specs.State.{EndState}
 use Rattle.mq_end.specs.Receiving.{Acts, Makes, Hears, IsBreak, TakesAll, TakesNext, gets_as, held_after, heard_as}
 use Rattle.mq_end.proofs.Replies.{makes_end}
+use Rattle.mq_end.proofs.Received.{pending_nil}
 use Rattle.mq_end.proofs.Along.{Along, along_none, along_more, taken_shut, taken_starved}
 use Rattle.mq_end.proofs.Hearing.{break_made, hears_shut, hears_all, hears_starved, hears_fault, with_held}
 
@@ -163,6 +164,13 @@ walked_all role now piece old last mid new t u came rest w pending holds state l
     (record { front = w.front; stream = w.stream; parts = w.parts; ends = subst (λ (l : Bounds). Pending l h) limit pending })
     (TakesAll w.along.going refl) (subst (λ (s : EndState). Makes r (with_held old h) s t u) (sym same) a.makes) (sym w.along.going)
     (later ∙ ap (λ (b : Bool). record mid { moment = heard_as role b now mid.moment }) w.some)
+
+-- nothing is left behind a packet, and nothing is held
+pub walked_whole : (role : Role) (now : ℕ) (piece : List ℕ) (old last new : EndState) (t u : Told) (came : Bool) (rest : List ℕ)
+    → ReadsAgain → Walked role piece old last t u came rest → last.held ≡ [] → rest ≡ [] → new ≡ record last { moment = heard_as role came now last.moment } → Hears role now piece old new t u None
+walked_whole role now piece old last new t u came rest again w held none later =
+    let left : last.held ++ rest ≡ [] = ap (λ (h : List ℕ). h ++ rest) held ∙ none in
+    walked_all role now piece old last last new t u came rest w (subst (Pending last.limit) (sym left) (pending_nil last.limit again)) (held ∙ sym left) refl later
 
 -- memory ran out for the next packet
 pub walked_starved : (role : Role) (now : ℕ) (piece : List ℕ) (old last mid new : EndState) (t u : Told) (came : Bool) (rest : List ℕ)

@@ -67,6 +67,7 @@ impl<T: Drop> Gathered<T> {
 
     /// Puts an item last, within the room for it.
     #[tactic(auto, using(crate::proofs::Fews::is_alone, crate::proofs::Fews::is_behind))]
+    #[inline(always)]
     pub(crate) fn push(&mut self, item: T)
         requires room { 0 < self.old.room }
         ensures items { self.new.items ≡ self.old.items ++ item ∷ [] }

@@ -148,6 +148,11 @@ impl Link {
                 Ok(Some((size, None))) => {
                     used += size;
                     came = true;
+                    // Nothing is held, and nothing is left to look at.
+                    if used == piece.len() {
+                        self.hear(role, now, came);
+                        return None;
+                    }
                 }
                 Ok(None) => {
                     self.hear(role, now, came);

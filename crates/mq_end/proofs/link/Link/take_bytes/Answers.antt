@@ -1,5 +1,5 @@
-use Rattle.std.proofs.Common.{◌≡◌, ℕ, ◌<◌, ◌++◌, true, List, length, take, drop, None, Some, sym, ap, subst, ◌∙◌, arith}
-use Rattle.std.proofs.lemmas.List.{drop-drop, length-append, length-take}
+use Rattle.std.proofs.Common.{◌≡◌, ℕ, ◌<◌, ◌++◌, true, List, [], length, take, drop, None, Some, sym, ap, subst, ◌∙◌, arith}
+use Rattle.std.proofs.lemmas.List.{drop-drop, length-append, length-drop, length-take, nil_from_length}
 use Rattle.mq_decode.specs.Grammar.{Faulty, Pending}
 use Rattle.mq_end.specs.declared.reason.CloseReason.{CloseReason}
 use Rattle.mq_end.specs.declared.reason.CloseReason.TheVariants as reasons
@@ -7,7 +7,7 @@ use Rattle.mq_end.specs.declared.told.Told.{Told}
 use Rattle.mq_end.specs.State.{EndState}
 use Rattle.mq_end.specs.Receiving.{Hears, TakesNext}
 use Rattle.mq_end.proofs.Along.{closes_made}
-use Rattle.mq_end.proofs.Walking.{Walked, came_of, next_held, next_taken, walked_none, walked_more, walked_shut, walked_all, walked_starved, walked_broken}
+use Rattle.mq_end.proofs.Walking.{Walked, came_of, next_held, next_taken, walked_none, walked_more, walked_shut, walked_all, walked_starved, walked_broken, walked_whole}
 use Rattle.mq_end.proofs.link.Link.take_bytes.Goals as goal
 
 pub loop-reason-init : goal.loop-reason-init
@@ -73,8 +73,8 @@ returns-in-Ok-None c =
     let kept : c.take_next.new.told ≡ at.told = rw c.in-Ok-None.field-0-is at c.in-Ok-None.ensures.told in
     let holds = ap (λ (s : EndState). s.held) all ∙ ap (λ (b : List ℕ). at.self.held ++ b) c.split_at.ensures.back in
     let state = all ∙ ap (λ (h : List ℕ). record at.self { held = h }) (sym (ap (λ (s : EndState). s.held) all)) in
-    subst (λ (t : Told). Hears c.args.role c.args.now piece old c.hear.new.self c.args.told.now t None) (sym kept)
-    (walked_all c.args.role c.args.now piece old at.self mid c.hear.new.self c.args.told.now at.told at.came rest at.invariant.walked pending holds state c.hear.ensures)
+    subst (λ (t : Told). Hears c.args.role c.args.now piece old c.hear-in-Ok-None.new.self c.args.told.now t None) (sym kept)
+    (walked_all c.args.role c.args.now piece old at.self mid c.hear-in-Ok-None.new.self c.args.told.now at.told at.came rest at.invariant.walked pending holds state c.hear-in-Ok-None.ensures)
 
 pub returns-in-Err-Memory : goal.returns-in-Err-Memory
 returns-in-Err-Memory c =
@@ -103,3 +103,20 @@ returns-in-Err-Fault c =
     let faulty = subst (λ (b : List ℕ). Faulty at.self.limit (at.self.held ++ b) fault.kind fault.place) c.split_at.ensures.back broken in
     subst (λ (t : Told). Hears c.args.role c.args.now piece old c.break_off.new.self c.args.told.now t (Some c.break_off.result)) (sym c.in-Err-Fault.ensures.err_told)
     (walked_broken c.args.role c.args.now piece old at.self mid c.break_off.new.self c.args.told.now at.told at.came rest fault c.break_off.result x.0 at.invariant.walked faulty c.in-Err-Fault.ensures.err_state x.1 x.2 x.3)
+
+pub returns-then-used-piece : goal.returns-then-used-piece
+returns-then-used-piece c =
+    let at = c.loop-reason in
+    let role = c.args.role in
+    let old = c.args.self.now in
+    let piece = c.args.piece.now in
+    let rest = drop at.used piece in
+    let new = c.take_next.new.self in
+    let told = c.take_next.new.told in
+    let n = c.in-Ok-Some-default-None.size in
+    let taken : TakesNext role c.split_at.result.1.now n None at.self new at.told told = rw (c.in-Ok-Some-default-None.field-0-is, c.in-Ok-Some-default-None.field-0-0-1-is) at c.in-Ok-Some-default-None.ensures.packet in
+    let x = subst (λ (b : List ℕ). TakesNext role b n None at.self new at.told told) c.split_at.ensures.back taken in
+    let next = next_taken role piece old at.self new c.args.told.now at.told told at.came n rest None at.invariant.walked x in
+    let walked = walked_more role piece old _ new c.args.told.now at.told told x.packet (drop n rest) next (came_of role rest n None at.self new at.told told x) in
+    let none : drop n rest ≡ [] = nil_from_length (drop n rest) (omega (arith, length-drop n rest, length-drop at.used piece, c.if-used-piece.true)) in
+    walked_whole role c.args.now piece old new _ c.args.told.now told true (drop n rest) c.reads_again.ensures walked (next_held role rest n at.self new at.told told x) none c.hear.ensures
