@@ -533,7 +533,10 @@ fn take_byte(
     if held.waits() {
         return Ok(());
     }
-    take_whole(alloc, limits, held, out)
+    match take_whole(alloc, limits, held, out) {
+        Ok(()) => Ok(()),
+        Err(error) => Err(error),
+    }
 }
 
 /// Takes the packets of a piece that follows what is held.
@@ -594,5 +597,8 @@ pub(crate) fn take_in(
     if held.wants_over(piece) {
         return held.hold(piece);
     }
-    take_piece(alloc, limits, held, piece, out)
+    match take_piece(alloc, limits, held, piece, out) {
+        Ok(()) => Ok(()),
+        Err(error) => Err(error),
+    }
 }

@@ -1,5 +1,4 @@
 use Rattle.std.proofs.Common.{◌≡◌, ℕ, List, ◌<◌, ◌++◌, [], ◌∷◌, length, sym, subst, ◌∙◌, arith}
-use Rattle.std.proofs.lemmas.Result.{on_ok_weaker}
 use Rattle.mq_decode.specs.Copied.{counted_more}
 use Rattle.mq_decode.specs.Grammar.{IsAlone, Takes}
 use Rattle.mq_decode.proofs.Alone.{byte_alone, takes_copies, takes_goes}
@@ -16,21 +15,17 @@ take_whole-requires c =
     let held : c.waits.new.self.bytes ≡ c.args.held.now.bytes ++ c.args.byte ∷ [] = c.waits.ensures.bytes ∙ c.in_ok-hold_byte.ensures.ok in
     subst (IsAlone c.args.limits) (sym held) (byte_alone c.args.limits c.args.held.now.bytes c.args.byte c.requires.pending)
 
-pub returns-clause-ok : goal.returns-clause-ok
-returns-clause-ok c =
+pub returns-in-Ok-clause-ok : goal.returns-in-Ok-clause-ok
+returns-in-Ok-clause-ok c =
     let bytes = c.args.held.now.bytes ++ c.args.byte ∷ [] in
     let held : c.waits.new.self.bytes ≡ bytes = c.waits.ensures.bytes ∙ c.in_ok-hold_byte.ensures.ok in
-    on_ok_weaker c.take_whole.result
-    (λ taken. takes_goes c.args.limits bytes c.args.out.now.items c.take_whole.new.out.items c.take_whole.new.held.bytes
-    (subst (λ (b : List ℕ). Takes c.args.limits b c.args.out.now.items c.take_whole.new.out.items c.take_whole.new.held.bytes) held taken))
-    c.take_whole.ensures.ok
+    takes_goes c.args.limits bytes c.args.out.now.items c.take_whole.new.out.items c.take_whole.new.held.bytes
+    (subst (λ (b : List ℕ). Takes c.args.limits b c.args.out.now.items c.take_whole.new.out.items c.take_whole.new.held.bytes) held c.in-Ok.ensures.ok)
 
-pub returns-clause-copied : goal.returns-clause-copied
-returns-clause-copied c =
+pub returns-in-Ok-clause-copied : goal.returns-in-Ok-clause-copied
+returns-in-Ok-clause-copied c =
     let bytes = c.args.held.now.bytes ++ c.args.byte ∷ [] in
     let held : c.waits.new.self.bytes ≡ bytes = c.waits.ensures.bytes ∙ c.in_ok-hold_byte.ensures.ok in
     let count : c.take_whole.new.held.copied ≡ counted_more c.args.held.now.copied 1 = c.take_whole.ensures.copied ∙ (c.waits.ensures.copied ∙ c.in_ok-hold_byte.ensures.copied) in
-    on_ok_weaker c.take_whole.result
-    (λ taken. takes_copies c.args.limits c.args.held.now.bytes c.args.byte c.args.out.now.items c.take_whole.new.out.items c.take_whole.new.held.bytes c.args.held.now.copied c.take_whole.new.held.copied
-    (subst (λ (b : List ℕ). Takes c.args.limits b c.args.out.now.items c.take_whole.new.out.items c.take_whole.new.held.bytes) held taken) count)
-    c.take_whole.ensures.ok
+    takes_copies c.args.limits c.args.held.now.bytes c.args.byte c.args.out.now.items c.take_whole.new.out.items c.take_whole.new.held.bytes c.args.held.now.copied c.take_whole.new.held.copied
+    (subst (λ (b : List ℕ). Takes c.args.limits b c.args.out.now.items c.take_whole.new.out.items c.take_whole.new.held.bytes) held c.in-Ok.ensures.ok) count
