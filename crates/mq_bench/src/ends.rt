@@ -56,25 +56,14 @@ fn messages(alloc: Global, qos: Qos, size: usize, count: u16) -> anyhow::Result<
     Ok(messages)
 }
 
-/// Sends messages one after another; answers whether each was handed on once.
-fn send_all(pair: &mut Pair, messages: Vec<Message>) -> bool {
-    for message in messages {
-        if !pair.exchange(message) {
-            return false;
-        }
-    }
-    true
-}
-
 /// How long a batch of messages takes.
 fn time_batch(rt: &impl Clock, pair: &mut Pair, messages: Vec<Message>) -> anyhow::Result<u64> {
     let start = Instant::now(rt)?;
-    let is_well = send_all(pair, messages);
+    for message in messages {
+        pair.exchange(message)?;
+    }
     let time = start.elapsed(rt)?;
-    ensure!(
-        is_well && pair.is_idle(),
-        "a message was not handed on once"
-    );
+    ensure!(pair.is_idle(), "a message waits for something");
     Ok(u64::try_from(time.as_nanos()).unwrap_or(u64::MAX))
 }
 

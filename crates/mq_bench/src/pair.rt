@@ -86,8 +86,8 @@ impl Pair {
     fn come_up(&mut self) -> anyhow::Result<()> {
         self.server.opened(0);
         self.client.connect(0, false)?;
-        let _ = self.to_server();
-        self.to_client();
+        self.to_server()?;
+        self.to_client()?;
         ensure!(self.is_up(), "the ends are not up");
         Ok(())
     }
@@ -105,38 +105,39 @@ impl Pair {
     }
 
     /// The bytes that wait at the client come to the server; answers how many messages it hands on.
-    fn to_server(&mut self) -> usize {
+    fn to_server(&mut self) -> anyhow::Result<usize> {
         let progress = self.server.receive(0, self.client.output());
+        ensure!(progress.closed.is_none(), "the server closed");
         let written = self.client.output().len();
         self.client.take_output(written);
-        handed(progress.happenings.as_slice())
+        Ok(handed(progress.happenings.as_slice()))
     }
 
     /// The bytes that wait at the server come to the client.
-    fn to_client(&mut self) {
+    fn to_client(&mut self) -> anyhow::Result<()> {
+        if self.server.output().is_empty() {
+            return Ok(());
+        }
         let progress = self.client.receive(0, self.server.output());
-        drop(progress);
+        ensure!(progress.closed.is_none(), "the client closed");
         let written = self.server.output().len();
         self.server.take_output(written);
+        Ok(())
     }
 
-    /// The client publishes a message, and all bytes go to and fro until none waits: one exchange at quality of service 1, two at 2. Answers
-    /// whether the message was handed on once.
-    pub(crate) fn exchange(&mut self, message: Message) -> bool {
-        if self.client.publish(message).is_err() {
-            return false;
-        }
+    /// The client publishes a message, and all bytes go to and fro until none waits: one exchange at quality of service 1, two at 2.
+    pub(crate) fn exchange(&mut self, message: Message) -> anyhow::Result<()> {
+        self.client.publish(message)?;
         let mut count = 0usize;
         for _ in 0..2 {
             if self.client.output().is_empty() {
                 break;
             }
-            count = count.saturating_add(self.to_server());
-            if !self.server.output().is_empty() {
-                self.to_client();
-            }
+            count = count.saturating_add(self.to_server()?);
+            self.to_client()?;
         }
-        count == 1
+        ensure!(count == 1, "a message is not handed on once");
+        Ok(())
     }
 
     /// The client publishes a message, whose bytes are written and come nowhere.

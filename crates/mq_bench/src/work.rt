@@ -113,10 +113,8 @@ fn decode(alloc: Global, bytes: &[u8], piece: usize) -> anyhow::Result<u64> {
         if let Err(error) = decoder.feed(piece, &mut packets) {
             bail!("the stream was refused: {error:?}");
         }
-        if !packets.is_empty() {
-            count = count.saturating_add(packets.len() as u64);
-            packets.clear();
-        }
+        count = count.saturating_add(packets.len() as u64);
+        packets.clear();
     }
     ensure!(decoder.held() == 0, "the stream was not decoded to its end");
     Ok(count)
