@@ -110,11 +110,13 @@ fn decode(alloc: Global, bytes: &[u8], piece: usize) -> anyhow::Result<u64> {
     let mut packets = Vec::new(alloc);
     let mut count = 0u64;
     for piece in bytes.chunks(piece.max(1)) {
-        if let Err(error) = decoder.feed(piece, &mut packets) {
-            bail!("the stream was refused: {error:?}");
+        if decoder.feed(piece, &mut packets).is_err() {
+            bail!("the stream was refused");
         }
-        count = count.saturating_add(packets.len() as u64);
-        packets.clear();
+        if !packets.is_empty() {
+            count = count.saturating_add(packets.len() as u64);
+            packets.clear();
+        }
     }
     ensure!(decoder.held() == 0, "the stream was not decoded to its end");
     Ok(count)

@@ -1,13 +1,12 @@
 -- A session begins, and a connection comes up for it.
-use Rattle.std.proofs.Common.{◌≡◌, ◌||◌, ◌&&◌, ℕ, ◌+◌, ◌<◌, ◌≤◌, ◌^◌, not, Bool, true, false, cond, List, [], ◌∷◌, ◌++◌, Option, Some, None, refl, sym, ap, ap₂, subst, ◌∙◌, arith, eqb, eqb-true, eq-eqb, true≢false}
+use Rattle.std.proofs.Common.{◌≡◌, ◌&&◌, ℕ, ◌+◌, ◌<◌, ◌^◌, not, Bool, true, false, cond, List, [], ◌∷◌, ◌++◌, Some, None, refl, sym, ap, ap₂, subst, ◌∙◌, arith, eqb, eqb-true, eq-eqb, true≢false}
 use Rattle.std.proofs.lemmas.Bool.{cond-true, cond-false, ne_eqb}
 use Rattle.std.specs.List.{AllByRecursion}
 use Rattle.std.specs.Option.{is_some}
 use Rattle.mq_topic.specs.Rows.{Row}
 use Rattle.mq_packet.specs.declared.connect.Connect.{Connect}
 use Rattle.mq_packet.specs.Spelling.{spellings}
-use Rattle.mq_end.specs.End.{End, Reply}
-use Rattle.mq_end.specs.Server.{opens}
+use Rattle.mq_end.specs.End.{End}
 use Rattle.mq_end.specs.State.{EndState}
 use Rattle.mq_route.specs.declared.act.Act.{Act}
 use Rattle.mq_route.specs.declared.act.Act.TheVariants as acts
@@ -17,10 +16,9 @@ use Rattle.mq_route.specs.declared.stage.Stage.{Stage}
 use Rattle.mq_route.specs.declared.stage.Stage.TheVariants.{Fresh, UpFor, Shut}
 use Rattle.mq_route.specs.Arrives.{greet, greet_new, greeting, new_session}
 use Rattle.mq_route.specs.Hub.{HubState, HubSession, Line, end_of, is_for, new_end, stage_of, up_on, with_end, with_line}
-use Rattle.mq_route.specs.Work.{Work}
 use Rattle.mq_hub.specs.declared.session.Tenant.{Tenant}
 use Rattle.mq_hub.specs.Does.{GoesBy}
-use Rattle.mq_hub.specs.Keeps.{AreApart, HubKeeps, IsHoused, IsSeated, IsWillWithin, Stands}
+use Rattle.mq_hub.specs.Keeps.{HubKeeps, IsHoused, IsSeated, IsWillWithin, Stands}
 use Rattle.mq_hub.specs.Rising.{risen}
 use Rattle.mq_hub.specs.Seen.{HubTables, all_seen, hub_of, output_of, seen, waiting_by}
 use Rattle.mq_hub.specs.Sessions.{session_of, sessions_of, tenant_of, AreBelow}

@@ -1,14 +1,12 @@
 -- Bytes that are no packet come on a connection on which a client is up: its end closes, and answers nothing.
-use Rattle.std.proofs.Common.{◌≡◌, ◌&&◌, ℕ, Bool, true, false, not, cond, List, [], ◌∷◌, ◌++◌, map, Option, Some, None, refl, sym, ap, ◌∙◌}
+use Rattle.std.proofs.Common.{◌≡◌, ◌&&◌, ℕ, Bool, true, false, not, cond, List, [], ◌∷◌, ◌++◌, Option, Some, None, refl, sym, ap, ◌∙◌}
 use Rattle.std.proofs.Common.{append-nil, true≢false}
 use Rattle.std.proofs.lemmas.Bool.{cond-true}
 use Rattle.std.specs.List.{AllByRecursion}
 use Rattle.std.specs.Option.{is_some}
-use Rattle.mq_packet.specs.declared.packet.Packet.{Packet}
 use Rattle.mq_packet.specs.Spelling.{spellings}
 use Rattle.mq_decode.specs.declared.fault.DecodeFault.{DecodeFault}
 use Rattle.mq_end.specs.declared.reason.CloseReason.TheVariants as reasons
-use Rattle.mq_end.specs.declared.state.State.{State}
 use Rattle.mq_end.specs.declared.state.State.TheVariants.{Closed, Up}
 use Rattle.mq_end.specs.End.{End, Reply, closes, is_up}
 use Rattle.mq_end.specs.Server.{level_refused}
@@ -18,8 +16,6 @@ use Rattle.mq_route.specs.declared.close.HubClose.TheVariants.{Own}
 use Rattle.mq_route.specs.declared.config.HubConfig.{HubConfig}
 use Rattle.mq_route.specs.declared.conn.Conn.{Conn}
 use Rattle.mq_route.specs.declared.stage.Stage.{Stage}
-use Rattle.mq_route.specs.declared.stage.Stage.TheVariants.{UpFor}
-use Rattle.mq_route.specs.declared.stage.Terms.{Terms}
 use Rattle.mq_route.specs.Arrives.{breaks, broken, closes_by}
 use Rattle.mq_route.specs.Hub.{HubState, Line, end_of, end_on, is_line, key_on, stage_of, up_on, with_line}
 use Rattle.mq_route.specs.Work.{Work, close, put_on}

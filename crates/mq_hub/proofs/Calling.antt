@@ -1,6 +1,6 @@
 -- What the end of a session does, as a call of it says.
-use Rattle.std.proofs.Common.{◌≡◌, ℕ, ◌+◌, ◌≤◌, Bool, true, false, List, [], ◌∷◌, ◌++◌, length, Option, Some, None, Result, Ok, Err, IsOk, IsErr, IfOk, OnOk, OnErr, refl, sym, ap, ap₂, cond, eqb, subst, ◌∙◌, arith, true≢false}
-use Rattle.std.specs.Prelude.{⊤, option_to_list}
+use Rattle.std.proofs.Common.{◌≡◌, ℕ, ◌+◌, ◌≤◌, Bool, true, false, List, [], ◌∷◌, ◌++◌, length, Some, None, Result, Ok, Err, IsOk, IsErr, IfOk, OnOk, OnErr, refl, sym, ap, ap₂, cond, eqb, subst, ◌∙◌, arith, true≢false}
+use Rattle.std.specs.Prelude.{⊤}
 use Rattle.std.specs.declared.alloc.AllocError.{AllocError}
 use Rattle.mq_packet.specs.declared.message.Message.{Message}
 use Rattle.mq_packet.specs.declared.packet.Packet.{Packet}
@@ -18,7 +18,7 @@ use Rattle.mq_end.specs.State.{EndState, PutsOut, Spelled}
 use Rattle.mq_hub.specs.declared.call.Call.{Call}
 use Rattle.mq_hub.specs.declared.call.Call.TheVariants.{Takes, Grants, Drops}
 use Rattle.mq_hub.specs.declared.session.Tenant.{Tenant}
-use Rattle.mq_hub.specs.Calls.{CanServe, IsAllowed, Replies, Serves, ServesAt, Tells, reply_of, is_storing}
+use Rattle.mq_hub.specs.Calls.{CanServe, IsAllowed, Serves, ServesAt, Tells, reply_of, is_storing}
 use Rattle.mq_hub.specs.Placing.{AreSameButRoom, IsReady, IsReadyAt, roomless}
 use Rattle.mq_hub.specs.Sessions.{AreAscending, tenant_of, with_server}
 use Rattle.mq_hub.proofs.Readiness.{changed_at, changed_own, same_change, same_tenant, some_same}

@@ -1,19 +1,17 @@
 -- What the broker's definition sees where one connection and the end of its session change.
-use Rattle.std.proofs.Common.{◌≡◌, ◌||◌, ℕ, Bool, true, false, cond, List, [], ◌∷◌, map, Option, Some, None, refl, sym, ap, ap₂, subst, ◌∙◌, eqb, eqb-true, eq-eqb, true≢false}
-use Rattle.std.proofs.lemmas.Bool.{cond-true, cond-false, cond_both, or_parts, ne_eqb}
+use Rattle.std.proofs.Common.{◌≡◌, ℕ, Bool, true, false, cond, List, [], ◌∷◌, Option, Some, None, refl, sym, ap, ap₂, subst, ◌∙◌, eqb, eqb-true, eq-eqb, true≢false}
+use Rattle.std.proofs.lemmas.Bool.{cond-true, cond-false, ne_eqb}
 use Rattle.std.specs.Option.{is_some}
-use Rattle.mq_end.specs.End.{End}
 use Rattle.mq_end.specs.State.{EndState}
 use Rattle.mq_route.specs.declared.conn.Conn.{Conn}
 use Rattle.mq_route.specs.declared.stage.Stage.{Stage}
 use Rattle.mq_route.specs.declared.stage.Stage.TheVariants.{Fresh, UpFor, Shut}
 use Rattle.mq_route.specs.declared.stage.Terms.{Terms}
-use Rattle.mq_route.specs.Routed.{same_conn}
-use Rattle.mq_route.specs.Hub.{Line, changed, is_for, is_line, key_on, knows, stage_of, up_on, waiting_on, with_line}
+use Rattle.mq_route.specs.Hub.{Line, is_for, is_line, key_on, knows, stage_of, up_on, waiting_on, with_line}
 use Rattle.mq_hub.specs.declared.session.Tenant.{Tenant}
 use Rattle.mq_hub.specs.Keeps.{AreApart, Stands}
 use Rattle.mq_hub.specs.Seen.{all_seen, output_of, seen, waiting_by}
-use Rattle.mq_hub.specs.Sessions.{served_by, tenant_of, with_server}
+use Rattle.mq_hub.specs.Sessions.{tenant_of, with_server}
 use Rattle.mq_hub.proofs.Connections.{one_conn, unknown}
 use Rattle.mq_hub.proofs.Seeing.{knows_seen}
 

@@ -1,5 +1,5 @@
 -- The table of connections: a name's connection, and the connection on which a client is up.
-use Rattle.std.proofs.Common.{◌≡◌, ◌≤◌, ℕ, ◌+◌, Bool, true, false, ◌&&◌, ◌||◌, cond, List, [], ◌∷◌, map, ◌++◌, Option, Some, None, refl, sym, ap, ap₂, subst, ◌∙◌, arith, zero-add, eqb, eqb-true, eq-eqb, true≢false}
+use Rattle.std.proofs.Common.{◌≡◌, ℕ, ◌+◌, Bool, true, false, ◌&&◌, ◌||◌, cond, List, [], ◌∷◌, ◌++◌, Option, Some, None, refl, sym, ap, ap₂, subst, ◌∙◌, arith, zero-add, eqb, eqb-true, eq-eqb, true≢false}
 use Rattle.std.proofs.lemmas.Bool.{cond-true, cond-false, and_parts, or_parts}
 use Rattle.std.proofs.lemmas.List.Sums.{sum_by-cons}
 use Rattle.std.proofs.lemmas.Map.{keys-set_value}
@@ -12,10 +12,10 @@ use Rattle.mq_route.specs.declared.stage.Stage.TheVariants.{Fresh, UpFor, Shut}
 use Rattle.mq_route.specs.Arrives.{heard}
 use Rattle.mq_route.specs.Hub.{Line, is_for, is_line, key_on, knows, stage_of, up_on, with_line, without_line}
 use Rattle.mq_route.specs.Routed.{same_conn}
-use Rattle.mq_route.specs.Step.{is_late_on}
 use Rattle.mq_route.specs.Welcome.{up_count}
 use Rattle.mq_hub.specs.declared.connection.Connection.{Connection}
-use Rattle.mq_hub.specs.Lines.{lines_of, line_of, ups_of, up_in, has_key, AreUpOnce, Service, service, IsServed, IsServedBy, IsTimely, AreLines}
+use Rattle.mq_hub.specs.Alarms.{AlarmTable, AreAwaited}
+use Rattle.mq_hub.specs.Lines.{lines_of, line_of, ups_of, up_in, has_key, AreUpOnce, Service, service, IsServed, IsServedBy, AreLines}
 
 abbrev pub Entry : Type 0
 Entry = Conn × Connection
@@ -189,34 +189,16 @@ served_without by k (e ∷ es) served = go (same_conn k e.0) (served_without by 
     go true rest = served.1
     go false rest = (served.0, rest)
 
--- ---- none is late before its time
+-- ---- each is awaited by an alarm
 
-pub still_timely : (due : ℕ) (s t : Stage) → s ≡ t → IsTimely due t → IsTimely due s
-still_timely due s t same timely = subst (IsTimely due) (sym same) timely
+pub awaited_of : (by : Service) (es : List Entry) → AllByRecursion (IsServed by) es → AreAwaited by.alarms es
+awaited_of by [] served = tt
+awaited_of by (e ∷ es) served = (served.0.1.1, awaited_of by es served.1)
 
-pub timely_sooner : (due sooner : ℕ) (s : Stage) → sooner ≤ due → IsTimely due s → IsTimely sooner s
-timely_sooner due sooner s le timely = λ now within. timely now (omega (arith, within, le))
-
-served_sooner : (by : Service) (due : ℕ) (es : List Entry) → due ≤ by.due → AllByRecursion (IsServed by) es → AllByRecursion (IsServed (service by.bounds due)) es
-served_sooner by due [] le served = tt
-served_sooner by due (e ∷ es) le served =
-    ((served.0.0, (served.0.1.0, timely_sooner by.due due e.1.stage le served.0.1.1)), served_sooner by due es le served.1)
-
-served_until : (by : Service) (due : ℕ) (es : List Entry) → AllByRecursion (λ (e : Entry). IsTimely due e.1.stage) es → AllByRecursion (IsServed by) es
-    → AllByRecursion (IsServed (service by.bounds due)) es
-served_until by due [] timely served = tt
-served_until by due (e ∷ es) timely served = ((served.0.0, (served.0.1.0, timely.0)), served_until by due es timely.1 served.1)
-
--- of the entries and of their connections
-pub timely_values : (due : ℕ) (es : List Entry) → AllByRecursion (λ (c : Connection). IsTimely due c.stage) (map (λ (e : Entry). e.1) es)
-    → AllByRecursion (λ (e : Entry). IsTimely due e.1.stage) es
-timely_values due [] all = tt
-timely_values due (e ∷ es) all = (all.0, timely_values due es all.1)
-
--- up to `due` none is late
-pub in_time : (by : Service) (now : ℕ) (es : List Entry) → now ≤ by.due → AllByRecursion (IsServed by) es → AllByRecursion (λ (x : Line). is_late_on now x.stage ≡ false) (lines_of es)
-in_time by now [] within served = tt
-in_time by now (e ∷ es) within served = (served.0.1.1 now within, in_time by now es within served.1)
+served_anew : (by : Service) (alarms : AlarmTable) (es : List Entry) → AreAwaited alarms es → AllByRecursion (IsServed by) es
+    → AllByRecursion (IsServed (service by.bounds alarms)) es
+served_anew by alarms [] all served = tt
+served_anew by alarms (e ∷ es) all served = ((served.0.0, (served.0.1.0, all.0)), served_anew by alarms es all.1 served.1)
 
 -- ---- the connection on which a client is up
 
@@ -609,22 +591,11 @@ kept_shut by k key es c w find after count less kept there same reading up down 
       counted = last ∙ ap ups_count (sym ups);
     }
 
--- an earlier moment will do too
-pub kept_sooner : (by : Service) (due : ℕ) (es : List Entry) (find : ℕ → Option Conn) (count : ℕ) → due ≤ by.due → AreLines by es find count
-    → AreLines (service by.bounds due) es find count
-kept_sooner by due es find count le kept = record {
-  served = served_sooner by due es le kept.served;
-  distinct = kept.distinct;
-  singly = kept.singly;
-  found = kept.found;
-  counted = kept.counted;
-}
-
--- and so does any up to which none is late
-pub kept_until : (by : Service) (due : ℕ) (es : List Entry) (find : ℕ → Option Conn) (count : ℕ) → AllByRecursion (λ (e : Entry). IsTimely due e.1.stage) es
-    → AreLines by es find count → AreLines (service by.bounds due) es find count
-kept_until by due es find count timely kept = record {
-  served = served_until by due es timely kept.served;
+-- other alarms will do too
+pub kept_anew : (by : Service) (alarms : AlarmTable) (es : List Entry) (find : ℕ → Option Conn) (count : ℕ) → AreAwaited alarms es
+    → AreLines by es find count → AreLines (service by.bounds alarms) es find count
+kept_anew by alarms es find count all kept = record {
+  served = served_anew by alarms es all kept.served;
   distinct = kept.distinct;
   singly = kept.singly;
   found = kept.found;

@@ -1,5 +1,5 @@
 -- What comes first on a connection, by the step's definition.
-use Rattle.std.proofs.Common.{◌≡◌, ℕ, Bool, true, false, cond, List, [], ◌∷◌, ◌++◌, map, Option, Some, None, Result, Ok, Err, IfOk, OnOk, OnErr, refl, sym, ap, ap₂, ◌∙◌, append-nil, true≢false}
+use Rattle.std.proofs.Common.{◌≡◌, ℕ, Bool, true, false, List, [], ◌∷◌, Result, Ok, Err, IfOk, OnOk, OnErr, refl, sym, ap, ap₂, ◌∙◌, append-nil, true≢false}
 use Rattle.std.proofs.lemmas.Bool.{cond-true, cond-false, cond_both}
 use Rattle.mq_packet.specs.declared.connack.RefusalCode.TheVariants.{UnacceptableProtocolVersion}
 use Rattle.mq_packet.specs.declared.packet.Packet.{Packet}
@@ -23,7 +23,7 @@ use Rattle.mq_hub.specs.Welcome.{is_connect, refused}
 use Rattle.mq_hub.proofs.Changing.{rest_unknown}
 use Rattle.mq_hub.proofs.Connections.{unknown}
 use Rattle.mq_hub.proofs.Going.{goes_then, goes_to}
-use Rattle.mq_hub.proofs.Refusing.{goes_put, grown}
+use Rattle.mq_hub.proofs.Refusing.{grown}
 
 -- ---- answers
 

@@ -1,6 +1,5 @@
 -- Subscriptions that a broker grants, or drops, and answers.
-use Rattle.std.proofs.Common.{◌≡◌, ℕ, Bool, true, false, not, cond, List, [], ◌∷◌, ◌++◌, Option, Some, None, Result, Ok, Err, OnOk, OnErr, suc, ◌<◌, ◌≤◌, ltb, arith, refl, sym, ap, ap₂, subst, ◌∙◌, append_assoc, append-nil, true≢false}
-use Rattle.std.specs.FinMap.{put}
+use Rattle.std.proofs.Common.{◌≡◌, ℕ, Bool, true, false, not, cond, List, [], ◌∷◌, ◌++◌, Option, Some, None, Result, Ok, Err, OnOk, OnErr, suc, ◌≤◌, ltb, arith, refl, sym, ap, ap₂, subst, ◌∙◌, append_assoc, append-nil, true≢false}
 use Rattle.std.specs.FinMap.Entries.{by_order}
 use Rattle.std.specs.List.{AllByRecursion}
 use Rattle.std.proofs.lemmas.Bool.{cond-false, lt-leb}
@@ -13,13 +12,11 @@ use Rattle.mq_topic.specs.Rows.{Row, is_key, key_cmp, with_row, without_row}
 use Rattle.mq_packet.specs.declared.packet.Request.{Request}
 use Rattle.mq_end.specs.declared.state.State.{State}
 use Rattle.mq_end.specs.declared.state.State.TheVariants.{Closed, Up}
-use Rattle.mq_end.specs.declared.outcome.Outcome.{Outcome}
 use Rattle.mq_decode.specs.Limits.{Bounds}
 use Rattle.mq_end.specs.declared.refusal.PublishRefusal.TheVariants as refusals
 use Rattle.mq_end.specs.End.{End, is_up}
 use Rattle.mq_end.specs.Sizes.{unsuback_size}
 use Rattle.mq_packet.specs.declared.packet.Packet.{Packet}
-use Rattle.mq_end.specs.State.{EndState}
 use Rattle.mq_end.specs.declared.happening.Happening.TheVariants as happens
 use Rattle.mq_end.specs.Server.{answer_refusal, unsubacks}
 use Rattle.mq_route.specs.declared.act.Act.{Act}
@@ -30,7 +27,7 @@ use Rattle.mq_route.specs.Arrives.{answers}
 use Rattle.mq_route.specs.Hub.{HubState, HubSession, Line, up_on}
 use Rattle.mq_route.specs.Work.{Work, does, said, subscribed, unsubscribed}
 use Rattle.mq_hub.specs.declared.call.Call.{Call}
-use Rattle.mq_hub.specs.declared.call.Call.TheVariants.{Takes, Grants, Drops}
+use Rattle.mq_hub.specs.declared.call.Call.TheVariants.{Takes, Drops}
 use Rattle.mq_hub.specs.declared.session.Tenant.{Tenant}
 use Rattle.mq_hub.specs.Answers.{Answers}
 use Rattle.mq_hub.specs.Calls.{CanServe, reply_of}

@@ -1,17 +1,14 @@
 -- A PUBLISH whose message is handed on, while its client is up.
 use Rattle.std.proofs.Common.{◌≡◌, ℕ, ◌+◌, ◌≤◌, Bool, true, false, cond, List, [], ◌∷◌, Option, Some, None, Ok}
 use Rattle.std.proofs.Common.{arith, refl, sym, ap, subst, ◌∙◌, eqb, eqb-true, true≢false}
-use Rattle.std.specs.List.{AllByRecursion}
 use Rattle.mq_topic.specs.declared.qos.Qos.{Qos}
 use Rattle.mq_topic.specs.declared.qos.Qos.TheVariants.{Q0, Q1, Q2}
 use Rattle.mq_decode.specs.Limits.{Bounds}
 use Rattle.mq_packet.specs.declared.message.Message.{Message}
 use Rattle.mq_packet.specs.declared.publish.Delivery.{Delivery}
-use Rattle.mq_packet.specs.declared.packet.Packet.{Packet}
 use Rattle.mq_packet.specs.declared.packet.Packet.TheVariants as packets
 use Rattle.mq_packet.specs.Publication.{Publication}
 use Rattle.mq_end.specs.declared.outcome.Outcome.{Outcome}
-use Rattle.mq_end.specs.declared.reason.CloseReason.{CloseReason}
 use Rattle.mq_end.specs.declared.reason.CloseReason.TheVariants as reasons
 use Rattle.mq_end.specs.declared.state.State.{State}
 use Rattle.mq_end.specs.declared.state.State.TheVariants.{Closed, Open, Up}

@@ -10,7 +10,7 @@ use Rattle.mq_route.specs.declared.close.HubClose.TheVariants.{Own}
 use Rattle.mq_route.specs.declared.conn.Conn.{Conn}
 use Rattle.mq_route.specs.declared.stage.Stage.{Stage}
 use Rattle.mq_route.specs.declared.stage.Stage.TheVariants.{Fresh, UpFor, Shut}
-use Rattle.mq_route.specs.Arrives.{Growth, arrives, at_first, comes_in, heard, heard_on, takes, while_up}
+use Rattle.mq_route.specs.Arrives.{arrives, at_first, comes_in, heard, heard_on, takes, while_up}
 use Rattle.mq_route.specs.Hub.{HubState, Line, is_line, is_open, key_on, stage_of, with_line}
 use Rattle.mq_route.specs.Work.{Work, close, leaves_behind, said, shut}
 use Rattle.mq_hub.specs.Coming.{hears, with_heard}

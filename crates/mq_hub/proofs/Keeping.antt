@@ -1,9 +1,8 @@
 -- What a broker keeps true, over changes of its tables.
-use Rattle.std.proofs.Common.{◌≡◌, ◌||◌, ℕ, Bool, true, false, cond, List, [], ◌∷◌, ◌++◌, map, Option, Some, None, refl, sym, ap, ap₂, subst, ◌∙◌}
+use Rattle.std.proofs.Common.{◌≡◌, ◌||◌, ℕ, Bool, false, cond, List, [], ◌∷◌, ◌++◌, map, Option, Some, None, refl, sym, ap, ap₂, subst, ◌∙◌}
 use Rattle.std.proofs.lemmas.Bool.{or_parts}
 use Rattle.std.specs.List.{AllByRecursion}
 use Rattle.std.specs.Option.{is_some}
-use Rattle.mq_end.specs.declared.state.State.{State}
 use Rattle.mq_end.specs.declared.state.State.TheVariants.{Closed, Up}
 use Rattle.mq_route.specs.declared.config.HubConfig.{HubConfig}
 use Rattle.mq_route.specs.declared.conn.Conn.{Conn}

@@ -1,5 +1,5 @@
 -- The end of a session that loses its connection.
-use Rattle.std.proofs.Common.{◌≡◌, ℕ, true, List, Option, Some, None, refl, sym, ◌∙◌, true≢false}
+use Rattle.std.proofs.Common.{◌≡◌, ℕ, true, List, Option, Some, None, refl, sym, true≢false}
 use Rattle.std.specs.Option.{is_some, IfSome}
 use Rattle.mq_hub.specs.declared.session.Tenant.{Tenant}
 use Rattle.mq_hub.specs.Leaving.{parted}

@@ -1,4 +1,5 @@
 pub mod Admitting
+pub mod Ringing
 pub mod Alike
 pub mod Asking
 pub mod Beginning

@@ -1,5 +1,5 @@
 -- Bytes that come on a connection, packet by packet.
-use Rattle.std.proofs.Common.{◌≡◌, ℕ, ◌+◌, ◌<◌, ◌≤◌, Bool, true, false, List, [], ◌∷◌, ◌++◌, length, take, drop, Option, Some, None, refl, sym, ap}
+use Rattle.std.proofs.Common.{◌≡◌, ℕ, ◌+◌, ◌<◌, Bool, true, false, List, [], ◌∷◌, ◌++◌, length, take, drop, Some, None, refl, sym, ap}
 use Rattle.std.proofs.Common.{subst, ◌∙◌, arith, true≢false}
 use Rattle.std.proofs.lemmas.Bool.{cond-true}
 use Rattle.std.proofs.lemmas.List.{append_assoc, length-append, take-append-drop}
@@ -7,19 +7,18 @@ use Rattle.mq_packet.specs.declared.packet.Packet.{Packet}
 use Rattle.mq_packet.specs.Spelling.{fields, first_byte}
 use Rattle.mq_decode.specs.declared.fault.DecodeFault.{DecodeFault}
 use Rattle.mq_decode.specs.declared.fault.FaultKind.{FaultKind}
-use Rattle.mq_decode.specs.Grammar.{Faulty, AtFirst, AtLength, AtSize, AtField, Pending, Reads, ReadsWithin}
+use Rattle.mq_decode.specs.Grammar.{Faulty, AtFirst, AtLength, AtSize, AtField, Pending, Reads}
 use Rattle.mq_decode.specs.Limits.{Bounds}
 use Rattle.mq_end.specs.declared.reason.CloseReason.TheVariants as reasons
 use Rattle.mq_route.specs.declared.act.Act.{Act}
 use Rattle.mq_route.specs.declared.close.HubClose.TheVariants.{Own}
 use Rattle.mq_route.specs.declared.conn.Conn.{Conn}
 use Rattle.mq_route.specs.declared.event.HubEvent.TheVariants.{Bytes}
-use Rattle.mq_route.specs.declared.refusal.HubRefusal.{HubRefusal}
 use Rattle.mq_route.specs.declared.refusal.HubRefusal.TheVariants as refusals
 use Rattle.mq_route.specs.declared.reply.HubReply.{HubReply}
 use Rattle.mq_route.specs.Arrives.{breaks, takes}
 use Rattle.mq_route.specs.Hub.{HubState, Line, held_on, is_open, knows, stage_of}
-use Rattle.mq_route.specs.Step.{Comes, Arrives, Waits, Breaks, Starves, LetsGo, HubStep, holding}
+use Rattle.mq_route.specs.Step.{Arrives, Waits, Breaks, Starves, LetsGo, HubStep, holding}
 use Rattle.mq_route.specs.Work.{Work, begin, close}
 use Rattle.mq_hub.specs.Coming.{Came, ComesBy, TakenBy, with_held}
 use Rattle.mq_hub.specs.Does.{GoesBy}

@@ -1,5 +1,5 @@
 -- A connection that waits for its CONNECT is closed, with bytes that were put out on it.
-use Rattle.std.proofs.Common.{◌≡◌, ℕ, Bool, true, false, cond, List, [], ◌∷◌, ◌++◌, map, Option, Some, None, refl, sym, ap, ap₂, subst, ◌∙◌}
+use Rattle.std.proofs.Common.{◌≡◌, ℕ, Bool, true, false, cond, List, [], ◌∷◌, ◌++◌, None, refl, sym, ap, ap₂, subst, ◌∙◌}
 use Rattle.std.proofs.lemmas.Bool.{cond-true, cond-false, cond_both}
 use Rattle.std.specs.List.{AllByRecursion}
 use Rattle.mq_packet.specs.declared.connack.RefusalCode.{RefusalCode}
@@ -15,13 +15,13 @@ use Rattle.mq_route.specs.declared.close.HubClose.TheVariants.{Own}
 use Rattle.mq_route.specs.declared.config.HubConfig.{HubConfig}
 use Rattle.mq_route.specs.declared.conn.Conn.{Conn}
 use Rattle.mq_route.specs.declared.stage.Stage.{Stage}
-use Rattle.mq_route.specs.declared.stage.Stage.TheVariants.{Fresh, UpFor, Shut}
-use Rattle.mq_route.specs.Hub.{HubState, Line, changed, is_for, is_line, key_on, knows, stage_of, up_on, with_line}
+use Rattle.mq_route.specs.declared.stage.Stage.TheVariants.{Fresh, Shut}
+use Rattle.mq_route.specs.Hub.{HubState, Line, changed, is_line, key_on, knows, stage_of, with_line}
 use Rattle.mq_route.specs.Routed.{same_conn}
-use Rattle.mq_route.specs.Work.{Work, close, put_on}
+use Rattle.mq_route.specs.Work.{close, put_on}
 use Rattle.mq_hub.specs.declared.session.Tenant.{Tenant}
 use Rattle.mq_hub.specs.Does.{GoesBy}
-use Rattle.mq_hub.specs.Keeps.{AreApart, HubKeeps, IsQuiet, stage_for}
+use Rattle.mq_hub.specs.Keeps.{AreApart, HubKeeps, IsQuiet}
 use Rattle.mq_hub.specs.Seen.{HubTables, all_seen, hub_of, seen, waiting_by}
 use Rattle.mq_hub.specs.Sessions.{sessions_of}
 use Rattle.mq_hub.specs.Welcome.{refused}

@@ -10,12 +10,12 @@ use Rattle.mq_route.specs.declared.config.HubConfig.{HubConfig}
 use Rattle.mq_route.specs.declared.stage.Stage.{Stage}
 use Rattle.mq_route.specs.declared.stage.Stage.TheVariants.{Fresh, UpFor, Shut}
 use Rattle.mq_route.specs.Hub.{HubState, HubSession, Line, is_for, up_on, without_session}
-use Rattle.mq_route.specs.Work.{Work, remove}
+use Rattle.mq_route.specs.Work.{remove}
 use Rattle.mq_hub.specs.declared.session.Tenant.{Tenant}
 use Rattle.mq_hub.specs.Does.{GoesBy}
 use Rattle.mq_hub.specs.Keeps.{HubKeeps, IsHoused, IsSeated, Stands}
 use Rattle.mq_hub.specs.Seen.{HubTables, all_seen, hub_of, output_of, seen, waiting_by}
-use Rattle.mq_hub.specs.Sessions.{session_of, sessions_of, tenant_of, without_tenant, AreBelow}
+use Rattle.mq_hub.specs.Sessions.{session_of, sessions_of, tenant_of, without_tenant}
 use Rattle.mq_hub.proofs.Changing.{seen_others}
 use Rattle.mq_hub.proofs.Keeping.{kept_by}
 use Rattle.mq_hub.proofs.Tenants.{ascending_without}

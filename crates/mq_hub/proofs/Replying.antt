@@ -10,12 +10,11 @@ use Rattle.mq_packet.specs.declared.packet.Packet.{Packet}
 use Rattle.mq_packet.specs.declared.packet.Packet.TheVariants as packets
 use Rattle.mq_packet.specs.Spelling.{spellings}
 use Rattle.mq_flow.specs.Window.{fits_window}
-use Rattle.mq_end.specs.declared.reason.CloseReason.{CloseReason}
 use Rattle.mq_end.specs.declared.reason.CloseReason.TheVariants as reasons
 use Rattle.mq_end.specs.declared.state.State.{State}
 use Rattle.mq_end.specs.declared.state.State.TheVariants.{Up}
 use Rattle.mq_end.specs.Both.{publish_gets, stores}
-use Rattle.mq_end.specs.End.{End, Reply, closes, is_up}
+use Rattle.mq_end.specs.End.{End, Reply, closes}
 use Rattle.mq_end.specs.Server.{server_gets, server_gets_in, server_up_gets}
 use Rattle.mq_end.specs.State.{EndState}
 use Rattle.mq_route.specs.declared.act.Act.{Act}

@@ -1,40 +1,23 @@
 -- What a broker keeps true, and what is seen of it, where its sessions have other room, or it has other rows.
-use Rattle.std.proofs.Common.{◌≡◌, ℕ, ◌<◌, Bool, true, false, not, cond, List, [], ◌∷◌, ◌++◌, map, Option, Some, None, refl, sym, ap, ap₂, subst, ◌∙◌, append_assoc, append-nil, eqb}
-use Rattle.std.specs.FinMap.{put}
-use Rattle.std.specs.FinMap.Entries.{by_order}
+use Rattle.std.proofs.Common.{◌≡◌, ℕ, ◌<◌, Bool, true, false, cond, List, [], ◌∷◌, map, Some, refl, sym, ap, ap₂, subst, ◌∙◌, eqb}
 use Rattle.std.specs.List.{AllByRecursion}
 use Rattle.std.specs.Option.{is_some}
-use Rattle.std.specs.declared.cmp.Ordering.{Ordering}
-use Rattle.std.specs.declared.cmp.Ordering.TheVariants.{Less, Equal, Greater}
-use Rattle.mq_topic.specs.declared.qos.Qos.{Qos}
-use Rattle.mq_topic.specs.Rows.{Row, is_key, key_cmp, with_row, without_row}
-use Rattle.mq_packet.specs.declared.packet.Request.{Request}
-use Rattle.mq_end.specs.declared.state.State.{State}
+use Rattle.mq_topic.specs.Rows.{Row}
 use Rattle.mq_end.specs.declared.state.State.TheVariants.{Closed, Up}
-use Rattle.mq_end.specs.End.{End}
-use Rattle.mq_route.specs.declared.act.Act.{Act}
-use Rattle.mq_route.specs.declared.act.Act.TheVariants as acts
 use Rattle.mq_route.specs.declared.config.HubConfig.{HubConfig}
-use Rattle.mq_route.specs.declared.conn.Conn.{Conn}
 use Rattle.mq_route.specs.declared.stage.Stage.{Stage}
 use Rattle.mq_route.specs.declared.stage.Stage.TheVariants.{Fresh, UpFor, Shut}
-use Rattle.mq_route.specs.Hub.{HubState, Line, is_clean, up_on}
-use Rattle.mq_route.specs.Work.{Work, does, subscribed, unsubscribed}
-use Rattle.mq_hub.specs.declared.call.Call.{Call}
+use Rattle.mq_route.specs.Hub.{Line, is_clean, up_on}
 use Rattle.mq_hub.specs.declared.session.Tenant.{Tenant}
-use Rattle.mq_hub.specs.Answers.{AreAlike, Answers}
-use Rattle.mq_hub.specs.Calls.{reply_of}
-use Rattle.mq_hub.specs.Does.{GoesBy}
+use Rattle.mq_hub.specs.Answers.{AreAlike}
 use Rattle.mq_hub.specs.Keeps.{HubKeeps, IsHoused, IsSeated, Stands, stage_for}
 use Rattle.mq_hub.specs.Lines.{LineTable}
 use Rattle.mq_hub.specs.Retained.{RetainedTable}
-use Rattle.mq_hub.specs.Placing.{AreSameButRoom, roomless, with_tenants}
-use Rattle.mq_hub.specs.Seen.{HubTables, all_seen, hub_of, output_of, seen, waiting_by}
-use Rattle.mq_hub.specs.Sessions.{sessions_of, tenant_of, with_server, AreAscending, AreBelow}
-use Rattle.mq_hub.specs.Subscribing.{subscribed_acts, unsubscribed_acts, with_rows, without_rows}
+use Rattle.mq_hub.specs.Placing.{AreSameButRoom, roomless}
+use Rattle.mq_hub.specs.Seen.{HubTables, all_seen, hub_of, output_of, waiting_by}
+use Rattle.mq_hub.specs.Sessions.{tenant_of, AreAscending}
 use Rattle.mq_hub.proofs.Keeping.{kept_by}
-use Rattle.mq_hub.proofs.Readiness.{all_there, key_there, same_sessions}
-use Rattle.mq_hub.proofs.Replying.{Stays, kept_replied, replied_goes}
+use Rattle.mq_hub.proofs.Readiness.{same_sessions}
 
 -- ---- other room
 

@@ -1,12 +1,11 @@
 -- A connection comes up for the session of a client, whose end takes the CONNECT in.
-use Rattle.std.proofs.Common.{◌≡◌, ◌||◌, ◌&&◌, ℕ, ◌==◌, not, Bool, true, false, cond, List, [], ◌∷◌, ◌++◌, length, Option, Some, None, Result, Ok, Err, OnOk, OnErr, refl, sym, ap, ap₂, subst, ◌∙◌, eqb, eqb-true, eq-eqb, true≢false}
+use Rattle.std.proofs.Common.{◌≡◌, ◌||◌, ◌&&◌, ℕ, ◌==◌, not, Bool, true, false, cond, List, [], ◌∷◌, ◌++◌, length, Option, Some, None, refl, sym, ap, ap₂, subst, ◌∙◌, eqb, eqb-true, eq-eqb, true≢false}
 use Rattle.std.proofs.lemmas.Bool.{cond-true, cond-false, cond_both, ne_eqb}
 use Rattle.std.specs.List.{AllByRecursion}
 use Rattle.std.specs.Option.{is_some, IfSome}
 use Rattle.mq_packet.specs.declared.connack.ConnAck.TheVariants as connacks
 use Rattle.mq_packet.specs.declared.connack.RefusalCode.TheVariants.{IdentifierRejected}
 use Rattle.mq_packet.specs.declared.connect.Connect.{Connect}
-use Rattle.mq_packet.specs.declared.packet.Packet.{Packet}
 use Rattle.mq_packet.specs.declared.packet.Packet.TheVariants as packets
 use Rattle.mq_packet.specs.Spelling.{SpellingLaws, spellings}
 use Rattle.mq_end.specs.declared.happening.Happening.{Happening}
@@ -30,10 +29,10 @@ use Rattle.mq_route.specs.Routed.{same_conn}
 use Rattle.mq_route.specs.Work.{Work, does, put_on, put_where, said, staged, with_sessions}
 use Rattle.mq_hub.specs.declared.session.Tenant.{Tenant}
 use Rattle.mq_hub.specs.Does.{GoesBy}
-use Rattle.mq_hub.specs.Keeps.{AreApart, HubKeeps, IsHoused, IsQuiet, IsSeated, IsWillWithin, Stands, stage_for}
+use Rattle.mq_hub.specs.Keeps.{AreApart, HubKeeps, IsHoused, IsQuiet, IsSeated, IsWillWithin, stage_for}
 use Rattle.mq_hub.specs.Rising.{has_session, risen, roomed, IsGreeted, IsRoomed}
-use Rattle.mq_hub.specs.Seen.{HubTables, all_seen, hub_of, output_of, seen, waiting_by}
-use Rattle.mq_hub.specs.Sessions.{served_by, session_of, sessions_of, tenant_of, with_server}
+use Rattle.mq_hub.specs.Seen.{HubTables, all_seen, hub_of, seen, waiting_by}
+use Rattle.mq_hub.specs.Sessions.{session_of, sessions_of, tenant_of, with_server}
 use Rattle.mq_hub.proofs.Changing.{output_here, rest_unknown, seen_others, seen_served, stage_seen, up_seen}
 use Rattle.mq_hub.proofs.Collecting.{served_twice}
 use Rattle.mq_hub.proofs.Connections.{one_conn, unknown}

@@ -8,7 +8,6 @@ use Rattle.std.specs.Prelude.{⊤}
 use Rattle.mq_topic.specs.declared.qos.Qos.{Qos}
 use Rattle.mq_topic.specs.declared.qos.Qos.TheVariants.{Q0, Q1, Q2}
 use Rattle.mq_topic.specs.Rows.{matched}
-use Rattle.mq_packet.specs.declared.connack.ConnAck.{ConnAck}
 use Rattle.mq_packet.specs.declared.connack.ConnAck.TheVariants as connacks
 use Rattle.mq_packet.specs.declared.connack.RefusalCode.TheVariants.{IdentifierRejected}
 use Rattle.mq_packet.specs.declared.connect.Connect.{Connect}

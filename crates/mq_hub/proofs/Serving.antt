@@ -1,5 +1,5 @@
 -- What a broker keeps true where the end of a session is another one.
-use Rattle.std.proofs.Common.{◌≡◌, ℕ, ◌<◌, Bool, true, false, cond, List, [], ◌∷◌, Option, Some, None, refl, sym, ap, ap₂, subst, ◌∙◌, arith, eqb, eqb-true, true≢false}
+use Rattle.std.proofs.Common.{◌≡◌, ℕ, ◌<◌, Bool, true, false, List, [], ◌∷◌, Some, refl, sym, ap, ap₂, subst, ◌∙◌, arith, eqb, eqb-true}
 use Rattle.std.proofs.lemmas.Bool.{cond-true, cond-false, cond_both, ne_eqb}
 use Rattle.std.specs.List.{AllByRecursion}
 use Rattle.std.specs.Option.{is_some}
@@ -10,7 +10,7 @@ use Rattle.mq_route.specs.declared.stage.Stage.TheVariants.{Fresh, UpFor, Shut}
 use Rattle.mq_route.specs.Hub.{HubSession, Line}
 use Rattle.mq_topic.specs.Rows.{Row}
 use Rattle.mq_hub.specs.declared.session.Tenant.{Tenant}
-use Rattle.mq_hub.specs.Keeps.{IsHoused, IsSeated, IsWillWithin, Stands}
+use Rattle.mq_hub.specs.Keeps.{IsHoused, IsSeated, Stands}
 use Rattle.mq_hub.specs.Sessions.{served_by, session_of, sessions_of, tenant_of, with_server, AreAscending, AreBelow}
 use Rattle.mq_hub.proofs.Tenants.{with_above}
 

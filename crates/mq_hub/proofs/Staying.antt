@@ -18,16 +18,15 @@ use Rattle.mq_route.specs.declared.act.Act.{Act}
 use Rattle.mq_route.specs.declared.act.Act.TheVariants as acts
 use Rattle.mq_route.specs.declared.close.HubClose.{HubClose}
 use Rattle.mq_route.specs.declared.close.HubClose.TheVariants.{Own, TargetFull, TakenOver}
-use Rattle.mq_route.specs.declared.config.HubConfig.{HubConfig}
 use Rattle.mq_route.specs.declared.conn.Conn.{Conn}
 use Rattle.mq_route.specs.declared.stage.Stage.{Stage}
 use Rattle.mq_route.specs.declared.stage.Stage.TheVariants.{Fresh, UpFor, Shut}
 use Rattle.mq_route.specs.Arrives.{Growth, admit, answers, answers_all, arrives, at_first, comes_in, due, granted, greet, greeting, greet_new}
 use Rattle.mq_route.specs.Arrives.{goes_on, heard_on, new_session, replies, take_over, takes, terms_of, welcomes}
 use Rattle.mq_route.specs.Copies.{will_message}
-use Rattle.mq_route.specs.Hub.{HubState, HubSession, Line, changed, copies_of, end_of, is_line, stage_of, up_on, with_end, with_line}
+use Rattle.mq_route.specs.Hub.{HubState, Line, changed, copies_of, end_of, is_line, stage_of, up_on, with_end, with_line}
 use Rattle.mq_route.specs.Routed.{same_conn}
-use Rattle.mq_route.specs.Welcome.{client_of, ends_with, refusal}
+use Rattle.mq_route.specs.Welcome.{ends_with, refusal}
 use Rattle.mq_route.specs.Work.{Work, close, does, have_room, last_will, leaves_behind, place, place_all, publishes_next, put_on, put_where, remove}
 use Rattle.mq_route.specs.Work.{remove_if, retained_copies, said, share, shut, staged, subscribed, unsubscribed, will_after, with_sessions}
 use Rattle.mq_hub.specs.Does.{GoesBy}

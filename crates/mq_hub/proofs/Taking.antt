@@ -1,39 +1,25 @@
 -- A packet that comes while its client is up.
-use Rattle.std.proofs.Common.{◌≡◌, ◌&&◌, ℕ, Bool, true, false, cond, List, [], ◌∷◌, ◌++◌, Option, Some, None, Result, Ok, Err, IfOk, OnOk, OnErr, refl, sym, ap, ap₂, subst, ◌∙◌, append-nil, true≢false}
-use Rattle.std.specs.Prelude.{option_to_list}
-use Rattle.std.specs.declared.alloc.AllocError.{AllocError}
+use Rattle.std.proofs.Common.{◌≡◌, ℕ, Bool, true, false, cond, List, [], ◌∷◌, Option, Some, None, sym, ap, ◌∙◌, append-nil}
 use Rattle.std.proofs.lemmas.Bool.{cond-true, cond-false}
-use Rattle.std.specs.List.{AllByRecursion}
-use Rattle.mq_topic.specs.Rows.{Row}
 use Rattle.mq_packet.specs.declared.message.Message.{Message}
 use Rattle.mq_packet.specs.declared.packet.Packet.{Packet}
-use Rattle.mq_packet.specs.declared.packet.Packet.TheVariants as packets
-use Rattle.mq_packet.specs.Spelling.{spellings}
 use Rattle.mq_end.specs.declared.happening.Happening.{Happening}
-use Rattle.mq_end.specs.declared.happening.Happening.TheVariants as happens
-use Rattle.mq_end.specs.declared.outcome.Outcome.{Outcome}
 use Rattle.mq_end.specs.declared.reason.CloseReason.{CloseReason}
-use Rattle.mq_end.specs.declared.state.State.{State}
-use Rattle.mq_end.specs.declared.state.State.TheVariants.{Closed, Up}
-use Rattle.mq_end.specs.End.{End, Reply}
+use Rattle.mq_end.specs.End.{End}
 use Rattle.mq_end.specs.Server.{server_gets}
 use Rattle.mq_route.specs.declared.act.Act.{Act}
-use Rattle.mq_route.specs.declared.close.HubClose.TheVariants.{Own, TargetFull}
+use Rattle.mq_route.specs.declared.close.HubClose.TheVariants.{TargetFull}
 use Rattle.mq_route.specs.declared.config.HubConfig.{HubConfig}
 use Rattle.mq_route.specs.declared.conn.Conn.{Conn}
 use Rattle.mq_route.specs.Arrives.{answers, answers_all, due, due_by, replies, while_up}
 use Rattle.mq_route.specs.Hub.{HubState, end_of, up_on}
 use Rattle.mq_route.specs.Work.{Work, close, does, have_room}
-use Rattle.mq_hub.specs.declared.call.Call.{Call}
 use Rattle.mq_hub.specs.declared.call.Call.TheVariants.{Takes}
-use Rattle.mq_hub.specs.declared.session.Tenant.{Tenant}
 use Rattle.mq_hub.specs.Answers.{Answers}
-use Rattle.mq_hub.specs.Calls.{CanServe, Replies, ServesAt}
 use Rattle.mq_hub.specs.Does.{GoesBy}
-use Rattle.mq_hub.specs.Keeps.{HubKeeps, IsSeated, Stands}
-use Rattle.mq_hub.specs.Placing.{with_tenants}
+use Rattle.mq_hub.specs.Keeps.{HubKeeps}
 use Rattle.mq_hub.specs.Seen.{HubTables, hub_of}
-use Rattle.mq_hub.specs.Sessions.{sessions_of, tenant_of, with_server}
+use Rattle.mq_hub.specs.Sessions.{sessions_of}
 use Rattle.mq_hub.proofs.Granting.{answered_goes, kept_answered}
 use Rattle.mq_hub.proofs.Readiness.{room_none, same_sessions}
 use Rattle.mq_hub.proofs.Replying.{end_there, packet_stays}

@@ -1,9 +1,10 @@
 -- The connections that are late are closed one after another (3.1.2.10).
 use Rattle.std.proofs.Common.{◌≡◌, ◌+◌, ◌≤◌, ◌&&◌, ℕ, zero, suc, Bool, true, false, cond}
-use Rattle.std.proofs.Common.{List, [], ◌∷◌, ◌++◌, length, map, take, drop, Option, Some, None, refl, sym, ap, ap₂, subst, ◌∙◌, add-one, arith}
-use Rattle.std.proofs.lemmas.Bool.{cond-true, cond-false, cond_both, or_parts}
-use Rattle.std.proofs.lemmas.List.{drop-map, drop_all, length-map}
+use Rattle.std.proofs.Common.{◌-◌, ◌<◌, List, [], ◌∷◌, ◌++◌, length, map, take, drop, get_or, Option, Some, None, refl, sym, ap, ap₂, subst, ◌∙◌, add-zero, add-one, add-suc, arith, ltb}
+use Rattle.std.proofs.lemmas.Bool.{cond-true, cond-false, cond_both, ltb-true, ltb-false, or_parts}
+use Rattle.std.proofs.lemmas.List.{drop-map, drop_all, get_or_default, length-map}
 use Rattle.std.specs.List.{AllByRecursion, slice_get}
+use Rattle.std.specs.List.Sorted.{IsNonDecreasing}
 use Rattle.mq_packet.specs.declared.connect.Will.{Will}
 use Rattle.mq_packet.specs.declared.message.Message.{Message}
 use Rattle.mq_packet.specs.declared.packet.Packet.{Packet}
@@ -28,7 +29,7 @@ use Rattle.mq_hub.specs.declared.session.Tenant.{Tenant}
 use Rattle.mq_hub.specs.Does.{GoesBy}
 use Rattle.mq_hub.specs.Keeps.{AreApart}
 use Rattle.mq_hub.specs.Seen.{all_seen, seen}
-use Rattle.mq_hub.specs.Ticking.{AreInTime, TicksTo, late_of}
+use Rattle.mq_hub.specs.Ticking.{AreInTime, HasLate, TicksTo, late_of}
 use Rattle.mq_hub.proofs.Connections.{itself}
 use Rattle.mq_hub.proofs.Seeing.{knows_seen}
 
@@ -207,25 +208,35 @@ module _ (now : ℕ) where
   all_passed zero (x ∷ xs) past all = absurd (omega (arith, past))
   all_passed (suc i) (x ∷ xs) past all = (all.0, all_passed i xs (omega (arith, past)) all.1)
 
--- ---- none is late
+-- ---- there is no memory to look for them
 
-all_in_time : (now : ℕ) (xs : List Line) (w : Work) → AreInTime now xs → Ticks now xs w w
-all_in_time now [] w all = Done w
-all_in_time now (x ∷ xs) w all = InTime x xs w w all.0 (all_in_time now xs w all.1)
+none_done : (now : ℕ) (xs : List Line) (w : Work) → Ticks now xs w w
+none_done now [] w = Done w
+none_done now (x ∷ xs) w = go (is_late_on now x.stage) refl (none_done now xs w)
+  where
+    go : (b : Bool) → is_late_on now x.stage ≡ b → Ticks now xs w w → Ticks now (x ∷ xs) w w
+    go true late rest = Later x xs w late
+    go false early rest = InTime x xs w w early rest
 
 -- then nothing is done
-pub none_late : (now : ℕ) (h : HubState) → AreInTime now h.lines → TicksTo now h h []
-none_late now h all = record {
-  work = begin h;
-  ticks = all_in_time now h.lines (begin h) all;
-  hub = refl;
-  did = refl;
-}
+pub left_alone : (now : ℕ) (h : HubState) → TicksTo now h h []
+left_alone now h = record { work = begin h; ticks = none_done now h.lines (begin h); hub = refl; did = refl }
 
 -- wherever the bytes lie that wait
-pub in_time_seen : (now : ℕ) (ts : List Tenant) (xs : List Line) → AreInTime now xs → AreInTime now (all_seen ts xs)
-in_time_seen now ts [] all = tt
-in_time_seen now ts (x ∷ xs) all = (all.0, in_time_seen now ts xs all.1)
+module _ (now : ℕ) (ts : List Tenant) where
+  record IsSeenAt (xs : List Line) (i : ℕ) (x : Line) : Type 0 where
+    pub line : Line
+    pub there : slice_get xs i ≡ Some line
+    pub stage : line.stage ≡ x.stage
+
+  seen_at : (xs : List Line) (i : ℕ) (x : Line) → slice_get (all_seen ts xs) i ≡ Some x → IsSeenAt xs i x
+  seen_at [] i x at = absurd cc
+  seen_at (y ∷ ys) zero x at =
+      let is : seen ts y ≡ x = cc in record { line = y; there = refl; stage = ap (λ (l : Line). l.stage) is }
+  seen_at (y ∷ ys) (suc i) x at = let r = seen_at ys i x at in record { line = r.line; there = r.there; stage = r.stage }
+
+  pub late_seen : (xs : List Line) (places : List ℕ) → HasLate now xs places → HasLate now (all_seen ts xs) places
+  late_seen xs places all = λ i x at late. let r = seen_at xs i x at in all i r.line r.there (ap (is_late_on now) r.stage ∙ late)
 
 -- ---- names stand once
 
@@ -382,3 +393,137 @@ module _ (now : ℕ) (old : HubState) (i : ℕ) (h : HubState) (says : List Act)
     hub = sym t.hub;
     did = sym t.did;
   }
+
+-- ---- from one of the places of the late ones to the next
+
+drop_on : {X : Type 0} (m d : ℕ) (xs ys : List X) → drop m xs ≡ drop m ys → drop (m + d) xs ≡ drop (m + d) ys
+drop_on m zero xs ys same = ap (λ (n : ℕ). drop n xs) (add-zero m) ∙ same ∙ sym (ap (λ (n : ℕ). drop n ys) (add-zero m))
+drop_on m (suc d) xs ys same =
+    let next : (zs : List _) → drop (m + suc d) zs ≡ drop 1 (drop (m + d) zs) =
+    λ zs. ap (λ (n : ℕ). drop n zs) (add-suc m d) ∙ drop_further (m + d) zs in
+    next xs ∙ ap (drop 1) (drop_on m d xs ys same) ∙ sym (next ys)
+
+-- a place stands among these, from the one of this number on
+abbrev StandsFrom : List ℕ → ℕ → ℕ → Type 0
+StandsFrom places i j = (k : ℕ) × (i ≤ k) × (k < length places) × (get_or places k j ≡ j)
+
+-- The places before this one are done with: the walk has come to some connection, and the late ones from there on stand among the others.
+pub record IsClosing (now : ℕ) (old : HubState) (places : List ℕ) (i : ℕ) (h : HubState) (says : List Act) : Type 0 where
+  pub at : ℕ
+  pub ticking : IsTicking now old at h says
+  pub rest : (j : ℕ) (x : Line) → at ≤ j → slice_get old.lines j ≡ Some x → is_late_on now x.stage ≡ true → StandsFrom places i j
+
+pub closing_first : (now : ℕ) (h : HubState) (places : List ℕ) (says : List Act) → HasLate now h.lines places → says ≡ [] → IsClosing now h places 0 h says
+closing_first now h places says all none = record {
+  at = 0;
+  ticking = ticks_first now h says none;
+  rest = λ j x from there late. let c = all j x there late in (c.0, omega arith, c.1, c.2);
+}
+
+module _ (now : ℕ) (old h : HubState) (says : List Act) where
+  -- none is late for a while
+  skip_some : (n at : ℕ) → IsTicking now old at h says → ((j : ℕ) → at ≤ j → j < at + n → None ≡ late_of now (slice_get h.lines j)) → IsTicking now old (at + n) h says
+  skip_some zero at t none = subst (λ (n : ℕ). IsTicking now old n h says) (sym (add-zero at)) t
+  skip_some (suc n) at t none =
+      let e : (at + 1) + n ≡ at + suc n = omega arith in
+      subst (λ (m : ℕ). IsTicking now old m h says) e
+      (skip_some n (at + 1) (ticks_past now old at h says t (none at (omega arith) (omega arith))) (λ j from to. none j (omega (arith, from)) (omega (arith, to))))
+
+  module _ (at : ℕ) (t : IsTicking now old at h says) where
+    as_before : (j : ℕ) → at ≤ j → late_of now (slice_get h.lines j) ≡ late_of now (slice_get old.lines j)
+    as_before j from =
+        let e : at + (j - at) ≡ j = omega (arith, from) in
+        late_there now j h.lines
+        ∙ ap (late_first now) (subst (λ (n : ℕ). drop n (places h.lines) ≡ drop n (places old.lines)) e (drop_on at (j - at) (places h.lines) (places old.lines) t.same))
+        ∙ sym (late_there now j old.lines)
+
+    none_at : (j : ℕ) → at ≤ j → ((x : Line) → slice_get old.lines j ≡ Some x → is_late_on now x.stage ≡ true → ⊥) → None ≡ late_of now (slice_get h.lines j)
+    none_at j from never = sym (as_before j from ∙ go (slice_get old.lines j) refl)
+      where
+        go : (o : Option Line) → slice_get old.lines j ≡ o → late_of now o ≡ None
+        go None e = refl
+        go (Some x) e = early (is_late_on now x.stage) refl
+          where
+            early : (b : Bool) → is_late_on now x.stage ≡ b → late_of now (Some x) ≡ None
+            early true late = absurd (never x e late)
+            early false on = cond-false (is_late_on now x.stage) (Some x.conn) None on
+
+-- one that the walk has passed is in time
+passed_none : (now i j : ℕ) (ps : List (Conn × Stage)) → j < i → AllInTime now (take i ps) → late_first now (drop j ps) ≡ None
+passed_none now zero j ps less all = absurd (omega (arith, less))
+passed_none now (suc i) zero [] less all = refl
+passed_none now (suc i) zero (p ∷ ps) less all = cond-false (is_late_on now p.1) (Some p.0) None all.0
+passed_none now (suc i) (suc j) [] less all = refl
+passed_none now (suc i) (suc j) (p ∷ ps) less all = passed_none now i j ps (omega (arith, less)) all.1
+
+module _ (now : ℕ) (old : HubState) (ps : List ℕ) (i : ℕ) (h : HubState) (says : List Act) (t : IsClosing now old ps i h says) where
+  module _ (p : ℕ) (within : i < length ps) (is : p ≡ get_or ps i p) where
+    -- one that stands there, or behind
+    behind : (j : ℕ) → StandsFrom ps i j → (p ≡ j → ⊥) → StandsFrom ps (i + 1) j
+    behind j s other = go (ltb i s.0) refl
+      where
+        go : (b : Bool) → ltb i s.0 ≡ b → StandsFrom ps (i + 1) j
+        go true less = (s.0, omega (arith, ltb-true i s.0 less), s.2, s.3)
+        go false not =
+            let same : s.0 ≡ i = omega (arith, ltb-false i s.0 not, s.1) in
+            absurd (other (is ∙ get_or_default ps i p j within ∙ ap (λ (n : ℕ). get_or ps n j) (sym same) ∙ s.3))
+
+    -- it isn't late, or was closed
+    pub closing_past : None ≡ late_of now (slice_get h.lines p) → IsClosing now old ps (i + 1) h says
+    closing_past none = record {
+      at = t.at;
+      ticking = t.ticking;
+      rest = λ j x from there late. behind j (t.rest j x from there late) (λ e.
+          let was : late_of now (slice_get old.lines j) ≡ None =
+          sym (as_before now old h says t.at t.ticking j from) ∙ ap (λ (n : ℕ). late_of now (slice_get h.lines n)) (sym e) ∙ sym none in
+          let now_late : late_of now (slice_get old.lines j) ≡ Some x.conn = ap (late_of now) there ∙ cond-true (is_late_on now x.stage) (Some x.conn) None late in
+          let no : None ≡ Some x.conn = sym was ∙ now_late in absurd cc);
+    }
+
+    module _ (ascending : IsNonDecreasing ps) (k : Conn) (late : Some k ≡ late_of now (slice_get h.lines p)) where
+      -- the walk has not passed it
+      ahead : t.at ≤ p
+      ahead = go (ltb p t.at) refl
+        where
+          go : (b : Bool) → ltb p t.at ≡ b → t.at ≤ p
+          go true less =
+              let none : late_of now (slice_get h.lines p) ≡ None =
+              late_there now p h.lines ∙ passed_none now t.at p (places h.lines) (ltb-true p t.at less) t.ticking.passed in
+              let no : Some k ≡ None = late ∙ none in absurd cc
+          go false not = ltb-false p t.at not
+
+      -- and comes to it
+      comes_to : IsTicking now old p h says
+      comes_to =
+          let e : t.at + (p - t.at) ≡ p = omega (arith, ahead) in
+          subst (λ (n : ℕ). IsTicking now old n h says) e
+          (skip_some now old h says (p - t.at) t.at t.ticking
+          (λ j from to. none_at now old h says t.at t.ticking j from (λ x there on.
+          let s = t.rest j x from there on in
+          let up : get_or ps i j ≤ get_or ps s.0 j = ascending i s.0 j s.1 s.2 in
+          let own : p ≡ get_or ps i j = is ∙ get_or_default ps i p j within in
+          let less : j < p = omega (arith, to, ahead) in
+          absurd (omega (arith, up, own, less, s.3)))))
+
+      pub closing_late : (g : HubState) (more : List Act) → knows k (drop (p + 1) h.lines) ≡ false
+          → (fits : Bool) × GoesBy (close k (Own reasons.KeepAlive) fits) h says g more → IsClosing now old ps (i + 1) g more
+      closing_late g more apart goes = record {
+        at = p + 1;
+        ticking = ticks_close now old p h says comes_to k late g more apart goes;
+        rest = λ j x from there on. behind j (t.rest j x (omega (arith, from, ahead)) there on) (λ e. absurd (omega (arith, from, e)));
+      }
+
+      pub closing_later : TicksTo now old h says
+      closing_later = ticks_later now old p h says comes_to k late
+
+  module _ (past : length ps ≤ i) where
+    done : IsTicking now old (t.at + length old.lines) h says
+    done = skip_some now old h says (length old.lines) t.at t.ticking
+        (λ j from to. none_at now old h says t.at t.ticking j from (λ x there late.
+        let s = t.rest j x from there late in absurd (omega (arith, past, s.1, s.2))))
+
+    pub closing_all : AreInTime now h.lines
+    closing_all = ticks_all now old (t.at + length old.lines) h says done (omega arith)
+
+    pub closing_last : TicksTo now old h says
+    closing_last = ticks_last now old (t.at + length old.lines) h says done (omega arith)

@@ -1,5 +1,5 @@
 -- What a part of a broker's step does, in the terms of the step's definition.
-use Rattle.std.specs.Prelude.{◌≡◌, ℕ, List}
+use Rattle.std.specs.Prelude.{◌≡◌, List}
 use Rattle.mq_route.specs.declared.act.Act.{Act}
 use Rattle.mq_route.specs.Hub.{HubState}
 use Rattle.mq_route.specs.Work.{Work}

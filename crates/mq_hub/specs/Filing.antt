@@ -1,6 +1,5 @@
 -- What was taken from each client and placed for it, act by act.
 use Rattle.std.specs.Prelude.{◌≡◌, ℕ, ◌+◌, List, [], ◌∷◌, ◌++◌}
-use Rattle.std.specs.List.{AllByRecursion}
 use Rattle.mq_route.specs.declared.act.Act.{Act}
 use Rattle.mq_route.specs.declared.trace.Account.{Account}
 use Rattle.mq_route.specs.Routed.{placed_by, taken_by}

@@ -1,3 +1,4 @@
+pub mod Alarms
 pub mod Subscribing
 pub mod Collecting
 pub mod Coming

@@ -9,6 +9,7 @@ use Rattle.mq_route.specs.Hub.{Line, key_on}
 use Rattle.mq_route.specs.Routed.{same_conn}
 use Rattle.mq_route.specs.Step.{is_late_on}
 use Rattle.mq_hub.specs.declared.connection.Connection.{Connection}
+use Rattle.mq_hub.specs.Alarms.{AlarmTable, IsAwaited}
 
 -- The connections in the order in which they were opened; the bounds within which packets are read on each; how many more may be opened without
 -- more memory, and how many more may come up.
@@ -29,13 +30,13 @@ lines_of es = map (λ e. line_of e.1) es
 abbrev pub IsReading : Bounds → Connection → Type 0
 IsReading limits c = (c.decoder.limit ≡ limits) × (c.decoder.failed ≡ None)
 
--- How connections are served: packets are read within these bounds, and up to the moment `due` no connection is late.
+-- How connections are served: packets are read within these bounds, and these alarms say when one may be late.
 pub record Service : Type 0 where
   pub bounds : Bounds
-  pub due : ℕ
+  pub alarms : AlarmTable
 
-abbrev pub service : Bounds → ℕ → Service
-service bounds due = record { bounds = bounds; due = due }
+abbrev pub service : Bounds → AlarmTable → Service
+service bounds alarms = record { bounds = bounds; alarms = alarms }
 
 -- it is late at no moment up to this one (3.1.2.10)
 abbrev pub IsTimely : ℕ → Stage → Type 0
@@ -43,7 +44,7 @@ IsTimely due s = (now : ℕ) → now ≤ due → is_late_on now s ≡ false
 
 -- a connection is served so
 abbrev pub IsServedBy : Service → Connection → Type 0
-IsServedBy by c = IsReading by.bounds c × IsTimely by.due c.stage
+IsServedBy by c = IsReading by.bounds c × IsAwaited by.alarms c.conn c.stage
 
 -- and stands under its name
 abbrev pub IsServed : Service → Conn × Connection → Type 0

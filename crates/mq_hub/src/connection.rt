@@ -1,8 +1,9 @@
 //! A connection at a broker (4.2).
 
-ghost use Rattle.std.specs.Prelude.{◌≡◌, ◌≤◌, ℕ, [], None, false, IfOk, OnOk, OnErr};
+ghost use Rattle.std.specs.Prelude.{◌≡◌, ◌≤◌, ℕ, [], None, false, IfOk, IsFalse, OnOk, OnErr};
 ghost use Rattle.mq_route.specs.Arrives.{heard};
 ghost use Rattle.mq_route.specs.Hub.{key_on};
+ghost use Rattle.mq_route.specs.Step.{is_late_on};
 ghost use Rattle.mq_hub.specs.Lines.{line_of, IsReading, IsTimely};
 ghost use Rattle.mq_end.specs.KeepAlive.{is_late};
 
@@ -117,6 +118,16 @@ impl BoxedConnection {
     {
         let connection = &mut *self.connection;
         connection.stage = Stage::UpFor(key, terms, now);
+    }
+
+    /// Whether its last whole packet came after this moment; where not, it is late no sooner if one comes now (3.1.2.10).
+    pub(crate) fn is_heard_after(&self, now: u64) -> bool
+        ensures { IsFalse result → (n : ℕ) → is_late_on n self.now.stage ≡ false → is_late_on n (heard now self.now.stage) ≡ false }
+    {
+        match &self.connection.stage {
+            Stage::UpFor(_, _, moment) => *moment > now,
+            Stage::Fresh | Stage::Shut => false,
+        }
     }
 
     /// The moment of its last whole packet is this (3.1.2.10).

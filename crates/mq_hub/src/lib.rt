@@ -3,6 +3,7 @@
 
 mod accounts;
 mod admitted;
+mod alarms;
 mod arriving;
 mod asked;
 mod begun;

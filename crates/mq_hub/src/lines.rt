@@ -1,18 +1,20 @@
 //! The connections of a broker (4.2).
 
-ghost use Rattle.std.specs.Prelude.{◌≡◌, ◌+◌, ◌≤◌, ◌<◌, ℕ, [], ◌∷◌, ◌++◌, length, slice_get, Some, None, nat_eq, true, false, is_some, if◌then◌else◌, OnOk, OnErr, IfOk, IfSome, IsTrue};
+ghost use Rattle.std.specs.Prelude.{◌≡◌, ◌+◌, ◌≤◌, ◌<◌, ℕ, [], ◌∷◌, ◌++◌, length, slice_get, Some, None, nat_eq, true, false, is_some, if◌then◌else◌, OnOk, OnErr, IfOk, IfSome};
 ghost use Rattle.std.specs.HashMap.{get, hash_map_len, spare};
 ghost use Rattle.std.specs.List.{AllByRecursion, IsDistinct};
+ghost use Rattle.std.specs.List.Sorted.{IsNonDecreasing};
 ghost use Rattle.std.specs.Map.{keys_of, remove_entry};
-ghost use Rattle.indexmap.specs.IndexMap.{values};
 ghost use Rattle.std.specs.Option.{option_copied, option_map};
 ghost use Rattle.mq_route.specs.Arrives.{heard};
 ghost use Rattle.mq_route.specs.Hub.{held_on, key_on, knows, stage_of, up_on, waiting_on, with_line, without_line};
 ghost use Rattle.mq_route.specs.Routed.{same_conn};
 ghost use Rattle.mq_route.specs.Welcome.{up_count};
-ghost use Rattle.mq_hub.specs.Lines.{line_of, IsReading, IsTimely};
-ghost use Rattle.mq_hub.specs.Ticking.{AreInTime};
+ghost use Rattle.mq_hub.specs.Alarms.{AreAwaited, AreAwaitedBut};
+ghost use Rattle.mq_hub.specs.Lines.{line_of, lines_of, IsReading};
+ghost use Rattle.mq_hub.specs.Ticking.{HasLate, HasLateNamed};
 
+use crate::alarms::Alarms;
 use crate::connection::{BoxedConnection, Connection};
 use bytes::Bytes;
 use indexmap::IndexMap;
@@ -23,6 +25,9 @@ use mq_topic::ClientKey;
 use std::alloc::{AllocError, Global};
 use std::collections::HashMap;
 use std::marker::Model;
+
+// How many alarms more than there are connections, and as many again, may wait for their moment.
+const FEW_ALARMS: usize = 64;
 
 // Connections by their names, in an order.
 type ByConn = IndexMap<Conn, BoxedConnection>;
@@ -37,8 +42,7 @@ pub(crate) struct Lines {
     limits: Limits,
     by_conn: ByConn,
     ups: Ups,
-    /// Up to this moment none is late.
-    due: u64,
+    alarms: Alarms,
 }
 
 impl Model for Lines {
@@ -50,7 +54,7 @@ impl Model for Lines {
 
     ghost view = { λ t. record { lines = lines_of t.by_conn.entries; limits = t.limits; room = spare t.by_conn; rises = spare t.ups } };
 
-    ghost invariant = { λ t. AreLines (service t.limits t.due) t.by_conn.entries (get nat_eq t.ups) (hash_map_len t.ups) };
+    ghost invariant = { λ t. AreLines (service t.limits t.alarms) t.by_conn.entries (get nat_eq t.ups) (hash_map_len t.ups) };
 }
 
 // Writes down on which connection a client is up, where there is memory for one more.
@@ -83,23 +87,85 @@ fn take_out(by_conn: &mut ByConn, conn: Conn)
     let _ = by_conn.shift_remove(&conn);
 }
 
-// The sooner one of two moments.
-fn sooner(one: u64, other: u64) -> u64
-    ensures own { result ≤ one }
-    ensures other { result ≤ other }
+// Sets the alarm of each connection anew.
+fn watch_anew(by_conn: &ByConn, alarms: &mut Alarms)
+    ensures { AreAwaited alarms.new by_conn.now.entries }
 {
-    one.min(other)
+    alarms.clear();
+    for boxed in by_conn.values() {
+        alarms.set(boxed.connection().conn, boxed.last_in_time());
+    }
 }
 
-// A moment up to which no connection is late, the last one that there is.
-fn soonest(by_conn: &ByConn) -> u64
-    ensures { AllByRecursion (λ c. IsTimely result c.stage) (values by_conn.now) }
+// Sets all alarms anew where they don't reach to this moment, or are many more than the connections.
+fn renew(by_conn: &ByConn, alarms: &mut Alarms, now: u64)
+    requires { AreAwaited alarms.old by_conn.now.entries }
+    ensures { AreAwaited alarms.new by_conn.now.entries }
 {
-    let mut due = u64::MAX;
-    for boxed in by_conn.values() {
-        due = sooner(due, boxed.last_in_time());
+    if alarms.until() < now || alarms.len() / 2 > by_conn.len() + FEW_ALARMS {
+        watch_anew(by_conn, alarms);
     }
-    due
+}
+
+// The places of the connections of these names that may be late at this moment; their alarms are set again. Where memory runs out it fails,
+// and any may be late.
+fn find_named(
+    alloc: Global,
+    by_conn: &ByConn,
+    alarms: &mut Alarms,
+    names: &mut Vec<Conn>,
+    now: u64,
+) -> Result<Vec<usize>, AllocError>
+    requires named { AllByRecursion (λ e. e.0 ≡ e.1.conn) by_conn.now.entries }
+    requires distinct { IsDistinct same_conn (keys_of by_conn.now.entries) }
+    requires awaited { AreAwaitedBut names.old.items alarms.old by_conn.now.entries }
+    requires late { HasLateNamed now (lines_of by_conn.now.entries) names.old.items }
+    ensures awaited { AreAwaited alarms.new by_conn.now.entries }
+    ensures late { IfOk result (λ places. HasLate now (lines_of by_conn.now.entries) places.items) }
+{
+    let mut places = Vec::new(alloc);
+    while let Some(conn) = names.pop() {
+        let Some((place, _, boxed)) = by_conn.get_full(&conn) else {
+            continue;
+        };
+        let until = boxed.last_in_time();
+        alarms.set(conn, until);
+        if now <= until {
+            continue;
+        }
+        match places.push(place) {
+            Ok(()) => {}
+            Err(_) => {
+                alarms.forget();
+                return Err(AllocError);
+            }
+        }
+    }
+    Ok(places)
+}
+
+// The places of the connections that may be late at this moment, in ascending order. Fails if memory runs out.
+fn find_late(
+    alloc: Global,
+    by_conn: &ByConn,
+    alarms: &mut Alarms,
+    now: u64,
+) -> Result<Vec<usize>, AllocError>
+    requires named { AllByRecursion (λ e. e.0 ≡ e.1.conn) by_conn.now.entries }
+    requires distinct { IsDistinct same_conn (keys_of by_conn.now.entries) }
+    requires awaited { AreAwaited alarms.old by_conn.now.entries }
+    ensures awaited { AreAwaited alarms.new by_conn.now.entries }
+    ensures late { IfOk result (λ places. HasLate now (lines_of by_conn.now.entries) places.items) }
+    ensures ascending { IfOk result (λ places. IsNonDecreasing places.items) }
+{
+    renew(by_conn, alarms, now);
+    if alarms.until() < now {
+        return Err(AllocError);
+    }
+    let mut names = alarms.take_ringing(alloc, now)?;
+    let mut places = find_named(alloc, by_conn, alarms, &mut names, now)?;
+    places.sort_unstable();
+    Ok(places)
 }
 
 impl Lines {
@@ -112,7 +178,7 @@ impl Lines {
             limits,
             by_conn: IndexMap::new(alloc),
             ups: HashMap::new(alloc),
-            due: u64::MAX,
+            alarms: Alarms::new(alloc),
         }
     }
 
@@ -125,6 +191,7 @@ impl Lines {
         ensures rises { self.old.rises ≤ self.new.rises }
     {
         self.by_conn.reserve(count)?;
+        renew(&self.by_conn, &mut self.alarms, 0);
         self.ups.reserve(count)
     }
 
@@ -175,13 +242,6 @@ impl Lines {
         ensures { result ≡ up_count self.now.lines }
     {
         self.ups.len()
-    }
-
-    /// How many are known.
-    pub(crate) fn len(&self) -> usize
-        ensures { result ≡ length self.now.lines }
-    {
-        self.by_conn.len()
     }
 
     /// The connection at a place in the order in which they were opened.
@@ -240,7 +300,7 @@ impl Lines {
             return;
         };
         boxed.rise(key, terms, now);
-        self.due = sooner(self.due, boxed.last_in_time());
+        self.alarms.set(conn, boxed.last_in_time());
         note_up(&mut self.ups, key, conn);
     }
 
@@ -254,8 +314,11 @@ impl Lines {
         let Some(boxed) = self.by_conn.get_mut(&conn) else {
             return;
         };
+        let is_earlier = boxed.is_heard_after(now);
         boxed.heard(now);
-        self.due = sooner(self.due, boxed.last_in_time());
+        if is_earlier {
+            self.alarms.set(conn, boxed.last_in_time());
+        }
     }
 
     /// Exchanges the decoder of a connection for another. It takes no memory.
@@ -304,18 +367,13 @@ impl Lines {
         boxed.swap_waiting(waiting);
     }
 
-    /// Whether it is known without a look at any that none is late at this moment (3.1.2.10).
-    pub(crate) fn are_in_time(&self, now: u64) -> bool
-        ensures { IsTrue result → AreInTime now self.now.lines }
+    /// The places of the connections that may be late at this moment, in ascending order. Fails if memory runs out. It looks at no other.
+    pub(crate) fn late_places(&mut self, alloc: Global, now: u64) -> Result<Vec<usize>, AllocError>
+        ensures same { self.new ≡ self.old }
+        ensures late { IfOk result (λ places. HasLate now self.old.lines places.items) }
+        ensures ascending { IfOk result (λ places. IsNonDecreasing places.items) }
     {
-        now <= self.due
-    }
-
-    /// Looks at each for the moment up to which none is late.
-    pub(crate) fn look_ahead(&mut self)
-        ensures { self.new ≡ self.old }
-    {
-        self.due = soonest(&self.by_conn);
+        find_late(alloc, &self.by_conn, &mut self.alarms, now)
     }
 
     /// A connection that isn't up is over, and not known any more (4.2). It takes no memory.

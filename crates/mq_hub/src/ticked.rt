@@ -1,11 +1,12 @@
 //! A moment comes to a broker (3.1.2.10).
 
-ghost use Rattle.std.specs.Prelude.{◌≡◌, ◌+◌, [], drop, false, length, max, slice_get, Some, IfOk, IfErr, IfSome, IsTrue, OnErr, OnOk};
+ghost use Rattle.std.specs.Prelude.{◌≡◌, ◌+◌, [], drop, false, max, slice_get, Some, IfOk, IfErr, IfSome, OnErr, OnOk};
+ghost use Rattle.std.specs.List.Sorted.{IsNonDecreasing};
 ghost use Rattle.mq_end.specs.KeepAlive.{is_late};
 ghost use Rattle.mq_route.specs.Hub.{knows};
 ghost use Rattle.mq_route.specs.Step.{HubStep, told};
 ghost use Rattle.mq_hub.specs.Lines.{line_of};
-ghost use Rattle.mq_hub.specs.Ticking.{AreInTime, TicksTo, late_of};
+ghost use Rattle.mq_hub.specs.Ticking.{AreInTime, HasLate, TicksTo, late_of};
 
 use crate::connection::Connection;
 use crate::doings::Doings;
@@ -47,13 +48,6 @@ impl<S: FilterStore> HubOver<S> {
         self.clock
     }
 
-    // How many connections are known.
-    fn line_count(&self) -> usize
-        ensures { result ≡ length self.now.lines }
-    {
-        self.tables.lines.len()
-    }
-
     // The name of the connection at a place in the order, where it is late at this moment. None behind it has that name.
     fn late_at(&self, index: usize, now: u64) -> Option<Conn>
         ensures late { result ≡ late_of now (slice_get self.now.lines index) }
@@ -64,15 +58,31 @@ impl<S: FilterStore> HubOver<S> {
         late(connection, now)
     }
 
-    // The connections that are late at this moment are closed one after another, in the order in which they were opened, and then none is
-    // late. Where memory runs out for one it fails, and it and those behind it are left to the next time.
-    fn close_late(&mut self, now: u64, doings: &mut Doings) -> Result<(), AllocError>
+    // The places of the connections that may be late at this moment, in ascending order. Fails if memory runs out.
+    fn late_places(&mut self, now: u64) -> Result<Vec<usize>, AllocError>
+        ensures same { self.new ≡ self.old }
+        ensures late { IfOk result (λ places. HasLate now self.old.lines places.items) }
+        ensures ascending { IfOk result (λ places. IsNonDecreasing places.items) }
+    {
+        self.tables.lines.late_places(self.alloc, now)
+    }
+
+    // The connections that are late at this moment, all of which are at these places, are closed one after another, in the order in which they
+    // were opened, and then none is late. Where memory runs out for one it fails, and it and those behind it are left to the next time.
+    fn close_late(
+        &mut self,
+        now: u64,
+        places: &[usize],
+        doings: &mut Doings,
+    ) -> Result<(), AllocError>
         requires none { doings.old.acts ≡ [] }
+        requires late { HasLate now self.old.lines places.now }
+        requires ascending { IsNonDecreasing places.now }
         ensures ticks { TicksTo now self.old self.new doings.new.acts }
         ensures all { OnOk result (AreInTime now self.new.lines) }
     {
-        for index in 0..self.line_count() {
-            let Some(conn) = self.late_at(index, now) else {
+        for place in places {
+            let Some(conn) = self.late_at(*place, now) else {
                 continue;
             };
             doings.reserve(3)?;
@@ -81,30 +91,14 @@ impl<S: FilterStore> HubOver<S> {
         Ok(())
     }
 
-    // Whether it is known without a look at any connection that none is late at this moment.
-    fn are_in_time(&self, now: u64) -> bool
-        ensures { IsTrue result → AreInTime now self.now.lines }
-    {
-        self.tables.lines.are_in_time(now)
-    }
-
-    // Looks at each connection for the moment up to which none is late.
-    fn look_ahead(&mut self)
-        ensures { self.new ≡ self.old }
-    {
-        self.tables.lines.look_ahead();
-    }
-
-    // Closes what is late at this moment, where something may be.
-    fn look_round(&mut self, now: u64, doings: &mut Doings)
+    // Closes what is late at this moment. Where memory runs out for the look, all are left to the next time.
+    fn close_what_is_late(&mut self, now: u64, doings: &mut Doings)
         requires none { doings.old.acts ≡ [] }
         ensures ticks { TicksTo now self.old self.new doings.new.acts }
     {
-        if self.are_in_time(now) {
-            return;
+        if let Ok(places) = self.late_places(now) {
+            let _ = self.close_late(now, places.as_slice(), doings);
         }
-        let _ = self.close_late(now, doings);
-        self.look_ahead();
     }
 
     /// It is this moment, in milliseconds: connections from whose clients nothing came for one and a half times their keep-alive are
@@ -116,7 +110,7 @@ impl<S: FilterStore> HubOver<S> {
     {
         let mut doings = Doings::new(self.alloc);
         let clock = self.tell(now);
-        self.look_round(clock, &mut doings);
+        self.close_what_is_late(clock, &mut doings);
         Ok(doings.into_reply(true))
     }
 }

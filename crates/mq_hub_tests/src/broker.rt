@@ -204,6 +204,11 @@ fn kept_alive(rt: HostRuntime) -> Result<(), Fail> {
 }
 
 #[test]
+fn late_in_order(rt: HostRuntime) -> Result<(), Fail> {
+    walk_both(&rt, rt.alloc(), WIDE, &rows::LATE_IN_ORDER)
+}
+
+#[test]
 fn will_at_a_fault(rt: HostRuntime) -> Result<(), Fail> {
     walk_both(&rt, rt.alloc(), WIDE, &rows::WILL_AT_A_FAULT)
 }

@@ -338,6 +338,45 @@ pub(crate) const KEPT_ALIVE: [Row; 11] = [
     (Happens::Takes(2), "20020000d000."),
 ];
 
+/// Those that are late at a moment are closed in the order in which they were opened, whichever could be late first; one without a keep-alive
+/// is never late; and a name that is used again is late by what came since (3.1.2.10).
+pub(crate) const LATE_IN_ORDER: [Row; 19] = [
+    (Happens::Opens(1), ""),
+    (
+        Happens::Sends(1, "100d00044d51545404020004000161"),
+        "up 1 k0 new",
+    ),
+    (Happens::Opens(2), ""),
+    (
+        Happens::Sends(2, "100d00044d51545404020002000162"),
+        "up 2 k1 new",
+    ),
+    (Happens::Opens(3), ""),
+    (
+        Happens::Sends(3, "100d00044d51545404020000000163"),
+        "up 3 k2 new",
+    ),
+    (Happens::Ticks(3_000), ""),
+    (
+        Happens::Ticks(6_001),
+        "closed 1 C5, removed k0, closed 2 C5, removed k1",
+    ),
+    (Happens::Takes(1), "20020000."),
+    (Happens::Ends(2), "."),
+    (Happens::Opens(2), ""),
+    (
+        Happens::Sends(2, "100d00044d51545404020002000162"),
+        "up 2 k3 new",
+    ),
+    (Happens::Ticks(9_001), ""),
+    (Happens::Sends(2, "c000"), ""),
+    (Happens::Ticks(12_000), ""),
+    (Happens::Ticks(12_001), ""),
+    (Happens::Ticks(12_002), "closed 2 C5, removed k3"),
+    (Happens::Takes(2), "20020000d000."),
+    (Happens::Takes(3), "20020000"),
+];
+
 /// A will is published where bytes come that are no packet, where a packet comes that may not, and where the other side ends the connection (3.1.2.5).
 pub(crate) const WILL_AT_A_FAULT: [Row; 12] = [
     (Happens::Opens(1), ""),

@@ -1,4 +1,4 @@
-use Rattle.std.proofs.Common.{◌≡◌, ℕ, List, refl, sym}
+use Rattle.std.proofs.Common.{sym}
 use Rattle.mq_hub.proofs.Filing.{unnoted}
 use Rattle.mq_hub.proofs.accounts.note.Goals as goal
 

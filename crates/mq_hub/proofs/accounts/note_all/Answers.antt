@@ -1,9 +1,8 @@
-use Rattle.std.proofs.Common.{◌≡◌, ◌∙◌, ◌+◌, ◌<◌, ◌++◌, ◌∷◌, [], ℕ, suc, List, length, take, get_or, sym, ap, subst, add-one, append_assoc, arith}
+use Rattle.std.proofs.Common.{◌≡◌, ◌∙◌, ◌+◌, ◌<◌, ◌++◌, ◌∷◌, [], ℕ, List, length, take, sym, ap, subst, add-one, append_assoc, arith}
 use Rattle.std.proofs.Math.Seq.{take-suc}
 use Rattle.mq_route.specs.declared.act.Act.{Act}
 use Rattle.mq_route.specs.declared.trace.Account.{Account}
 use Rattle.mq_route.specs.Runs.{AreAccounts}
-use Rattle.mq_hub.specs.Filing.{all_noted}
 use Rattle.mq_hub.proofs.Filing.{accounts_noted, count_noted}
 use Rattle.mq_hub.proofs.accounts.note_all.Goals as goal
 

@@ -1,8 +1,7 @@
-use Rattle.std.proofs.Common.{◌≡◌, ◌∙◌, ◌<◌, ◌++◌, ◌∷◌, [], ℕ, List, length, get_or, slice_set, sym, ap, arith}
+use Rattle.std.proofs.Common.{◌∙◌, ◌<◌, ◌++◌, ◌∷◌, [], ℕ, List, length, get_or, slice_set, sym, ap, arith}
 use Rattle.mq_packet.specs.declared.message.Message.{Message}
 use Rattle.mq_route.specs.declared.act.Act.TheVariants.{Took}
 use Rattle.mq_route.specs.declared.trace.Account.{Account}
-use Rattle.mq_hub.specs.Filing.{noted}
 use Rattle.mq_hub.proofs.Filing.{found, past, took_other, took_own}
 use Rattle.mq_hub.proofs.Heard.{on_ok}
 use Rattle.mq_hub.proofs.accounts.note_taken.Goals as goal

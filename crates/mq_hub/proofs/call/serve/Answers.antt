@@ -3,7 +3,7 @@ use Rattle.mq_packet.specs.declared.packet.Packet.TheVariants as packets
 use Rattle.mq_end.specs.End.{is_live}
 use Rattle.mq_end.specs.Sizes.{suback_size, unsuback_size}
 use Rattle.mq_hub.specs.declared.call.Call.{Call}
-use Rattle.mq_hub.specs.declared.call.Call.TheVariants.{Takes, Grants, Drops}
+use Rattle.mq_hub.specs.declared.call.Call.TheVariants.{Grants, Drops}
 use Rattle.mq_hub.specs.Calls.{IsAllowed, Serves}
 use Rattle.mq_hub.proofs.Calling.{answer_serves, takes_serves, up_live}
 use Rattle.mq_hub.proofs.call.serve.Goals as goal

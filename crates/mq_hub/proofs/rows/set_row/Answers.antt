@@ -1,5 +1,4 @@
-use Rattle.std.proofs.Common.{◌∙◌, sym, ap}
-use Rattle.mq_topic.specs.Rows.{row_qos}
+use Rattle.std.proofs.Common.{◌∙◌, sym}
 use Rattle.mq_hub.proofs.Restoring.{noted, noted_there}
 use Rattle.mq_hub.proofs.rows.set_row.Goals as goal
 

@@ -1,6 +1,5 @@
 use Rattle.std.proofs.Common.{◌≡◌, ◌≤◌, ◌∙◌, true, true≢false, false, length, sym, ap, subst}
 use Rattle.mq_packet.specs.declared.packet.Packet.{Packet}
-use Rattle.mq_packet.specs.declared.packet.Packet.TheVariants as packets
 use Rattle.mq_packet.specs.Spelling.{fields}
 use Rattle.mq_route.specs.Arrives.{at_first}
 use Rattle.mq_route.specs.Hub.{is_open}

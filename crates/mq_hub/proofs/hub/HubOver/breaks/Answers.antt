@@ -1,4 +1,4 @@
-use Rattle.std.proofs.Common.{◌≡◌, ◌∙◌, true, sym}
+use Rattle.std.proofs.Common.{true, sym}
 use Rattle.mq_hub.proofs.Broken.{broken_up}
 use Rattle.mq_hub.proofs.Heard.{is_fresh, on_ok}
 use Rattle.mq_route.specs.Hub.{stage_of}

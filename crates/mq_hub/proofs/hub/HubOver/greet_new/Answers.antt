@@ -1,4 +1,4 @@
-use Rattle.std.proofs.Common.{◌≡◌, ◌∙◌, ◌<◌, ◌^◌, ◌+◌, ◌++◌, ◌∷◌, [], false, None, ℕ, List, sym, ap, ap₂, subst}
+use Rattle.std.proofs.Common.{◌≡◌, ◌∙◌, ◌<◌, ◌^◌, ◌+◌, ◌++◌, ◌∷◌, [], false, ℕ, List, sym, ap, ap₂, subst}
 use Rattle.mq_route.specs.declared.act.Act.{Act}
 use Rattle.mq_route.specs.declared.act.Act.TheVariants as acts
 use Rattle.mq_route.specs.declared.stage.Stage.TheVariants.{Fresh, UpFor}
@@ -11,7 +11,7 @@ use Rattle.mq_hub.specs.Keeps.{IsWillWithin}
 use Rattle.mq_hub.specs.Rising.{IsBegun}
 use Rattle.mq_hub.specs.Seen.{HubTables, hub_of}
 use Rattle.mq_hub.proofs.Beginning.{goes_begun, keeps_begun, none_up}
-use Rattle.mq_hub.proofs.Changing.{stage_seen, up_seen}
+use Rattle.mq_hub.proofs.Changing.{stage_seen}
 use Rattle.mq_hub.proofs.hub.HubOver.greet_new.Goals as goal
 
 pub begin-requires-clause-stage : goal.begin-requires-clause-stage

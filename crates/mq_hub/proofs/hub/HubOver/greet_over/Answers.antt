@@ -2,7 +2,6 @@ use Rattle.std.proofs.Common.{◌≡◌, ◌∙◌, ◌&&◌, not, List, sym, ap
 use Rattle.mq_packet.specs.declared.connect.Connect.{Connect}
 use Rattle.mq_packet.specs.declared.message.Message.{Message}
 use Rattle.mq_route.specs.declared.act.Act.{Act}
-use Rattle.mq_route.specs.declared.act.Act.TheVariants as acts
 use Rattle.mq_route.specs.declared.close.HubClose.TheVariants.{TakenOver}
 use Rattle.mq_route.specs.declared.stage.Stage.TheVariants.{Fresh, UpFor}
 use Rattle.mq_route.specs.declared.stage.Terms.{Terms}

@@ -1,4 +1,4 @@
-use Rattle.std.proofs.Common.{◌≡◌, ◌∙◌, ap}
+use Rattle.std.proofs.Common.{◌∙◌, ap}
 use Rattle.mq_route.specs.Hub.{changed}
 use Rattle.mq_hub.specs.Coming.{hears, with_heard}
 use Rattle.mq_hub.specs.Seen.{HubTables}

@@ -1,9 +1,8 @@
-use Rattle.std.proofs.Common.{◌≡◌, ◌∙◌, ◌++◌, ◌≤◌, List, refl, sym, ap, subst}
+use Rattle.std.proofs.Common.{◌∙◌, ◌++◌, ◌≤◌, List, refl, sym, subst}
 use Rattle.mq_packet.specs.declared.packet.Packet.TheVariants as packets
 use Rattle.mq_end.specs.Sizes.{unsuback_size}
 use Rattle.mq_end.specs.declared.happening.Happening.TheVariants as happens
 use Rattle.mq_route.specs.declared.act.Act.{Act}
-use Rattle.mq_route.specs.declared.conn.Conn.{Conn}
 use Rattle.mq_route.specs.Arrives.{answers, while_up}
 use Rattle.mq_route.specs.Hub.{HubState}
 use Rattle.mq_hub.specs.Does.{GoesBy}

@@ -1,4 +1,4 @@
-use Rattle.std.proofs.Common.{◌≡◌, ◌∙◌, None, sym, ap}
+use Rattle.std.proofs.Common.{◌≡◌, ◌∙◌, sym, ap}
 use Rattle.mq_route.specs.declared.stage.Stage.TheVariants.{Fresh}
 use Rattle.mq_route.specs.Hub.{HubState, key_on, stage_of, with_line}
 use Rattle.mq_hub.specs.Seen.{HubTables, hub_of}

@@ -4,7 +4,7 @@ use Rattle.mq_route.specs.declared.act.Act.{Act}
 use Rattle.mq_route.specs.declared.act.Act.TheVariants as acts
 use Rattle.mq_route.specs.declared.stage.Stage.TheVariants.{Fresh, UpFor}
 use Rattle.mq_route.specs.declared.stage.Terms.{Terms}
-use Rattle.mq_route.specs.Arrives.{greet_new, terms_of}
+use Rattle.mq_route.specs.Arrives.{greet_new}
 use Rattle.mq_route.specs.Hub.{HubState, Line, key_of, stage_of, up_on, with_line, without_session}
 use Rattle.mq_route.specs.Work.{remove}
 use Rattle.mq_hub.specs.declared.session.Tenant.{Tenant}

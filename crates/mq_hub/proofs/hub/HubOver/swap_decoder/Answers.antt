@@ -1,4 +1,4 @@
-use Rattle.std.proofs.Common.{◌≡◌, ◌∙◌, sym, ap}
+use Rattle.std.proofs.Common.{◌∙◌, sym, ap}
 use Rattle.mq_route.specs.Hub.{HubState, changed, held_on, knows}
 use Rattle.mq_hub.specs.Coming.{holds, with_held}
 use Rattle.mq_hub.specs.Seen.{HubTables}

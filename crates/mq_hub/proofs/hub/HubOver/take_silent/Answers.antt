@@ -1,7 +1,5 @@
-use Rattle.std.proofs.Common.{◌≡◌, ◌∙◌, [], None, sym, ap, subst}
-use Rattle.std.specs.Option.{is_some}
+use Rattle.std.proofs.Common.{◌≡◌, ◌∙◌, None, sym, subst}
 use Rattle.mq_end.specs.Server.{server_gets}
-use Rattle.mq_route.specs.Arrives.{while_up}
 use Rattle.mq_route.specs.Hub.{HubState, end_of}
 use Rattle.mq_route.specs.Work.{does}
 use Rattle.mq_hub.specs.Does.{GoesBy}

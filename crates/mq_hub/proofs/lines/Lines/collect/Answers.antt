@@ -4,7 +4,8 @@ use Rattle.mq_route.specs.Hub.{Line, key_on, knows, waiting_on, with_line}
 use Rattle.mq_hub.specs.declared.connection.Connection.{Connection}
 use Rattle.mq_hub.specs.Lines.{service, LineTable, lines_of, line_of, AreLines}
 use Rattle.mq_hub.proofs.Collecting.{emptied, still_lines}
-use Rattle.mq_hub.proofs.Connections.{Entry, still_timely, are_named, changed, served_at, kept_same, lacks, found_by}
+use Rattle.mq_hub.proofs.Ringing.{same_awaited}
+use Rattle.mq_hub.proofs.Connections.{Entry, are_named, changed, served_at, kept_same, lacks, found_by}
 use Rattle.mq_hub.proofs.Fronting.{err_by, if_ok_by, ok_by}
 use Rattle.mq_hub.proofs.lines.Lines.collect.Goals as goal
 
@@ -12,17 +13,17 @@ pub returns-in_default-clause-bytes : goal.returns-in_default-clause-bytes
 returns-in_default-clause-bytes c =
     let es = c.self.inside.by_conn.entries in
     absurd (true≢false (sym c.requires ∙ sym (ap (λ (v : LineTable). knows c.args.conn v.lines) c.self.view_is)
-    ∙ lacks c.args.conn es (are_named (service c.self.inside.limits c.self.inside.due) es c.self.invariant.served) c.in_default.ensures.value))
+    ∙ lacks c.args.conn es (are_named (service c.self.inside.limits c.self.inside.alarms) es c.self.invariant.served) c.in_default.ensures.value))
 
 pub returns-in_default-clause-taken : goal.returns-in_default-clause-taken
 returns-in_default-clause-taken c =
     let es = c.self.inside.by_conn.entries in
     absurd (true≢false (sym c.requires ∙ sym (ap (λ (v : LineTable). knows c.args.conn v.lines) c.self.view_is)
-    ∙ lacks c.args.conn es (are_named (service c.self.inside.limits c.self.inside.due) es c.self.invariant.served) c.in_default.ensures.value))
+    ∙ lacks c.args.conn es (are_named (service c.self.inside.limits c.self.inside.alarms) es c.self.invariant.served) c.in_default.ensures.value))
 
 pub invariant_of-self-2 : goal.invariant_of-self-2
 invariant_of-self-2 c =
-    let by = service c.self.inside.limits c.self.inside.due in
+    let by = service c.self.inside.limits c.self.inside.alarms in
     let es = c.self.inside.by_conn.entries in
     let ups = c.self.inside.ups in
     let own = c.in-Some.boxed.now in
@@ -32,7 +33,7 @@ invariant_of-self-2 c =
     let read = served_at by c.args.conn es own c.self.invariant.served there in
     subst (λ (rs : List Entry). AreLines by rs (get eqb ups) (hash_map_len ups)) (sym (c.get_mut.follows.holds w).0)
     (kept_same by c.args.conn es own w (get eqb ups) (hash_map_len ups) c.self.invariant there (ap (λ (x : Connection). x.conn) says)
-    ((ap (λ (x : Connection). x.decoder.limit) says ∙ read.0.0, ap (λ (x : Connection). x.decoder.failed) says ∙ read.0.1), still_timely by.due w.stage own.stage (ap (λ (x : Connection). x.stage) says) read.1)
+    ((ap (λ (x : Connection). x.decoder.limit) says ∙ read.0.0, ap (λ (x : Connection). x.decoder.failed) says ∙ read.0.1), same_awaited by.alarms own w (ap (λ (x : Connection). x.conn) says) (ap (λ (x : Connection). x.stage) says) read.1)
     (ap (λ (x : Connection). key_on x.stage) says))
 
 pub returns-clause-bytes : goal.returns-clause-bytes
@@ -40,7 +41,7 @@ returns-clause-bytes c =
     let es = c.self.inside.by_conn.entries in
     if_ok_by c.collect.result
     (λ b is. is
-    ∙ sym (found_by (λ (x : Line). x.waiting) c.args.conn (waiting_on c.args.conn) (λ x xs. refl) es c.in-Some.boxed.now (are_named (service c.self.inside.limits c.self.inside.due) es c.self.invariant.served) (sym c.in-Some.ensures.value))
+    ∙ sym (found_by (λ (x : Line). x.waiting) c.args.conn (waiting_on c.args.conn) (λ x xs. refl) es c.in-Some.boxed.now (are_named (service c.self.inside.limits c.self.inside.alarms) es c.self.invariant.served) (sym c.in-Some.ensures.value))
     ∙ ap (λ (v : LineTable). waiting_on c.args.conn v.lines) c.self.view_is)
     c.collect.ensures.bytes
 
@@ -51,7 +52,7 @@ returns-clause-taken c =
     let w = c.collect.new.self in
     ok_by c.collect.result
     (λ none. ap lines_of (c.get_mut.follows.holds w).0
-    ∙ changed emptied c.args.conn es own w (are_named (service c.self.inside.limits c.self.inside.due) es c.self.invariant.served) c.self.invariant.distinct (sym c.in-Some.ensures.value)
+    ∙ changed emptied c.args.conn es own w (are_named (service c.self.inside.limits c.self.inside.alarms) es c.self.invariant.served) c.self.invariant.distinct (sym c.in-Some.ensures.value)
     (ap line_of (c.collect.ensures.own ∙ ap (λ (b : List ℕ). record own { waiting = b }) none))
     ∙ ap (λ (v : LineTable). with_line emptied c.args.conn v.lines) c.self.view_is)
     c.collect.ensures.taken
@@ -63,7 +64,7 @@ returns-clause-err c =
     let w = c.collect.new.self in
     err_by c.collect.result
     (λ same. ap lines_of (c.get_mut.follows.holds w).0
-    ∙ changed (λ (x : Line). x) c.args.conn es own w (are_named (service c.self.inside.limits c.self.inside.due) es c.self.invariant.served) c.self.invariant.distinct (sym c.in-Some.ensures.value)
+    ∙ changed (λ (x : Line). x) c.args.conn es own w (are_named (service c.self.inside.limits c.self.inside.alarms) es c.self.invariant.served) c.self.invariant.distinct (sym c.in-Some.ensures.value)
     (ap line_of (c.collect.ensures.own ∙ ap (λ (b : List ℕ). record own { waiting = b }) same))
     ∙ still_lines c.args.conn (lines_of es) ∙ ap (λ (v : LineTable). v.lines) c.self.view_is)
     c.collect.ensures.err

@@ -1,10 +1,13 @@
-use Rattle.std.proofs.Common.{◌∙◌, List, eqb, sym, ap, subst}
+use Rattle.std.proofs.Common.{◌≡◌, ◌∙◌, List, eqb, sym, ap, subst}
 use Rattle.std.specs.HashMap.{get, hash_map_len}
+use Rattle.mq_route.specs.declared.conn.Conn.{Conn}
 use Rattle.mq_route.specs.Arrives.{heard}
 use Rattle.mq_route.specs.Hub.{Line, key_on, with_line}
 use Rattle.mq_hub.specs.declared.connection.Connection.{Connection}
 use Rattle.mq_hub.specs.Lines.{service, LineTable, lines_of, line_of, AreLines}
-use Rattle.mq_hub.proofs.Connections.{Entry, kept_sooner, timely_sooner, are_named, still_all, changed, served_at, kept_same, heard_key}
+use Rattle.mq_hub.specs.Alarms.{IsAwaited}
+use Rattle.mq_hub.proofs.Ringing.{alarm_awaited, found_name, heard_awaited, still_all_awaited}
+use Rattle.mq_hub.proofs.Connections.{Entry, awaited_of, kept_anew, are_named, still_all, changed, served_at, kept_same, heard_key}
 use Rattle.mq_hub.proofs.lines.Lines.heard.Goals as goal
 
 pub returns-in_default-clause-lines : goal.returns-in_default-clause-lines
@@ -12,31 +15,62 @@ returns-in_default-clause-lines c =
     let es = c.self.inside.by_conn.entries in
     let f : Line → Line = λ x. record x { stage = heard c.args.now x.stage } in
     ap (λ m. lines_of m.entries) c.get_mut.follows.holds-at-none
-    ∙ still_all f c.args.conn es (are_named (service c.self.inside.limits c.self.inside.due) es c.self.invariant.served) c.in_default.ensures.value
+    ∙ still_all f c.args.conn es (are_named (service c.self.inside.limits c.self.inside.alarms) es c.self.invariant.served) c.in_default.ensures.value
     ∙ ap (λ (v : LineTable). with_line f c.args.conn v.lines) c.self.view_is
 
-pub invariant_of-self-2 : goal.invariant_of-self-2
-invariant_of-self-2 c =
-    let by = service c.self.inside.limits c.self.inside.due in
+pub invariant_of-self-then-is_earlier : goal.invariant_of-self-then-is_earlier
+invariant_of-self-then-is_earlier c =
+    let by = service c.self.inside.limits c.self.inside.alarms in
+    let k = c.args.conn in
     let es = c.self.inside.by_conn.entries in
     let ups = c.self.inside.ups in
     let own = c.in-Some.boxed.now in
     let w = c.heard.new.self in
     let there = sym c.in-Some.ensures.value in
-    let due = c.sooner-self-inside.result in
-    let next = service c.self.inside.limits due in
-    let kept = kept_sooner by due es (get eqb ups) (hash_map_len ups) c.sooner-self-inside.ensures.own c.self.invariant in
-    let read = served_at by c.args.conn es own c.self.invariant.served there in
+    let alarms = c.set.new.self in
+    let next = service c.self.inside.limits alarms in
+    let rings = still_all_awaited by.alarms alarms es c.set.ensures.keeps (awaited_of by es c.self.invariant.served) in
+    let kept = kept_anew by alarms es (get eqb ups) (hash_map_len ups) rings c.self.invariant in
+    let read = served_at by k es own c.self.invariant.served there in
+    let name : k ≡ w.conn = found_name k es own (are_named by es c.self.invariant.served) there ∙ sym (ap (λ (x : Connection). x.conn) c.heard.ensures) in
     subst (λ (rs : List Entry). AreLines next rs (get eqb ups) (hash_map_len ups)) (sym (c.get_mut.follows.holds w).0)
-    (kept_same next c.args.conn es own w (get eqb ups) (hash_map_len ups) kept there (ap (λ (x : Connection). x.conn) c.heard.ensures)
-    ((ap (λ (x : Connection). x.decoder.limit) c.heard.ensures ∙ read.0.0, ap (λ (x : Connection). x.decoder.failed) c.heard.ensures ∙ read.0.1), timely_sooner c.last_in_time.result due w.stage c.sooner-self-inside.ensures.other c.last_in_time.ensures)
+    (kept_same next k es own w (get eqb ups) (hash_map_len ups) kept there (ap (λ (x : Connection). x.conn) c.heard.ensures) (
+      (ap (λ (x : Connection). x.decoder.limit) c.heard.ensures ∙ read.0.0, ap (λ (x : Connection). x.decoder.failed) c.heard.ensures ∙ read.0.1),
+      subst (λ (n : Conn). IsAwaited alarms n w.stage) name (alarm_awaited alarms k c.last_in_time.result w.stage c.set.ensures.rings c.last_in_time.ensures),
+    )
     (ap (λ (x : Connection). key_on x.stage) c.heard.ensures ∙ heard_key c.args.now own.stage))
 
-pub returns-clause-lines : goal.returns-clause-lines
-returns-clause-lines c =
+pub invariant_of-self-else-is_earlier : goal.invariant_of-self-else-is_earlier
+invariant_of-self-else-is_earlier c =
+    let by = service c.self.inside.limits c.self.inside.alarms in
+    let es = c.self.inside.by_conn.entries in
+    let ups = c.self.inside.ups in
+    let own = c.in-Some.boxed.now in
+    let w = c.heard.new.self in
+    let there = sym c.in-Some.ensures.value in
+    let read = served_at by c.args.conn es own c.self.invariant.served there in
+    let conn = ap (λ (x : Connection). x.conn) c.heard.ensures in
+    subst (λ (rs : List Entry). AreLines by rs (get eqb ups) (hash_map_len ups)) (sym (c.get_mut.follows.holds w).0)
+    (kept_same by c.args.conn es own w (get eqb ups) (hash_map_len ups) c.self.invariant there conn (
+      (ap (λ (x : Connection). x.decoder.limit) c.heard.ensures ∙ read.0.0, ap (λ (x : Connection). x.decoder.failed) c.heard.ensures ∙ read.0.1),
+      heard_awaited by.alarms own w c.args.now conn (ap (λ (x : Connection). x.stage) c.heard.ensures) (c.is_heard_after-is_earlier.ensures c.if-is_earlier.false) read.1,
+    )
+    (ap (λ (x : Connection). key_on x.stage) c.heard.ensures ∙ heard_key c.args.now own.stage))
+
+pub returns-then-is_earlier-clause-lines : goal.returns-then-is_earlier-clause-lines
+returns-then-is_earlier-clause-lines c =
     let es = c.self.inside.by_conn.entries in
     let f : Line → Line = λ x. record x { stage = heard c.args.now x.stage } in
     let w = c.heard.new.self in
     ap lines_of (c.get_mut.follows.holds w).0
-    ∙ changed f c.args.conn es c.in-Some.boxed.now w (are_named (service c.self.inside.limits c.self.inside.due) es c.self.invariant.served) c.self.invariant.distinct (sym c.in-Some.ensures.value) (ap line_of c.heard.ensures)
+    ∙ changed f c.args.conn es c.in-Some.boxed.now w (are_named (service c.self.inside.limits c.self.inside.alarms) es c.self.invariant.served) c.self.invariant.distinct (sym c.in-Some.ensures.value) (ap line_of c.heard.ensures)
+    ∙ ap (λ (v : LineTable). with_line f c.args.conn v.lines) c.self.view_is
+
+pub returns-else-is_earlier-clause-lines : goal.returns-else-is_earlier-clause-lines
+returns-else-is_earlier-clause-lines c =
+    let es = c.self.inside.by_conn.entries in
+    let f : Line → Line = λ x. record x { stage = heard c.args.now x.stage } in
+    let w = c.heard.new.self in
+    ap lines_of (c.get_mut.follows.holds w).0
+    ∙ changed f c.args.conn es c.in-Some.boxed.now w (are_named (service c.self.inside.limits c.self.inside.alarms) es c.self.invariant.served) c.self.invariant.distinct (sym c.in-Some.ensures.value) (ap line_of c.heard.ensures)
     ∙ ap (λ (v : LineTable). with_line f c.args.conn v.lines) c.self.view_is

@@ -8,11 +8,11 @@ pub returns-in-Some : goal.returns-in-Some
 returns-in-Some c =
     let es = c.self.inside.by_conn.entries in
     c.key.ensures
-    ∙ ap key_on (sym (found_by (λ (x : Line). x.stage) c.args.conn (stage_of c.args.conn) (λ x xs. refl) es c.in-Some.boxed.now (are_named (service c.self.inside.limits c.self.inside.due) es c.self.invariant.served) (sym c.in-Some.ensures.value)))
+    ∙ ap key_on (sym (found_by (λ (x : Line). x.stage) c.args.conn (stage_of c.args.conn) (λ x xs. refl) es c.in-Some.boxed.now (are_named (service c.self.inside.limits c.self.inside.alarms) es c.self.invariant.served) (sym c.in-Some.ensures.value)))
     ∙ ap (λ (v : LineTable). key_on (stage_of c.args.conn v.lines)) c.self.view_is
 
 pub returns-in-None : goal.returns-in-None
 returns-in-None c =
     let es = c.self.inside.by_conn.entries in
-    ap key_on (sym (unknown_shut c.args.conn (lines_of es) (lacks c.args.conn es (are_named (service c.self.inside.limits c.self.inside.due) es c.self.invariant.served) c.in-None.ensures.value)))
+    ap key_on (sym (unknown_shut c.args.conn (lines_of es) (lacks c.args.conn es (are_named (service c.self.inside.limits c.self.inside.alarms) es c.self.invariant.served) c.in-None.ensures.value)))
     ∙ ap (λ (v : LineTable). key_on (stage_of c.args.conn v.lines)) c.self.view_is

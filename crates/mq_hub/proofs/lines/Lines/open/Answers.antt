@@ -10,7 +10,8 @@ use Rattle.mq_route.specs.Routed.{same_conn}
 use Rattle.mq_route.specs.Hub.{knows}
 use Rattle.mq_hub.specs.declared.connection.Connection.{Connection}
 use Rattle.mq_hub.specs.Lines.{service, LineTable, lines_of, line_of, AreLines, IsReading}
-use Rattle.mq_hub.proofs.Connections.{Entry, still_timely, are_named, known, kept_last, lines_last, not_some}
+use Rattle.mq_hub.proofs.Ringing.{never_late}
+use Rattle.mq_hub.proofs.Connections.{Entry, are_named, known, kept_last, lines_last, not_some}
 use Rattle.mq_hub.proofs.Retaining.{entries_in}
 use Rattle.mq_hub.proofs.lines.Lines.open.Goals as goal
 
@@ -24,19 +25,19 @@ last c =
     let room : 0 < spare c.self.inside.by_conn = subst (λ (n : ℕ). 0 < n) (sym (ap (λ (v : LineTable). v.room) c.self.view_is)) c.requires.room in
     let done : new ≡ insert_entry same_conn es k b = entries_in (new ≡ insert_entry same_conn es k b) c.insert.result (c.insert.ensures.succeeds room) c.insert.ensures.entries in
     let none : lookup (same_conn b.conn) es ≡ None =
-    not_some (lookup (same_conn b.conn) es) (known b.conn es (are_named (service c.self.inside.limits c.self.inside.due) es c.self.invariant.served)
+    not_some (lookup (same_conn b.conn) es) (known b.conn es (are_named (service c.self.inside.limits c.self.inside.alarms) es c.self.invariant.served)
     ∙ ap (λ (v : LineTable). knows b.conn v.lines) c.self.view_is ∙ c.requires.name) in
     done ∙ ap (λ (x : Connection). insert_entry same_conn es x.conn b) c.connection.ensures ∙ insert_entry-new same_conn c.self.inside.by_conn b.conn b none
 
 pub invariant_of-self : goal.invariant_of-self
 invariant_of-self c =
-    let by = service c.self.inside.limits c.self.inside.due in
+    let by = service c.self.inside.limits c.self.inside.alarms in
     let es = c.self.inside.by_conn.entries in
     let ups = c.self.inside.ups in
     let bounds = ap (λ (v : LineTable). v.limits) c.self.view_is in
     subst (λ (rs : List Entry). AreLines by rs (get eqb ups) (hash_map_len ups)) (sym (last c))
     (kept_last by c.args.boxed es (get eqb ups) (hash_map_len ups) c.self.invariant c.requires.stage
-    (subst (λ (l : Bounds). IsReading l c.args.boxed) (sym bounds) c.requires.reading, still_timely by.due c.args.boxed.stage Fresh c.requires.stage (λ now within. refl))
+    (subst (λ (l : Bounds). IsReading l c.args.boxed) (sym bounds) c.requires.reading, never_late by.alarms c.args.boxed.conn c.args.boxed.stage Fresh c.requires.stage (λ now. refl))
     (subst (λ (rs : List Entry). IsDistinct same_conn (keys_of rs)) (last c) c.insert.ensures.unique))
 
 pub returns-clause-lines : goal.returns-clause-lines

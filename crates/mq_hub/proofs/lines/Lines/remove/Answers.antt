@@ -10,7 +10,7 @@ use Rattle.mq_hub.proofs.lines.Lines.remove.Goals as goal
 
 pub invariant_of-self : goal.invariant_of-self
 invariant_of-self c =
-    let by = service c.self.inside.limits c.self.inside.due in
+    let by = service c.self.inside.limits c.self.inside.alarms in
     let es = c.self.inside.by_conn.entries in
     let ups = c.self.inside.ups in
     let left = c.take_out.ensures.entries in
@@ -23,5 +23,5 @@ pub returns-clause-lines : goal.returns-clause-lines
 returns-clause-lines c =
     let es = c.self.inside.by_conn.entries in
     ap lines_of c.take_out.ensures.entries
-    ∙ taken_out c.args.conn es (are_named (service c.self.inside.limits c.self.inside.due) es c.self.invariant.served) c.self.invariant.distinct
+    ∙ taken_out c.args.conn es (are_named (service c.self.inside.limits c.self.inside.alarms) es c.self.invariant.served) c.self.invariant.distinct
     ∙ ap (λ (v : LineTable). without_line c.args.conn v.lines) c.self.view_is

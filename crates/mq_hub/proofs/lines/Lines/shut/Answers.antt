@@ -3,7 +3,8 @@ use Rattle.std.specs.HashMap.{get, hash_map_len}
 use Rattle.mq_route.specs.declared.stage.Stage.TheVariants.{Shut}
 use Rattle.mq_route.specs.Hub.{Line, key_on, stage_of, with_line}
 use Rattle.mq_hub.specs.Lines.{service, LineTable, lines_of, AreLines}
-use Rattle.mq_hub.proofs.Connections.{Entry, still_timely, are_named, found_by, lacks, unknown_shut, still_all, changed, served_at, kept_same, kept_shut, is_found}
+use Rattle.mq_hub.proofs.Ringing.{never_late}
+use Rattle.mq_hub.proofs.Connections.{Entry, are_named, found_by, lacks, unknown_shut, still_all, changed, served_at, kept_same, kept_shut, is_found}
 use Rattle.mq_hub.proofs.lines.Lines.shut.Goals as goal
 
 pub returns-in_default-clause-lines : goal.returns-in_default-clause-lines
@@ -11,18 +12,18 @@ returns-in_default-clause-lines c =
     let es = c.self.inside.by_conn.entries in
     let f : Line → Line = λ x. record x { stage = Shut; held = [] } in
     ap (λ m. lines_of m.entries) c.get_mut.follows.holds-at-none
-    ∙ still_all f c.args.conn es (are_named (service c.self.inside.limits c.self.inside.due) es c.self.invariant.served) c.in_default.ensures.value
+    ∙ still_all f c.args.conn es (are_named (service c.self.inside.limits c.self.inside.alarms) es c.self.invariant.served) c.in_default.ensures.value
     ∙ ap (λ (v : LineTable). with_line f c.args.conn v.lines) c.self.view_is
 
 pub note_down-requires : goal.note_down-requires
 note_down-requires c =
     let ups = c.self.inside.ups in
-    is_found (service c.self.inside.limits c.self.inside.due) c.args.conn c.in-Some-up.key c.self.inside.by_conn.entries c.in-Some.boxed.now (get eqb ups) (hash_map_len ups) c.self.invariant
+    is_found (service c.self.inside.limits c.self.inside.alarms) c.args.conn c.in-Some-up.key c.self.inside.by_conn.entries c.in-Some.boxed.now (get eqb ups) (hash_map_len ups) c.self.invariant
     (sym c.in-Some.ensures.value) (sym c.key-up.ensures ∙ c.in-Some-up.is)
 
 pub invariant_of-self-in-Some-up : goal.invariant_of-self-in-Some-up
 invariant_of-self-in-Some-up c =
-    let by = service c.self.inside.limits c.self.inside.due in
+    let by = service c.self.inside.limits c.self.inside.alarms in
     let k = c.args.conn in
     let es = c.self.inside.by_conn.entries in
     let ups = c.self.inside.ups in
@@ -33,12 +34,12 @@ invariant_of-self-in-Some-up c =
     let read = served_at by k es own c.self.invariant.served there in
     subst (λ (rs : List Entry). AreLines by rs (get eqb new) (hash_map_len new)) (sym (c.get_mut.follows.holds w).0)
     (kept_shut by k c.in-Some-up.key es own w (get eqb ups) (get eqb new) (hash_map_len ups) (hash_map_len new) c.self.invariant there
-    (ap (λ (x : Line). x.conn) c.shut-stage.ensures.line) ((c.shut-stage.ensures.limit ∙ read.0.0, c.shut-stage.ensures.failed), still_timely by.due w.stage Shut (ap (λ (x : Line). x.stage) c.shut-stage.ensures.line) (λ now within. refl))
+    (ap (λ (x : Line). x.conn) c.shut-stage.ensures.line) ((c.shut-stage.ensures.limit ∙ read.0.0, c.shut-stage.ensures.failed), never_late by.alarms w.conn w.stage Shut (ap (λ (x : Line). x.stage) c.shut-stage.ensures.line) (λ now. refl))
     (sym c.key-up.ensures ∙ c.in-Some-up.is) (ap (λ (x : Line). key_on x.stage) c.shut-stage.ensures.line) c.note_down.ensures.found c.note_down.ensures.len)
 
 pub invariant_of-self-in_default-up : goal.invariant_of-self-in_default-up
 invariant_of-self-in_default-up c =
-    let by = service c.self.inside.limits c.self.inside.due in
+    let by = service c.self.inside.limits c.self.inside.alarms in
     let k = c.args.conn in
     let es = c.self.inside.by_conn.entries in
     let ups = c.self.inside.ups in
@@ -48,7 +49,7 @@ invariant_of-self-in_default-up c =
     let read = served_at by k es own c.self.invariant.served there in
     subst (λ (rs : List Entry). AreLines by rs (get eqb ups) (hash_map_len ups)) (sym (c.get_mut.follows.holds w).0)
     (kept_same by k es own w (get eqb ups) (hash_map_len ups) c.self.invariant there (ap (λ (x : Line). x.conn) c.shut-stage.ensures.line)
-    ((c.shut-stage.ensures.limit ∙ read.0.0, c.shut-stage.ensures.failed), still_timely by.due w.stage Shut (ap (λ (x : Line). x.stage) c.shut-stage.ensures.line) (λ now within. refl))
+    ((c.shut-stage.ensures.limit ∙ read.0.0, c.shut-stage.ensures.failed), never_late by.alarms w.conn w.stage Shut (ap (λ (x : Line). x.stage) c.shut-stage.ensures.line) (λ now. refl))
     (ap (λ (x : Line). key_on x.stage) c.shut-stage.ensures.line ∙ sym c.in_default-up.is ∙ c.key-up.ensures))
 
 pub returns-in-Some-up-clause-lines : goal.returns-in-Some-up-clause-lines
@@ -57,7 +58,7 @@ returns-in-Some-up-clause-lines c =
     let f : Line → Line = λ x. record x { stage = Shut; held = [] } in
     let w = c.shut-stage.new.self in
     ap lines_of (c.get_mut.follows.holds w).0
-    ∙ changed f c.args.conn es c.in-Some.boxed.now w (are_named (service c.self.inside.limits c.self.inside.due) es c.self.invariant.served) c.self.invariant.distinct (sym c.in-Some.ensures.value) c.shut-stage.ensures.line
+    ∙ changed f c.args.conn es c.in-Some.boxed.now w (are_named (service c.self.inside.limits c.self.inside.alarms) es c.self.invariant.served) c.self.invariant.distinct (sym c.in-Some.ensures.value) c.shut-stage.ensures.line
     ∙ ap (λ (v : LineTable). with_line f c.args.conn v.lines) c.self.view_is
 
 pub returns-in_default-up-clause-lines : goal.returns-in_default-up-clause-lines
@@ -66,25 +67,25 @@ returns-in_default-up-clause-lines c =
     let f : Line → Line = λ x. record x { stage = Shut; held = [] } in
     let w = c.shut-stage.new.self in
     ap lines_of (c.get_mut.follows.holds w).0
-    ∙ changed f c.args.conn es c.in-Some.boxed.now w (are_named (service c.self.inside.limits c.self.inside.due) es c.self.invariant.served) c.self.invariant.distinct (sym c.in-Some.ensures.value) c.shut-stage.ensures.line
+    ∙ changed f c.args.conn es c.in-Some.boxed.now w (are_named (service c.self.inside.limits c.self.inside.alarms) es c.self.invariant.served) c.self.invariant.distinct (sym c.in-Some.ensures.value) c.shut-stage.ensures.line
     ∙ ap (λ (v : LineTable). with_line f c.args.conn v.lines) c.self.view_is
 
 pub returns-in_default-clause-stage : goal.returns-in_default-clause-stage
 returns-in_default-clause-stage c =
     let es = c.self.inside.by_conn.entries in
-    sym (unknown_shut c.args.conn (lines_of es) (lacks c.args.conn es (are_named (service c.self.inside.limits c.self.inside.due) es c.self.invariant.served) c.in_default.ensures.value))
+    sym (unknown_shut c.args.conn (lines_of es) (lacks c.args.conn es (are_named (service c.self.inside.limits c.self.inside.alarms) es c.self.invariant.served) c.in_default.ensures.value))
     ∙ ap (λ (v : LineTable). stage_of c.args.conn v.lines) c.self.view_is
 
 pub returns-in-Some-up-clause-stage : goal.returns-in-Some-up-clause-stage
 returns-in-Some-up-clause-stage c =
     let es = c.self.inside.by_conn.entries in
     c.shut-stage.ensures.stage
-    ∙ sym (found_by (λ (x : Line). x.stage) c.args.conn (stage_of c.args.conn) (λ x xs. refl) es c.in-Some.boxed.now (are_named (service c.self.inside.limits c.self.inside.due) es c.self.invariant.served) (sym c.in-Some.ensures.value))
+    ∙ sym (found_by (λ (x : Line). x.stage) c.args.conn (stage_of c.args.conn) (λ x xs. refl) es c.in-Some.boxed.now (are_named (service c.self.inside.limits c.self.inside.alarms) es c.self.invariant.served) (sym c.in-Some.ensures.value))
     ∙ ap (λ (v : LineTable). stage_of c.args.conn v.lines) c.self.view_is
 
 pub returns-in_default-up-clause-stage : goal.returns-in_default-up-clause-stage
 returns-in_default-up-clause-stage c =
     let es = c.self.inside.by_conn.entries in
     c.shut-stage.ensures.stage
-    ∙ sym (found_by (λ (x : Line). x.stage) c.args.conn (stage_of c.args.conn) (λ x xs. refl) es c.in-Some.boxed.now (are_named (service c.self.inside.limits c.self.inside.due) es c.self.invariant.served) (sym c.in-Some.ensures.value))
+    ∙ sym (found_by (λ (x : Line). x.stage) c.args.conn (stage_of c.args.conn) (λ x xs. refl) es c.in-Some.boxed.now (are_named (service c.self.inside.limits c.self.inside.alarms) es c.self.invariant.served) (sym c.in-Some.ensures.value))
     ∙ ap (λ (v : LineTable). stage_of c.args.conn v.lines) c.self.view_is

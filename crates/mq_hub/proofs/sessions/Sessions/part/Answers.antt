@@ -1,10 +1,10 @@
-use Rattle.std.proofs.Common.{◌≡◌, ◌∙◌, true, ℕ, List, ◌++◌, take, drop, length, sym, ap, subst, arith}
+use Rattle.std.proofs.Common.{◌≡◌, ◌∙◌, ℕ, List, ◌++◌, take, drop, length, sym, ap, subst, arith}
 use Rattle.std.specs.HashMap.{get}
 use Rattle.std.specs.Option.{is_some}
 use Rattle.std.specs.Str.{bytes_eq}
 use Rattle.mq_hub.specs.declared.session.Tenant.{Tenant}
 use Rattle.mq_hub.specs.Leaving.{parted}
-use Rattle.mq_hub.specs.Sessions.{AreSessions, SessionTable, tenant_of, with_server}
+use Rattle.mq_hub.specs.Sessions.{AreSessions, SessionTable, tenant_of}
 use Rattle.mq_hub.proofs.Leaves.{IsPartedBy, parted_there}
 use Rattle.mq_hub.proofs.Tenants.{kept_with, same_length, written}
 use Rattle.mq_hub.proofs.sessions.Sessions.part.Goals as goal

@@ -2,7 +2,7 @@ use Rattle.std.proofs.Common.{◌≡◌, ◌∙◌, ℕ, List, ◌++◌, take, d
 use Rattle.std.specs.HashMap.{get}
 use Rattle.std.specs.Str.{bytes_eq}
 use Rattle.mq_hub.specs.declared.session.Tenant.{Tenant}
-use Rattle.mq_hub.specs.Calls.{CanServe, ServesAt}
+use Rattle.mq_hub.specs.Calls.{ServesAt}
 use Rattle.mq_hub.specs.Sessions.{AreAscending, AreSessions, SessionTable, with_server}
 use Rattle.mq_hub.proofs.Calling.{unserved}
 use Rattle.mq_hub.proofs.Tenants.{kept_with, same_length, written}

@@ -1,4 +1,4 @@
-use Rattle.std.proofs.Common.{◌≡◌, ◌∙◌, ℕ, ◌+◌, Bool, true, false, [], List, length, Result, Ok, refl, sym, ap, subst}
+use Rattle.std.proofs.Common.{◌≡◌, ◌∙◌, ◌+◌, Bool, true, false, [], List, length, Result, Ok, refl, sym, ap, subst}
 use Rattle.std.specs.declared.alloc.AllocError.{AllocError}
 use Rattle.mq_packet.specs.declared.message.Message.{Message}
 use Rattle.mq_packet.specs.declared.packet.Request.{Request}
@@ -8,7 +8,6 @@ use Rattle.mq_route.specs.Arrives.{granted}
 use Rattle.mq_route.specs.Hub.{for_key}
 use Rattle.mq_route.specs.Work.{retained_copies}
 use Rattle.mq_hub.specs.declared.call.Call.TheVariants.{Grants}
-use Rattle.mq_hub.specs.declared.session.Tenant.{Tenant}
 use Rattle.mq_hub.specs.Calls.{CanServe, ServesAt}
 use Rattle.mq_hub.specs.Placing.{AreSameButRoom, HasSessions, IsFor, IsReadyAt}
 use Rattle.mq_hub.specs.Seen.{HubTables}

@@ -1,4 +1,4 @@
-use Rattle.std.proofs.Common.{refl, ap, sym, subst, Result}
+use Rattle.std.proofs.Common.{refl, ap, subst, Result}
 use Rattle.std.specs.declared.alloc.AllocError.{AllocError}
 use Rattle.mq_end.specs.declared.outcome.Outcome.{Outcome}
 use Rattle.mq_hub.specs.declared.call.Call.TheVariants.{Takes}

@@ -1,4 +1,4 @@
-use Rattle.std.proofs.Common.{refl, ap, sym, subst, Result, Ok}
+use Rattle.std.proofs.Common.{refl, ap, subst, Result, Ok}
 use Rattle.std.specs.declared.alloc.AllocError.{AllocError}
 use Rattle.mq_packet.specs.declared.packet.Packet.TheVariants.{Publish}
 use Rattle.mq_end.specs.declared.outcome.Outcome.{Outcome}

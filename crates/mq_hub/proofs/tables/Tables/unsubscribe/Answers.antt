@@ -1,8 +1,7 @@
-use Rattle.std.proofs.Common.{◌≡◌, ◌∙◌, ℕ, [], List, Result, refl, sym, ap, subst, arith}
+use Rattle.std.proofs.Common.{◌∙◌, ℕ, [], List, Result, refl, sym, ap, subst, arith}
 use Rattle.std.specs.declared.alloc.AllocError.{AllocError}
 use Rattle.mq_end.specs.declared.outcome.Outcome.{Outcome}
 use Rattle.mq_hub.specs.declared.call.Call.TheVariants.{Drops}
-use Rattle.mq_hub.specs.declared.session.Tenant.{Tenant}
 use Rattle.mq_hub.specs.Calls.{CanServe, ServesAt}
 use Rattle.mq_hub.specs.Placing.{AreSameButRoom}
 use Rattle.mq_hub.specs.Seen.{HubTables}

@@ -1,0 +1,47 @@
+-- When connections may be late (3.1.2.10).
+use Rattle.std.specs.Prelude.{◌≡◌, ◌≤◌, ℕ, Bool, false, ◌||◌, List, [], ◌∷◌}
+use Rattle.std.specs.List.{All, AllByRecursion}
+use Rattle.std.specs.Ordering.{nat_cmp, ordering_then}
+use Rattle.std.specs.declared.cmp.Ordering.{Ordering}
+use Rattle.std.specs.declared.cmp.Reverse.{Reverse}
+use Rattle.mq_route.specs.declared.conn.Conn.{Conn}
+use Rattle.mq_route.specs.declared.stage.Stage.{Stage}
+use Rattle.mq_route.specs.Routed.{same_conn}
+use Rattle.mq_route.specs.Step.{is_late_on}
+use Rattle.mq_hub.specs.declared.alarms.Alarm.{Alarm}
+use Rattle.mq_hub.specs.declared.connection.Connection.{Connection}
+
+-- The alarms: each is a moment up to which the connection that it names is not late. After `until` any may be.
+pub record AlarmTable : Type 0 where
+  pub until : ℕ
+  pub alarms : List (Reverse Alarm)
+
+-- their order: the soonest first, and those of one moment by their connection
+abbrev pub soonest_first : Reverse Alarm → Reverse Alarm → Ordering
+soonest_first x y =
+    ordering_then (nat_cmp y.0.until x.0.until) (ordering_then (nat_cmp y.0.conn.worker x.0.conn.worker) (nat_cmp y.0.conn.nth x.0.conn.nth))
+
+-- no alarm of this connection rings before this moment
+abbrev pub IsQuiet : AlarmTable → Conn → ℕ → Type 0
+IsQuiet a k now = (now ≤ a.until) × All (λ r. r.0.conn ≡ k → now ≤ r.0.until) a.alarms
+
+-- before an alarm of its rings, a connection at this stage is not late
+abbrev pub IsAwaited : AlarmTable → Conn → Stage → Type 0
+IsAwaited a k s = (now : ℕ) → IsQuiet a k now → is_late_on now s ≡ false
+
+-- the second table rings wherever the first one does, and maybe sooner
+abbrev pub RingsWith : AlarmTable → AlarmTable → Type 0
+RingsWith a b = (k : Conn) (now : ℕ) → IsQuiet b k now → IsQuiet a k now
+
+-- one of these names is this one
+abbrev pub is_named : Conn → List Conn → Bool
+is_named k [] = false
+is_named k (n ∷ ns) = same_conn k n || is_named k ns
+
+-- each of the connections is awaited
+abbrev pub AreAwaited : AlarmTable → List (Conn × Connection) → Type 0
+AreAwaited a = AllByRecursion (λ e. IsAwaited a e.1.conn e.1.stage)
+
+-- and each is but for those of these names
+abbrev pub AreAwaitedBut : List Conn → AlarmTable → List (Conn × Connection) → Type 0
+AreAwaitedBut names a = AllByRecursion (λ e. is_named e.1.conn names ≡ false → IsAwaited a e.1.conn e.1.stage)
