@@ -18,9 +18,10 @@ use mq_packet::{Packet, PacketId};
 use mq_wire::{length_laws, number_laws, text_laws};
 use std::alloc::Global;
 
-// An acknowledgement (3.4 to 3.7, 3.11), whose only field is an identifier, where it stands at the front, whole and right.
+/// An acknowledgement (3.4 to 3.7, 3.11), whose only field is an identifier, where it stands at the front, whole and right.
+#[inline(always)]
 #[tactic(auto, unfolding(crate::specs::Front::front_at, crate::specs::Front::header_at, mq_wire::specs::Reading::read_length, crate::specs::Bodies::only_identifier_at, crate::specs::Fields::identifier_at, crate::specs::Fields::number_at))]
-fn acknowledgement(limits: Limits, bytes: &[u8]) -> Option<PacketView<'_>>
+pub(crate) fn acknowledgement(limits: Limits, bytes: &[u8]) -> Option<PacketView<'_>>
     ensures read { IfSome result
         (λ packet. front_at limits bytes.now ≡ Ok (Some (packet_of packet, 4))) }
     ensures end { IfSome result (LiesAtEnd (take 4 bytes.now)) }
@@ -42,9 +43,10 @@ fn acknowledgement(limits: Limits, bytes: &[u8]) -> Option<PacketView<'_>>
     }
 }
 
-// A packet without fields (3.12 to 3.14) that stands at the front.
+/// A packet without fields (3.12 to 3.14) that stands at the front.
+#[inline(always)]
 #[tactic(auto, unfolding(crate::specs::Front::front_at, crate::specs::Front::header_at, mq_wire::specs::Reading::read_length))]
-fn bare_packet(limits: Limits, bytes: &[u8]) -> Option<PacketView<'_>>
+pub(crate) fn bare_packet(limits: Limits, bytes: &[u8]) -> Option<PacketView<'_>>
     ensures read { IfSome result
         (λ packet. front_at limits bytes.now ≡ Ok (Some (packet_of packet, 2))) }
     ensures end { IfSome result (LiesAtEnd (take 2 bytes.now)) }

@@ -8,7 +8,7 @@ ghost use Rattle.mq_decode.specs.Gives.{BeginsWith, EndsWith};
 ghost use Rattle.mq_decode.specs.Views.{LiesAtEnd, packet_of};
 
 use crate::fault::DecodeError;
-use crate::front::{front, view};
+use crate::front::{acknowledgement, bare_packet, front, view};
 use crate::header::{end_at, header_at};
 use crate::held::Held;
 use crate::limits::Limits;
@@ -461,8 +461,9 @@ pub(crate) fn take_next(
     take_found(alloc, limits, held, piece)
 }
 
-// Appends the packet that is held, which is whole or faulty. Where memory runs out the list is unchanged.
-fn append_held(
+// Appends the packet that is held, which is whole or faulty, whichever it is. Where memory runs out the list is unchanged.
+#[inline(never)]
+fn append_any(
     alloc: Global,
     limits: Limits,
     held: &mut Held,
@@ -485,6 +486,50 @@ fn append_held(
         View::More => Ok(()),
         View::Fault(fault) => Err(DecodeError::Fault(fault)),
     }
+}
+
+// Appends the packet at the front, which is all of the bytes, within room for it, where it is one of two or four bytes that is no more than a
+// kind and an identifier (3.4 to 3.7, 3.11 to 3.14); answers whether it is.
+#[inline(always)]
+fn push_short(limits: Limits, bytes: &[u8], out: &mut Vec<Packet>) -> bool
+    requires alone { IsAlone limits bytes.now }
+    requires room { vec_len out.old < vec_capacity out.old }
+    ensures yes { IsTrue result → Appends limits bytes.now out.old.items out.new.items }
+    ensures no { IsFalse result → out.new.items ≡ out.old.items }
+{
+    number_laws();
+    text_laws();
+    length_laws();
+    if let Some(packet) = acknowledgement(limits, bytes) {
+        return push_plain(&packet, out);
+    }
+    match bare_packet(limits, bytes) {
+        Some(packet) => push_plain(&packet, out),
+        None => false,
+    }
+}
+
+// Appends the packet that is held, which is whole or faulty. Where memory runs out the list is unchanged.
+#[inline(always)]
+fn append_held(
+    alloc: Global,
+    limits: Limits,
+    held: &mut Held,
+    out: &mut Vec<Packet>,
+) -> Result<(), DecodeError>
+    requires alone { IsAlone limits held.old.bytes }
+    requires whole { Pending limits held.old.bytes → ⊥ }
+    ensures ok { OnOk result (Appends limits held.old.bytes out.old.items out.new.items) }
+    ensures copied { held.new.copied ≡ held.old.copied }
+    ensures err { IfErr result (Stops limits held.old.bytes out.old.items out.new.items) }
+{
+    if out.reserve(1).is_err() {
+        return Err(DecodeError::Memory);
+    }
+    if push_short(limits, held.as_slice(), out) {
+        return Ok(());
+    }
+    append_any(alloc, limits, held, out)
 }
 
 // Takes the packet that is held, where it is whole.
