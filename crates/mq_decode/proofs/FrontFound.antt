@@ -2,6 +2,7 @@
 use Rattle.std.proofs.Common.{◌≡◌, ℕ, zero, suc, ◌+◌, ◌-◌, ◌^◌, ◌<◌, ◌≤◌, Bool, true, false, cond, ltb, List, [], ◌∷◌, ◌++◌, length, take, drop, Option, Some, None, Result, Ok, Err, refl, sym, ap, subst, ◌∙◌, append_assoc, arith}
 use Rattle.std.proofs.lemmas.Bool.{ltb-false}
 use Rattle.std.proofs.lemmas.List.{take_at, length-append, length-take, take-append-drop}
+use Rattle.std.specs.Prelude.{IfSome}
 use Rattle.mq_wire.specs.declared.reading.LengthReading.{LengthReading}
 use Rattle.mq_wire.specs.declared.reading.LengthReading.TheVariants.{Whole, Unfinished, TooLong, Overlong}
 use Rattle.mq_wire.specs.Bytes.{AreBytes}
@@ -16,16 +17,16 @@ use Rattle.mq_decode.specs.declared.fault.DecodeFault.{DecodeFault}
 use Rattle.mq_decode.specs.declared.kind.Kind.{Kind}
 use Rattle.mq_decode.specs.Kind.{kind_at, fixed_size, wrong_size, size_fault}
 use Rattle.mq_decode.specs.Bodies.{body_at}
-use Rattle.mq_decode.specs.Front.{header_at, front_at}
+use Rattle.mq_decode.specs.Front.{sized, header_of, header_at, len_told, front_at}
 use Rattle.mq_decode.specs.Limits.{Bounds}
-use Rattle.mq_decode.specs.Grammar.{ReadsWithin, Faulty, AtFirst, AtLength, AtSize, AtField, Pending}
+use Rattle.mq_decode.specs.Grammar.{ReadsWithin, HasHeader, Faulty, AtFirst, AtLength, AtSize, AtField, Pending}
 use Rattle.mq_decode.specs.declared.packet_view.View.{View}
 use Rattle.mq_decode.specs.declared.packet_view.View.TheVariants as views
 use Rattle.mq_decode.specs.Views.{IsView, view_read}
 use Rattle.mq_decode.proofs.FieldLaws.{Wire, AreBytes-rest}
 use Rattle.mq_decode.proofs.KindLaws.{kind_byte, byte_again, kind_found}
 use Rattle.mq_decode.proofs.BodyLaws.{body_found}
-use Rattle.mq_decode.proofs.FrontLaws.{Read, reads_from, whole_again, faulty_again, pending_at}
+use Rattle.mq_decode.proofs.FrontLaws.{Read, reads_from, header_is, told_is, whole_again, faulty_again, pending_at}
 
 abbrev pub FrontFound : Bounds → List ℕ → Read → Type 0
 FrontFound limit b (Ok None) = Pending limit b
@@ -134,6 +135,60 @@ front_found w limit (first ∷ rest) bytes = go (kind_at first) refl
     go : (r : Result Kind FaultKind) → kind_at first ≡ r → FrontFound limit (first ∷ rest) (front_at limit (first ∷ rest))
     go (Err k) e = is_faulty w limit (first ∷ rest) k 0 (AtFirst (record { first = first; rest = rest; bytes = refl; fault = e; here = refl }))
     go (Ok kind) e = first_found w limit first kind rest e (λ i. bytes (suc i))
+
+-- ---- a number that is told stands in a right header
+
+abbrev pub Told : Bounds → List ℕ → Type 0
+Told limit b = IfSome (len_told (header_at limit b)) (HasHeader limit b)
+
+none_told : (limit : Bounds) (b : List ℕ) → len_told (header_at limit b) ≡ None → Told limit b
+none_told limit b e = subst (λ (o : Option ℕ). IfSome o (HasHeader limit b)) (sym e) (record {})
+
+some_told : (w : Wire) (limit : Bounds) (b : List ℕ) (size : ℕ) → HasHeader limit b size → Told limit b
+some_told w limit b size h = subst (λ (o : Option ℕ). IfSome o (HasHeader limit b)) (sym (told_is w limit b size h)) h
+
+size_told : (w : Wire) (limit : Bounds) (first n : ℕ) (kind : Kind) (len rest : List ℕ) → kind_at first ≡ Ok kind → LengthUnder limit.lenient n len → Told limit (first ∷ (len ++ rest))
+size_told w limit first n kind len rest right formed = go (size_fault limit.most kind n) refl
+  where
+    header : header_at limit (first ∷ (len ++ rest)) ≡ sized (size_fault limit.most kind n) kind (length len) n
+    header = header_is w limit first n kind len rest right formed
+
+    go : (o : Option FaultKind) → size_fault limit.most kind n ≡ o → Told limit (first ∷ (len ++ rest))
+    go (Some k) size = none_told limit (first ∷ (len ++ rest)) (ap len_told header ∙ rw size refl)
+    go None size = some_told w limit (first ∷ (len ++ rest)) (1 + length len + n)
+        (record { first = first; n = n; len = len; rest = rest; bytes = refl; kind = kind; right = right; formed = formed; fits = size; told = refl })
+
+not_told : (limit : Bounds) (first : ℕ) (kind : Kind) (rest : List ℕ) (l : LengthReading) → kind_at first ≡ Ok kind → read_length limit.lenient rest ≡ l → len_told (header_of limit kind l) ≡ None → Told limit (first ∷ rest)
+unfolding header_at
+not_told limit first kind rest l right e none = none_told limit (first ∷ rest) (rw (right, e) none)
+
+length_told : (w : Wire) (limit : Bounds) (first : ℕ) (kind : Kind) (rest : List ℕ) → kind_at first ≡ Ok kind → AreBytes rest → Told limit (first ∷ rest)
+length_told w limit first kind rest right bytes = go (read_length limit.lenient rest) refl
+  where
+    go : (l : LengthReading) → read_length limit.lenient rest ≡ l → Told limit (first ∷ rest)
+    go (Whole n size) e =
+        let split : take size rest ++ drop size rest ≡ rest = take-append-drop size rest in
+        subst (λ (r : List ℕ). Told limit (first ∷ r)) split
+        (size_told w limit first n kind (take size rest) (drop size rest) right (w.lengths.found limit.lenient rest n size bytes e).1)
+    go Unfinished e = not_told limit first kind rest Unfinished right e refl
+    go TooLong e = not_told limit first kind rest TooLong right e refl
+    go (Overlong size) e = not_told limit first kind rest (Overlong size) right e refl
+
+wrong_told : (limit : Bounds) (first : ℕ) (k : FaultKind) (rest : List ℕ) → kind_at first ≡ Err k → Told limit (first ∷ rest)
+unfolding header_at
+wrong_told limit first k rest e = none_told limit (first ∷ rest) (rw e refl)
+
+nothing_told : (limit : Bounds) → Told limit []
+unfolding header_at
+nothing_told limit = none_told limit [] refl
+
+pub told_found : (w : Wire) (limit : Bounds) (b : List ℕ) → AreBytes b → Told limit b
+told_found w limit [] bytes = nothing_told limit
+told_found w limit (first ∷ rest) bytes = go (kind_at first) refl
+  where
+    go : (r : Result Kind FaultKind) → kind_at first ≡ r → Told limit (first ∷ rest)
+    go (Err k) e = wrong_told limit first k rest e
+    go (Ok kind) e = length_told w limit first kind rest e (λ i. bytes (suc i))
 
 -- what a view read
 pub view_is : (w : Wire) (limit : Bounds) (b : List ℕ) (v : View) → AreBytes b → view_read v ≡ front_at limit b → IsView limit b v

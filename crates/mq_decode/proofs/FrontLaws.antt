@@ -14,7 +14,7 @@ use Rattle.mq_decode.specs.Kind.{kind_at, size_fault}
 use Rattle.mq_decode.specs.Bodies.{body_at}
 use Rattle.mq_decode.specs.Front.{fault_at, sized, header_at, len_told, packet_or_fault, front_at}
 use Rattle.mq_decode.specs.Limits.{Bounds}
-use Rattle.mq_decode.specs.Grammar.{Reads, ReadsWithin, FirstFault, BadLength, SizeFault, Faulty, AtFirst, AtLength, AtSize, AtField, Pending}
+use Rattle.mq_decode.specs.Grammar.{Reads, ReadsWithin, FirstFault, BadLength, SizeFault, HasHeader, Faulty, AtFirst, AtLength, AtSize, AtField, Pending}
 use Rattle.mq_decode.proofs.FieldLaws.{Wire}
 use Rattle.mq_decode.proofs.KindLaws.{kind_of, kind_again, size_again}
 use Rattle.mq_decode.proofs.BodyLaws.{body_again}
@@ -45,7 +45,7 @@ spelled_reads w lenient p b h = reads_from lenient p b (record { packet = h.pack
 
 -- ---- a header that is right
 
-header_is : (w : Wire) (limit : Bounds) (first n : ℕ) (kind : Kind) (len rest : List ℕ) → kind_at first ≡ Ok kind → LengthUnder limit.lenient n len → header_at limit (first ∷ (len ++ rest)) ≡ sized (size_fault limit.most kind n) kind (length len) n
+pub header_is : (w : Wire) (limit : Bounds) (first n : ℕ) (kind : Kind) (len rest : List ℕ) → kind_at first ≡ Ok kind → LengthUnder limit.lenient n len → header_at limit (first ∷ (len ++ rest)) ≡ sized (size_fault limit.most kind n) kind (length len) n
 unfolding header_at
 header_is w limit first n kind len rest right formed = rw (right, w.lengths.again limit.lenient n len rest formed) refl
 
@@ -86,6 +86,11 @@ told_len w limit p s rest h =
     let header : header_at limit (first_byte p ∷ (len ++ (fields p ++ rest))) ≡ sized (size_fault limit.most (kind_of p) (length (fields p))) (kind_of p) (length len) (length (fields p)) =
     header_is w limit (first_byte p) (length (fields p)) (kind_of p) len (fields p ++ rest) (kind_again p parts.packet) parts.formed in
     ap (λ (b : List ℕ). len_told (header_at limit b)) regrouped ∙ (ap len_told header ∙ rw (size_again limit.most p h.1) (ap (λ (n : ℕ). Some n) count))
+
+-- a right header says how many bytes its packet takes
+pub told_is : (w : Wire) (limit : Bounds) (b : List ℕ) (size : ℕ) → HasHeader limit b size → len_told (header_at limit b) ≡ Some size
+told_is w limit b size h =
+    ap (λ (bytes : List ℕ). len_told (header_at limit bytes)) h.bytes ∙ (ap len_told (header_is w limit h.first h.n h.kind h.len h.rest h.right h.formed) ∙ rw (h.fits, h.told) refl)
 
 -- ---- what is faulty is read as that fault
 

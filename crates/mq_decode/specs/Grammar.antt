@@ -88,6 +88,20 @@ pub record FieldFault (limits : Bounds) (b : List ℕ) (k : FaultKind) (place : 
   pub fault : body_at kind body ≡ Err (record { kind = k; left = left })
   pub here : place ≡ 1 + length len + length body - left
 
+-- a right header stands at the front of b (2.2): a first byte that is one, and a remaining length that is within the limits and right
+-- for its kind; with it a packet takes so many bytes
+pub record HasHeader (limits : Bounds) (b : List ℕ) (size : ℕ) : Type 0 where
+  pub first : ℕ
+  pub n : ℕ
+  pub len : List ℕ
+  pub rest : List ℕ
+  pub bytes : b ≡ first ∷ len ++ rest
+  pub kind : Kind
+  pub right : kind_at first ≡ Ok kind
+  pub formed : LengthUnder limits.lenient n len
+  pub fits : size_fault limits.most kind n ≡ None
+  pub told : size ≡ 1 + length len + n
+
 -- b begins with what is no packet: the first fault, and its place
 pub data Faulty (limits : Bounds) (b : List ℕ) (k : FaultKind) (place : ℕ) : Type 0 where
   AtFirst : FirstFault b k place → Faulty limits b k place

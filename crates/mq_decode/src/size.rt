@@ -1,9 +1,9 @@
 //! How many bytes a packet takes, as its header says.
 
-ghost use Rattle.std.specs.Prelude.{◌≡◌, ◌++◌, ℕ, List, Some, length};
+ghost use Rattle.std.specs.Prelude.{◌≡◌, ◌++◌, ℕ, List, Some, IfSome, length};
 ghost use Rattle.mq_packet.specs.declared.packet.Packet.{Packet};
 ghost use Rattle.mq_decode.specs.Front.{header_at, len_told};
-ghost use Rattle.mq_decode.specs.Grammar.{ReadsWithin};
+ghost use Rattle.mq_decode.specs.Grammar.{HasHeader, ReadsWithin};
 
 use crate::header::header_at;
 use crate::limits::Limits;
@@ -18,10 +18,12 @@ fn len_told(limits: Limits, bytes: &[u8]) -> Option<usize>
     }
 }
 
-/// How many bytes the packet at the front takes (2.2), `None` where no header stands there. Its fields
+/// How many bytes the packet at the front takes (2.2), `None` where no right header stands there. Its fields
 /// are not looked at. It takes no memory.
 pub fn packet_len(limits: Limits, bytes: &[u8]) -> Option<usize>
-    ensures { (p : Packet) (s rest : List ℕ) → ReadsWithin limits p s → bytes.now ≡ s ++ rest
+    ensures header { (size : ℕ) → HasHeader limits bytes.now size → result ≡ Some size }
+    ensures told { IfSome result (HasHeader limits bytes.now) }
+    ensures packet { (p : Packet) (s rest : List ℕ) → ReadsWithin limits p s → bytes.now ≡ s ++ rest
         → result ≡ Some (length s) }
 {
     number_laws();
