@@ -11,6 +11,7 @@ use crate::held::Held;
 use crate::laws::pending_is_short;
 use crate::limits::Limits;
 use crate::take::{take_in, take_next};
+use bytes::Bytes;
 use mq_packet::Packet;
 use std::alloc::Global;
 use std::marker::Model;
@@ -24,6 +25,8 @@ pub struct Decoder {
     limits: Limits,
     held: Held,
     failed: Option<DecodeError>,
+    /// A copy of what may come next in the piece, while its packets are taken one at a time. Only messages that begin it share it.
+    ahead: Bytes,
 }
 
 impl Model for Decoder {
@@ -60,12 +63,13 @@ impl Decoder {
             limits,
             held: Held::new(alloc),
             failed: None,
+            ahead: Bytes::new(),
         }
     }
 
     /// Takes the next piece of the stream, and appends each packet that is whole now. Packets before
     /// an error are appended and stand. Messages that lie whole in the piece share copies of its bytes, so one that is kept keeps up to
-    /// 4 KiB; `next_packet` gives each a block of its own.
+    /// 4 KiB; of those that `next_packet` gives, up to 1 KiB.
     #[inline]
     pub fn feed(&mut self, piece: &[u8], out: &mut Vec<Packet>) -> Result<(), DecodeError>
         // The bytes held before and the piece are these packets, and what is held now.
@@ -100,7 +104,8 @@ impl Decoder {
 
     /// Takes the next whole packet of the stream, and answers it with the number of bytes of the piece
     /// that it used. Returns `None` where what is held and the piece are less than a whole packet, and
-    /// then all of the piece is held.
+    /// then all of the piece is held. Messages that lie whole in the piece share copies of its bytes, where each call gets what the one before
+    /// left of it, so one that is kept keeps up to 1 KiB; and so does the decoder, up to the call that returns `None` or an error.
     pub fn next_packet(&mut self, piece: &[u8]) -> Result<Option<(Packet, usize)>, DecodeError>
         // What is held and the front of the piece are the packet, and nothing is held after it.
         ensures within { IfOk result (λ o. IfSome o (λ x. x.1 ≤ length piece.now)) }
@@ -130,9 +135,16 @@ impl Decoder {
     {
         match self.failed {
             Some(error) => Err(error),
-            None => match take_next(self.alloc, self.limits, &mut self.held, piece) {
+            None => match take_next(
+                self.alloc,
+                self.limits,
+                &mut self.held,
+                &mut self.ahead,
+                piece,
+            ) {
                 Ok(next) => Ok(next),
                 Err(error) => {
+                    self.ahead = Bytes::new();
                     stop(self.alloc, &mut self.held, &mut self.failed, error);
                     Err(error)
                 }
@@ -165,6 +177,7 @@ impl Decoder {
     {
         self.held.reset(self.alloc);
         self.failed = None;
+        self.ahead = Bytes::new();
     }
 }
 

@@ -78,6 +78,7 @@ impl Link {
     }
 
     /// The message of a PUBLISH, with its delivery where it has one (3.3, 4.3).
+    #[inline(always)]
     pub(crate) fn take_message(
         &mut self,
         delivery: Option<Delivery>,
@@ -97,6 +98,7 @@ impl Link {
     }
 
     /// PUBLISH (3.3, 4.3).
+    #[inline(always)]
     fn take_publish(&mut self, publish: Publish) -> Result<Outcome, AllocError>
         ensures ok { IfOk result (λ outcome. Gives (flow_gets (packets.Publish publish) self.old.end) outcome self.old self.new) }
         ensures within { is_exactly_once (packets.Publish publish) ≡ false
@@ -150,6 +152,7 @@ impl Link {
 
     /// A packet of a message's flow comes to an end that is up; any other closes it (4.3, 4.8). Fails if memory runs out,
     /// which it does within the room only where an identifier is stored, and then nothing changes.
+    #[inline(always)]
     #[tactic(auto, using(crate::proofs::Outcomes::quiet))]
     pub(crate) fn take_flow(&mut self, packet: Packet) -> Result<Outcome, AllocError>
         ensures ok { IfOk result (λ outcome. Gives (flow_gets packet self.old.end) outcome self.old self.new) }

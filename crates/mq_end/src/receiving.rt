@@ -166,6 +166,7 @@ impl Link {
 
     /// A whole packet comes to the server, at this moment. Without a connection it is ignored. Fails if memory runs out, which it
     /// does within the room only where an identifier is stored, and then nothing changes.
+    #[inline(always)]
     pub(crate) fn take_packet(&mut self, now: u64, packet: Packet) -> Result<Outcome, AllocError>
         ensures open { is_live self.old.end.state ≡ true → IfOk result (λ outcome. TakesPacket now packet outcome self.old self.new) }
         ensures closed { is_live self.old.end.state ≡ false → self.new ≡ self.old }

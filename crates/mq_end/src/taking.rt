@@ -92,6 +92,7 @@ impl Link {
 
     /// A packet comes to a server. Fails if memory runs out, which it does within the room only where an identifier is stored,
     /// and then nothing changes.
+    #[inline(always)]
     pub(crate) fn take_server(&mut self, packet: Packet) -> Result<Outcome, AllocError>
         ensures ok { IfOk result (λ outcome. Gives (server_gets packet self.old.end) outcome self.old self.new) }
         ensures up { is_up self.old.end.state ≡ true → is_exactly_once packet ≡ false
