@@ -1,6 +1,5 @@
 -- A message that is to be shared, and tables that are ready for it.
-use Rattle.std.specs.Prelude.{◌≡◌, ℕ, ◌<◌, ◌≤◌, ◌∷◌, length}
-use Rattle.mq_route.specs.declared.act.Act.{Act}
+use Rattle.std.specs.Prelude.{◌≡◌, ℕ, ◌<◌, length}
 use Rattle.mq_hub.specs.declared.sharing.Sharing.{Sharing}
 use Rattle.mq_hub.specs.Placing.{placed_acts, AreApart, AreReady, AreSameButRoom}
 use Rattle.mq_hub.specs.Seen.{HubTables}
@@ -12,17 +11,15 @@ pub record AreTablesAlike (old new : HubTables) : Type 0 where
   pub tenants : AreSameButRoom old.sessions.tenants new.sessions.tenants
   pub lines : new.lines ≡ old.lines
 
--- What a message that is to be shared has with it: its topic name, and copies of which each is for another client.
+-- What a message that is to be shared has with it: its topic name, copies of which each is for another client, and the acts that say that
+-- these are placed.
 pub record IsDrawnUp (s : Sharing) : Type 0 where
   pub name : s.name ≡ s.message.topic
   pub apart : AreApart s.copies.items
-
--- What it says: this act, and that its copies are placed.
-abbrev pub Says : Act → Sharing → Type 0
-Says act s = s.acts.items ≡ act ∷ placed_acts s.copies.items
+  pub says : s.placed.items ≡ placed_acts s.copies.items
 
 -- Tables, and a list of acts that has this room, are ready for it, and for so many bytes more in each session that gets a copy.
 pub record IsPrepared (more : ℕ) (s : Sharing) (t : HubTables) (free : ℕ) : Type 0 where
   pub retained : 0 < t.retained.room
   pub ready : AreReady more t.sessions.tenants s.copies.items
-  pub room : length s.acts.items ≤ free
+  pub room : length s.placed.items < free

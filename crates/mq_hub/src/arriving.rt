@@ -18,6 +18,7 @@ use std::alloc::AllocError;
 impl<S: FilterStore> HubOver<S> {
     /// A packet comes from a client that is up: what its end tells is done, or its connection is closed (3.3 to 3.14, 4.8). Out of
     /// memory, nothing changes.
+    #[inline(always)]
     pub(crate) fn while_up(
         &mut self,
         conn: Conn,

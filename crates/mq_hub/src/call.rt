@@ -36,6 +36,7 @@ fn answered(answer: Result<(), PublishRefusal>) -> Result<Outcome, AllocError>
 }
 
 /// An end that is up does what it is to do. Out of memory, nothing changes.
+#[inline(always)]
 pub(crate) fn serve(end: &mut ServerEnd, call: Call) -> Result<Outcome, AllocError>
     requires up { is_up end.old.end.state ≡ true }
     requires allowed { IsAllowed call end.old }

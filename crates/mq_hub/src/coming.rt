@@ -16,6 +16,7 @@ use std::alloc::AllocError;
 impl<S: FilterStore> HubOver<S> {
     /// A packet comes on an open connection: the first one has to be CONNECT (3.1), and then its client is up (3.3 to 3.14). Out of memory,
     /// nothing changes.
+    #[inline(always)]
     pub(crate) fn comes_in(
         &mut self,
         conn: Conn,
@@ -40,6 +41,7 @@ impl<S: FilterStore> HubOver<S> {
 
     /// A whole packet comes on an open connection: its moment is noted (3.1.2.10), and it comes in. Where memory runs out for it the
     /// connection is closed. It is never refused.
+    #[inline(always)]
     pub(crate) fn takes(&mut self, conn: Conn, packet: Packet, doings: &mut Doings)
         requires open { is_open (stage_of conn self.old.lines) ≡ true }
         requires within { length (fields packet) ≤ self.old.config.limits.most }

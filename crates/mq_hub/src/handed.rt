@@ -18,6 +18,7 @@ use std::alloc::AllocError;
 impl<S: FilterStore> Tables<S> {
     /// The end of a session that is up takes a PUBLISH in, at which it doesn't close. Sessions that were ready for messages, and for the
     /// seven bytes of PUBACK or PUBREC beside them, are ready for the messages then (3.4, 3.5). Out of memory, nothing changes.
+    #[inline(always)]
     pub(crate) fn take_publish(
         &mut self,
         key: ClientKey,

@@ -26,7 +26,7 @@ use std::alloc::{AllocError, Global};
 use std::collections::HashMap;
 use std::marker::Model;
 
-// How many alarms more than there are connections, and as many again, may wait for their moment.
+// Alarms outlive their connections: all are set anew where there are more than twice as many as connections and this number together.
 const FEW_ALARMS: usize = 64;
 
 // Connections by their names, in an order.
@@ -367,7 +367,8 @@ impl Lines {
         boxed.swap_waiting(waiting);
     }
 
-    /// The places of the connections that may be late at this moment, in ascending order. Fails if memory runs out. It looks at no other.
+    /// The places of the connections that may be late at this moment, in ascending order. Fails if memory runs out. It looks at no other, but
+    /// where all alarms are set anew.
     pub(crate) fn late_places(&mut self, alloc: Global, now: u64) -> Result<Vec<usize>, AllocError>
         ensures same { self.new ≡ self.old }
         ensures late { IfOk result (λ places. HasLate now self.old.lines places.items) }

@@ -48,6 +48,7 @@ fn copies_found(
 
 /// The copies of a message that are due, one for each client with a subscription that matches, by ascending key (3.3.5). They
 /// share the message's bytes. Fails if memory runs out.
+#[inline(always)]
 pub(crate) fn copies_of<S: FilterStore>(
     alloc: Global,
     store: &S,

@@ -1,8 +1,7 @@
 //! What a message takes that is to be shared: it is drawn up, and the tables are made ready for it, before anything is changed.
 
-ghost use Rattle.std.specs.Prelude.{◌≡◌, ◌+◌, ◌≤◌, ◌∷◌, [], ℕ, length, true, IfOk, OnOk, Ok};
+ghost use Rattle.std.specs.Prelude.{◌≡◌, ◌+◌, ◌≤◌, ◌<◌, ℕ, length, true, IfOk, OnOk, Ok};
 ghost use Rattle.mq_end.specs.Sizes.{publish_size};
-ghost use Rattle.mq_route.specs.declared.act.Act.{Act};
 ghost use Rattle.mq_route.specs.declared.config.HubConfig.{HubConfig};
 ghost use Rattle.mq_route.specs.Hub.{HubState, copies_of};
 ghost use Rattle.mq_route.specs.Work.{have_room, share};
@@ -10,7 +9,7 @@ ghost use Rattle.mq_hub.specs.Does.{GoesBy};
 ghost use Rattle.mq_hub.specs.Keeps.{HubKeeps};
 ghost use Rattle.mq_hub.specs.Placing.{placed_all, AreApart, AreFor, AreStillReady, HasSessions};
 ghost use Rattle.mq_hub.specs.Seen.{hub_of};
-ghost use Rattle.mq_hub.specs.Sharing.{AreTablesAlike, IsDrawnUp, IsPrepared, Says};
+ghost use Rattle.mq_hub.specs.Sharing.{AreTablesAlike, IsDrawnUp, IsPrepared};
 
 use crate::doings::Doings;
 use crate::placing::{copies_of, make_room, push_placed};
@@ -21,25 +20,10 @@ use mq_route::Act;
 use mq_topic::FilterStore;
 use std::alloc::{AllocError, Global};
 
-// A list of one act. Out of memory, there is no list.
-fn alone(alloc: Global, act: Act) -> Result<Vec<Act>, AllocError>
-    ensures { IfOk result (λ acts. acts.items ≡ act ∷ []) }
-{
-    let mut acts = Vec::new(alloc);
-    acts.push(act)?;
-    Ok(acts)
-}
-
 impl<S: FilterStore> Tables<S> {
-    /// Draws up what it takes to share a message, after an act that says so. It shares the message's bytes, and the tables stay. Out of
-    /// memory it fails.
-    pub(crate) fn draw_up(
-        &self,
-        alloc: Global,
-        act: Act,
-        message: Message,
-    ) -> Result<Sharing, AllocError>
-        ensures act { IfOk result (λ s. Says act s) }
+    /// Draws up what it takes to share a message. It shares the message's bytes, and the tables stay. Out of memory it fails.
+    #[inline(always)]
+    pub(crate) fn draw_up(&self, alloc: Global, message: Message) -> Result<Sharing, AllocError>
         ensures message { IfOk result (λ s. s.message ≡ message) }
         ensures drawn { IfOk result (λ s. IsDrawnUp s) }
         ensures copies { IfOk result (λ s. (config : HubConfig) (clock next_key : ℕ)
@@ -47,21 +31,22 @@ impl<S: FilterStore> Tables<S> {
         ensures due { IfOk result (λ s. (config : HubConfig) (next_key : ℕ) → HubKeeps config next_key self.now
             → publish_size message ≤ config.limits.most → AreFor self.now.sessions.tenants s.copies.items) }
     {
-        let mut acts = alone(alloc, act)?;
         let copies = copies_of(alloc, &self.store, &self.lines, &message)?;
-        push_placed(&mut acts, copies.as_slice())?;
+        let mut placed = Vec::new(alloc);
+        push_placed(&mut placed, copies.as_slice())?;
         let name = message.topic.clone()?;
         Ok(Sharing {
             name,
             message,
             copies,
-            acts,
+            placed,
         })
     }
 
     /// Makes room for a message that is to be shared: for the message among those that are retained, for its copies in the sessions that
     /// they are for, with so many bytes more, and for its acts beside those for which there is room. `false` where a session has fewer identifiers free than its
     /// copies need (2.3.1). Out of memory it fails. The tables stay, but for their room.
+    #[inline(always)]
     pub(crate) fn prepare(
         &mut self,
         sharing: &Sharing,
@@ -72,7 +57,7 @@ impl<S: FilterStore> Tables<S> {
         requires due { AreFor self.old.sessions.tenants sharing.now.copies.items }
         ensures enough { IfOk result (λ enough. (h : HubState) → HasSessions self.old.sessions.tenants h → enough ≡ have_room sharing.now.copies.items h) }
         ensures ready { result ≡ Ok true → IsPrepared more sharing.now self.new doings.new.room }
-        ensures left { result ≡ Ok true → doings.old.room + length sharing.now.acts.items ≤ doings.new.room }
+        ensures left { result ≡ Ok true → doings.old.room + length sharing.now.placed.items < doings.new.room }
         ensures alike { AreTablesAlike self.old self.new }
         ensures still { AreStillReady self.old.sessions.tenants self.new.sessions.tenants }
         ensures sessions { self.new.sessions.room ≡ self.old.sessions.room }
@@ -80,16 +65,17 @@ impl<S: FilterStore> Tables<S> {
         ensures room { doings.old.room ≤ doings.new.room }
     {
         self.retained.reserve(1)?;
-        doings.reserve_beside(sharing.acts.len())?;
+        doings.reserve_beside(sharing.placed.len() + 1)?;
         make_room(&mut self.sessions, sharing.copies.as_slice(), more)
     }
 
-    /// A message is shared, for which all is ready: it is retained (3.3.1.3) and its copies are placed (3.3.5), after the act that it says first.
-    /// It takes no memory.
-    pub(crate) fn share(&mut self, sharing: Sharing, doings: &mut Doings)
+    /// A message is shared, for which all is ready: it is retained (3.3.1.3) and its copies are placed (3.3.5), after an act that says that it is
+    /// taken or published. It takes no memory.
+    #[inline(always)]
+    pub(crate) fn share(&mut self, act: Act, sharing: Sharing, doings: &mut Doings)
         requires drawn { IsDrawnUp sharing }
         requires ready { IsPrepared 0 sharing self.old doings.old.room }
-        ensures goes { (config : HubConfig) (clock next_key : ℕ) (act : Act) → HubKeeps config next_key self.old → Says act sharing
+        ensures goes { (config : HubConfig) (clock next_key : ℕ) → HubKeeps config next_key self.old
             → copies_of sharing.message (hub_of config clock next_key self.old) ≡ sharing.copies.items
             → GoesBy (share act sharing.message) (hub_of config clock next_key self.old) doings.old.acts
             (hub_of config clock next_key self.new) doings.new.acts }
@@ -98,8 +84,8 @@ impl<S: FilterStore> Tables<S> {
         ensures tenants { self.new.sessions.tenants ≡ placed_all sharing.copies.items self.old.sessions.tenants }
         ensures sessions { self.new.sessions.room ≡ self.old.sessions.room }
         ensures lines { self.new.lines ≡ self.old.lines }
-        ensures room { doings.old.room ≤ doings.new.room + length sharing.acts.items }
+        ensures room { doings.old.room ≤ doings.new.room + length sharing.placed.items + 1 }
     {
-        sharing.perform(&mut self.retained, &mut self.sessions, doings);
+        sharing.perform(act, &mut self.retained, &mut self.sessions, doings);
     }
 }

@@ -16,7 +16,7 @@ ghost use Rattle.mq_hub.specs.Keeps.{HubKeeps};
 ghost use Rattle.mq_hub.specs.Placing.{AreFor};
 ghost use Rattle.mq_hub.specs.Receiving.{IsReceived};
 ghost use Rattle.mq_hub.specs.Seen.{hub_of};
-ghost use Rattle.mq_hub.specs.Sharing.{IsDrawnUp, Says};
+ghost use Rattle.mq_hub.specs.Sharing.{IsDrawnUp};
 
 use crate::doings::Doings;
 use crate::hub::HubOver;
@@ -33,14 +33,9 @@ use std::alloc::{AllocError, Global};
 const ACKNOWLEDGEMENT: usize = 7;
 
 impl<S: FilterStore> Tables<S> {
-    // Draws up what it takes to share the message of a PUBLISH that comes from this client.
-    fn draw_up_taken(
-        &self,
-        alloc: Global,
-        key: ClientKey,
-        publish: &Publish,
-    ) -> Result<Sharing, AllocError>
-        ensures act { IfOk result (λ s. Says (Act.Took key publish.now.message) s) }
+    // Draws up what it takes to share the message of a PUBLISH that comes.
+    #[inline(always)]
+    fn draw_up_taken(&self, alloc: Global, publish: &Publish) -> Result<Sharing, AllocError>
         ensures message { IfOk result (λ s. s.message ≡ publish.now.message) }
         ensures drawn { IfOk result (λ s. IsDrawnUp s) }
         ensures copies { IfOk result (λ s. (config : HubConfig) (clock next_key : ℕ)
@@ -49,8 +44,7 @@ impl<S: FilterStore> Tables<S> {
             → publish_size publish.now.message ≤ config.limits.most → AreFor self.now.sessions.tenants s.copies.items) }
     {
         let message = publish.clone()?.into_message();
-        let named = message.clone()?;
-        self.draw_up(alloc, Act::Took(key, named), message)
+        self.draw_up(alloc, message)
     }
 }
 
@@ -58,6 +52,7 @@ impl<S: FilterStore> HubOver<S> {
     // A PUBLISH comes whose message is handed on: the end of its client takes it in, and its message is shared; that is all that it
     // changes. `false` where a session has fewer identifiers free than its copies need (2.3.1): its connection is to be closed for that.
     // There, and out of memory, nothing changes.
+    #[inline(always)]
     fn on_publish(
         &mut self,
         key: ClientKey,
@@ -80,17 +75,19 @@ impl<S: FilterStore> HubOver<S> {
         ensures err_acts { OnErr result (doings.new.acts ≡ doings.old.acts) }
     {
         let now = self.clock;
-        let sharing = self.tables.draw_up_taken(self.alloc, key, &publish)?;
+        let sharing = self.tables.draw_up_taken(self.alloc, &publish)?;
+        let named = sharing.message.clone()?;
         if !self.tables.prepare(&sharing, ACKNOWLEDGEMENT, doings)? {
             return Ok(false);
         }
         self.tables.take_publish(key, now, publish)?;
-        self.tables.share(sharing, doings);
+        self.tables.share(Act::Took(key, named), sharing, doings);
         Ok(true)
     }
 
     // A PUBLISH comes whose message is handed on, or the connection is closed for it, where a session has fewer identifiers free than
     // its copies need (2.3.1).
+    #[inline(always)]
     fn take_handed(
         &mut self,
         conn: Conn,
@@ -119,6 +116,7 @@ impl<S: FilterStore> HubOver<S> {
     /// A PUBLISH comes from a client that is up (3.3): its message is shared and its end answers, or its connection is closed, where a
     /// session has fewer identifiers free than its copies need (2.3.1) or its identifier doesn't fit the receiving window. Out of memory,
     /// nothing changes.
+    #[inline(always)]
     pub(crate) fn take_publish(
         &mut self,
         conn: Conn,

@@ -129,6 +129,7 @@ impl Seat {
 
 impl Seat {
     /// Its end, which is up, does what it is to do. Out of memory, nothing changes.
+    #[inline(always)]
     pub(crate) fn serve(&mut self, call: Call) -> Result<Outcome, AllocError>
         requires up { is_up self.old.end.end.state ≡ true }
         requires allowed { IsAllowed call self.old.end }

@@ -293,6 +293,7 @@ fn publish_at(tenants: &mut [Seat], key: ClientKey, message: Message)
 }
 
 // The end of the session of a key, which is up, does what it is to do.
+#[inline(always)]
 fn serve_at(tenants: &mut [Seat], key: ClientKey, call: Call) -> Result<Outcome, AllocError>
     requires ascending { AreAscending tenants.old }
     requires can { CanServe key call tenants.old }
@@ -304,6 +305,7 @@ fn serve_at(tenants: &mut [Seat], key: ClientKey, call: Call) -> Result<Outcome,
 
 impl Sessions {
     /// The end of the session of a key, which is up, does what it is to do. Out of memory, the sessions stay.
+    #[inline(always)]
     pub(crate) fn serve(&mut self, key: ClientKey, call: Call) -> Result<Outcome, AllocError>
         requires { CanServe key call self.old.tenants }
         ensures serves { ServesAt key call result self.old.tenants self.new.tenants }

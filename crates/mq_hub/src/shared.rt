@@ -44,11 +44,11 @@ impl<S: FilterStore> Tables<S> {
         ensures room { doings.old.room ≤ doings.new.room }
     {
         size_laws();
-        let sharing = self.draw_up(alloc, act, message)?;
+        let sharing = self.draw_up(alloc, message)?;
         if !self.prepare(&sharing, 0, doings)? {
             return Ok(false);
         }
-        self.share(sharing, doings);
+        self.share(act, sharing, doings);
         Ok(true)
     }
 }

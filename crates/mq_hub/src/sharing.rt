@@ -1,15 +1,13 @@
 //! A message that is shared: it is retained, and placed for all that match (3.3.1.3, 3.3.5).
 
 ghost use Rattle.std.specs.Prelude.{◌≡◌, ◌+◌, ◌≤◌, ◌<◌, ◌++◌, ℕ, length};
-ghost use Rattle.mq_route.specs.declared.act.Act.{Act};
 ghost use Rattle.mq_route.specs.declared.config.HubConfig.{HubConfig};
 ghost use Rattle.mq_route.specs.Copies.{kept};
 ghost use Rattle.mq_route.specs.Hub.{copies_of};
 ghost use Rattle.mq_route.specs.Work.{share};
 ghost use Rattle.mq_hub.specs.Does.{GoesBy};
-ghost use Rattle.mq_hub.specs.Placing.{placed_all, with_retained, with_tenants, AreApart, AreReady, CanPlace};
+ghost use Rattle.mq_hub.specs.Placing.{placed_acts, placed_all, with_retained, with_tenants, AreApart, AreReady, CanPlace};
 ghost use Rattle.mq_hub.specs.Seen.{HubTables, hub_of};
-ghost use Rattle.mq_hub.specs.Sharing.{Says};
 
 use crate::doings::Doings;
 use crate::placing::{Due, place_all};
@@ -28,8 +26,8 @@ pub(crate) struct Sharing {
     pub(crate) message: Message,
     /// The copies that are due.
     pub(crate) copies: Vec<Due>,
-    /// The acts that say that it is taken, or that it is a will's, and that these are placed.
-    pub(crate) acts: Vec<Act>,
+    /// The acts that say that these are placed.
+    pub(crate) placed: Vec<Act>,
 }
 
 /// Says acts, for which there is room. It takes no memory.
@@ -44,10 +42,12 @@ pub(crate) fn say_all(doings: &mut Doings, acts: Vec<Act>)
 }
 
 impl Sharing {
-    /// The message is retained (3.3.1.3) and its copies are placed (3.3.5), after the act that it says first: the step goes on so. It
-    /// takes no memory.
+    /// The message is retained (3.3.1.3) and its copies are placed (3.3.5), after an act that says that it is taken or published: the step
+    /// goes on so. It takes no memory.
+    #[inline(always)]
     pub(crate) fn perform(
         self,
+        act: Act,
         retained: &mut Retained,
         sessions: &mut Sessions,
         doings: &mut Doings,
@@ -55,25 +55,27 @@ impl Sharing {
         requires name { self.name ≡ self.message.topic }
         requires retained { 0 < retained.old.room }
         requires apart { AreApart self.copies.items }
+        requires says { self.placed.items ≡ placed_acts self.copies.items }
         requires ready { AreReady 0 sessions.old.tenants self.copies.items }
-        requires room { length self.acts.items ≤ doings.old.room }
-        ensures goes { (config : HubConfig) (clock : ℕ) (next_key : ℕ) (t : HubTables) (act : Act) → Says act self → t.sessions.tenants ≡ sessions.old.tenants
+        requires room { length self.placed.items < doings.old.room }
+        ensures goes { (config : HubConfig) (clock : ℕ) (next_key : ℕ) (t : HubTables) → t.sessions.tenants ≡ sessions.old.tenants
             → t.retained.messages ≡ retained.old.messages → CanPlace t → copies_of self.message (hub_of config clock next_key t) ≡ self.copies.items
             → GoesBy (share act self.message) (hub_of config clock next_key t) doings.old.acts
             (hub_of config clock next_key (with_tenants sessions.new.tenants (with_retained retained.new.messages t))) doings.new.acts }
         ensures retained { retained.new.messages ≡ kept self.message retained.old.messages }
         ensures tenants { sessions.new.tenants ≡ placed_all self.copies.items sessions.old.tenants }
         ensures room { sessions.new.room ≡ sessions.old.room }
-        ensures left { doings.old.room ≤ doings.new.room + length self.acts.items }
+        ensures left { doings.old.room ≤ doings.new.room + length self.placed.items + 1 }
     {
         let Sharing {
             name,
             message,
             copies,
-            acts,
+            placed,
         } = self;
         retained.keep(name, message);
-        say_all(doings, acts);
+        doings.say(act);
+        say_all(doings, placed);
         place_all(sessions, copies);
     }
 }

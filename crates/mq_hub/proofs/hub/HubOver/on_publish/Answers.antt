@@ -135,11 +135,13 @@ returns-clause-takes g c = λ done conn fits.
     let room : true ≡ have_room (copies_of m.message old) old =
     enough_seen true m.message s.copies.items old old
     (sym c.if-not-branch.false ∙ c.in_ok-prepare.ensures.enough old (has_sessions h.config h.clock h.next_key t c.self.invariant)) drawn refl in
+    let named = c.in_ok-named.named in
     let shared : GoesBy (share (acts.Took key m.message) m.message) here c.args.doings.now.acts after c.share.new.doings.acts =
-    goes_as (acts.Took key m.message) s.message m.message here here after c.prepare.new.doings.acts c.args.doings.now.acts c.share.new.doings.acts
+    subst (λ (n : Message). GoesBy (share (acts.Took key n) m.message) here c.args.doings.now.acts after c.share.new.doings.acts) (c.in_ok-named.ensures.cases ∙ c.in_ok-sharing.ensures.message)
+    (goes_as (acts.Took key named) s.message m.message here here after c.prepare.new.doings.acts c.args.doings.now.acts c.share.new.doings.acts
     c.in_ok-sharing.ensures.message refl c.prepare.ensures.acts
-    (c.share.ensures.goes h.config h.clock h.next_key (acts.Took key m.message)
-    (kept_handed h.config h.clock h.next_key key t p c.self.invariant c.prepare.ensures.alike on.conn on.is m handed u a) c.in_ok-sharing.ensures.act due) in
+    (c.share.ensures.goes h.config h.clock h.next_key
+    (kept_handed h.config h.clock h.next_key key t p c.self.invariant c.prepare.ensures.alike on.conn on.is m handed u a) due)) in
     subst (λ (b : HubState). GoesBy (while_up conn key (packets.Publish m) fits) b c.args.doings.now.acts after c.share.new.doings.acts) c.self.view_is
     (handed_goes h.config h.clock h.next_key key t p c.self.invariant c.prepare.ensures.alike on.conn on.is m handed u a
     conn fits after c.args.doings.now.acts c.share.new.doings.acts (sym room) shared)

@@ -54,7 +54,7 @@ returns-clause-goes g c = λ e config clock next_key kept.
     ap (λ (n : Message). copies_of n here) c.in_ok-sharing.ensures.message ∙ ap (copies_of m) same ∙ sym (c.in_ok-sharing.ensures.copies config clock next_key) in
     goes_as c.args.act s.message m here (hub_of config clock next_key t) (hub_of config clock next_key c.share.new.self) c.prepare.new.doings.acts
     c.args.doings.now.acts c.share.new.doings.acts c.in_ok-sharing.ensures.message same c.prepare.ensures.acts
-    (c.share.ensures.goes config clock next_key c.args.act (kept_alike config next_key t p c.prepare.ensures.alike kept) c.in_ok-sharing.ensures.act due)
+    (c.share.ensures.goes config clock next_key (kept_alike config next_key t p c.prepare.ensures.alike kept) due)
 
 pub returns-clause-enough : goal.returns-clause-enough
 returns-clause-enough g c = λ config clock next_key kept.
