@@ -240,6 +240,24 @@ fn pass_ahead(size: usize, bytes: &[u8], ahead: &mut Bytes)
     }
 }
 
+// The PUBLISH of its own that takes the first `size` bytes. It shares a copy of them and of what comes next. It is never inlined: what its
+// message takes on a frame would be zeroed for each packet that has none.
+#[inline(never)]
+fn publish_ahead(
+    alloc: Global,
+    publish: &PublishView<'_>,
+    size: usize,
+    bytes: &[u8],
+    ahead: &mut Bytes,
+) -> Result<Publish, AllocError>
+    requires within { size ≤ length bytes.now }
+    requires end { EndsWith (take size bytes.now) publish.now.fields }
+    ensures { IfOk result (λ p. p ≡ publish.now.publish) }
+{
+    let packet = share_ahead(alloc, size, bytes, ahead)?;
+    publish.sharing(packet)
+}
+
 // The packet of its own that a view of the first `size` bytes stands for. A message shares a copy of them and of what comes next.
 fn owned_ahead(
     alloc: Global,
@@ -253,8 +271,7 @@ fn owned_ahead(
     ensures { IfOk result (λ p. p ≡ packet_of packet.now) }
 {
     if let PacketView::Publish(publish) = packet {
-        let whole = share_ahead(alloc, size, bytes, ahead)?;
-        return Ok(Packet::Publish(publish.sharing(whole)?));
+        return Ok(Packet::Publish(publish_ahead(alloc, publish, size, bytes, ahead)?));
     }
     pass_ahead(size, bytes, ahead);
     packet.owned(alloc)
