@@ -681,3 +681,8 @@ has k es c named there = sym (known k es named) ∙ ap is_some (sym there)
 -- and then none is changed
 pub still_all : (f : Line → Line) (k : Conn) (es : List Entry) → AreNamed es → None ≡ lookup (same_conn k) es → lines_of es ≡ with_line f k (lines_of es)
 still_all f k es named none = sym (unknown f k (lines_of es) (lacks k es named none))
+
+-- the key of the session for which the connection of a name is up
+pub own_key : (k : Conn) (es : List Entry) (c : Connection) (by : Service) → AllByRecursion (IsServed by) es → lookup (same_conn k) es ≡ Some c
+    → key_on c.stage ≡ key_on (stage_of k (lines_of es))
+own_key k es c by served there = ap key_on (sym (found_by (λ (x : Line). x.stage) k (stage_of k) (λ x xs. refl) es c (are_named by es served) there))

@@ -15,6 +15,7 @@ use Rattle.mq_route.specs.Hub.{HubState, Line, is_line, is_open, key_on, stage_o
 use Rattle.mq_route.specs.Work.{Work, close, leaves_behind, said, shut}
 use Rattle.mq_hub.specs.Coming.{hears, with_heard}
 use Rattle.mq_hub.specs.Does.{GoesBy}
+use Rattle.mq_hub.proofs.Connections.{heard_key}
 
 abbrev pub memory : HubClose
 memory = Own reasons.Memory
@@ -42,6 +43,9 @@ heard_open now Shut = refl
 
 pub open_heard : (k : Conn) (h : HubState) → is_open (stage_of k (with_heard k h).lines) ≡ is_open (stage_of k h.lines)
 open_heard k h = ap is_open (stage_heard h.clock k h.lines) ∙ heard_open h.clock (stage_of k h.lines)
+
+pub key_heard : (k : Conn) (h : HubState) → key_on (stage_of k (with_heard k h).lines) ≡ key_on (stage_of k h.lines)
+key_heard k h = ap key_on (stage_heard h.clock k h.lines) ∙ heard_key h.clock (stage_of k h.lines)
 
 -- a packet comes in as on a connection that was not heard
 comes_heard : (k : Conn) (p : Packet) (fits : Bool) (now : ℕ) (s : Stage) (w : Work) → comes_in k p fits (heard now s) w ≡ comes_in k p fits s w

@@ -1,5 +1,5 @@
 -- A PUBLISH whose message is handed on, from the end that takes it in to those that get its copies.
-use Rattle.std.proofs.Common.{◌≡◌, ℕ, Bool, true, false, cond, List, [], Some, None, is_some, sym, ap, subst, ◌∙◌}
+use Rattle.std.proofs.Common.{◌≡◌, ℕ, Bool, true, false, cond, List, [], ◌∷◌, Some, None, is_some, sym, ap, subst, ◌∙◌}
 use Rattle.std.specs.List.{flat_map}
 use Rattle.mq_topic.specs.Rows.{matched}
 use Rattle.mq_packet.specs.declared.message.Message.{Message}
@@ -41,6 +41,18 @@ unfolding copies_of
 copies_by m h g rows up =
     λ i. cond (is_hidden_name m.topic) [] (flat_map (λ found. for_key found.0 (copy_by (is_some (up found.0 i)) m (Some found.1))) (matched m.topic (rows i)))
 
+-- ---- a PUBLISH that was taken apart and put together again
+
+pub handed_as : (m n : Publication) (h g : HubState) (key : ℕ) → n ≡ m → g ≡ h → IsReceived Handed m (end_of key h.sessions)
+    → IsReceived Handed n (end_of key g.sessions)
+handed_as m n h g key same hub handed =
+    subst (λ (p : Publication). IsReceived Handed p (end_of key g.sessions)) (sym same)
+    (subst (λ (s : HubState). IsReceived Handed m (end_of key s.sessions)) (sym hub) handed)
+
+pub taken_as : (n m : Publication) (key now : ℕ) (p u : HubTables) → n ≡ m → Answers key (Takes now (packets.Publish n)) p.rows p u
+    → Answers key (Takes now (packets.Publish m)) p.rows p u
+taken_as n m key now p u same = subst (λ (x : Publication). Answers key (Takes now (packets.Publish x)) p.rows p u) same
+
 -- ---- a PUBLISH at tables that were made ready for it
 
 module _ (config : HubConfig) (clock next key : ℕ) (t p : HubTables) (kept : HubKeeps config next t) (alike : AreTablesAlike t p) (conn : Conn)
@@ -63,6 +75,9 @@ module _ (config : HubConfig) (clock next key : ℕ) (t p : HubTables) (kept : H
   module _ (handed : IsReceived Handed m (end_of key old.sessions)) where
     pub stays_ready : (server_gets (packets.Publish m) (end_of key (sessions_of p.sessions.tenants))).close ≡ None
     stays_ready = ap (λ (h : HubState). (server_gets (packets.Publish m) (end_of key h.sessions)).close) same_ready ∙ handed.0
+
+    pub hands_ready : (server_gets (packets.Publish m) (end_of key (sessions_of p.sessions.tenants))).happenings ≡ happens.Handed m.message ∷ []
+    hands_ready = ap (λ (h : HubState). (server_gets (packets.Publish m) (end_of key h.sessions)).happenings) same_ready ∙ handed.1
 
     module _ (u : HubTables) (a : Answers key (Takes clock (packets.Publish m)) p.rows p u) where
       pub kept_handed : HubKeeps config next u

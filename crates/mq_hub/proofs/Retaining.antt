@@ -1,6 +1,6 @@
 -- The table of retained messages: its entries by name, and the messages among them.
-use Rattle.std.proofs.Common.{◌≡◌, ℕ, Bool, true, false, cond, not, List, [], ◌∷◌, ◌++◌, map, filter, Result, Ok, Err, IsOk, refl, sym, ap, subst, ◌∙◌, append_assoc, append-nil}
-use Rattle.std.proofs.lemmas.Bool.{cond-false}
+use Rattle.std.proofs.Common.{◌≡◌, ℕ, Bool, true, false, cond, not, ◌||◌, List, [], ◌∷◌, ◌++◌, map, filter, Result, Ok, Err, IsOk, refl, sym, ap, subst, ◌∙◌, append_assoc, append-nil}
+use Rattle.std.proofs.lemmas.Bool.{cond-true, cond-false}
 use Rattle.std.specs.List.{AllByRecursion, IsDistinct, list_any}
 use Rattle.std.specs.Map.{keys_of, remove_entry}
 use Rattle.std.specs.Result.{OnOk}
@@ -9,7 +9,7 @@ use Rattle.indexmap.specs.IndexMap.{insert_entry}
 use Rattle.mq_topic.specs.declared.qos.Qos.{Qos}
 use Rattle.mq_topic.specs.Matching.{is_match}
 use Rattle.mq_packet.specs.declared.message.Message.{Message}
-use Rattle.mq_route.specs.Copies.{is_of, replaced, copy, retained_for}
+use Rattle.mq_route.specs.Copies.{is_hidden_name, is_of, kept, replaced, copy, retained_for}
 use Rattle.mq_hub.proofs.Bytes.{same_bytes, bytes_symm}
 
 -- an entry stands under the name of its message
@@ -128,3 +128,9 @@ passed f q m ms other = rw other refl
 pub none_left : (f : List ℕ) (q : Qos) (done : List Message) → done ++ retained_for f q [] ≡ done
 unfolding retained_for
 none_left f q done = append-nil done
+
+-- ---- a message of which nothing is to be retained
+
+pub kept_nothing : (m : Message) (ms : List Message) → (not m.retain || is_hidden_name m.topic) ≡ true → ms ≡ kept m ms
+unfolding kept
+kept_nothing m ms e = sym (cond-true (not m.retain || is_hidden_name m.topic) ms _ e)

@@ -1,5 +1,5 @@
 -- A message that is to be shared, and tables that are ready for it.
-use Rattle.std.specs.Prelude.{◌≡◌, ℕ, ◌<◌, length}
+use Rattle.std.specs.Prelude.{◌≡◌, ℕ, ◌<◌, length, IfSome}
 use Rattle.mq_hub.specs.declared.sharing.Sharing.{Sharing}
 use Rattle.mq_hub.specs.Placing.{placed_acts, AreApart, AreReady, AreSameButRoom}
 use Rattle.mq_hub.specs.Seen.{HubTables}
@@ -11,10 +11,10 @@ pub record AreTablesAlike (old new : HubTables) : Type 0 where
   pub tenants : AreSameButRoom old.sessions.tenants new.sessions.tenants
   pub lines : new.lines ≡ old.lines
 
--- What a message that is to be shared has with it: its topic name, copies of which each is for another client, and the acts that say that
--- these are placed.
+-- What a message that is to be shared has with it: what is to be retained of it, under the topic name of that, copies of which each is for another
+-- client, and the acts that say that these are placed.
 pub record IsDrawnUp (s : Sharing) : Type 0 where
-  pub name : s.name ≡ s.message.topic
+  pub named : IfSome s.kept (λ named. named.0 ≡ named.1.topic)
   pub apart : AreApart s.copies.items
   pub says : s.placed.items ≡ placed_acts s.copies.items
 

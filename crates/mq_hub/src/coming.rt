@@ -1,29 +1,33 @@
 //! A whole packet comes to a broker on a connection (3.1 to 3.14).
 
-ghost use Rattle.std.specs.Prelude.{◌≡◌, ◌≤◌, Bool, true, length, OnOk, OnErr};
+ghost use Rattle.std.specs.Prelude.{◌≡◌, ◌≤◌, Bool, true, length, IfSome, OnOk, OnErr};
+ghost use Rattle.mq_end.specs.End.{is_up};
 ghost use Rattle.mq_packet.specs.Spelling.{fields};
 ghost use Rattle.mq_route.specs.Arrives.{Growth, comes_in, takes};
-ghost use Rattle.mq_route.specs.Hub.{is_open, stage_of};
+ghost use Rattle.mq_route.specs.Hub.{end_of, is_open, key_on, stage_of};
 ghost use Rattle.mq_hub.specs.Does.{GoesBy};
 
 use crate::doings::Doings;
 use crate::hub::HubOver;
 use mq_packet::Packet;
 use mq_route::Conn;
-use mq_topic::FilterStore;
+use mq_topic::{ClientKey, FilterStore};
 use std::alloc::AllocError;
 
 impl<S: FilterStore> HubOver<S> {
-    /// A packet comes on an open connection: the first one has to be CONNECT (3.1), and then its client is up (3.3 to 3.14). Out of memory,
-    /// nothing changes.
+    /// A packet comes on an open connection, which is up for the session of this key, or for none: the first one has to be CONNECT (3.1), and
+    /// then its client is up (3.3 to 3.14). Out of memory, nothing changes.
     #[inline(always)]
     pub(crate) fn comes_in(
         &mut self,
         conn: Conn,
+        up: Option<ClientKey>,
         packet: Packet,
         doings: &mut Doings,
     ) -> Result<(), AllocError>
         requires open { is_open (stage_of conn self.old.lines) ≡ true }
+        requires key { key_on (stage_of conn self.old.lines) ≡ up }
+        requires end { IfSome up (λ key. is_up (end_of key self.old.sessions).state ≡ true) }
         requires within { length (fields packet) ≤ self.old.config.limits.most }
         requires room { 3 ≤ doings.old.room }
         ensures goes { OnOk result ((fits : Bool)
@@ -33,7 +37,7 @@ impl<S: FilterStore> HubOver<S> {
         ensures err_acts { OnErr result (doings.new.acts ≡ doings.old.acts) }
         ensures err_room { OnErr result (3 ≤ doings.new.room) }
     {
-        match self.key(conn) {
+        match up {
             Some(key) => self.while_up(conn, key, packet, doings),
             None => self.at_first(conn, packet, doings),
         }
@@ -49,8 +53,8 @@ impl<S: FilterStore> HubOver<S> {
         ensures goes { (growth : Growth) × GoesBy (takes conn packet growth) self.old doings.old.acts self.new doings.new.acts }
         ensures room { is_open (stage_of conn self.new.lines) ≡ true → 3 ≤ doings.new.room }
     {
-        self.hear(conn);
-        match self.comes_in(conn, packet, doings) {
+        let up = self.hear(conn);
+        match self.comes_in(conn, up, packet, doings) {
             Ok(()) => {}
             Err(_) => self.starve(conn, doings),
         }

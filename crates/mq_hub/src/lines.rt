@@ -305,20 +305,23 @@ impl Lines {
     }
 
     /// The moment of the last whole packet of a connection is this (3.1.2.10). It takes no memory.
-    pub(crate) fn heard(&mut self, conn: Conn, now: u64)
+    pub(crate) fn heard(&mut self, conn: Conn, now: u64) -> Option<ClientKey>
+        ensures key { result ≡ key_on (stage_of conn self.old.lines) }
         ensures lines { self.new.lines ≡ with_line (λ x. record x { stage = heard now x.stage }) conn self.old.lines }
         ensures limits { self.new.limits ≡ self.old.limits }
         ensures room { self.new.room ≡ self.old.room }
         ensures rises { self.new.rises ≡ self.old.rises }
     {
         let Some(boxed) = self.by_conn.get_mut(&conn) else {
-            return;
+            return None;
         };
+        let key = boxed.key();
         let is_earlier = boxed.is_heard_after(now);
         boxed.heard(now);
         if is_earlier {
             self.alarms.set(conn, boxed.last_in_time());
         }
+        key
     }
 
     /// Exchanges the decoder of a connection for another. It takes no memory.

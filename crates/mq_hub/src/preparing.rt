@@ -1,6 +1,7 @@
 //! What a message takes that is to be shared: it is drawn up, and the tables are made ready for it, before anything is changed.
 
 ghost use Rattle.std.specs.Prelude.{◌≡◌, ◌+◌, ◌≤◌, ◌<◌, ℕ, length, true, IfOk, OnOk, Ok};
+ghost use Rattle.mq_packet.specs.declared.message.Message.{Message};
 ghost use Rattle.mq_end.specs.Sizes.{publish_size};
 ghost use Rattle.mq_route.specs.declared.config.HubConfig.{HubConfig};
 ghost use Rattle.mq_route.specs.Hub.{HubState, copies_of};
@@ -8,11 +9,13 @@ ghost use Rattle.mq_route.specs.Work.{have_room, share};
 ghost use Rattle.mq_hub.specs.Does.{GoesBy};
 ghost use Rattle.mq_hub.specs.Keeps.{HubKeeps};
 ghost use Rattle.mq_hub.specs.Placing.{placed_all, AreApart, AreFor, AreStillReady, HasSessions};
+ghost use Rattle.mq_hub.specs.Retained.{IsKeptOf};
 ghost use Rattle.mq_hub.specs.Seen.{hub_of};
 ghost use Rattle.mq_hub.specs.Sharing.{AreTablesAlike, IsDrawnUp, IsPrepared};
 
 use crate::doings::Doings;
 use crate::placing::{copies_of, make_room, push_placed};
+use crate::retained::kept_of;
 use crate::sharing::Sharing;
 use crate::tables::Tables;
 use mq_packet::Message;
@@ -23,21 +26,20 @@ use std::alloc::{AllocError, Global};
 impl<S: FilterStore> Tables<S> {
     /// Draws up what it takes to share a message. It shares the message's bytes, and the tables stay. Out of memory it fails.
     #[inline(always)]
-    pub(crate) fn draw_up(&self, alloc: Global, message: Message) -> Result<Sharing, AllocError>
-        ensures message { IfOk result (λ s. s.message ≡ message) }
+    pub(crate) fn draw_up(&self, alloc: Global, message: &Message) -> Result<Sharing, AllocError>
+        ensures kept { IfOk result (λ s. IsKeptOf message.now s.kept) }
         ensures drawn { IfOk result (λ s. IsDrawnUp s) }
         ensures copies { IfOk result (λ s. (config : HubConfig) (clock next_key : ℕ)
-            → s.copies.items ≡ copies_of message (hub_of config clock next_key self.now)) }
+            → s.copies.items ≡ copies_of message.now (hub_of config clock next_key self.now)) }
         ensures due { IfOk result (λ s. (config : HubConfig) (next_key : ℕ) → HubKeeps config next_key self.now
-            → publish_size message ≤ config.limits.most → AreFor self.now.sessions.tenants s.copies.items) }
+            → publish_size message.now ≤ config.limits.most → AreFor self.now.sessions.tenants s.copies.items) }
     {
-        let copies = copies_of(alloc, &self.store, &self.lines, &message)?;
+        let copies = copies_of(alloc, &self.store, &self.lines, message)?;
         let mut placed = Vec::new(alloc);
         push_placed(&mut placed, copies.as_slice())?;
-        let name = message.topic.clone()?;
+        let kept = kept_of(message)?;
         Ok(Sharing {
-            name,
-            message,
+            kept,
             copies,
             placed,
         })
@@ -75,12 +77,12 @@ impl<S: FilterStore> Tables<S> {
     pub(crate) fn share(&mut self, act: Act, sharing: Sharing, doings: &mut Doings)
         requires drawn { IsDrawnUp sharing }
         requires ready { IsPrepared 0 sharing self.old doings.old.room }
-        ensures goes { (config : HubConfig) (clock next_key : ℕ) → HubKeeps config next_key self.old
-            → copies_of sharing.message (hub_of config clock next_key self.old) ≡ sharing.copies.items
-            → GoesBy (share act sharing.message) (hub_of config clock next_key self.old) doings.old.acts
+        ensures goes { (m : Message) (config : HubConfig) (clock next_key : ℕ) → IsKeptOf m sharing.kept → HubKeeps config next_key self.old
+            → copies_of m (hub_of config clock next_key self.old) ≡ sharing.copies.items
+            → GoesBy (share act m) (hub_of config clock next_key self.old) doings.old.acts
             (hub_of config clock next_key self.new) doings.new.acts }
-        ensures keeps { (config : HubConfig) (next_key : ℕ) → HubKeeps config next_key self.old
-            → publish_size sharing.message ≤ config.limits.most → HubKeeps config next_key self.new }
+        ensures keeps { (m : Message) (config : HubConfig) (next_key : ℕ) → IsKeptOf m sharing.kept → HubKeeps config next_key self.old
+            → publish_size m ≤ config.limits.most → HubKeeps config next_key self.new }
         ensures tenants { self.new.sessions.tenants ≡ placed_all sharing.copies.items self.old.sessions.tenants }
         ensures sessions { self.new.sessions.room ≡ self.old.sessions.room }
         ensures lines { self.new.lines ≡ self.old.lines }

@@ -15,6 +15,7 @@ ghost use Rattle.mq_hub.specs.Does.{GoesBy};
 ghost use Rattle.mq_hub.specs.Keeps.{HubKeeps};
 ghost use Rattle.mq_hub.specs.Placing.{AreFor};
 ghost use Rattle.mq_hub.specs.Receiving.{IsReceived};
+ghost use Rattle.mq_hub.specs.Retained.{IsKeptOf};
 ghost use Rattle.mq_hub.specs.Seen.{hub_of};
 ghost use Rattle.mq_hub.specs.Sharing.{IsDrawnUp};
 
@@ -33,18 +34,25 @@ use std::alloc::{AllocError, Global};
 const ACKNOWLEDGEMENT: usize = 7;
 
 impl<S: FilterStore> Tables<S> {
-    // Draws up what it takes to share the message of a PUBLISH that comes.
+    // Draws up what it takes to share the message of a PUBLISH that comes, and gives the PUBLISH back.
     #[inline(always)]
-    fn draw_up_taken(&self, alloc: Global, publish: &Publish) -> Result<Sharing, AllocError>
-        ensures message { IfOk result (λ s. s.message ≡ publish.now.message) }
-        ensures drawn { IfOk result (λ s. IsDrawnUp s) }
-        ensures copies { IfOk result (λ s. (config : HubConfig) (clock next_key : ℕ)
-            → s.copies.items ≡ copies_of publish.now.message (hub_of config clock next_key self.now)) }
-        ensures due { IfOk result (λ s. (config : HubConfig) (next_key : ℕ) → HubKeeps config next_key self.now
-            → publish_size publish.now.message ≤ config.limits.most → AreFor self.now.sessions.tenants s.copies.items) }
+    fn draw_up_taken(
+        &self,
+        alloc: Global,
+        publish: Publish,
+    ) -> Result<(Publish, Sharing), AllocError>
+        ensures publish { IfOk result (λ r. r.0 ≡ publish) }
+        ensures kept { IfOk result (λ r. IsKeptOf publish.message r.1.kept) }
+        ensures drawn { IfOk result (λ r. IsDrawnUp r.1) }
+        ensures copies { IfOk result (λ r. (config : HubConfig) (clock next_key : ℕ)
+            → r.1.copies.items ≡ copies_of publish.message (hub_of config clock next_key self.now)) }
+        ensures due { IfOk result (λ r. (config : HubConfig) (next_key : ℕ) → HubKeeps config next_key self.now
+            → publish_size publish.message ≤ config.limits.most → AreFor self.now.sessions.tenants r.1.copies.items) }
     {
-        let message = publish.clone()?.into_message();
-        self.draw_up(alloc, message)
+        let delivery = publish.delivery();
+        let message = publish.into_message();
+        let sharing = self.draw_up(alloc, &message)?;
+        Ok((Publish::new(message, delivery), sharing))
     }
 }
 
@@ -75,13 +83,12 @@ impl<S: FilterStore> HubOver<S> {
         ensures err_acts { OnErr result (doings.new.acts ≡ doings.old.acts) }
     {
         let now = self.clock;
-        let sharing = self.tables.draw_up_taken(self.alloc, &publish)?;
-        let named = sharing.message.clone()?;
+        let (publish, sharing) = self.tables.draw_up_taken(self.alloc, publish)?;
         if !self.tables.prepare(&sharing, ACKNOWLEDGEMENT, doings)? {
             return Ok(false);
         }
-        self.tables.take_publish(key, now, publish)?;
-        self.tables.share(Act::Took(key, named), sharing, doings);
+        let message = self.tables.take_publish(key, now, publish)?;
+        self.tables.share(Act::Took(key, message), sharing, doings);
         Ok(true)
     }
 

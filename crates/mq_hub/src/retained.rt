@@ -1,10 +1,11 @@
 //! The retained messages (3.3.1.3, 3.8.4).
 
-ghost use Rattle.std.specs.Prelude.{◌≡◌, ◌+◌, ◌≤◌, ◌<◌, ◌++◌, ◌∷◌, [], not, filter, if◌then◌else◌, IfOk, OnOk, IsOk};
+ghost use Rattle.std.specs.Prelude.{◌≡◌, ◌+◌, ◌≤◌, ◌<◌, ◌++◌, ◌∷◌, [], not, filter, if◌then◌else◌, IfOk, IfSome, OnOk, IsOk};
 ghost use Rattle.std.specs.List.{list_any};
 ghost use Rattle.indexmap.specs.IndexMap.{spare, values};
 ghost use Rattle.mq_route.specs.Copies.{is_of, kept, replaced, retained_for};
-ghost use Rattle.mq_hub.specs.Retained.{AreKept};
+ghost use Rattle.mq_packet.specs.declared.message.Message.{Message};
+ghost use Rattle.mq_hub.specs.Retained.{AreKept, IsKeptOf};
 
 use crate::copies::{copy, is_hidden_name};
 use indexmap::IndexMap;
@@ -15,6 +16,9 @@ use std::marker::Model;
 
 // Messages by their topic names, in an order.
 type ByName = IndexMap<TopicName, Message>;
+
+/// A message that is to be retained, behind its topic name.
+pub(crate) type Named = (TopicName, Message);
 
 /// The retained messages, each found by its topic name at once, the name that came first in front (3.3.1.3).
 #[derive(Drop)]
@@ -74,6 +78,20 @@ fn copies_of(
     Ok(copies)
 }
 
+/// What is to be retained of a message: the message behind its topic name, or nothing where RETAIN is not set (3.3.1.3) or the name begins
+/// with `$` (4.7.2). It shares the message's bytes. Fails if memory runs out.
+pub(crate) fn kept_of(message: &Message) -> Result<Option<Named>, AllocError>
+    ensures kept { IfOk result (λ part. IsKeptOf message.now part) }
+    ensures named { IfOk result (λ part. IfSome part (λ named. named.0 ≡ named.1.topic)) }
+{
+    if !message.retain || is_hidden_name(&message.topic) {
+        return Ok(None);
+    }
+    let name = message.topic.clone()?;
+    let message = message.clone()?;
+    Ok(Some((name, message)))
+}
+
 impl Retained {
     /// No retained messages. It takes no memory.
     pub(crate) fn new(alloc: Global) -> Retained
@@ -109,6 +127,19 @@ impl Retained {
             take_away(&mut self.by_name, &name);
         } else {
             put(&mut self.by_name, name, message);
+        }
+    }
+
+    /// What is to be retained of a message is kept, as `keep` keeps the message. It takes no memory.
+    pub(crate) fn keep_of(&mut self, part: Option<Named>)
+        requires named { IfSome part (λ named. named.0 ≡ named.1.topic) }
+        requires room { 0 < self.old.room }
+        ensures messages { (m : Message) → IsKeptOf m part → self.new.messages ≡ kept m self.old.messages }
+        ensures room { self.old.room ≤ self.new.room + 1 }
+    {
+        match part {
+            Some((name, message)) => self.keep(name, message),
+            None => {}
         }
     }
 

@@ -1,4 +1,4 @@
-//! A message is shared at a broker: it is retained, and placed for all that match (3.3.1.3, 3.3.5).
+//! The message of a will is shared at a broker: it is retained, and placed for all that match (3.1.2.5, 3.3.1.3, 3.3.5).
 
 ghost use Rattle.std.specs.Prelude.{◌≡◌, ◌≤◌, ℕ, [], ◌∷◌, true, false, IfOk, OnErr, Ok};
 ghost use Rattle.mq_end.specs.Sizes.{publish_size};
@@ -17,24 +17,24 @@ use crate::tables::Tables;
 use mq_end::size_laws;
 use mq_packet::Message;
 use mq_route::Act;
-use mq_topic::FilterStore;
+use mq_topic::{ClientKey, FilterStore};
 use std::alloc::{AllocError, Global};
 
 impl<S: FilterStore> Tables<S> {
-    /// A message is shared after an act that says so: it is retained (3.3.1.3), and its copies are placed (3.3.5). `false` where a session
-    /// has fewer identifiers free than its copies need (2.3.1), and out of memory it fails; then nothing changes but room. Room for acts,
-    /// for sessions and for connections that was there before is left.
+    /// The message of a client's will is shared after an act that says so (3.1.2.5): it is retained (3.3.1.3), and its copies are placed (3.3.5).
+    /// `false` where a session has fewer identifiers free than its copies need (2.3.1), and out of memory it fails; then nothing changes but room.
+    /// Room for acts, for sessions and for connections that was there before is left.
     pub(crate) fn try_share(
         &mut self,
         alloc: Global,
-        act: Act,
+        key: ClientKey,
         message: Message,
         doings: &mut Doings,
     ) -> Result<bool, AllocError>
         requires hubs { AreHubs self.old }
         requires within { publish_size message ≤ self.old.lines.limits.most }
         ensures goes { result ≡ Ok true → (config : HubConfig) (clock next_key : ℕ) → HubKeeps config next_key self.old
-            → GoesBy (share act message) (hub_of config clock next_key self.old) doings.old.acts (hub_of config clock next_key self.new) doings.new.acts }
+            → GoesBy (share (Act.Will key message) message) (hub_of config clock next_key self.old) doings.old.acts (hub_of config clock next_key self.new) doings.new.acts }
         ensures enough { IfOk result (λ enough. (config : HubConfig) (clock next_key : ℕ) → HubKeeps config next_key self.old
             → enough ≡ have_room (copies_of message (hub_of config clock next_key self.old)) (hub_of config clock next_key self.old)) }
         ensures full { result ≡ Ok false → AreTablesAlike self.old self.new × (doings.new.acts ≡ doings.old.acts) }
@@ -44,11 +44,11 @@ impl<S: FilterStore> Tables<S> {
         ensures room { doings.old.room ≤ doings.new.room }
     {
         size_laws();
-        let sharing = self.draw_up(alloc, message)?;
+        let sharing = self.draw_up(alloc, &message)?;
         if !self.prepare(&sharing, 0, doings)? {
             return Ok(false);
         }
-        self.share(act, sharing, doings);
+        self.share(Act::Will(key, message), sharing, doings);
         Ok(true)
     }
 }

@@ -1,29 +1,27 @@
 //! A message that is shared: it is retained, and placed for all that match (3.3.1.3, 3.3.5).
 
-ghost use Rattle.std.specs.Prelude.{◌≡◌, ◌+◌, ◌≤◌, ◌<◌, ◌++◌, ℕ, length};
+ghost use Rattle.std.specs.Prelude.{◌≡◌, ◌+◌, ◌≤◌, ◌<◌, ◌++◌, ℕ, length, IfSome};
+ghost use Rattle.mq_packet.specs.declared.message.Message.{Message};
 ghost use Rattle.mq_route.specs.declared.config.HubConfig.{HubConfig};
 ghost use Rattle.mq_route.specs.Copies.{kept};
 ghost use Rattle.mq_route.specs.Hub.{copies_of};
 ghost use Rattle.mq_route.specs.Work.{share};
 ghost use Rattle.mq_hub.specs.Does.{GoesBy};
 ghost use Rattle.mq_hub.specs.Placing.{placed_acts, placed_all, with_retained, with_tenants, AreApart, AreReady, CanPlace};
+ghost use Rattle.mq_hub.specs.Retained.{IsKeptOf};
 ghost use Rattle.mq_hub.specs.Seen.{HubTables, hub_of};
 
 use crate::doings::Doings;
 use crate::placing::{Due, place_all};
-use crate::retained::Retained;
+use crate::retained::{Named, Retained};
 use crate::sessions::Sessions;
-use mq_packet::Message;
 use mq_route::Act;
-use mq_topic::TopicName;
 
-/// A message that is to be shared, with all that this takes.
+/// What it takes to share a message, beside the message.
 #[derive(Drop)]
 pub(crate) struct Sharing {
-    /// Its topic name.
-    pub(crate) name: TopicName,
-    /// The message.
-    pub(crate) message: Message,
+    /// What is to be retained of it.
+    pub(crate) kept: Option<Named>,
     /// The copies that are due.
     pub(crate) copies: Vec<Due>,
     /// The acts that say that these are placed.
@@ -52,28 +50,28 @@ impl Sharing {
         sessions: &mut Sessions,
         doings: &mut Doings,
     )
-        requires name { self.name ≡ self.message.topic }
+        requires named { IfSome self.kept (λ named. named.0 ≡ named.1.topic) }
         requires retained { 0 < retained.old.room }
         requires apart { AreApart self.copies.items }
         requires says { self.placed.items ≡ placed_acts self.copies.items }
         requires ready { AreReady 0 sessions.old.tenants self.copies.items }
         requires room { length self.placed.items < doings.old.room }
-        ensures goes { (config : HubConfig) (clock : ℕ) (next_key : ℕ) (t : HubTables) → t.sessions.tenants ≡ sessions.old.tenants
-            → t.retained.messages ≡ retained.old.messages → CanPlace t → copies_of self.message (hub_of config clock next_key t) ≡ self.copies.items
-            → GoesBy (share act self.message) (hub_of config clock next_key t) doings.old.acts
+        ensures goes { (m : Message) (config : HubConfig) (clock : ℕ) (next_key : ℕ) (t : HubTables) → IsKeptOf m self.kept
+            → t.sessions.tenants ≡ sessions.old.tenants → t.retained.messages ≡ retained.old.messages → CanPlace t
+            → copies_of m (hub_of config clock next_key t) ≡ self.copies.items
+            → GoesBy (share act m) (hub_of config clock next_key t) doings.old.acts
             (hub_of config clock next_key (with_tenants sessions.new.tenants (with_retained retained.new.messages t))) doings.new.acts }
-        ensures retained { retained.new.messages ≡ kept self.message retained.old.messages }
+        ensures retained { (m : Message) → IsKeptOf m self.kept → retained.new.messages ≡ kept m retained.old.messages }
         ensures tenants { sessions.new.tenants ≡ placed_all self.copies.items sessions.old.tenants }
         ensures room { sessions.new.room ≡ sessions.old.room }
         ensures left { doings.old.room ≤ doings.new.room + length self.placed.items + 1 }
     {
         let Sharing {
-            name,
-            message,
+            kept,
             copies,
             placed,
         } = self;
-        retained.keep(name, message);
+        retained.keep_of(kept);
         doings.say(act);
         say_all(doings, placed);
         place_all(sessions, copies);

@@ -44,8 +44,7 @@ impl<S: FilterStore> Tables<S> {
         ensures room { doings.old.room ≤ doings.new.room }
     {
         let message = will_message(will)?;
-        let named = message.clone()?;
-        self.try_share(alloc, Act::Will(key, named), message, doings)
+        self.try_share(alloc, key, message, doings)
     }
 
     // Whether a will is published; where it isn't, nothing changes but room.

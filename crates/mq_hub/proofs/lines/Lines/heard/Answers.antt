@@ -2,12 +2,12 @@ use Rattle.std.proofs.Common.{◌≡◌, ◌∙◌, List, eqb, sym, ap, subst}
 use Rattle.std.specs.HashMap.{get, hash_map_len}
 use Rattle.mq_route.specs.declared.conn.Conn.{Conn}
 use Rattle.mq_route.specs.Arrives.{heard}
-use Rattle.mq_route.specs.Hub.{Line, key_on, with_line}
+use Rattle.mq_route.specs.Hub.{Line, key_on, stage_of, with_line}
 use Rattle.mq_hub.specs.declared.connection.Connection.{Connection}
 use Rattle.mq_hub.specs.Lines.{service, LineTable, lines_of, line_of, AreLines}
 use Rattle.mq_hub.specs.Alarms.{IsAwaited}
 use Rattle.mq_hub.proofs.Ringing.{alarm_awaited, found_name, heard_awaited, still_all_awaited}
-use Rattle.mq_hub.proofs.Connections.{Entry, awaited_of, kept_anew, are_named, still_all, changed, served_at, kept_same, heard_key}
+use Rattle.mq_hub.proofs.Connections.{Entry, awaited_of, kept_anew, are_named, still_all, changed, served_at, kept_same, heard_key, lacks, own_key, unknown_shut}
 use Rattle.mq_hub.proofs.lines.Lines.heard.Goals as goal
 
 pub returns-in_default-clause-lines : goal.returns-in_default-clause-lines
@@ -74,3 +74,21 @@ returns-else-is_earlier-clause-lines c =
     ap lines_of (c.get_mut.follows.holds w).0
     ∙ changed f c.args.conn es c.in-Some.boxed.now w (are_named (service c.self.inside.limits c.self.inside.alarms) es c.self.invariant.served) c.self.invariant.distinct (sym c.in-Some.ensures.value) (ap line_of c.heard.ensures)
     ∙ ap (λ (v : LineTable). with_line f c.args.conn v.lines) c.self.view_is
+
+pub returns-in_default-clause-key : goal.returns-in_default-clause-key
+returns-in_default-clause-key c =
+    let es = c.self.inside.by_conn.entries in
+    ap key_on (sym (unknown_shut c.args.conn (lines_of es) (lacks c.args.conn es (are_named (service c.self.inside.limits c.self.inside.alarms) es c.self.invariant.served) c.in_default.ensures.value)))
+    ∙ ap (λ (v : LineTable). key_on (stage_of c.args.conn v.lines)) c.self.view_is
+
+pub returns-then-is_earlier-clause-key : goal.returns-then-is_earlier-clause-key
+returns-then-is_earlier-clause-key c =
+    c.key-key.ensures
+    ∙ own_key c.args.conn c.self.inside.by_conn.entries c.in-Some.boxed.now (service c.self.inside.limits c.self.inside.alarms) c.self.invariant.served (sym c.in-Some.ensures.value)
+    ∙ ap (λ (v : LineTable). key_on (stage_of c.args.conn v.lines)) c.self.view_is
+
+pub returns-else-is_earlier-clause-key : goal.returns-else-is_earlier-clause-key
+returns-else-is_earlier-clause-key c =
+    c.key-key.ensures
+    ∙ own_key c.args.conn c.self.inside.by_conn.entries c.in-Some.boxed.now (service c.self.inside.limits c.self.inside.alarms) c.self.invariant.served (sym c.in-Some.ensures.value)
+    ∙ ap (λ (v : LineTable). key_on (stage_of c.args.conn v.lines)) c.self.view_is

@@ -1,14 +1,13 @@
-use Rattle.std.proofs.Common.{◌∙◌, refl, sym, ap}
-use Rattle.mq_route.specs.Hub.{Line, key_on, stage_of}
+use Rattle.std.proofs.Common.{◌∙◌, sym, ap}
+use Rattle.mq_route.specs.Hub.{key_on, stage_of}
 use Rattle.mq_hub.specs.Lines.{service, LineTable, lines_of}
-use Rattle.mq_hub.proofs.Connections.{are_named, found_by, lacks, unknown_shut}
+use Rattle.mq_hub.proofs.Connections.{are_named, lacks, own_key, unknown_shut}
 use Rattle.mq_hub.proofs.lines.Lines.key.Goals as goal
 
 pub returns-in-Some : goal.returns-in-Some
 returns-in-Some c =
-    let es = c.self.inside.by_conn.entries in
     c.key.ensures
-    ∙ ap key_on (sym (found_by (λ (x : Line). x.stage) c.args.conn (stage_of c.args.conn) (λ x xs. refl) es c.in-Some.boxed.now (are_named (service c.self.inside.limits c.self.inside.alarms) es c.self.invariant.served) (sym c.in-Some.ensures.value)))
+    ∙ own_key c.args.conn c.self.inside.by_conn.entries c.in-Some.boxed.now (service c.self.inside.limits c.self.inside.alarms) c.self.invariant.served (sym c.in-Some.ensures.value)
     ∙ ap (λ (v : LineTable). key_on (stage_of c.args.conn v.lines)) c.self.view_is
 
 pub returns-in-None : goal.returns-in-None

@@ -5,12 +5,12 @@ use Rattle.mq_hub.proofs.Tied.{all_placeable, shares}
 use Rattle.mq_hub.proofs.sharing.Sharing.perform.Goals as goal
 
 pub returns-clause-goes : goal.returns-clause-goes
-returns-clause-goes c = λ config clock next_key t same retained can due.
+returns-clause-goes c = λ m config clock next_key t is same retained can due.
     let s = c.args.self in
     let old = c.args.sessions.now.tenants in
     let did : List Act = c.args.doings.now.acts in
-    shares config clock next_key t did c.say_all.new.doings.acts c.args.act s.message s.copies.items old c.place_all.new.sessions.tenants c.keep.new.self.messages
-    same (c.keep.ensures.messages ∙ ap (kept s.message) (sym retained)) can due (all_placeable 0 old s.copies.items c.requires.ready)
+    shares config clock next_key t did c.say_all.new.doings.acts c.args.act m s.copies.items old c.place_all.new.sessions.tenants c.keep_of.new.self.messages
+    same (c.keep_of.ensures.messages m is ∙ ap (kept m) (sym retained)) can due (all_placeable 0 old s.copies.items c.requires.ready)
     c.place_all.ensures.tenants
     (c.say_all.ensures.acts ∙ ap (λ (said : List Act). said ++ s.placed.items) c.say.ensures.acts
     ∙ ap (λ (more : List Act). (did ++ c.args.act ∷ []) ++ more) c.requires.says)

@@ -12,11 +12,11 @@ use Rattle.mq_hub.proofs.tables.Tables.draw_up.Goals as goal
 pub returns-clause-copies : goal.returns-clause-copies
 returns-clause-copies g c =
     subst (λ (v : HubTables). (config : HubConfig) (clock next_key : ℕ)
-    → c.in_ok-copies.copies.items ≡ copies_of c.args.message (hub_of config clock next_key v)) c.self.view_is
+    → c.in_ok-copies.copies.items ≡ copies_of c.args.message.now (hub_of config clock next_key v)) c.self.view_is
     (λ config clock next_key. c.in_ok-copies.ensures.copies _ refl (λ key. ap is_some (up_seen key c.self.inside.sessions.tenants c.self.inside.lines.lines)))
 
 pub returns-clause-due : goal.returns-clause-due
 returns-clause-due g c =
-    subst (λ (v : HubTables). (config : HubConfig) (next_key : ℕ) → HubKeeps config next_key v → publish_size c.args.message ≤ config.limits.most
+    subst (λ (v : HubTables). (config : HubConfig) (next_key : ℕ) → HubKeeps config next_key v → publish_size c.args.message.now ≤ config.limits.most
     → AreFor v.sessions.tenants c.in_ok-copies.copies.items) c.self.view_is
     (λ config next_key keeps within. c.in_ok-copies.ensures.due config next_key _ refl refl keeps within)

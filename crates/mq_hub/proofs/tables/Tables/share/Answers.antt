@@ -6,9 +6,9 @@ use Rattle.mq_hub.proofs.ShareKeeps.{kept_shared}
 use Rattle.mq_hub.proofs.tables.Tables.share.Goals as goal
 
 pub returns-clause-keeps : goal.returns-clause-keeps
-returns-clause-keeps g c = λ config next_key keeps within.
+returns-clause-keeps g c = λ m config next_key is keeps within.
     let s = c.args.sharing in
-    kept_shared config next_key s.message s.copies.items c.args.self.now _ keeps within c.requires.drawn.apart c.requires.ready.ready
+    kept_shared config next_key m s.copies.items c.args.self.now _ keeps within c.requires.drawn.apart c.requires.ready.ready
     (ap (λ (v : HubTables). v.rows) c.self.view_is) (ap (λ (v : HubTables). v.lines) c.self.view_is)
-    (c.perform.ensures.retained ∙ ap (λ (v : HubTables). kept s.message v.retained.messages) c.self.view_is)
+    (c.perform.ensures.retained m is ∙ ap (λ (v : HubTables). kept m v.retained.messages) c.self.view_is)
     (c.perform.ensures.tenants ∙ ap (λ (v : HubTables). placed_all s.copies.items v.sessions.tenants) c.self.view_is)

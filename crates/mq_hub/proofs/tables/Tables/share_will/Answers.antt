@@ -5,6 +5,3 @@ use Rattle.mq_hub.proofs.tables.Tables.share_will.Goals as goal
 
 pub returns-in_err-message-clause-rise : goal.returns-in_err-message-clause-rise
 returns-in_err-message-clause-rise g c = leaves_same (will_message c.args.will.now ∷ []) c.args.self.now
-
-pub returns-in_err-named-clause-rise : goal.returns-in_err-named-clause-rise
-returns-in_err-named-clause-rise g c = leaves_same (will_message c.args.will.now ∷ []) c.args.self.now

@@ -1,6 +1,6 @@
-use Rattle.std.proofs.Common.{◌≡◌, ◌≤◌, ◌∙◌, [], ◌∷◌, true, false, ap, refl, subst, sym}
-use Rattle.mq_packet.specs.declared.message.Message.{Message}
+use Rattle.std.proofs.Common.{◌≡◌, ◌∙◌, [], ◌∷◌, true, false, ap, refl, sym}
 use Rattle.mq_end.specs.Sizes.{publish_size}
+use Rattle.mq_route.specs.declared.act.Act.TheVariants.{Will}
 use Rattle.mq_route.specs.Hub.{HubState, copies_of}
 use Rattle.mq_hub.specs.Seen.{HubTables, hub_of}
 use Rattle.mq_hub.proofs.Fronting.{err_any}
@@ -50,11 +50,10 @@ returns-clause-goes g c = λ e config clock next_key kept.
     let m = c.args.message in
     let same = hub_alike config clock next_key t p c.prepare.ensures.alike in
     let here : HubState = hub_of config clock next_key p in
-    let due : copies_of s.message here ≡ s.copies.items =
-    ap (λ (n : Message). copies_of n here) c.in_ok-sharing.ensures.message ∙ ap (copies_of m) same ∙ sym (c.in_ok-sharing.ensures.copies config clock next_key) in
-    goes_as c.args.act s.message m here (hub_of config clock next_key t) (hub_of config clock next_key c.share.new.self) c.prepare.new.doings.acts
-    c.args.doings.now.acts c.share.new.doings.acts c.in_ok-sharing.ensures.message same c.prepare.ensures.acts
-    (c.share.ensures.goes config clock next_key (kept_alike config next_key t p c.prepare.ensures.alike kept) due)
+    let due : copies_of m here ≡ s.copies.items = ap (copies_of m) same ∙ sym (c.in_ok-sharing.ensures.copies config clock next_key) in
+    goes_as (Will c.args.key m) m m here (hub_of config clock next_key t) (hub_of config clock next_key c.share.new.self) c.prepare.new.doings.acts
+    c.args.doings.now.acts c.share.new.doings.acts refl same c.prepare.ensures.acts
+    (c.share.ensures.goes m config clock next_key c.in_ok-sharing.ensures.kept (kept_alike config next_key t p c.prepare.ensures.alike kept) due)
 
 pub returns-clause-enough : goal.returns-clause-enough
 returns-clause-enough g c = λ config clock next_key kept.
@@ -67,11 +66,10 @@ returns-clause-enough g c = λ config clock next_key kept.
 
 pub returns-clause-spares : goal.returns-clause-spares
 returns-clause-spares g c =
-    let s = c.in_ok-sharing.sharing in
-    let m = c.in_ok-sharing.ensures.message in
-    spares_shared s.message s.copies.items c.args.self.now c.prepare.new.self c.share.new.self c.prepare.ensures.alike c.prepare.ensures.sessions
-    (subst (λ (n : Message). publish_size n ≤ c.args.self.now.lines.limits.most) (sym m) c.requires.within) c.share.ensures.keeps c.share.ensures.tenants
-    c.share.ensures.sessions c.share.ensures.lines
+    let m = c.args.message in
+    spares_shared m c.in_ok-sharing.sharing.copies.items c.args.self.now c.prepare.new.self c.share.new.self c.prepare.ensures.alike c.prepare.ensures.sessions
+    c.requires.within (λ config next_key kept within. c.share.ensures.keeps m config next_key c.in_ok-sharing.ensures.kept kept within)
+    c.share.ensures.tenants c.share.ensures.sessions c.share.ensures.lines
 
 pub returns-in_err-sharing-clause-rise : goal.returns-in_err-sharing-clause-rise
 returns-in_err-sharing-clause-rise g c = leaves_same (c.args.message ∷ []) c.args.self.now
