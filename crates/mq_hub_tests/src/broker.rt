@@ -35,6 +35,65 @@ const WIDE: Kind = Kind {
     has_user: false,
 };
 
+// A table: its name, what its brokers are like, and its rows.
+type Table = (&'static str, Kind, &'static [Row]);
+
+// All tables of rows.
+const TABLES: [Table; 24] = [
+    ("refused", WIDE, &rows::REFUSED),
+    ("routed", WIDE, &rows::ROUTED),
+    ("level", WIDE, &rows::LEVEL),
+    ("retained", WIDE, &rows::RETAINED),
+    ("replaced_in_place", WIDE, &rows::REPLACED_IN_PLACE),
+    ("taken_over", WIDE, &rows::TAKEN_OVER),
+    ("taken_over_clean", WIDE, &rows::TAKEN_OVER_CLEAN),
+    ("clean_taken_over", WIDE, &rows::CLEAN_TAKEN_OVER),
+    ("own_will", WIDE, &rows::OWN_WILL),
+    ("replaced", WIDE, &rows::REPLACED),
+    ("offline", WIDE, &rows::OFFLINE),
+    ("overlapping", WIDE, &rows::OVERLAPPING),
+    ("own_copy", WIDE, &rows::OWN_COPY),
+    ("hidden", WIDE, &rows::HIDDEN),
+    ("made_up", WIDE, &rows::MADE_UP),
+    ("in_pieces", WIDE, &rows::IN_PIECES),
+    ("kept_alive", WIDE, &rows::KEPT_ALIVE),
+    ("late_in_order", WIDE, &rows::LATE_IN_ORDER),
+    ("will_at_a_fault", WIDE, &rows::WILL_AT_A_FAULT),
+    ("unasked", WIDE, &rows::UNASKED),
+    (
+        "full_session",
+        Kind {
+            capacity: 1,
+            ..WIDE
+        },
+        &rows::FULL_SESSION,
+    ),
+    (
+        "crowded",
+        Kind {
+            max_conns: 1,
+            ..WIDE
+        },
+        &rows::CROWDED,
+    ),
+    (
+        "no_place",
+        Kind {
+            max_sessions: 1,
+            ..WIDE
+        },
+        &rows::NO_PLACE,
+    ),
+    (
+        "users",
+        Kind {
+            has_user: true,
+            ..WIDE
+        },
+        &rows::USERS,
+    ),
+];
+
 fn one_user(alloc: Global) -> Result<Items<User>, Fail> {
     let user = User {
         name: Text::new(alloc, "u")?,
@@ -46,7 +105,6 @@ fn one_user(alloc: Global) -> Result<Items<User>, Fail> {
 }
 
 fn config(alloc: Global, kind: Kind) -> Result<HubConfig, Fail>
-    requires { 0 < kind.capacity }
     ensures capacity { IfOk result (λ c. 0 < c.capacity) }
     ensures window { IfOk result (λ c. c.window ≡ None) }
 {
@@ -57,7 +115,7 @@ fn config(alloc: Global, kind: Kind) -> Result<HubConfig, Fail>
     };
     Ok(HubConfig {
         limits: Limits::new(1_048_576).ok_or("no limits")?,
-        capacity: kind.capacity,
+        capacity: kind.capacity.max(1),
         window: None,
         max_conns: kind.max_conns,
         max_sessions: kind.max_sessions,
@@ -78,196 +136,47 @@ fn answer<S: FilterStore>(
     }
 }
 
-// A broker answers each row as it is to.
+// A broker answers each row of a table as it is to.
 fn walk<S: FilterStore>(
     rt: &impl Abort,
     alloc: Global,
     hub: &mut HubOver<S>,
-    rows: &[Row],
+    table: &Table,
 ) -> Result<(), Fail> {
-    for (happens, wanted) in rows {
+    let (name, _, rows) = table;
+    for (happens, wanted) in *rows {
         let text = answer(alloc, hub, *happens)?;
-        assert_eq!(rt; text.as_str(), *wanted, "{:?}", happens);
+        assert_eq!(rt; text.as_str(), *wanted, "{name}: {:?}", happens);
     }
     Ok(())
 }
 
 // And so does one over the trie.
-fn walk_trie(rt: &impl Abort, alloc: Global, kind: Kind, rows: &[Row]) -> Result<(), Fail>
-    requires { 0 < kind.capacity }
-{
-    let mut hub = Hub::new(alloc, config(alloc, kind)?);
-    walk(rt, alloc, &mut hub, rows)
+fn walk_trie(rt: &impl Abort, alloc: Global, table: &Table) -> Result<(), Fail> {
+    let mut hub = Hub::new(alloc, config(alloc, table.1)?);
+    walk(rt, alloc, &mut hub, table)
 }
 
 // And so does one over the list.
-fn walk_list(rt: &impl Abort, alloc: Global, kind: Kind, rows: &[Row]) -> Result<(), Fail>
-    requires { 0 < kind.capacity }
-{
-    let mut hub = HubOver::with_store(alloc, config(alloc, kind)?, ListStore::new(alloc));
-    walk(rt, alloc, &mut hub, rows)
+fn walk_list(rt: &impl Abort, alloc: Global, table: &Table) -> Result<(), Fail> {
+    let mut hub = HubOver::with_store(alloc, config(alloc, table.1)?, ListStore::new(alloc));
+    walk(rt, alloc, &mut hub, table)
 }
 
 // And so does one over each store.
-fn walk_both(rt: &impl Abort, alloc: Global, kind: Kind, rows: &[Row]) -> Result<(), Fail>
-    requires { 0 < kind.capacity }
-{
-    walk_trie(rt, alloc, kind, rows)?;
-    walk_list(rt, alloc, kind, rows)
+fn walk_both(rt: &impl Abort, alloc: Global, table: &Table) -> Result<(), Fail> {
+    walk_trie(rt, alloc, table)?;
+    walk_list(rt, alloc, table)
 }
 
 // ---- tests
 
 #[test]
-fn refused(rt: HostRuntime) -> Result<(), Fail> {
-    walk_both(&rt, rt.alloc(), WIDE, &rows::REFUSED)
-}
-
-#[test]
-fn routed(rt: HostRuntime) -> Result<(), Fail> {
-    walk_both(&rt, rt.alloc(), WIDE, &rows::ROUTED)
-}
-
-#[test]
-fn level(rt: HostRuntime) -> Result<(), Fail> {
-    walk_both(&rt, rt.alloc(), WIDE, &rows::LEVEL)
-}
-
-#[test]
-fn retained(rt: HostRuntime) -> Result<(), Fail> {
-    walk_both(&rt, rt.alloc(), WIDE, &rows::RETAINED)
-}
-
-#[test]
-fn replaced_in_place(rt: HostRuntime) -> Result<(), Fail> {
-    walk_both(&rt, rt.alloc(), WIDE, &rows::REPLACED_IN_PLACE)
-}
-
-#[test]
-fn taken_over(rt: HostRuntime) -> Result<(), Fail> {
-    walk_both(&rt, rt.alloc(), WIDE, &rows::TAKEN_OVER)
-}
-
-#[test]
-fn taken_over_clean(rt: HostRuntime) -> Result<(), Fail> {
-    walk_both(&rt, rt.alloc(), WIDE, &rows::TAKEN_OVER_CLEAN)
-}
-
-#[test]
-fn clean_taken_over(rt: HostRuntime) -> Result<(), Fail> {
-    walk_both(&rt, rt.alloc(), WIDE, &rows::CLEAN_TAKEN_OVER)
-}
-
-#[test]
-fn own_will(rt: HostRuntime) -> Result<(), Fail> {
-    walk_both(&rt, rt.alloc(), WIDE, &rows::OWN_WILL)
-}
-
-#[test]
-fn replaced(rt: HostRuntime) -> Result<(), Fail> {
-    walk_both(&rt, rt.alloc(), WIDE, &rows::REPLACED)
-}
-
-#[test]
-fn offline(rt: HostRuntime) -> Result<(), Fail> {
-    walk_both(&rt, rt.alloc(), WIDE, &rows::OFFLINE)
-}
-
-#[test]
-fn overlapping(rt: HostRuntime) -> Result<(), Fail> {
-    walk_both(&rt, rt.alloc(), WIDE, &rows::OVERLAPPING)
-}
-
-#[test]
-fn own_copy(rt: HostRuntime) -> Result<(), Fail> {
-    walk_both(&rt, rt.alloc(), WIDE, &rows::OWN_COPY)
-}
-
-#[test]
-fn hidden(rt: HostRuntime) -> Result<(), Fail> {
-    walk_both(&rt, rt.alloc(), WIDE, &rows::HIDDEN)
-}
-
-#[test]
-fn made_up(rt: HostRuntime) -> Result<(), Fail> {
-    walk_both(&rt, rt.alloc(), WIDE, &rows::MADE_UP)
-}
-
-#[test]
-fn in_pieces(rt: HostRuntime) -> Result<(), Fail> {
-    walk_both(&rt, rt.alloc(), WIDE, &rows::IN_PIECES)
-}
-
-#[test]
-fn kept_alive(rt: HostRuntime) -> Result<(), Fail> {
-    walk_both(&rt, rt.alloc(), WIDE, &rows::KEPT_ALIVE)
-}
-
-#[test]
-fn late_in_order(rt: HostRuntime) -> Result<(), Fail> {
-    walk_both(&rt, rt.alloc(), WIDE, &rows::LATE_IN_ORDER)
-}
-
-#[test]
-fn will_at_a_fault(rt: HostRuntime) -> Result<(), Fail> {
-    walk_both(&rt, rt.alloc(), WIDE, &rows::WILL_AT_A_FAULT)
-}
-
-#[test]
-fn unasked(rt: HostRuntime) -> Result<(), Fail> {
-    walk_both(&rt, rt.alloc(), WIDE, &rows::UNASKED)
-}
-
-#[test]
-fn full_session(rt: HostRuntime) -> Result<(), Fail> {
-    walk_both(
-        &rt,
-        rt.alloc(),
-        Kind {
-            capacity: 1,
-            ..WIDE
-        },
-        &rows::FULL_SESSION,
-    )
-}
-
-#[test]
-fn crowded(rt: HostRuntime) -> Result<(), Fail> {
-    walk_both(
-        &rt,
-        rt.alloc(),
-        Kind {
-            max_conns: 1,
-            ..WIDE
-        },
-        &rows::CROWDED,
-    )
-}
-
-#[test]
-fn no_place(rt: HostRuntime) -> Result<(), Fail> {
-    walk_both(
-        &rt,
-        rt.alloc(),
-        Kind {
-            max_sessions: 1,
-            ..WIDE
-        },
-        &rows::NO_PLACE,
-    )
-}
-
-#[test]
-fn users(rt: HostRuntime) -> Result<(), Fail> {
-    walk_both(
-        &rt,
-        rt.alloc(),
-        Kind {
-            has_user: true,
-            ..WIDE
-        },
-        &rows::USERS,
-    )
+fn brokers_answer_each_row(rt: HostRuntime) -> Result<(), Fail> {
+    for table in &TABLES {
+        walk_both(&rt, rt.alloc(), table)?;
+    }
+    Ok(())
 }
 
 // What happens in rows, one after another.
