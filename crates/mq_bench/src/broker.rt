@@ -84,17 +84,40 @@ pub(crate) fn broker(alloc: Global) -> anyhow::Result<Hub> {
 }
 
 /// An event, after which its connection is open.
-pub(crate) fn step(hub: &mut Hub, event: &HubEvent) -> anyhow::Result<()> {
+fn step(hub: &mut Hub, event: &HubEvent) -> anyhow::Result<()> {
     ensure!(hub.step(event)?.alive, "a connection was closed");
     Ok(())
+}
+
+/// A connection is opened.
+pub(crate) fn open(hub: &mut Hub, conn: Conn) -> anyhow::Result<()> {
+    step(hub, &HubEvent::Opened(conn))
+}
+
+/// Bytes come on a connection, which is open then.
+pub(crate) fn hear(hub: &mut Hub, event: HubEvent) -> anyhow::Result<()> {
+    step(hub, &event)
+}
+
+/// A connection is over.
+pub(crate) fn close(hub: &mut Hub, conn: Conn) -> anyhow::Result<()> {
+    hub.step(&HubEvent::Ended(conn))?;
+    Ok(())
+}
+
+/// What waits on a connection is taken, which is open; answers how many bytes that is.
+pub(crate) fn take(hub: &mut Hub, conn: Conn) -> anyhow::Result<usize> {
+    let reply = hub.step(&HubEvent::Collect(conn))?;
+    ensure!(reply.alive, "a connection was closed");
+    Ok(reply.output.len())
 }
 
 /// So many other sessions, whose clients have left.
 fn add_others(alloc: Global, hub: &mut Hub, count: u32) -> anyhow::Result<()> {
     for client in 0..count {
-        step(hub, &HubEvent::Opened(OTHERS))?;
-        step(hub, &clients::subscribes_to_ten(alloc, OTHERS, client)?)?;
-        hub.step(&HubEvent::Ended(OTHERS))?;
+        open(hub, OTHERS)?;
+        hear(hub, clients::subscribes_to_ten(alloc, OTHERS, client)?)?;
+        close(hub, OTHERS)?;
     }
     Ok(())
 }
@@ -104,8 +127,8 @@ fn add_publishers(alloc: Global, hub: &mut Hub, flow: Flow) -> anyhow::Result<()
     for number in 0..flow.publishers {
         let conn = publisher(number);
         let name = format!(in alloc; "publisher-{number}")?;
-        step(hub, &HubEvent::Opened(conn))?;
-        step(hub, &clients::comes(alloc, conn, name.as_str(), true)?)?;
+        open(hub, conn)?;
+        hear(hub, clients::comes(alloc, conn, name.as_str(), true)?)?;
     }
     Ok(())
 }
@@ -115,10 +138,10 @@ fn add_subscribers(alloc: Global, hub: &mut Hub, flow: Flow, qos: Qos) -> anyhow
     for number in 0..flow.subscribers {
         let conn = subscriber(number);
         let name = format!(in alloc; "subscriber-{number}")?;
-        step(hub, &HubEvent::Opened(conn))?;
+        open(hub, conn)?;
         let event = clients::subscribes(alloc, conn, name.as_str(), "greenhouse/#", qos)?;
-        step(hub, &event)?;
-        step(hub, &HubEvent::Collect(conn))?;
+        hear(hub, event)?;
+        take(hub, conn)?;
     }
     Ok(())
 }
@@ -126,10 +149,10 @@ fn add_subscribers(alloc: Global, hub: &mut Hub, flow: Flow, qos: Qos) -> anyhow
 /// All clients leave, and their sessions end.
 fn end(hub: &mut Hub, flow: Flow) -> anyhow::Result<()> {
     for number in 0..flow.publishers {
-        hub.step(&HubEvent::Ended(publisher(number)))?;
+        close(hub, publisher(number))?;
     }
     for number in 0..flow.subscribers {
-        hub.step(&HubEvent::Ended(subscriber(number)))?;
+        close(hub, subscriber(number))?;
     }
     Ok(())
 }
@@ -178,11 +201,10 @@ impl Work {
 /// What waits on these connections is taken.
 fn collect(hub: &mut Hub, flow: Flow) -> anyhow::Result<()> {
     for number in 0..flow.publishers {
-        step(hub, &HubEvent::Collect(publisher(number)))?;
+        take(hub, publisher(number))?;
     }
     for number in 0..flow.subscribers {
-        let reply = hub.step(&HubEvent::Collect(subscriber(number)))?;
-        ensure!(reply.output.len() > 0, "nothing came");
+        ensure!(take(hub, subscriber(number))? > 0, "nothing came");
     }
     Ok(())
 }

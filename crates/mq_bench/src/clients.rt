@@ -15,12 +15,14 @@ use std::alloc::Global;
 /// How many messages a publisher sends at once.
 pub(crate) const BATCH: u16 = 20;
 
+/// The spelling of a packet is put behind bytes, and the packet is let go of.
+fn put(bytes: &mut Vec<u8>, packet: Packet) -> anyhow::Result<()> {
+    encode_into(&packet, bytes)?;
+    Ok(())
+}
+
 /// Bytes that a client sends on a connection.
-pub(crate) fn sent(alloc: Global, conn: Conn, packets: &[Packet]) -> anyhow::Result<HubEvent> {
-    let mut bytes = Vec::new(alloc);
-    for packet in packets {
-        encode_into(packet, &mut bytes)?;
-    }
+fn sent(conn: Conn, bytes: Vec<u8>) -> anyhow::Result<HubEvent> {
     Ok(HubEvent::Bytes(conn, Bytes::from_vec(bytes)?))
 }
 
@@ -40,6 +42,14 @@ fn request(alloc: Global, filter: &str, qos: Qos) -> anyhow::Result<Request> {
     Ok(Request { filter, qos })
 }
 
+fn subscribe(requests: Vec<Request>) -> anyhow::Result<Packet> {
+    ensure!(!requests.is_empty(), "no filters");
+    Ok(Packet::Subscribe {
+        id: identifier(1)?,
+        requests: NonEmpty::from_vec(requests),
+    })
+}
+
 /// A client comes; a clean session ends with the connection.
 pub(crate) fn comes(
     alloc: Global,
@@ -47,8 +57,9 @@ pub(crate) fn comes(
     client: &str,
     clean_session: bool,
 ) -> anyhow::Result<HubEvent> {
-    let packets = vec![in alloc; connect(alloc, client, clean_session)?]?;
-    sent(alloc, conn, packets.as_slice())
+    let mut bytes = Vec::new(alloc);
+    put(&mut bytes, connect(alloc, client, clean_session)?)?;
+    sent(conn, bytes)
 }
 
 /// A client comes, whose session ends with the connection, and subscribes to this filter.
@@ -59,12 +70,11 @@ pub(crate) fn subscribes(
     filter: &str,
     qos: Qos,
 ) -> anyhow::Result<HubEvent> {
-    let subscribe = Packet::Subscribe {
-        id: identifier(1)?,
-        requests: NonEmpty::from_vec(vec![in alloc; request(alloc, filter, qos)?]?),
-    };
-    let packets = vec![in alloc; connect(alloc, client, true)?, subscribe]?;
-    sent(alloc, conn, packets.as_slice())
+    let mut bytes = Vec::new(alloc);
+    put(&mut bytes, connect(alloc, client, true)?)?;
+    let requests = vec![in alloc; request(alloc, filter, qos)?]?;
+    put(&mut bytes, subscribe(requests)?)?;
+    sent(conn, bytes)
 }
 
 /// Ten filters that no message of a publisher matches, all of one client.
@@ -84,14 +94,10 @@ pub(crate) fn subscribes_to_ten(
     client: u32,
 ) -> anyhow::Result<HubEvent> {
     let name = format!(in alloc; "meter-{client}")?;
-    let requests = ten_requests(alloc, client)?;
-    ensure!(!requests.is_empty(), "no filters");
-    let subscribe = Packet::Subscribe {
-        id: identifier(1)?,
-        requests: NonEmpty::from_vec(requests),
-    };
-    let packets = vec![in alloc; connect(alloc, name.as_str(), false)?, subscribe]?;
-    sent(alloc, conn, packets.as_slice())
+    let mut bytes = Vec::new(alloc);
+    put(&mut bytes, connect(alloc, name.as_str(), false)?)?;
+    put(&mut bytes, subscribe(ten_requests(alloc, client)?)?)?;
+    sent(conn, bytes)
 }
 
 fn publish(alloc: Global, id: PacketId, qos: Qos, payload: Bytes) -> anyhow::Result<Packet> {
@@ -115,15 +121,16 @@ pub(crate) fn publishes(
     qos: Qos,
     size: usize,
 ) -> anyhow::Result<HubEvent> {
-    let mut packets = Vec::new(alloc);
+    let mut bytes = Vec::new(alloc);
     for number in 1..=BATCH {
         let id = identifier(number)?;
-        packets.push(publish(alloc, id, qos, made_up_bytes(alloc, size)?)?)?;
+        let payload = made_up_bytes(alloc, size)?;
+        put(&mut bytes, publish(alloc, id, qos, payload)?)?;
         if qos == Qos::Q2 {
-            packets.push(Packet::PubRel(id))?;
+            put(&mut bytes, Packet::PubRel(id))?;
         }
     }
-    sent(alloc, conn, packets.as_slice())
+    sent(conn, bytes)
 }
 
 /// A subscriber acknowledges so many messages, whose identifiers follow on the one of this number, 65,535 and 1 being neighbours.
@@ -134,17 +141,17 @@ pub(crate) fn acknowledges(
     last: u16,
     count: u16,
 ) -> anyhow::Result<HubEvent> {
-    let mut packets = Vec::new(alloc);
+    let mut bytes = Vec::new(alloc);
     let mut number = last;
     for _ in 0..count {
         number = number % u16::MAX + 1;
         let id = identifier(number)?;
         if qos == Qos::Q1 {
-            packets.push(Packet::PubAck(id))?;
+            put(&mut bytes, Packet::PubAck(id))?;
         } else {
-            packets.push(Packet::PubRec(id))?;
-            packets.push(Packet::PubComp(id))?;
+            put(&mut bytes, Packet::PubRec(id))?;
+            put(&mut bytes, Packet::PubComp(id))?;
         }
     }
-    sent(alloc, conn, packets.as_slice())
+    sent(conn, bytes)
 }

@@ -96,16 +96,22 @@ fn suback(alloc: Global) -> anyhow::Result<Packet> {
     })
 }
 
+/// Appends a packet.
+fn add(packets: &mut Vec<Packet>, packet: Packet) -> anyhow::Result<()> {
+    packets.push(packet)?;
+    Ok(())
+}
+
 /// The seven kinds without a payload, once.
 fn push_small(packets: &mut Vec<Packet>, number: u16) -> anyhow::Result<()> {
     let id = identifier(number)?;
-    packets.push(Packet::PubAck(id))?;
-    packets.push(Packet::PubRec(id))?;
-    packets.push(Packet::PubRel(id))?;
-    packets.push(Packet::PubComp(id))?;
-    packets.push(Packet::PingReq)?;
-    packets.push(Packet::PingResp)?;
-    packets.push(Packet::Disconnect)?;
+    add(packets, Packet::PubAck(id))?;
+    add(packets, Packet::PubRec(id))?;
+    add(packets, Packet::PubRel(id))?;
+    add(packets, Packet::PubComp(id))?;
+    add(packets, Packet::PingReq)?;
+    add(packets, Packet::PingResp)?;
+    add(packets, Packet::Disconnect)?;
     Ok(())
 }
 
@@ -122,7 +128,7 @@ fn small(alloc: Global) -> anyhow::Result<Vec<Packet>> {
 fn publishes(alloc: Global, count: u16, size: usize) -> anyhow::Result<Vec<Packet>> {
     let mut packets = Vec::new(alloc);
     for number in 1..=count {
-        packets.push(publish(alloc, number, size)?)?;
+        add(&mut packets, publish(alloc, number, size)?)?;
     }
     Ok(packets)
 }
@@ -135,24 +141,30 @@ fn push_acknowledged(
     size: usize,
 ) -> anyhow::Result<()> {
     for number in 1..=count {
-        packets.push(publish(alloc, number, size)?)?;
-        packets.push(Packet::PubAck(identifier(number)?))?;
+        add(packets, publish(alloc, number, size)?)?;
+        add(packets, Packet::PubAck(identifier(number)?))?;
     }
     Ok(())
 }
 
-/// What a busy connection might carry in both directions.
+/// Appends what a busy connection might carry in both directions.
+fn push_mixed(alloc: Global, packets: &mut Vec<Packet>) -> anyhow::Result<()> {
+    let accepted = ConnAck::Accepted {
+        session_present: false,
+    };
+    add(packets, connect(alloc)?)?;
+    add(packets, Packet::ConnAck(accepted))?;
+    add(packets, subscribe(alloc)?)?;
+    add(packets, suback(alloc)?)?;
+    push_acknowledged(alloc, packets, 256, 16)?;
+    push_acknowledged(alloc, packets, 32, 1024)?;
+    push_acknowledged(alloc, packets, 1, 65_536)
+}
+
+/// The same in a list of its own.
 fn mixed(alloc: Global) -> anyhow::Result<Vec<Packet>> {
     let mut packets = Vec::new(alloc);
-    packets.push(connect(alloc)?)?;
-    packets.push(Packet::ConnAck(ConnAck::Accepted {
-        session_present: false,
-    }))?;
-    packets.push(subscribe(alloc)?)?;
-    packets.push(suback(alloc)?)?;
-    push_acknowledged(alloc, &mut packets, 256, 16)?;
-    push_acknowledged(alloc, &mut packets, 32, 1024)?;
-    push_acknowledged(alloc, &mut packets, 1, 65_536)?;
+    push_mixed(alloc, &mut packets)?;
     Ok(packets)
 }
 

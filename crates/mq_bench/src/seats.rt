@@ -1,9 +1,9 @@
 //! The memory of a broker's sessions and connections, measured and printed.
 
-use crate::broker::{broker, step};
+use crate::broker::{broker, close, hear, open, take};
 use crate::clients;
 use crate::memory::{print_bytes, resident};
-use mq_hub::{Conn, Hub, HubEvent};
+use mq_hub::{Conn, Hub};
 use std::alloc::Global;
 use std::rt::Files;
 
@@ -21,16 +21,17 @@ const COUNT: u32 = 50_000;
 fn come(alloc: Global, hub: &mut Hub, nth: u32) -> anyhow::Result<()> {
     let conn = Conn { worker: 0, nth };
     let name = format!(in alloc; "meter-{nth}")?;
-    step(hub, &HubEvent::Opened(conn))?;
-    step(hub, &clients::comes(alloc, conn, name.as_str(), false)?)?;
-    step(hub, &HubEvent::Collect(conn))
+    open(hub, conn)?;
+    hear(hub, clients::comes(alloc, conn, name.as_str(), false)?)?;
+    take(hub, conn)?;
+    Ok(())
 }
 
 /// So many clients come and leave, and their sessions stay.
 fn add_sessions(alloc: Global, hub: &mut Hub) -> anyhow::Result<()> {
     for nth in 0..COUNT {
         come(alloc, hub, nth)?;
-        hub.step(&HubEvent::Ended(Conn { worker: 0, nth }))?;
+        close(hub, Conn { worker: 0, nth })?;
     }
     Ok(())
 }

@@ -173,6 +173,11 @@ impl AtHub {
         }
     }
 
+    /// An event comes; what came of it is let go of.
+    fn happens(&mut self, event: HubEvent) {
+        self.step(&event);
+    }
+
     fn refused(&mut self, why: HubRefusal) {
         let number = match why {
             HubRefusal::UnknownConn => 1,
@@ -196,7 +201,7 @@ impl AtHub {
         let answers = answers_in(output, self.limits);
         self.expect(answers.is_some());
         if !reply.alive {
-            self.step(&HubEvent::Ended(conn(number)));
+            self.happens(HubEvent::Ended(conn(number)));
         }
         answers.unwrap_or(0)
     }
@@ -227,16 +232,16 @@ impl AtHub {
         match number {
             0..=2 => {
                 self.now = self.now.saturating_add(1_000);
-                self.step(&HubEvent::Tick(self.now));
+                self.happens(HubEvent::Tick(self.now));
             }
             3 | 4 => {
-                self.step(&HubEvent::Ended(conn(on)));
+                self.happens(HubEvent::Ended(conn(on)));
                 self.set_begins(on, true);
             }
             _ => {}
         }
         if !self.hub.knows(conn(on)) {
-            self.step(&HubEvent::Opened(conn(on)));
+            self.happens(HubEvent::Opened(conn(on)));
             if let Some(credit) = self.credits.get_mut(on) {
                 *credit = 0;
             }
@@ -247,7 +252,7 @@ impl AtHub {
     /// A piece comes on a connection.
     pub(crate) fn take(&mut self, number: usize, piece: &[u8]) -> Result<(), AllocError> {
         let bytes = Bytes::copy_from_slice(self.alloc, piece)?;
-        self.step(&HubEvent::Bytes(conn(number), bytes));
+        self.happens(HubEvent::Bytes(conn(number), bytes));
         let answers = self.collect_all();
         self.pass(number, piece.len() as u64, answers);
         Ok(())
