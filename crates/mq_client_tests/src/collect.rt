@@ -97,19 +97,16 @@ fn expect(rt: &impl Abort, alloc: Global, rows: &[Row]) -> Result<(), Fail> {
     Ok(())
 }
 
-#[test]
-fn messages_are_printed(rt: HostRuntime) -> Result<(), Fail> {
-    expect(&rt, rt.alloc(), &COLLECTED)
+fn messages_are_printed(rt: &impl Abort, alloc: Global) -> Result<(), Fail> {
+    expect(rt, alloc, &COLLECTED)
 }
 
-#[test]
-fn connections_end(rt: HostRuntime) -> Result<(), Fail> {
-    expect(&rt, rt.alloc(), &ENDED)
+fn connections_end(rt: &impl Abort, alloc: Global) -> Result<(), Fail> {
+    expect(rt, alloc, &ENDED)
 }
 
 // The connection is lost at each write in turn: what was handed on is printed all the same.
-#[test]
-fn writes_fail(rt: HostRuntime) -> Result<(), Fail> {
+fn writes_fail(rt: &impl Abort, alloc: Global) -> Result<(), Fail> {
     let reads = "20020000 9003000102 34090003612f6200016869 62020001";
     for (fails_at, wanted) in [
         (1, "1 connection failed\n"),
@@ -135,7 +132,14 @@ fn writes_fail(rt: HostRuntime) -> Result<(), Fail> {
             fails_at,
             ..line_of(reads)
         };
-        expect_told(&rt, collected(rt.alloc(), line, 1), wanted, "a write fails")?;
+        expect_told(rt, collected(alloc, line, 1), wanted, "a write fails")?;
     }
     Ok(())
+}
+
+#[test]
+fn all_hold(rt: HostRuntime) -> Result<(), Fail> {
+    messages_are_printed(&rt, rt.alloc())?;
+    connections_end(&rt, rt.alloc())?;
+    writes_fail(&rt, rt.alloc())
 }

@@ -110,55 +110,49 @@ fn expect(rt: &impl Abort, alloc: Global, rows: &[Row]) -> Result<(), Fail> {
     Ok(())
 }
 
-#[test]
-fn texts_are_published(rt: HostRuntime) -> Result<(), Fail> {
-    expect(&rt, rt.alloc(), &PUBLISHED)
+fn texts_are_published(rt: &impl Abort, alloc: Global) -> Result<(), Fail> {
+    expect(rt, alloc, &PUBLISHED)
 }
 
-#[test]
-fn connections_end(rt: HostRuntime) -> Result<(), Fail> {
-    expect(&rt, rt.alloc(), &ENDED)
+fn connections_end(rt: &impl Abort, alloc: Global) -> Result<(), Fail> {
+    expect(rt, alloc, &ENDED)
 }
 
 // A client that takes one message at a time waits before each further one.
-#[test]
-fn a_full_client_waits(rt: HostRuntime) -> Result<(), Fail> {
+fn a_full_client_waits(rt: &impl Abort, alloc: Global) -> Result<(), Fail> {
     let line = Line {
         capacity: 1,
         ..line_of("20020000 40020001 40020002")
     };
-    let told = published(rt.alloc(), line, Qos::Q1, "x y");
+    let told = published(alloc, line, Qos::Q1, "x y");
     let wanted =
         "0 published 2\n100d00044d5154540402003c00017732060001740001783206000174000279e000";
-    expect_told(&rt, told, wanted, "full")
+    expect_told(rt, told, wanted, "full")
 }
 
 // A client that hears nothing for a minute asks whether the server is there.
-#[test]
-fn a_client_pings(rt: HostRuntime) -> Result<(), Fail> {
+fn a_client_pings(rt: &impl Abort, alloc: Global) -> Result<(), Fail> {
     let line = Line {
         step: 60_000,
         ..line_of("20020000 d000 40020001")
     };
-    let told = published(rt.alloc(), line, Qos::Q1, "x");
+    let told = published(alloc, line, Qos::Q1, "x");
     let wanted = "0 published 1\n100d00044d5154540402003c0001773206000174000178c000c000e000";
-    expect_told(&rt, told, wanted, "pings")
+    expect_told(rt, told, wanted, "pings")
 }
 
-#[test]
-fn a_client_is_never_answered(rt: HostRuntime) -> Result<(), Fail> {
+fn a_client_is_never_answered(rt: &impl Abort, alloc: Global) -> Result<(), Fail> {
     let line = Line {
         is_quiet: true,
         ..line_of("20020000")
     };
-    let told = published(rt.alloc(), line, Qos::Q1, "x");
+    let told = published(alloc, line, Qos::Q1, "x");
     let wanted = "1 connection failed\n100d00044d5154540402003c0001773206000174000178";
-    expect_told(&rt, told, wanted, "never answered")
+    expect_told(rt, told, wanted, "never answered")
 }
 
 // The connection is lost at each write in turn.
-#[test]
-fn writes_fail(rt: HostRuntime) -> Result<(), Fail> {
+fn writes_fail(rt: &impl Abort, alloc: Global) -> Result<(), Fail> {
     let reads = "20020000 50020001 70020001";
     for (fails_at, wanted) in [
         (1, "1 connection failed\n"),
@@ -180,8 +174,18 @@ fn writes_fail(rt: HostRuntime) -> Result<(), Fail> {
             fails_at,
             ..line_of(reads)
         };
-        let told = published(rt.alloc(), line, Qos::Q2, "x");
-        expect_told(&rt, told, wanted, "a write fails")?;
+        let told = published(alloc, line, Qos::Q2, "x");
+        expect_told(rt, told, wanted, "a write fails")?;
     }
     Ok(())
+}
+
+#[test]
+fn all_hold(rt: HostRuntime) -> Result<(), Fail> {
+    texts_are_published(&rt, rt.alloc())?;
+    connections_end(&rt, rt.alloc())?;
+    a_full_client_waits(&rt, rt.alloc())?;
+    a_client_pings(&rt, rt.alloc())?;
+    a_client_is_never_answered(&rt, rt.alloc())?;
+    writes_fail(&rt, rt.alloc())
 }

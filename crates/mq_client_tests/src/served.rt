@@ -10,6 +10,7 @@ use mq_packet::{Message, NonEmpty, PacketId, Payload, SubAckCode};
 use mq_stream::{Arrival, Broken, Stream};
 use mq_topic::{Qos, TopicFilter, TopicName};
 use std::alloc::Global;
+use std::process::Abort;
 use std::test::Fail;
 
 // A server end that answers at once, so many bytes at a read; it grants each subscription, and publishes a message of each quality of
@@ -128,13 +129,12 @@ fn published(alloc: Global, qos: Qos, most: usize) -> Result<String, Fail> {
     )
 }
 
-#[test]
-fn a_server_gets_each_text_once(rt: HostRuntime) -> Result<(), Fail> {
+fn a_server_gets_each_text_once(rt: &impl Abort, alloc: Global) -> Result<(), Fail> {
     for qos in [Qos::Q0, Qos::Q1, Qos::Q2] {
         for most in [1, 3, 4096] {
-            let told = published(rt.alloc(), qos, most);
+            let told = published(alloc, qos, most);
             expect_told(
-                &rt,
+                rt,
                 told,
                 "0 published 3\n6f6e6574776f7468726565",
                 "published",
@@ -162,12 +162,17 @@ fn collected(alloc: Global, most: usize) -> Result<String, Fail> {
     )
 }
 
-#[test]
-fn messages_come_from_a_server(rt: HostRuntime) -> Result<(), Fail> {
+fn messages_come_from_a_server(rt: &impl Abort, alloc: Global) -> Result<(), Fail> {
     for most in [1, 3, 4096] {
-        let told = collected(rt.alloc(), most);
+        let told = collected(alloc, most);
         let wanted = "0 subscribed\na/b 2 6869\na/b 1 6869\na/b 0 6869\n";
-        expect_told(&rt, told, wanted, "collected")?;
+        expect_told(rt, told, wanted, "collected")?;
     }
     Ok(())
+}
+
+#[test]
+fn all_hold(rt: HostRuntime) -> Result<(), Fail> {
+    a_server_gets_each_text_once(&rt, rt.alloc())?;
+    messages_come_from_a_server(&rt, rt.alloc())
 }

@@ -142,11 +142,10 @@ static GONE_ON: [(&str, Option<&str>, &[&str], &str); 9] = [
     ),
 ];
 
-#[test]
-fn a_session_goes_on(rt: HostRuntime) -> Result<(), Fail> {
+fn a_session_goes_on(rt: &impl Abort, alloc: Global) -> Result<(), Fail> {
     for (name, file, texts, wanted) in &GONE_ON {
-        let told = run_over(rt.alloc(), *file, *texts);
-        expect_told(&rt, told, *wanted, *name)?;
+        let told = run_over(alloc, *file, *texts);
+        expect_told(rt, told, *wanted, *name)?;
     }
     Ok(())
 }
@@ -168,8 +167,7 @@ fn lost_at(alloc: Global, lost_at: u32, cut: usize, again: &[&str]) -> Result<St
 
 // The connection is lost at each write in turn: CONNECT and DISCONNECT with a clean session, CONNECT, the PUBLISHes, the PUBRELs, DISCONNECT.
 // The texts that were published before are handed on once in all, and those that were not are published by the run after.
-#[test]
-fn each_text_is_handed_on_once(rt: HostRuntime) -> Result<(), Fail> {
+fn each_text_is_handed_on_once(rt: &impl Abort, alloc: Global) -> Result<(), Fail> {
     let rows: [(u32, &[&str], &str); 6] = [
         (
             1,
@@ -204,8 +202,8 @@ fn each_text_is_handed_on_once(rt: HostRuntime) -> Result<(), Fail> {
     ];
     for (number, again, wanted) in rows {
         for cut in [0, 5, 4096] {
-            let told = lost_at(rt.alloc(), number, cut, again);
-            expect_told(&rt, told, wanted, "a write is lost")?;
+            let told = lost_at(alloc, number, cut, again);
+            expect_told(rt, told, wanted, "a write is lost")?;
         }
     }
     Ok(())
@@ -236,8 +234,7 @@ fn unwritten(alloc: Global, renames: u32, again: &[&str]) -> Result<String, Fail
 
 // The disk takes no form, or one, and so on: that of CONNECT, of CONNACK, of the PUBLISHes, of the PUBRECs, of the PUBCOMPs. Nothing that a
 // change put out goes out where its form was not taken; so the run again hands each text on once.
-#[test]
-fn a_form_is_not_written(rt: HostRuntime) -> Result<(), Fail> {
+fn a_form_is_not_written(rt: &impl Abort, alloc: Global) -> Result<(), Fail> {
     let rows: [(u32, &[&str], &str); 5] = [
         (
             0,
@@ -266,8 +263,15 @@ fn a_form_is_not_written(rt: HostRuntime) -> Result<(), Fail> {
         ),
     ];
     for (renames, again, wanted) in rows {
-        let told = unwritten(rt.alloc(), renames, again);
-        expect_told(&rt, told, wanted, "a form is not written")?;
+        let told = unwritten(alloc, renames, again);
+        expect_told(rt, told, wanted, "a form is not written")?;
     }
     Ok(())
+}
+
+#[test]
+fn all_hold(rt: HostRuntime) -> Result<(), Fail> {
+    a_session_goes_on(&rt, rt.alloc())?;
+    each_text_is_handed_on_once(&rt, rt.alloc())?;
+    a_form_is_not_written(&rt, rt.alloc())
 }

@@ -147,11 +147,10 @@ fn expect_row_fault(
     Ok(())
 }
 
-#[test]
-fn fields_have_faults(rt: HostRuntime) -> Result<(), Fail> {
+fn fields_have_faults(rt: &impl Abort, alloc: Global) -> Result<(), Fail> {
     let greatest = limits(268_435_455)?;
     for (row, kind, place) in FIELD_FAULTS {
-        expect_row_fault(&rt, rt.alloc(), greatest, row, *kind, *place)?;
+        expect_row_fault(rt, alloc, greatest, row, *kind, *place)?;
     }
     Ok(())
 }
@@ -174,12 +173,11 @@ fn first_byte_fault(first: u8) -> Option<FaultKind> {
     }
 }
 
-#[test]
-fn first_bytes_have_faults(rt: HostRuntime) -> Result<(), Fail> {
+fn first_bytes_have_faults(rt: &impl Abort, alloc: Global) -> Result<(), Fail> {
     let greatest = limits(268_435_455)?;
     for first in 0u8..=255 {
         if let Some(kind) = first_byte_fault(first) {
-            expect_fault(&rt, rt.alloc(), greatest, &[first], kind, 0);
+            expect_fault(rt, alloc, greatest, &[first], kind, 0);
         }
     }
     Ok(())
@@ -213,34 +211,31 @@ fn expect_length_fault(
     Ok(())
 }
 
-#[test]
-fn lengths_have_faults(rt: HostRuntime) -> Result<(), Fail> {
+fn lengths_have_faults(rt: &impl Abort, alloc: Global) -> Result<(), Fail> {
     for first in FIRST_BYTES {
         for (length, kind, place) in &LENGTHS {
-            expect_length_fault(&rt, rt.alloc(), first, *length, *kind, *place)?;
+            expect_length_fault(rt, alloc, first, *length, *kind, *place)?;
         }
     }
     let limit = limits(268_435_454)?;
-    expect_row_fault(&rt, rt.alloc(), limit, "30 ffffff7f", OverLimit, 1)
+    expect_row_fault(rt, alloc, limit, "30 ffffff7f", OverLimit, 1)
 }
 
 // The types of a fixed size: one less, one more, the limit, two bytes of length.
-#[test]
-fn sizes_have_faults(rt: HostRuntime) -> Result<(), Fail> {
-    let alloc = rt.alloc();
+fn sizes_have_faults(rt: &impl Abort, alloc: Global) -> Result<(), Fail> {
     let greatest = limits(268_435_455)?;
     let least = limits(64)?;
     for first in [0x20, 0x40, 0x50, 0x62, 0x70, 0xb0] {
         for length in [0x00, 0x01, 0x03, 0x40] {
-            expect_fault(&rt, alloc, least, &[first, length], WrongSize, 1);
+            expect_fault(rt, alloc, least, &[first, length], WrongSize, 1);
         }
-        expect_fault(&rt, alloc, greatest, &[first, 0x80, 0x01], WrongSize, 1);
+        expect_fault(rt, alloc, greatest, &[first, 0x80, 0x01], WrongSize, 1);
     }
     for first in [0xc0, 0xd0, 0xe0] {
         for length in [0x01, 0x02, 0x40] {
-            expect_fault(&rt, alloc, least, &[first, length], WrongSize, 1);
+            expect_fault(rt, alloc, least, &[first, length], WrongSize, 1);
         }
-        expect_fault(&rt, alloc, greatest, &[first, 0x82, 0x01], WrongSize, 1);
+        expect_fault(rt, alloc, greatest, &[first, 0x82, 0x01], WrongSize, 1);
     }
     Ok(())
 }
@@ -262,13 +257,12 @@ fn expect_padded_fault(
 }
 
 // The bytes of the length count in the place of a field: two of them, and three.
-#[test]
-fn places_count_from_the_first_byte(rt: HostRuntime) -> Result<(), Fail> {
+fn places_count_from_the_first_byte(rt: &impl Abort, alloc: Global) -> Result<(), Fail> {
     for (row, size, kind, place) in [
         ("30 8001", 3 + 128, NotTopicName, 3),
         ("82 808001 0001 000161 00", 4 + 16_384, NotTopicFilter, 10),
     ] {
-        expect_padded_fault(&rt, rt.alloc(), row, size, kind, place)?;
+        expect_padded_fault(rt, alloc, row, size, kind, place)?;
     }
     Ok(())
 }
@@ -297,12 +291,11 @@ fn expect_flags(rt: &impl Abort, alloc: Global, limits: Limits, flags: u8) {
     expect_fault(rt, alloc, limits, &bytes, kind, place);
 }
 
-#[test]
-fn connect_has_forbidden_flags(rt: HostRuntime) -> Result<(), Fail> {
+fn connect_has_forbidden_flags(rt: &impl Abort, alloc: Global) -> Result<(), Fail> {
     let greatest = limits(268_435_455)?;
     let mut allowed = 0u32;
     for flags in 0u8..=255 {
-        expect_flags(&rt, rt.alloc(), greatest, flags);
+        expect_flags(rt, alloc, greatest, flags);
         allowed = allowed.wrapping_add(u32::from(are_allowed(flags)));
     }
     assert_eq!(rt; allowed, 42);
@@ -370,12 +363,10 @@ fn expect_packet(rt: &impl Abort, alloc: Global, bytes: &[u8], row: &str) -> Res
     Ok(())
 }
 
-#[test]
-fn packets_are_read_as_they_are_spelled(rt: HostRuntime) -> Result<(), Fail> {
-    let alloc = rt.alloc();
+fn packets_are_read_as_they_are_spelled(rt: &impl Abort, alloc: Global) -> Result<(), Fail> {
     for row in PACKETS {
         let bytes = bytes_of(alloc, row)?;
-        expect_packet(&rt, alloc, bytes.as_slice(), row)?;
+        expect_packet(rt, alloc, bytes.as_slice(), row)?;
     }
     Ok(())
 }
@@ -422,10 +413,9 @@ fn expect_stream(rt: &impl Abort, alloc: Global, stream: &[u8]) -> Result<(), Fa
     Ok(())
 }
 
-#[test]
-fn streams_are_read_in_pieces(rt: HostRuntime) -> Result<(), Fail> {
-    let stream = stream(rt.alloc())?;
-    expect_stream(&rt, rt.alloc(), stream.as_slice())
+fn streams_are_read_in_pieces(rt: &impl Abort, alloc: Global) -> Result<(), Fail> {
+    let stream = stream(alloc)?;
+    expect_stream(rt, alloc, stream.as_slice())
 }
 
 // The values that the fields stand for, as the packet's line has them.
@@ -467,16 +457,14 @@ fn line_of(alloc: Global, row: &str) -> Result<String, Fail> {
     }
 }
 
-#[test]
-fn fields_are_read(rt: HostRuntime) -> Result<(), Fail> {
+fn fields_are_read(rt: &impl Abort, alloc: Global) -> Result<(), Fail> {
     for (row, line) in &LINES {
-        expect_told(&rt, line_of(rt.alloc(), *row), *line, *row)?;
+        expect_told(rt, line_of(alloc, *row), *line, *row)?;
     }
     Ok(())
 }
 
-#[test]
-fn limits_are_from_64(rt: HostRuntime) -> Result<(), Fail> {
+fn limits_are_from_64(rt: &impl Abort) -> Result<(), Fail> {
     assert!(rt; Limits::new(63).is_none() && Limits::new(268_435_456).is_none());
     let least = limits(64)?;
     let greatest = limits(268_435_455)?;
@@ -532,8 +520,7 @@ fn expect_fed(
     Ok(())
 }
 
-#[test]
-fn a_fault_lasts_until_reset(rt: HostRuntime) -> Result<(), Fail> {
+fn a_fault_lasts_until_reset(rt: &impl Abort, alloc: Global) -> Result<(), Fail> {
     let rows = [
         // A PUBREL, and half a PINGREQ. Its length is wrong, and so it stays.
         ("62 02 0001 c0", "1 1"),
@@ -548,7 +535,7 @@ fn a_fault_lasts_until_reset(rt: HostRuntime) -> Result<(), Fail> {
         ("reset", "0"),
     ];
     for way in WAYS {
-        expect_rows_fed(&rt, way, rt.alloc(), &rows)?;
+        expect_rows_fed(rt, way, alloc, &rows)?;
     }
     Ok(())
 }
@@ -620,8 +607,7 @@ fn expect_copied(
     Ok(())
 }
 
-#[test]
-fn only_what_is_left_over_is_copied(rt: HostRuntime) -> Result<(), Fail> {
+fn only_what_is_left_over_is_copied(rt: &impl Abort, alloc: Global) -> Result<(), Fail> {
     let rows = [
         ("", "0 0 0"),
         ("c000 c000", "0 2 0"),
@@ -637,7 +623,7 @@ fn only_what_is_left_over_is_copied(rt: HostRuntime) -> Result<(), Fail> {
         ("01 62 02 0001", "0 8 4"),
     ];
     for way in WAYS {
-        expect_copied(&rt, way, rt.alloc(), &rows)?;
+        expect_copied(rt, way, alloc, &rows)?;
     }
     Ok(())
 }
@@ -668,8 +654,7 @@ fn expect_both(
     assert_eq!(rt; decoded, (Err(DecodeError::Fault(fault)), 0), "{row}");
 }
 
-#[test]
-fn what_follows_a_fault_does_not_matter(rt: HostRuntime) -> Result<(), Fail> {
+fn what_follows_a_fault_does_not_matter(rt: &impl Abort, alloc: Global) -> Result<(), Fail> {
     for (row, kind, place) in [
         ("60020001", WrongFlags, 0),
         ("f000", ForbiddenType, 0),
@@ -678,7 +663,7 @@ fn what_follows_a_fault_does_not_matter(rt: HostRuntime) -> Result<(), Fail> {
         ("c00100", WrongSize, 1),
         ("3080808080", LengthTooLong, 4),
     ] {
-        expect_front_fault(&rt, rt.alloc(), row, DecodeFault { kind, place })?;
+        expect_front_fault(rt, alloc, row, DecodeFault { kind, place })?;
     }
     Ok(())
 }
@@ -708,16 +693,14 @@ static DECODE_ERRORS: [(DecodeError, &str); 2] = [
     (DecodeError::Memory, "out of memory"),
 ];
 
-#[test]
-fn errors_of_the_decoder_display_as_sentences(rt: HostRuntime) -> Result<(), Fail> {
+fn errors_of_the_decoder_display_as_sentences(rt: &impl Abort, alloc: Global) -> Result<(), Fail> {
     for (error, wanted) in &DECODE_ERRORS {
-        expect_told(&rt, said(rt.alloc(), *error), wanted, "")?;
+        expect_told(rt, said(alloc, *error), wanted, "")?;
     }
     Ok(())
 }
 
-#[test]
-fn errors_of_a_reader_display_as_sentences(rt: HostRuntime) -> Result<(), Fail> {
+fn errors_of_a_reader_display_as_sentences(rt: &impl Abort, alloc: Global) -> Result<(), Fail> {
     let reset = io::Error::from(ErrorKind::ConnectionReset);
     for (error, wanted) in [
         (ReadError::Cut, "the input ends within a packet"),
@@ -728,15 +711,34 @@ fn errors_of_a_reader_display_as_sentences(rt: HostRuntime) -> Result<(), Fail> 
         ),
         (ReadError::Memory, "out of memory"),
     ] {
-        expect_told(&rt, said(rt.alloc(), error), wanted, "")?;
+        expect_told(rt, said(alloc, error), wanted, "")?;
+    }
+    Ok(())
+}
+
+fn faults_display_as_their_codes(rt: &impl Abort, alloc: Global) -> Result<(), Fail> {
+    for (kind, code) in CODES {
+        expect_told(rt, displayed(alloc, *kind), *code, *code)?;
     }
     Ok(())
 }
 
 #[test]
-fn faults_display_as_their_codes(rt: HostRuntime) -> Result<(), Fail> {
-    for (kind, code) in CODES {
-        expect_told(&rt, displayed(rt.alloc(), *kind), *code, *code)?;
-    }
-    Ok(())
+fn all_hold(rt: HostRuntime) -> Result<(), Fail> {
+    fields_have_faults(&rt, rt.alloc())?;
+    first_bytes_have_faults(&rt, rt.alloc())?;
+    lengths_have_faults(&rt, rt.alloc())?;
+    sizes_have_faults(&rt, rt.alloc())?;
+    places_count_from_the_first_byte(&rt, rt.alloc())?;
+    connect_has_forbidden_flags(&rt, rt.alloc())?;
+    packets_are_read_as_they_are_spelled(&rt, rt.alloc())?;
+    streams_are_read_in_pieces(&rt, rt.alloc())?;
+    fields_are_read(&rt, rt.alloc())?;
+    limits_are_from_64(&rt)?;
+    a_fault_lasts_until_reset(&rt, rt.alloc())?;
+    only_what_is_left_over_is_copied(&rt, rt.alloc())?;
+    what_follows_a_fault_does_not_matter(&rt, rt.alloc())?;
+    errors_of_the_decoder_display_as_sentences(&rt, rt.alloc())?;
+    errors_of_a_reader_display_as_sentences(&rt, rt.alloc())?;
+    faults_display_as_their_codes(&rt, rt.alloc())
 }

@@ -68,8 +68,7 @@ fn expect(
     }
 }
 
-#[test]
-fn lenient_limits_take_a_last_byte_of_0(rt: HostRuntime) -> Result<(), Fail> {
+fn lenient_limits_take_a_last_byte_of_0(rt: &impl Abort, alloc: Global) -> Result<(), Fail> {
     let strict = Limits::new(64).ok_or("no limits")?;
     let lenient = Limits::lenient(64).ok_or("no limits")?;
     for (bytes, without, with) in [
@@ -84,8 +83,8 @@ fn lenient_limits_take_a_last_byte_of_0(rt: HostRuntime) -> Result<(), Fail> {
             Err((LengthTooLong, 4)),
         ),
     ] {
-        expect(&rt, rt.alloc(), strict, bytes, without);
-        expect(&rt, rt.alloc(), lenient, bytes, with);
+        expect(rt, alloc, strict, bytes, without);
+        expect(rt, alloc, lenient, bytes, with);
     }
     Ok(())
 }
@@ -98,8 +97,7 @@ fn size_read(alloc: Global, reader: &mut &[u8], limits: Limits) -> Option<usize>
     }
 }
 
-#[test]
-fn bytes_are_counted_as_they_are_read(rt: HostRuntime) -> Result<(), Fail> {
+fn bytes_are_counted_as_they_are_read(rt: &impl Abort, alloc: Global) -> Result<(), Fail> {
     let strict = Limits::new(64).ok_or("no limits")?;
     let lenient = Limits::lenient(64).ok_or("no limits")?;
     let bytes = b"\x62\x82\x00\x00\x01\xc0\x00".as_slice();
@@ -107,14 +105,21 @@ fn bytes_are_counted_as_they_are_read(rt: HostRuntime) -> Result<(), Fail> {
     assert_eq!(rt; packet_len(strict, bytes), None);
     assert_eq!(rt; packet_len(strict, b"\x30\x05"), Some(7));
     let mut reader = bytes;
-    assert_eq!(rt; size_read(rt.alloc(), &mut reader, lenient), Some(5));
-    assert_eq!(rt; size_read(rt.alloc(), &mut reader, lenient), Some(2));
+    assert_eq!(rt; size_read(alloc, &mut reader, lenient), Some(5));
+    assert_eq!(rt; size_read(alloc, &mut reader, lenient), Some(2));
     assert!(rt; reader.is_empty());
     Ok(())
 }
 
-#[test]
-fn lenient_limits_are_from_64(rt: HostRuntime) {
+fn lenient_limits_are_from_64(rt: &impl Abort) {
     assert_eq!(rt; Limits::lenient(63), None);
     assert_eq!(rt; Limits::lenient(268_435_456), None);
+}
+
+#[test]
+fn all_hold(rt: HostRuntime) -> Result<(), Fail> {
+    lenient_limits_take_a_last_byte_of_0(&rt, rt.alloc())?;
+    bytes_are_counted_as_they_are_read(&rt, rt.alloc())?;
+    lenient_limits_are_from_64(&rt);
+    Ok(())
 }

@@ -1,6 +1,7 @@
 //! Lengths with more bytes than they need.
 
 use mq_wire::{LengthReading, VarFault, VarStep, VarlenReader, loose_length_at};
+use std::process::Abort;
 
 // What the bytes come to at a lenient reader, one after the other.
 fn pushed(bytes: &[u8]) -> VarStep {
@@ -14,8 +15,7 @@ fn pushed(bytes: &[u8]) -> VarStep {
     VarStep::More
 }
 
-#[test]
-fn a_lenient_reader_takes_a_last_byte_of_0(rt: HostRuntime) {
+fn a_lenient_reader_takes_a_last_byte_of_0(rt: &impl Abort) {
     for (bytes, n) in [
         (b"\x00".as_slice(), 0),
         (b"\x80\x00".as_slice(), 0),
@@ -30,10 +30,15 @@ fn a_lenient_reader_takes_a_last_byte_of_0(rt: HostRuntime) {
     }
 }
 
-#[test]
-fn a_lenient_reader_takes_no_fifth_byte(rt: HostRuntime) {
+fn a_lenient_reader_takes_no_fifth_byte(rt: &impl Abort) {
     let bytes = b"\x80\x80\x80\x80\x00".as_slice();
     assert_eq!(rt; loose_length_at(bytes), LengthReading::TooLong);
     assert_eq!(rt; pushed(bytes), VarStep::Bad(VarFault::TooLong));
     assert_eq!(rt; loose_length_at(b"\x80\x80"), LengthReading::Unfinished);
+}
+
+#[test]
+fn all_hold(rt: HostRuntime) {
+    a_lenient_reader_takes_a_last_byte_of_0(&rt);
+    a_lenient_reader_takes_no_fifth_byte(&rt);
 }

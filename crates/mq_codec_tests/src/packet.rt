@@ -131,14 +131,12 @@ fn least_connect(alloc: Global) -> Result<Packet, Fail> {
     Ok(Packet::Connect(BoxedConnect::new(alloc, connect)?))
 }
 
-#[test]
-fn connect_is_spelled(rt: HostRuntime) -> Result<(), Fail> {
-    let alloc = rt.alloc();
+fn connect_is_spelled(rt: &impl Abort, alloc: Global) -> Result<(), Fail> {
     let whole =
         b"\x10\x1a\x00\x04MQTT\x04\xee\x00\x0a\x00\x01a\x00\x01w\x00\x02\x00\xff\x00\x01u\x00\x01p";
-    expect_spelled(&rt, alloc, whole_connect(alloc), whole)?;
+    expect_spelled(rt, alloc, whole_connect(alloc), whole)?;
     let least = b"\x10\x0d\x00\x04MQTT\x04\x02\x00\x3c\x00\x01a";
-    expect_spelled(&rt, alloc, least_connect(alloc), least)
+    expect_spelled(rt, alloc, least_connect(alloc), least)
 }
 
 // A PUBLISH of quality of service 2, which may have come before.
@@ -155,13 +153,11 @@ fn repeated_packet(alloc: Global) -> Result<Packet, Fail> {
     Ok(Packet::Publish(repeated_publish(alloc)?))
 }
 
-#[test]
-fn publish_is_spelled(rt: HostRuntime) -> Result<(), Fail> {
-    let alloc = rt.alloc();
+fn publish_is_spelled(rt: &impl Abort, alloc: Global) -> Result<(), Fail> {
     let once = publish(alloc, "a/b", Bytes::from_static(b"hi"));
-    expect_spelled(&rt, alloc, once, b"\x30\x07\x00\x03a/bhi")?;
+    expect_spelled(rt, alloc, once, b"\x30\x07\x00\x03a/bhi")?;
     let bytes = b"\x3c\x09\x00\x03a/b\x00\x01hi";
-    expect_spelled(&rt, alloc, repeated_packet(alloc), bytes)
+    expect_spelled(rt, alloc, repeated_packet(alloc), bytes)
 }
 
 // Whether a message that stays where it is adds these bytes to a byte, as a PUBLISH of quality of service 0.
@@ -187,10 +183,9 @@ fn repeated_in_place(alloc: Global, bytes: &[u8]) -> Result<bool, Fail> {
     Ok(are_behind_a_byte(out.as_slice(), bytes))
 }
 
-#[test]
-fn a_message_that_stays_is_spelled(rt: HostRuntime) -> Result<(), Fail> {
-    assert!(rt; once_in_place(rt.alloc(), b"\x30\x07\x00\x03a/bhi")?);
-    assert!(rt; repeated_in_place(rt.alloc(), b"\x3c\x09\x00\x03a/b\x00\x01hi")?);
+fn a_message_that_stays_is_spelled(rt: &impl Abort, alloc: Global) -> Result<(), Fail> {
+    assert!(rt; once_in_place(alloc, b"\x30\x07\x00\x03a/bhi")?);
+    assert!(rt; repeated_in_place(alloc, b"\x3c\x09\x00\x03a/b\x00\x01hi")?);
     Ok(())
 }
 
@@ -216,9 +211,8 @@ fn has_its_parts(alloc: Global) -> Result<bool, Fail> {
     Ok(shows_its_parts(&publish) && gives_its_message(&publish)?)
 }
 
-#[test]
-fn publish_shows_its_parts(rt: HostRuntime) -> Result<(), Fail> {
-    assert!(rt; has_its_parts(rt.alloc())?);
+fn publish_shows_its_parts(rt: &impl Abort, alloc: Global) -> Result<(), Fail> {
+    assert!(rt; has_its_parts(alloc)?);
     Ok(())
 }
 
@@ -251,65 +245,44 @@ fn unsubscribe(alloc: Global) -> Result<Packet, Fail> {
     Ok(Packet::Unsubscribe { id, filters })
 }
 
-#[test]
-fn lists_are_spelled(rt: HostRuntime) -> Result<(), Fail> {
-    let alloc = rt.alloc();
+fn lists_are_spelled(rt: &impl Abort, alloc: Global) -> Result<(), Fail> {
     let bytes = b"\x82\x0e\x00\x01\x00\x03a/+\x01\x00\x03a/#\x02";
-    expect_spelled(&rt, alloc, subscribe(alloc), bytes)?;
-    expect_spelled(&rt, alloc, sub_ack(alloc), b"\x90\x04\x00\x01\x01\x80")?;
+    expect_spelled(rt, alloc, subscribe(alloc), bytes)?;
+    expect_spelled(rt, alloc, sub_ack(alloc), b"\x90\x04\x00\x01\x01\x80")?;
     let bytes = b"\xa2\x05\x00\x01\x00\x01a";
-    expect_spelled(&rt, alloc, unsubscribe(alloc), bytes)
+    expect_spelled(rt, alloc, unsubscribe(alloc), bytes)
 }
 
-#[test]
-fn connack_is_spelled(rt: HostRuntime) -> Result<(), Fail> {
+fn connack_is_spelled(rt: &impl Abort, alloc: Global) -> Result<(), Fail> {
     let accepted = ConnAck::Accepted {
         session_present: true,
     };
     let refused = ConnAck::Refused(RefusalCode::NotAuthorized);
     expect_spelled(
-        &rt,
-        rt.alloc(),
+        rt,
+        alloc,
         Ok(Packet::ConnAck(accepted)),
         b"\x20\x02\x01\x00",
     )?;
-    expect_spelled(
-        &rt,
-        rt.alloc(),
-        Ok(Packet::ConnAck(refused)),
-        b"\x20\x02\x00\x05",
-    )
+    expect_spelled(rt, alloc, Ok(Packet::ConnAck(refused)), b"\x20\x02\x00\x05")
 }
 
-#[test]
-fn identifiers_are_spelled(rt: HostRuntime) -> Result<(), Fail> {
+fn identifiers_are_spelled(rt: &impl Abort, alloc: Global) -> Result<(), Fail> {
     let id = id(1)?;
-    expect_spelled(&rt, rt.alloc(), Ok(Packet::PubAck(id)), b"\x40\x02\x00\x01")?;
-    expect_spelled(&rt, rt.alloc(), Ok(Packet::PubRec(id)), b"\x50\x02\x00\x01")?;
-    expect_spelled(&rt, rt.alloc(), Ok(Packet::PubRel(id)), b"\x62\x02\x00\x01")?;
-    expect_spelled(
-        &rt,
-        rt.alloc(),
-        Ok(Packet::PubComp(id)),
-        b"\x70\x02\x00\x01",
-    )?;
-    expect_spelled(
-        &rt,
-        rt.alloc(),
-        Ok(Packet::UnsubAck(id)),
-        b"\xb0\x02\x00\x01",
-    )
+    expect_spelled(rt, alloc, Ok(Packet::PubAck(id)), b"\x40\x02\x00\x01")?;
+    expect_spelled(rt, alloc, Ok(Packet::PubRec(id)), b"\x50\x02\x00\x01")?;
+    expect_spelled(rt, alloc, Ok(Packet::PubRel(id)), b"\x62\x02\x00\x01")?;
+    expect_spelled(rt, alloc, Ok(Packet::PubComp(id)), b"\x70\x02\x00\x01")?;
+    expect_spelled(rt, alloc, Ok(Packet::UnsubAck(id)), b"\xb0\x02\x00\x01")
 }
 
-#[test]
-fn packets_of_two_bytes_are_spelled(rt: HostRuntime) -> Result<(), Fail> {
-    expect_spelled(&rt, rt.alloc(), Ok(Packet::PingReq), b"\xc0\x00")?;
-    expect_spelled(&rt, rt.alloc(), Ok(Packet::PingResp), b"\xd0\x00")?;
-    expect_spelled(&rt, rt.alloc(), Ok(Packet::Disconnect), b"\xe0\x00")
+fn packets_of_two_bytes_are_spelled(rt: &impl Abort, alloc: Global) -> Result<(), Fail> {
+    expect_spelled(rt, alloc, Ok(Packet::PingReq), b"\xc0\x00")?;
+    expect_spelled(rt, alloc, Ok(Packet::PingResp), b"\xd0\x00")?;
+    expect_spelled(rt, alloc, Ok(Packet::Disconnect), b"\xe0\x00")
 }
 
-#[test]
-fn codes_of_refusals_are_those_of_the_standard(rt: HostRuntime) {
+fn codes_of_refusals_are_those_of_the_standard(rt: &impl Abort) {
     for (number, code) in [
         (0, None),
         (1, Some(RefusalCode::UnacceptableProtocolVersion)),
@@ -326,8 +299,7 @@ fn codes_of_refusals_are_those_of_the_standard(rt: HostRuntime) {
     }
 }
 
-#[test]
-fn codes_of_suback_are_those_of_the_standard(rt: HostRuntime) {
+fn codes_of_suback_are_those_of_the_standard(rt: &impl Abort) {
     for (number, code) in [
         (0, Some(SubAckCode::Granted(Qos::Q0))),
         (1, Some(SubAckCode::Granted(Qos::Q1))),
@@ -344,11 +316,10 @@ fn codes_of_suback_are_those_of_the_standard(rt: HostRuntime) {
     }
 }
 
-#[test]
-fn bounds_are_those_of_the_standard(rt: HostRuntime) -> Result<(), Fail> {
+fn bounds_are_those_of_the_standard(rt: &impl Abort, alloc: Global) -> Result<(), Fail> {
     assert_eq!(rt; PacketId::new(0), None);
     assert_eq!(rt; id(65_535)?.get(), 65_535);
-    let (one_more, longest) = binary_sizes(rt.alloc())?;
+    let (one_more, longest) = binary_sizes(alloc)?;
     assert_eq!(rt; (one_more, longest), (None, Some(65_535)));
     Ok(())
 }
@@ -410,8 +381,9 @@ fn greatest_in_short(alloc: Global) -> Result<String, Fail> {
 // A remaining length of 268,435,455, and one byte more (2.2.3).
 #[test]
 fn a_remaining_length_has_28_bits(rt: HostRuntime) -> Result<(), Fail> {
+    let (rt, alloc) = (&rt, rt.alloc());
     let wanted = "[Some(268435460), None] true false";
-    expect_told(&rt, greatest_in_short(rt.alloc()), wanted, "")
+    expect_told(rt, greatest_in_short(alloc), wanted, "")
 }
 
 // Takes so many bytes, at most three at a time and each time after a signal, and then fails.
@@ -470,14 +442,29 @@ fn written(alloc: Global, room: usize, bytes: &[u8]) -> Result<Option<ErrorKind>
     Ok(error)
 }
 
-#[test]
-fn a_writer_that_fails_has_a_beginning(rt: HostRuntime) -> Result<(), Fail> {
+fn a_writer_that_fails_has_a_beginning(rt: &impl Abort, alloc: Global) -> Result<(), Fail> {
     let bytes = b"\x30\x07\x00\x03a/bhi".as_slice();
     for room in 0..bytes.len() {
-        let error = written(rt.alloc(), room, &bytes[..room])?;
+        let error = written(alloc, room, &bytes[..room])?;
         assert!(rt; error == Some(ErrorKind::BrokenPipe), "{room}");
     }
-    let error = written(rt.alloc(), bytes.len(), bytes)?;
+    let error = written(alloc, bytes.len(), bytes)?;
     assert!(rt; error.is_none());
     Ok(())
+}
+
+#[test]
+fn all_hold(rt: HostRuntime) -> Result<(), Fail> {
+    connect_is_spelled(&rt, rt.alloc())?;
+    publish_is_spelled(&rt, rt.alloc())?;
+    a_message_that_stays_is_spelled(&rt, rt.alloc())?;
+    publish_shows_its_parts(&rt, rt.alloc())?;
+    lists_are_spelled(&rt, rt.alloc())?;
+    connack_is_spelled(&rt, rt.alloc())?;
+    identifiers_are_spelled(&rt, rt.alloc())?;
+    packets_of_two_bytes_are_spelled(&rt, rt.alloc())?;
+    codes_of_refusals_are_those_of_the_standard(&rt);
+    codes_of_suback_are_those_of_the_standard(&rt);
+    bounds_are_those_of_the_standard(&rt, rt.alloc())?;
+    a_writer_that_fails_has_a_beginning(&rt, rt.alloc())
 }

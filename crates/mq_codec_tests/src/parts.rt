@@ -6,6 +6,7 @@ use mq_packet::{Binary, BoxedConnect, Connect, Message, Payload, Will};
 use mq_topic::{Qos, TopicName};
 use mq_wire::Text;
 use std::alloc::Global;
+use std::process::Abort;
 use std::test::Fail;
 
 fn will(alloc: Global) -> Result<Will, Fail> {
@@ -33,9 +34,8 @@ fn is_a_message(alloc: Global) -> Result<bool, Fail> {
     Ok(is_of_will(&will, &message))
 }
 
-#[test]
-fn a_will_is_a_message(rt: HostRuntime) -> Result<(), Fail> {
-    assert!(rt; is_a_message(rt.alloc())?);
+fn a_will_is_a_message(rt: &impl Abort, alloc: Global) -> Result<(), Fail> {
+    assert!(rt; is_a_message(alloc)?);
     Ok(())
 }
 
@@ -61,8 +61,7 @@ fn payload_is(bytes: &'static [u8]) -> Option<bool> {
     }
 }
 
-#[test]
-fn shared_bytes_are_given_back(rt: HostRuntime) {
+fn shared_bytes_are_given_back(rt: &impl Abort) {
     assert_eq!(rt; binary_is(b"ab"), Some(true));
     assert_eq!(rt; payload_is(b"cd"), Some(true));
 }
@@ -100,13 +99,14 @@ fn unboxed_in_short(alloc: Global) -> Result<String, Fail> {
     connect_in_short(alloc, &connect)
 }
 
+fn a_connect_comes_out_of_its_box(rt: &impl Abort, alloc: Global) -> Result<(), Fail> {
+    expect_told(rt, lent_in_short(alloc), "a false 7 true false", "")?;
+    expect_told(rt, unboxed_in_short(alloc), "a false 7 true false", "")
+}
+
 #[test]
-fn a_connect_comes_out_of_its_box(rt: HostRuntime) -> Result<(), Fail> {
-    expect_told(&rt, lent_in_short(rt.alloc()), "a false 7 true false", "")?;
-    expect_told(
-        &rt,
-        unboxed_in_short(rt.alloc()),
-        "a false 7 true false",
-        "",
-    )
+fn all_hold(rt: HostRuntime) -> Result<(), Fail> {
+    a_will_is_a_message(&rt, rt.alloc())?;
+    shared_bytes_are_given_back(&rt);
+    a_connect_comes_out_of_its_box(&rt, rt.alloc())
 }

@@ -50,10 +50,9 @@ static NAMES: [(&str, &str); 13] = [
     ("a#b", "Wildcard"),
 ];
 
-#[test]
-fn names_are_taken_or_refused(rt: HostRuntime) -> Result<(), Fail> {
+fn names_are_taken_or_refused(rt: &impl Abort, alloc: Global) -> Result<(), Fail> {
     for (text, told) in &NAMES {
-        expect_told(&rt, name_in_short(rt.alloc(), *text), *told, *text)?;
+        expect_told(rt, name_in_short(alloc, *text), *told, *text)?;
     }
     Ok(())
 }
@@ -100,16 +99,14 @@ static FILTERS: [(&str, &str); 24] = [
     ("##", "Hash"),
 ];
 
-#[test]
-fn filters_are_taken_or_refused(rt: HostRuntime) -> Result<(), Fail> {
+fn filters_are_taken_or_refused(rt: &impl Abort, alloc: Global) -> Result<(), Fail> {
     for (text, told) in &FILTERS {
-        expect_told(&rt, filter_in_short(rt.alloc(), *text), *told, *text)?;
+        expect_told(rt, filter_in_short(alloc, *text), *told, *text)?;
     }
     Ok(())
 }
 
-#[test]
-fn texts_are_tested_without_memory(rt: HostRuntime) {
+fn texts_are_tested_without_memory(rt: &impl Abort) {
     assert!(rt; is_topic_name("a/b") && is_topic_name("a\0b"));
     assert!(rt; !is_topic_name("") && !is_topic_name("a/+") && !is_topic_name("#"));
     assert!(rt; is_topic_filter("a/+/#") && is_topic_filter("a\0"));
@@ -124,14 +121,13 @@ fn faults_of_long(alloc: Global, last: &str) -> Result<[Option<TopicFault>; 2], 
     Ok([name, filter_fault(alloc, text.as_str())])
 }
 
-#[test]
-fn names_and_filters_have_at_most_65535_bytes(rt: HostRuntime) -> Result<(), Fail> {
+fn names_and_filters_have_at_most_65535_bytes(rt: &impl Abort, alloc: Global) -> Result<(), Fail> {
     for (last, fault) in [
         ("", None),
         ("+", Some(TopicFault::TooLong)),
         ("+\0", Some(TopicFault::Nul)),
     ] {
-        let faults = faults_of_long(rt.alloc(), last)?;
+        let faults = faults_of_long(alloc, last)?;
         assert_eq!(rt; faults, [fault, fault], "{last}");
     }
     Ok(())
@@ -148,9 +144,8 @@ fn name_and_filter(alloc: Global) -> Result<String, Fail> {
     Ok(format!(in alloc; "{} {}", name.as_str(), filter.as_str())?)
 }
 
-#[test]
-fn texts_that_pass_become_names_and_filters(rt: HostRuntime) -> Result<(), Fail> {
-    expect_told(&rt, name_and_filter(rt.alloc()), "a/b a/b", "")
+fn texts_that_pass_become_names_and_filters(rt: &impl Abort, alloc: Global) -> Result<(), Fail> {
+    expect_told(rt, name_and_filter(alloc), "a/b a/b", "")
 }
 
 // The code of a fault, and what it displays.
@@ -170,16 +165,14 @@ static FAULTS: [(TopicFault, &str); 7] = [
     (TopicFault::Memory, "N7 out of memory"),
 ];
 
-#[test]
-fn faults_have_codes_and_display_as_sentences(rt: HostRuntime) -> Result<(), Fail> {
+fn faults_have_codes_and_display_as_sentences(rt: &impl Abort, alloc: Global) -> Result<(), Fail> {
     for (fault, wanted) in &FAULTS {
-        expect_told(&rt, fault_in_short(rt.alloc(), *fault), wanted, "")?;
+        expect_told(rt, fault_in_short(alloc, *fault), wanted, "")?;
     }
     Ok(())
 }
 
-#[test]
-fn qualities_of_service_have_numbers(rt: HostRuntime) {
+fn qualities_of_service_have_numbers(rt: &impl Abort) {
     assert_eq!(rt; Qos::from_number(1), Some(Qos::Q1));
     assert_eq!(rt; Qos::from_number(3), None);
     assert_eq!(rt; Qos::Q2.number(), 2);
@@ -194,8 +187,7 @@ fn is_match(alloc: Global, filter: &str, name: &str) -> Result<bool, Fail> {
     Ok(matches(&filter, &name))
 }
 
-#[test]
-fn filters_match_names(rt: HostRuntime) -> Result<(), Fail> {
+fn filters_match_names(rt: &impl Abort, alloc: Global) -> Result<(), Fail> {
     for (filter, name, wanted) in [
         ("sport/#", "sport", true),
         ("sport/+", "sport", false),
@@ -206,22 +198,21 @@ fn filters_match_names(rt: HostRuntime) -> Result<(), Fail> {
         ("$SYS/#", "$SYS/x", true),
         ("a/+", "a/$x", true),
     ] {
-        let is_match = is_match(rt.alloc(), filter, name)?;
+        let is_match = is_match(alloc, filter, name)?;
         assert_eq!(rt; is_match, wanted, "{filter} {name}");
     }
     Ok(())
 }
 
-#[test]
-fn filters_have_faults(rt: HostRuntime) {
+fn filters_have_faults(rt: &impl Abort, alloc: Global) {
     for (filter, fault) in [
         ("a+", TopicFault::Plus),
         ("a/#/b", TopicFault::Hash),
         ("", TopicFault::Empty),
     ] {
-        assert_eq!(rt; filter_fault(rt.alloc(), filter), Some(fault), "{filter}");
+        assert_eq!(rt; filter_fault(alloc, filter), Some(fault), "{filter}");
     }
-    assert_eq!(rt; name_fault(rt.alloc(), "a/+"), Some(TopicFault::Wildcard));
+    assert_eq!(rt; name_fault(alloc, "a/+"), Some(TopicFault::Wildcard));
 }
 
 // What a name finds in any store.
@@ -348,32 +339,28 @@ fn sets_and_takes<S: FilterStore>(
     find(rt, alloc, store, &[("a/b", "1 Q0;3 Q0;")])
 }
 
-#[test]
-fn names_find_clients_in_a_list(rt: HostRuntime) -> Result<(), Fail> {
-    let mut store = ListStore::new(rt.alloc());
-    set_rows(rt.alloc(), &mut store)?;
-    finds_clients(&rt, rt.alloc(), &mut store)
+fn names_find_clients_in_a_list(rt: &impl Abort, alloc: Global) -> Result<(), Fail> {
+    let mut store = ListStore::new(alloc);
+    set_rows(alloc, &mut store)?;
+    finds_clients(rt, alloc, &mut store)
 }
 
-#[test]
-fn names_find_clients_in_a_trie(rt: HostRuntime) -> Result<(), Fail> {
-    let mut store = TrieStore::new(rt.alloc());
-    set_rows(rt.alloc(), &mut store)?;
-    finds_clients(&rt, rt.alloc(), &mut store)
+fn names_find_clients_in_a_trie(rt: &impl Abort, alloc: Global) -> Result<(), Fail> {
+    let mut store = TrieStore::new(alloc);
+    set_rows(alloc, &mut store)?;
+    finds_clients(rt, alloc, &mut store)
 }
 
-#[test]
-fn rows_are_set_and_taken_away_in_a_list(rt: HostRuntime) -> Result<(), Fail> {
-    let mut store = ListStore::new(rt.alloc());
-    set_rows(rt.alloc(), &mut store)?;
-    sets_and_takes(&rt, rt.alloc(), &mut store)
+fn rows_are_set_and_taken_away_in_a_list(rt: &impl Abort, alloc: Global) -> Result<(), Fail> {
+    let mut store = ListStore::new(alloc);
+    set_rows(alloc, &mut store)?;
+    sets_and_takes(rt, alloc, &mut store)
 }
 
-#[test]
-fn rows_are_set_and_taken_away_in_a_trie(rt: HostRuntime) -> Result<(), Fail> {
-    let mut store = TrieStore::new(rt.alloc());
-    set_rows(rt.alloc(), &mut store)?;
-    sets_and_takes(&rt, rt.alloc(), &mut store)
+fn rows_are_set_and_taken_away_in_a_trie(rt: &impl Abort, alloc: Global) -> Result<(), Fail> {
+    let mut store = TrieStore::new(alloc);
+    set_rows(alloc, &mut store)?;
+    sets_and_takes(rt, alloc, &mut store)
 }
 
 // How many nodes a trie has before its rows are set, then, and after its clients' rows are taken away.
@@ -396,9 +383,8 @@ fn nodes_of_rows(alloc: Global) -> Result<[usize; 3], Fail> {
     node_counts(alloc, &mut store)
 }
 
-#[test]
-fn a_trie_has_the_nodes_of_its_rows(rt: HostRuntime) -> Result<(), Fail> {
-    let [before, with_rows, after] = nodes_of_rows(rt.alloc())?;
+fn a_trie_has_the_nodes_of_its_rows(rt: &impl Abort, alloc: Global) -> Result<(), Fail> {
+    let [before, with_rows, after] = nodes_of_rows(alloc)?;
     assert!(rt;
         before == 1 && with_rows <= 10 && after == 1,
         "{before} {with_rows} {after}"
@@ -427,7 +413,25 @@ fn levels_of_longest(alloc: Global) -> Result<String, Fail> {
     levels_in_short(alloc, &mut store, longest.as_str())
 }
 
+fn a_filter_has_65536_levels(rt: &impl Abort, alloc: Global) -> Result<(), Fail> {
+    expect_told(rt, levels_of_longest(alloc), "65537 true true 1", "")
+}
+
 #[test]
-fn a_filter_has_65536_levels(rt: HostRuntime) -> Result<(), Fail> {
-    expect_told(&rt, levels_of_longest(rt.alloc()), "65537 true true 1", "")
+fn all_hold(rt: HostRuntime) -> Result<(), Fail> {
+    names_are_taken_or_refused(&rt, rt.alloc())?;
+    filters_are_taken_or_refused(&rt, rt.alloc())?;
+    texts_are_tested_without_memory(&rt);
+    names_and_filters_have_at_most_65535_bytes(&rt, rt.alloc())?;
+    texts_that_pass_become_names_and_filters(&rt, rt.alloc())?;
+    faults_have_codes_and_display_as_sentences(&rt, rt.alloc())?;
+    qualities_of_service_have_numbers(&rt);
+    filters_match_names(&rt, rt.alloc())?;
+    filters_have_faults(&rt, rt.alloc());
+    names_find_clients_in_a_list(&rt, rt.alloc())?;
+    names_find_clients_in_a_trie(&rt, rt.alloc())?;
+    rows_are_set_and_taken_away_in_a_list(&rt, rt.alloc())?;
+    rows_are_set_and_taken_away_in_a_trie(&rt, rt.alloc())?;
+    a_trie_has_the_nodes_of_its_rows(&rt, rt.alloc())?;
+    a_filter_has_65536_levels(&rt, rt.alloc())
 }

@@ -149,18 +149,22 @@ fn walk(
 // A value that may go to another thread, and from there to others.
 fn crosses<T: Send>(_value: &T) {}
 
-#[test]
-fn a_trie_crosses_threads(rt: HostRuntime) {
-    let trie = TrieStore::new(rt.alloc());
+fn a_trie_crosses_threads(alloc: Global) {
+    let trie = TrieStore::new(alloc);
     crosses(&trie);
 }
 
-#[test]
-fn a_trie_answers_as_a_list(rt: HostRuntime) -> Result<(), Fail> {
-    let mut list = ListStore::new(rt.alloc());
-    let mut trie = TrieStore::new(rt.alloc());
-    walk(&rt, rt.alloc(), &mut list, &mut trie, 4_000)?;
+fn a_trie_answers_as_a_list(rt: &impl Abort, alloc: Global) -> Result<(), Fail> {
+    let mut list = ListStore::new(alloc);
+    let mut trie = TrieStore::new(alloc);
+    walk(rt, alloc, &mut list, &mut trie, 4_000)?;
     remove_clients(&mut trie);
     assert_eq!(rt; trie.nodes(), 1);
     Ok(())
+}
+
+#[test]
+fn all_hold(rt: HostRuntime) -> Result<(), Fail> {
+    a_trie_crosses_threads(rt.alloc());
+    a_trie_answers_as_a_list(&rt, rt.alloc())
 }

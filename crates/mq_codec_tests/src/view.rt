@@ -181,10 +181,9 @@ static LENT: [(&str, &str); 12] = [
     ("b0 02 0001", "1"),
 ];
 
-#[test]
-fn views_lend_the_fields(rt: HostRuntime) -> Result<(), Fail> {
+fn views_lend_the_fields(rt: &impl Abort, alloc: Global) -> Result<(), Fail> {
     for (row, line) in &LENT {
-        expect_told(&rt, lent_in(rt.alloc(), *row), *line, *row)?;
+        expect_told(rt, lent_in(alloc, *row), *line, *row)?;
     }
     Ok(())
 }
@@ -209,10 +208,9 @@ static MESSAGES: [(&str, &str); 3] = [
     ("32 05 000174 0102", "t [] Q1 false"),
 ];
 
-#[test]
-fn messages_are_owned(rt: HostRuntime) -> Result<(), Fail> {
+fn messages_are_owned(rt: &impl Abort, alloc: Global) -> Result<(), Fail> {
     for (row, line) in &MESSAGES {
-        expect_told(&rt, message_in(rt.alloc(), *row), *line, *row)?;
+        expect_told(rt, message_in(alloc, *row), *line, *row)?;
     }
     Ok(())
 }
@@ -252,13 +250,14 @@ fn owned_in(alloc: Global, bytes: &[u8]) -> Result<String, Fail> {
     Ok(format!(in alloc; "{items} {count}")?)
 }
 
-#[test]
-fn items_are_owned(rt: HostRuntime) -> Result<(), Fail> {
+fn items_are_owned(rt: &impl Abort, alloc: Global) -> Result<(), Fail> {
     let bytes = b"\x82\x0e\x00\x01\x00\x03a/+\x01\x00\x03a/#\x02";
-    expect_told(
-        &rt,
-        owned_in(rt.alloc(), bytes),
-        "a/+ 1 a/+;a/# 2 a/#; 2",
-        "",
-    )
+    expect_told(rt, owned_in(alloc, bytes), "a/+ 1 a/+;a/# 2 a/#; 2", "")
+}
+
+#[test]
+fn all_hold(rt: HostRuntime) -> Result<(), Fail> {
+    views_lend_the_fields(&rt, rt.alloc())?;
+    messages_are_owned(&rt, rt.alloc())?;
+    items_are_owned(&rt, rt.alloc())
 }

@@ -4,6 +4,7 @@ use mq_wire::{
     text_at, varlen_len,
 };
 use std::alloc::Global;
+use std::process::Abort;
 use std::test::Fail;
 
 // What the bytes come to, one after the other, and how many are taken.
@@ -32,8 +33,7 @@ fn is_written_as(n: u32, bytes: &[u8]) -> bool {
 }
 
 // The first and the last number of each size, as the table of 2.2.3 has them, and the first one of none.
-#[test]
-fn lengths_take_one_to_four_bytes(rt: HostRuntime) {
+fn lengths_take_one_to_four_bytes(rt: &impl Abort) {
     for (n, bytes) in [
         (0, b"\x00".as_slice()),
         (127, b"\x7f".as_slice()),
@@ -58,8 +58,7 @@ fn read_again(n: u32) -> Option<(VarStep, usize, LengthReading)> {
     Some((step, taken, length_at(written)))
 }
 
-#[test]
-fn lengths_are_read_as_they_are_written(rt: HostRuntime) {
+fn lengths_are_read_as_they_are_written(rt: &impl Abort) {
     for (n, size) in [
         (0, 1),
         (127, 1),
@@ -81,8 +80,7 @@ fn length_in_short(alloc: Global, bytes: &[u8]) -> Result<String, Fail> {
     Ok(format!(in alloc; "{step:?} {taken} {:?}", length_at(bytes))?)
 }
 
-#[test]
-fn lengths_that_are_none_are_told_apart(rt: HostRuntime) -> Result<(), Fail> {
+fn lengths_that_are_none_are_told_apart(rt: &impl Abort, alloc: Global) -> Result<(), Fail> {
     for (bytes, told) in [
         (b"".as_slice(), "More 0 Unfinished"),
         (b"\x80".as_slice(), "More 1 Unfinished"),
@@ -97,7 +95,7 @@ fn lengths_that_are_none_are_told_apart(rt: HostRuntime) -> Result<(), Fail> {
         ),
         (b"\xc1\x02\x00".as_slice(), "Done(321) 2 Whole(321, 2)"),
     ] {
-        expect_read(&rt, length_in_short(rt.alloc(), bytes), told, bytes)?;
+        expect_read(rt, length_in_short(alloc, bytes), told, bytes)?;
     }
     Ok(())
 }
@@ -111,14 +109,8 @@ fn numbers_in_short(alloc: Global) -> Result<String, Fail> {
     Ok(format!(in alloc; "{out:?} {second:x}")?)
 }
 
-#[test]
-fn numbers_have_the_high_byte_first(rt: HostRuntime) -> Result<(), Fail> {
-    expect_told(
-        &rt,
-        numbers_in_short(rt.alloc()),
-        "[0, 10, 18, 52] 1234",
-        "",
-    )
+fn numbers_have_the_high_byte_first(rt: &impl Abort, alloc: Global) -> Result<(), Fail> {
+    expect_told(rt, numbers_in_short(alloc), "[0, 10, 18, 52] 1234", "")
 }
 
 // The text that stands at a place and the place after it, or its fault.
@@ -132,8 +124,7 @@ fn read_at(alloc: Global, bytes: &[u8], at: usize) -> Result<String, Fail> {
     }
 }
 
-#[test]
-fn texts_are_read_where_they_stand(rt: HostRuntime) -> Result<(), Fail> {
+fn texts_are_read_where_they_stand(rt: &impl Abort, alloc: Global) -> Result<(), Fail> {
     for (bytes, at, read) in [
         (b"\x00\x01a".as_slice(), 0, "a 3"),
         (b"\x00\x00".as_slice(), 0, " 2"),
@@ -149,7 +140,7 @@ fn texts_are_read_where_they_stand(rt: HostRuntime) -> Result<(), Fail> {
         (b"\x00\x02\x00\xff".as_slice(), 0, "NotUtf8"),
         (b"\x00\x02a\x00".as_slice(), 0, "Nul"),
     ] {
-        expect_read(&rt, read_at(rt.alloc(), bytes, at), read, bytes)?;
+        expect_read(rt, read_at(alloc, bytes, at), read, bytes)?;
     }
     Ok(())
 }
@@ -169,14 +160,13 @@ fn shown(alloc: Global, text: &str) -> Result<String, Fail> {
     }
 }
 
-#[test]
-fn texts_have_no_nul(rt: HostRuntime) -> Result<(), Fail> {
+fn texts_have_no_nul(rt: &impl Abort, alloc: Global) -> Result<(), Fail> {
     for (text, told) in [
         ("", ""),
         ("h\u{e9}\u{feff}", "h\u{e9}\u{feff}"),
         ("a\0", "Nul"),
     ] {
-        expect_told(&rt, shown(rt.alloc(), text), told, text)?;
+        expect_told(rt, shown(alloc, text), told, text)?;
     }
     Ok(())
 }
@@ -192,17 +182,24 @@ fn is_shown(alloc: Global, letters: usize, last: &str) -> Result<bool, Fail> {
     Ok(shown.as_str() == text.as_str())
 }
 
-#[test]
-fn texts_have_at_most_65535_bytes(rt: HostRuntime) -> Result<(), Fail> {
+fn texts_have_at_most_65535_bytes(rt: &impl Abort, alloc: Global) -> Result<(), Fail> {
     for (letters, last, is_text) in [
         (65_535, "", true),
         (65_535, "\0", false),
         (65_536, "", false),
     ] {
-        assert!(rt;
-            is_shown(rt.alloc(), letters, last)? == is_text,
-            "{letters}"
-        );
+        assert!(rt; is_shown(alloc, letters, last)? == is_text, "{letters}");
     }
     Ok(())
+}
+
+#[test]
+fn all_hold(rt: HostRuntime) -> Result<(), Fail> {
+    lengths_take_one_to_four_bytes(&rt);
+    lengths_are_read_as_they_are_written(&rt);
+    lengths_that_are_none_are_told_apart(&rt, rt.alloc())?;
+    numbers_have_the_high_byte_first(&rt, rt.alloc())?;
+    texts_are_read_where_they_stand(&rt, rt.alloc())?;
+    texts_have_no_nul(&rt, rt.alloc())?;
+    texts_have_at_most_65535_bytes(&rt, rt.alloc())
 }

@@ -10,6 +10,7 @@ use mq_topic::{ClientKey, FilterStore, Qos, TopicFilter, TopicName, TrieStore};
 use mq_wire::Text;
 use std::alloc::Global;
 use std::io::Write;
+use std::process::Abort;
 use std::test::Fail;
 
 // What comes of a piece that is fed.
@@ -31,15 +32,9 @@ fn fed(alloc: Global, piece: &[u8]) -> Result<String, Fail> {
     }
 }
 
-#[test]
-fn a_piece_is_fed(rt: HostRuntime) -> Result<(), Fail> {
-    expect_told(&rt, fed(rt.alloc(), b"\xc0\x00\xc0"), "1 whole, 1 held", "")?;
-    expect_told(
-        &rt,
-        fed(rt.alloc(), b"\xc0\x00\xf0"),
-        "F1 at 0, 1 whole",
-        "",
-    )
+fn a_piece_is_fed(rt: &impl Abort, alloc: Global) -> Result<(), Fail> {
+    expect_told(rt, fed(alloc, b"\xc0\x00\xc0"), "1 whole, 1 held", "")?;
+    expect_told(rt, fed(alloc, b"\xc0\x00\xf0"), "F1 at 0, 1 whole", "")
 }
 
 // A client's filter is set.
@@ -65,9 +60,8 @@ fn found(alloc: Global) -> Result<usize, Fail> {
     count_found(alloc, &store)
 }
 
-#[test]
-fn a_client_is_found(rt: HostRuntime) -> Result<(), Fail> {
-    assert_eq!(rt; found(rt.alloc())?, 1);
+fn a_client_is_found(rt: &impl Abort, alloc: Global) -> Result<(), Fail> {
+    assert_eq!(rt; found(alloc)?, 1);
     Ok(())
 }
 
@@ -94,10 +88,9 @@ fn spelled_twice(alloc: Global) -> Result<String, Fail> {
     Ok(format!(in alloc; "{:?}", out.as_slice())?)
 }
 
-#[test]
-fn a_packet_is_read_and_written(rt: HostRuntime) -> Result<(), Fail> {
+fn a_packet_is_read_and_written(rt: &impl Abort, alloc: Global) -> Result<(), Fail> {
     let wanted = "[98, 2, 0, 1, 98, 2, 0, 1]";
-    expect_told(&rt, spelled_twice(rt.alloc()), wanted, "")
+    expect_told(rt, spelled_twice(alloc), wanted, "")
 }
 
 // What a view of bytes is.
@@ -113,16 +106,10 @@ fn viewed(alloc: Global, bytes: &[u8]) -> Result<String, Fail> {
     }
 }
 
-#[test]
-fn bytes_are_viewed(rt: HostRuntime) -> Result<(), Fail> {
-    expect_told(
-        &rt,
-        viewed(rt.alloc(), b"\xc0\x00\xff"),
-        "PINGREQ true, 2",
-        "",
-    )?;
-    expect_told(&rt, viewed(rt.alloc(), b"\xc0"), "more", "")?;
-    expect_told(&rt, viewed(rt.alloc(), b"\xf0"), "F1", "")
+fn bytes_are_viewed(rt: &impl Abort, alloc: Global) -> Result<(), Fail> {
+    expect_told(rt, viewed(alloc, b"\xc0\x00\xff"), "PINGREQ true, 2", "")?;
+    expect_told(rt, viewed(alloc, b"\xc0"), "more", "")?;
+    expect_told(rt, viewed(alloc, b"\xf0"), "F1", "")
 }
 
 // What the user of a client `w` says of it: a limit of 64 and room for two messages.
@@ -203,9 +190,8 @@ fn conversation(alloc: Global) -> Result<String, Fail> {
     conversation_of(alloc, &mut client)
 }
 
-#[test]
-fn a_client_converses(rt: HostRuntime) -> Result<(), Fail> {
-    expect_told(&rt, conversation(rt.alloc()), "1 31", "")
+fn a_client_converses(rt: &impl Abort, alloc: Global) -> Result<(), Fail> {
+    expect_told(rt, conversation(alloc), "1 31", "")
 }
 
 // The saved form of a new session is put behind the bytes.
@@ -228,7 +214,16 @@ fn saved(alloc: Global) -> Result<String, Fail> {
     Ok(format!(in alloc; "{} {capacity}", bytes.len())?)
 }
 
+fn a_session_is_saved_and_loaded(rt: &impl Abort, alloc: Global) -> Result<(), Fail> {
+    expect_told(rt, saved(alloc), "14 4", "")
+}
+
 #[test]
-fn a_session_is_saved_and_loaded(rt: HostRuntime) -> Result<(), Fail> {
-    expect_told(&rt, saved(rt.alloc()), "14 4", "")
+fn all_hold(rt: HostRuntime) -> Result<(), Fail> {
+    a_piece_is_fed(&rt, rt.alloc())?;
+    a_client_is_found(&rt, rt.alloc())?;
+    a_packet_is_read_and_written(&rt, rt.alloc())?;
+    bytes_are_viewed(&rt, rt.alloc())?;
+    a_client_converses(&rt, rt.alloc())?;
+    a_session_is_saved_and_loaded(&rt, rt.alloc())
 }

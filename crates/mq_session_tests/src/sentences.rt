@@ -7,6 +7,7 @@ use mq_flow::LoadError;
 use mq_packet::RefusalCode;
 use std::alloc::Global;
 use std::fmt::Display;
+use std::process::Abort;
 use std::test::Fail;
 
 // What an error displays as.
@@ -31,11 +32,10 @@ static REFUSALS: [(PublishRefusal, &str, &str); 5] = [
     (PublishRefusal::Memory, "P5", "out of memory"),
 ];
 
-#[test]
-fn refusals_display_as_sentences(rt: HostRuntime) -> Result<(), Fail> {
+fn refusals_display_as_sentences(rt: &impl Abort, alloc: Global) -> Result<(), Fail> {
     for (refusal, code, wanted) in &REFUSALS {
-        expect_text(&rt, refusal.code(), *code, "");
-        expect_told(&rt, said(rt.alloc(), *refusal), wanted, "")?;
+        expect_text(rt, refusal.code(), *code, "");
+        expect_told(rt, said(alloc, *refusal), wanted, "")?;
     }
     Ok(())
 }
@@ -82,11 +82,10 @@ static REASONS: [(CloseReason, &str, &str); 8] = [
     ),
 ];
 
-#[test]
-fn reasons_to_close_display_as_sentences(rt: HostRuntime) -> Result<(), Fail> {
+fn reasons_to_close_display_as_sentences(rt: &impl Abort, alloc: Global) -> Result<(), Fail> {
     for (reason, code, wanted) in &REASONS {
-        expect_text(&rt, reason.code(), *code, "");
-        expect_told(&rt, said(rt.alloc(), *reason), wanted, "")?;
+        expect_text(rt, reason.code(), *code, "");
+        expect_told(rt, said(alloc, *reason), wanted, "")?;
     }
     Ok(())
 }
@@ -112,10 +111,9 @@ static LOAD_ERRORS: [(LoadError, &str); 5] = [
     ),
 ];
 
-#[test]
-fn errors_of_loading_display_as_sentences(rt: HostRuntime) -> Result<(), Fail> {
+fn errors_of_loading_display_as_sentences(rt: &impl Abort, alloc: Global) -> Result<(), Fail> {
     for (error, wanted) in &LOAD_ERRORS {
-        expect_told(&rt, said(rt.alloc(), *error), wanted, "")?;
+        expect_told(rt, said(alloc, *error), wanted, "")?;
     }
     Ok(())
 }
@@ -128,7 +126,14 @@ fn copied_items(alloc: Global) -> Result<String, Fail> {
     Ok(format!(in alloc; "{lent} {:?}", copy.into_vec())?)
 }
 
+fn items_are_copied(rt: &impl Abort, alloc: Global) -> Result<(), Fail> {
+    expect_told(rt, copied_items(alloc), "2 [1, 2]", "")
+}
+
 #[test]
-fn items_are_copied(rt: HostRuntime) -> Result<(), Fail> {
-    expect_told(&rt, copied_items(rt.alloc()), "2 [1, 2]", "")
+fn all_hold(rt: HostRuntime) -> Result<(), Fail> {
+    refusals_display_as_sentences(&rt, rt.alloc())?;
+    reasons_to_close_display_as_sentences(&rt, rt.alloc())?;
+    errors_of_loading_display_as_sentences(&rt, rt.alloc())?;
+    items_are_copied(&rt, rt.alloc())
 }

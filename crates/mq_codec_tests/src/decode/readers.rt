@@ -97,12 +97,11 @@ fn expect_packets(rt: &impl Abort, alloc: Global, reader: &mut Slow<'_>) -> Resu
     Ok(())
 }
 
-#[test]
-fn reads_each_packet_and_no_more(rt: HostRuntime) -> Result<(), Fail> {
-    let all = stream(rt.alloc())?;
+fn reads_each_packet_and_no_more(rt: &impl Abort, alloc: Global) -> Result<(), Fail> {
+    let all = stream(alloc)?;
     for at_once in [1, 2, 3, 7, 1000] {
         let mut reader = Slow::new(all.as_slice(), at_once, 10_000);
-        expect_packets(&rt, rt.alloc(), &mut reader)?;
+        expect_packets(rt, alloc, &mut reader)?;
     }
     Ok(())
 }
@@ -140,11 +139,10 @@ fn large_publish(alloc: Global) -> Result<Vec<u8>, Fail> {
     Ok(bytes)
 }
 
-#[test]
-fn a_large_payload_is_read(rt: HostRuntime) -> Result<(), Fail> {
-    let bytes = large_publish(rt.alloc())?;
+fn a_large_payload_is_read(rt: &impl Abort, alloc: Global) -> Result<(), Fail> {
+    let bytes = large_publish(alloc)?;
     for at_once in [1000, 4095, 4096, 4097, 100_000] {
-        let read = sevens_read(rt.alloc(), bytes.as_slice(), at_once)?;
+        let read = sevens_read(alloc, bytes.as_slice(), at_once)?;
         assert!(rt; read == (Some(20_000), 1), "{at_once}");
     }
     Ok(())
@@ -167,10 +165,9 @@ fn expect_cuts(rt: &impl Abort, alloc: Global, row: &str) -> Result<(), Fail> {
     Ok(())
 }
 
-#[test]
-fn a_reader_may_end_within_a_packet(rt: HostRuntime) -> Result<(), Fail> {
+fn a_reader_may_end_within_a_packet(rt: &impl Abort, alloc: Global) -> Result<(), Fail> {
     for row in PACKETS {
-        expect_cuts(&rt, rt.alloc(), row)?;
+        expect_cuts(rt, alloc, row)?;
     }
     Ok(())
 }
@@ -185,15 +182,14 @@ fn fault_read(alloc: Global, row: &str) -> Result<DecodeFault, Fail> {
     }
 }
 
-#[test]
-fn a_reader_may_have_no_packet(rt: HostRuntime) -> Result<(), Fail> {
+fn a_reader_may_have_no_packet(rt: &impl Abort, alloc: Global) -> Result<(), Fail> {
     for (row, kind, place) in [
         ("f0 00", FaultKind::ForbiddenType, 0),
         ("c0 80 00", FaultKind::LengthOverlong, 2),
         ("30 41", FaultKind::OverLimit, 1),
         ("82 02 0001", FaultKind::EmptyList, 4),
     ] {
-        let fault = fault_read(rt.alloc(), row)?;
+        let fault = fault_read(alloc, row)?;
         assert!(rt; fault == DecodeFault { kind, place }, "{row}");
     }
     Ok(())
@@ -248,14 +244,22 @@ fn expect_failures(rt: &impl Abort, alloc: Global, all: &[u8]) -> Result<Option<
     Ok(whole)
 }
 
-#[test]
-fn a_reader_may_fail_at_any_call(rt: HostRuntime) -> Result<(), Fail> {
-    let all = bytes_of(rt.alloc(), "c000 30070003612f626869 62020001")?;
-    let whole = expect_failures(&rt, rt.alloc(), all.as_slice())?;
-    expect_two(&rt, whole);
+fn a_reader_may_fail_at_any_call(rt: &impl Abort, alloc: Global) -> Result<(), Fail> {
+    let all = bytes_of(alloc, "c000 30070003612f626869 62020001")?;
+    let whole = expect_failures(rt, alloc, all.as_slice())?;
+    expect_two(rt, whole);
     Ok(())
 }
 
 fn expect_two(rt: &impl Abort, count: Option<usize>) {
     assert_eq!(rt; count, Some(2));
+}
+
+#[test]
+fn all_hold(rt: HostRuntime) -> Result<(), Fail> {
+    reads_each_packet_and_no_more(&rt, rt.alloc())?;
+    a_large_payload_is_read(&rt, rt.alloc())?;
+    a_reader_may_end_within_a_packet(&rt, rt.alloc())?;
+    a_reader_may_have_no_packet(&rt, rt.alloc())?;
+    a_reader_may_fail_at_any_call(&rt, rt.alloc())
 }
