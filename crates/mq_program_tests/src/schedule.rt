@@ -1,8 +1,11 @@
+//! Schedules: which texts are one, and how one is written.
+
 use crate::compare::expect_told;
 use mq_packet::Message;
 use mq_schedule::{Schedule, ScheduleFault, Step, read_schedule, write_schedule};
 use mq_world::{Event, Side};
 use std::alloc::{AllocError, Global};
+use std::process::Abort;
 use std::test::Fail;
 
 // Texts, and the number of the first line that is of no kind; 0 where each is of one.
@@ -136,9 +139,7 @@ fn bad_line(alloc: Global, text: &str) -> Option<usize> {
     }
 }
 
-#[test]
-fn names_the_first_bad_line(rt: HostRuntime) {
-    let alloc = rt.alloc();
+fn names_the_first_bad_line(rt: &impl Abort, alloc: Global) {
     for (text, line) in TEXTS {
         assert_eq!(rt; bad_line(alloc, text), Some(line), "{text}");
     }
@@ -150,18 +151,14 @@ fn bad_step(alloc: Global, step: &str) -> Result<Option<usize>, AllocError> {
     Ok(bad_line(alloc, text.as_str()))
 }
 
-#[test]
-fn reads_steps(rt: HostRuntime) -> Result<(), Fail> {
-    let alloc = rt.alloc();
+fn reads_steps(rt: &impl Abort, alloc: Global) -> Result<(), Fail> {
     for step in &GOOD {
         assert_eq!(rt; bad_step(alloc, step)?, Some(0), "{step}");
     }
     Ok(())
 }
 
-#[test]
-fn refuses_what_is_no_step(rt: HostRuntime) -> Result<(), Fail> {
-    let alloc = rt.alloc();
+fn refuses_what_is_no_step(rt: &impl Abort, alloc: Global) -> Result<(), Fail> {
     for step in &BAD {
         assert_eq!(rt; bad_step(alloc, step)?, Some(2), "{step}");
     }
@@ -221,15 +218,13 @@ fn read_and_shown(alloc: Global, text: &str) -> Result<String, Fail> {
     }
 }
 
-#[test]
-fn reads_what_is_written(rt: HostRuntime) -> Result<(), Fail> {
-    let alloc = rt.alloc();
+fn reads_what_is_written(rt: &impl Abort, alloc: Global) -> Result<(), Fail> {
     let text = "world 65536 4\npub c 2 t 78\npubr s 0 a/%25%20b -\npub s 1 %c3%a9 00ff\nto s 7\n\
                 to c all\ndrop c\nrestart\nleave\ntick s 090000\nopen\nsettle";
     let want = "65536 4\npublish Client \"t\" [120] 2 false\npublish Server \"a/% b\" [] 0 true\n\
                 publish Server \"é\" [0, 255] 1 false\ndeliver Server 7\n\
                 deliver Client 18446744073709551615\ndrop Client\nrestart\nleave\ntick Server 90000\nopen\nsettle\n";
-    expect_told(&rt, read_and_shown(alloc, text), want, "")
+    expect_told(rt, read_and_shown(alloc, text), want, "")
 }
 
 // Schedules, and how they are written.
@@ -269,12 +264,10 @@ fn rewritten(alloc: Global, text: &str) -> Result<String, Fail> {
     }
 }
 
-#[test]
-fn writes_schedules(rt: HostRuntime) -> Result<(), Fail> {
-    let alloc = rt.alloc();
+fn writes_schedules(rt: &impl Abort, alloc: Global) -> Result<(), Fail> {
     for (text, written) in WRITTEN {
-        expect_told(&rt, rewritten(alloc, text), written, text)?;
-        expect_told(&rt, rewritten(alloc, written), written, written)?;
+        expect_told(rt, rewritten(alloc, text), written, text)?;
+        expect_told(rt, rewritten(alloc, written), written, written)?;
     }
     Ok(())
 }
@@ -284,14 +277,19 @@ fn said(alloc: Global, fault: ScheduleFault) -> Result<String, Fail> {
     Ok(format!(in alloc; "{fault}")?)
 }
 
+fn says_what_is_wrong(rt: &impl Abort, alloc: Global) -> Result<(), Fail> {
+    let line = said(alloc, ScheduleFault::Line(12));
+    expect_told(rt, line, "line 12: not an event", "")?;
+    expect_told(rt, said(alloc, ScheduleFault::Memory), "out of memory", "")
+}
+
 #[test]
-fn says_what_is_wrong(rt: HostRuntime) -> Result<(), Fail> {
-    let line = said(rt.alloc(), ScheduleFault::Line(12));
-    expect_told(&rt, line, "line 12: not an event", "")?;
-    expect_told(
-        &rt,
-        said(rt.alloc(), ScheduleFault::Memory),
-        "out of memory",
-        "",
-    )
+fn schedules(rt: HostRuntime) -> Result<(), Fail> {
+    let (rt, alloc) = (&rt, rt.alloc());
+    names_the_first_bad_line(rt, alloc);
+    reads_steps(rt, alloc)?;
+    refuses_what_is_no_step(rt, alloc)?;
+    reads_what_is_written(rt, alloc)?;
+    writes_schedules(rt, alloc)?;
+    says_what_is_wrong(rt, alloc)
 }

@@ -1,3 +1,5 @@
+//! Worlds: what their events, and questions to them, tell.
+
 mod ask;
 mod brief;
 mod clocks;
@@ -7,7 +9,6 @@ mod making;
 mod publish;
 mod restart;
 mod run;
-mod window;
 
 use crate::compare::expect_told;
 use crate::world::ask::Ask;
@@ -106,27 +107,50 @@ fn told(alloc: Global, world: &mut World, act: Act) -> Result<String, Fail> {
     })
 }
 
-// These acts, one after another, tell this.
+// These acts, one after another, tell this; where one doesn't, the name of the row is told.
 fn expect(
     rt: &impl Abort,
     alloc: Global,
+    name: &str,
     world: &mut World,
-    rows: &[(Act, &str)],
+    acts: &[(Act, &str)],
 ) -> Result<(), Fail> {
-    for (act, wanted) in rows {
-        expect_told(rt, told(alloc, world, *act), *wanted, "")?;
+    for (act, wanted) in acts {
+        expect_told(rt, told(alloc, world, *act), *wanted, name)?;
     }
     Ok(())
 }
 
-// The same of a new world with packets up to this length, and so much room at each side.
-fn expect_of_new(
-    rt: &impl Abort,
-    alloc: Global,
+// A new world with packets up to this length, and so much room at each side, and what acts on it tell, one after another.
+struct Row {
+    name: &'static str,
     max_packet: u32,
     capacity: u16,
-    rows: &[(Act, &str)],
-) -> Result<(), Fail> {
-    let mut world = new_world(alloc, max_packet, capacity)?;
-    expect(rt, alloc, &mut world, rows)
+    acts: &'static [(Act, &'static str)],
+}
+
+// The same of the new world of a row.
+fn expect_of_row(rt: &impl Abort, alloc: Global, row: &Row) -> Result<(), Fail> {
+    let mut world = new_world(alloc, row.max_packet, row.capacity)?;
+    expect(rt, alloc, row.name, &mut world, row.acts)
+}
+
+// The same of each row.
+fn expect_of_new(rt: &impl Abort, alloc: Global, rows: &[Row]) -> Result<(), Fail> {
+    for row in rows {
+        expect_of_row(rt, alloc, row)?;
+    }
+    Ok(())
+}
+
+#[test]
+fn worlds_tell(rt: HostRuntime) -> Result<(), Fail> {
+    let (rt, alloc) = (&rt, rt.alloc());
+    expect_of_new(rt, alloc, &loss::ROWS)?;
+    expect_of_new(rt, alloc, &clocks::ROWS)?;
+    expect_of_new(rt, alloc, &leaving::ROWS)?;
+    expect_of_new(rt, alloc, &publish::ROWS)?;
+    expect_of_new(rt, alloc, &restart::ROWS)?;
+    run::expect_of_runs(rt, alloc)?;
+    making::expect_made_up(rt, alloc)
 }

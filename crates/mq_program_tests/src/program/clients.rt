@@ -1,10 +1,9 @@
 //! The words of the commands that open sockets.
 
-use super::error_of;
-use clap::error::ErrorKind;
-use mq_cli::{Collect, Command, Publish, Serve, Source, WordsFault, command};
+use mq_cli::{Collect, Command, Publish, Serve, Source, command};
 use mq_topic::Qos;
-use std::alloc::{AllocError, Global};
+use std::alloc::Global;
+use std::process::Abort;
 use std::test::Fail;
 
 static SERVED: [(&[&str], Serve); 3] = [
@@ -42,9 +41,7 @@ fn serves(alloc: Global, words: &[&str], wanted: &Serve) -> bool {
     }
 }
 
-#[test]
-fn reads_words_for_a_broker(rt: HostRuntime) -> Result<(), Fail> {
-    let alloc = rt.alloc();
+fn reads_words_for_a_broker(rt: &impl Abort, alloc: Global) -> Result<(), Fail> {
     for (behind, wanted) in &SERVED {
         let mut words = vec![in alloc; "mqtt", "serve"]?;
         words.extend_from_slice(behind)?;
@@ -141,9 +138,7 @@ fn publishes(alloc: Global, words: &[&str], wanted: &Published<'_>) -> bool {
     }
 }
 
-#[test]
-fn reads_words_for_a_publisher(rt: HostRuntime) -> Result<(), Fail> {
-    let alloc = rt.alloc();
+fn reads_words_for_a_publisher(rt: &impl Abort, alloc: Global) -> Result<(), Fail> {
     for wanted in &PUBLISHED {
         let mut words = vec![in alloc; "mqtt", "publish", "--port=1"]?;
         words.extend_from_slice(wanted.0)?;
@@ -202,9 +197,7 @@ fn collects(alloc: Global, words: &[&str], wanted: &Collect<'_>) -> bool {
     }
 }
 
-#[test]
-fn reads_words_for_a_collector(rt: HostRuntime) -> Result<(), Fail> {
-    let alloc = rt.alloc();
+fn reads_words_for_a_collector(rt: &impl Abort, alloc: Global) -> Result<(), Fail> {
     for (behind, wanted) in &COLLECTED {
         let mut words = vec![in alloc; "mqtt", "collect"]?;
         words.extend_from_slice(behind)?;
@@ -221,213 +214,11 @@ fn loops(alloc: Global, word: &str, wanted: Source<'_>) -> bool {
     }
 }
 
-#[test]
-fn reads_words_for_a_loopback_file(rt: HostRuntime) -> Result<(), Fail> {
-    let alloc = rt.alloc();
+pub(super) fn reads_words(rt: &impl Abort, alloc: Global) -> Result<(), Fail> {
+    reads_words_for_a_broker(rt, alloc)?;
+    reads_words_for_a_publisher(rt, alloc)?;
+    reads_words_for_a_collector(rt, alloc)?;
     assert!(rt; loops(alloc, "clients.txt", Source::File("clients.txt")));
     assert!(rt; loops(alloc, "-", Source::Standard));
-    Ok(())
-}
-
-// Words behind those that make a command, and the kind of what is wrong with it then.
-static REFUSED: [(&str, &[&str], ErrorKind); 22] = [
-    ("loopback", &[], ErrorKind::MissingRequiredArgument),
-    ("loopback", &["a", "b"], ErrorKind::UnknownArgument),
-    (
-        "serve",
-        &["--port=1", "--connections=1"],
-        ErrorKind::MissingRequiredArgument,
-    ),
-    (
-        "serve",
-        &["--port=1", "--workers=1"],
-        ErrorKind::MissingRequiredArgument,
-    ),
-    (
-        "serve",
-        &["--connections=1", "--workers=1"],
-        ErrorKind::MissingRequiredArgument,
-    ),
-    (
-        "serve",
-        &["--port=65536", "--connections=1", "--workers=1"],
-        ErrorKind::ValueValidation,
-    ),
-    (
-        "serve",
-        &["--port=1", "--connections=4294967296", "--workers=1"],
-        ErrorKind::ValueValidation,
-    ),
-    (
-        "serve",
-        &["--port=1", "--connections=1", "--workers=0"],
-        ErrorKind::ValueValidation,
-    ),
-    (
-        "serve",
-        &["--port=1", "--connections=1", "--workers=65"],
-        ErrorKind::ValueValidation,
-    ),
-    (
-        "serve",
-        &["--port=1", "--connections=1", "--workers=1", "x"],
-        ErrorKind::UnknownArgument,
-    ),
-    (
-        "publish",
-        &["--id=p", "--topic=t", "--qos=1", "x"],
-        ErrorKind::MissingRequiredArgument,
-    ),
-    (
-        "publish",
-        &["--port=1", "--topic=t", "--qos=1", "x"],
-        ErrorKind::MissingRequiredArgument,
-    ),
-    (
-        "publish",
-        &["--port=1", "--id=p", "--qos=1", "x"],
-        ErrorKind::MissingRequiredArgument,
-    ),
-    (
-        "publish",
-        &["--port=1", "--id=p", "--topic=t", "x"],
-        ErrorKind::MissingRequiredArgument,
-    ),
-    (
-        "publish",
-        &["--port=1", "--id=p", "--topic=t", "--qos=1"],
-        ErrorKind::MissingRequiredArgument,
-    ),
-    (
-        "publish",
-        &["--port=1", "--id=p", "--topic=t", "--qos=3", "x"],
-        ErrorKind::ValueValidation,
-    ),
-    (
-        "publish",
-        &["--port=1", "--id=p", "--id=q", "--topic=t", "--qos=1", "x"],
-        ErrorKind::ArgumentConflict,
-    ),
-    (
-        "collect",
-        &["--port=1", "--id=c", "--filter=f", "--qos=1"],
-        ErrorKind::MissingRequiredArgument,
-    ),
-    (
-        "collect",
-        &["--port=1", "--id=c", "--qos=1", "--count=1"],
-        ErrorKind::MissingRequiredArgument,
-    ),
-    (
-        "collect",
-        &["--port=1", "--id=c", "--filter=f", "--qos=-1", "--count=1"],
-        ErrorKind::ValueValidation,
-    ),
-    (
-        "collect",
-        &["--port=1", "--id=c", "--filter=f", "--qos=1", "--count=x"],
-        ErrorKind::ValueValidation,
-    ),
-    (
-        "collect",
-        &[
-            "--port=1",
-            "--id=c",
-            "--filter=f",
-            "--qos=1",
-            "--count=1",
-            "--retain",
-        ],
-        ErrorKind::UnknownArgument,
-    ),
-];
-
-#[test]
-fn refuses_words_of_sockets(rt: HostRuntime) -> Result<(), Fail> {
-    let alloc = rt.alloc();
-    for (name, behind, kind) in &REFUSED {
-        let mut words = vec![in alloc; "mqtt", *name]?;
-        words.extend_from_slice(behind)?;
-        assert_eq!(rt;
-            error_of(alloc, words.as_slice()),
-            Some(*kind),
-            "{name} {behind:?}"
-        );
-    }
-    Ok(())
-}
-
-// What is wrong with words of `publish` that give this client identifier.
-fn error_of_publish(alloc: Global, id: &str) -> Option<ErrorKind> {
-    let start = [
-        "mqtt",
-        "publish",
-        "--port=1",
-        "--topic=t",
-        "--qos=1",
-        "x",
-        "--id",
-        id,
-    ];
-    error_of(alloc, &start)
-}
-
-// What is wrong with words of `collect` that give it.
-fn error_of_collect(alloc: Global, id: &str) -> Option<ErrorKind> {
-    let start = [
-        "mqtt",
-        "collect",
-        "--port=1",
-        "--filter=f",
-        "--qos=1",
-        "--count=1",
-        "--id",
-        id,
-    ];
-    error_of(alloc, &start)
-}
-
-// What is wrong with words of both that give one of so many bytes.
-fn errors_of_long_id(alloc: Global, size: usize) -> Result<[Option<ErrorKind>; 2], AllocError> {
-    let id = "a".repeat(alloc, size)?;
-    let id = id.as_str();
-    Ok([error_of_publish(alloc, id), error_of_collect(alloc, id)])
-}
-
-// A client identifier has 65,535 bytes at most (1.5.3).
-#[test]
-fn refuses_a_long_id(rt: HostRuntime) -> Result<(), Fail> {
-    let alloc = rt.alloc();
-    let refused = Some(ErrorKind::ValueValidation);
-    assert_eq!(rt; errors_of_long_id(alloc, 65_535)?, [None, None]);
-    assert_eq!(rt; errors_of_long_id(alloc, 65_536)?, [refused, refused]);
-    Ok(())
-}
-
-// The help of each command ends with an example.
-#[test]
-fn shows_examples(rt: HostRuntime) -> Result<(), Fail> {
-    let alloc = rt.alloc();
-    for (name, example) in [
-        (
-            "serve",
-            "\nExample: mqtt serve --port 1883 --connections 3 --workers 1\n",
-        ),
-        (
-            "publish",
-            "\nExample: mqtt publish --port 1883 --id p --topic a/b --qos 2 hi yo\n",
-        ),
-        (
-            "collect",
-            "\nExample: mqtt collect --port 1883 --id c --filter 'a/#' --qos 2 --count 2\n",
-        ),
-    ] {
-        let words = ["mqtt", name, "--help"];
-        let Err(WordsFault::Words(error)) = command(alloc, &words) else {
-            return Err("no help".into());
-        };
-        let text = format!(in alloc; "{error}")?;
-        assert!(rt; text.ends_with(example), "{text}");
-    }
     Ok(())
 }
