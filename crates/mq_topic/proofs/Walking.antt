@@ -120,7 +120,30 @@ pub record IsWalked (t : Tree) (All : ℕ → Qos → Type 0) (first found : Ent
   pub sound : (c : ℕ) (q : Qos) → qos_of c found ≡ Some q → (qos_of c first ≡ Some q) ⊎ All c q
   pub left : (c : ℕ) (q : Qos) → Among (λ at. Finds t at name c q) nodes → All c q
 
+-- nothing is found yet of what is below the nodes
+pub walk_starts : (t : Tree) (first : Entries) (nodes : List (Option NodeId)) (name : List (List ℕ)) → IsWalked t (λ c q. Among (λ at. Finds t at name c q) nodes) first first nodes name
+walk_starts t first nodes name = record {
+  kept = λ c q h. h;
+  finds = λ c q h. inr h;
+  sound = λ c q e. inl e;
+  left = λ c q h. h;
+}
+
 module _ (t : Tree) (All : ℕ → Qos → Type 0) (first found later : Entries) (nodes : List (Option NodeId)) where
+  -- what is found below the nodes after that is found of the whole
+  pub walk_rest : (name : List (List ℕ)) (last : Entries) → IsWalked t All first found nodes name → Gathers (λ c q. Among (λ at. Finds t at name c q) nodes) found last → Gathers All first last
+  walk_rest name last w g = record {
+    kept = λ c q x. g.kept c q (w.kept c q x);
+    finds = λ c q x. elim (w.finds c q x) [
+      | inl was ↦ g.kept c q was
+      | inr below ↦ g.finds c q below
+    ];
+    sound = λ c q e. elim (g.sound c q e) [
+      | inl was ↦ w.sound c q was
+      | inr below ↦ inr (w.left c q below)
+    ];
+  }
+
   pub walk_begins : (from : Option NodeId) (name : List (List ℕ)) → IsWalked t (Finds t from name) first first (from ∷ []) name
   walk_begins from name = record {
     kept = λ c q h. h;

@@ -192,17 +192,16 @@ fn step(
 }
 
 // Notes what the levels that are left of a name find below the nodes.
-fn walk(
+fn walk_on(
     alloc: Global,
     trie: &Trie,
-    from: Option<NodeId>,
+    from: Vec<Option<NodeId>>,
     name: Option<&str>,
     found: &mut Found,
 ) -> Result<(), AllocError>
-    ensures { OnOk result (Gathers (Finds (tree trie.now) from (levels_left name.entry)) found.old.entries found.new.entries) }
+    ensures { OnOk result (Gathers (λ c q. Among (λ at. Finds (tree trie.now) at (levels_left name.entry) c q) from.items) found.old.entries found.new.entries) }
 {
-    let mut nodes = Vec::new(alloc);
-    nodes.push(from)?;
+    let mut nodes = from;
     let mut left = name;
     'levels: while let Some(text) = left {
         // Where no node is reached, no level that is left reaches one.
@@ -216,6 +215,25 @@ fn walk(
     }
     gather_rests(trie, &nodes, found)?;
     gather_ends(trie, &nodes, found)
+}
+
+// Notes what the levels that are left of a name find below a node. A list of nodes takes memory only where a level reaches some.
+fn walk(
+    alloc: Global,
+    trie: &Trie,
+    from: Option<NodeId>,
+    name: Option<&str>,
+    found: &mut Found,
+) -> Result<(), AllocError>
+    ensures { OnOk result (Gathers (Finds (tree trie.now) from (levels_left name.entry)) found.old.entries found.new.entries) }
+{
+    gather_rests(trie, &[from], found)?;
+    let Some(text) = name else {
+        return gather_ends(trie, &[from], found);
+    };
+    let (level, after) = first_level(text);
+    let next = step(alloc, trie, &[from], level)?;
+    walk_on(alloc, trie, next, after, found)
 }
 
 // Whether a name begins with `$`.

@@ -1,12 +1,12 @@
 use Rattle.std.proofs.Common.{◌+◌, ℕ, List, Bor, Option, Some, None, length}
-use Rattle.mq_topic.specs.Found.{Finds}
+use Rattle.mq_topic.specs.Found.{Among, Finds}
 use Rattle.mq_topic.specs.Matching.{levels_left}
 use Rattle.mq_topic.specs.TrieView.{tree}
 use Rattle.mq_topic.proofs.Walking.{IsWalked}
-use Rattle.mq_topic.proofs.trie_walk.walk.Given as goal
+use Rattle.mq_topic.proofs.trie_walk.walk_on.Given as goal
 
 abbrev pub invariant-levels : goal.invariant-levels
-invariant-levels l = IsWalked (tree l.trie) (Finds (tree l.trie) l.fn.from (levels_left l.fn.name)) l.initial.found.entries l.found.entries l.nodes.items (levels_left l.left)
+invariant-levels l = IsWalked (tree l.trie) (λ c q. Among (λ at. Finds (tree l.trie) at (levels_left l.fn.name) c q) l.fn.from.items) l.initial.found.entries l.found.entries l.nodes.items (levels_left l.left)
 
 -- one more than the bytes that are left
 abbrev pub count_left : Option (Bor (List ℕ)) → ℕ
