@@ -10,7 +10,7 @@ use crate::fault::DecodeError;
 use crate::held::Held;
 use crate::laws::pending_is_short;
 use crate::limits::Limits;
-use crate::take::{take_in, take_next};
+use crate::take::{take_in, take_next, take_publish};
 use bytes::Bytes;
 use mq_packet::Packet;
 use std::alloc::Global;
@@ -102,6 +102,22 @@ impl Decoder {
         }
     }
 
+    // Takes the PUBLISH that a piece begins with, where nothing is held: most packets of a busy stream are such. `None` where no whole one
+    // stands there, or memory runs out.
+    #[inline(always)]
+    fn next_publish(&mut self, piece: &[u8]) -> Option<(Packet, usize)>
+        ensures within { IfSome result (λ x. x.1 ≤ length piece.now) }
+        ensures packet { IfSome result (λ x. ReadsWithin self.old.limit x.0 (take x.1 piece.now)) }
+        ensures held { IfSome result (λ x. self.old.held ≡ []) }
+        ensures failed { IfSome result (λ x. self.old.failed ≡ None) }
+        ensures same { self.new ≡ self.old }
+    {
+        if !begins_as_publish(piece) || self.failed.is_some() || !self.held.is_empty() {
+            return None;
+        }
+        take_publish(self.alloc, self.limits, piece, &mut self.ahead)
+    }
+
     /// Takes the next whole packet of the stream, and answers it with the number of bytes of the piece
     /// that it used. Returns `None` where what is held and the piece are less than a whole packet, and
     /// then all of the piece is held. Messages that lie whole in the piece share copies of its bytes, where each call gets what the one before
@@ -133,6 +149,9 @@ impl Decoder {
         ensures counted_all { IfOk result (λ o. IfNone o
             (self.new.copied ≡ counted_more self.old.copied (length piece.now))) }
     {
+        if let Some(found) = self.next_publish(piece) {
+            return Ok(Some(found));
+        }
         match self.failed {
             Some(error) => Err(error),
             None => match take_next(
@@ -179,6 +198,12 @@ impl Decoder {
         self.failed = None;
         self.ahead = Bytes::new();
     }
+}
+
+// Whether the first byte is that of a PUBLISH (3.3.1).
+#[inline(always)]
+fn begins_as_publish(piece: &[u8]) -> bool {
+    matches!(piece, [0x30..=0x3F, ..])
 }
 
 // Lets go of what is held, and keeps the error.

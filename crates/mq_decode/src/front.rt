@@ -2,6 +2,8 @@
 
 ghost use Rattle.std.specs.Prelude.{◌≡◌, ◌+◌, ◌<◌, ◌≤◌, ◌++◌, ℕ, List, length, take, Ok, Some, IfOk, IfNone, IfSome};
 ghost use Rattle.mq_packet.specs.declared.packet.Packet.{Packet};
+ghost use Rattle.mq_packet.specs.declared.packet.Packet.TheVariants as packets;
+ghost use Rattle.mq_decode.specs.Gives.{EndsWith};
 ghost use Rattle.mq_decode.specs.declared.fault.FaultKind.{FaultKind};
 ghost use Rattle.mq_decode.specs.Front.{front_at};
 ghost use Rattle.mq_decode.specs.Grammar.{Faulty, IsFront, Pending, ReadsWithin};
@@ -10,9 +12,11 @@ ghost use Rattle.mq_decode.specs.Views.{IsView, LiesAtEnd, LiesInFront, packet_o
 use crate::body::body;
 use crate::fault::{DecodeError, DecodeFault};
 use crate::header::header_at;
+use crate::kind::Kind;
 use crate::laws::{pending_is_short, reads_again};
 use crate::limits::Limits;
 use crate::packet_view::{PacketView, View};
+use crate::publish::{PublishView, publish};
 use bytes::Bytes;
 use mq_packet::{Packet, PacketId};
 use mq_wire::{length_laws, number_laws, text_laws};
@@ -82,6 +86,36 @@ fn read_any(limits: Limits, bytes: &[u8]) -> View<'_>
             kind: bad.kind,
             place: end.saturating_sub(bad.left),
         }),
+    }
+}
+
+/// The PUBLISH that stands at the front, whole and right, and how many bytes it takes (3.3).
+#[inline(always)]
+#[tactic(auto, unfolding(crate::specs::Front::front_at))]
+pub(crate) fn publish_front(limits: Limits, bytes: &[u8]) -> Option<(PublishView<'_>, usize)>
+    ensures read { IfSome result
+        (λ x. front_at limits bytes.now ≡ Ok (Some (packets.Publish x.0.publish, x.1))) }
+    ensures within { IfSome result (λ x. x.1 ≤ length bytes.now) }
+    ensures end { IfSome result (λ x. EndsWith (take x.1 bytes.now) x.0.fields) }
+{
+    let [0x30..=0x3F, ..] = bytes else {
+        return None;
+    };
+    let Ok(Some(header)) = header_at(limits, bytes) else {
+        return None;
+    };
+    let Kind::Publish(flags) = header.kind else {
+        return None;
+    };
+    let end = header.start + header.size;
+    if end > bytes.len() {
+        return None;
+    }
+    let (whole, _) = bytes.split_at(end);
+    let (_, fields) = whole.split_at(header.start);
+    match publish(flags, fields) {
+        Ok(publish) => Some((publish, end)),
+        Err(_) => None,
     }
 }
 

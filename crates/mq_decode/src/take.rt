@@ -8,7 +8,7 @@ ghost use Rattle.mq_decode.specs.Gives.{BeginsWith, EndsWith};
 ghost use Rattle.mq_decode.specs.Views.{LiesAtEnd, packet_of};
 
 use crate::fault::DecodeError;
-use crate::front::{acknowledgement, bare_packet, front, view};
+use crate::front::{acknowledgement, bare_packet, front, publish_front, view};
 use crate::header::{end_at, header_at};
 use crate::held::Held;
 use crate::laws::{pending_is_short, reads_again};
@@ -256,6 +256,28 @@ fn publish_ahead(
 {
     let packet = share_ahead(alloc, size, bytes, ahead)?;
     publish.sharing(packet)
+}
+
+/// The PUBLISH that bytes begin with and how many it takes, where a whole one stands there and there is memory for it. It shares a copy of
+/// them and of what comes next. It is never inlined: what it takes on a frame would be zeroed for each packet that is no PUBLISH.
+#[inline(never)]
+pub(crate) fn take_publish(
+    alloc: Global,
+    limits: Limits,
+    bytes: &[u8],
+    ahead: &mut Bytes,
+) -> Option<(Packet, usize)>
+    ensures within { IfSome result (λ x. x.1 ≤ length bytes.now) }
+    ensures packet { IfSome result (λ x. ReadsWithin limits x.0 (take x.1 bytes.now)) }
+{
+    number_laws();
+    text_laws();
+    length_laws();
+    let (publish, size) = publish_front(limits, bytes)?;
+    match publish_ahead(alloc, &publish, size, bytes, ahead) {
+        Ok(publish) => Some((Packet::Publish(publish), size)),
+        Err(_) => None,
+    }
 }
 
 // The packet of its own that a view of the first `size` bytes stands for. A message shares a copy of them and of what comes next.
