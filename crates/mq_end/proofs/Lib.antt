@@ -6,6 +6,7 @@ pub mod Outcomes
 pub mod Replies
 pub mod Received
 pub mod Fews
+pub mod Handings
 pub mod Outputs
 pub mod Hearing
 pub mod Openings

@@ -4,12 +4,14 @@ use Rattle.mq_packet.specs.declared.packet.Packet.{Packet}
 use Rattle.mq_end.specs.declared.happening.Happening.{Happening}
 use Rattle.mq_end.specs.declared.reason.CloseReason.{CloseReason}
 use Rattle.mq_end.specs.declared.reason.CloseReason.TheVariants as reasons
+use Rattle.mq_end.specs.declared.outcome.Outcome.{Outcome}
 use Rattle.mq_end.specs.declared.role.Role.{Role}
 use Rattle.mq_end.specs.declared.role.Role.TheVariants.{Client, Server}
 use Rattle.mq_end.specs.declared.told.Told.{Told}
 use Rattle.mq_end.specs.End.{Reply, closes}
+use Rattle.mq_end.specs.Server.{server_gets}
 use Rattle.mq_end.specs.State.{EndState, PutsOut}
-use Rattle.mq_end.specs.Receiving.{Makes, TakesAs, gets_as, heard_as, heard_one, heard_one_as, held_after}
+use Rattle.mq_end.specs.Receiving.{Gives, Makes, TakesAs, TakesPacket, gets_as, heard_as, heard_one, heard_one_as, held_after}
 use Rattle.mq_end.proofs.Walking.{Came}
 
 -- what a reply that was made shows
@@ -51,6 +53,28 @@ heard_alike Server None true now last is = refl
 heard_alike Server None false now last is = absurd cc
 heard_alike Server (Some reason) true now last is = absurd cc
 heard_alike Server (Some reason) false now last is = refl
+
+-- a packet of which a server end made its reply, and heard of it
+pub takes_heard : (now : ℕ) (p : Packet) (o : Outcome) (closed : Option CloseReason) (none : Bool) (old mid new : EndState) → Gives (server_gets p old.end) o old mid
+    → closed ≡ o.closed → is_some closed ≡ not none → new ≡ record mid { moment = heard_as Server none now mid.moment } → TakesPacket now p o old new
+takes_heard now p o closed none old mid new g is_closed is_none last =
+    let r = server_gets p old.end in
+    let out_same : mid.output ≡ new.output = sym (ap (λ (s : EndState). s.output) last) in
+    let moment =
+    ap (λ (m : ℕ). heard_as Server none now m) (ap (λ (s : EndState). s.moment) g.state)
+    ∙ heard_alike Server closed none now old.moment is_none
+    ∙ ap (λ (c : Option CloseReason). heard_one c now old.moment) (is_closed ∙ g.close) in
+    record {
+      out = subst (PutsOut r.out old.output) out_same g.out;
+      state =
+          last
+          ∙ ap (λ (m : ℕ). record mid { moment = m }) moment
+          ∙ ap (λ (s : EndState). record s { moment = heard_one r.close now old.moment }) g.state
+          ∙ ap (λ (b : List ℕ). record old { end = r.end; output = b; held = held_after r.close old.held; moment = heard_one r.close now old.moment }) out_same;
+      happening = g.happening;
+      acknowledged = g.acknowledged;
+      close = g.close;
+    }
 
 -- a packet that came
 pub arrived : (role : Role) (now : ℕ) (p : Packet) (old mid new : EndState) (told after : Told) (none : Bool) (came closed : Option CloseReason) (happenings : List Happening) (acknowledged : List ℕ)

@@ -16,6 +16,7 @@ use Rattle.mq_packet.specs.Publication.{fits_delivery}
 use Rattle.mq_packet.specs.Spelling.{fields}
 use Rattle.mq_flow.specs.declared.entry.Entry.{Entry}
 use Rattle.mq_flow.specs.Sender.{SenderBook, blank_book, no_claims, publish_packet, resent, same_qos}
+use Rattle.mq_end.specs.declared.handing.Handing.{Handing}
 use Rattle.mq_end.specs.declared.outcome.Outcome.{Outcome}
 use Rattle.mq_end.specs.declared.state.State.{State}
 use Rattle.mq_end.specs.declared.state.State.TheVariants.{Open}
@@ -25,7 +26,8 @@ use Rattle.mq_end.specs.Server.{connect_gets, opens, refuses, server_gets, serve
 use Rattle.mq_end.specs.Sizes.{publish_size}
 use Rattle.mq_end.specs.State.{EndState, Room}
 use Rattle.mq_end.specs.Ready.{AreSpellable, CanRise, FitsRoom, HasRise, HasRoom, packets_size, publishes_size, size_at_once}
-use Rattle.mq_end.specs.Receiving.{TakesPacket}
+use Rattle.mq_end.specs.Receiving.{TakesPacket, outcome_of, told_of}
+use Rattle.mq_end.proofs.Handings.{err_told, ok_told}
 use Rattle.mq_end.proofs.Measures.{laws}
 use Rattle.mq_end.proofs.Rooms.{at_most_all, keeps_room, published, put_within, sizes_joined, up_is_live}
 
@@ -225,6 +227,13 @@ packet_room (Ok o) now p old new ms more takes stays up h =
     (subst (λ (b : Bool). size_at_once new.end.state ms ≤ cond b (publishes_size ms) 0) (sym up) (at_most_all new.end.state ms)) h
 packet_room (Err x) now p old new ms more takes stays up h =
     subst (λ (s : EndState). HasRoom ms more s) (sym stays) (record { messages = h.messages; bytes = let had = h.bytes in omega arith })
+
+-- where the message stays with the caller
+pub publish_room : {E : Type 0} (r : Result Handing E) (now : ℕ) (m : Message) (p : Packet) (old new : EndState) (ms : List Message) (more : ℕ)
+    → (is_live old.end.state ≡ true → IfOk r (λ h. TakesPacket now p (outcome_of h m) old new)) → OnErr r (new ≡ old) → is_up old.end.state ≡ true
+    → HasRoom ms (packets_size (server_gets p old.end).out + more) old → HasRoom ms more new
+publish_room r now m p old new ms more takes stays =
+    packet_room (told_of m r) now p old new ms more (λ live. ok_told m (λ o. TakesPacket now p o old new) r (takes live)) (err_told m (new ≡ old) r stays)
 
 pub rises_room : {E : Type 0} (r : Result Outcome E) (now : ℕ) (c : Connect) (p : Packet) (old new : EndState) (ms : List Message) (more : ℕ) → p ≡ packets.Connect c → CanRise old → HasRise c ms more old
     → (is_live old.end.state ≡ true → IfOk r (λ o. TakesPacket now p o old new)) → (old.end.state ≡ Open → AreSpellable (server_gets p old.end).out → FitsRoom (server_gets p old.end).out old → IsOk r) → IsOk r × HasRoom ms more new

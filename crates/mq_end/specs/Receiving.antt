@@ -1,10 +1,14 @@
 -- What comes of bytes that an open end receives, cut anywhere (4.2, 4.6, 4.8).
-use Rattle.std.specs.Prelude.{◌≡◌, ◌⊎◌, ℕ, Bool, false, not, ◌&&◌, if◌then◌else◌, ◌<◌, ◌≤◌, List, [], ◌∷◌, ◌++◌, length, take, Option, Some, None, IsSome, option_to_list}
+use Rattle.std.specs.Prelude.{◌≡◌, ◌⊎◌, ℕ, Bool, false, not, ◌&&◌, if◌then◌else◌, ◌<◌, ◌≤◌, List, [], ◌∷◌, ◌++◌, length, take, Option, Some, None, IsSome, option_to_list, Result, Ok, Err}
+use Rattle.mq_packet.specs.declared.message.Message.{Message}
 use Rattle.mq_packet.specs.declared.packet.Packet.{Packet}
 use Rattle.mq_decode.specs.declared.fault.DecodeFault.{DecodeFault}
 use Rattle.mq_decode.specs.Limits.{Bounds}
 use Rattle.mq_decode.specs.Grammar.{Stream, Pending, Faulty, ReadsWithin}
+use Rattle.mq_end.specs.declared.handing.Handing.{Handing}
+use Rattle.mq_end.specs.declared.handing.Handing.TheVariants as handings
 use Rattle.mq_end.specs.declared.happening.Happening.{Happening}
+use Rattle.mq_end.specs.declared.happening.Happening.TheVariants as happens
 use Rattle.mq_end.specs.declared.reason.CloseReason.{CloseReason}
 use Rattle.mq_end.specs.declared.outcome.Outcome.{Outcome}
 use Rattle.mq_end.specs.declared.role.Role.{Role}
@@ -203,3 +207,14 @@ pub record TakesPacket (now : ℕ) (p : Packet) (o : Outcome) (old new : EndStat
 -- nothing came of it
 abbrev pub no_outcome : Outcome
 no_outcome = record { happening = None; acknowledged = None; closed = None }
+
+-- what is told of a message, by what came of its PUBLISH (4.3)
+abbrev pub outcome_of : Handing → Message → Outcome
+outcome_of handings.HandedOn m = record { happening = Some (happens.Handed m); acknowledged = None; closed = None }
+outcome_of handings.Nothing m = no_outcome
+outcome_of (handings.Closed reason) m = record { happening = None; acknowledged = None; closed = Some reason }
+
+-- the same where memory may run out
+abbrev pub told_of : {E : Type 0} → Message → Result Handing E → Result Outcome E
+told_of m (Ok handing) = Ok (outcome_of handing m)
+told_of m (Err e) = Err e

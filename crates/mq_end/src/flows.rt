@@ -1,15 +1,16 @@
 //! The packets of a message's flow, which both ends take in alike (4.3).
 
-ghost use Rattle.std.specs.Prelude.{◌≡◌, true, false, IsOk, IfOk, OnOk, OnErr, None, Some};
+ghost use Rattle.std.specs.Prelude.{◌≡◌, true, false, IsOk, IfOk, OnOk, OnErr, Some};
 ghost use Rattle.mq_topic.specs.declared.qos.Qos.TheVariants.{Q1, Q2};
 ghost use Rattle.mq_packet.specs.declared.packet.Packet.TheVariants as packets;
 ghost use Rattle.mq_packet.specs.Publication.{fits_delivery};
 ghost use Rattle.mq_flow.specs.Receiver.{on_pubrel};
+ghost use Rattle.mq_flow.specs.Sender.{same_qos};
 ghost use Rattle.mq_end.specs.Both.{flow_gets, publish_gets, stores};
 ghost use Rattle.mq_end.specs.Ready.{FitsRoom, is_exactly_once};
-ghost use Rattle.mq_end.specs.Receiving.{Acts, Gives};
+ghost use Rattle.mq_end.specs.Receiving.{Acts, Gives, outcome_of};
 
-use crate::happening::Happening;
+use crate::handing::Handing;
 use crate::link::Link;
 use crate::outcome::Outcome;
 use crate::reason::CloseReason;
@@ -27,34 +28,26 @@ fn forget(receiver: &mut Receiver, id: PacketId)
 
 impl Link {
     /// A message of quality of service 1: it is handed on, and PUBACK answers (4.3.2).
-    fn take_at_least_once(
-        &mut self,
-        delivery: Delivery,
-        message: Message,
-    ) -> Result<Outcome, AllocError>
-        ensures ok { IfOk result (λ outcome. Gives (publish_gets Q1 (Some delivery) message self.old.end) outcome self.old self.new) }
-        ensures within { FitsRoom (publish_gets Q1 (Some delivery) message self.old.end).out self.old → IsOk result }
+    fn take_at_least_once(&mut self, delivery: Delivery) -> Result<Handing, AllocError>
+        ensures ok { IfOk result (λ handing. (m : Message) → Gives (publish_gets Q1 (Some delivery) m self.old.end) (outcome_of handing m) self.old self.new) }
+        ensures within { (m : Message) → FitsRoom (publish_gets Q1 (Some delivery) m self.old.end).out self.old → IsOk result }
         ensures err { OnErr result (self.new ≡ self.old) }
     {
         self.write(&Packet::PubAck(delivery.id))?;
-        Ok(Outcome::tells(Happening::Handed(message)))
+        Ok(Handing::HandedOn)
     }
 
     /// A message of quality of service 2: its identifier is stored, and PUBREC answers; it is handed on where the
     /// identifier was not stored before (4.3.3).
-    fn take_exactly_once(
-        &mut self,
-        delivery: Delivery,
-        message: Message,
-    ) -> Result<Outcome, AllocError>
-        ensures ok { IfOk result (λ outcome. Gives (stores delivery.id message self.old.end) outcome self.old self.new) }
+    fn take_exactly_once(&mut self, delivery: Delivery) -> Result<Handing, AllocError>
+        ensures ok { IfOk result (λ handing. (m : Message) → Gives (stores delivery.id m self.old.end) (outcome_of handing m) self.old self.new) }
         ensures err { OnErr result (self.new ≡ self.old) }
     {
         let before = self.output.len();
         self.write(&Packet::PubRec(delivery.id))?;
         match self.session.receiver.store(delivery.id) {
-            Ok(true) => Ok(Outcome::tells(Happening::Handed(message))),
-            Ok(false) => Ok(Outcome::nothing()),
+            Ok(true) => Ok(Handing::HandedOn),
+            Ok(false) => Ok(Handing::Nothing),
             Err(error) => {
                 self.output.truncate(before);
                 Err(error)
@@ -63,18 +56,34 @@ impl Link {
     }
 
     /// A message of quality of service 2: where it doesn't fit the window the end closes (4.3.3, 4.8).
-    fn take_within_window(
-        &mut self,
-        delivery: Delivery,
-        message: Message,
-    ) -> Result<Outcome, AllocError>
-        ensures ok { IfOk result (λ outcome. Gives (publish_gets Q2 (Some delivery) message self.old.end) outcome self.old self.new) }
+    fn take_within_window(&mut self, delivery: Delivery) -> Result<Handing, AllocError>
+        ensures ok { IfOk result (λ handing. (m : Message) → Gives (publish_gets Q2 (Some delivery) m self.old.end) (outcome_of handing m) self.old self.new) }
         ensures err { OnErr result (self.new ≡ self.old) }
     {
         if !self.session.receiver.fits(delivery.id, self.window) {
-            return Ok(Outcome::closes(self.close(CloseReason::Window)));
+            return Ok(Handing::Closed(self.close(CloseReason::Window)));
         }
-        self.take_exactly_once(delivery, message)
+        self.take_exactly_once(delivery)
+    }
+
+    /// The PUBLISH of a message of this quality of service, with its delivery where it has one (3.3, 4.3). The message stays with the
+    /// caller.
+    #[inline(always)]
+    pub(crate) fn take_delivery(
+        &mut self,
+        qos: Qos,
+        delivery: Option<Delivery>,
+    ) -> Result<Handing, AllocError>
+        requires fits { fits_delivery qos delivery ≡ true }
+        ensures ok { IfOk result (λ handing. (m : Message) → Gives (publish_gets qos delivery m self.old.end) (outcome_of handing m) self.old self.new) }
+        ensures within { same_qos Q2 qos ≡ false → (m : Message) → FitsRoom (publish_gets qos delivery m self.old.end).out self.old → IsOk result }
+        ensures err { OnErr result (self.new ≡ self.old) }
+    {
+        match (qos, delivery) {
+            (Qos::Q1, Some(delivery)) => self.take_at_least_once(delivery),
+            (Qos::Q2, Some(delivery)) => self.take_within_window(delivery),
+            _ => Ok(Handing::HandedOn),
+        }
     }
 
     /// The message of a PUBLISH, with its delivery where it has one (3.3, 4.3).
@@ -90,11 +99,8 @@ impl Link {
             → FitsRoom (publish_gets message.qos delivery message self.old.end).out self.old → IsOk result }
         ensures err { OnErr result (self.new ≡ self.old) }
     {
-        match (message.qos, delivery) {
-            (Qos::Q1, Some(delivery)) => self.take_at_least_once(delivery, message),
-            (Qos::Q2, Some(delivery)) => self.take_within_window(delivery, message),
-            _ => Ok(Outcome::tells(Happening::Handed(message))),
-        }
+        let handing = self.take_delivery(message.qos, delivery)?;
+        Ok(handing.outcome(message))
     }
 
     /// PUBLISH (3.3, 4.3).

@@ -7,6 +7,7 @@ mod client;
 mod config;
 mod few;
 mod flows;
+mod handing;
 mod happening;
 mod items;
 mod laws;
@@ -35,6 +36,7 @@ mod told;
 pub use crate::client::ClientEnd;
 pub use crate::config::{ClientConfig, ServerConfig};
 pub use crate::few::Few;
+pub use crate::handing::Handing;
 pub use crate::happening::Happening;
 pub use crate::items::Items;
 pub use crate::laws::{

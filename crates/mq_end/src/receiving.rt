@@ -1,15 +1,19 @@
 //! Bytes that come to an end (4.2, 4.8).
 
 ghost use Rattle.std.specs.Prelude.{◌≡◌, ◌≤◌, ◌++◌, [], length, take, true, false, IsOk, IfOk, IfErr, IfSome, IfNone, OnErr, Ok, Err, None, Some};
+ghost use Rattle.mq_topic.specs.declared.qos.Qos.TheVariants.{Q2};
+ghost use Rattle.mq_packet.specs.Publication.{fits_delivery};
 ghost use Rattle.mq_decode.specs.Grammar.{IsFront, Pending, ReadsWithin};
 ghost use Rattle.mq_decode.specs.Views.{packet_of};
+ghost use Rattle.mq_flow.specs.Sender.{same_qos};
 ghost use Rattle.mq_end.specs.declared.state.State.TheVariants as states;
 ghost use Rattle.mq_end.specs.End.{Reply, is_live, is_up};
 ghost use Rattle.mq_end.specs.Laws.{KeepsWindow};
 ghost use Rattle.mq_end.specs.Ready.{AreSpellable, FitsRoom, is_exactly_once};
 ghost use Rattle.mq_end.specs.Server.{server_gets};
-ghost use Rattle.mq_end.specs.Receiving.{Acts, HeardAs, Hears, IsBreak, ReceivesAs, TakesAs, TakesNext, TakesPacket, heard_as, is_answered, no_outcome};
+ghost use Rattle.mq_end.specs.Receiving.{Acts, HeardAs, Hears, IsBreak, ReceivesAs, TakesAs, TakesNext, TakesPacket, heard_as, is_answered, no_outcome, outcome_of};
 
+use crate::handing::Handing;
 use crate::link::Link;
 use crate::outcome::Outcome;
 use crate::progress::Progress;
@@ -18,7 +22,7 @@ use crate::role::Role;
 use crate::state::State;
 use crate::told::Told;
 use mq_decode::{DecodeError, DecodeFault, FaultKind, PacketView, View, reads_again, view};
-use mq_packet::{Packet, RefusalCode};
+use mq_packet::{Delivery, Message, Packet, RefusalCode};
 use std::alloc::AllocError;
 
 impl Link {
@@ -183,6 +187,35 @@ impl Link {
         let outcome = self.take_server(packet)?;
         self.hear(Role::Server, now, outcome.closed.is_none());
         Ok(outcome)
+    }
+
+    /// The PUBLISH of a message comes to the server, at this moment, with its delivery where it has one (3.3, 4.3): as `take_packet`, but the
+    /// message stays with the caller.
+    #[inline(always)]
+    pub(crate) fn take_publish_of(
+        &mut self,
+        now: u64,
+        message: &Message,
+        delivery: Option<Delivery>,
+    ) -> Result<Handing, AllocError>
+        requires fits { fits_delivery message.now.qos delivery ≡ true }
+        ensures open { is_live self.old.end.state ≡ true → IfOk result (λ handing.
+            TakesPacket now (Packet.Publish (record { message = message.now; delivery = delivery })) (outcome_of handing message.now) self.old self.new) }
+        ensures closed { is_live self.old.end.state ≡ false → self.new ≡ self.old }
+        ensures nothing { is_live self.old.end.state ≡ false → result ≡ Ok Handing.Nothing }
+        ensures up { is_up self.old.end.state ≡ true → same_qos Q2 message.now.qos ≡ false
+            → FitsRoom (server_gets (Packet.Publish (record { message = message.now; delivery = delivery })) self.old.end).out self.old → IsOk result }
+        ensures err { OnErr result (self.new ≡ self.old) }
+    {
+        match self.state {
+            State::Closed => Ok(Handing::Nothing),
+            State::Open => Ok(Handing::Closed(self.close(CloseReason::Unexpected))),
+            State::Up => {
+                let handing = self.take_delivery(message.qos, delivery)?;
+                self.hear(Role::Server, now, handing.closed().is_none());
+                Ok(handing)
+            }
+        }
     }
 
     /// A whole packet comes to the end, at this moment. Without a connection it is ignored; where memory runs out the end closes.

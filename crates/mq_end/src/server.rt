@@ -1,10 +1,13 @@
 //! The server end.
 
 ghost use Rattle.std.specs.Prelude.{◌≡◌, ◌+◌, ◌<◌, ◌≤◌, ◌++◌, ◌↔◌, ℕ, List, [], ◌∷◌, true, false, length, drop, IsOk, IfOk, IfErr, IfSome, IfNone, IsSome, OnOk, OnErr, Ok, Err, None, Some};
+ghost use Rattle.mq_topic.specs.declared.qos.Qos.TheVariants.{Q2};
+ghost use Rattle.mq_packet.specs.Publication.{fits_delivery};
 ghost use Rattle.mq_decode.specs.Views.{packet_of};
+ghost use Rattle.mq_flow.specs.Sender.{same_qos};
 ghost use Rattle.mq_end.specs.End.{blank_end, is_live, is_up, over, resumed};
 ghost use Rattle.mq_end.specs.Server.{would_hand, opens, ready_refusal, server_gets, server_publish_refusal, subacks, suback_refusal, unsubacks, unsuback_refusal};
-ghost use Rattle.mq_end.specs.Receiving.{Acts, HearsAt, ServerReceives, TakesOne, TakesPacket, no_outcome};
+ghost use Rattle.mq_end.specs.Receiving.{Acts, HearsAt, ServerReceives, TakesOne, TakesPacket, no_outcome, outcome_of};
 ghost use Rattle.mq_end.specs.Publishing.{Accepts};
 ghost use Rattle.mq_end.specs.Ready.{CanRise, FitsRoom, HasRise, HasRoom, is_exactly_once, packets_size, whole_size};
 ghost use Rattle.mq_end.specs.Sizes.{suback_size, unsuback_size};
@@ -14,6 +17,7 @@ ghost use Rattle.mq_end.specs.Laws.{KeepsWindow};
 ghost use Rattle.mq_end.specs.Resuming.{FitsWithin};
 
 use crate::config::ServerConfig;
+use crate::handing::Handing;
 use crate::link::Link;
 use crate::outcome::Outcome;
 use crate::progress::Progress;
@@ -25,7 +29,7 @@ use crate::role::Role;
 use crate::state::State;
 use mq_decode::PacketView;
 use mq_flow::Session;
-use mq_packet::{Connect, Message, NonEmpty, Packet, PacketId, Publish, SubAckCode};
+use mq_packet::{Connect, Delivery, Message, NonEmpty, Packet, PacketId, Publish, SubAckCode};
 use mq_topic::Qos;
 use std::alloc::{AllocError, Global};
 use std::marker::Model;
@@ -166,6 +170,31 @@ impl ServerEnd {
         ensures err { OnErr result (self.new ≡ self.old) }
     {
         self.link.take_packet(now, packet)
+    }
+
+    /// The PUBLISH of a message comes from the client, at this moment, with its delivery, which it has exactly where the quality of service is
+    /// over 0 (3.3, 4.3): as `take_packet` of that PUBLISH, but the message stays with the caller, who is told whether it is handed on. Fails
+    /// if memory runs out, which it does within the room only where an identifier is stored, and then nothing changes.
+    #[inline(always)]
+    pub fn take_publish(
+        &mut self,
+        now: u64,
+        message: &Message,
+        delivery: Option<Delivery>,
+    ) -> Result<Handing, AllocError>
+        requires fits { fits_delivery message.now.qos delivery ≡ true }
+        ensures open { is_live self.old.end.state ≡ true → IfOk result (λ handing.
+            TakesPacket now (Packet.Publish (record { message = message.now; delivery = delivery })) (outcome_of handing message.now) self.old self.new) }
+        ensures closed { is_live self.old.end.state ≡ false → self.new ≡ self.old }
+        ensures nothing { is_live self.old.end.state ≡ false → result ≡ Ok Handing.Nothing }
+        ensures within { is_up self.old.end.state ≡ true → same_qos Q2 message.now.qos ≡ false
+            → FitsRoom (server_gets (Packet.Publish (record { message = message.now; delivery = delivery })) self.old.end).out self.old → IsOk result }
+        ensures kept { is_up self.old.end.state ≡ true → (ms : List Message) (more : ℕ)
+            → HasRoom ms (packets_size (server_gets (Packet.Publish (record { message = message.now; delivery = delivery })) self.old.end).out + more) self.old
+            → HasRoom ms more self.new }
+        ensures err { OnErr result (self.new ≡ self.old) }
+    {
+        self.link.take_publish_of(now, message, delivery)
     }
 
     /// Makes room to come up by this CONNECT on a new connection: for CONNACK and for all that is sent again, and then for messages to

@@ -82,6 +82,23 @@ fn take(
     add_outcome(told, &server.take_packet(moment, packet)?)
 }
 
+// `hand BYTES`: the message of a PUBLISH comes, which stays here.
+fn hand(
+    alloc: Global,
+    server: &mut ServerEnd,
+    moment: u64,
+    words: &mut Words<'_>,
+    told: &mut String,
+) -> Result<(), Wrong> {
+    let Packet::Publish(publish) = packet_of(alloc, words)? else {
+        return Err(Wrong::Words);
+    };
+    let delivery = publish.delivery();
+    let message = publish.into_message();
+    let handing = server.take_publish(moment, &message, delivery)?;
+    Ok(write!(told, "{handing:?}")?)
+}
+
 // `publish QOS BYTES`: a message to `t`.
 fn publish(
     alloc: Global,
@@ -231,6 +248,7 @@ pub(crate) fn tell(
         "receive" => receive(alloc, server, moment, words, told),
         "packet" => take_whole(alloc, server, moment, words, told),
         "take" => take(alloc, server, moment, words, told),
+        "hand" => hand(alloc, server, moment, words, told),
         "publish" => publish(alloc, server, words, told),
         "tick" => add_late(told, server.tick(moment)),
         "lose" => {
