@@ -6,13 +6,14 @@ use Rattle.mq_packet.specs.declared.message.Message.{Message}
 use Rattle.mq_packet.specs.declared.packet.Packet.{Packet}
 use Rattle.mq_packet.specs.Spelling.{SpellingLaws, fields, spellings}
 use Rattle.mq_packet.specs.Spelling.{Spelled as IsSpelled}
+use Rattle.mq_end.specs.declared.handing.Handing.{Handing}
 use Rattle.mq_end.specs.declared.outcome.Outcome.{Outcome}
 use Rattle.mq_end.specs.declared.refusal.PublishRefusal.{PublishRefusal}
 use Rattle.mq_end.specs.declared.state.State.{State}
 use Rattle.mq_end.specs.declared.state.State.TheVariants.{Closed, Open, Up}
 use Rattle.mq_end.specs.End.{End, Reply, puts_out, is_live, is_up}
 use Rattle.mq_end.specs.Ready.{FitsRoom, HasRoom, is_exactly_once, packets_size, whole_size}
-use Rattle.mq_end.specs.Receiving.{Acts, TakesPacket, no_outcome}
+use Rattle.mq_end.specs.Receiving.{Acts, TakesPacket, no_outcome, outcome_of, told_of}
 use Rattle.mq_end.specs.Server.{ready_refusal, server_gets, suback_refusal, unsuback_refusal}
 use Rattle.mq_end.specs.State.{EndState, PutsOut, Spelled}
 use Rattle.mq_hub.specs.declared.call.Call.{Call}
@@ -54,6 +55,23 @@ takes_serves spelling now p answer old new takes still within kept = record { ok
       close = t.close;
     }
     go (Err e) t = tt
+
+-- a message that stays with the broker, of whose PUBLISH this comes
+pub ok_told : {E : Type 0} (m : Message) (P : Outcome → Type 0) (r : Result Handing E) → IfOk r (λ handing. P (outcome_of handing m)) → IfOk (told_of m r) P
+ok_told m P (Ok handing) x = x
+ok_told m P (Err e) x = x
+
+pub err_told : {E : Type 0} (m : Message) (X : Type 0) (r : Result Handing E) → OnErr r X → OnErr (told_of m r) X
+err_told m X (Ok handing) x = x
+err_told m X (Err e) x = x
+
+pub err_untold : {E : Type 0} (m : Message) (X : Type 0) (r : Result Handing E) → OnErr (told_of m r) X → OnErr r X
+err_untold m X (Ok handing) x = x
+err_untold m X (Err e) x = x
+
+pub is_ok_told : {E : Type 0} (m : Message) (r : Result Handing E) → IsOk r → IsOk (told_of m r)
+is_ok_told m (Ok handing) x = x
+is_ok_told m (Err e) x = x
 
 -- ---- it answers
 

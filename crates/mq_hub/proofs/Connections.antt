@@ -1,5 +1,5 @@
 -- The table of connections: a name's connection, and the connection on which a client is up.
-use Rattle.std.proofs.Common.{◌≡◌, ℕ, ◌+◌, Bool, true, false, ◌&&◌, ◌||◌, cond, List, [], ◌∷◌, ◌++◌, Option, Some, None, refl, sym, ap, ap₂, subst, ◌∙◌, arith, zero-add, eqb, eqb-true, eq-eqb, true≢false}
+use Rattle.std.proofs.Common.{◌≡◌, ℕ, ◌+◌, zero, suc, slice_get, Bool, true, false, ◌&&◌, ◌||◌, cond, List, [], ◌∷◌, ◌++◌, Option, Some, None, refl, sym, ap, ap₂, subst, ◌∙◌, arith, zero-add, eqb, eqb-true, eq-eqb, true≢false}
 use Rattle.std.proofs.lemmas.Bool.{cond-true, cond-false, and_parts, or_parts}
 use Rattle.std.proofs.lemmas.List.Sums.{sum_by-cons}
 use Rattle.std.proofs.lemmas.Map.{keys-set_value}
@@ -65,6 +65,23 @@ known k (e ∷ es) named = go (same_conn k e.0) refl (known k es named.1)
     go : (b : Bool) → same_conn k e.0 ≡ b → is_some (lookup (same_conn k) es) ≡ knows k (lines_of es) → is_some (lookup (same_conn k) (e ∷ es)) ≡ knows k (lines_of (e ∷ es))
     go true same rest = rw (first_is k e named.0, same) refl
     go false same rest = rw (first_is k e named.0, same) rest
+
+-- an entry at a place is what its name finds
+at_place : (P : Conn → Type 0) (n : ℕ) (es : List Entry) (e : Entry) → AllByRecursion P (keys_of es) → slice_get es n ≡ Some e → P e.0
+at_place P n [] e all there = absurd cc
+at_place P zero (x ∷ xs) e all there = let is : x ≡ e = cc in subst (λ (y : Entry). P y.0) is all.0
+at_place P (suc n) (x ∷ xs) e all there = at_place P n xs e all.1 there
+
+pub found_at : (k : Conn) (n : ℕ) (es : List Entry) (e : Entry) → IsDistinct same_conn (keys_of es) → slice_get es n ≡ Some e → same_conn k e.0 ≡ true → lookup (same_conn k) es ≡ Some e.1
+unfolding IsDistinct
+found_at k n [] e distinct there same = absurd cc
+found_at k zero (x ∷ xs) e distinct there same =
+    let is : x ≡ e = cc in
+    cond-true (same_conn k x.0) (Some x.1) (lookup (same_conn k) xs) (ap (λ (y : Entry). same_conn k y.0) is ∙ same) ∙ ap (λ (y : Entry). Some y.1) is
+found_at k (suc n) (x ∷ xs) e distinct there same =
+    let apart : same_conn x.0 e.0 ≡ false = at_place (λ q. same_conn x.0 q ≡ false) n xs e distinct.0 there in
+    let other : same_conn k x.0 ≡ false = symm k x.0 ∙ ap (same_conn x.0) (one_conn k e.0 same) ∙ apart in
+    cond-false (same_conn k x.0) (Some x.1) (lookup (same_conn k) xs) other ∙ found_at k n xs e distinct.1 there same
 
 -- what a look-up by name gives of the lines is of the connection that is found
 module _ {X : Type 0} (p : Line → X) (k : Conn) (g : List Line → X) (step : (x : Line) (xs : List Line) → g (x ∷ xs) ≡ cond (is_line k x) (p x) (g xs)) where

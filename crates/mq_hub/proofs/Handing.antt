@@ -1,7 +1,6 @@
 -- A PUBLISH whose message is handed on, while its client is up.
 use Rattle.std.proofs.Common.{◌≡◌, ℕ, ◌+◌, ◌≤◌, Bool, true, false, cond, List, [], ◌∷◌, Option, Some, None, Ok}
 use Rattle.std.proofs.Common.{arith, refl, sym, ap, subst, ◌∙◌, eqb, eqb-true, true≢false}
-use Rattle.std.specs.Option.{option_to_list}
 use Rattle.mq_topic.specs.declared.qos.Qos.{Qos}
 use Rattle.mq_topic.specs.declared.qos.Qos.TheVariants.{Q0, Q1, Q2}
 use Rattle.mq_decode.specs.Limits.{Bounds}
@@ -9,8 +8,6 @@ use Rattle.mq_packet.specs.declared.message.Message.{Message}
 use Rattle.mq_packet.specs.declared.publish.Delivery.{Delivery}
 use Rattle.mq_packet.specs.declared.packet.Packet.TheVariants as packets
 use Rattle.mq_packet.specs.Publication.{Publication}
-use Rattle.mq_end.specs.declared.happening.Happening.{Happening}
-use Rattle.mq_end.specs.declared.happening.Happening.TheVariants as happens
 use Rattle.mq_end.specs.declared.outcome.Outcome.{Outcome}
 use Rattle.mq_end.specs.declared.reason.CloseReason.TheVariants as reasons
 use Rattle.mq_end.specs.declared.state.State.{State}
@@ -133,27 +130,3 @@ module _ (key now : ℕ) (p : Publication) (o : Outcome) (ts us : List Tenant) (
   pub all_ready : (cs : List (ℕ × Message)) → AreReady 7 ts cs → AreReady 0 us cs
   all_ready [] all = tt
   all_ready (c ∷ cs) all = (ready_at c.0 (c.1 ∷ []) all.0, all_ready cs all.1)
-
--- ---- the message is handed on
-
-abbrev message_or : Message → Option Happening → Message
-message_or m (Some (happens.Handed n)) = n
-message_or m o = m
-
-pub same_handed : (m n : Message) → Some (happens.Handed m) ≡ Some (happens.Handed n) → m ≡ n
-same_handed m n e = ap (message_or n) e
-
-abbrev first_told : List Happening → Option Happening
-first_told [] = None
-first_told (h ∷ hs) = Some h
-
-is_told : (o : Option Happening) (h : Happening) → option_to_list o ≡ h ∷ [] → o ≡ Some h
-is_told None h e = ap first_told e
-is_told (Some x) h e = ap first_told e
-
-pub handed_there : (key now : ℕ) (p : Publication) (o : Outcome) (ts us : List Tenant) → ServesAt key (Takes now (packets.Publish p)) (Ok o) ts us
-    → (server_gets (packets.Publish p) (end_of key (sessions_of ts))).happenings ≡ happens.Handed p.message ∷ []
-    → o.happening ≡ Some (happens.Handed p.message)
-handed_there key now p o ts us at hands =
-    is_told o.happening (happens.Handed p.message)
-    (at.serves.ok.happening ∙ ap (λ (e : End). (server_gets (packets.Publish p) e).happenings) (sym (end_there key at.tenant ts at.there)) ∙ hands)

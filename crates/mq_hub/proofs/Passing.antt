@@ -1,8 +1,9 @@
 -- A PUBLISH whose message is handed on, from the end that takes it in to those that get its copies.
-use Rattle.std.proofs.Common.{◌≡◌, ℕ, Bool, true, false, cond, List, [], ◌∷◌, Some, None, is_some, sym, ap, subst, ◌∙◌}
+use Rattle.std.proofs.Common.{◌≡◌, ℕ, Bool, true, false, cond, List, [], Option, Some, None, is_some, sym, ap, subst, ◌∙◌}
 use Rattle.std.specs.List.{flat_map}
 use Rattle.mq_topic.specs.Rows.{matched}
 use Rattle.mq_packet.specs.declared.message.Message.{Message}
+use Rattle.mq_packet.specs.declared.publish.Delivery.{Delivery}
 use Rattle.mq_packet.specs.declared.packet.Packet.TheVariants as packets
 use Rattle.mq_packet.specs.Publication.{Publication}
 use Rattle.mq_end.specs.declared.happening.Happening.TheVariants as happens
@@ -53,6 +54,13 @@ pub taken_as : (n m : Publication) (key now : ℕ) (p u : HubTables) → n ≡ m
     → Answers key (Takes now (packets.Publish m)) p.rows p u
 taken_as n m key now p u same = subst (λ (x : Publication). Answers key (Takes now (packets.Publish x)) p.rows p u) same
 
+-- the PUBLISH of which a message and a delivery were taken
+abbrev pub publish_of : Message → Option Delivery → Publication
+publish_of m delivery = record { message = m; delivery = delivery }
+
+pub same_publish : (p : Publication) (m : Message) (delivery : Option Delivery) → m ≡ p.message → delivery ≡ p.delivery → publish_of m delivery ≡ p
+same_publish p m delivery is_message is_delivery = λ i. publish_of (is_message i) (is_delivery i)
+
 -- ---- a PUBLISH at tables that were made ready for it
 
 module _ (config : HubConfig) (clock next key : ℕ) (t p : HubTables) (kept : HubKeeps config next t) (alike : AreTablesAlike t p) (conn : Conn)
@@ -75,9 +83,6 @@ module _ (config : HubConfig) (clock next key : ℕ) (t p : HubTables) (kept : H
   module _ (handed : IsReceived Handed m (end_of key old.sessions)) where
     pub stays_ready : (server_gets (packets.Publish m) (end_of key (sessions_of p.sessions.tenants))).close ≡ None
     stays_ready = ap (λ (h : HubState). (server_gets (packets.Publish m) (end_of key h.sessions)).close) same_ready ∙ handed.0
-
-    pub hands_ready : (server_gets (packets.Publish m) (end_of key (sessions_of p.sessions.tenants))).happenings ≡ happens.Handed m.message ∷ []
-    hands_ready = ap (λ (h : HubState). (server_gets (packets.Publish m) (end_of key h.sessions)).happenings) same_ready ∙ handed.1
 
     module _ (u : HubTables) (a : Answers key (Takes clock (packets.Publish m)) p.rows p u) where
       pub kept_handed : HubKeeps config next u

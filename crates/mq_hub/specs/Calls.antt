@@ -1,7 +1,8 @@
 -- What a broker has the end of a session do: take a packet in, or answer what a client asked for.
-use Rattle.std.specs.Prelude.{◌≡◌, ℕ, ◌+◌, Bool, true, false, List, ◌++◌, Some, None, option_to_list, Result, IsOk, IfOk, OnErr}
+use Rattle.std.specs.Prelude.{◌≡◌, ℕ, ◌+◌, Bool, true, false, List, ◌++◌, Option, Some, None, option_to_list, Result, IsOk, IfOk, OnErr}
 use Rattle.std.specs.declared.alloc.AllocError.{AllocError}
 use Rattle.mq_packet.specs.declared.message.Message.{Message}
+use Rattle.mq_packet.specs.declared.publish.Delivery.{Delivery}
 use Rattle.mq_packet.specs.declared.packet.Packet.{Packet}
 use Rattle.mq_packet.specs.declared.packet.Packet.TheVariants as packets
 use Rattle.mq_packet.specs.Spelling.{spellings}
@@ -26,6 +27,10 @@ abbrev pub IsAllowed : Call → EndState → Type 0
 IsAllowed (Takes now p) s = Unit {0}
 IsAllowed (Grants i codes) s = suback_refusal s.limit.most codes s.end ≡ None
 IsAllowed (Drops i) s = unsuback_refusal s.limit.most s.end ≡ None
+
+-- the PUBLISH of a message with this delivery comes, at this moment (3.3)
+abbrev pub publish_call : ℕ → Message → Option Delivery → Call
+publish_call now m delivery = Takes now (packets.Publish (record { message = m; delivery = delivery }))
 
 -- it stores an identifier, of a message of quality of service 2 (4.3.3)
 abbrev pub is_storing : Call → Bool

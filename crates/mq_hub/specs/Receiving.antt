@@ -2,7 +2,6 @@
 use Rattle.std.specs.Prelude.{◌≡◌, ℕ, Bool, true, false, List, [], ◌∷◌, Option, Some, None}
 use Rattle.mq_packet.specs.declared.packet.Packet.TheVariants as packets
 use Rattle.mq_packet.specs.Publication.{Publication}
-use Rattle.mq_end.specs.declared.happening.Happening.{Happening}
 use Rattle.mq_end.specs.declared.happening.Happening.TheVariants as happens
 use Rattle.mq_end.specs.declared.reason.CloseReason.TheVariants as reasons
 use Rattle.mq_end.specs.End.{End, closes, is_up}
@@ -32,8 +31,3 @@ pub record CanReceive (key : ℕ) (places : Option ℕ) (ts : List Tenant) : Typ
   pub up : is_up tenant.end.end.state ≡ true
   pub known : tenant.end.end.known ≡ true
   pub window : tenant.end.end.window ≡ places
-
--- a message is handed on
-abbrev pub IsHanded : Option Happening → Type 0
-IsHanded (Some (happens.Handed m)) = Unit {0}
-IsHanded o = ⊥

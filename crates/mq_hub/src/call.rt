@@ -2,11 +2,12 @@
 
 ghost use Rattle.std.specs.Prelude.{◌≡◌, true, Ok, OnOk, OnErr, IsErr};
 ghost use Rattle.mq_end.specs.End.{is_up};
-ghost use Rattle.mq_end.specs.Receiving.{no_outcome};
-ghost use Rattle.mq_hub.specs.Calls.{IsAllowed, Serves};
+ghost use Rattle.mq_packet.specs.Publication.{fits_delivery};
+ghost use Rattle.mq_end.specs.Receiving.{no_outcome, told_of};
+ghost use Rattle.mq_hub.specs.Calls.{IsAllowed, Serves, publish_call};
 
-use mq_end::{Outcome, PublishRefusal, ServerEnd, size_laws};
-use mq_packet::{NonEmpty, Packet, PacketId, SubAckCode, spelling_laws};
+use mq_end::{Handing, Outcome, PublishRefusal, ServerEnd, size_laws};
+use mq_packet::{Delivery, Message, NonEmpty, Packet, PacketId, SubAckCode, spelling_laws};
 use std::alloc::AllocError;
 
 /// What a broker has the end of a session do.
@@ -49,4 +50,20 @@ pub(crate) fn serve(end: &mut ServerEnd, call: Call) -> Result<Outcome, AllocErr
         Call::Grants(id, codes) => answered(end.suback(id, codes)),
         Call::Drops(id) => answered(end.unsuback(id)),
     }
+}
+
+/// An end that is up takes the PUBLISH of a message in (3.3), which stays with the broker. Out of memory, nothing changes.
+#[inline(always)]
+pub(crate) fn take_publish(
+    end: &mut ServerEnd,
+    now: u64,
+    message: &Message,
+    delivery: Option<Delivery>,
+) -> Result<Handing, AllocError>
+    requires up { is_up end.old.end.state ≡ true }
+    requires fits { fits_delivery message.now.qos delivery ≡ true }
+    ensures { Serves (publish_call now message.now delivery) (told_of message.now result) end.old end.new }
+{
+    spelling_laws();
+    end.take_publish(now, message, delivery)
 }

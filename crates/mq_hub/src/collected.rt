@@ -16,7 +16,14 @@ impl<S: FilterStore> HubOver<S> {
     pub(crate) fn is_open(&self, conn: Conn) -> bool
         ensures { result ≡ is_open (stage_of conn self.now.lines) }
     {
-        self.tables.is_open(conn)
+        self.is_open_near(conn, 0)
+    }
+
+    /// The same of a connection that is looked for at this place first.
+    pub(crate) fn is_open_near(&self, conn: Conn, place: usize) -> bool
+        ensures { result ≡ is_open (stage_of conn self.now.lines) }
+    {
+        self.tables.is_open_near(conn, place)
     }
 
     /// The end of a new session (3.1.2.4), which can also be put in the place of a session's for a while. It takes no memory.

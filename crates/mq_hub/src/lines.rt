@@ -220,6 +220,22 @@ impl Lines {
         }
     }
 
+    /// Where a connection stands in the order in which they were opened; anywhere where it isn't known.
+    pub(crate) fn place_of(&self, conn: Conn) -> usize {
+        self.by_conn.get_index_of(&conn).unwrap_or(0)
+    }
+
+    /// The same as `stage`. At the place where the connection stood a moment ago it is found without a search.
+    pub(crate) fn stage_near(&self, conn: Conn, place: usize) -> Option<&Stage>
+        ensures known { is_some result ≡ knows conn self.now.lines }
+        ensures stage { IfSome result (λ s. s.now ≡ stage_of conn self.now.lines) }
+    {
+        match self.by_conn.as_slice().get_index(place) {
+            Some((name, boxed)) if *name == conn => Some(&boxed.connection().stage),
+            _ => self.stage(conn),
+        }
+    }
+
     /// The key of the session for which a connection is up.
     pub(crate) fn key(&self, conn: Conn) -> Option<ClientKey>
         ensures { result ≡ key_on (stage_of conn self.now.lines) }

@@ -1,60 +1,29 @@
 //! A PUBLISH comes to a broker from a client that is up (3.3, 4.3).
 
-ghost use Rattle.std.specs.Prelude.{◌≡◌, ◌≤◌, ℕ, List, Bool, true, false, Some, is_some, Ok, OnOk, OnErr, IfOk};
+ghost use Rattle.std.specs.Prelude.{◌≡◌, ◌≤◌, List, Bool, true, false, Some, is_some, Ok, OnOk, OnErr};
 ghost use Rattle.mq_packet.specs.declared.packet.Packet.TheVariants as packets;
 ghost use Rattle.mq_end.specs.End.{is_up};
 ghost use Rattle.mq_end.specs.Sizes.{publish_size};
 ghost use Rattle.mq_route.specs.declared.act.Act.{Act};
 ghost use Rattle.mq_route.specs.declared.close.HubClose.TheVariants as whys;
-ghost use Rattle.mq_route.specs.declared.config.HubConfig.{HubConfig};
 ghost use Rattle.mq_route.specs.declared.conn.Conn.{Conn};
 ghost use Rattle.mq_route.specs.Arrives.{while_up};
-ghost use Rattle.mq_route.specs.Hub.{HubState, copies_of, end_of, is_open, key_on, stage_of, up_on};
+ghost use Rattle.mq_route.specs.Hub.{HubState, end_of, is_open, key_on, stage_of, up_on};
 ghost use Rattle.mq_route.specs.Work.{close};
 ghost use Rattle.mq_hub.specs.Does.{GoesBy};
-ghost use Rattle.mq_hub.specs.Keeps.{HubKeeps};
-ghost use Rattle.mq_hub.specs.Placing.{AreFor};
 ghost use Rattle.mq_hub.specs.Receiving.{IsReceived};
-ghost use Rattle.mq_hub.specs.Retained.{IsKeptOf};
-ghost use Rattle.mq_hub.specs.Seen.{hub_of};
-ghost use Rattle.mq_hub.specs.Sharing.{IsDrawnUp};
 
 use crate::doings::Doings;
 use crate::hub::HubOver;
 use crate::reception::Reception;
-use crate::sharing::Sharing;
-use crate::tables::Tables;
 use mq_end::CloseReason;
 use mq_packet::{Packet, Publish};
 use mq_route::{Act, Conn, HubClose};
 use mq_topic::{ClientKey, FilterStore};
-use std::alloc::{AllocError, Global};
+use std::alloc::AllocError;
 
 // The bytes of PUBACK and of PUBREC, at most (3.4, 3.5).
 const ACKNOWLEDGEMENT: usize = 7;
-
-impl<S: FilterStore> Tables<S> {
-    // Draws up what it takes to share the message of a PUBLISH that comes, and gives the PUBLISH back.
-    #[inline(always)]
-    fn draw_up_taken(
-        &self,
-        alloc: Global,
-        publish: Publish,
-    ) -> Result<(Publish, Sharing), AllocError>
-        ensures publish { IfOk result (λ r. r.0 ≡ publish) }
-        ensures kept { IfOk result (λ r. IsKeptOf publish.message r.1.kept) }
-        ensures drawn { IfOk result (λ r. IsDrawnUp r.1) }
-        ensures copies { IfOk result (λ r. (config : HubConfig) (clock next_key : ℕ)
-            → r.1.copies.items ≡ copies_of publish.message (hub_of config clock next_key self.now)) }
-        ensures due { IfOk result (λ r. (config : HubConfig) (next_key : ℕ) → HubKeeps config next_key self.now
-            → publish_size publish.message ≤ config.limits.most → AreFor self.now.sessions.tenants r.1.copies.items) }
-    {
-        let delivery = publish.delivery();
-        let message = publish.into_message();
-        let sharing = self.draw_up(alloc, &message)?;
-        Ok((Publish::new(message, delivery), sharing))
-    }
-}
 
 impl<S: FilterStore> HubOver<S> {
     // A PUBLISH comes whose message is handed on: the end of its client takes it in, and its message is shared; that is all that it
@@ -83,11 +52,13 @@ impl<S: FilterStore> HubOver<S> {
         ensures err_acts { OnErr result (doings.new.acts ≡ doings.old.acts) }
     {
         let now = self.clock;
-        let (publish, sharing) = self.tables.draw_up_taken(self.alloc, publish)?;
+        let delivery = publish.delivery();
+        let message = publish.into_message();
+        let sharing = self.tables.draw_up(self.alloc, &message)?;
         if !self.tables.prepare(&sharing, ACKNOWLEDGEMENT, doings)? {
             return Ok(false);
         }
-        let message = self.tables.take_publish(key, now, publish)?;
+        self.tables.take_publish(key, now, &message, delivery)?;
         self.tables.share(Act::Took(key, message), sharing, doings);
         Ok(true)
     }

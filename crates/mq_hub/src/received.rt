@@ -51,8 +51,9 @@ impl<S: FilterStore> HubOver<S> {
         requires room { 3 ≤ doings.old.room }
         ensures { ComesBy self.old.config.limits conn (decoder.old.held ++ piece.now) self.old doings.old.acts self.new doings.new.acts }
     {
+        let place = self.tables.lines.place_of(conn);
         let mut used = 0;
-        while self.is_open(conn) {
+        while self.is_open_near(conn, place) {
             let (_, rest) = piece.split_at(used);
             match self.takes_next(conn, decoder, rest, doings) {
                 Next::Packet(count) => used += count,

@@ -5,18 +5,20 @@ ghost use Rattle.mq_end.specs.End.{is_up};
 ghost use Rattle.mq_end.specs.Ready.{HasRise, HasRoom};
 ghost use Rattle.mq_packet.specs.declared.connect.Connect.{Connect};
 ghost use Rattle.mq_packet.specs.declared.message.Message.{Message};
-ghost use Rattle.mq_hub.specs.Calls.{IsAllowed, Serves};
+ghost use Rattle.mq_packet.specs.Publication.{fits_delivery};
+ghost use Rattle.mq_end.specs.Receiving.{told_of};
+ghost use Rattle.mq_hub.specs.Calls.{IsAllowed, Serves, publish_call};
 ghost use Rattle.mq_hub.specs.Collecting.{Collects};
 ghost use Rattle.mq_hub.specs.Leaving.{parted};
 ghost use Rattle.mq_hub.specs.Placing.{published, IsReady, Readies};
 ghost use Rattle.mq_hub.specs.Rising.{left, risen};
 
-use crate::call::{Call, serve};
+use crate::call::{Call, serve, take_publish};
 use crate::greeted::rise;
 use bytes::Bytes;
-use mq_end::{ByteQueue, Outcome, PublishRefusal, ServerEnd};
+use mq_end::{ByteQueue, Handing, Outcome, PublishRefusal, ServerEnd};
 use mq_flow::next_laws;
-use mq_packet::{BoxedConnect, Connect, Message, spelling_laws};
+use mq_packet::{BoxedConnect, Connect, Delivery, Message, spelling_laws};
 use mq_topic::ClientKey;
 use mq_wire::Text;
 use std::alloc::{AllocError, Global};
@@ -138,6 +140,23 @@ impl Seat {
     {
         let tenant = &mut *self.tenant;
         serve(&mut tenant.end, call)
+    }
+
+    /// Its end, which is up, takes the PUBLISH of a message in (3.3), which stays with the broker. Out of memory, nothing changes.
+    #[inline(always)]
+    pub(crate) fn take_publish(
+        &mut self,
+        now: u64,
+        message: &Message,
+        delivery: Option<Delivery>,
+    ) -> Result<Handing, AllocError>
+        requires up { is_up self.old.end.end.state ≡ true }
+        requires fits { fits_delivery message.now.qos delivery ≡ true }
+        ensures end { Serves (publish_call now message.now delivery) (told_of message.now result) self.old.end self.new.end }
+        ensures tenant { self.new ≡ record self.old { end = self.new.end } }
+    {
+        let tenant = &mut *self.tenant;
+        take_publish(&mut tenant.end, now, message, delivery)
     }
 }
 

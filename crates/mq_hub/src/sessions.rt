@@ -1,6 +1,6 @@
 //! The sessions of a broker (3.1.2.4, 3.1.3.1).
 
-ghost use Rattle.std.specs.Prelude.{◌≡◌, ◌+◌, ◌≤◌, ◌<◌, ℕ, List, [], ◌∷◌, ◌++◌, Some, None, length, map, nat_lt, vec_capacity, if◌then◌else◌, OnOk, OnErr, IfOk, IsSome, IfSome};
+ghost use Rattle.std.specs.Prelude.{◌≡◌, ◌+◌, ◌≤◌, ◌<◌, ℕ, List, [], ◌∷◌, ◌++◌, true, Some, None, length, map, nat_lt, vec_capacity, if◌then◌else◌, OnOk, OnErr, IfOk, IsSome, IfSome};
 ghost use Rattle.std.specs.HashMap.{get, spare};
 ghost use Rattle.std.specs.List.{prefix_len};
 ghost use Rattle.std.specs.Str.{bytes_eq};
@@ -8,7 +8,9 @@ ghost use Rattle.std.specs.Option.{option_copied};
 ghost use Rattle.mq_route.specs.Hub.{key_of};
 ghost use Rattle.mq_packet.specs.declared.connect.Connect.{Connect};
 ghost use Rattle.mq_packet.specs.declared.message.Message.{Message};
-ghost use Rattle.mq_hub.specs.Calls.{CanServe, ServesAt};
+ghost use Rattle.mq_packet.specs.Publication.{fits_delivery};
+ghost use Rattle.mq_end.specs.Receiving.{told_of};
+ghost use Rattle.mq_hub.specs.Calls.{CanServe, ServesAt, publish_call};
 ghost use Rattle.mq_hub.specs.Collecting.{CollectsAt};
 ghost use Rattle.mq_hub.specs.Leaving.{parted};
 ghost use Rattle.mq_hub.specs.Placing.{placed_at, AreSameButRoom, AreStillReady, IsReadyAt, ReadiesAt};
@@ -18,8 +20,8 @@ ghost use Rattle.mq_hub.specs.Sessions.{sessions_of, tenant_of, with_server, wit
 use crate::call::Call;
 use crate::session::{Seat, Tenant};
 use bytes::Bytes;
-use mq_end::{ByteQueue, Outcome, PublishRefusal, ServerEnd};
-use mq_packet::{BoxedConnect, Connect, Message};
+use mq_end::{ByteQueue, Handing, Outcome, PublishRefusal, ServerEnd};
+use mq_packet::{BoxedConnect, Connect, Delivery, Message};
 use mq_topic::ClientKey;
 use mq_wire::Text;
 use std::alloc::{AllocError, Global};
@@ -313,6 +315,45 @@ impl Sessions {
         ensures room { self.new.room ≡ self.old.room }
     {
         serve_at(self.tenants.as_mut_slice(), key, call)
+    }
+}
+
+// The end of the session of a key, which is up, takes the PUBLISH of a message in, which stays with the broker.
+#[inline(always)]
+fn take_publish_at(
+    tenants: &mut [Seat],
+    key: ClientKey,
+    now: u64,
+    message: &Message,
+    delivery: Option<Delivery>,
+) -> Result<Handing, AllocError>
+    requires ascending { AreAscending tenants.old }
+    requires can { CanServe key (publish_call now message.now delivery) tenants.old }
+    requires fits { fits_delivery message.now.qos delivery ≡ true }
+    ensures { ServesAt key (publish_call now message.now delivery) (told_of message.now result) tenants.old tenants.new }
+{
+    let at = place(tenants, key);
+    tenants[at].take_publish(now, message, delivery)
+}
+
+impl Sessions {
+    /// The end of the session of a key, which is up, takes the PUBLISH of a message in (3.3), which stays with the broker. Out of memory, the
+    /// sessions stay.
+    #[inline(always)]
+    pub(crate) fn take_publish(
+        &mut self,
+        key: ClientKey,
+        now: u64,
+        message: &Message,
+        delivery: Option<Delivery>,
+    ) -> Result<Handing, AllocError>
+        requires can { CanServe key (publish_call now message.now delivery) self.old.tenants }
+        requires fits { fits_delivery message.now.qos delivery ≡ true }
+        ensures serves { ServesAt key (publish_call now message.now delivery) (told_of message.now result) self.old.tenants self.new.tenants }
+        ensures err { OnErr result (self.new.tenants ≡ self.old.tenants) }
+        ensures room { self.new.room ≡ self.old.room }
+    {
+        take_publish_at(self.tenants.as_mut_slice(), key, now, message, delivery)
     }
 }
 

@@ -81,11 +81,11 @@ impl<S: FilterStore> Tables<S> {
         self.lines.key(conn)
     }
 
-    /// Whether a connection is open.
-    pub(crate) fn is_open(&self, conn: Conn) -> bool
+    /// Whether a connection is open, which is looked for at this place first.
+    pub(crate) fn is_open_near(&self, conn: Conn, place: usize) -> bool
         ensures { result ≡ is_open (stage_of conn self.now.lines.lines) }
     {
-        match self.lines.stage(conn) {
+        match self.lines.stage_near(conn, place) {
             Some(Stage::Fresh | Stage::UpFor(..)) => true,
             Some(Stage::Shut) | None => false,
         }

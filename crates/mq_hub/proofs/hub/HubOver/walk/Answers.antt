@@ -17,14 +17,14 @@ loop-conn-preserved g c =
       room = c.in-Packet.ensures.room refl;
       leads = leads_past c.args.self.now.config.limits c.loop-conn.self.config.limits c.args.conn c.args.piece.now c.loop-conn.decoder.held c.split_at.result.1.now
           c.loop-conn.used c.loop-conn.self c.takes_next.new.self c.loop-conn.doings.acts c.takes_next.new.doings.acts same c.split_at.ensures.back
-          (sym c.is_open.ensures ∙ c.loop-conn-test.true) (c.args.decoder.now.held ++ c.args.piece.now) c.takes_next.new.decoder.held c.in-Packet.count
+          (sym c.is_open_near.ensures ∙ c.loop-conn-test.true) (c.args.decoder.now.held ++ c.args.piece.now) c.takes_next.new.decoder.held c.in-Packet.count
           c.args.self.now c.args.doings.now.acts c.loop-conn.invariant.leads next.0 next.1;
     }
 
 pub swap_decoder-requires-clause-known : goal.swap_decoder-requires-clause-known
 swap_decoder-requires-clause-known g c =
     ap (λ (h : HubState). knows c.args.conn h.lines) c.in-Waits.ensures.next.1
-    ∙ open_known c.args.conn c.loop-conn.self.lines (sym c.is_open.ensures ∙ c.loop-conn-test.true)
+    ∙ open_known c.args.conn c.loop-conn.self.lines (sym c.is_open_near.ensures ∙ c.loop-conn-test.true)
 
 pub returns-in-Waits : goal.returns-in-Waits
 returns-in-Waits g c =
@@ -33,11 +33,11 @@ returns-in-Waits g c =
     c.loop-conn.invariant.leads c.swap_decoder.new.self c.takes_next.new.doings.acts
     (waits_past c.args.self.now.config.limits c.loop-conn.self.config.limits c.args.conn c.args.piece.now c.loop-conn.decoder.held c.split_at.result.1.now
     c.loop-conn.used c.loop-conn.self c.swap_decoder.new.self c.loop-conn.doings.acts c.takes_next.new.doings.acts same c.split_at.ensures.back
-    (sym c.is_open.ensures ∙ c.loop-conn-test.true) c.takes_next.new.self c.takes_next.new.decoder.held
+    (sym c.is_open_near.ensures ∙ c.loop-conn-test.true) c.takes_next.new.self c.takes_next.new.decoder.held
     next.0 next.1 next.2 next.3 c.swap_decoder.ensures.hub)
 
 pub returns : goal.returns
 returns g c =
     c.loop-conn.invariant.leads c.loop-conn.self c.loop-conn.doings.acts
     (lets_go_by c.args.self.now.config.limits c.args.conn (c.loop-conn.decoder.held ++ drop c.loop-conn.used c.args.piece.now) c.loop-conn.self
-    c.loop-conn.doings.acts (sym c.is_open.ensures ∙ c.loop-conn-test.false))
+    c.loop-conn.doings.acts (sym c.is_open_near.ensures ∙ c.loop-conn-test.false))

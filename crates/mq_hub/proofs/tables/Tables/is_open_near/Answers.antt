@@ -2,7 +2,7 @@ use Rattle.std.proofs.Common.{◌∙◌, sym, ap}
 use Rattle.mq_route.specs.Hub.{is_open, stage_of}
 use Rattle.mq_hub.specs.Seen.{HubTables}
 use Rattle.mq_hub.proofs.Connections.{unknown_shut}
-use Rattle.mq_hub.proofs.tables.Tables.is_open.Goals as goal
+use Rattle.mq_hub.proofs.tables.Tables.is_open_near.Goals as goal
 
 pub returns-in-Some-Shut-2 : goal.returns-in-Some-Shut-2
 returns-in-Some-Shut-2 g c =
