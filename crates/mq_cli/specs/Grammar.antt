@@ -76,9 +76,13 @@ abbrev pub collect_words : App
 collect_words =
     with_rule (with_rule (client_words (codes "collect") (text_rule (codes "FILTER") (codes "filter"))) (number_rule (codes "COUNT") (codes "count") (Signed (pos 0) (pos 4294967295)))) (flag_rule (codes "CLEAN") (codes "clean"))
 
+-- the program, whose first word is a command
+abbrev pub bare_words : App
+bare_words = on_top (λ s. record s { has_version = true; subcommand_required = true; arg_required_else_help = true }) (new_app (codes "mqtt"))
+
 -- the program's name, and one of its commands: `show`, `check`
 abbrev pub stream_words : App
-stream_words = with_subcommand (with_subcommand (on_top (λ s. record s { has_version = true; subcommand_required = true; arg_required_else_help = true }) (new_app (codes "mqtt"))) show_words.top) check_words.top
+stream_words = with_subcommand (with_subcommand bare_words show_words.top) check_words.top
 
 -- `match`, `replay FILE`, `random`
 abbrev pub job_words : App

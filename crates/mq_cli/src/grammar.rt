@@ -1,9 +1,9 @@
 //! The command line as its parser takes it: each command with its words, and what the help says.
 
 ghost use Rattle.std.specs.Prelude.{◌≡◌, false, codes, IfOk};
-ghost use Rattle.clap.specs.Words.{app_of, new_app, rule_of, with_rule};
+ghost use Rattle.clap.specs.Words.{App, app_of, new_app, rule_of, with_rule, with_subcommand};
 ghost use Rattle.clap.specs.declared.builder.command.Command.TheViews.{out-Command};
-ghost use Rattle.mq_cli.specs.Grammar.{check_words, client_words, collect_words, file_rule, flag_rule, job_words, lenient_rule, match_words, number_rule, port_rule, program_words, publish_words, qos_rule, random_words, serve_words, show_words, socket_words, stream_words, text_rule, texts_rule, word_words};
+ghost use Rattle.mq_cli.specs.Grammar.{bare_words, check_words, client_words, collect_words, file_rule, flag_rule, job_words, lenient_rule, match_words, number_rule, port_rule, program_words, publish_words, qos_rule, random_words, serve_words, show_words, socket_words, stream_words, text_rule, texts_rule, word_words};
 
 use clap::builder::ValueParser;
 use clap::{Arg, ArgAction, Command, value_parser};
@@ -61,6 +61,21 @@ fn with_arg<'a>(command: Command<'a>, arg: Arg<'a>) -> Result<Command<'a>, Alloc
     command.arg(arg)
 }
 
+// A command line with one command more, where there was memory for it. So what is owned while a command is made is let go of here alone.
+fn with_command<'a>(
+    line: Command<'a>,
+    command: Result<Command<'a>, AllocError>,
+) -> Result<Command<'a>, AllocError>
+    requires { IfOk command (λ c. (out-Command c).has_globals ≡ false) }
+    ensures { (words : App) → IfOk command.entry (λ c. app_of c ≡ words)
+        → IfOk result (λ new. app_of new ≡ with_subcommand (app_of line.entry) words.top) }
+{
+    match command {
+        Ok(command) => line.subcommand(command),
+        Err(error) => Err(error),
+    }
+}
+
 // A flag.
 fn flag<'a>(alloc: Global, word: &'a str, name: &'a str, help: &'a str) -> Arg<'a>
     ensures rule { rule_of result ≡ flag_rule word.now name.now }
@@ -103,9 +118,8 @@ fn show_command<'a>(alloc: Global) -> Result<Command<'a>, AllocError>
         "The bytes, two hexadecimal digits each; `-` takes them from the standard input",
     );
     let name = "Shows the bytes of this file instead; `-` is the standard input";
-    let file = file_option(alloc, "FILE", "file", name);
     let command = with_arg(new_command(alloc, texts), digits)?;
-    let command = with_arg(command, file)?;
+    let command = with_arg(command, file_option(alloc, "FILE", "file", name))?;
     with_arg(command, lenient_flag(alloc))
 }
 
@@ -134,10 +148,10 @@ fn match_command<'a>(alloc: Global) -> Result<Command<'a>, AllocError>
         about: "Says whether a topic filter matches a topic name",
         example: "Example: mqtt match 'sport/#' sport",
     };
+    let command = word_command(alloc, texts, "FILTER", "The topic filter")?;
     let name = Arg::new(alloc, "NAME")
         .help("The topic name")
         .required(true);
-    let command = word_command(alloc, texts, "FILTER", "The topic filter")?;
     with_arg(command, name)
 }
 
@@ -186,9 +200,9 @@ fn random_command<'a>(alloc: Global) -> Result<Command<'a>, AllocError>
     };
     let seeds = "What it is made up from: the same start, the same schedule";
     let start = number_option(alloc, "START", "start", seeds, value_parser!(u64));
+    let command = with_arg(new_command(alloc, texts), start)?;
     let counts = "How many events it has";
     let steps = number_option(alloc, "STEPS", "steps", counts, value_parser!(u32));
-    let command = with_arg(new_command(alloc, texts), start)?;
     with_arg(command, steps)
 }
 
@@ -228,38 +242,36 @@ fn serve_command<'a>(alloc: Global) -> Result<Command<'a>, AllocError>
         example: "Example: mqtt serve --port 1883 --connections 3 --workers 1",
     };
     let port = port_option(alloc, "The port that it listens on; 0 takes a free one");
-    let counts = "How many connections it serves before it ends";
-    let connections = number_option(
-        alloc,
-        "CONNECTIONS",
-        "connections",
-        counts,
-        value_parser!(u32),
-    );
-    let kind = value_parser!(u8).range(1..=64);
-    let threads = "How many threads serve, 1 to 64";
-    let workers = number_option(alloc, "WORKERS", "workers", threads, kind);
     let command = with_arg(new_command(alloc, texts), port)?;
+    let counts = "How many connections it serves before it ends";
+    let kind = value_parser!(u32);
+    let connections = number_option(alloc, "CONNECTIONS", "connections", counts, kind);
     let command = with_arg(command, connections)?;
-    with_arg(command, workers)
+    let threads = "How many threads serve, 1 to 64";
+    let kind = value_parser!(u8).range(1..=64);
+    with_arg(
+        command,
+        number_option(alloc, "WORKERS", "workers", threads, kind),
+    )
 }
 
-// A command of a client, with the options that name the broker, the client, its topics and a quality of service.
+// A command of a client, with the options that name the broker, the client, its topics, by this word, and a quality of service.
 fn client_command<'a>(
     alloc: Global,
     texts: Texts<'a>,
-    topics: Arg<'a>,
+    word: &'a str,
+    name: &'a str,
+    topics: &'a str,
 ) -> Result<Command<'a>, AllocError>
-    requires { topics.global ≡ false }
     ensures words { IfOk result (λ command.
-        app_of command ≡ client_words texts.entry.name.now (rule_of topics.entry)) }
+        app_of command ≡ client_words texts.entry.name.now (text_rule word.now name.now)) }
     ensures local { IfOk result (λ command. (out-Command command).has_globals ≡ false) }
 {
     let port = port_option(alloc, "The port of the broker, on this machine");
     let command = with_arg(new_command(alloc, texts), port)?;
-    let name = "The client identifier, 65,535 bytes at most";
-    let command = with_arg(command, text_option(alloc, "ID", "id", name))?;
-    let command = with_arg(command, topics)?;
+    let id = "The client identifier, 65,535 bytes at most";
+    let command = with_arg(command, text_option(alloc, "ID", "id", id))?;
+    let command = with_arg(command, text_option(alloc, word, name, topics))?;
     let qos = qos_option(alloc, "The greatest quality of service of the messages");
     with_arg(command, qos)
 }
@@ -284,13 +296,12 @@ fn publish_command<'a>(alloc: Global) -> Result<Command<'a>, AllocError>
         about: "Publishes texts as a client of a broker on this machine",
         example: "Example: mqtt publish --port 1883 --id p --topic a/b --qos 2 hi yo",
     };
-    let topic = text_option(alloc, "TOPIC", "topic", "The topic name of the texts");
+    let topic = "The topic name of the texts";
+    let command = client_command(alloc, texts, "TOPIC", "topic", topic)?;
     let retain = "Asks the broker to keep the last text for clients that come later";
+    let command = with_arg(command, flag(alloc, "RETAIN", "retain", retain))?;
     let kept = "Keeps the session in this file, and goes on with it where the file is there";
-    let file = file_option(alloc, "SESSION", "session", kept);
-    let retain = flag(alloc, "RETAIN", "retain", retain);
-    let command = with_arg(client_command(alloc, texts, topic)?, retain)?;
-    let command = with_arg(command, file)?;
+    let command = with_arg(command, file_option(alloc, "SESSION", "session", kept))?;
     with_arg(command, texts_word(alloc))
 }
 
@@ -304,16 +315,12 @@ fn collect_command<'a>(alloc: Global) -> Result<Command<'a>, AllocError>
         about: "Prints messages that a broker on this machine hands on to a client",
         example: "Example: mqtt collect --port 1883 --id c --filter 'a/#' --qos 2 --count 2",
     };
-    let filter = text_option(
-        alloc,
-        "FILTER",
-        "filter",
-        "The topic filter of the messages",
-    );
+    let filter = "The topic filter of the messages";
+    let command = client_command(alloc, texts, "FILTER", "filter", filter)?;
     let counts = "How many messages it waits for";
     let count = number_option(alloc, "COUNT", "count", counts, value_parser!(u32));
+    let command = with_arg(command, count)?;
     let clean = "Begins with a clean session, and keeps none";
-    let command = with_arg(client_command(alloc, texts, filter)?, count)?;
     with_arg(command, flag(alloc, "CLEAN", "clean", clean))
 }
 
@@ -332,9 +339,9 @@ fn loopback_command<'a>(alloc: Global) -> Result<Command<'a>, AllocError>
     word_command(alloc, texts, "FILE", file)
 }
 
-// The command line with the commands on streams of packets.
-fn stream_commands<'a>(alloc: Global) -> Result<Command<'a>, AllocError>
-    ensures { IfOk result (λ command. app_of command ≡ stream_words) }
+// The command line without commands.
+fn bare_line<'a>(alloc: Global) -> Command<'a>
+    ensures { app_of result ≡ bare_words }
 {
     Command::new(alloc, "mqtt")
         .version("0.1.0")
@@ -342,33 +349,40 @@ fn stream_commands<'a>(alloc: Global) -> Result<Command<'a>, AllocError>
         .after_help(STATUSES)
         .subcommand_required(true)
         .arg_required_else_help(true)
-        .subcommand(show_command(alloc)?)?
-        .subcommand(check_command(alloc)?)
+}
+
+// The command line with the commands on streams of packets.
+fn stream_commands<'a>(alloc: Global) -> Result<Command<'a>, AllocError>
+    ensures { IfOk result (λ command. app_of command ≡ stream_words) }
+{
+    let line = with_command(bare_line(alloc), show_command(alloc))?;
+    with_command(line, check_command(alloc))
 }
 
 // The command line with the commands that open no socket.
 fn job_commands<'a>(alloc: Global) -> Result<Command<'a>, AllocError>
     ensures { IfOk result (λ command. app_of command ≡ job_words) }
 {
-    stream_commands(alloc)?
-        .subcommand(match_command(alloc)?)?
-        .subcommand(replay_command(alloc)?)?
-        .subcommand(random_command(alloc)?)
+    let line = stream_commands(alloc)?;
+    let line = with_command(line, match_command(alloc))?;
+    let line = with_command(line, replay_command(alloc))?;
+    with_command(line, random_command(alloc))
 }
 
 // The command line with the commands of a broker and of its clients.
 fn socket_commands<'a>(alloc: Global) -> Result<Command<'a>, AllocError>
     ensures { IfOk result (λ command. app_of command ≡ socket_words) }
 {
-    job_commands(alloc)?
-        .subcommand(serve_command(alloc)?)?
-        .subcommand(publish_command(alloc)?)?
-        .subcommand(collect_command(alloc)?)
+    let line = job_commands(alloc)?;
+    let line = with_command(line, serve_command(alloc))?;
+    let line = with_command(line, publish_command(alloc))?;
+    with_command(line, collect_command(alloc))
 }
 
 /// The whole command line.
 pub(crate) fn command_line<'a>(alloc: Global) -> Result<Command<'a>, AllocError>
     ensures { IfOk result (λ command. app_of command ≡ program_words) }
 {
-    socket_commands(alloc)?.subcommand(loopback_command(alloc)?)
+    let line = socket_commands(alloc)?;
+    with_command(line, loopback_command(alloc))
 }
