@@ -723,22 +723,38 @@ fn faults_display_as_their_codes(rt: &impl Abort, alloc: Global) -> Result<(), F
     Ok(())
 }
 
+fn faults_are_found(rt: &impl Abort, alloc: Global) -> Result<(), Fail> {
+    fields_have_faults(rt, alloc)?;
+    first_bytes_have_faults(rt, alloc)?;
+    lengths_have_faults(rt, alloc)?;
+    sizes_have_faults(rt, alloc)
+}
+
+fn packets_are_found(rt: &impl Abort, alloc: Global) -> Result<(), Fail> {
+    places_count_from_the_first_byte(rt, alloc)?;
+    connect_has_forbidden_flags(rt, alloc)?;
+    packets_are_read_as_they_are_spelled(rt, alloc)?;
+    streams_are_read_in_pieces(rt, alloc)
+}
+
+fn decoders_keep_what_they_are_to(rt: &impl Abort, alloc: Global) -> Result<(), Fail> {
+    fields_are_read(rt, alloc)?;
+    limits_are_from_64(rt)?;
+    a_fault_lasts_until_reset(rt, alloc)?;
+    only_what_is_left_over_is_copied(rt, alloc)
+}
+
+fn errors_have_sentences(rt: &impl Abort, alloc: Global) -> Result<(), Fail> {
+    what_follows_a_fault_does_not_matter(rt, alloc)?;
+    errors_of_the_decoder_display_as_sentences(rt, alloc)?;
+    errors_of_a_reader_display_as_sentences(rt, alloc)?;
+    faults_display_as_their_codes(rt, alloc)
+}
+
 #[test]
 fn all_hold(rt: HostRuntime) -> Result<(), Fail> {
-    fields_have_faults(&rt, rt.alloc())?;
-    first_bytes_have_faults(&rt, rt.alloc())?;
-    lengths_have_faults(&rt, rt.alloc())?;
-    sizes_have_faults(&rt, rt.alloc())?;
-    places_count_from_the_first_byte(&rt, rt.alloc())?;
-    connect_has_forbidden_flags(&rt, rt.alloc())?;
-    packets_are_read_as_they_are_spelled(&rt, rt.alloc())?;
-    streams_are_read_in_pieces(&rt, rt.alloc())?;
-    fields_are_read(&rt, rt.alloc())?;
-    limits_are_from_64(&rt)?;
-    a_fault_lasts_until_reset(&rt, rt.alloc())?;
-    only_what_is_left_over_is_copied(&rt, rt.alloc())?;
-    what_follows_a_fault_does_not_matter(&rt, rt.alloc())?;
-    errors_of_the_decoder_display_as_sentences(&rt, rt.alloc())?;
-    errors_of_a_reader_display_as_sentences(&rt, rt.alloc())?;
-    faults_display_as_their_codes(&rt, rt.alloc())
+    faults_are_found(&rt, rt.alloc())?;
+    packets_are_found(&rt, rt.alloc())?;
+    decoders_keep_what_they_are_to(&rt, rt.alloc())?;
+    errors_have_sentences(&rt, rt.alloc())
 }

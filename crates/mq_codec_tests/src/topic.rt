@@ -417,21 +417,33 @@ fn a_filter_has_65536_levels(rt: &impl Abort, alloc: Global) -> Result<(), Fail>
     expect_told(rt, levels_of_longest(alloc), "65537 true true 1", "")
 }
 
+fn names_and_filters_are_read(rt: &impl Abort, alloc: Global) -> Result<(), Fail> {
+    names_are_taken_or_refused(rt, alloc)?;
+    filters_are_taken_or_refused(rt, alloc)?;
+    texts_are_tested_without_memory(rt);
+    names_and_filters_have_at_most_65535_bytes(rt, alloc)?;
+    texts_that_pass_become_names_and_filters(rt, alloc)
+}
+
+fn filters_are_matched(rt: &impl Abort, alloc: Global) -> Result<(), Fail> {
+    faults_have_codes_and_display_as_sentences(rt, alloc)?;
+    qualities_of_service_have_numbers(rt);
+    filters_match_names(rt, alloc)?;
+    filters_have_faults(rt, alloc);
+    names_find_clients_in_a_list(rt, alloc)
+}
+
+fn stores_find_rows(rt: &impl Abort, alloc: Global) -> Result<(), Fail> {
+    names_find_clients_in_a_trie(rt, alloc)?;
+    rows_are_set_and_taken_away_in_a_list(rt, alloc)?;
+    rows_are_set_and_taken_away_in_a_trie(rt, alloc)?;
+    a_trie_has_the_nodes_of_its_rows(rt, alloc)?;
+    a_filter_has_65536_levels(rt, alloc)
+}
+
 #[test]
 fn all_hold(rt: HostRuntime) -> Result<(), Fail> {
-    names_are_taken_or_refused(&rt, rt.alloc())?;
-    filters_are_taken_or_refused(&rt, rt.alloc())?;
-    texts_are_tested_without_memory(&rt);
-    names_and_filters_have_at_most_65535_bytes(&rt, rt.alloc())?;
-    texts_that_pass_become_names_and_filters(&rt, rt.alloc())?;
-    faults_have_codes_and_display_as_sentences(&rt, rt.alloc())?;
-    qualities_of_service_have_numbers(&rt);
-    filters_match_names(&rt, rt.alloc())?;
-    filters_have_faults(&rt, rt.alloc());
-    names_find_clients_in_a_list(&rt, rt.alloc())?;
-    names_find_clients_in_a_trie(&rt, rt.alloc())?;
-    rows_are_set_and_taken_away_in_a_list(&rt, rt.alloc())?;
-    rows_are_set_and_taken_away_in_a_trie(&rt, rt.alloc())?;
-    a_trie_has_the_nodes_of_its_rows(&rt, rt.alloc())?;
-    a_filter_has_65536_levels(&rt, rt.alloc())
+    names_and_filters_are_read(&rt, rt.alloc())?;
+    filters_are_matched(&rt, rt.alloc())?;
+    stores_find_rows(&rt, rt.alloc())
 }
