@@ -153,6 +153,7 @@ fn gather_ends(trie: &Trie, nodes: &[Option<NodeId>], found: &mut Found) -> Resu
 }
 
 // Notes the clients below the nodes at `#`, which stands for all levels that are left.
+#[inline(always)]
 fn gather_rests(trie: &Trie, nodes: &[Option<NodeId>], found: &mut Found) -> Result<(), AllocError>
     ensures { OnOk result (Gathers (λ c q. Among (λ at. IsAt (tree trie.now) (child_of trie.now at (35 ∷ [])) c q) nodes.now)
         found.old.entries found.new.entries) }
@@ -175,6 +176,7 @@ fn push_some(places: &mut Vec<Option<NodeId>>, at: Option<NodeId>) -> Result<(),
 }
 
 // The children of the nodes at a level of the name, and at `+`.
+#[inline(always)]
 fn step(
     alloc: Global,
     trie: &Trie,
@@ -218,6 +220,7 @@ fn walk_on(
 }
 
 // Notes what the levels that are left of a name find below a node. A list of nodes takes memory only where a level reaches some.
+#[inline(always)]
 fn walk(
     alloc: Global,
     trie: &Trie,
@@ -245,6 +248,7 @@ fn begins_with_dollar(name: &str) -> bool
 
 /// The clients of the nodes whose filters match a name, each with the greatest QoS. A filter that
 /// begins with a wildcard matches no name that begins with `$` (4.7.2).
+#[inline(always)]
 pub(crate) fn search(alloc: Global, trie: &Trie, name: &str) -> Result<Found, AllocError>
     ensures { IfOk result (λ found. (row : RowMap) → IsTrieOf row (tree trie.now)
         → Gathers (λ c q. (f : List ℕ) × (row c f ≡ Some q) × (is_match f name.now ≡ true)) [] found.entries) }
