@@ -18,3 +18,4 @@ pub mod Wanting
 pub mod Filling
 pub mod Readers
 pub mod Sharing
+pub mod WholeFound

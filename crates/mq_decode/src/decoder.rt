@@ -3,16 +3,18 @@
 ghost use Rattle.std.specs.Prelude.{◌≡◌, ◌+◌, ◌≤◌, ◌++◌, ℕ, List, [], length, take, Option, Some, None, Err, IfOk, IfErr, IfSome, IfNone, OnErr, OnOk};
 ghost use Rattle.std.specs.Result.{result_err};
 ghost use Rattle.std.specs.List.{flat_map};
+ghost use Rattle.mq_packet.specs.declared.packet.Packet.TheVariants as packets;
 ghost use Rattle.mq_decode.specs.Copied.{Copies, counted_more, counted_next};
 ghost use Rattle.mq_decode.specs.Grammar.{Goes, IsFront, Pending, ReadsWithin, Stops};
 
+use crate::ahead::{take_next, take_publish};
 use crate::fault::DecodeError;
 use crate::held::Held;
 use crate::laws::pending_is_short;
 use crate::limits::Limits;
-use crate::take::{take_in, take_next, take_publish};
+use crate::take::take_in;
 use bytes::Bytes;
-use mq_packet::Packet;
+use mq_packet::{Packet, Publish};
 use std::alloc::Global;
 use std::marker::Model;
 
@@ -105,9 +107,9 @@ impl Decoder {
     // Takes the PUBLISH that a piece begins with, where nothing is held: most packets of a busy stream are such. `None` where no whole one
     // stands there, or memory runs out.
     #[inline(always)]
-    fn next_publish(&mut self, piece: &[u8]) -> Option<(Packet, usize)>
+    fn next_publish(&mut self, piece: &[u8]) -> Option<(Publish, usize)>
         ensures within { IfSome result (λ x. x.1 ≤ length piece.now) }
-        ensures packet { IfSome result (λ x. ReadsWithin self.old.limit x.0 (take x.1 piece.now)) }
+        ensures packet { IfSome result (λ x. ReadsWithin self.old.limit (packets.Publish x.0) (take x.1 piece.now)) }
         ensures held { IfSome result (λ x. self.old.held ≡ []) }
         ensures failed { IfSome result (λ x. self.old.failed ≡ None) }
         ensures same { self.new ≡ self.old }
@@ -122,6 +124,7 @@ impl Decoder {
     /// that it used. Returns `None` where what is held and the piece are less than a whole packet, and
     /// then all of the piece is held. Messages that lie whole in the piece share copies of its bytes, where each call gets what the one before
     /// left of it, so one that is kept keeps up to 1 KiB; and so does the decoder, up to the call that returns `None` or an error.
+    #[inline(always)]
     pub fn next_packet(&mut self, piece: &[u8]) -> Result<Option<(Packet, usize)>, DecodeError>
         // What is held and the front of the piece are the packet, and nothing is held after it.
         ensures within { IfOk result (λ o. IfSome o (λ x. x.1 ≤ length piece.now)) }
@@ -149,8 +152,8 @@ impl Decoder {
         ensures counted_all { IfOk result (λ o. IfNone o
             (self.new.copied ≡ counted_more self.old.copied (length piece.now))) }
     {
-        if let Some(found) = self.next_publish(piece) {
-            return Ok(Some(found));
+        if let Some((publish, used)) = self.next_publish(piece) {
+            return Ok(Some((Packet::Publish(publish), used)));
         }
         match self.failed {
             Some(error) => Err(error),
@@ -206,7 +209,8 @@ fn begins_as_publish(piece: &[u8]) -> bool {
     matches!(piece, [0x30..=0x3F, ..])
 }
 
-// Lets go of what is held, and keeps the error.
+// Lets go of what is held, and keeps the error. It is never inlined: it is called seldom, and `next_packet` is always inlined.
+#[inline(never)]
 fn stop(alloc: Global, held: &mut Held, failed: &mut Option<DecodeError>, error: DecodeError)
     ensures held { held.new.bytes ≡ [] }
     ensures wants { held.new.wants ≡ 0 }

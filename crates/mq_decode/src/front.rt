@@ -28,6 +28,7 @@ use std::alloc::Global;
 pub(crate) fn acknowledgement(limits: Limits, bytes: &[u8]) -> Option<PacketView<'_>>
     ensures read { IfSome result
         (λ packet. front_at limits bytes.now ≡ Ok (Some (packet_of packet, 4))) }
+    ensures within { IfSome result (λ packet. 4 ≤ length bytes.now) }
     ensures end { IfSome result (LiesAtEnd (take 4 bytes.now)) }
 {
     let [first, 2, _, _, ..] = bytes else {
@@ -53,6 +54,7 @@ pub(crate) fn acknowledgement(limits: Limits, bytes: &[u8]) -> Option<PacketView
 pub(crate) fn bare_packet(limits: Limits, bytes: &[u8]) -> Option<PacketView<'_>>
     ensures read { IfSome result
         (λ packet. front_at limits bytes.now ≡ Ok (Some (packet_of packet, 2))) }
+    ensures within { IfSome result (λ packet. 2 ≤ length bytes.now) }
     ensures end { IfSome result (LiesAtEnd (take 2 bytes.now)) }
 {
     match bytes {

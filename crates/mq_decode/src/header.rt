@@ -42,6 +42,7 @@ fn length_under(limits: Limits, bytes: &[u8]) -> LengthReading
 }
 
 /// The header at the front of `bytes`, `None` where it is not whole, or its fault.
+#[inline(always)]
 #[tactic(auto, unfolding(crate::specs::Front::header_at))]
 pub(crate) fn header_at(limits: Limits, bytes: &[u8]) -> Result<Option<Header>, DecodeFault>
     ensures read { result ≡ header_at limits bytes.now }

@@ -1,6 +1,7 @@
 //! Control packets out of an ordered stream of bytes, cut anywhere (chapters 2 and 3).
 #![tactic(auto)]
 
+mod ahead;
 mod body;
 mod connect;
 mod decoder;

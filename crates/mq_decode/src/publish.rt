@@ -127,6 +127,7 @@ impl<'a> PublishView<'a> {
     }
 
     // The message of these fields, which are its own.
+    #[inline(always)]
     fn message_over(&self, fields: Bytes) -> Result<Message, AllocError>
         requires { fields ≡ self.now.fields }
         ensures { IfOk result (λ m. m ≡ self.now.publish.message) }
@@ -165,6 +166,7 @@ fn shared_fields(alloc: Global, whole: Option<&Bytes>, fields: &[u8]) -> Result<
 }
 
 // The topic name at the front of the fields, and the payload that ends them. Both share one block.
+#[inline(always)]
 fn parts(
     mut fields: Bytes,
     topic: &TextRef<'_>,
@@ -212,6 +214,7 @@ fn delivery(flags: PublishFlags, bytes: &[u8]) -> Result<(Option<Delivery>, &[u8
 }
 
 /// All fields of a PUBLISH.
+#[inline(always)]
 #[tactic(auto, unfolding(crate::specs::Bodies::publish_at))]
 pub(crate) fn publish(flags: PublishFlags, bytes: &[u8]) -> Result<PublishView<'_>, BadField>
     requires { length bytes.now < 2 ^ 28 }

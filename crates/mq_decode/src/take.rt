@@ -8,10 +8,9 @@ ghost use Rattle.mq_decode.specs.Gives.{BeginsWith, EndsWith};
 ghost use Rattle.mq_decode.specs.Views.{LiesAtEnd, packet_of};
 
 use crate::fault::DecodeError;
-use crate::front::{acknowledgement, bare_packet, front, publish_front, view};
+use crate::front::{acknowledgement, bare_packet, front, view};
 use crate::header::{end_at, header_at};
 use crate::held::Held;
-use crate::laws::{pending_is_short, reads_again};
 use crate::limits::Limits;
 use crate::packet_view::{PacketView, View};
 use crate::publish::PublishView;
@@ -36,12 +35,9 @@ fn append(out: &mut Vec<Packet>, packet: Packet) -> Result<(), DecodeError>
 /// The most bytes of which messages of a piece share one copy; a longer packet has one of its own.
 const SHARED_COPY: usize = 4096;
 
-/// The same of messages that are taken one at a time, which may be kept for longer.
-const SHARED_AHEAD: usize = 1024;
-
-// How many bytes are copied for a packet of `size` bytes, and for those that follow it in `len` bytes: as many as
-// whole packets of this size take, and at most so many where these are more than one.
-fn copy_len(most: usize, size: usize, len: usize) -> usize
+/// How many bytes are copied for a packet of `size` bytes, and for those that follow it in `len` bytes: as many as
+/// whole packets of this size take, and at most so many where these are more than one.
+pub(crate) fn copy_len(most: usize, size: usize, len: usize) -> usize
     requires { size ≤ len }
     ensures whole { size ≤ result }
     ensures within { result ≤ len }
@@ -202,127 +198,6 @@ fn append_owned(
     }
     copy.advance(size.min(copy.len()));
     append_alone(alloc, packet, out)
-}
-
-// Whether a copy begins with these bytes.
-fn begins_with(copy: &Bytes, front: &[u8]) -> bool
-    ensures { IsTrue result → (length front.now ≤ length copy.now) × BeginsWith copy.now front.now }
-{
-    copy.as_slice().starts_with(front)
-}
-
-// The first `size` bytes, out of a copy of what was to come where that begins with them, and else out of a copy of the front of all bytes
-// that is made anew. What is left of it is to come next.
-fn share_ahead(
-    alloc: Global,
-    size: usize,
-    bytes: &[u8],
-    ahead: &mut Bytes,
-) -> Result<Bytes, AllocError>
-    requires { size ≤ length bytes.now }
-    ensures { IfOk result (λ b. b ≡ take size bytes.now) }
-{
-    let (front, _) = bytes.split_at(size);
-    if !begins_with(ahead, front) {
-        let (many, _) = bytes.split_at(copy_len(SHARED_AHEAD, size, bytes.len()));
-        *ahead = Bytes::copy_from_slice(alloc, many)?;
-    }
-    ahead.split_to(size)
-}
-
-// Passes the first `size` bytes over in a copy of what was to come, where that begins with them.
-fn pass_ahead(size: usize, bytes: &[u8], ahead: &mut Bytes)
-    requires { size ≤ length bytes.now }
-{
-    let (front, _) = bytes.split_at(size);
-    if begins_with(ahead, front) {
-        ahead.advance(size);
-    }
-}
-
-// The PUBLISH of its own that takes the first `size` bytes. It shares a copy of them and of what comes next. It is never inlined: what its
-// message takes on a frame would be zeroed for each packet that has none.
-#[inline(never)]
-fn publish_ahead(
-    alloc: Global,
-    publish: &PublishView<'_>,
-    size: usize,
-    bytes: &[u8],
-    ahead: &mut Bytes,
-) -> Result<Publish, AllocError>
-    requires within { size ≤ length bytes.now }
-    requires end { EndsWith (take size bytes.now) publish.now.fields }
-    ensures { IfOk result (λ p. p ≡ publish.now.publish) }
-{
-    let packet = share_ahead(alloc, size, bytes, ahead)?;
-    publish.sharing(packet)
-}
-
-/// The PUBLISH that bytes begin with and how many it takes, where a whole one stands there and there is memory for it. It shares a copy of
-/// them and of what comes next. It is never inlined: what it takes on a frame would be zeroed for each packet that is no PUBLISH.
-#[inline(never)]
-pub(crate) fn take_publish(
-    alloc: Global,
-    limits: Limits,
-    bytes: &[u8],
-    ahead: &mut Bytes,
-) -> Option<(Packet, usize)>
-    ensures within { IfSome result (λ x. x.1 ≤ length bytes.now) }
-    ensures packet { IfSome result (λ x. ReadsWithin limits x.0 (take x.1 bytes.now)) }
-{
-    number_laws();
-    text_laws();
-    length_laws();
-    let (publish, size) = publish_front(limits, bytes)?;
-    match publish_ahead(alloc, &publish, size, bytes, ahead) {
-        Ok(publish) => Some((Packet::Publish(publish), size)),
-        Err(_) => None,
-    }
-}
-
-// The packet of its own that a view of the first `size` bytes stands for. A message shares a copy of them and of what comes next.
-fn owned_ahead(
-    alloc: Global,
-    packet: &PacketView<'_>,
-    size: usize,
-    bytes: &[u8],
-    ahead: &mut Bytes,
-) -> Result<Packet, AllocError>
-    requires within { size ≤ length bytes.now }
-    requires end { LiesAtEnd (take size bytes.now) packet.now }
-    ensures { IfOk result (λ p. p ≡ packet_of packet.now) }
-{
-    if let PacketView::Publish(publish) = packet {
-        return Ok(Packet::Publish(publish_ahead(alloc, publish, size, bytes, ahead)?));
-    }
-    pass_ahead(size, bytes, ahead);
-    packet.owned(alloc)
-}
-
-// The packet at the front and how many bytes it takes, `None` where nothing is wrong but it is not whole, or the first fault. A message
-// shares a copy of the bytes that come next too; where there is no packet the copy is let go.
-fn front_ahead(
-    alloc: Global,
-    limits: Limits,
-    bytes: &[u8],
-    ahead: &mut Bytes,
-) -> Result<Option<(Packet, usize)>, DecodeError>
-    ensures front { IsFront limits bytes.now result }
-    ensures some { IfOk result (λ o. IfSome o (λ x. 0 < x.1)) }
-{
-    pending_is_short();
-    reads_again();
-    match view(bytes, limits) {
-        View::Whole(packet, size) => match owned_ahead(alloc, &packet, size, bytes, ahead) {
-            Ok(packet) => Ok(Some((packet, size))),
-            Err(_) => Err(DecodeError::Memory),
-        },
-        View::More => {
-            *ahead = Bytes::new();
-            Ok(None)
-        }
-        View::Fault(fault) => Err(DecodeError::Fault(fault)),
-    }
 }
 
 /// Appends the packets that stand whole at the front, and answers how many bytes they take.
@@ -511,83 +386,6 @@ fn take_first(
             Ok(found.1)
         }
     }
-}
-
-// Takes the next packet of what is held and a piece that follows it, as `take_next` does, however many
-// bytes are wanted.
-#[inline(never)]
-fn take_found(
-    alloc: Global,
-    limits: Limits,
-    held: &mut Held,
-    ahead: &mut Bytes,
-    piece: &[u8],
-) -> Result<Option<(Packet, usize)>, DecodeError>
-    requires pending { Pending limits held.old.bytes }
-    requires wants { Wants limits held.old.bytes held.old.wants }
-    ensures within { IfOk result (λ o. IfSome o (λ x. x.1 ≤ length piece.now)) }
-    ensures packet { IfOk result (λ o. IfSome o
-        (λ x. ReadsWithin limits x.0 (held.old.bytes ++ take x.1 piece.now))) }
-    ensures taken { IfOk result (λ o. IfSome o (λ x. held.new.bytes ≡ [])) }
-    ensures counted { IfOk result (λ o. IfSome o
-        (λ x. held.new.copied ≡ counted_next held.old.bytes held.old.copied x.1)) }
-    ensures less { IfOk result (λ o. IfNone o (Pending limits (held.old.bytes ++ piece.now))) }
-    ensures holds { IfOk result (λ o. IfNone o (held.new.bytes ≡ held.old.bytes ++ piece.now)) }
-    ensures counted_all { IfOk result (λ o. IfNone o
-        (held.new.copied ≡ counted_more held.old.copied (length piece.now))) }
-    ensures wants { OnOk result (Wants limits held.new.bytes held.new.wants) }
-    ensures err { IfErr result (λ e. IsFront limits (held.old.bytes ++ piece.now) (Err e)) }
-{
-    if !held.is_empty() {
-        return fill_up(alloc, limits, held, piece);
-    }
-    match front_ahead(alloc, limits, piece, ahead)? {
-        Some(found) => Ok(Some(found)),
-        None if piece.is_empty() => Ok(None),
-        None => {
-            held.hold(piece)?;
-            Ok(None)
-        }
-    }
-}
-
-/// Takes the next packet of what is held and a piece that follows it, and answers it with how many
-/// bytes of the piece it took; `None` where they are less than a whole packet, and then all of the
-/// piece is held. A piece that is shorter than what the held packet is known to want is put behind it, and
-/// nothing is read. A message that lies whole in the piece shares a copy of what comes next, which is kept for the next call and
-/// passed over where something else comes.
-#[inline]
-pub(crate) fn take_next(
-    alloc: Global,
-    limits: Limits,
-    held: &mut Held,
-    ahead: &mut Bytes,
-    piece: &[u8],
-) -> Result<Option<(Packet, usize)>, DecodeError>
-    requires pending { Pending limits held.old.bytes }
-    requires wants { Wants limits held.old.bytes held.old.wants }
-    ensures within { IfOk result (λ o. IfSome o (λ x. x.1 ≤ length piece.now)) }
-    ensures packet { IfOk result (λ o. IfSome o
-        (λ x. ReadsWithin limits x.0 (held.old.bytes ++ take x.1 piece.now))) }
-    ensures taken { IfOk result (λ o. IfSome o (λ x. held.new.bytes ≡ [])) }
-    ensures counted { IfOk result (λ o. IfSome o
-        (λ x. held.new.copied ≡ counted_next held.old.bytes held.old.copied x.1)) }
-    ensures less { IfOk result (λ o. IfNone o (Pending limits (held.old.bytes ++ piece.now))) }
-    ensures holds { IfOk result (λ o. IfNone o (held.new.bytes ≡ held.old.bytes ++ piece.now)) }
-    ensures counted_all { IfOk result (λ o. IfNone o
-        (held.new.copied ≡ counted_more held.old.copied (length piece.now))) }
-    ensures wants { OnOk result (Wants limits held.new.bytes held.new.wants) }
-    ensures err { IfErr result (λ e. IsFront limits (held.old.bytes ++ piece.now) (Err e)) }
-{
-    if held.gets_nothing(piece) {
-        *ahead = Bytes::new();
-        return Ok(None);
-    }
-    if held.wants_over(piece) {
-        held.hold(piece)?;
-        return Ok(None);
-    }
-    take_found(alloc, limits, held, ahead, piece)
 }
 
 // Appends the packet that is held, which is whole or faulty, whichever it is. Where memory runs out the list is unchanged.
