@@ -4,7 +4,8 @@ use Rattle.std.proofs.lemmas.Bool.{cond-true, cond-false, and_parts, or_parts}
 use Rattle.std.proofs.lemmas.List.Sums.{sum_by-cons}
 use Rattle.std.proofs.lemmas.Map.{keys-set_value}
 use Rattle.std.specs.List.{AllByRecursion, IsDistinct, count_by}
-use Rattle.std.specs.Map.{keys_of, lookup, remove_entry, set_value}
+use Rattle.std.specs.Map.{keys_of, lookup, lookup_key, remove_entry, set_value, values_of}
+use Rattle.indexmap.specs.IndexMap.{set_value_at}
 use Rattle.std.specs.Option.{is_some}
 use Rattle.mq_route.specs.declared.conn.Conn.{Conn}
 use Rattle.mq_route.specs.declared.stage.Stage.{Stage}
@@ -15,7 +16,7 @@ use Rattle.mq_route.specs.Routed.{same_conn}
 use Rattle.mq_route.specs.Welcome.{up_count}
 use Rattle.mq_hub.specs.declared.connection.Connection.{Connection}
 use Rattle.mq_hub.specs.Alarms.{AlarmTable, AreAwaited}
-use Rattle.mq_hub.specs.Lines.{lines_of, line_of, ups_of, up_in, has_key, AreUpOnce, Service, service, IsServed, IsServedBy, AreLines}
+use Rattle.mq_hub.specs.Lines.{lines_of, line_of, ups_of, up_in, has_key, AreUpOnce, Service, service, IsNamedAt, IsServed, IsServedBy, AreLines}
 
 abbrev pub Entry : Type 0
 Entry = Conn × Connection
@@ -72,6 +73,12 @@ at_place P n [] e all there = absurd cc
 at_place P zero (x ∷ xs) e all there = let is : x ≡ e = cc in subst (λ (y : Entry). P y.0) is all.0
 at_place P (suc n) (x ∷ xs) e all there = at_place P n xs e all.1 there
 
+-- and another entry, which is not the one at the place, has another name
+other_name : (k : Conn) (n : ℕ) (x : Entry) (xs : List Entry) (e : Entry) → AllByRecursion (λ q. same_conn x.0 q ≡ false) (keys_of xs) → slice_get xs n ≡ Some e
+    → same_conn k e.0 ≡ true → same_conn k x.0 ≡ false
+other_name k n x xs e apart there same =
+    symm k x.0 ∙ ap (same_conn x.0) (one_conn k e.0 same) ∙ at_place (λ q. same_conn x.0 q ≡ false) n xs e apart there
+
 pub found_at : (k : Conn) (n : ℕ) (es : List Entry) (e : Entry) → IsDistinct same_conn (keys_of es) → slice_get es n ≡ Some e → same_conn k e.0 ≡ true → lookup (same_conn k) es ≡ Some e.1
 unfolding IsDistinct
 found_at k n [] e distinct there same = absurd cc
@@ -79,9 +86,47 @@ found_at k zero (x ∷ xs) e distinct there same =
     let is : x ≡ e = cc in
     cond-true (same_conn k x.0) (Some x.1) (lookup (same_conn k) xs) (ap (λ (y : Entry). same_conn k y.0) is ∙ same) ∙ ap (λ (y : Entry). Some y.1) is
 found_at k (suc n) (x ∷ xs) e distinct there same =
-    let apart : same_conn x.0 e.0 ≡ false = at_place (λ q. same_conn x.0 q ≡ false) n xs e distinct.0 there in
-    let other : same_conn k x.0 ≡ false = symm k x.0 ∙ ap (same_conn x.0) (one_conn k e.0 same) ∙ apart in
-    cond-false (same_conn k x.0) (Some x.1) (lookup (same_conn k) xs) other ∙ found_at k n xs e distinct.1 there same
+    cond-false (same_conn k x.0) (Some x.1) (lookup (same_conn k) xs) (other_name k n x xs e distinct.0 there same) ∙ found_at k n xs e distinct.1 there same
+
+-- what is written at a place is written to the connection of the name
+pub set_at : (k : Conn) (n : ℕ) (es : List Entry) (w : Connection) → IsDistinct same_conn (keys_of es) → IsNamedAt k n es
+    → set_value_at es n w ≡ set_value (same_conn k) es w
+unfolding IsDistinct
+set_at k n [] w distinct at = refl
+set_at k zero (x ∷ xs) w distinct at =
+    let is : x ≡ at.0 = at_first x xs at.0 at.1 in
+    sym (cond-true (same_conn k x.0) ((x.0, w) ∷ xs) (x ∷ set_value (same_conn k) xs w) (ap (λ (y : Entry). same_conn k y.0) is ∙ at.2))
+  where
+    at_first : (x : Entry) (xs : List Entry) (e : Entry) → slice_get (x ∷ xs) zero ≡ Some e → x ≡ e
+    at_first x xs e there = cc
+set_at k (suc n) (x ∷ xs) w distinct at =
+    ap (λ (ys : List Entry). x ∷ ys) (set_at k n xs w distinct.1 at)
+    ∙ sym (cond-false (same_conn k x.0) ((x.0, w) ∷ xs) (x ∷ set_value (same_conn k) xs w) (other_name k n x xs at.0 distinct.0 at.1 at.2))
+
+-- the value at a place is the entry's
+value_at : (n : ℕ) (es : List Entry) (e : Entry) → slice_get es n ≡ Some e → slice_get (values_of es) n ≡ Some e.1
+value_at n [] e there = absurd cc
+value_at zero (x ∷ xs) e there = let is : x ≡ e = cc in ap (λ (y : Entry). Some y.1) is
+value_at (suc n) (x ∷ xs) e there = value_at n xs e there
+
+pub own_at : (k : Conn) (n : ℕ) (es : List Entry) (own : Connection) → IsDistinct same_conn (keys_of es) → IsNamedAt k n es → Some own ≡ slice_get (values_of es) n
+    → lookup (same_conn k) es ≡ Some own
+own_at k n es own distinct at is = found_at k n es at.0 distinct at.1 at.2 ∙ sym (is ∙ value_at n es at.0 at.1)
+
+pub never_none : {P : Type 0} (k : Conn) (n : ℕ) (es : List Entry) → IsNamedAt k n es → None ≡ slice_get (values_of es) n → P
+never_none k n es at none = let e = none ∙ value_at n es at.0 at.1 in absurd cc
+
+-- the key that is found has the name
+pub key_passes : (k : Conn) (es : List Entry) (q : Conn) → lookup_key (same_conn k) es ≡ Some q → same_conn k q ≡ true
+key_passes k [] q there = absurd cc
+key_passes k (e ∷ es) q there = go (same_conn k e.0) refl (key_passes k es q)
+  where
+    go : (b : Bool) → same_conn k e.0 ≡ b → (lookup_key (same_conn k) es ≡ Some q → same_conn k q ≡ true) → same_conn k q ≡ true
+    go true same rest =
+        let v : Some e.0 ≡ Some q = sym (cond-true (same_conn k e.0) (Some e.0) (lookup_key (same_conn k) es) same) ∙ there in
+        let is : e.0 ≡ q = cc in
+        ap (same_conn k) (sym is) ∙ same
+    go false other rest = rest (sym (cond-false (same_conn k e.0) (Some e.0) (lookup_key (same_conn k) es) other) ∙ there)
 
 -- what a look-up by name gives of the lines is of the connection that is found
 module _ {X : Type 0} (p : Line → X) (k : Conn) (g : List Line → X) (step : (x : Line) (xs : List Line) → g (x ∷ xs) ≡ cond (is_line k x) (p x) (g xs)) where

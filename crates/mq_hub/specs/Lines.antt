@@ -1,5 +1,5 @@
 -- The table of connections (4.2).
-use Rattle.std.specs.Prelude.{◌≡◌, ◌≤◌, ℕ, ◌==◌, List, [], ◌∷◌, map, Bool, false, Option, Some, None, is_some, if◌then◌else◌}
+use Rattle.std.specs.Prelude.{◌≡◌, ◌≤◌, ℕ, ◌==◌, List, [], ◌∷◌, map, slice_get, Bool, true, false, Option, Some, None, is_some, if◌then◌else◌}
 use Rattle.std.specs.List.{AllByRecursion, IsDistinct, count_by}
 use Rattle.std.specs.Map.{keys_of}
 use Rattle.mq_decode.specs.Limits.{Bounds}
@@ -25,6 +25,10 @@ line_of c = record { conn = c.conn; stage = c.stage; held = c.decoder.held; wait
 
 abbrev pub lines_of : List (Conn × Connection) → List Line
 lines_of es = map (λ e. line_of e.1) es
+
+-- the connection at a place has this name
+abbrev pub IsNamedAt : Conn → ℕ → List (Conn × Connection) → Type 0
+IsNamedAt k n es = (e : Conn × Connection) × (slice_get es n ≡ Some e) × (same_conn k e.0 ≡ true)
 
 -- its decoder reads within these bounds, and met no error
 abbrev pub IsReading : Bounds → Connection → Type 0

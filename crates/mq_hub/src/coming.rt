@@ -43,17 +43,17 @@ impl<S: FilterStore> HubOver<S> {
         }
     }
 
-    /// A whole packet comes on an open connection: its moment is noted (3.1.2.10), and it comes in. Where memory runs out for it the
-    /// connection is closed. It is never refused.
+    /// A whole packet comes on an open connection, which is looked for at this place first: its moment is noted (3.1.2.10), and it comes in.
+    /// Where memory runs out for it the connection is closed. It is never refused.
     #[inline(always)]
-    pub(crate) fn takes(&mut self, conn: Conn, packet: Packet, doings: &mut Doings)
+    pub(crate) fn takes(&mut self, conn: Conn, place: usize, packet: Packet, doings: &mut Doings)
         requires open { is_open (stage_of conn self.old.lines) ≡ true }
         requires within { length (fields packet) ≤ self.old.config.limits.most }
         requires room { 3 ≤ doings.old.room }
         ensures goes { (growth : Growth) × GoesBy (takes conn packet growth) self.old doings.old.acts self.new doings.new.acts }
         ensures room { is_open (stage_of conn self.new.lines) ≡ true → 3 ≤ doings.new.room }
     {
-        let up = self.hear(conn);
+        let up = self.hear(conn, place);
         match self.comes_in(conn, up, packet, doings) {
             Ok(()) => {}
             Err(_) => self.starve(conn, doings),

@@ -1,17 +1,17 @@
 //! The connections of a broker (4.2).
 
-ghost use Rattle.std.specs.Prelude.{◌≡◌, ◌+◌, ◌≤◌, ◌<◌, ℕ, [], ◌∷◌, ◌++◌, length, slice_get, Some, None, nat_eq, true, false, is_some, if◌then◌else◌, OnOk, OnErr, IfOk, IfSome};
+ghost use Rattle.std.specs.Prelude.{◌≡◌, ◌+◌, ◌≤◌, ◌<◌, ℕ, [], ◌∷◌, ◌++◌, length, slice_get, Some, None, nat_eq, true, false, is_some, if◌then◌else◌, OnOk, OnErr, IfNone, IfOk, IfSome};
 ghost use Rattle.std.specs.HashMap.{get, hash_map_len, spare};
 ghost use Rattle.std.specs.List.{AllByRecursion, IsDistinct};
 ghost use Rattle.std.specs.List.Sorted.{IsNonDecreasing};
-ghost use Rattle.std.specs.Map.{keys_of, remove_entry};
+ghost use Rattle.std.specs.Map.{keys_of, lookup, remove_entry};
 ghost use Rattle.std.specs.Option.{option_copied, option_map};
 ghost use Rattle.mq_route.specs.Arrives.{heard};
 ghost use Rattle.mq_route.specs.Hub.{held_on, key_on, knows, stage_of, up_on, waiting_on, with_line, without_line};
 ghost use Rattle.mq_route.specs.Routed.{same_conn};
 ghost use Rattle.mq_route.specs.Welcome.{up_count};
 ghost use Rattle.mq_hub.specs.Alarms.{AreAwaited, AreAwaitedBut};
-ghost use Rattle.mq_hub.specs.Lines.{line_of, lines_of, IsReading};
+ghost use Rattle.mq_hub.specs.Lines.{line_of, lines_of, IsNamedAt, IsReading};
 ghost use Rattle.mq_hub.specs.Ticking.{HasLate, HasLateNamed};
 
 use crate::alarms::Alarms;
@@ -85,6 +85,21 @@ fn take_out(by_conn: &mut ByConn, conn: Conn)
     ensures room { spare by_conn.old ≤ spare by_conn.new }
 {
     let _ = by_conn.shift_remove(&conn);
+}
+
+// Where the connection of a name stands, which is looked for at this place first.
+#[inline(always)]
+fn index_near(by_conn: &ByConn, conn: Conn, place: usize) -> Option<usize>
+    ensures some { IfSome result (λ i. IsNamedAt conn i by_conn.now.entries) }
+    ensures none { IfNone result (lookup (same_conn conn) by_conn.now.entries ≡ None) }
+{
+    match by_conn.as_slice().get_index(place) {
+        Some(near) if *near.0 == conn => Some(place),
+        _ => match by_conn.get_full(&conn) {
+            Some(found) => Some(found.0),
+            None => None,
+        },
+    }
 }
 
 // Sets the alarm of each connection anew.
@@ -320,15 +335,19 @@ impl Lines {
         note_up(&mut self.ups, key, conn);
     }
 
-    /// The moment of the last whole packet of a connection is this (3.1.2.10). It takes no memory.
-    pub(crate) fn heard(&mut self, conn: Conn, now: u64) -> Option<ClientKey>
+    /// The moment of the last whole packet of a connection is this (3.1.2.10). At the place where it stood a moment ago it is found without a
+    /// search. It takes no memory.
+    pub(crate) fn heard(&mut self, conn: Conn, place: usize, now: u64) -> Option<ClientKey>
         ensures key { result ≡ key_on (stage_of conn self.old.lines) }
         ensures lines { self.new.lines ≡ with_line (λ x. record x { stage = heard now x.stage }) conn self.old.lines }
         ensures limits { self.new.limits ≡ self.old.limits }
         ensures room { self.new.room ≡ self.old.room }
         ensures rises { self.new.rises ≡ self.old.rises }
     {
-        let Some(boxed) = self.by_conn.get_mut(&conn) else {
+        let Some(index) = index_near(&self.by_conn, conn, place) else {
+            return None;
+        };
+        let Some(boxed) = self.by_conn.get_index_mut(index) else {
             return None;
         };
         let key = boxed.key();

@@ -28,6 +28,7 @@ use std::slice;
 pub(crate) type Due = (ClientKey, Message);
 
 // The copies for the clients that were found, each with the greatest quality of service of its subscriptions that match.
+#[inline(always)]
 fn copies_found(
     alloc: Global,
     found: Vec<(ClientKey, Qos)>,
@@ -65,6 +66,9 @@ pub(crate) fn copies_of<S: FilterStore>(
         return Ok(Vec::new(alloc));
     }
     let found = store.matching(&message.topic)?;
+    if found.is_empty() {
+        return Ok(Vec::new(alloc));
+    }
     copies_found(alloc, found, lines, message)
 }
 
@@ -180,6 +184,7 @@ pub(crate) fn place_all(sessions: &mut Sessions, copies: Vec<Due>)
 }
 
 /// Appends the acts that say that copies are placed. They share the messages' bytes. Fails if memory runs out.
+#[inline(always)]
 pub(crate) fn push_placed(acts: &mut Vec<Act>, copies: &[Due]) -> Result<(), AllocError>
     ensures { OnOk result (acts.new.items ≡ acts.old.items ++ placed_acts copies.now) }
 {

@@ -19,6 +19,7 @@ impl<S: FilterStore> HubOver<S> {
     fn takes_next(
         &mut self,
         conn: Conn,
+        place: usize,
         decoder: &mut Decoder,
         bytes: &[u8],
         doings: &mut Doings,
@@ -33,7 +34,7 @@ impl<S: FilterStore> HubOver<S> {
     {
         match decoder.next_packet(bytes) {
             Ok(Some((packet, used))) => {
-                self.takes(conn, packet, doings);
+                self.takes(conn, place, packet, doings);
                 Next::Packet(used)
             }
             Ok(None) => Next::Waits,
@@ -55,7 +56,7 @@ impl<S: FilterStore> HubOver<S> {
         let mut used = 0;
         while self.is_open_near(conn, place) {
             let (_, rest) = piece.split_at(used);
-            match self.takes_next(conn, decoder, rest, doings) {
+            match self.takes_next(conn, place, decoder, rest, doings) {
                 Next::Packet(count) => used += count,
                 Next::Waits => {
                     self.swap_decoder(conn, decoder);

@@ -80,6 +80,7 @@ fn copies_of(
 
 /// What is to be retained of a message: the message behind its topic name, or nothing where RETAIN is not set (3.3.1.3) or the name begins
 /// with `$` (4.7.2). It shares the message's bytes. Fails if memory runs out.
+#[inline(always)]
 pub(crate) fn kept_of(message: &Message) -> Result<Option<Named>, AllocError>
     ensures kept { IfOk result (λ part. IsKeptOf message.now part) }
     ensures named { IfOk result (λ part. IfSome part (λ named. named.0 ≡ named.1.topic)) }

@@ -153,15 +153,15 @@ impl<S: FilterStore> Tables<S> {
         self.lines.remove(conn);
     }
 
-    /// Notes the moment of the last whole packet of a connection (3.1.2.10), and answers the key of the session for which it is up. It takes no
-    /// memory.
-    pub(crate) fn heard(&mut self, conn: Conn, now: u64) -> Option<ClientKey>
+    /// Notes the moment of the last whole packet of a connection (3.1.2.10), and answers the key of the session for which it is up. It is
+    /// looked for at this place first. It takes no memory.
+    pub(crate) fn heard(&mut self, conn: Conn, place: usize, now: u64) -> Option<ClientKey>
         ensures key { result ≡ key_on (stage_of conn self.old.lines.lines) }
         ensures lines { self.new.lines.lines ≡ with_line (hears now) conn self.old.lines.lines }
         ensures limits { self.new.lines.limits ≡ self.old.lines.limits }
         ensures rest { self.new ≡ record self.old { lines = self.new.lines } }
     {
-        self.lines.heard(conn, now)
+        self.lines.heard(conn, place, now)
     }
 
     /// Exchanges the decoder of a connection for another. It takes no memory.

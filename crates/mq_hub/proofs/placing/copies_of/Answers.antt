@@ -1,4 +1,5 @@
-use Rattle.std.proofs.Common.{◌∙◌, List, ℕ, sym, ap, subst}
+use Rattle.std.proofs.Common.{◌≡◌, ◌∙◌, List, [], ℕ, vec_len, sym, ap, subst, eqb-true, arith}
+use Rattle.std.proofs.lemmas.List.{nil_from_length}
 use Rattle.mq_topic.specs.Rows.{Row, matched}
 use Rattle.mq_packet.specs.declared.message.Message.{Message}
 use Rattle.mq_hub.specs.Placing.{AreApart, AreFor, copies_found}
@@ -11,6 +12,23 @@ use Rattle.mq_hub.proofs.placing.copies_of.Goals as goal
 pub returns-then-is_hidden_name-clause-copies : goal.returns-then-is_hidden_name-clause-copies
 returns-then-is_hidden_name-clause-copies g c = λ h rows alike.
     c.new.ensures.items ∙ hidden_none c.args.message.now h (sym c.is_hidden_name.ensures ∙ c.if-is_hidden_name.true)
+
+-- nobody was found
+pub returns-then-is_empty-clause-copies : goal.returns-then-is_empty-clause-copies
+returns-then-is_empty-clause-copies g c = λ h rows alike.
+    let m = c.args.message.now in
+    let xs = c.args.lines.now.lines in
+    let found = c.in_ok-found.found in
+    let size = eqb-true (vec_len found) 0 (sym c.is_empty.ensures ∙ c.if-is_empty.true) in
+    let none : found.items ≡ [] = nil_from_length found.items (omega (arith, size, found.ok)) in
+    c.new-then-is_empty.ensures.items ∙ ap (copies_found xs m) (sym none ∙ c.in_ok-found.ensures.value)
+    ∙ ap (λ (rs : List Row). copies_found xs m (matched m.topic rs)) (sym rows)
+    ∙ found_alike h.lines xs m (matched m.topic h.rows) alike
+    ∙ found_is m h (sym c.is_hidden_name.ensures ∙ c.if-is_hidden_name.false)
+
+pub returns-then-is_empty-clause-due : goal.returns-then-is_empty-clause-due
+returns-then-is_empty-clause-due g c = λ config next_key t rows lines keeps fits.
+    subst (λ (cs : List (ℕ × Message)). AreFor t.sessions.tenants cs) (sym c.new-then-is_empty.ensures.items) tt
 
 pub returns-clause-copies : goal.returns-clause-copies
 returns-clause-copies g c =
