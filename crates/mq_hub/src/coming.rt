@@ -43,8 +43,8 @@ impl<S: FilterStore> HubOver<S> {
         }
     }
 
-    /// A whole packet comes on an open connection, which is looked for at this place first: its moment is noted (3.1.2.10), and it comes in.
-    /// Where memory runs out for it the connection is closed. It is never refused.
+    /// A whole packet comes on an open connection: its moment is noted (3.1.2.10), and it comes in. Where memory runs out for it the
+    /// connection is closed. It is never refused. The connection is looked for at this place first.
     #[inline(always)]
     pub(crate) fn takes(&mut self, conn: Conn, place: usize, packet: Packet, doings: &mut Doings)
         requires open { is_open (stage_of conn self.old.lines) ≡ true }

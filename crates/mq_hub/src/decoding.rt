@@ -22,8 +22,8 @@ pub(crate) enum Next {
 }
 
 impl<S: FilterStore> HubOver<S> {
-    /// Notes that a whole packet came on a connection just now (3.1.2.10), and answers the key of the session for which it is up. It is
-    /// looked for at this place first. It takes no memory.
+    /// Notes that a whole packet came on a connection just now (3.1.2.10), and answers the key of the session for which it is up. The
+    /// connection is looked for at this place first. It takes no memory.
     pub(crate) fn hear(&mut self, conn: Conn, place: usize) -> Option<ClientKey>
         ensures hub { self.new ≡ with_heard conn self.old }
         ensures key { result ≡ key_on (stage_of conn self.old.lines) }

@@ -14,7 +14,7 @@ use mq_topic::FilterStore;
 
 impl<S: FilterStore> HubOver<S> {
     // What stands at the front of the bytes that a decoder holds and these after them comes on an open connection: a packet is taken in,
-    // and the connection is closed where they begin with none, or memory runs out (4.8).
+    // and the connection is closed where they begin with none, or memory runs out (4.8). It is looked for at this place first.
     #[inline(always)]
     fn takes_next(
         &mut self,

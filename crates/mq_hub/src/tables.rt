@@ -153,8 +153,8 @@ impl<S: FilterStore> Tables<S> {
         self.lines.remove(conn);
     }
 
-    /// Notes the moment of the last whole packet of a connection (3.1.2.10), and answers the key of the session for which it is up. It is
-    /// looked for at this place first. It takes no memory.
+    /// Notes the moment of the last whole packet of a connection (3.1.2.10), and answers the key of the session for which it is up. The
+    /// connection is looked for at this place first. It takes no memory.
     pub(crate) fn heard(&mut self, conn: Conn, place: usize, now: u64) -> Option<ClientKey>
         ensures key { result ≡ key_on (stage_of conn self.old.lines.lines) }
         ensures lines { self.new.lines.lines ≡ with_line (hears now) conn self.old.lines.lines }
