@@ -13,7 +13,7 @@ all: bin/mqtt
 
 # The program lies at bin/mqtt only once it is proved.
 bin/mqtt:
-	@echo 'Proves the program and all below it, and builds it. The first time that takes some 105 minutes of a processor; after that, what changed.' >&2
+	@echo 'Proves the program and all below it, and builds it. The first time that takes some 80 to 105 minutes of a processor; after that, what changed.' >&2
 	cd crates/mqtt && $(RT) run -- show c000
 	mkdir -p bin
 	cp crates/mqtt/out/mqtt bin/mqtt
