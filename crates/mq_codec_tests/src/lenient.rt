@@ -28,17 +28,20 @@ fn count_or_fault(
     }
 }
 
+// What lies behind a packet of this size.
+fn behind(bytes: &[u8], size: usize) -> Result<&[u8], Option<DecodeFault>> {
+    match bytes.split_at_checked(size) {
+        Some((_, after)) => Ok(after),
+        None => Err(None),
+    }
+}
+
 // How many packets lie whole in the bytes, or the fault that follows them.
 fn viewed(limits: Limits, bytes: &[u8]) -> Result<usize, Option<DecodeFault>> {
     let mut rest = bytes;
     for count in 0..bytes.len() {
         match size_in(limits, rest) {
-            Ok(size) => {
-                let Some((_, after)) = rest.split_at_checked(size) else {
-                    return Err(None);
-                };
-                rest = after;
-            }
+            Ok(size) => rest = behind(rest, size)?,
             Err(None) => return Ok(count),
             Err(fault) => return Err(fault),
         }
