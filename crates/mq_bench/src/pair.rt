@@ -93,7 +93,7 @@ impl Pair {
     }
 
     fn is_up(&self) -> bool {
-        self.client.state() == State::Up && self.server.state() == State::Up
+        self.client.state() == State::Connected && self.server.state() == State::Connected
     }
 
     /// Whether no message waits at the client for anything.

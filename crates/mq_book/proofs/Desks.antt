@@ -4,7 +4,7 @@ use Rattle.std.specs.List.{AllByRecursion}
 use Rattle.mq_route.specs.declared.event.HubEvent.{HubEvent}
 use Rattle.mq_route.specs.declared.reply.HubReply.{HubReply}
 use Rattle.mq_book.specs.declared.entry.Receipt.{Receipt}
-use Rattle.mq_book.specs.Pages.{Worker}
+use Rattle.mq_book.specs.Pages.{WorkerView}
 use Rattle.mq_book.specs.Serving.{Breaks, Closes, Line}
 use Rattle.mq_book.specs.Works.{Made, Chain, Ran, Counts, DeskState, Files, Worked}
 use Rattle.mq_book.proofs.Serving.{serves_ran}
@@ -85,24 +85,24 @@ worked_any (Err e) conn d w a b p q = worked_broken conn d w a b q
 -- ---- steps of which no receipt is kept
 
 -- a worker of the same number counted so many more
-pub record Counted (least : ℕ) (w v : Worker) : Type 0 where
+pub record Counted (least : ℕ) (w v : WorkerView) : Type 0 where
   pub same : v.worker ≡ w.worker
   pub more : w.count + least ≤ v.count
 
-counts_all : (w : Worker) (ms : List Made) (v : Worker) → Chain Counts w ms v → Counted (length ms) w v
-counts_all w [] v is = record { same = ap (λ (x : Worker). x.worker) is; more = omega (arith, ap (λ (x : Worker). x.count) is) }
+counts_all : (w : WorkerView) (ms : List Made) (v : WorkerView) → Chain Counts w ms v → Counted (length ms) w v
+counts_all w [] v is = record { same = ap (λ (x : WorkerView). x.worker) is; more = omega (arith, ap (λ (x : WorkerView). x.count) is) }
 counts_all w (m ∷ ms) v c =
     let on = counts_all c.0 ms v c.2 in record {
-      same = on.same ∙ ap (λ (x : Worker). x.worker) c.1;
-      more = omega (arith, on.more, ap (λ (x : Worker). x.count) c.1);
+      same = on.same ∙ ap (λ (x : WorkerView). x.worker) c.1;
+      more = omega (arith, on.more, ap (λ (x : WorkerView). x.count) c.1);
     }
 
-counts_ran : (n : ℕ) (w v : Worker) → Ran Counts n w v → Counted n w v
+counts_ran : (n : ℕ) (w v : WorkerView) → Ran Counts n w v → Counted n w v
 counts_ran n w v ran =
     let all = counts_all w ran.made v ran.chain in record { same = all.same; more = omega (arith, all.more, ran.enough) }
 
-pub counts_closed : (conn : Conn) (w v : Worker) (a b : Line) → Closes Counts 2 2 conn w v a b → Counted 2 w v
+pub counts_closed : (conn : Conn) (w v : WorkerView) (a b : Line) → Closes Counts 2 2 conn w v a b → Counted 2 w v
 counts_closed conn w v a b p = counts_ran 2 w v (serves_ran Counts 2 conn w v a b [] p.0 p.2)
 
-pub counts_broken : (conn : Conn) (w v : Worker) (a b : Line) → Breaks Counts 0 2 conn w v a b → Counted 0 w v
+pub counts_broken : (conn : Conn) (w v : WorkerView) (a b : Line) → Breaks Counts 0 2 conn w v a b → Counted 0 w v
 counts_broken conn w v a b p = counts_ran 0 w v (serves_ran Counts 0 conn w v a b p.0 p.1 p.3)

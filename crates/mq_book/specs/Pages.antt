@@ -23,7 +23,7 @@ pub record Sealed : Type 0 where
   pub end : HubState
 
 -- A worker: its number, and how many steps it made.
-pub record Worker : Type 0 where
+pub record WorkerView : Type 0 where
   pub worker : ℕ
   pub count : ℕ
 

@@ -4,7 +4,7 @@ use Rattle.std.specs.List.{AllByRecursion}
 use Rattle.mq_route.specs.declared.event.HubEvent.{HubEvent}
 use Rattle.mq_route.specs.declared.reply.HubReply.{HubReply}
 use Rattle.mq_book.specs.declared.entry.Receipt.{Receipt}
-use Rattle.mq_book.specs.Pages.{Worker}
+use Rattle.mq_book.specs.Pages.{WorkerView}
 
 -- a step that was made: the event, and what came of it
 pub record Made : Type 0 where
@@ -36,7 +36,7 @@ pub record Files (d : DeskState) (event : HubEvent) (reply : HubReply) (d2 : Des
   pub after : d2 ≡ record { worker = d.worker; count = d.count + 1; receipts = d.receipts ++ receipt ∷ [] }
 
 -- it made a step, and keeps no receipt
-abbrev pub Counts : Worker → HubEvent → HubReply → Worker → Type 0
+abbrev pub Counts : WorkerView → HubEvent → HubReply → WorkerView → Type 0
 Counts w event reply w2 = w2 ≡ record { worker = w.worker; count = w.count + 1 }
 
 -- It made so many steps at least: it keeps a receipt for each, of its own number, and counted them.

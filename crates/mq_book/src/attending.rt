@@ -25,7 +25,7 @@ pub trait Steps {
 }
 
 /// Where connections come from.
-pub trait Door {
+pub trait ConnectionSource {
     /// A connection's bytes. A read that takes too long gives none.
     type Stream: Stream + Drop;
 

@@ -6,7 +6,7 @@ ghost use Rattle.mq_book.specs.Works.{Files, Worked};
 
 use crate::attending::{Steps, attend};
 use crate::entry::Receipt;
-use crate::hearing::Hear;
+use crate::hearing::StepObserver;
 use crate::reply::SharedReply;
 use crate::share::Share;
 use crate::shared::SharedHub;
@@ -21,7 +21,7 @@ use std::sync::ledger::Ledger;
 /// A worker at the shared broker, with its share and the receipts of the steps that it made. Contracts see its number, its count of
 /// steps and the receipts.
 #[derive(Drop)]
-pub struct Desk<'a, L: Ledger, R: Wait, H: Hear> {
+pub struct AuditedWorker<'a, L: Ledger, R: Wait, H: StepObserver> {
     rt: &'a R,
     shared: &'a SharedHub<L>,
     share: Share<L>,
@@ -30,7 +30,7 @@ pub struct Desk<'a, L: Ledger, R: Wait, H: Hear> {
     receipts: Vec<Receipt>,
 }
 
-impl<'a, L: Ledger, R: Wait, H: Hear> Model for Desk<'a, L, R, H> {
+impl<'a, L: Ledger, R: Wait, H: StepObserver> Model for AuditedWorker<'a, L, R, H> {
     ghost use Rattle.mq_book.specs.Works.{DeskState};
 
     ghost Value = { DeskState };
@@ -38,7 +38,7 @@ impl<'a, L: Ledger, R: Wait, H: Hear> Model for Desk<'a, L, R, H> {
     ghost view = { λ d. record { worker = d.share.worker; count = d.share.count; receipts = d.receipts.items } };
 }
 
-impl<'a, L: Ledger, R: Wait, H: Hear> Desk<'a, L, R, H> {
+impl<'a, L: Ledger, R: Wait, H: StepObserver> AuditedWorker<'a, L, R, H> {
     /// A worker that keeps no receipts yet, and what is to hear of its steps. It takes no memory.
     pub fn new(
         rt: &'a R,
@@ -47,10 +47,10 @@ impl<'a, L: Ledger, R: Wait, H: Hear> Desk<'a, L, R, H> {
         share: Share<L>,
         on_full: OnFull,
         hear: &'a H,
-    ) -> Desk<'a, L, R, H>
+    ) -> AuditedWorker<'a, L, R, H>
         ensures { result ≡ record { worker = share.worker; count = share.count; receipts = [] } }
     {
-        Desk {
+        AuditedWorker {
             rt,
             shared,
             share,
@@ -65,7 +65,7 @@ impl<'a, L: Ledger, R: Wait, H: Hear> Desk<'a, L, R, H> {
         ensures share { result.0 ≡ record { worker = self.entry.worker; count = self.entry.count } }
         ensures receipts { result.1.items ≡ self.entry.receipts }
     {
-        let Desk {
+        let AuditedWorker {
             share,
             receipts,
             ..
@@ -81,7 +81,7 @@ impl<'a, L: Ledger, R: Wait, H: Hear> Desk<'a, L, R, H> {
     }
 }
 
-impl<'a, L: Ledger, R: Wait, H: Hear> Steps for Desk<'a, L, R, H> {
+impl<'a, L: Ledger, R: Wait, H: StepObserver> Steps for AuditedWorker<'a, L, R, H> {
     ghost use Rattle.mq_book.specs.Works.{Files};
 
     ghost step = { Files };
@@ -109,8 +109,8 @@ impl<'a, L: Ledger, R: Wait, H: Hear> Steps for Desk<'a, L, R, H> {
 
 /// A worker serves a connection until it ends, and keeps a receipt of each step. It holds the lock for one step at a time, and never while
 /// it reads, writes or waits for the moment.
-pub fn work<'a, L: Ledger, R: Wait, H: Hear, T: Stream, C: Clock>(
-    desk: &mut Desk<'a, L, R, H>,
+pub fn work<'a, L: Ledger, R: Wait, H: StepObserver, T: Stream, C: Clock>(
+    desk: &mut AuditedWorker<'a, L, R, H>,
     alloc: Global,
     conn: Conn,
     stream: &mut T,

@@ -4,15 +4,15 @@ use mq_route::HubReply;
 use std::sync::Wait;
 
 /// What hears of each step that a worker makes: it can call the workers that have something to write by it.
-pub trait Hear {
+pub trait StepObserver {
     /// A step of this worker had this reply. The lock is free again.
     fn hear<R: Wait>(&self, rt: &R, worker: u16, reply: &HubReply);
 }
 
 /// Nothing hears of steps.
 #[derive(Clone, Copy, Debug, PartialEq, Eq)]
-pub struct Unheard;
+pub struct NoObserver;
 
-impl Hear for Unheard {
+impl StepObserver for NoObserver {
     fn hear<R: Wait>(&self, _rt: &R, _worker: u16, _reply: &HubReply) {}
 }

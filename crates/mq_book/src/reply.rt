@@ -4,7 +4,7 @@ ghost use Rattle.std.specs.Prelude.{◌≡◌, IfOk, IfErr, IfSome, OnOk, OnErr,
 ghost use Rattle.mq_route.specs.Step.{HubStep, event_refusal};
 
 use bytes::Bytes;
-use mq_end::Items;
+use mq_end::BoxedList;
 use mq_hub::HubOver;
 use mq_route::{HubEvent, HubRefusal, HubReply};
 use mq_topic::FilterStore;
@@ -48,7 +48,7 @@ impl SharedReply {
     // Room for a reply that is still to come. Fails if memory runs out.
     fn room(alloc: Global) -> Result<SharedReply, AllocError> {
         let blank = HubReply {
-            acts: Items::from_vec(Vec::new(alloc)),
+            acts: BoxedList::from_vec(Vec::new(alloc)),
             output: Bytes::new(),
             alive: false,
         };

@@ -2,8 +2,8 @@
 
 ghost use Rattle.std.specs.Prelude.{◌≡◌, ◌+◌, ◌*◌, ◌≤◌, IfOk};
 
-use crate::attending::{Door, Steps, attend};
-use crate::hearing::Hear;
+use crate::attending::{ConnectionSource, Steps, attend};
+use crate::hearing::StepObserver;
 use crate::reply::SharedReply;
 use crate::share::Share;
 use crate::shared::SharedHub;
@@ -18,7 +18,7 @@ use std::sync::ledger::Ledger;
 /// A worker at the shared broker, with its share, which keeps no receipts: what it holds doesn't grow with what it serves. Contracts see its
 /// number and its count of steps.
 #[derive(Drop)]
-pub struct Runner<'a, L: Ledger, R: Wait, H: Hear> {
+pub struct Worker<'a, L: Ledger, R: Wait, H: StepObserver> {
     rt: &'a R,
     shared: &'a SharedHub<L>,
     share: Share<L>,
@@ -26,15 +26,15 @@ pub struct Runner<'a, L: Ledger, R: Wait, H: Hear> {
     hear: &'a H,
 }
 
-impl<'a, L: Ledger, R: Wait, H: Hear> Model for Runner<'a, L, R, H> {
-    ghost use Rattle.mq_book.specs.Pages.{Worker};
+impl<'a, L: Ledger, R: Wait, H: StepObserver> Model for Worker<'a, L, R, H> {
+    ghost use Rattle.mq_book.specs.Pages.{WorkerView};
 
-    ghost Value = { Worker };
+    ghost Value = { WorkerView };
 
     ghost view = { λ r. record { worker = r.share.worker; count = r.share.count } };
 }
 
-impl<'a, L: Ledger, R: Wait, H: Hear> Runner<'a, L, R, H> {
+impl<'a, L: Ledger, R: Wait, H: StepObserver> Worker<'a, L, R, H> {
     /// A worker, and what is to hear of its steps. It takes no memory.
     pub fn new(
         rt: &'a R,
@@ -42,10 +42,10 @@ impl<'a, L: Ledger, R: Wait, H: Hear> Runner<'a, L, R, H> {
         share: Share<L>,
         on_full: OnFull,
         hear: &'a H,
-    ) -> Runner<'a, L, R, H>
+    ) -> Worker<'a, L, R, H>
         ensures { result ≡ record { worker = share.worker; count = share.count } }
     {
-        Runner {
+        Worker {
             rt,
             shared,
             share,
@@ -62,7 +62,7 @@ impl<'a, L: Ledger, R: Wait, H: Hear> Runner<'a, L, R, H> {
     }
 }
 
-impl<'a, L: Ledger, R: Wait, H: Hear> Steps for Runner<'a, L, R, H> {
+impl<'a, L: Ledger, R: Wait, H: StepObserver> Steps for Worker<'a, L, R, H> {
     ghost use Rattle.mq_book.specs.Works.{Counts};
 
     ghost step = { Counts };
@@ -84,8 +84,8 @@ impl<'a, L: Ledger, R: Wait, H: Hear> Steps for Runner<'a, L, R, H> {
 
 /// A worker serves connections one after another, until there is no next one, and says how many: it made two steps for each of them at least.
 /// It holds the lock for one step at a time, and never while it reads, writes or waits for a connection or the moment.
-pub fn work_through<'a, L: Ledger, R: Wait, H: Hear, D: Door, C: Clock>(
-    runner: &mut Runner<'a, L, R, H>,
+pub fn work_through<'a, L: Ledger, R: Wait, H: StepObserver, D: ConnectionSource, C: Clock>(
+    runner: &mut Worker<'a, L, R, H>,
     alloc: Global,
     door: &mut D,
     clock: &mut C,

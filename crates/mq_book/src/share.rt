@@ -15,9 +15,9 @@ pub struct Share<L: Ledger> {
 
 impl<L: Ledger> Model for Share<L> {
     ghost use Rattle.std.specs.Prelude.{◌≡◌};
-    ghost use Rattle.mq_book.specs.Pages.{Worker};
+    ghost use Rattle.mq_book.specs.Pages.{WorkerView};
 
-    ghost Value = { Worker };
+    ghost Value = { WorkerView };
 
     ghost view = { λ s. record { worker = s.worker; count = s.part.amount } };
 

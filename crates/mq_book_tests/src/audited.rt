@@ -5,7 +5,7 @@ ghost use Rattle.std.specs.Prelude.{◌≡◌};
 use crate::steps::hub;
 use bytes::Bytes;
 use mq_book::{Book, Journal, Receipt, Share, SharedReply, audit};
-use mq_end::Items;
+use mq_end::BoxedList;
 use mq_hub::{Conn, HubEvent, HubReply};
 use std::alloc::Global;
 use std::marker::Brand;
@@ -31,7 +31,7 @@ const ROWS: [(&[Row], bool); 7] = [
 fn receipt(alloc: Global, row: Row) -> Result<Receipt, Fail> {
     let (worker, place, alive) = row;
     let reply = HubReply {
-        acts: Items::from_vec(Vec::new(alloc)),
+        acts: BoxedList::from_vec(Vec::new(alloc)),
         output: Bytes::new(),
         alive,
     };

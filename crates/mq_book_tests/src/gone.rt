@@ -2,10 +2,10 @@
 
 ghost use Rattle.std.specs.Prelude.{◌≡◌, ◌<◌, None, IfOk};
 
-use mq_book::{Desk, OnFull, Receipt, Share, SharedHub, Unheard, attend, audit};
+use mq_book::{AuditedWorker, NoObserver, OnFull, Receipt, Share, SharedHub, attend, audit};
 use mq_decode::Limits;
 use mq_hub::{Conn, HubConfig};
-use mq_stream::{Arrival, Broken, Clock, Stream};
+use mq_stream::{Broken, Clock, ReadOutcome, Stream};
 use std::alloc::{AllocError, Global};
 use std::io::Read;
 use std::marker::Brand;
@@ -23,15 +23,15 @@ struct Line {
 }
 
 impl Stream for Line {
-    fn read(&mut self, room: &mut [u8]) -> Arrival {
+    fn read(&mut self, room: &mut [u8]) -> ReadOutcome {
         let [piece, rest @ ..] = self.pieces else {
-            return Arrival::End;
+            return ReadOutcome::End;
         };
         self.pieces = rest;
         let mut piece = *piece;
         match piece.read(room) {
-            Ok(count) => Arrival::Bytes(count),
-            Err(_) => Arrival::Failed,
+            Ok(count) => ReadOutcome::Bytes(count),
+            Err(_) => ReadOutcome::Failed,
         }
     }
 
@@ -101,7 +101,7 @@ fn config() -> Result<HubConfig, Fail>
 
 // A connection is served to its end; what was written on it is added.
 fn serve<L: Ledger, R: Wait>(
-    desk: &mut Desk<'_, L, R, Unheard>,
+    desk: &mut AuditedWorker<'_, L, R, NoObserver>,
     alloc: Global,
     nth: u32,
     pieces: &'static [&'static [u8]],
@@ -139,7 +139,7 @@ fn add_digits(told: &mut String, bytes: &[u8]) -> Result<(), AllocError> {
 
 // The three connections, one after another.
 fn serve_all<L: Ledger, R: Wait>(
-    desk: &mut Desk<'_, L, R, Unheard>,
+    desk: &mut AuditedWorker<'_, L, R, NoObserver>,
     alloc: Global,
     writes: u32,
     told: &mut String,
@@ -173,7 +173,7 @@ fn told_of<L: Ledger, R: Wait>(
     writes: u32,
 ) -> Result<String, Fail> {
     let mut told = String::new(alloc);
-    let mut desk = Desk::new(rt, alloc, shared, share, OnFull::Stop, &Unheard);
+    let mut desk = AuditedWorker::new(rt, alloc, shared, share, OnFull::Stop, &NoObserver);
     serve_all(&mut desk, alloc, writes, &mut told)?;
     let (_, receipts) = desk.into_parts();
     audited(rt, alloc, shared, receipts.as_slice(), told.as_str())

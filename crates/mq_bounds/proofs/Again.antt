@@ -5,7 +5,7 @@ use Rattle.std.proofs.lemmas.List.Elements.{All-head, All-tail}
 use Rattle.mq_wire.specs.Length.{length_bytes}
 use Rattle.mq_packet.specs.declared.packet.Packet.{Packet}
 use Rattle.mq_packet.specs.declared.packet.Packet.TheVariants as packets
-use Rattle.mq_packet.specs.Spelling.{fields, spelling, spellings}
+use Rattle.mq_packet.specs.Encoding.{fields, encoding, encodings}
 use Rattle.mq_flow.specs.declared.entry.Entry.{Entry}
 use Rattle.mq_flow.specs.Sender.{SenderBook, uses, publish_packet, resent}
 use Rattle.mq_flow.proofs.Books.{length_uses}
@@ -20,14 +20,14 @@ few_bytes n = by (ltb n 128) _ _ (omega arith) (by (ltb n 16384) _ _ (omega arit
     by true x y h k = h
     by false x y h k = k
 
-spelling_size : (p : Packet) → length (spelling p) ≤ 5 + length (fields p)
-unfolding spelling
-spelling_size p =
+encoding_size : (p : Packet) → length (encoding p) ≤ 5 + length (fields p)
+unfolding encoding
+encoding_size p =
     let few = few_bytes (length (fields p)) in
     let parts = length-append (length_bytes (length (fields p))) (fields p) in
     omega arith
 
-releases_size : (ids : List ℕ) → length (spellings (map packets.PubRel ids)) ≡ length ids * 4
+releases_size : (ids : List ℕ) → length (encodings (map packets.PubRel ids)) ≡ length ids * 4
 releases_size [] = refl
 releases_size (i ∷ ids) =
     let rest = releases_size ids in
@@ -36,19 +36,19 @@ releases_size (i ∷ ids) =
     omega arith
 
 publishes_size : (limit : ℕ) (es : List Entry) → All (λ (x : Entry). length (fields (publish_packet x.id x.sent x.message)) ≤ limit) es
-    → length (spellings (map (λ (x : Entry). publish_packet x.id x.sent x.message) es)) ≤ length es * (5 + limit)
+    → length (encodings (map (λ (x : Entry). publish_packet x.id x.sent x.message) es)) ≤ length es * (5 + limit)
 publishes_size limit [] h = omega arith
 publishes_size limit (x ∷ xs) h =
     let here = All-head (λ (x : Entry). length (fields (publish_packet x.id x.sent x.message)) ≤ limit) x xs h in
     let rest = publishes_size limit xs (All-tail (λ (x : Entry). length (fields (publish_packet x.id x.sent x.message)) ≤ limit) x xs h) in
-    let one = spelling_size (publish_packet x.id x.sent x.message) in
-    let parts = length-append (spelling (publish_packet x.id x.sent x.message)) (spellings (map (λ (x : Entry). publish_packet x.id x.sent x.message) xs)) in
+    let one = encoding_size (publish_packet x.id x.sent x.message) in
+    let parts = length-append (encoding (publish_packet x.id x.sent x.message)) (encodings (map (λ (x : Entry). publish_packet x.id x.sent x.message) xs)) in
     omega arith
 
 in_all : (a r c limit : ℕ) → a * (5 + limit) + r * 4 ≤ (a + (r + c)) * (5 + limit)
 in_all a r c limit = omega arith
 
-pub again_size : (limit : ℕ) (b : SenderBook) → All (λ (x : Entry). length (fields (publish_packet x.id x.sent x.message)) ≤ limit) b.entries → length (spellings (resent b)) ≤ length (uses b) * (5 + limit)
+pub again_size : (limit : ℕ) (b : SenderBook) → All (λ (x : Entry). length (fields (publish_packet x.id x.sent x.message)) ≤ limit) b.entries → length (encodings (resent b)) ≤ length (uses b) * (5 + limit)
 again_size limit b h =
     let used = ap (λ (n : ℕ). n * (5 + limit)) (length_uses b) in
     let parts = joined_size (map packets.PubRel b.released) (map (λ (x : Entry). publish_packet x.id x.sent x.message) b.entries) in

@@ -18,13 +18,13 @@ use Rattle.mq_packet.specs.declared.packet.Packet.{Packet}
 use Rattle.mq_packet.specs.declared.packet.Packet.TheVariants as packets
 use Rattle.mq_packet.specs.declared.packet.Request.{Request}
 use Rattle.mq_packet.specs.declared.packet.SubAckCode.{SubAckCode}
-use Rattle.mq_packet.specs.Spelling.{fields, request_fields, code_fields, spelling, spellings}
+use Rattle.mq_packet.specs.Encoding.{fields, request_fields, code_fields, encoding, encodings}
 use Rattle.mq_flow.specs.declared.entry.Entry.{Entry}
 use Rattle.mq_flow.specs.Sender.{SenderBook, blank_book, is_awaited, publish_packet, resent}
 use Rattle.mq_flow.specs.Receiver.{is_new}
 use Rattle.mq_flow.specs.Window.{fits_window}
 use Rattle.mq_end.specs.declared.state.State.{State}
-use Rattle.mq_end.specs.declared.state.State.TheVariants.{Closed, Open, Up}
+use Rattle.mq_end.specs.declared.state.State.TheVariants.{Disconnected, Connecting, Connected}
 use Rattle.mq_end.specs.declared.happening.Happening.{Happening}
 use Rattle.mq_end.specs.declared.happening.Happening.TheVariants as happens
 use Rattle.mq_end.specs.declared.reason.CloseReason.TheVariants as reasons
@@ -39,10 +39,10 @@ use Rattle.mq_bounds.proofs.Again.{few_bytes}
 
 -- the bytes of the answers among packets
 abbrev pub weight : List Packet → ℕ
-weight ps = length (spellings (filter is_answer ps))
+weight ps = length (encodings (filter is_answer ps))
 
-pub unsuback_size : (i : ℕ) → length (spellings (packets.UnsubAck i ∷ [])) ≡ 4
-unfolding spelling length_bytes
+pub unsuback_size : (i : ℕ) → length (encodings (packets.UnsubAck i ∷ [])) ≡ 4
+unfolding encoding length_bytes
 unsuback_size i = refl
 
 -- ---- SUBACK
@@ -65,20 +65,20 @@ one_byte : (n : ℕ) → n < 128 → length (length_bytes n) ≡ 1
 unfolding length_bytes
 one_byte n h = ap length (cond-true (ltb n 128) (n ∷ []) _ (lt-ltb n 128 h))
 
-suback_size : (i n : ℕ) (codes : List SubAckCode) → length (flat_map code_fields codes) ≡ n → length (spellings (packets.SubAck i codes ∷ [])) ≤ 4 + 3 * n
-unfolding spelling
+suback_size : (i n : ℕ) (codes : List SubAckCode) → length (flat_map code_fields codes) ≡ n → length (encodings (packets.SubAck i codes ∷ [])) ≤ 4 + 3 * n
+unfolding encoding
 suback_size i n codes e =
     let p : Packet = packets.SubAck i codes in
-    let all = length-append (spelling p) [] in
+    let all = length-append (encoding p) [] in
     let parts = length-append (length_bytes (length (fields p))) (fields p) in
     let few = few_bytes (length (fields p)) in
     by (ltb (length (fields p)) 128) refl all parts few
   where
     by : (b : Bool) → ltb (length (fields (packets.SubAck i codes))) 128 ≡ b
-        → length (spelling (packets.SubAck i codes) ++ []) ≡ length (spelling (packets.SubAck i codes)) + 0
+        → length (encoding (packets.SubAck i codes) ++ []) ≡ length (encoding (packets.SubAck i codes)) + 0
         → length (length_bytes (length (fields (packets.SubAck i codes))) ++ fields (packets.SubAck i codes)) ≡ length (length_bytes (length (fields (packets.SubAck i codes)))) + length (fields (packets.SubAck i codes))
         → length (length_bytes (length (fields (packets.SubAck i codes)))) ≤ 4
-        → length (spellings (packets.SubAck i codes ∷ [])) ≤ 4 + 3 * n
+        → length (encodings (packets.SubAck i codes ∷ [])) ≤ 4 + 3 * n
     by true lt all parts few =
         let one = one_byte (length (fields (packets.SubAck i codes))) (ltb-true (length (fields (packets.SubAck i codes))) 128 lt) in
         omega arith
@@ -161,7 +161,7 @@ connect_cost : (c : Connect) (e : End) (n : ℕ) → 4 ≤ n → CostWithin n (c
 connect_cost c e n h =
     cond_both (not c.clean_session && eqb (length c.client_id) 0) (refuses IdentifierRejected e) _ (CostWithin n) (λ t. refused_cost IdentifierRejected e n h)
     (λ f. let a = connacks.Accepted (not c.clean_session && e.known) in
-    let none = ap (λ (ps : List Packet). length (spellings (packets.ConnAck a ∷ ps))) (resent_none (cond c.clean_session blank_book e.book)) in
+    let none = ap (λ (ps : List Packet). length (encodings (packets.ConnAck a ∷ ps))) (resent_none (cond c.clean_session blank_book e.book)) in
     let size = connack_size a in
     omega arith)
 
@@ -180,9 +180,9 @@ server_up_cost packets.Disconnect e = omega arith
 server_up_cost p e = flow_cost p e
 
 server_cost : (st : State) (p : Packet) (e : End) → CostWithin (2 + length (fields p)) (server_gets_in st p e)
-server_cost Closed p e = omega arith
-server_cost Open p e = server_open_cost p e
-server_cost Up p e = server_up_cost p e
+server_cost Disconnected p e = omega arith
+server_cost Connecting p e = server_open_cost p e
+server_cost Connected p e = server_up_cost p e
 
 pub gets_cost : (p : Packet) (e : End) → CostWithin (2 + length (fields p)) (server_gets p e)
 gets_cost p e = server_cost e.state p e

@@ -11,7 +11,7 @@ use Rattle.mq_packet.specs.declared.message.Message.{Message}
 use Rattle.mq_packet.specs.declared.packet.Packet.{Packet}
 use Rattle.mq_packet.specs.declared.packet.Packet.TheVariants as packets
 use Rattle.mq_packet.specs.declared.packet.Request.{Request}
-use Rattle.mq_packet.specs.Spelling.{fields, spelling, spellings}
+use Rattle.mq_packet.specs.Encoding.{fields, encoding, encodings}
 use Rattle.mq_flow.specs.Next.{next_identifier}
 use Rattle.mq_end.specs.declared.happening.Happening.{Happening}
 use Rattle.mq_end.specs.declared.happening.Happening.TheVariants as happens
@@ -24,14 +24,14 @@ use Rattle.mq_route.specs.declared.act.Act.TheVariants as acts
 use Rattle.mq_route.specs.declared.close.HubClose.{HubClose}
 use Rattle.mq_route.specs.declared.close.HubClose.TheVariants.{Own, TargetFull, TakenOver}
 use Rattle.mq_route.specs.declared.conn.Conn.{Conn}
-use Rattle.mq_route.specs.declared.stage.Stage.{Stage}
-use Rattle.mq_route.specs.declared.stage.Stage.TheVariants.{Fresh, UpFor, Shut}
+use Rattle.mq_route.specs.declared.connection_state.ConnectionState.{ConnectionState}
+use Rattle.mq_route.specs.declared.connection_state.ConnectionState.TheVariants.{AwaitingConnect, ConnectedAs, Closed}
 use Rattle.mq_route.specs.Routed.{same_conn}
 use Rattle.mq_route.specs.Copies.{kept, will_message}
-use Rattle.mq_route.specs.Hub.{Line, is_line, changed, with_line, held_on, stage_of, up_on, end_of, with_end, copies_of, key_of}
+use Rattle.mq_route.specs.Hub.{HubConnection, is_connection, changed, with_connection, held_on, stage_of, up_on, end_of, with_end, copies_of, key_of}
 use Rattle.mq_route.specs.Welcome.{client_of, ends_with, refusal}
-use Rattle.mq_route.specs.Work.{Work, said, with_lines, with_sessions, staged, shut, put_on, put_where, does, publishes_next, place, place_all, have_room, share, remove, last_will, will_after, remove_if, leaves_behind, close, subscribed, unsubscribed, retained_copies}
-use Rattle.mq_route.specs.Arrives.{Growth, due, granted, answers, answers_all, replies, greeting, terms_of, greet, new_session, greet_new, take_over, goes_on, admit, welcomes, at_first, comes_in, heard, heard_on, arrives, takes}
+use Rattle.mq_route.specs.Work.{Work, said, with_connections, with_sessions, staged, shut, put_on, put_where, does, publishes_next, place, place_all, have_room, deliver, remove, last_will, will_after, remove_if, leaves_behind, close, subscribed, unsubscribed, retained_copies}
+use Rattle.mq_route.specs.Arrives.{Growth, due, granted, answers, answers_all, replies, greeting, terms_of, resume_session, new_session, start_session, take_over, goes_on, accept_connect, on_connect, on_first_packet, dispatch_packet, touched, touched_on, arrives, takes}
 use Rattle.mq_bounds.specs.Broker.{is_answer, answers_in}
 use Rattle.mq_bounds.proofs.Lengths.{connack_size}
 use Rattle.mq_bounds.proofs.Packets.{connect_size}
@@ -50,7 +50,7 @@ own_packets k [] = refl
 own_packets k (p ∷ ps) = ap (λ (l : List Packet). p ∷ l) (own_packets k ps)
 
 weight_joined : (ps qs : List Packet) → weight (ps ++ qs) ≡ weight ps + weight qs
-weight_joined ps qs = ap (λ (l : List Packet). length (spellings l)) (filter_joined is_answer ps qs) ∙ ap length (flat_map-append spelling (filter is_answer ps) (filter is_answer qs)) ∙ length-append (spellings (filter is_answer ps)) (spellings (filter is_answer qs))
+weight_joined ps qs = ap (λ (l : List Packet). length (encodings l)) (filter_joined is_answer ps qs) ∙ ap length (flat_map-append encoding (filter is_answer ps) (filter is_answer qs)) ∙ length-append (encodings (filter is_answer ps)) (encodings (filter is_answer qs))
 
 -- ---- how far a step has come
 
@@ -65,12 +65,12 @@ lets_then a b c (inr none) (inl also) = inr (also ∙ none)
 
 module _ (k : Conn) where
   abbrev pub written : Work → ℕ
-  written w = length (spellings (answers_in w.sent))
+  written w = length (encodings (answers_in w.sent))
 
   -- from one work to the next so many bytes of answers are put out at most, and the connection holds what it held, or nothing
   pub record Spends (n : ℕ) (w v : Work) : Type 0 where
     pub out : written v ≤ written w + n
-    pub held : Lets (held_on k w.hub.lines) (held_on k v.hub.lines)
+    pub held : Lets (held_on k w.hub.connections) (held_on k v.hub.connections)
 
   pub still : (w : Work) → Spends 0 w w
   still w = record { out = omega arith; held = inl refl }
@@ -79,7 +79,7 @@ module _ (k : Conn) where
   pub then_ : (n m : ℕ) (u v w : Work) → Spends n u v → Spends m v w → Spends (n + m) u w
   then_ n m u v w a b = record {
     out = let x = a.out in let y = b.out in omega arith;
-    held = lets_then (held_on k u.hub.lines) (held_on k v.hub.lines) (held_on k w.hub.lines) a.held b.held;
+    held = lets_then (held_on k u.hub.connections) (held_on k v.hub.connections) (held_on k w.hub.connections) a.held b.held;
   }
 
   pub more : (n m : ℕ) (w v : Work) → n ≤ m → Spends n w v → Spends m w v
@@ -87,24 +87,24 @@ module _ (k : Conn) where
 
   -- ---- connections
 
-  line_changed : (f : Line → Line) (j : Conn) → ((x : Line) → (f x).conn ≡ x.conn) → ((x : Line) → Lets x.held (f x).held) → (xs : List Line) → Lets (held_on k xs) (held_on k (with_line f j xs))
+  line_changed : (f : HubConnection → HubConnection) (j : Conn) → ((x : HubConnection) → (f x).conn ≡ x.conn) → ((x : HubConnection) → Lets x.held (f x).held) → (xs : List HubConnection) → Lets (held_on k xs) (held_on k (with_connection f j xs))
   line_changed f j names lets [] = inl refl
   line_changed f j names lets (x ∷ xs) =
-      by (is_line k x) (is_line k (changed f j x)) (ap (λ (c : Conn). same_conn c k) same_name)
-      (cond_both (is_line j x) (f x) x (λ (y : Line). Lets x.held y.held) (λ t. lets x) (λ n. inl refl)) (line_changed f j names lets xs)
+      by (is_connection k x) (is_connection k (changed f j x)) (ap (λ (c : Conn). same_conn c k) same_name)
+      (cond_both (is_connection j x) (f x) x (λ (y : HubConnection). Lets x.held y.held) (λ t. lets x) (λ n. inl refl)) (line_changed f j names lets xs)
     where
       same_name : (changed f j x).conn ≡ x.conn
-      same_name = cond_both (is_line j x) (f x) x (λ (y : Line). y.conn ≡ x.conn) (λ t. names x) (λ n. refl)
+      same_name = cond_both (is_connection j x) (f x) x (λ (y : HubConnection). y.conn ≡ x.conn) (λ t. names x) (λ n. refl)
 
-      by : (b c : Bool) → c ≡ b → Lets x.held (changed f j x).held → Lets (held_on k xs) (held_on k (with_line f j xs))
-          → Lets (cond b x.held (held_on k xs)) (cond c (changed f j x).held (held_on k (with_line f j xs)))
+      by : (b c : Bool) → c ≡ b → Lets x.held (changed f j x).held → Lets (held_on k xs) (held_on k (with_connection f j xs))
+          → Lets (cond b x.held (held_on k xs)) (cond c (changed f j x).held (held_on k (with_connection f j xs)))
       by true true e here later = here
       by false false e here later = later
       by true false e here later = absurd cc
       by false true e here later = absurd cc
 
-  lines_spend : (f : Line → Line) (j : Conn) (w : Work) → ((x : Line) → (f x).conn ≡ x.conn) → ((x : Line) → Lets x.held (f x).held) → Spends 0 w (with_lines (with_line f j) w)
-  lines_spend f j w names lets = record { out = omega arith; held = line_changed f j names lets w.hub.lines }
+  lines_spend : (f : HubConnection → HubConnection) (j : Conn) (w : Work) → ((x : HubConnection) → (f x).conn ≡ x.conn) → ((x : HubConnection) → Lets x.held (f x).held) → Spends 0 w (with_connections (with_connection f j) w)
+  lines_spend f j w names lets = record { out = omega arith; held = line_changed f j names lets w.hub.connections }
 
   pub put_spends : (j : Conn) (ps : List Packet) (w : Work) → Spends (weight ps) w (put_on j ps w)
   unfolding put_on
@@ -113,7 +113,7 @@ module _ (k : Conn) where
         let all = map-append (λ (x : Conn × Packet). x.1) w.sent (map (λ (p : Packet). (j, p)) ps) in
         let size = ap weight (all ∙ ap (λ (l : List Packet). map (λ (x : Conn × Packet). x.1) w.sent ++ l) (own_packets j ps)) ∙ weight_joined (map (λ (x : Conn × Packet). x.1) w.sent) ps in
         omega arith;
-    held = line_changed (λ x. record x { waiting = x.waiting ++ spellings ps }) j (λ x. refl) (λ x. inl refl) w.hub.lines;
+    held = line_changed (λ x. record x { waiting = x.waiting ++ encodings ps }) j (λ x. refl) (λ x. inl refl) w.hub.connections;
   }
 
   where_spends : (to : Option Conn) (ps : List Packet) (w : Work) → Spends (weight ps) w (put_where to ps w)
@@ -123,7 +123,7 @@ module _ (k : Conn) where
   does_spends : (key : ℕ) (move : End → Reply) (w : Work) → Spends (weight (move (end_of key w.hub.sessions)).out) w (does key move w)
   unfolding does
   does_spends key move w =
-      let a = where_spends (up_on key w.hub.lines) (move (end_of key w.hub.sessions)).out (with_sessions (with_end key (move (end_of key w.hub.sessions)).end) w) in
+      let a = where_spends (up_on key w.hub.connections) (move (end_of key w.hub.sessions)).out (with_sessions (with_end key (move (end_of key w.hub.sessions)).end) w) in
       record { out = a.out; held = a.held }
 
   -- ---- messages that are placed
@@ -140,8 +140,8 @@ module _ (k : Conn) where
   place_all_spends [] w = still w
   place_all_spends (x ∷ xs) w = then_ 0 0 w (place x.0 x.1 w) (place_all xs (place x.0 x.1 w)) (place_spends x.0 x.1 w) (place_all_spends xs (place x.0 x.1 w))
 
-  share_spends : (act : Act) (m : Message) (w : Work) → Spends 0 w (share act m w)
-  unfolding share
+  share_spends : (act : Act) (m : Message) (w : Work) → Spends 0 w (deliver act m w)
+  unfolding deliver
   share_spends act m w =
       let a = place_all_spends (copies_of m w.hub) (said act (record w { hub = record w.hub { retained = kept m w.hub.retained } })) in
       record { out = a.out; held = a.held }
@@ -152,7 +152,7 @@ module _ (k : Conn) where
   unfolding last_will
   will_spends key None fits w = still w
   will_spends key (Some will) fits w =
-      cond_both (fits && have_room (copies_of (will_message will) w.hub) w.hub) (share (acts.Will key (will_message will)) (will_message will) w) (said (acts.WillDropped key) w) (Spends 0 w)
+      cond_both (fits && have_room (copies_of (will_message will) w.hub) w.hub) (deliver (acts.Will key (will_message will)) (will_message will) w) (said (acts.WillDropped key) w) (Spends 0 w)
       (λ t. share_spends (acts.Will key (will_message will)) (will_message will) w) (λ f. record { out = omega arith; held = inl refl })
 
   remove_spends : (key : ℕ) (w : Work) → Spends 0 w (remove key w)
@@ -163,25 +163,25 @@ module _ (k : Conn) where
   remove_if_spends true key w = remove_spends key w
   remove_if_spends false key w = still w
 
-  leaves_spends : (why : HubClose) (fits : Bool) (s : Stage) (w : Work) → Spends 0 w (leaves_behind why fits s w)
+  leaves_spends : (why : HubClose) (fits : Bool) (s : ConnectionState) (w : Work) → Spends 0 w (leaves_behind why fits s w)
   unfolding leaves_behind
-  leaves_spends why fits Fresh w = still w
-  leaves_spends why fits (UpFor key terms moment) w =
+  leaves_spends why fits AwaitingConnect w = still w
+  leaves_spends why fits (ConnectedAs key terms last_activity) w =
       let v = with_sessions (with_end key (over (end_of key w.hub.sessions))) w in
       let u = remove_if terms.clean_session key v in
       let a = remove_if_spends terms.clean_session key v in
       then_ 0 0 w u (last_will key (will_after why terms.will) fits u) (record { out = a.out; held = a.held }) (will_spends key (will_after why terms.will) fits u)
-  leaves_spends why fits Shut w = still w
+  leaves_spends why fits Closed w = still w
 
   shut_spends : (j : Conn) (w : Work) → Spends 0 w (shut j w)
-  shut_spends j w = lines_spend (λ x. record x { stage = Shut; held = [] }) j w (λ x. refl) (λ x. inr refl)
+  shut_spends j w = lines_spend (λ x. record x { stage = Closed; held = [] }) j w (λ x. refl) (λ x. inr refl)
 
   pub close_spends : (j : Conn) (why : HubClose) (fits : Bool) (w : Work) → Spends 0 w (close j why fits w)
   unfolding close
   close_spends j why fits w =
       let v = said (acts.Closed j why) (shut j w) in
       let a = shut_spends j w in
-      then_ 0 0 w v (leaves_behind why fits (stage_of j w.hub.lines) v) (record { out = a.out; held = a.held }) (leaves_spends why fits (stage_of j w.hub.lines) v)
+      then_ 0 0 w v (leaves_behind why fits (stage_of j w.hub.connections) v) (record { out = a.out; held = a.held }) (leaves_spends why fits (stage_of j w.hub.connections) v)
 
   -- ---- what happenings ask for
 
@@ -241,17 +241,17 @@ module _ (k : Conn) where
 
   -- ---- CONNECT
 
-  greet_spends : (j : Conn) (c : Connect) (key : ℕ) (w : Work) → Spends (2 + length (fields (packets.Connect c))) w (greet j c key w)
-  unfolding greet
+  greet_spends : (j : Conn) (c : Connect) (key : ℕ) (w : Work) → Spends (2 + length (fields (packets.Connect c))) w (resume_session j c key w)
+  unfolding resume_session
   greet_spends j c key w =
-      let v = staged j (UpFor key (terms_of c) w.hub.clock) w in
+      let v = staged j (ConnectedAs key (terms_of c) w.hub.clock) w in
       let e = end_of key w.hub.sessions in
       let n = 2 + length (fields (packets.Connect c)) in
-      let a = lines_spend (λ x. record x { stage = UpFor key (terms_of c) w.hub.clock }) j w (λ x. refl) (λ x. inl refl) in
+      let a = lines_spend (λ x. record x { stage = ConnectedAs key (terms_of c) w.hub.clock }) j w (λ x. refl) (λ x. inl refl) in
       let b = answered_spends j key n (greeting c) v (gets_cost (packets.Connect c) (opens e).end) in
       more (0 + n) n w (answers_all j key (greeting c e).happenings (does key (greeting c) v)) (omega arith) (then_ 0 n w v (answers_all j key (greeting c e).happenings (does key (greeting c) v)) a b)
 
-  greet_new_spends : (j : Conn) (c : Connect) (client : List ℕ) (w : Work) → Spends (2 + length (fields (packets.Connect c))) w (greet_new j c client w)
+  greet_new_spends : (j : Conn) (c : Connect) (client : List ℕ) (w : Work) → Spends (2 + length (fields (packets.Connect c))) w (start_session j c client w)
   unfolding new_session
   greet_new_spends j c client w = let a = greet_spends j c w.hub.next_key (new_session client w) in record { out = a.out; held = a.held }
 
@@ -264,20 +264,20 @@ module _ (k : Conn) where
   goes_on_spends j c client key true w = greet_new_spends j c client w
   goes_on_spends j c client key false w =
       let n = 2 + length (fields (packets.Connect c)) in
-      cond_both c.clean_session (greet_new j c client (remove key w)) (greet j c key w) (Spends n w)
-      (λ t. more (0 + n) n w (greet_new j c client (remove key w)) (omega arith) (then_ 0 n w (remove key w) (greet_new j c client (remove key w)) (remove_spends key w) (greet_new_spends j c client (remove key w))))
+      cond_both c.clean_session (start_session j c client (remove key w)) (resume_session j c key w) (Spends n w)
+      (λ t. more (0 + n) n w (start_session j c client (remove key w)) (omega arith) (then_ 0 n w (remove key w) (start_session j c client (remove key w)) (remove_spends key w) (greet_new_spends j c client (remove key w))))
       (λ f. greet_spends j c key w)
 
-  admit_spends : (j : Conn) (c : Connect) (client : List ℕ) (key : Option ℕ) (fits : Bool) (w : Work) → Spends (2 + length (fields (packets.Connect c))) w (admit j c client key fits w)
+  admit_spends : (j : Conn) (c : Connect) (client : List ℕ) (key : Option ℕ) (fits : Bool) (w : Work) → Spends (2 + length (fields (packets.Connect c))) w (accept_connect j c client key fits w)
   admit_spends j c client None fits w = greet_new_spends j c client w
   admit_spends j c client (Some key) fits w =
       let n = 2 + length (fields (packets.Connect c)) in
-      let v = take_over (up_on key w.hub.lines) fits w in
+      let v = take_over (up_on key w.hub.connections) fits w in
       let u = goes_on j c client key (ends_with key w.hub) v in
-      more (0 + n) n w u (omega arith) (then_ 0 n w v u (take_over_spends (up_on key w.hub.lines) fits w) (goes_on_spends j c client key (ends_with key w.hub) v))
+      more (0 + n) n w u (omega arith) (then_ 0 n w v u (take_over_spends (up_on key w.hub.connections) fits w) (goes_on_spends j c client key (ends_with key w.hub) v))
 
-  welcomes_spends : (j : Conn) (c : Connect) (refused : Option RefusalCode) (fits : Bool) (w : Work) → Spends (2 + length (fields (packets.Connect c))) w (welcomes j c refused fits w)
-  unfolding welcomes
+  welcomes_spends : (j : Conn) (c : Connect) (refused : Option RefusalCode) (fits : Bool) (w : Work) → Spends (2 + length (fields (packets.Connect c))) w (on_connect j c refused fits w)
+  unfolding on_connect
   welcomes_spends j c (Some code) fits w =
       let ps = packets.ConnAck (connacks.Refused code) ∷ [] in
       let v = put_on j ps w in
@@ -289,27 +289,27 @@ module _ (k : Conn) where
 
   -- ---- any packet
 
-  first_spends : (j : Conn) (p : Packet) (fits : Bool) (w : Work) → Spends (2 + length (fields p)) w (at_first j p fits w)
-  unfolding at_first
+  first_spends : (j : Conn) (p : Packet) (fits : Bool) (w : Work) → Spends (2 + length (fields p)) w (on_first_packet j p fits w)
+  unfolding on_first_packet
   first_spends j (packets.Connect c) fits w = welcomes_spends j c (refusal c w.hub) fits w
   first_spends j p fits w = more 0 (2 + length (fields p)) w (close j (Own reasons.Unexpected) fits w) (omega arith) (close_spends j (Own reasons.Unexpected) fits w)
 
-  comes_in_spends : (j : Conn) (p : Packet) (fits : Bool) (s : Stage) (w : Work) → Spends (2 + length (fields p)) w (comes_in j p fits s w)
-  unfolding comes_in
-  comes_in_spends j p fits Fresh w = first_spends j p fits w
-  comes_in_spends j p fits (UpFor key terms moment) w =
+  comes_in_spends : (j : Conn) (p : Packet) (fits : Bool) (s : ConnectionState) (w : Work) → Spends (2 + length (fields p)) w (dispatch_packet j p fits s w)
+  unfolding dispatch_packet
+  comes_in_spends j p fits AwaitingConnect w = first_spends j p fits w
+  comes_in_spends j p fits (ConnectedAs key terms last_activity) w =
       replies_spends j key (2 + length (fields p)) (server_gets p) (server_gets p (end_of key w.hub.sessions)).close fits w (gets_cost p (end_of key w.hub.sessions))
-  comes_in_spends j p fits Shut w = more 0 (2 + length (fields p)) w w (omega arith) (still w)
+  comes_in_spends j p fits Closed w = more 0 (2 + length (fields p)) w w (omega arith) (still w)
 
   arrives_spends : (j : Conn) (p : Packet) (g : Growth) (w : Work) → Spends (2 + length (fields p)) w (arrives j p g w)
   unfolding arrives
   arrives_spends j p g w =
       let n = 2 + length (fields p) in
-      let v = heard_on j w in
-      let u = comes_in j p g.will_fits (stage_of j w.hub.lines) v in
+      let v = touched_on j w in
+      let u = dispatch_packet j p g.will_fits (stage_of j w.hub.connections) v in
       cond_both g.fits u (close j (Own reasons.Memory) g.will_fits w) (Spends n w)
       (λ t. more (0 + n) n w u (omega arith)
-      (then_ 0 n w v u (lines_spend (λ x. record x { stage = heard w.hub.clock x.stage }) j w (λ x. refl) (λ x. inl refl)) (comes_in_spends j p g.will_fits (stage_of j w.hub.lines) v)))
+      (then_ 0 n w v u (lines_spend (λ x. record x { stage = touched w.hub.clock x.stage }) j w (λ x. refl) (λ x. inl refl)) (comes_in_spends j p g.will_fits (stage_of j w.hub.connections) v)))
       (λ f. more 0 n w (close j (Own reasons.Memory) g.will_fits w) (omega arith) (close_spends j (Own reasons.Memory) g.will_fits w))
 
   pub takes_spends : (j : Conn) (p : Packet) (g : Growth) (w : Work) → Spends (2 + length (fields p)) w (takes j p g w)

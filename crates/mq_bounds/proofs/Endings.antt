@@ -4,13 +4,13 @@ use Rattle.std.specs.FinSet.{len}
 use Rattle.std.proofs.lemmas.List.{length-append}
 use Rattle.mq_wire.specs.Bytes.{AreBytes}
 use Rattle.mq_packet.specs.declared.packet.Packet.{Packet}
-use Rattle.mq_packet.specs.Spelling.{spellings}
+use Rattle.mq_packet.specs.Encoding.{encodings}
 use Rattle.mq_decode.specs.declared.fault.DecodeFault.{DecodeFault}
 use Rattle.mq_decode.specs.Limits.{Bounds}
 use Rattle.mq_decode.specs.Laws.{PendingIsShort}
 use Rattle.mq_decode.proofs.FieldLaws.{AreBytes-rest}
 use Rattle.mq_end.specs.declared.state.State.{State}
-use Rattle.mq_end.specs.declared.state.State.TheVariants.{Closed, Open, Up}
+use Rattle.mq_end.specs.declared.state.State.TheVariants.{Disconnected, Connecting, Connected}
 use Rattle.mq_end.specs.declared.reason.CloseReason.{CloseReason}
 use Rattle.mq_end.specs.declared.reason.CloseReason.TheVariants as reasons
 use Rattle.mq_end.specs.End.{End, Reply, silent, closes, followed, one_by_one}
@@ -19,7 +19,7 @@ use Rattle.mq_bounds.specs.Costs.{rises, sent_again}
 use Rattle.mq_bounds.proofs.Lengths.{joined_size}
 use Rattle.mq_bounds.proofs.Rises.{is_open}
 use Rattle.mq_bounds.proofs.Stored.{over_stores}
-use Rattle.mq_bounds.proofs.Walk.{Does, BreaksOff, Refused, Nothing, Shut, told_after, all_calm, all_out, all_stored, all_refused, settled}
+use Rattle.mq_bounds.proofs.Walk.{Does, BreaksOff, Refused, Nothing, Closed, told_after, all_calm, all_out, all_stored, all_refused, settled}
 
 not_both : (o : Option CloseReason) (reason : CloseReason) → o ≡ None → o ≡ Some reason → ⊥
 not_both o reason h k =
@@ -29,9 +29,9 @@ not_both o reason h k =
 -- ---- how much is put out
 
 -- after a reply that puts out within bytes, another that tells nothing
-after_out : (s t : Reply) (front rest : List ℕ) (e : End) → rises t.happenings ≡ false → length (spellings t.out) ≤ length rest
-    → length (spellings s.out) ≤ length front + length (sent_again (rises s.happenings) e.book)
-    → length (spellings (followed s t).out) ≤ (length front + length rest) + length (sent_again (rises (followed s t).happenings) e.book)
+after_out : (s t : Reply) (front rest : List ℕ) (e : End) → rises t.happenings ≡ false → length (encodings t.out) ≤ length rest
+    → length (encodings s.out) ≤ length front + length (sent_again (rises s.happenings) e.book)
+    → length (encodings (followed s t).out) ≤ (length front + length rest) + length (sent_again (rises (followed s t).happenings) e.book)
 after_out s t front rest e quiet few before =
     let parts = joined_size s.out t.out in
     let same = ap (λ (b : Bool). length (sent_again b e.book)) (told_after s.happenings t.happenings quiet) in
@@ -39,29 +39,29 @@ after_out s t front rest e quiet few before =
 
 -- of a reply to the bytes of front and rest, with what is held then
 abbrev pub AllWithin : List ℕ → List ℕ → End → List ℕ → Reply → Type 0
-AllWithin front rest e held r = length (spellings r.out) + length held ≤ (length front + length rest) + length (sent_again (rises r.happenings) e.book)
+AllWithin front rest e held r = length (encodings r.out) + length held ≤ (length front + length rest) + length (sent_again (rises r.happenings) e.book)
 
 ending_out : (refusal : ℕ) (faulted : DecodeFault → End → Reply) → BreaksOff refusal faulted → (limit : Bounds) (s : Reply) (front rest : List ℕ) (e : End) (r : Reply) (held : List ℕ)
-    → length (spellings s.out) ≤ length front + length (sent_again (rises s.happenings) e.book) → Ending limit faulted s rest r held → AllWithin front rest e held r
-ending_out refusal faulted breaks limit s front rest e r held before (Waits pending none same is_held) =
+    → length (encodings s.out) ≤ length front + length (sent_again (rises s.happenings) e.book) → Ending limit faulted s rest r held → AllWithin front rest e held r
+ending_out refusal faulted on_malformed limit s front rest e r held before (Waits pending none same is_held) =
     subst (AllWithin front rest e held) (sym same) (let size = ap length is_held in omega arith)
-ending_out refusal faulted breaks limit s front rest e r held before (Closes reason closed same is_held) =
+ending_out refusal faulted on_malformed limit s front rest e r held before (Closes reason closed same is_held) =
     subst (AllWithin front rest e held) (sym same) (let size = ap length is_held in omega arith)
-ending_out refusal faulted breaks limit s front rest e r held before (Breaks fault bad none same is_held) =
+ending_out refusal faulted on_malformed limit s front rest e r held before (Breaks fault bad none same is_held) =
     subst (AllWithin front rest e held) (sym same) (
     let size = ap length is_held in
-    let all = after_out s (faulted fault s.end) front rest e (breaks.quiet fault s.end) (breaks.short limit rest fault s.end bad) before in
+    let all = after_out s (faulted fault s.end) front rest e (on_malformed.quiet fault s.end) (on_malformed.short limit rest fault s.end bad) before in
     omega arith)
-ending_out refusal faulted breaks limit s front rest e r held before (Starves more none same is_held) =
+ending_out refusal faulted on_malformed limit s front rest e r held before (Starves more none same is_held) =
     subst (AllWithin front rest e held) (sym same) (
     let size = ap length is_held in
     let all = after_out s (closes reasons.Memory s.end) front rest e refl (omega arith) before in
     omega arith)
 
 pub received_out : (refusal : ℕ) (gets : Packet → End → Reply) (faulted : DecodeFault → End → Reply) → Does refusal gets → BreaksOff refusal faulted → (limit : Bounds) (b : List ℕ) (e : End) (r : Reply) (held : List ℕ)
-    → Receives limit gets faulted b e r held → length (spellings r.out) + length held ≤ length b + length (sent_again (rises r.happenings) e.book)
-received_out refusal gets faulted does breaks limit b e r held h =
-    let all = ending_out refusal faulted breaks limit (one_by_one gets h.packets e) h.front h.rest e r held (all_out refusal gets does limit h.packets h.front e h.stream) h.ending in
+    → Receives limit gets faulted b e r held → length (encodings r.out) + length held ≤ length b + length (sent_again (rises r.happenings) e.book)
+received_out refusal gets faulted does on_malformed limit b e r held h =
+    let all = ending_out refusal faulted on_malformed limit (one_by_one gets h.packets e) h.front h.rest e r held (all_out refusal gets does limit h.packets h.front e h.stream) h.ending in
     let whole = ap length h.parts ∙ length-append h.front h.rest in
     omega arith
 
@@ -69,37 +69,37 @@ received_out refusal gets faulted does breaks limit b e r held h =
 
 ending_quiet : (refusal : ℕ) (faulted : DecodeFault → End → Reply) → BreaksOff refusal faulted → (limit : Bounds) (s : Reply) (rest : List ℕ) (r : Reply) (held : List ℕ)
     → Ending limit faulted s rest r held → rises r.happenings ≡ rises s.happenings
-ending_quiet refusal faulted breaks limit s rest r held (Waits pending none same is_held) = ap (λ (t : Reply). rises t.happenings) same
-ending_quiet refusal faulted breaks limit s rest r held (Closes reason closed same is_held) = ap (λ (t : Reply). rises t.happenings) same
-ending_quiet refusal faulted breaks limit s rest r held (Breaks fault bad none same is_held) = ap (λ (t : Reply). rises t.happenings) same ∙ told_after s.happenings (faulted fault s.end).happenings (breaks.quiet fault s.end)
-ending_quiet refusal faulted breaks limit s rest r held (Starves more none same is_held) = ap (λ (t : Reply). rises t.happenings) same ∙ told_after s.happenings [] refl
+ending_quiet refusal faulted on_malformed limit s rest r held (Waits pending none same is_held) = ap (λ (t : Reply). rises t.happenings) same
+ending_quiet refusal faulted on_malformed limit s rest r held (Closes reason closed same is_held) = ap (λ (t : Reply). rises t.happenings) same
+ending_quiet refusal faulted on_malformed limit s rest r held (Breaks fault bad none same is_held) = ap (λ (t : Reply). rises t.happenings) same ∙ told_after s.happenings (faulted fault s.end).happenings (on_malformed.quiet fault s.end)
+ending_quiet refusal faulted on_malformed limit s rest r held (Starves more none same is_held) = ap (λ (t : Reply). rises t.happenings) same ∙ told_after s.happenings [] refl
 
 pub received_once : (refusal : ℕ) (gets : Packet → End → Reply) (faulted : DecodeFault → End → Reply) → Does refusal gets → BreaksOff refusal faulted → (limit : Bounds) (b : List ℕ) (e : End) (r : Reply) (held : List ℕ)
-    → Receives limit gets faulted b e r held → rises r.happenings ≡ true → e.state ≡ Open
-received_once refusal gets faulted does breaks limit b e r held h up = by e.state refl
+    → Receives limit gets faulted b e r held → rises r.happenings ≡ true → e.state ≡ Connecting
+received_once refusal gets faulted does on_malformed limit b e r held h up = by e.state refl
   where
     none : is_open e.state ≡ false → ⊥
     none shut =
         let quiet = (all_calm refusal gets does h.packets e shut).quiet in
-        let e : true ≡ false = sym up ∙ (ending_quiet refusal faulted breaks limit (one_by_one gets h.packets e) h.rest r held h.ending ∙ quiet) in
+        let e : true ≡ false = sym up ∙ (ending_quiet refusal faulted on_malformed limit (one_by_one gets h.packets e) h.rest r held h.ending ∙ quiet) in
         cc
 
-    by : (st : State) → e.state ≡ st → st ≡ Open
-    by Closed is = absurd (none (ap is_open is))
-    by Open is = refl
-    by Up is = absurd (none (ap is_open is))
+    by : (st : State) → e.state ≡ st → st ≡ Connecting
+    by Disconnected is = absurd (none (ap is_open is))
+    by Connecting is = refl
+    by Connected is = absurd (none (ap is_open is))
 
 -- ---- while it waits
 
 -- what is said of an end that waits still
 pub record StillWaits (e : End) (r : Reply) : Type 0 where
-  pub before : e.state ≡ Open
+  pub before : e.state ≡ Connecting
   pub nothing : r ≡ silent e
 
-not_closed : (st : State) → st ≡ Open → st ≡ Closed → ⊥
-not_closed st a b = let e : Open ≡ Closed = sym a ∙ b in cc
+not_closed : (st : State) → st ≡ Connecting → st ≡ Disconnected → ⊥
+not_closed st a b = let e : Connecting ≡ Disconnected = sym a ∙ b in cc
 
-packets_still : (refusal : ℕ) (gets : Packet → End → Reply) → Does refusal gets → (ps : List Packet) (e : End) → (one_by_one gets ps e).end.state ≡ Open → StillWaits e (one_by_one gets ps e)
+packets_still : (refusal : ℕ) (gets : Packet → End → Reply) → Does refusal gets → (ps : List Packet) (e : End) → (one_by_one gets ps e).end.state ≡ Connecting → StillWaits e (one_by_one gets ps e)
 packets_still refusal gets does [] e h = record { before = h; nothing = refl }
 packets_still refusal gets does (p ∷ ps) e h =
     let gone = (all_calm refusal gets does ps (gets p e).end (settled refusal gets does p e)).gone in
@@ -107,56 +107,56 @@ packets_still refusal gets does (p ∷ ps) e h =
     absurd cc
 
 ending_still : (refusal : ℕ) (gets : Packet → End → Reply) (faulted : DecodeFault → End → Reply) → Does refusal gets → BreaksOff refusal faulted → (limit : Bounds) (ps : List Packet) (rest : List ℕ) (e : End) (r : Reply) (held : List ℕ)
-    → Ending limit faulted (one_by_one gets ps e) rest r held → r.end.state ≡ Open → StillWaits e r
-ending_still refusal gets faulted does breaks limit ps rest e r held (Waits pending none same is_held) h =
+    → Ending limit faulted (one_by_one gets ps e) rest r held → r.end.state ≡ Connecting → StillWaits e r
+ending_still refusal gets faulted does on_malformed limit ps rest e r held (Waits pending none same is_held) h =
     subst (StillWaits e) (sym same) (packets_still refusal gets does ps e (sym (ap (λ (t : Reply). t.end.state) same) ∙ h))
-ending_still refusal gets faulted does breaks limit ps rest e r held (Closes reason closed same is_held) h =
+ending_still refusal gets faulted does on_malformed limit ps rest e r held (Closes reason closed same is_held) h =
     subst (StillWaits e) (sym same) (packets_still refusal gets does ps e (sym (ap (λ (t : Reply). t.end.state) same) ∙ h))
-ending_still refusal gets faulted does breaks limit ps rest e r held (Breaks fault bad none same is_held) h =
-    absurd (not_closed r.end.state h (ap (λ (t : Reply). t.end.state) same ∙ breaks.closed fault (one_by_one gets ps e).end))
-ending_still refusal gets faulted does breaks limit ps rest e r held (Starves more none same is_held) h =
+ending_still refusal gets faulted does on_malformed limit ps rest e r held (Breaks fault bad none same is_held) h =
+    absurd (not_closed r.end.state h (ap (λ (t : Reply). t.end.state) same ∙ on_malformed.closed fault (one_by_one gets ps e).end))
+ending_still refusal gets faulted does on_malformed limit ps rest e r held (Starves more none same is_held) h =
     absurd (not_closed r.end.state h (ap (λ (t : Reply). t.end.state) same))
 
 pub received_still : (refusal : ℕ) (gets : Packet → End → Reply) (faulted : DecodeFault → End → Reply) → Does refusal gets → BreaksOff refusal faulted → (limit : Bounds) (b : List ℕ) (e : End) (r : Reply) (held : List ℕ)
-    → Receives limit gets faulted b e r held → r.end.state ≡ Open → StillWaits e r
-received_still refusal gets faulted does breaks limit b e r held h waits = ending_still refusal gets faulted does breaks limit h.packets h.rest e r held h.ending waits
+    → Receives limit gets faulted b e r held → r.end.state ≡ Connecting → StillWaits e r
+received_still refusal gets faulted does on_malformed limit b e r held h waits = ending_still refusal gets faulted does on_malformed limit h.packets h.rest e r held h.ending waits
 
 -- ---- where it does not come up
 
 -- What is said of an end that waited and did not come up: it waits still and put nothing out, or it is closed, and put out no more than a refusal.
 pub data Stayed (refusal : ℕ) (e : End) (r : Reply) (held : List ℕ) : Type 0 where
   StaysOpen : r ≡ silent e → Stayed refusal e r held
-  IsShut : r.end.state ≡ Closed → length (spellings r.out) ≤ refusal → held ≡ [] → Stayed refusal e r held
+  IsShut : r.end.state ≡ Disconnected → length (encodings r.out) ≤ refusal → held ≡ [] → Stayed refusal e r held
 
 ending_stayed : (refusal : ℕ) (gets : Packet → End → Reply) (faulted : DecodeFault → End → Reply) → BreaksOff refusal faulted → (limit : Bounds) (s : Reply) (rest : List ℕ) (e : End) (r : Reply) (held : List ℕ)
     → Refused refusal s e → Ending limit faulted s rest r held → Stayed refusal e r held
-ending_stayed refusal gets faulted breaks limit s rest e r held (Nothing is) (Waits pending none same is_held) = StaysOpen (same ∙ is)
-ending_stayed refusal gets faulted breaks limit s rest e r held (Nothing is) (Closes reason closed same is_held) =
+ending_stayed refusal gets faulted on_malformed limit s rest e r held (Nothing is) (Waits pending none same is_held) = StaysOpen (same ∙ is)
+ending_stayed refusal gets faulted on_malformed limit s rest e r held (Nothing is) (Closes reason closed same is_held) =
     absurd (not_both s.close reason (ap (λ (t : Reply). t.close) is) closed)
-ending_stayed refusal gets faulted breaks limit s rest e r held (Nothing is) (Breaks fault bad none same is_held) =
-    let all = ap (λ (t : Reply). length (spellings t.out)) same in
+ending_stayed refusal gets faulted on_malformed limit s rest e r held (Nothing is) (Breaks fault bad none same is_held) =
+    let all = ap (λ (t : Reply). length (encodings t.out)) same in
     let parts = joined_size s.out (faulted fault s.end).out in
-    let before = ap (λ (t : Reply). length (spellings t.out)) is in
-    let few = breaks.refused fault s.end in
-    IsShut (ap (λ (t : Reply). t.end.state) same ∙ breaks.closed fault s.end) (omega arith) is_held
-ending_stayed refusal gets faulted breaks limit s rest e r held (Nothing is) (Starves more none same is_held) =
-    let all = ap (λ (t : Reply). length (spellings t.out)) same in
+    let before = ap (λ (t : Reply). length (encodings t.out)) is in
+    let few = on_malformed.refused fault s.end in
+    IsShut (ap (λ (t : Reply). t.end.state) same ∙ on_malformed.closed fault s.end) (omega arith) is_held
+ending_stayed refusal gets faulted on_malformed limit s rest e r held (Nothing is) (Starves more none same is_held) =
+    let all = ap (λ (t : Reply). length (encodings t.out)) same in
     let parts = joined_size s.out [] in
-    let before = ap (λ (t : Reply). length (spellings t.out)) is in
+    let before = ap (λ (t : Reply). length (encodings t.out)) is in
     IsShut (ap (λ (t : Reply). t.end.state) same) (omega arith) is_held
-ending_stayed refusal gets faulted breaks limit s rest e r held (Shut reason closed shut few) (Closes why again same is_held) =
-    let all = ap (λ (t : Reply). length (spellings t.out)) same in
+ending_stayed refusal gets faulted on_malformed limit s rest e r held (Closed reason closed shut few) (Closes why again same is_held) =
+    let all = ap (λ (t : Reply). length (encodings t.out)) same in
     IsShut (ap (λ (t : Reply). t.end.state) same ∙ shut) (omega arith) is_held
-ending_stayed refusal gets faulted breaks limit s rest e r held (Shut reason closed shut few) (Waits pending none same is_held) = absurd (not_both s.close reason none closed)
-ending_stayed refusal gets faulted breaks limit s rest e r held (Shut reason closed shut few) (Breaks fault bad none same is_held) = absurd (not_both s.close reason none closed)
-ending_stayed refusal gets faulted breaks limit s rest e r held (Shut reason closed shut few) (Starves more none same is_held) = absurd (not_both s.close reason none closed)
+ending_stayed refusal gets faulted on_malformed limit s rest e r held (Closed reason closed shut few) (Waits pending none same is_held) = absurd (not_both s.close reason none closed)
+ending_stayed refusal gets faulted on_malformed limit s rest e r held (Closed reason closed shut few) (Breaks fault bad none same is_held) = absurd (not_both s.close reason none closed)
+ending_stayed refusal gets faulted on_malformed limit s rest e r held (Closed reason closed shut few) (Starves more none same is_held) = absurd (not_both s.close reason none closed)
 
 pub received_stayed : (refusal : ℕ) (gets : Packet → End → Reply) (faulted : DecodeFault → End → Reply) → Does refusal gets → BreaksOff refusal faulted → (limit : Bounds) (b : List ℕ) (e : End) (r : Reply) (held : List ℕ)
-    → Receives limit gets faulted b e r held → e.state ≡ Open → rises r.happenings ≡ false → Stayed refusal e r held
-received_stayed refusal gets faulted does breaks limit b e r held h waits quiet =
+    → Receives limit gets faulted b e r held → e.state ≡ Connecting → rises r.happenings ≡ false → Stayed refusal e r held
+received_stayed refusal gets faulted does on_malformed limit b e r held h waits quiet =
     let s : Reply = one_by_one gets h.packets e in
-    ending_stayed refusal gets faulted breaks limit s h.rest e r held
-    (all_refused refusal gets does h.packets e waits (sym (ending_quiet refusal faulted breaks limit s h.rest r held h.ending) ∙ quiet)) h.ending
+    ending_stayed refusal gets faulted on_malformed limit s h.rest e r held
+    (all_refused refusal gets does h.packets e waits (sym (ending_quiet refusal faulted on_malformed limit s h.rest r held h.ending) ∙ quiet)) h.ending
 
 -- ---- what is held
 
@@ -181,22 +181,22 @@ received_held short gets faulted limit b e r held h bytes =
 
 ending_stored : (refusal : ℕ) (faulted : DecodeFault → End → Reply) → BreaksOff refusal faulted → (limit : Bounds) (s : Reply) (rest : List ℕ) (r : Reply) (held : List ℕ)
     → Ending limit faulted s rest r held → len r.end.received ≤ len s.end.received
-ending_stored refusal faulted breaks limit s rest r held (Waits pending none same is_held) = let e = ap (λ (t : Reply). len t.end.received) same in omega arith
-ending_stored refusal faulted breaks limit s rest r held (Closes reason closed same is_held) = let e = ap (λ (t : Reply). len t.end.received) same in omega arith
-ending_stored refusal faulted breaks limit s rest r held (Breaks fault bad none same is_held) =
+ending_stored refusal faulted on_malformed limit s rest r held (Waits pending none same is_held) = let e = ap (λ (t : Reply). len t.end.received) same in omega arith
+ending_stored refusal faulted on_malformed limit s rest r held (Closes reason closed same is_held) = let e = ap (λ (t : Reply). len t.end.received) same in omega arith
+ending_stored refusal faulted on_malformed limit s rest r held (Breaks fault bad none same is_held) =
     let e = ap (λ (t : Reply). len t.end.received) same in
-    let less = breaks.stores fault s.end in
+    let less = on_malformed.stores fault s.end in
     omega arith
-ending_stored refusal faulted breaks limit s rest r held (Starves more none same is_held) =
+ending_stored refusal faulted on_malformed limit s rest r held (Starves more none same is_held) =
     let e = ap (λ (t : Reply). len t.end.received) same in
     let less = over_stores s.end 0 in
     omega arith
 
 pub received_stored : (refusal : ℕ) (gets : Packet → End → Reply) (faulted : DecodeFault → End → Reply) → Does refusal gets → BreaksOff refusal faulted → (limit : Bounds) (b : List ℕ) (e : End) (r : Reply) (held : List ℕ)
     → Receives limit gets faulted b e r held → 7 * len r.end.received ≤ 7 * len e.received + length b
-received_stored refusal gets faulted does breaks limit b e r held h =
+received_stored refusal gets faulted does on_malformed limit b e r held h =
     let s : Reply = one_by_one gets h.packets e in
     let all = all_stored refusal gets does limit h.packets h.front e h.stream in
-    let less = ending_stored refusal faulted breaks limit s h.rest r held h.ending in
+    let less = ending_stored refusal faulted on_malformed limit s h.rest r held h.ending in
     let whole = ap length h.parts ∙ length-append h.front h.rest in
     omega arith

@@ -6,13 +6,13 @@ use Rattle.std.specs.FinSet.{len}
 use Rattle.mq_wire.specs.Bytes.{AreBytes}
 use Rattle.mq_packet.specs.declared.connack.RefusalCode.TheVariants.{UnacceptableProtocolVersion}
 use Rattle.mq_packet.specs.declared.packet.Packet.{Packet}
-use Rattle.mq_packet.specs.Spelling.{SpellingLaws, fields, spellings}
+use Rattle.mq_packet.specs.Encoding.{EncodingLaws, fields, encodings}
 use Rattle.mq_decode.specs.declared.fault.DecodeFault.{DecodeFault}
 use Rattle.mq_decode.specs.Limits.{Bounds}
 use Rattle.mq_decode.specs.Grammar.{Reads, Faulty}
 use Rattle.mq_decode.specs.Laws.{PendingIsShort}
 use Rattle.mq_end.specs.declared.state.State.{State}
-use Rattle.mq_end.specs.declared.state.State.TheVariants.{Closed, Open}
+use Rattle.mq_end.specs.declared.state.State.TheVariants.{Disconnected, Connecting}
 use Rattle.mq_end.specs.declared.happening.Happening.{Happening}
 use Rattle.mq_end.specs.declared.reason.CloseReason.{CloseReason}
 use Rattle.mq_end.specs.declared.reason.CloseReason.TheVariants as reasons
@@ -55,7 +55,7 @@ pub both_true : (a b : Bool) → (a && b) ≡ true → b ≡ true
 both_true true b h = h
 both_true false b h = absurd cc
 
-level_out : (e : End) → length (spellings (level_refused e).out) ≤ 4
+level_out : (e : End) → length (encodings (level_refused e).out) ≤ 4
 level_out e = let few = refused_out UnacceptableProtocolVersion e e.book 4 (omega arith) in omega arith
 
 server_breaks : BreaksOff 4 server_faulted
@@ -67,16 +67,16 @@ server_breaks = record { quiet = quiet; closed = closed; short = short; refused 
     quiet : (fault : DecodeFault) (e : End) → rises (server_faulted fault e).happenings ≡ false
     quiet fault e = cond_both (not (is_up e.state) && is_level fault.kind) (level_refused e) (closes (reasons.Fault fault) e) (λ r. rises r.happenings ≡ false) (λ t. refl) (λ f. refl)
 
-    closed : (fault : DecodeFault) (e : End) → (server_faulted fault e).end.state ≡ Closed
-    closed fault e = cond_both (not (is_up e.state) && is_level fault.kind) (level_refused e) (closes (reasons.Fault fault) e) (λ r. r.end.state ≡ Closed) (λ t. refl) (λ f. refl)
+    closed : (fault : DecodeFault) (e : End) → (server_faulted fault e).end.state ≡ Disconnected
+    closed fault e = cond_both (not (is_up e.state) && is_level fault.kind) (level_refused e) (closes (reasons.Fault fault) e) (λ r. r.end.state ≡ Disconnected) (λ t. refl) (λ f. refl)
 
-    short : (limit : Bounds) (b : List ℕ) (fault : DecodeFault) (e : End) → Faulty limit b fault.kind fault.place → length (spellings (server_faulted fault e).out) ≤ length b
+    short : (limit : Bounds) (b : List ℕ) (fault : DecodeFault) (e : End) → Faulty limit b fault.kind fault.place → length (encodings (server_faulted fault e).out) ≤ length b
     short limit b fault e bad =
-        cond_both (not (is_up e.state) && is_level fault.kind) (level_refused e) (closes (reasons.Fault fault) e) (λ r. length (spellings r.out) ≤ length b)
+        cond_both (not (is_up e.state) && is_level fault.kind) (level_refused e) (closes (reasons.Fault fault) e) (λ r. length (encodings r.out) ≤ length b)
         (λ t. let few = level_out e in let size = level_size limit b fault.kind fault.place (both_true (not (is_up e.state)) (is_level fault.kind) t) bad in omega arith) (λ f. omega arith)
 
-    refused : (fault : DecodeFault) (e : End) → length (spellings (server_faulted fault e).out) ≤ 4
-    refused fault e = cond_both (not (is_up e.state) && is_level fault.kind) (level_refused e) (closes (reasons.Fault fault) e) (λ r. length (spellings r.out) ≤ 4) (λ t. level_out e) (λ f. omega arith)
+    refused : (fault : DecodeFault) (e : End) → length (encodings (server_faulted fault e).out) ≤ 4
+    refused fault e = cond_both (not (is_up e.state) && is_level fault.kind) (level_refused e) (closes (reasons.Fault fault) e) (λ r. length (encodings r.out) ≤ 4) (λ t. level_out e) (λ f. omega arith)
 
     stores : (fault : DecodeFault) (e : End) → StoresWithin 0 e (server_faulted fault e).end
     stores fault e = cond_both (not (is_up e.state) && is_level fault.kind) (level_refused e) (closes (reasons.Fault fault) e) (λ r. StoresWithin 0 e r.end) (λ t. over_stores e 0) (λ f. over_stores e 0)
@@ -99,10 +99,10 @@ ReceivesBy gets faulted piece old new happenings acknowledged closed = (r : Repl
 
 -- what the bounds of `receive` are proved from
 pub record Given (refusal : ℕ) (gets : Packet → End → Reply) (faulted : DecodeFault → End → Reply) : Type 0 where
-  pub spelling : SpellingLaws
+  pub encoding : EncodingLaws
   pub short : PendingIsShort
   pub does : Does refusal gets
-  pub breaks : BreaksOff refusal faulted
+  pub on_malformed : BreaksOff refusal faulted
 
 pub joined_bytes : (a b : List ℕ) → AreBytes a → AreBytes b → AreBytes (a ++ b)
 joined_bytes [] b h k i = k i
@@ -113,8 +113,8 @@ grown : (refusal : ℕ) (gets : Packet → End → Reply) (faulted : DecodeFault
     → (piece : List ℕ) (old new : EndState) (happenings : List Happening) (acknowledged : List ℕ) (closed : Option CloseReason) → ReceivesBy gets faulted piece old new happenings acknowledged closed
     → (b : Bool) → rises happenings ≡ b → kept new ≤ (kept old + length piece) + length (sent_again b old.end.book)
 grown refusal gets faulted g piece old new happenings acknowledged closed h b up =
-    let all = received_out refusal gets faulted g.does g.breaks old.limit (old.held ++ piece) old.end h.0 new.held h.1 in
-    let put = put_size g.spelling h.0.out old.output new.output h.2.out in
+    let all = received_out refusal gets faulted g.does g.on_malformed old.limit (old.held ++ piece) old.end h.0 new.held h.1 in
+    let put = put_size g.encoding h.0.out old.output new.output h.2.out in
     let parts = length-append old.held piece in
     let same = ap (λ (c : Bool). length (sent_again c old.end.book)) (sym (ap rises h.2.told) ∙ up) in
     omega arith
@@ -129,20 +129,20 @@ still_output ps old new none out = by (subst (λ (ps : List Packet). PutsOut ps 
 
 -- an end that waits, or is closed, and what it keeps then
 data Waiting (refusal : ℕ) (limit : Bounds) (s : EndState) : Type 0 where
-  IsOpen : s.end.state ≡ Open → s.output ≡ [] → AreBytes s.held → length s.held ≤ 5 + limit.most → s.limit ≡ limit → Waiting refusal limit s
-  IsOver : s.end.state ≡ Closed → length s.output ≤ refusal → s.held ≡ [] → Waiting refusal limit s
+  IsOpen : s.end.state ≡ Connecting → s.output ≡ [] → AreBytes s.held → length s.held ≤ 5 + limit.most → s.limit ≡ limit → Waiting refusal limit s
+  IsOver : s.end.state ≡ Disconnected → length s.output ≤ refusal → s.held ≡ [] → Waiting refusal limit s
 
-not_live : (st : State) → st ≡ Closed → is_live st ≡ true → ⊥
+not_live : (st : State) → st ≡ Disconnected → is_live st ≡ true → ⊥
 not_live st is h = let e : false ≡ true = sym (ap is_live is) ∙ h in cc
 
-live : (st : State) → st ≡ Open → is_live st ≡ false → ⊥
+live : (st : State) → st ≡ Connecting → is_live st ≡ false → ⊥
 live st is h = let e : true ≡ false = sym (ap is_live is) ∙ h in cc
 
-heard : (refusal : ℕ) (gets : Packet → End → Reply) (faulted : DecodeFault → End → Reply) → Given refusal gets faulted → (limit : Bounds)
+touched : (refusal : ℕ) (gets : Packet → End → Reply) (faulted : DecodeFault → End → Reply) → Given refusal gets faulted → (limit : Bounds)
     → (piece : List ℕ) (old new : EndState) (happenings : List Happening) (acknowledged : List ℕ) (closed : Option CloseReason) → ReceivesBy gets faulted piece old new happenings acknowledged closed
-    → AreBytes piece → rises happenings ≡ false → new.limit ≡ old.limit → old.end.state ≡ Open → old.output ≡ [] → AreBytes old.held → old.limit ≡ limit → Waiting refusal limit new
-heard refusal gets faulted g limit piece old new happenings acknowledged closed h bytes quiet same waits nothing held is =
-    by (received_stayed refusal gets faulted g.does g.breaks old.limit (old.held ++ piece) old.end h.0 new.held h.1 waits (sym (ap rises h.2.told) ∙ quiet))
+    → AreBytes piece → rises happenings ≡ false → new.limit ≡ old.limit → old.end.state ≡ Connecting → old.output ≡ [] → AreBytes old.held → old.limit ≡ limit → Waiting refusal limit new
+touched refusal gets faulted g limit piece old new happenings acknowledged closed h bytes quiet same waits nothing held is =
+    by (received_stayed refusal gets faulted g.does g.on_malformed old.limit (old.held ++ piece) old.end h.0 new.held h.1 waits (sym (ap rises h.2.told) ∙ quiet))
   where
     by : Stayed refusal old.end h.0 new.held → Waiting refusal limit new
     by (StaysOpen still) =
@@ -151,14 +151,14 @@ heard refusal gets faulted g limit piece old new happenings acknowledged closed 
         let size = few.1 in
         IsOpen (ap (λ (e : End). e.state) h.2.after ∙ (ap (λ (r : Reply). r.end.state) still ∙ waits)) (still_output h.0.out old.output new.output (ap (λ (r : Reply). r.out) still) h.2.out ∙ nothing) few.0 (omega arith) (same ∙ is)
     by (IsShut over few none) =
-        let put = put_size g.spelling h.0.out old.output new.output h.2.out in
+        let put = put_size g.encoding h.0.out old.output new.output h.2.out in
         let none_before = ap length nothing in
         IsOver (ap (λ (e : End). e.state) h.2.after ∙ over) (omega arith) none
 
 step : (refusal : ℕ) (gets : Packet → End → Reply) (faulted : DecodeFault → End → Reply) → Given refusal gets faulted → (limit : Bounds)
     → (piece : List ℕ) (old new : EndState) → WaitsOn (ReceivesBy gets faulted) piece old new → Waiting refusal limit old → Waiting refusal limit new
 step refusal gets faulted g limit piece old new (Hears happenings acknowledged closed bytes is_live h quiet same) (IsOpen waits nothing held few is) =
-    heard refusal gets faulted g limit piece old new happenings acknowledged closed h bytes quiet same waits nothing held is
+    touched refusal gets faulted g limit piece old new happenings acknowledged closed h bytes quiet same waits nothing held is
 step refusal gets faulted g limit piece old new (Hears happenings acknowledged closed bytes is_live h quiet same) (IsOver shut few none) = absurd (not_live old.end.state shut is_live)
 step refusal gets faulted g limit piece old new (Ignores dead same) (IsOpen waits nothing held few is) = absurd (live old.end.state waits dead)
 step refusal gets faulted g limit piece old new (Ignores dead same) (IsOver shut few none) = subst (Waiting refusal limit) (sym same) (IsOver shut few none)
@@ -179,17 +179,17 @@ receive_bounds refusal gets faulted g = record {
   grows = λ piece old new happenings acknowledged closed h quiet. let all = grown refusal gets faulted g piece old new happenings acknowledged closed h false quiet in omega arith;
   comes_up = λ piece old new happenings acknowledged closed h up. grown refusal gets faulted g piece old new happenings acknowledged closed h true up;
   once = λ piece old new happenings acknowledged closed h up.
-      received_once refusal gets faulted g.does g.breaks old.limit (old.held ++ piece) old.end h.0 new.held h.1 (sym (ap rises h.2.told) ∙ up);
+      received_once refusal gets faulted g.does g.on_malformed old.limit (old.held ++ piece) old.end h.0 new.held h.1 (sym (ap rises h.2.told) ∙ up);
   waits = λ piece old new happenings acknowledged closed h is.
-      let still = received_still refusal gets faulted g.does g.breaks old.limit (old.held ++ piece) old.end h.0 new.held h.1 (sym (ap (λ (e : End). e.state) h.2.after) ∙ is) in
+      let still = received_still refusal gets faulted g.does g.on_malformed old.limit (old.held ++ piece) old.end h.0 new.held h.1 (sym (ap (λ (e : End). e.state) h.2.after) ∙ is) in
       (still.before, still_output h.0.out old.output new.output (ap (λ (r : Reply). r.out) still.nothing) h.2.out);
   refuses = λ piece old new happenings acknowledged closed h is quiet.
-      refused_output old.end h.0 new.held old.output new.output (received_stayed refusal gets faulted g.does g.breaks old.limit (old.held ++ piece) old.end h.0 new.held h.1 is (sym (ap rises h.2.told) ∙ quiet))
-      (put_size g.spelling h.0.out old.output new.output h.2.out);
+      refused_output old.end h.0 new.held old.output new.output (received_stayed refusal gets faulted g.does g.on_malformed old.limit (old.held ++ piece) old.end h.0 new.held h.1 is (sym (ap rises h.2.told) ∙ quiet))
+      (put_size g.encoding h.0.out old.output new.output h.2.out);
   held = λ piece old new happenings acknowledged closed h before bytes.
       received_held g.short gets faulted old.limit (old.held ++ piece) old.end h.0 new.held h.1 (joined_bytes old.held piece before bytes);
   stored = λ piece old new happenings acknowledged closed h.
-      let all = received_stored refusal gets faulted g.does g.breaks old.limit (old.held ++ piece) old.end h.0 new.held h.1 in
+      let all = received_stored refusal gets faulted g.does g.on_malformed old.limit (old.held ++ piece) old.end h.0 new.held h.1 in
       let same = ap (λ (e : End). len e.received) h.2.after in
       let parts = length-append old.held piece in
       omega arith;
@@ -198,8 +198,8 @@ receive_bounds refusal gets faulted g = record {
       (IsOpen waits nothing (subst AreBytes (sym none) (λ i. omega arith)) (let size = ap length none in omega arith) refl));
 }
   where
-    refused_output : (e : End) (r : Reply) (held old new : List ℕ) → Stayed refusal e r held → length new ≡ length old + length (spellings r.out) → length new ≤ length old + refusal
-    refused_output e r held old new (StaysOpen still) size = let none = ap (λ (r : Reply). length (spellings r.out)) still in omega arith
+    refused_output : (e : End) (r : Reply) (held old new : List ℕ) → Stayed refusal e r held → length new ≡ length old + length (encodings r.out) → length new ≤ length old + refusal
+    refused_output e r held old new (StaysOpen still) size = let none = ap (λ (r : Reply). length (encodings r.out)) still in omega arith
     refused_output e r held old new (IsShut over few none) size = omega arith
 
 -- ---- whole packets by themselves
@@ -208,11 +208,11 @@ shut_holds : (c : Option CloseReason) (held : List ℕ) → length (held_after c
 shut_holds None held = omega arith
 shut_holds (Some reason) held = omega arith
 
-taken : SpellingLaws → (gets : Packet → End → Reply) → ((p : Packet) (e : End) → OutWithin (2 + length (fields p)) e.book (gets p e)) → (lenient : Bool) (p : Packet) (b : List ℕ) (old new : EndState) (happenings : List Happening) (reply : Reply)
+taken : EncodingLaws → (gets : Packet → End → Reply) → ((p : Packet) (e : End) → OutWithin (2 + length (fields p)) e.book (gets p e)) → (lenient : Bool) (p : Packet) (b : List ℕ) (old new : EndState) (happenings : List Happening) (reply : Reply)
     → Reads lenient p b → (reply ≡ gets p old.end) ⊎ (reply ≡ closes reasons.Memory old.end) → PutsOut reply.out old.output new.output → happenings ≡ reply.happenings → new.held ≡ held_after reply.close old.held
     → kept new ≤ (kept old + length b) + length (sent_again (rises happenings) old.end.book)
-taken spelling gets answer lenient p b old new happenings reply reads does out told held =
-    let put = put_size spelling reply.out old.output new.output out in
+taken encoding gets answer lenient p b old new happenings reply reads does out told held =
+    let put = put_size encoding reply.out old.output new.output out in
     let few = by does in
     let same = ap (λ (hs : List Happening). length (sent_again (rises hs) old.end.book)) told in
     let left = ap length held in
@@ -223,27 +223,27 @@ taken spelling gets answer lenient p b old new happenings reply reads does out t
     by (inl is) = subst (OutWithin (length b) old.end.book) (sym is) (let one = answer p old.end in let size = read_size lenient p b reads in omega arith)
     by (inr is) = subst (OutWithin (length b) old.end.book) (sym is) (omega arith)
 
-client_takes : SpellingLaws → TakeBounds ClientTakes
-client_takes spelling = record {
+client_takes : EncodingLaws → TakeBounds ClientTakes
+client_takes encoding = record {
   grows = λ now lenient p b old new happenings acknowledged closed h reads.
-      taken spelling client_gets client_answer lenient p b old new happenings h.reply reads h.does h.shows.out h.shows.told (ap (λ (s : EndState). s.held) h.state);
+      taken encoding client_gets client_answer lenient p b old new happenings h.reply reads h.does h.shows.out h.shows.told (ap (λ (s : EndState). s.held) h.state);
 }
 
-server_takes : SpellingLaws → TakeBounds TakesOne
-server_takes spelling = record {
+server_takes : EncodingLaws → TakeBounds TakesOne
+server_takes encoding = record {
   grows = λ now lenient p b old new happenings acknowledged closed h reads.
-      taken spelling server_gets server_answer lenient p b old new happenings h.reply reads h.does h.shows.out h.shows.told (ap (λ (s : EndState). s.held) h.state);
+      taken encoding server_gets server_answer lenient p b old new happenings h.reply reads h.does h.shows.out h.shows.told (ap (λ (s : EndState). s.held) h.state);
 }
 
 -- ---- all of it
 
-pub laws : SpellingLaws → PendingIsShort → ClosingLaws → WindowLaws → BoundsLaws
-laws spelling short closing window = record {
+pub laws : EncodingLaws → PendingIsShort → ClosingLaws → WindowLaws → BoundsLaws
+laws encoding short closing window = record {
   client_packet = packet_bounds 0 client_gets (client_does closing) (λ p e. window.client (p ∷ []) e);
   server_packet = packet_bounds 4 server_gets (server_does closing) (λ p e. window.server (p ∷ []) e);
-  client = receive_bounds 0 client_gets client_faulted (record { spelling = spelling; short = short; does = client_does closing; breaks = client_breaks });
-  server = receive_bounds 4 server_gets server_faulted (record { spelling = spelling; short = short; does = server_does closing; breaks = server_breaks });
-  client_takes = client_takes spelling;
-  server_takes = server_takes spelling;
+  client = receive_bounds 0 client_gets client_faulted (record { encoding = encoding; short = short; does = client_does closing; on_malformed = client_breaks });
+  server = receive_bounds 4 server_gets server_faulted (record { encoding = encoding; short = short; does = server_does closing; on_malformed = server_breaks });
+  client_takes = client_takes encoding;
+  server_takes = server_takes encoding;
   again = again_size;
 }

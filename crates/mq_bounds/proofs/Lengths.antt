@@ -7,9 +7,9 @@ use Rattle.mq_packet.specs.declared.connack.ConnAck.{ConnAck}
 use Rattle.mq_packet.specs.declared.connack.ConnAck.TheVariants as connacks
 use Rattle.mq_packet.specs.declared.packet.Packet.{Packet}
 use Rattle.mq_packet.specs.declared.packet.Packet.TheVariants as packets
-use Rattle.mq_packet.specs.Spelling.{SpellingLaws, fields, first_byte, spelling, spellings}
+use Rattle.mq_packet.specs.Encoding.{EncodingLaws, fields, first_byte, encoding, encodings}
 use Rattle.mq_decode.specs.Grammar.{Reads}
-use Rattle.mq_end.specs.State.{Spelled, PutsOut}
+use Rattle.mq_end.specs.State.{EncodesAll, PutsOut}
 
 -- a remaining length has a byte at least
 some_digits : (n : ℕ) (b : List ℕ) → Digits n b → 1 ≤ length b
@@ -33,44 +33,44 @@ read_size true p b h = sized p h.len b (some_length true (length (fields p)) h.l
 
 -- ---- answers
 
-pub connack_size : (a : ConnAck) → length (spellings (packets.ConnAck a ∷ [])) ≡ 4
-unfolding spelling length_bytes
+pub connack_size : (a : ConnAck) → length (encodings (packets.ConnAck a ∷ [])) ≡ 4
+unfolding encoding length_bytes
 connack_size (connacks.Accepted present) = refl
 connack_size (connacks.Refused code) = refl
 
-pub puback_size : (i : ℕ) → length (spellings (packets.PubAck i ∷ [])) ≡ 4
-unfolding spelling length_bytes
+pub puback_size : (i : ℕ) → length (encodings (packets.PubAck i ∷ [])) ≡ 4
+unfolding encoding length_bytes
 puback_size i = refl
 
-pub pubrec_size : (i : ℕ) → length (spellings (packets.PubRec i ∷ [])) ≡ 4
-unfolding spelling length_bytes
+pub pubrec_size : (i : ℕ) → length (encodings (packets.PubRec i ∷ [])) ≡ 4
+unfolding encoding length_bytes
 pubrec_size i = refl
 
-pub pubrel_size : (i : ℕ) → length (spellings (packets.PubRel i ∷ [])) ≡ 4
-unfolding spelling length_bytes
+pub pubrel_size : (i : ℕ) → length (encodings (packets.PubRel i ∷ [])) ≡ 4
+unfolding encoding length_bytes
 pubrel_size i = refl
 
-pub pubcomp_size : (i : ℕ) → length (spellings (packets.PubComp i ∷ [])) ≡ 4
-unfolding spelling length_bytes
+pub pubcomp_size : (i : ℕ) → length (encodings (packets.PubComp i ∷ [])) ≡ 4
+unfolding encoding length_bytes
 pubcomp_size i = refl
 
-pub pingresp_size : length (spellings (packets.PingResp ∷ [])) ≡ 2
-unfolding spelling length_bytes
+pub pingresp_size : length (encodings (packets.PingResp ∷ [])) ≡ 2
+unfolding encoding length_bytes
 pingresp_size = refl
 
 -- ---- packets, one after another
 
-pub joined_size : (ps qs : List Packet) → length (spellings (ps ++ qs)) ≡ length (spellings ps) + length (spellings qs)
-joined_size ps qs = ap length (flat_map-append spelling ps qs) ∙ length-append (spellings ps) (spellings qs)
+pub joined_size : (ps qs : List Packet) → length (encodings (ps ++ qs)) ≡ length (encodings ps) + length (encodings qs)
+joined_size ps qs = ap length (flat_map-append encoding ps qs) ∙ length-append (encodings ps) (encodings qs)
 
-pub spelled_is : SpellingLaws → (ps : List Packet) (b : List ℕ) → Spelled ps b → b ≡ spellings ps
-spelled_is laws [] b h = h
-spelled_is laws (p ∷ ps) b h =
-    h.4 ∙ ap (λ (s : List ℕ). s ++ h.1) (laws.one p h.0 h.2) ∙ ap (λ (s : List ℕ). spelling p ++ s) (spelled_is laws ps h.1 h.3)
+pub encoded_is : EncodingLaws → (ps : List Packet) (b : List ℕ) → EncodesAll ps b → b ≡ encodings ps
+encoded_is laws [] b h = h
+encoded_is laws (p ∷ ps) b h =
+    h.4 ∙ ap (λ (s : List ℕ). s ++ h.1) (laws.one p h.0 h.2) ∙ ap (λ (s : List ℕ). encoding p ++ s) (encoded_is laws ps h.1 h.3)
 
 -- what waits to be written grows by the spellings
-pub put_size : SpellingLaws → (ps : List Packet) (old new : List ℕ) → PutsOut ps old new → length new ≡ length old + length (spellings ps)
+pub put_size : EncodingLaws → (ps : List Packet) (old new : List ℕ) → PutsOut ps old new → length new ≡ length old + length (encodings ps)
 put_size laws ps old new h =
     let all = ap length h.2 ∙ length-append old h.0 in
-    let same = ap length (spelled_is laws ps h.0 h.1) in
+    let same = ap length (encoded_is laws ps h.0 h.1) in
     omega arith

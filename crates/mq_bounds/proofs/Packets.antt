@@ -15,11 +15,11 @@ use Rattle.mq_packet.specs.declared.publish.Delivery.{Delivery}
 use Rattle.mq_packet.specs.declared.packet.Packet.{Packet}
 use Rattle.mq_packet.specs.declared.packet.Packet.TheVariants as packets
 use Rattle.mq_packet.specs.Publication.{Publication}
-use Rattle.mq_packet.specs.Spelling.{fields, protocol, connect_flags, connect_protocol, connect_head, connect_fields, will_fields, login_fields, delivery_fields, publish_fields, spellings}
+use Rattle.mq_packet.specs.Encoding.{fields, protocol, connect_flags, connect_protocol, connect_head, connect_fields, will_fields, login_fields, delivery_fields, publish_fields, encodings}
 use Rattle.mq_flow.specs.Sender.{SenderBook, blank_book, is_awaited, release, awaits_suback, awaits_unsuback, resent}
 use Rattle.mq_flow.specs.Window.{fits_window}
 use Rattle.mq_end.specs.declared.state.State.{State}
-use Rattle.mq_end.specs.declared.state.State.TheVariants.{Closed, Open, Up}
+use Rattle.mq_end.specs.declared.state.State.TheVariants.{Disconnected, Connecting, Connected}
 use Rattle.mq_end.specs.declared.happening.Happening.TheVariants as happens
 use Rattle.mq_end.specs.declared.reason.CloseReason.TheVariants as reasons
 use Rattle.mq_end.specs.End.{End, Reply, tells, closes, comes_up}
@@ -31,7 +31,7 @@ use Rattle.mq_bounds.proofs.Lengths.{connack_size, puback_size, pubrec_size, pub
 
 -- a reply puts out so many bytes at most, but for what is sent again
 abbrev pub OutWithin : ℕ → SenderBook → Reply → Type 0
-OutWithin n book r = length (spellings r.out) ≤ n + length (sent_again (rises r.happenings) book)
+OutWithin n book r = length (encodings r.out) ≤ n + length (sent_again (rises r.happenings) book)
 
 -- ---- messages and their acknowledgements
 
@@ -46,7 +46,7 @@ publish_out q d m e n h = omega arith
 pub publish_size : (p : Publication) → 2 ≤ length (publish_fields p)
 publish_size p = let parts = length-append (counted p.message.topic) (delivery_fields p.delivery ++ p.message.payload) in omega arith
 
-answer_out : (b : Bool) (i : ℕ) → length (spellings (cond b (packets.PubRel i ∷ []) [])) ≤ 4
+answer_out : (b : Bool) (i : ℕ) → length (encodings (cond b (packets.PubRel i ∷ []) [])) ≤ 4
 answer_out true i = let size = pubrel_size i in omega arith
 answer_out false i = omega arith
 
@@ -79,9 +79,9 @@ client_up_out packets.PingResp e = omega arith
 client_up_out p e = flow_out p e
 
 client_out : (st : State) (p : Packet) (e : End) → OutWithin (2 + length (fields p)) e.book (client_gets_in st p e)
-client_out Closed p e = omega arith
-client_out Open p e = client_open_out p e (2 + length (fields p))
-client_out Up p e = client_up_out p e
+client_out Disconnected p e = omega arith
+client_out Connecting p e = client_open_out p e (2 + length (fields p))
+client_out Connected p e = client_up_out p e
 
 pub client_answer : (p : Packet) (e : End) → OutWithin (2 + length (fields p)) e.book (client_gets p e)
 client_answer p e = client_out e.state p e
@@ -96,7 +96,7 @@ connect_size c =
     let first = length-append protocol (connect_flags c ∷ (c.keep_alive / 256 ∷ c.keep_alive % 256 ∷ [])) in
     omega arith
 
-renewed_out : (clean : Bool) (b : SenderBook) → length (spellings (resent (cond clean blank_book b))) ≤ length (spellings (resent b))
+renewed_out : (clean : Bool) (b : SenderBook) → length (encodings (resent (cond clean blank_book b))) ≤ length (encodings (resent b))
 renewed_out true b = omega arith
 renewed_out false b = omega arith
 
@@ -124,9 +124,9 @@ server_up_out packets.Disconnect e = omega arith
 server_up_out p e = flow_out p e
 
 server_out : (st : State) (p : Packet) (e : End) → OutWithin (2 + length (fields p)) e.book (server_gets_in st p e)
-server_out Closed p e = omega arith
-server_out Open p e = server_open_out p e
-server_out Up p e = server_up_out p e
+server_out Disconnected p e = omega arith
+server_out Connecting p e = server_open_out p e
+server_out Connected p e = server_up_out p e
 
 pub server_answer : (p : Packet) (e : End) → OutWithin (2 + length (fields p)) e.book (server_gets p e)
 server_answer p e = server_out e.state p e

@@ -12,12 +12,12 @@ use Rattle.mq_packet.specs.declared.message.Message.{Message}
 use Rattle.mq_packet.specs.declared.publish.Delivery.{Delivery}
 use Rattle.mq_packet.specs.declared.packet.Packet.{Packet}
 use Rattle.mq_packet.specs.declared.packet.Packet.TheVariants as packets
-use Rattle.mq_packet.specs.Spelling.{spellings}
+use Rattle.mq_packet.specs.Encoding.{encodings}
 use Rattle.mq_flow.specs.Sender.{release, awaits_suback, awaits_unsuback}
 use Rattle.mq_flow.specs.Receiver.{is_new}
 use Rattle.mq_flow.specs.Window.{fits_window}
 use Rattle.mq_end.specs.declared.state.State.{State}
-use Rattle.mq_end.specs.declared.state.State.TheVariants.{Closed, Open, Up}
+use Rattle.mq_end.specs.declared.state.State.TheVariants.{Disconnected, Connecting, Connected}
 use Rattle.mq_end.specs.declared.happening.Happening.TheVariants as happens
 use Rattle.mq_end.specs.declared.reason.CloseReason.{CloseReason}
 use Rattle.mq_end.specs.declared.reason.CloseReason.TheVariants as reasons
@@ -30,9 +30,9 @@ use Rattle.mq_bounds.proofs.Lengths.{connack_size}
 
 -- it waits for CONNECT or CONNACK (3.1, 3.2)
 abbrev pub is_open : State → Bool
-is_open Closed = false
-is_open Open = true
-is_open Up = false
+is_open Disconnected = false
+is_open Connecting = true
+is_open Connected = false
 
 -- a reply doesn't come up, and leaves no end that waits
 pub record IsCalm (r : Reply) : Type 0 where
@@ -42,7 +42,7 @@ pub record IsCalm (r : Reply) : Type 0 where
 -- What an end does that waits: it waits no more, and where it doesn't come up, it closes and puts out so many bytes at most.
 pub record Opens (refusal : ℕ) (r : Reply) : Type 0 where
   pub gone : is_open r.end.state ≡ false
-  pub shut : rises r.happenings ≡ false → (reason : CloseReason) × (r.close ≡ Some reason) × (r.end.state ≡ Closed) × (length (spellings r.out) ≤ refusal)
+  pub shut : rises r.happenings ≡ false → (reason : CloseReason) × (r.close ≡ Some reason) × (r.end.state ≡ Disconnected) × (length (encodings r.out) ≤ refusal)
 
 -- ---- an end that is up
 
@@ -89,14 +89,14 @@ server_up_calm packets.Disconnect e h = calm_closes reasons.Left e
 server_up_calm p e h = flow_calm p e h
 
 client_calm_in : (st : State) (p : Packet) (e : End) → is_open st ≡ false → is_open e.state ≡ false → IsCalm (client_gets_in st p e)
-client_calm_in Closed p e s h = calm _ e refl h refl
-client_calm_in Open p e s h = absurd cc
-client_calm_in Up p e s h = client_up_calm p e h
+client_calm_in Disconnected p e s h = calm _ e refl h refl
+client_calm_in Connecting p e s h = absurd cc
+client_calm_in Connected p e s h = client_up_calm p e h
 
 server_calm_in : (st : State) (p : Packet) (e : End) → is_open st ≡ false → is_open e.state ≡ false → IsCalm (server_gets_in st p e)
-server_calm_in Closed p e s h = calm _ e refl h refl
-server_calm_in Open p e s h = absurd cc
-server_calm_in Up p e s h = server_up_calm p e h
+server_calm_in Disconnected p e s h = calm _ e refl h refl
+server_calm_in Connecting p e s h = absurd cc
+server_calm_in Connected p e s h = server_up_calm p e h
 
 pub client_calm : (p : Packet) (e : End) → is_open e.state ≡ false → IsCalm (client_gets p e)
 client_calm p e h = client_calm_in e.state p e h h
@@ -134,8 +134,8 @@ server_open_opens : (p : Packet) (e : End) → Opens 4 (server_open_gets p e)
 server_open_opens (packets.Connect c) e = connect_opens c e
 server_open_opens p e = shuts 4 reasons.Unexpected e
 
-pub client_opens : (p : Packet) (e : End) → e.state ≡ Open → Opens 0 (client_gets p e)
+pub client_opens : (p : Packet) (e : End) → e.state ≡ Connecting → Opens 0 (client_gets p e)
 client_opens p e h = subst (λ (st : State). Opens 0 (client_gets_in st p e)) (sym h) (client_open_opens p e)
 
-pub server_opens : (p : Packet) (e : End) → e.state ≡ Open → Opens 4 (server_gets p e)
+pub server_opens : (p : Packet) (e : End) → e.state ≡ Connecting → Opens 4 (server_gets p e)
 server_opens p e h = subst (λ (st : State). Opens 4 (server_gets_in st p e)) (sym h) (server_open_opens p e)

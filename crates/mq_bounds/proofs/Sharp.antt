@@ -8,7 +8,7 @@ use Rattle.mq_packet.specs.declared.packet.Packet.{Packet}
 use Rattle.mq_packet.specs.declared.packet.Packet.TheVariants as packets
 use Rattle.mq_packet.specs.Identifier.{IsIdentifier}
 use Rattle.mq_packet.specs.Values.{IsPacket}
-use Rattle.mq_packet.specs.Spelling.{SpellingLaws, fields, spelling, spellings}
+use Rattle.mq_packet.specs.Encoding.{EncodingLaws, fields, encoding, encodings}
 use Rattle.mq_end.specs.End.{End, Reply, puts_out}
 use Rattle.mq_bounds.specs.Bounds.{PacketBounds}
 use Rattle.mq_bounds.specs.Sharp.{duplicate, SharpLaws}
@@ -25,30 +25,30 @@ topic_is_name = record { text = record { utf8 = is_utf8-from_IsUtf8 (116 ∷ [])
 is_packet : (i : ℕ) → IsIdentifier i → IsPacket (duplicate i)
 is_packet i h = record { message = record { topic = topic_is_name; payload = omega arith }; fits = refl; identifier = h }
 
-seven : (i : ℕ) → length (spelling (duplicate i)) ≡ 7
-unfolding spelling length_bytes
+seven : (i : ℕ) → length (encoding (duplicate i)) ≡ 7
+unfolding encoding length_bytes
 seven i = refl
 
-four : (i : ℕ) → length (spelling (packets.PubRel i)) ≡ 4
-unfolding spelling length_bytes
+four : (i : ℕ) → length (encoding (packets.PubRel i)) ≡ 4
+unfolding encoding length_bytes
 four i = refl
 
 -- so many bytes are more than the packet has
-broken : SpellingLaws → (gets : Packet → End → Reply) (p : Packet) (ps : List Packet) (e f : End) → IsPacket p → length (fields p) < 2 ^ 28 → gets p e ≡ puts_out ps f → length (spelling p) < length (spellings ps) → PacketBounds gets → ⊥
+broken : EncodingLaws → (gets : Packet → End → Reply) (p : Packet) (ps : List Packet) (e f : End) → IsPacket p → length (fields p) < 2 ^ 28 → gets p e ≡ puts_out ps f → length (encoding p) < length (encodings ps) → PacketBounds gets → ⊥
 broken laws gets p ps e f right small is more bounds =
-    let within : OutWithin (length (spelling p)) e.book (puts_out ps f) = subst (OutWithin (length (spelling p)) e.book) is (bounds.answer false p (spelling p) e (laws.exists p right small)) in
+    let within : OutWithin (length (encoding p)) e.book (puts_out ps f) = subst (OutWithin (length (encoding p)) e.book) is (bounds.answer false p (encoding p) e (laws.exists p right small)) in
     omega arith
 
-pub laws : SpellingLaws → SharpLaws
-laws spelling_laws = record {
+pub laws : EncodingLaws → SharpLaws
+laws encoding_laws = record {
   pubrel_twice = λ gets e f i h is bounds.
       let size = four i in
       let one = pubcomp_size i in
       let both = joined_size (packets.PubComp i ∷ []) (packets.PubComp i ∷ []) in
-      broken spelling_laws gets (packets.PubRel i) (packets.PubComp i ∷ packets.PubComp i ∷ []) e f h (omega arith) is (omega arith) bounds;
+      broken encoding_laws gets (packets.PubRel i) (packets.PubComp i ∷ packets.PubComp i ∷ []) e f h (omega arith) is (omega arith) bounds;
   pubrec_twice = λ gets e f i h is bounds.
       let size = seven i in
       let one = pubrec_size i in
       let both = joined_size (packets.PubRec i ∷ []) (packets.PubRec i ∷ []) in
-      broken spelling_laws gets (duplicate i) (packets.PubRec i ∷ packets.PubRec i ∷ []) e f (is_packet i h) (omega arith) is (omega arith) bounds;
+      broken encoding_laws gets (duplicate i) (packets.PubRec i ∷ packets.PubRec i ∷ []) e f (is_packet i h) (omega arith) is (omega arith) bounds;
 }

@@ -19,13 +19,13 @@ use Rattle.mq_packet.specs.declared.packet.Packet.{Packet}
 use Rattle.mq_packet.specs.declared.packet.Packet.TheVariants as packets
 use Rattle.mq_packet.specs.Publication.{Publication, fits_delivery}
 use Rattle.mq_packet.specs.Values.{IsPacket, IsPublication}
-use Rattle.mq_packet.specs.Spelling.{fields, delivery_fields, publish_fields}
+use Rattle.mq_packet.specs.Encoding.{fields, delivery_fields, publish_fields}
 use Rattle.mq_decode.specs.Grammar.{Reads}
 use Rattle.mq_flow.specs.Sender.{same_qos, release, awaits_suback, awaits_unsuback}
 use Rattle.mq_flow.specs.Receiver.{none_received}
 use Rattle.mq_flow.specs.Window.{fits_window}
 use Rattle.mq_end.specs.declared.state.State.{State}
-use Rattle.mq_end.specs.declared.state.State.TheVariants.{Closed, Open, Up}
+use Rattle.mq_end.specs.declared.state.State.TheVariants.{Disconnected, Connecting, Connected}
 use Rattle.mq_end.specs.declared.happening.Happening.TheVariants as happens
 use Rattle.mq_end.specs.declared.reason.CloseReason.TheVariants as reasons
 use Rattle.mq_end.specs.End.{End, tells, over, closes, comes_up, renewed}
@@ -94,9 +94,9 @@ client_up_stores packets.PingResp e = omega arith
 client_up_stores p e = flow_stores p e
 
 client_stores : (st : State) (p : Packet) (e : End) → StoresWithin (cond (is_exactly_once p) 1 0) e (client_gets_in st p e).end
-client_stores Closed p e = omega arith
-client_stores Open p e = client_open_stores p e
-client_stores Up p e = client_up_stores p e
+client_stores Disconnected p e = omega arith
+client_stores Connecting p e = client_open_stores p e
+client_stores Connected p e = client_up_stores p e
 
 renewed_stores : (clean : Bool) (e : End) → StoresWithin 0 e (renewed clean e)
 renewed_stores true e = let none = len-empty nat_cmp in omega arith
@@ -118,9 +118,9 @@ server_up_stores packets.Disconnect e = over_stores e 0
 server_up_stores p e = flow_stores p e
 
 server_stores : (st : State) (p : Packet) (e : End) → StoresWithin (cond (is_exactly_once p) 1 0) e (server_gets_in st p e).end
-server_stores Closed p e = omega arith
-server_stores Open p e = server_open_stores p e
-server_stores Up p e = server_up_stores p e
+server_stores Disconnected p e = omega arith
+server_stores Connecting p e = server_open_stores p e
+server_stores Connected p e = server_up_stores p e
 
 pub client_stored : (p : Packet) (e : End) → StoresWithin (cond (is_exactly_once p) 1 0) e (client_gets p e).end
 client_stored p e = client_stores e.state p e

@@ -4,12 +4,12 @@ use Rattle.std.specs.FinSet.{len}
 use Rattle.std.proofs.lemmas.List.{length-append}
 use Rattle.std.proofs.lemmas.List.Folds.{list_any-append}
 use Rattle.mq_packet.specs.declared.packet.Packet.{Packet}
-use Rattle.mq_packet.specs.Spelling.{fields, spellings}
+use Rattle.mq_packet.specs.Encoding.{fields, encodings}
 use Rattle.mq_decode.specs.declared.fault.DecodeFault.{DecodeFault}
 use Rattle.mq_decode.specs.Limits.{Bounds}
 use Rattle.mq_decode.specs.Grammar.{Stream, Faulty}
 use Rattle.mq_end.specs.declared.state.State.{State}
-use Rattle.mq_end.specs.declared.state.State.TheVariants.{Closed, Open, Up}
+use Rattle.mq_end.specs.declared.state.State.TheVariants.{Disconnected, Connecting, Connected}
 use Rattle.mq_end.specs.declared.happening.Happening.{Happening}
 use Rattle.mq_end.specs.declared.reason.CloseReason.{CloseReason}
 use Rattle.mq_end.specs.End.{End, Reply, silent, one_by_one, first_reason}
@@ -24,16 +24,16 @@ use Rattle.mq_bounds.proofs.Stored.{StoresWithin, stored_size}
 pub record Does (refusal : ℕ) (gets : Packet → End → Reply) : Type 0 where
   pub answer : (p : Packet) (e : End) → OutWithin (2 + length (fields p)) e.book (gets p e)
   pub calm : (p : Packet) (e : End) → is_open e.state ≡ false → IsCalm (gets p e)
-  pub opens : (p : Packet) (e : End) → e.state ≡ Open → Opens refusal (gets p e)
+  pub opens : (p : Packet) (e : End) → e.state ≡ Connecting → Opens refusal (gets p e)
   pub stores : (p : Packet) (e : End) → StoresWithin (cond (is_exactly_once p) 1 0) e (gets p e).end
-  pub ignores : (ps : List Packet) (e : End) → e.state ≡ Closed → one_by_one gets ps e ≡ silent e
+  pub ignores : (ps : List Packet) (e : End) → e.state ≡ Disconnected → one_by_one gets ps e ≡ silent e
 
 -- And of bytes that are no packet.
 pub record BreaksOff (refusal : ℕ) (faulted : DecodeFault → End → Reply) : Type 0 where
   pub quiet : (fault : DecodeFault) (e : End) → rises (faulted fault e).happenings ≡ false
-  pub closed : (fault : DecodeFault) (e : End) → (faulted fault e).end.state ≡ Closed
-  pub short : (limit : Bounds) (b : List ℕ) (fault : DecodeFault) (e : End) → Faulty limit b fault.kind fault.place → length (spellings (faulted fault e).out) ≤ length b
-  pub refused : (fault : DecodeFault) (e : End) → length (spellings (faulted fault e).out) ≤ refusal
+  pub closed : (fault : DecodeFault) (e : End) → (faulted fault e).end.state ≡ Disconnected
+  pub short : (limit : Bounds) (b : List ℕ) (fault : DecodeFault) (e : End) → Faulty limit b fault.kind fault.place → length (encodings (faulted fault e).out) ≤ length b
+  pub refused : (fault : DecodeFault) (e : End) → length (encodings (faulted fault e).out) ≤ refusal
   pub stores : (fault : DecodeFault) (e : End) → StoresWithin 0 e (faulted fault e).end
 
 -- ---- tests
@@ -60,9 +60,9 @@ pub settled : (refusal : ℕ) (gets : Packet → End → Reply) → Does refusal
 settled refusal gets does p e = by e.state refl
   where
     by : (st : State) → e.state ≡ st → is_open (gets p e).end.state ≡ false
-    by Closed h = (does.calm p e (ap is_open h)).gone
-    by Open h = (does.opens p e h).gone
-    by Up h = (does.calm p e (ap is_open h)).gone
+    by Disconnected h = (does.calm p e (ap is_open h)).gone
+    by Connecting h = (does.opens p e h).gone
+    by Connected h = (does.calm p e (ap is_open h)).gone
 
 pub all_calm : (refusal : ℕ) (gets : Packet → End → Reply) → Does refusal gets → (ps : List Packet) (e : End) → is_open e.state ≡ false → IsCalm (one_by_one gets ps e)
 all_calm refusal gets does [] e h = record { quiet = refl; gone = h }
@@ -75,7 +75,7 @@ all_calm refusal gets does (p ∷ ps) e h =
     }
 
 pub all_out : (refusal : ℕ) (gets : Packet → End → Reply) → Does refusal gets → (limit : Bounds) (ps : List Packet) (front : List ℕ) (e : End) → Stream limit ps front
-    → length (spellings (one_by_one gets ps e).out) ≤ length front + length (sent_again (rises (one_by_one gets ps e).happenings) e.book)
+    → length (encodings (one_by_one gets ps e).out) ≤ length front + length (sent_again (rises (one_by_one gets ps e).happenings) e.book)
 all_out refusal gets does limit [] front e h = omega arith
 all_out refusal gets does limit (p ∷ ps) front e h =
     let r : Reply = gets p e in
@@ -104,9 +104,9 @@ all_stored refusal gets does limit (p ∷ ps) front e h =
 -- where an end waits and does not come up: nothing came, or it closed
 pub data Refused (refusal : ℕ) (s : Reply) (e : End) : Type 0 where
   Nothing : s ≡ silent e → Refused refusal s e
-  Shut : (reason : CloseReason) → s.close ≡ Some reason → s.end.state ≡ Closed → length (spellings s.out) ≤ refusal → Refused refusal s e
+  Closed : (reason : CloseReason) → s.close ≡ Some reason → s.end.state ≡ Disconnected → length (encodings s.out) ≤ refusal → Refused refusal s e
 
-pub all_refused : (refusal : ℕ) (gets : Packet → End → Reply) → Does refusal gets → (ps : List Packet) (e : End) → e.state ≡ Open → rises (one_by_one gets ps e).happenings ≡ false → Refused refusal (one_by_one gets ps e) e
+pub all_refused : (refusal : ℕ) (gets : Packet → End → Reply) → Does refusal gets → (ps : List Packet) (e : End) → e.state ≡ Connecting → rises (one_by_one gets ps e).happenings ≡ false → Refused refusal (one_by_one gets ps e) e
 all_refused refusal gets does [] e waits quiet = Nothing refl
 all_refused refusal gets does (p ∷ ps) e waits quiet =
     let r : Reply = gets p e in
@@ -114,6 +114,6 @@ all_refused refusal gets does (p ∷ ps) e waits quiet =
     let shut = (does.opens p e waits).shut (told_first r.happenings s.happenings quiet) in
     let ignored = does.ignores ps r.end shut.2 in
     let parts = joined_size r.out s.out in
-    let none = ap (λ (t : Reply). length (spellings t.out)) ignored in
+    let none = ap (λ (t : Reply). length (encodings t.out)) ignored in
     let few = shut.3 in
-    Shut shut.0 (ap (λ (c : Option CloseReason). first_reason c s.close) shut.1) (ap (λ (t : Reply). t.end.state) ignored ∙ shut.2) (omega arith)
+    Closed shut.0 (ap (λ (c : Option CloseReason). first_reason c s.close) shut.1) (ap (λ (t : Reply). t.end.state) ignored ∙ shut.2) (omega arith)

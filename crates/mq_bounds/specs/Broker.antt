@@ -3,7 +3,7 @@ use Rattle.std.specs.Prelude.{ℕ, ◌+◌, ◌≤◌, Bool, true, false, List, 
 use Rattle.mq_wire.specs.Bytes.{AreBytes}
 use Rattle.mq_packet.specs.declared.packet.Packet.{Packet}
 use Rattle.mq_packet.specs.declared.packet.Packet.TheVariants as packets
-use Rattle.mq_packet.specs.Spelling.{spellings}
+use Rattle.mq_packet.specs.Encoding.{encodings}
 use Rattle.mq_route.specs.declared.conn.Conn.{Conn}
 use Rattle.mq_route.specs.declared.event.HubEvent.TheVariants.{Bytes}
 use Rattle.mq_route.specs.declared.reply.HubReply.{HubReply}
@@ -25,7 +25,7 @@ pub record BrokerBounds : Type 0 where
   -- In the step of bytes that come on a connection: the answers that are put out on all connections together, and what this one then
   -- holds, have at most as many bytes as it held and as came.
   pub answers : (h : HubState) (k : Conn) (piece : List ℕ) (r : HubReply) (w : Work) → Does h (Bytes k piece) r w
-      → length (spellings (answers_in w.sent)) + length (held_on k w.hub.lines) ≤ length (held_on k h.lines) + length piece
+      → length (encodings (answers_in w.sent)) + length (held_on k w.hub.connections) ≤ length (held_on k h.connections) + length piece
   -- And it holds at most five bytes more than the greatest remaining length (2.2.3).
-  pub held : (h : HubState) (k : Conn) (piece : List ℕ) (r : HubReply) (w : Work) → Does h (Bytes k piece) r w → AreBytes (held_on k h.lines) → AreBytes piece
-      → AreBytes (held_on k w.hub.lines) × (length (held_on k w.hub.lines) ≤ 5 + h.config.limits.most)
+  pub held : (h : HubState) (k : Conn) (piece : List ℕ) (r : HubReply) (w : Work) → Does h (Bytes k piece) r w → AreBytes (held_on k h.connections) → AreBytes piece
+      → AreBytes (held_on k w.hub.connections) × (length (held_on k w.hub.connections) ≤ 5 + h.config.limits.most)

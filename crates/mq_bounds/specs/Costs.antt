@@ -1,7 +1,7 @@
 -- What bytes that come cost an end.
 use Rattle.std.specs.Prelude.{ℕ, ◌+◌, Bool, true, false, List, [], length}
 use Rattle.std.specs.List.{list_any}
-use Rattle.mq_packet.specs.Spelling.{spellings}
+use Rattle.mq_packet.specs.Encoding.{encodings}
 use Rattle.mq_flow.specs.Sender.{SenderBook, resent}
 use Rattle.mq_end.specs.declared.happening.Happening.{Happening}
 use Rattle.mq_end.specs.declared.happening.Happening.TheVariants as happens
@@ -20,7 +20,7 @@ rises happenings = list_any is_rise happenings
 -- each message (4.4)
 abbrev pub sent_again : Bool → SenderBook → List ℕ
 sent_again false book = []
-sent_again true book = spellings (resent book)
+sent_again true book = encodings (resent book)
 
 -- how many bytes an end keeps for its connection: those that wait to be written, and those of the packet that is not whole
 abbrev pub kept : EndState → ℕ

@@ -6,7 +6,7 @@ ghost use Rattle.mq_bounds.specs.Sharp.{SharpLaws};
 
 use mq_decode::pending_is_short;
 use mq_end::{closing_laws, window_laws};
-use mq_packet::spelling_laws;
+use mq_packet::encoding_laws;
 
 /// Whatever bytes come to an end, what waits to be written and what is held of a packet grow in one `receive` by at most the bytes
 /// that came; where the end comes up in it, by those and the packets that are sent again (4.4). What is put out for a packet
@@ -15,7 +15,7 @@ use mq_packet::spelling_laws;
 pub fn bounds_laws()
     ensures { BoundsLaws }
 {
-    spelling_laws();
+    encoding_laws();
     pending_is_short();
     closing_laws();
     window_laws();
@@ -25,7 +25,7 @@ pub fn bounds_laws()
 pub fn sharp_laws()
     ensures { SharpLaws }
 {
-    spelling_laws();
+    encoding_laws();
 }
 
 /// In the step of bytes that come on a connection of a broker, all that is put out, but for PUBLISH and PUBREL, and what the connection

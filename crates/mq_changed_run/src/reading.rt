@@ -22,7 +22,7 @@ pub(crate) enum Reading {
 }
 
 // The bytes of packets.
-fn spelled(alloc: Global, packets: &[Packet]) -> Result<Vec<u8>, Fault> {
+fn encoded(alloc: Global, packets: &[Packet]) -> Result<Vec<u8>, Fault> {
     let mut bytes = Vec::new(alloc);
     for packet in packets {
         encode_into(packet, &mut bytes)?;
@@ -36,8 +36,8 @@ pub(crate) fn read(alloc: Global, bytes: &[u8]) -> Result<Reading, Fault> {
     let mut decoder = Decoder::new(alloc, limits);
     let mut packets = Vec::new(alloc);
     let answer = decoder.feed(bytes, &mut packets);
-    let spelled = spelled(alloc, packets.as_slice())?;
-    let Some(rest) = bytes.strip_prefix(spelled.as_slice()) else {
+    let encoded = encoded(alloc, packets.as_slice())?;
+    let Some(rest) = bytes.strip_prefix(encoded.as_slice()) else {
         return Ok(Reading::Otherwise);
     };
     match answer {

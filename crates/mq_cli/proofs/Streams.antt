@@ -10,7 +10,7 @@ pub record Place (limit : Bounds) (ps : List Packet) (i : ℕ) (p : Packet) (b :
   pub front : List ℕ
   pub one : List ℕ
   pub stream : Stream limit (take i ps) front
-  pub spells : ReadsWithin limit p one
+  pub encodes : ReadsWithin limit p one
   pub more : List ℕ
   pub parts : b ≡ front ++ (one ++ more)
 
@@ -20,7 +20,7 @@ place limit (q ∷ ps) zero p b lt e h = record {
   front = [];
   one = h.0;
   stream = refl;
-  spells = rw e h.2;
+  encodes = rw e h.2;
   more = h.1;
   parts = h.4;
 }
@@ -30,7 +30,7 @@ place limit (q ∷ ps) (suc i) p b lt e h =
       front = h.0 ++ r.front;
       one = r.one;
       stream = (h.0, r.front, h.2, r.stream, refl);
-      spells = r.spells;
+      encodes = r.encodes;
       more = r.more;
       parts = h.4 ∙ (ap (λ (t : List ℕ). h.0 ++ t) r.parts ∙ sym (append_assoc h.0 r.front (r.one ++ r.more)));
     }
@@ -40,7 +40,7 @@ pub record Longer (limit : Bounds) (ps : List Packet) (i : ℕ) (p : Packet) (b 
   pub front : List ℕ
   pub one : List ℕ
   pub stream : Stream limit (take i ps) front
-  pub spells : ReadsWithin limit p one
+  pub encodes : ReadsWithin limit p one
   pub parts : b ≡ front ++ one
 
 pub longer : (limit : Bounds) (ps : List Packet) (i : ℕ) (p : Packet) (b : List ℕ) → i < length ps → p ≡ get_or ps i p → Stream limit (take (suc i) ps) b → Longer limit ps i p b
@@ -49,7 +49,7 @@ longer limit (q ∷ ps) zero p b lt e h = record {
   front = [];
   one = h.0;
   stream = refl;
-  spells = rw e h.2;
+  encodes = rw e h.2;
   parts = h.4 ∙ (ap (λ (t : List ℕ). h.0 ++ t) h.3 ∙ append-nil h.0);
 }
 longer limit (q ∷ ps) (suc i) p b lt e h =
@@ -58,7 +58,7 @@ longer limit (q ∷ ps) (suc i) p b lt e h =
       front = h.0 ++ r.front;
       one = r.one;
       stream = (h.0, r.front, h.2, r.stream, refl);
-      spells = r.spells;
+      encodes = r.encodes;
       parts = h.4 ∙ (ap (λ (t : List ℕ). h.0 ++ t) r.parts ∙ sym (append_assoc h.0 r.front r.one));
     }
 

@@ -8,8 +8,8 @@ use Rattle.mq_line.specs.Lines.{Prints}
 use Rattle.mq_end.specs.declared.happening.Happening.{Happening}
 use Rattle.mq_end.specs.declared.reason.CloseReason.{CloseReason}
 use Rattle.mq_flow.specs.Receiver.{none_received}
-use Rattle.mq_client.specs.declared.halt.Halt.{Halt}
-use Rattle.mq_client.specs.declared.collecting.Wish.{Wish}
+use Rattle.mq_client.specs.declared.halt.ClientError.{ClientError}
+use Rattle.mq_client.specs.declared.collecting.CollectGoal.{CollectGoal}
 use Rattle.mq_client.specs.Course.{Ask, Leaves, Moment, Opening, Subscription, Went}
 use Rattle.mq_client.specs.Halts.{halt_closes, halt_status}
 use Rattle.mq_client.specs.Printed.{halt_line, subscribed_line, told_line}
@@ -18,18 +18,18 @@ use Rattle.mq_client.proofs.Collected.{first_after, keeps_told, keeps_then, miss
 use Rattle.mq_client.proofs.Courses.{went_then}
 
 -- the connection is up, and the server has answered, or not
-pub if_kept : (a b c : Moment) (clean : Bool) (wish : Wish) (x y z : List Happening) (r : Result ⊤ Halt) → Keeps a b (Opening clean ∷ []) x y (Ok tt)
+pub if_kept : (a b c : Moment) (clean : Bool) (wish : CollectGoal) (x y z : List Happening) (r : Result ⊤ ClientError) → Keeps a b (Opening clean ∷ []) x y (Ok tt)
     → OnOk r (Keeps b c (Subscription (request_of wish ∷ []) ∷ []) y z r) → OnOk r (Keeps a c (collects clean wish) x z r)
 if_kept a b c clean wish x y z (Ok u) k f = keeps_then a b c (Opening clean ∷ []) (Subscription (request_of wish ∷ []) ∷ []) x y z (Ok u) k f
 if_kept a b c clean wish x y z (Err e) k f = tt
 
-pub if_stopped : (a b c : Moment) (clean : Bool) (wish : Wish) (x y z : List Happening) (r : Result ⊤ Halt) → Keeps a b (Opening clean ∷ []) x y (Ok tt)
+pub if_stopped : (a b c : Moment) (clean : Bool) (wish : CollectGoal) (x y z : List Happening) (r : Result ⊤ ClientError) → Keeps a b (Opening clean ∷ []) x y (Ok tt)
     → OnErr r (KeepsFirst b c (Subscription (request_of wish ∷ []) ∷ []) y z r) → OnErr r (KeepsFirst a c (collects clean wish) x z r)
 if_stopped a b c clean wish x y z (Ok u) k f = tt
 if_stopped a b c clean wish x y z (Err e) k f = first_after a b c (Opening clean ∷ []) (Subscription (request_of wish ∷ []) ∷ []) x y z (Err e) k f
 
 -- it stopped before the subscription was granted
-pub begun : (a b : Moment) (clean : Bool) (wish : Wish) (old new : List Happening) (h : Halt) (w v x : Option (List ℕ)) (status : ℕ) → old ≡ [] → KeepsFirst a b (collects clean wish) old new (Err h)
+pub begun : (a b : Moment) (clean : Bool) (wish : CollectGoal) (old new : List Happening) (h : ClientError) (w v x : Option (List ℕ)) (status : ℕ) → old ≡ [] → KeepsFirst a b (collects clean wish) old new (Err h)
     → bytes.Appends w v (flat_map told_line new) → bytes.Appends v x (halt_line h) → status ≡ halt_status h → Prints w x (IsCollectDone a b clean wish status)
 begun a b clean wish old new h w v x status empty begins printed halts is =
     let k = begins.keeps in
@@ -50,12 +50,12 @@ begun a b clean wish old new h w v x status empty begins printed halts is =
     (flat_map told_line new ++ halt_line h, Appends-trans w v x _ _ printed halts, inr (h, halted, is))
 
 -- the subscription was asked for and granted, this was told, and it is printed behind `subscribed`
-pub record Sofar (a b : Moment) (clean : Bool) (wish : Wish) (w v : Option (List ℕ)) (told : List Happening) (reasons : List CloseReason) : Type 0 where
+pub record Sofar (a b : Moment) (clean : Bool) (wish : CollectGoal) (w v : Option (List ℕ)) (told : List Happening) (reasons : List CloseReason) : Type 0 where
   pub went : Went a b (collects clean wish) told reasons
   pub answered_is : IsAnswered true told
   pub printed : bytes.Appends w v (subscribed_line ++ flat_map told_line told)
 
-pub sofar_begun : (a b : Moment) (clean : Bool) (wish : Wish) (old new : List Happening) (w v x y : Option (List ℕ)) → old ≡ [] → Keeps a b (collects clean wish) old new (Ok tt)
+pub sofar_begun : (a b : Moment) (clean : Bool) (wish : CollectGoal) (old new : List Happening) (w v x y : Option (List ℕ)) → old ≡ [] → Keeps a b (collects clean wish) old new (Ok tt)
     → IsAnswered true new → bytes.Appends w v subscribed_line → bytes.Appends v x (flat_map told_line new) → bytes.Keeps x y → Sofar a b clean wish w y new []
 sofar_begun a b clean wish old new w v x y empty k answer first printed keeps = record {
   went = subst (λ z. Went a b (collects clean wish) z []) (sym (k.kept ∙ ap (λ z. z ++ k.told) empty)) (keeps_told a b (collects clean wish) old new k);
@@ -73,7 +73,7 @@ answered_more told more a = record {
   answers = a.answers;
 }
 
-pub sofar_more : (a b c : Moment) (clean : Bool) (wish : Wish) (w v x : Option (List ℕ)) (told more : List Happening) (rs : List CloseReason) → Sofar a b clean wish w v told []
+pub sofar_more : (a b c : Moment) (clean : Bool) (wish : CollectGoal) (w v x : Option (List ℕ)) (told more : List Happening) (rs : List CloseReason) → Sofar a b clean wish w v told []
     → Went b c [] more rs → bytes.Appends v x (flat_map told_line more) → Sofar a c clean wish w x (told ++ more) rs
 sofar_more a b c clean wish w v x told more rs s went printed =
     let asks : List Ask = collects clean wish in
@@ -83,7 +83,7 @@ sofar_more a b c clean wish w v x told more rs s went printed =
       printed = subst (bytes.Appends w x) (append_assoc subscribed_line (flat_map told_line told) (flat_map told_line more) ∙ ap (λ z. subscribed_line ++ z) (sym (flat_map-append told_line told more))) (Appends-trans w v x _ _ s.printed printed);
     }
 
-pub sofar_halts : (a b : Moment) (clean : Bool) (wish : Wish) (w v x : Option (List ℕ)) (told : List Happening) (rs : List CloseReason) (h : Halt) (status : ℕ) → Sofar a b clean wish w v told rs → rs ≡ halt_closes h
+pub sofar_halts : (a b : Moment) (clean : Bool) (wish : CollectGoal) (w v x : Option (List ℕ)) (told : List Happening) (rs : List CloseReason) (h : ClientError) (status : ℕ) → Sofar a b clean wish w v told rs → rs ≡ halt_closes h
     → bytes.Appends v x (halt_line h) → status ≡ halt_status h → Prints w x (IsCollectDone a b clean wish status)
 sofar_halts a b clean wish w v x told rs h status s closes printed is =
     let halted : CollectHalts a b clean wish h ((subscribed_line ++ flat_map told_line told) ++ halt_line h) = record {
@@ -101,7 +101,7 @@ sofar_halts a b clean wish w v x told rs h status s closes printed is =
     } in
     ((subscribed_line ++ flat_map told_line told) ++ halt_line h, Appends-trans w v x _ _ s.printed printed, inr (h, halted, is))
 
-pub sofar_done : (a b c : Moment) (clean : Bool) (wish : Wish) (w v : Option (List ℕ)) (told : List Happening) (status : ℕ) → Sofar a b clean wish w v told [] → wish.count ≤ length (flat_map handed told)
+pub sofar_done : (a b c : Moment) (clean : Bool) (wish : CollectGoal) (w v : Option (List ℕ)) (told : List Happening) (status : ℕ) → Sofar a b clean wish w v told [] → wish.count ≤ length (flat_map handed told)
     → b.client.link.end.received ≡ none_received → Leaves b c → status ≡ 0 → Prints w v (IsCollectDone a c clean wish status)
 sofar_done a b c clean wish w v told status s enough released leaves is =
     let done : Collected a c clean wish (subscribed_line ++ flat_map told_line told) = record { last = b; told = told; went = s.went; answered = s.answered_is; enough = enough; released = released; leaves = leaves; lines = refl } in

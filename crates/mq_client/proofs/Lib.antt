@@ -1,7 +1,7 @@
 pub mod Courses
 pub mod Published
 pub mod Collected
-pub mod Gathered
+pub mod SmallListBuilder
 pub mod Collects
 pub mod Resumed
 pub mod Wholes

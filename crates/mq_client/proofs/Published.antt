@@ -5,7 +5,7 @@ use Rattle.std.proofs.lemmas.List.{take_all, take_more, take-append-drop, take-m
 use Rattle.mq_end.specs.declared.happening.Happening.{Happening}
 use Rattle.mq_end.specs.declared.reason.CloseReason.{CloseReason}
 use Rattle.mq_end.specs.End.{is_up}
-use Rattle.mq_client.specs.declared.halt.Halt.{Halt}
+use Rattle.mq_client.specs.declared.halt.ClientError.{ClientError}
 use Rattle.mq_client.specs.declared.publishing.Texts.{Texts}
 use Rattle.mq_client.specs.Course.{Ask, IsIdle, Leaves, Moment, Opening, Publication, Went, WentFirst}
 use Rattle.mq_client.specs.Halts.{closes_of, halt_closes}
@@ -49,11 +49,11 @@ first_more a b c all from to f m = record {
 }
 
 -- it stops: the first so many were published
-pub first_halts : (a b : Moment) (all : List Ask) (n : ℕ) (h : Halt) → AskedFirst a b all n (halt_closes h) → PublishHalts a b all h
+pub first_halts : (a b : Moment) (all : List Ask) (n : ℕ) (h : ClientError) → AskedFirst a b all n (halt_closes h) → PublishHalts a b all h
 first_halts a b all n h f = (f.told, record { asks = take n all; rest = drop n all; parts = sym (take-append-drop n all); went = f.went })
 
 -- it stops for what closes nothing
-pub first_stops : (a b : Moment) (all : List Ask) (n : ℕ) (h : Halt) → halt_closes h ≡ [] → AskedFirst a b all n [] → PublishHalts a b all h
+pub first_stops : (a b : Moment) (all : List Ask) (n : ℕ) (h : ClientError) → halt_closes h ≡ [] → AskedFirst a b all n [] → PublishHalts a b all h
 first_stops a b all n h none f = first_halts a b all n h (subst (λ rs. AskedFirst a b all n rs) (sym none) f)
 
 -- all were
@@ -66,7 +66,7 @@ all_asked a b t n full f up idle =
 -- ---- behind the opening of a connection
 
 -- it stopped before a text was published
-pub opens_halts : (a b : Moment) (clean : Bool) (t : Texts) (h : Halt) → halt_closes h ≡ [] → WentFirst a b (Opening clean ∷ []) [] [] → PublishHalts a b (publishes clean t) h
+pub opens_halts : (a b : Moment) (clean : Bool) (t : Texts) (h : ClientError) → halt_closes h ≡ [] → WentFirst a b (Opening clean ∷ []) [] [] → PublishHalts a b (publishes clean t) h
 opens_halts a b clean t h none f = (
   [],
   record {
@@ -78,7 +78,7 @@ opens_halts a b clean t h none f = (
 )
 
 -- it stopped later
-pub opened_halts : (a b c : Moment) (clean : Bool) (t : Texts) (h : Halt) → Went a b (Opening clean ∷ []) [] [] → PublishHalts b c (asks_of t) h → PublishHalts a c (publishes clean t) h
+pub opened_halts : (a b c : Moment) (clean : Bool) (t : Texts) (h : ClientError) → Went a b (Opening clean ∷ []) [] [] → PublishHalts b c (asks_of t) h → PublishHalts a c (publishes clean t) h
 opened_halts a b c clean t h w p = (
   p.0,
   record {
@@ -93,10 +93,10 @@ pub opened_all : (a b c : Moment) (clean : Bool) (t : Texts) → Went a b (Openi
 opened_all a b c clean t w f = record { told = f.told; went = went_then a b c (Opening clean ∷ []) (asks_of t) [] f.told [] [] w f.went; up = f.up; idle = f.idle }
 
 -- the client leaves then, or can't
-pub left_then : (r : Result ⊤ Halt) (a b c : Moment) (clean : Bool) (t : Texts) → AskedAll a b (publishes clean t) → OnOk r (Leaves b c) → OnOk r (Published a c clean t)
+pub left_then : (r : Result ⊤ ClientError) (a b c : Moment) (clean : Bool) (t : Texts) → AskedAll a b (publishes clean t) → OnOk r (Leaves b c) → OnOk r (Published a c clean t)
 left_then (Ok x) a b c clean t f p = record { last = b; asked = f; leaves = p }
 left_then (Err e) a b c clean t f p = tt
 
-pub halts_then : (r : Result ⊤ Halt) (a b c : Moment) (all : List Ask) → AskedAll a b all → Went b c [] [] [] → closes_of r ≡ [] → IfErr r (PublishHalts a c all)
+pub halts_then : (r : Result ⊤ ClientError) (a b c : Moment) (all : List Ask) → AskedAll a b all → Went b c [] [] [] → closes_of r ≡ [] → IfErr r (PublishHalts a c all)
 halts_then (Ok x) a b c all f w p = tt
 halts_then (Err e) a b c all f w p = (f.told, record { asks = all; rest = []; parts = sym (append-nil all); went = answered a b c all f.told (halt_closes e) [] f.went w p })

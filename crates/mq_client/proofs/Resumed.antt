@@ -4,8 +4,8 @@ use Rattle.std.proofs.KnownBytes.{Appends-kept, Appends-trans}
 use Rattle.std.specs.Prelude.{IsErrOf}
 use Rattle.std.specs.Io.KnownBytes.{Appends, Keeps}
 use Rattle.mq_line.specs.Lines.{Prints}
-use Rattle.mq_flow.specs.declared.loading.LoadError.{LoadError}
-use Rattle.mq_flow.specs.declared.loading.LoadError.TheVariants.{AnotherClient, Memory, TooLarge}
+use Rattle.mq_flow.specs.declared.load.LoadError.{LoadError}
+use Rattle.mq_flow.specs.declared.load.LoadError.TheVariants.{AnotherClient, Memory, TooLarge}
 use Rattle.mq_flow.specs.declared.saved.Saved.{Saved}
 use Rattle.mq_flow.specs.Saved.{IsSession}
 use Rattle.mq_flow.specs.SavedTwo.{IsSavedAs}

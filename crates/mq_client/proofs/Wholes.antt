@@ -3,7 +3,7 @@ use Rattle.std.proofs.Common.{◌≡◌, ℕ, Bool, true, List, Option, Result, 
 use Rattle.std.specs.Io.KnownBytes.{Appends}
 use Rattle.mq_line.specs.Lines.{Prints}
 use Rattle.mq_end.specs.Publishing.{ClientState}
-use Rattle.mq_client.specs.declared.collecting.Wish.{Wish}
+use Rattle.mq_client.specs.declared.collecting.CollectGoal.{CollectGoal}
 use Rattle.mq_client.specs.declared.publishing.Texts.{Texts}
 use Rattle.mq_client.specs.Course.{Moment}
 use Rattle.mq_client.specs.Program.{IsNewClient}
@@ -22,7 +22,7 @@ pub texts_done : {E : Type 0} → (r : Result ℕ E) (id : List ℕ) (t : Texts)
 texts_done (Ok status) id t a b w v new p = (p.0, p.1, inl (a, b, new, p.2))
 texts_done (Err e) id t a b w v new p = tt
 
-pub messages_done : {E : Type 0} → (r : Result ℕ E) (id : List ℕ) (clean : Bool) (wish : Wish) (a b : Moment) (w v : Option (List ℕ)) → IsNewClient id a.client
+pub messages_done : {E : Type 0} → (r : Result ℕ E) (id : List ℕ) (clean : Bool) (wish : CollectGoal) (a b : Moment) (w v : Option (List ℕ)) → IsNewClient id a.client
     → IfOk r (λ status. Prints w v (IsCollectDone a b clean wish status)) → IfOk r (λ status. Prints w v (IsMessagesDone id clean wish status))
 messages_done (Ok status) id clean wish a b w v new p = (p.0, p.1, inl (a, b, new, p.2))
 messages_done (Err e) id clean wish a b w v new p = tt

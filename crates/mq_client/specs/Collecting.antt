@@ -11,19 +11,19 @@ use Rattle.mq_end.specs.declared.happening.Happening.{Happening}
 use Rattle.mq_end.specs.declared.happening.Happening.TheVariants as happens
 use Rattle.mq_end.specs.declared.reason.CloseReason.{CloseReason}
 use Rattle.mq_end.specs.End.{is_up}
-use Rattle.mq_client.specs.declared.halt.Halt.{Halt}
-use Rattle.mq_client.specs.declared.halt.Halt.TheVariants.{Memory}
-use Rattle.mq_client.specs.declared.collecting.Wish.{Wish}
+use Rattle.mq_client.specs.declared.halt.ClientError.{ClientError}
+use Rattle.mq_client.specs.declared.halt.ClientError.TheVariants.{Memory}
+use Rattle.mq_client.specs.declared.collecting.CollectGoal.{CollectGoal}
 use Rattle.mq_client.specs.Course.{Ask, Leaves, Moment, Opening, Subscription, Went}
 use Rattle.mq_client.specs.Halts.{closes_of, halt_status}
 use Rattle.mq_client.specs.Printed.{halt_line, subscribed_line, told_line}
 
 -- what is asked for (3.8.3)
-abbrev pub request_of : Wish → Request
+abbrev pub request_of : CollectGoal → Request
 request_of w = record { filter = w.filter.now; qos = w.qos }
 
 -- one connection, with clean session or not (3.1), and then the subscription
-abbrev pub collects : Bool → Wish → List Ask
+abbrev pub collects : Bool → CollectGoal → List Ask
 collects clean w = Opening clean ∷ Subscription (request_of w ∷ []) ∷ []
 
 -- the first code grants what was asked for (3.9.3)
@@ -53,12 +53,12 @@ handed happens.Pong = []
 
 -- What is told is all there, and the end closed for the reason that the program stops for; but where memory ran out, what came with
 -- the last bytes may be missing.
-abbrev pub Misses : Result ⊤ Halt → List Happening → List CloseReason → Type 0
+abbrev pub Misses : Result ⊤ ClientError → List Happening → List CloseReason → Type 0
 Misses (Err Memory) rest reasons = ⊤
 Misses r rest reasons = (rest ≡ []) × (reasons ≡ closes_of r)
 
 -- From one moment to another this was asked for, and what was told is kept behind what was kept before.
-pub record Keeps (a b : Moment) (asks : List Ask) (old new : List Happening) (r : Result ⊤ Halt) : Type 0 where
+pub record Keeps (a b : Moment) (asks : List Ask) (old new : List Happening) (r : Result ⊤ ClientError) : Type 0 where
   pub told : List Happening
   pub rest : List Happening
   pub reasons : List CloseReason
@@ -67,7 +67,7 @@ pub record Keeps (a b : Moment) (asks : List Ask) (old new : List Happening) (r 
   pub misses : Misses r rest reasons
 
 -- It stopped: the first of these were asked for, in order, and nothing else.
-pub record KeepsFirst (a b : Moment) (all : List Ask) (old new : List Happening) (r : Result ⊤ Halt) : Type 0 where
+pub record KeepsFirst (a b : Moment) (all : List Ask) (old new : List Happening) (r : Result ⊤ ClientError) : Type 0 where
   pub asks : List Ask
   pub rest : List Ask
   pub parts : all ≡ asks ++ rest
@@ -75,7 +75,7 @@ pub record KeepsFirst (a b : Moment) (all : List Ask) (old new : List Happening)
 
 -- What was told is printed; where all is well, at least so many messages were handed on, none waits for its release (4.3.3), and the
 -- connection is up.
-pub record Gathers (a b : Moment) (old new : Option (List ℕ)) (count : ℕ) (r : Result ⊤ Halt) : Type 0 where
+pub record Gathers (a b : Moment) (old new : Option (List ℕ)) (count : ℕ) (r : Result ⊤ ClientError) : Type 0 where
   pub told : List Happening
   pub went : Went a b [] told (closes_of r)
   pub printed : Appends old new (flat_map told_line told)
@@ -85,7 +85,7 @@ pub record Gathers (a b : Moment) (old new : Option (List ℕ)) (count : ℕ) (r
 
 -- A connection began, and the subscription was asked for once, and granted; so many messages were handed on and all are released; then the client left.
 -- `subscribed` is printed, and then each message that was handed on, in order.
-pub record Collected (a b : Moment) (clean : Bool) (wish : Wish) (text : List ℕ) : Type 0 where
+pub record Collected (a b : Moment) (clean : Bool) (wish : CollectGoal) (text : List ℕ) : Type 0 where
   pub last : Moment
   pub told : List Happening
   pub went : Went a last (collects clean wish) told []
@@ -101,7 +101,7 @@ IsFirstLine line told = (line ≡ []) ⊎ ((line ≡ subscribed_line) × IsAnswe
 
 -- It stopped before. Each message that was handed on is printed, in order, and then why it stopped; but where memory ran out, those that
 -- came with the last bytes may be missing.
-pub record CollectHalts (a b : Moment) (clean : Bool) (wish : Wish) (halt : Halt) (text : List ℕ) : Type 0 where
+pub record CollectHalts (a b : Moment) (clean : Bool) (wish : CollectGoal) (halt : ClientError) (text : List ℕ) : Type 0 where
   pub asks : List Ask
   pub told : List Happening
   pub rest : List Happening
@@ -115,6 +115,6 @@ pub record CollectHalts (a b : Moment) (clean : Bool) (wish : Wish) (halt : Halt
   pub lines : text ≡ line ++ (flat_map told_line told ++ halt_line halt)
 
 -- the status and the lines of `collect`
-abbrev pub IsCollectDone : Moment → Moment → Bool → Wish → ℕ → List ℕ → Type 0
+abbrev pub IsCollectDone : Moment → Moment → Bool → CollectGoal → ℕ → List ℕ → Type 0
 IsCollectDone a b clean wish status text =
-    (Collected a b clean wish text × (status ≡ 0)) ⊎ ((halt : Halt) × CollectHalts a b clean wish halt text × (status ≡ halt_status halt))
+    (Collected a b clean wish text × (status ≡ 0)) ⊎ ((halt : ClientError) × CollectHalts a b clean wish halt text × (status ≡ halt_status halt))

@@ -14,7 +14,7 @@ use Rattle.mq_end.specs.State.{PutsOut, no_bytes}
 use Rattle.mq_end.specs.Publishing.{Accepts, ClientState, connect_of}
 use Rattle.mq_end.specs.Receiving.{Acts, ClientReceives}
 use Rattle.mq_end.specs.Requests.{Requests, Ticks}
-use Rattle.mq_client.specs.declared.halt.Halt.{Halt}
+use Rattle.mq_client.specs.declared.halt.ClientError.{ClientError}
 use Rattle.mq_client.specs.Keeping.{Holds, saved_of}
 
 -- a client end at a stream, with the bytes that are to come and those that went, and with what is kept of its session, where these are known
@@ -55,7 +55,7 @@ pub record Connects (now : ℕ) (clean : Bool) (a b : ClientState) : Type 0 wher
   pub end : b.link.end ≡ (connects (connect_of a.config clean) a.link.end).end
   pub out : PutsOut (packets.Connect (connect_of a.config clean) ∷ []) [] b.link.output
   pub held : b.link.held ≡ []
-  pub moment : b.link.moment ≡ now
+  pub moment : b.link.last_activity ≡ now
 
 pub record Hears (bytes : List ℕ) (told : List Happening) (closed : Option CloseReason) (a b : ClientState) : Type 0 where
   pub acknowledged : List ℕ
@@ -162,7 +162,7 @@ abbrev pub IsIdle : End → Type 0
 IsIdle e = (e.book.entries ≡ []) × (e.book.released ≡ [])
 
 -- the message is published where the answer says so
-abbrev pub asked_by : Result Bool Halt → Message → List Ask
+abbrev pub asked_by : Result Bool ClientError → Message → List Ask
 asked_by (Ok true) m = Publication m ∷ []
 asked_by (Ok false) m = []
 asked_by (Err halt) m = []

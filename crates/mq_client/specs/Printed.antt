@@ -8,22 +8,22 @@ use Rattle.mq_end.specs.declared.happening.Happening.{Happening}
 use Rattle.mq_end.specs.declared.happening.Happening.TheVariants as happens
 use Rattle.mq_end.specs.Codes.{close_code, refusal_code}
 use Rattle.mq_flow.specs.Codes.{load_code}
-use Rattle.mq_client.specs.declared.loading.Unloaded.{Unloaded}
-use Rattle.mq_client.specs.declared.loading.Unloaded.TheVariants as unloaded
-use Rattle.mq_client.specs.declared.halt.Halt.{Halt}
-use Rattle.mq_client.specs.declared.halt.Halt.TheVariants.{Closed, Lost, Refused, NotSubscribed, NotKept, Memory}
+use Rattle.mq_client.specs.declared.loading.LoadFailure.{LoadFailure}
+use Rattle.mq_client.specs.declared.loading.LoadFailure.TheVariants as unloaded
+use Rattle.mq_client.specs.declared.halt.ClientError.{ClientError}
+use Rattle.mq_client.specs.declared.halt.ClientError.TheVariants.{Closed, Lost, Refused, NotSubscribed, SaveError, Memory}
 
 -- why a program stops before it is done
-abbrev pub halt_line : Halt → List ℕ
+abbrev pub halt_line : ClientError → List ℕ
 halt_line (Closed reason) = codes "closed " ++ (close_code reason ++ codes "\n")
 halt_line Lost = codes "connection failed\n"
 halt_line (Refused why) = codes "refused " ++ (refusal_code why ++ codes "\n")
 halt_line NotSubscribed = codes "not subscribed\n"
-halt_line NotKept = codes "session not written\n"
+halt_line SaveError = codes "session not written\n"
 halt_line Memory = codes "out of memory\n"
 
 -- why a file gives no session
-abbrev pub unloaded_line : Unloaded → List ℕ
+abbrev pub unloaded_line : LoadFailure → List ℕ
 unloaded_line unloaded.Unread = codes "file not read\n"
 unloaded_line (unloaded.Session why) = codes "session " ++ (load_code why ++ codes "\n")
 unloaded_line unloaded.Memory = codes "out of memory\n"

@@ -1,9 +1,9 @@
 -- The programs whole: over connections that are made.
 use Rattle.std.specs.Prelude.{◌≡◌, ◌⊎◌, ℕ, Bool, true, List}
 use Rattle.mq_end.specs.Publishing.{ClientState}
-use Rattle.mq_client.specs.declared.halt.Halt.{Halt}
-use Rattle.mq_client.specs.declared.loading.Unloaded.{Unloaded}
-use Rattle.mq_client.specs.declared.collecting.Wish.{Wish}
+use Rattle.mq_client.specs.declared.halt.ClientError.{ClientError}
+use Rattle.mq_client.specs.declared.loading.LoadFailure.{LoadFailure}
+use Rattle.mq_client.specs.declared.collecting.CollectGoal.{CollectGoal}
 use Rattle.mq_client.specs.declared.publishing.Texts.{Texts}
 use Rattle.mq_client.specs.Course.{Moment}
 use Rattle.mq_client.specs.Halts.{halt_status, unloaded_status}
@@ -14,14 +14,14 @@ use Rattle.mq_client.specs.Collecting.{IsCollectDone}
 
 -- it ended before there was a connection
 abbrev pub HaltsBefore : ℕ → List ℕ → Type 0
-HaltsBefore status text = (halt : Halt) × (status ≡ halt_status halt) × (text ≡ halt_line halt)
+HaltsBefore status text = (halt : ClientError) × (status ≡ halt_status halt) × (text ≡ halt_line halt)
 
 -- `publish` by a new client of this identifier, over a clean session
 abbrev pub IsTextsDone : List ℕ → Texts → ℕ → List ℕ → Type 0
 IsTextsDone id t status text = ((a : Moment) × (b : Moment) × IsNewClient id a.client × IsPublishDone a b true t status text) ⊎ HaltsBefore status text
 
 -- `collect` by a new client of this identifier
-abbrev pub IsMessagesDone : List ℕ → Bool → Wish → ℕ → List ℕ → Type 0
+abbrev pub IsMessagesDone : List ℕ → Bool → CollectGoal → ℕ → List ℕ → Type 0
 IsMessagesDone id clean wish status text = ((a : Moment) × (b : Moment) × IsNewClient id a.client × IsCollectDone a b clean wish status text) ⊎ HaltsBefore status text
 
 -- a client of this identifier, new or with the session of which some bytes are the saved form
@@ -30,7 +30,7 @@ IsClientOf id c = IsNewClient id c ⊎ ((bytes : List ℕ) × GoesOn id bytes c)
 
 -- the file gave no session
 abbrev pub IsUnloaded : ℕ → List ℕ → Type 0
-IsUnloaded status text = (why : Unloaded) × (status ≡ unloaded_status why) × (text ≡ unloaded_line why)
+IsUnloaded status text = (why : LoadFailure) × (status ≡ unloaded_status why) × (text ≡ unloaded_line why)
 
 -- `publish` by this client, over its session
 abbrev pub IsKeptDone : ClientState → Texts → ℕ → List ℕ → Type 0

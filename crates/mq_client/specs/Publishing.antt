@@ -4,7 +4,7 @@ use Rattle.mq_packet.specs.declared.message.Message.{Message}
 use Rattle.mq_end.specs.declared.happening.Happening.{Happening}
 use Rattle.mq_end.specs.declared.reason.CloseReason.{CloseReason}
 use Rattle.mq_end.specs.End.{End, is_up}
-use Rattle.mq_client.specs.declared.halt.Halt.{Halt}
+use Rattle.mq_client.specs.declared.halt.ClientError.{ClientError}
 use Rattle.mq_client.specs.declared.publishing.Texts.{Texts}
 use Rattle.mq_client.specs.Course.{Ask, IsIdle, Leaves, Moment, Opening, Publication, Went, WentFirst}
 use Rattle.mq_client.specs.Halts.{halt_closes, halt_status}
@@ -47,13 +47,13 @@ pub record Published (a b : Moment) (clean : Bool) (t : Texts) : Type 0 where
   pub leaves : Leaves last b
 
 -- It stopped before: the first of these were asked for, in order, and nothing else.
-abbrev pub PublishHalts : Moment → Moment → List Ask → Halt → Type 0
+abbrev pub PublishHalts : Moment → Moment → List Ask → ClientError → Type 0
 PublishHalts a b all halt = (told : List Happening) × WentFirst a b all told (halt_closes halt)
 
 -- the status and the line of `publish`
 abbrev pub IsPublishDone : Moment → Moment → Bool → Texts → ℕ → List ℕ → Type 0
 IsPublishDone a b clean t status text =
-    (Published a b clean t × (status ≡ 0) × (text ≡ published_line (length t.texts.now))) ⊎ ((halt : Halt) × PublishHalts a b (publishes clean t) halt × (status ≡ halt_status halt) × (text ≡ halt_line halt))
+    (Published a b clean t × (status ≡ 0) × (text ≡ published_line (length t.texts.now))) ⊎ ((halt : ClientError) × PublishHalts a b (publishes clean t) halt × (status ≡ halt_status halt) × (text ≡ halt_line halt))
 
 -- how many messages a client's session has that are not acknowledged, or released and not completed (4.3.2, 4.3.3)
 abbrev pub resumed_of : End → ℕ

@@ -7,8 +7,8 @@ ghost use Rattle.mq_client.specs.Course.{Opening, Subscription};
 ghost use Rattle.mq_client.specs.Halts.{closes_of};
 ghost use Rattle.mq_client.specs.Collecting.{Gathers, IsAnswered, IsCollectDone, Keeps, KeepsFirst, collects, grants, handed, request_of};
 
-use crate::halt::Halt;
-use crate::keeper::Keeper;
+use crate::halt::ClientError;
+use crate::keeper::SessionSaver;
 use crate::peer::Peer;
 use crate::printing::{write_halt, write_told};
 use mq_end::Happening;
@@ -21,7 +21,7 @@ use std::io::Write;
 
 /// What is to be collected.
 #[derive(Clone, Copy, Debug)]
-pub struct Wish<'a> {
+pub struct CollectGoal<'a> {
     /// Which topic names.
     pub filter: &'a TopicFilter,
     /// The greatest quality of service asked for.
@@ -31,7 +31,7 @@ pub struct Wish<'a> {
 }
 
 // What is asked for.
-fn requests_of(alloc: Global, wish: &Wish<'_>) -> Result<NonEmpty<Request>, Halt>
+fn requests_of(alloc: Global, wish: &CollectGoal<'_>) -> Result<NonEmpty<Request>, ClientError>
     ensures ok { IfOk result (λ requests. requests ≡ request_of wish.now ∷ []) }
     ensures goes_on { closes_of result ≡ [] }
 {
@@ -42,7 +42,7 @@ fn requests_of(alloc: Global, wish: &Wish<'_>) -> Result<NonEmpty<Request>, Halt
     let mut requests = Vec::new(alloc);
     match requests.push(request) {
         Ok(()) => Ok(NonEmpty::from_vec(requests)),
-        Err(_) => Err(Halt::Memory),
+        Err(_) => Err(ClientError::Memory),
     }
 }
 
@@ -95,10 +95,10 @@ fn left_after(happenings: &[Happening], left: u32) -> u32
 }
 
 // Takes in what comes, keeps what is told of it, and writes what came of it.
-fn keep<S: Stream, C: Clock, K: Keeper>(
+fn keep<S: Stream, C: Clock, K: SessionSaver>(
     peer: &mut Peer<S, C, K>,
     kept: &mut Vec<Happening>,
-) -> Result<(), Halt>
+) -> Result<(), ClientError>
     ensures { Keeps peer.old peer.new [] kept.old.items kept.new.items result }
 {
     let progress = peer.hear()?;
@@ -106,15 +106,15 @@ fn keep<S: Stream, C: Clock, K: Keeper>(
     let mut told = progress.happenings.into_vec()?;
     match kept.append(&mut told) {
         Ok(()) => peer.answer(closed),
-        Err(_) => Err(Halt::Memory),
+        Err(_) => Err(ClientError::Memory),
     }
 }
 
 // Waits until the connection is up.
-fn await_up<S: Stream, C: Clock, K: Keeper>(
+fn await_up<S: Stream, C: Clock, K: SessionSaver>(
     peer: &mut Peer<S, C, K>,
     kept: &mut Vec<Happening>,
-) -> Result<(), Halt>
+) -> Result<(), ClientError>
     ensures { Keeps peer.old peer.new [] kept.old.items kept.new.items result }
 {
     for _ in 0..u64::MAX {
@@ -123,14 +123,14 @@ fn await_up<S: Stream, C: Clock, K: Keeper>(
             return Ok(());
         }
     }
-    Err(Halt::Lost)
+    Err(ClientError::Lost)
 }
 
 // Waits until the server has answered.
-fn await_answer<S: Stream, C: Clock, K: Keeper>(
+fn await_answer<S: Stream, C: Clock, K: SessionSaver>(
     peer: &mut Peer<S, C, K>,
     kept: &mut Vec<Happening>,
-) -> Result<(), Halt>
+) -> Result<(), ClientError>
     ensures kept { Keeps peer.old peer.new [] kept.old.items kept.new.items result }
     ensures granted { OnOk result (IsAnswered true kept.new.items) }
 {
@@ -138,19 +138,19 @@ fn await_answer<S: Stream, C: Clock, K: Keeper>(
         keep(peer, kept)?;
         match answer_in(kept.as_slice()) {
             Some(true) => return Ok(()),
-            Some(false) => return Err(Halt::NotSubscribed),
+            Some(false) => return Err(ClientError::NotSubscribed),
             None => {}
         }
     }
-    Err(Halt::Lost)
+    Err(ClientError::Lost)
 }
 
 // Connects, with clean session or not, and waits until the connection is up.
-fn rise<S: Stream, C: Clock, K: Keeper>(
+fn rise<S: Stream, C: Clock, K: SessionSaver>(
     peer: &mut Peer<S, C, K>,
     clean: bool,
     kept: &mut Vec<Happening>,
-) -> Result<(), Halt>
+) -> Result<(), ClientError>
     ensures ok { OnOk result
         (Keeps peer.old peer.new (Opening clean ∷ []) kept.old.items kept.new.items result) }
     ensures err { OnErr result
@@ -161,12 +161,12 @@ fn rise<S: Stream, C: Clock, K: Keeper>(
 }
 
 // Subscribes, and waits until the server has granted it.
-fn ask<S: Stream, C: Clock, K: Keeper>(
+fn ask<S: Stream, C: Clock, K: SessionSaver>(
     alloc: Global,
     peer: &mut Peer<S, C, K>,
-    wish: &Wish<'_>,
+    wish: &CollectGoal<'_>,
     kept: &mut Vec<Happening>,
-) -> Result<(), Halt>
+) -> Result<(), ClientError>
     ensures ok { OnOk result (Keeps peer.old peer.new (Subscription (request_of wish.now ∷ []) ∷ [])
         kept.old.items kept.new.items result) }
     ensures granted { OnOk result (IsAnswered true kept.new.items) }
@@ -179,13 +179,13 @@ fn ask<S: Stream, C: Clock, K: Keeper>(
 }
 
 /// Connects, with clean session or not, and subscribes; what is told until the server has granted it is kept.
-pub fn begin<S: Stream, C: Clock, K: Keeper>(
+pub fn begin<S: Stream, C: Clock, K: SessionSaver>(
     alloc: Global,
     peer: &mut Peer<S, C, K>,
-    wish: &Wish<'_>,
+    wish: &CollectGoal<'_>,
     clean: bool,
     kept: &mut Vec<Happening>,
-) -> Result<(), Halt>
+) -> Result<(), ClientError>
     ensures ok { OnOk result
         (Keeps peer.old peer.new (collects clean wish.now) kept.old.items kept.new.items result) }
     ensures granted { OnOk result (IsAnswered true kept.new.items) }
@@ -197,11 +197,11 @@ pub fn begin<S: Stream, C: Clock, K: Keeper>(
 }
 
 // Prints what comes, until so many messages were handed on and none waits for its release.
-fn gather<S: Stream, C: Clock, K: Keeper, W: Write>(
+fn gather<S: Stream, C: Clock, K: SessionSaver, W: Write>(
     peer: &mut Peer<S, C, K>,
     count: u32,
     output: &mut W,
-) -> io::Result<Result<(), Halt>>
+) -> io::Result<Result<(), ClientError>>
     ensures { IfOk result (Gathers peer.old peer.new (W.contents output.old) (W.contents output.new) count) }
 {
     let mut left = count;
@@ -220,16 +220,16 @@ fn gather<S: Stream, C: Clock, K: Keeper, W: Write>(
             return Ok(Err(halt));
         }
     }
-    Ok(Err(Halt::Lost))
+    Ok(Err(ClientError::Lost))
 }
 
 /// Connects, with clean session or not, subscribes, and prints each message that is handed on, until there are as many as are wanted and
 /// none waits for its release; then it leaves. Answers the status of the program. What was handed on is printed before it is
 /// acknowledged, or, before the subscription is answered, kept.
-pub fn collect<S: Stream, C: Clock, K: Keeper, W: Write>(
+pub fn collect<S: Stream, C: Clock, K: SessionSaver, W: Write>(
     alloc: Global,
     peer: &mut Peer<S, C, K>,
-    wish: &Wish<'_>,
+    wish: &CollectGoal<'_>,
     clean: bool,
     output: &mut W,
 ) -> io::Result<u8>

@@ -1,6 +1,6 @@
 //! Connections that are made.
 
-use mq_stream::{Broken, Clock, Duplex, Elapsed, Stream};
+use mq_stream::{Broken, Clock, Elapsed, SocketStream, Stream};
 use std::net::{Net, OpenStream, SocketAddr};
 use std::time::{Duration, Instant};
 use std::{io, time};
@@ -46,14 +46,14 @@ fn connect<R: Net>(net: &R, port: u16) -> io::Result<R::Stream> {
     Ok(stream)
 }
 
-impl<'a, R: Net + time::Clock> Dial<Duplex<R::Stream>, Elapsed<'a, R>> for Loopback<'a, R> {
-    fn dial(&mut self) -> Result<Connection<Duplex<R::Stream>, Elapsed<'a, R>>, Broken> {
+impl<'a, R: Net + time::Clock> Dial<SocketStream<R::Stream>, Elapsed<'a, R>> for Loopback<'a, R> {
+    fn dial(&mut self) -> Result<Connection<SocketStream<R::Stream>, Elapsed<'a, R>>, Broken> {
         let Ok(start) = Instant::now(self.rt) else {
             return Err(Broken);
         };
         match connect(self.rt, self.port) {
             Ok(stream) => Ok(Connection {
-                stream: Duplex(stream),
+                stream: SocketStream(stream),
                 clock: Elapsed::since(self.rt, start),
             }),
             Err(_) => Err(Broken),

@@ -1,6 +1,6 @@
 //! A session in a file.
 
-use crate::keeper::{NotKept, Store};
+use crate::keeper::{SaveError, Store};
 use std::alloc::{AllocError, Global};
 use std::fs::OpenFile;
 use std::io::Write;
@@ -44,16 +44,16 @@ impl<'a, R: Files> SessionFile<'a, R> {
 }
 
 impl<R: Files> Store for SessionFile<'_, R> {
-    fn replace(&mut self, form: Vec<u8>) -> Result<(), NotKept> {
+    fn replace(&mut self, form: Vec<u8>) -> Result<(), SaveError> {
         if self.has(form.as_slice()) {
             return Ok(());
         }
         let draft = self.draft.as_str();
         if write_whole(self.files, draft, form.as_slice()).is_err() {
-            return Err(NotKept::Unwritten);
+            return Err(SaveError::Unwritten);
         }
         if fs::rename(self.files, draft, self.name).is_err() {
-            return Err(NotKept::Unwritten);
+            return Err(SaveError::Unwritten);
         }
         self.last = Some(form);
         Ok(())

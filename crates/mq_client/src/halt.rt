@@ -9,7 +9,7 @@ use thiserror::Error;
 
 /// Why a client program stops before it is done.
 #[derive(Clone, Copy, Debug, PartialEq, Eq, Error)]
-pub enum Halt {
+pub enum ClientError {
     /// The end closed the connection.
     #[error("closed: {0}")]
     Closed(CloseReason),
@@ -24,32 +24,35 @@ pub enum Halt {
     NotSubscribed,
     /// The session could not be kept.
     #[error("session not written")]
-    NotKept,
+    SaveError,
     /// Memory ran out.
     #[error("out of memory")]
     Memory,
 }
 
-impl Halt {
+impl ClientError {
     /// The status that the program ends with: 3 where memory ran out, else 1.
     pub fn status(self) -> u8
         ensures { result ≡ halt_status self }
     {
         match self {
-            Halt::Memory => 3,
-            Halt::Closed(_) | Halt::Lost | Halt::Refused(_) | Halt::NotSubscribed | Halt::NotKept =>
-                { 1 }
+            ClientError::Memory => 3,
+            ClientError::Closed(_)
+            | ClientError::Lost
+            | ClientError::Refused(_)
+            | ClientError::NotSubscribed
+            | ClientError::SaveError => { 1 }
         }
     }
 }
 
-impl From<AllocError> for Halt {
+impl From<AllocError> for ClientError {
     ghost use Rattle.std.specs.Prelude.{◌≡◌};
-    ghost use Rattle.mq_client.specs.declared.halt.Halt.TheVariants.{Memory};
+    ghost use Rattle.mq_client.specs.declared.halt.ClientError.TheVariants.{Memory};
 
     ghost from_gives = { λ _ halt. halt ≡ Memory };
 
-    fn from(_e: AllocError) -> Halt {
-        Halt::Memory
+    fn from(_e: AllocError) -> ClientError {
+        ClientError::Memory
     }
 }

@@ -9,7 +9,7 @@ use thiserror::Error;
 
 /// A session was not kept.
 #[derive(Clone, Copy, Debug, PartialEq, Eq, Error)]
-pub enum NotKept {
+pub enum SaveError {
     /// It could not be written.
     #[error("the session was not written")]
     Unwritten,
@@ -19,23 +19,23 @@ pub enum NotKept {
 }
 
 /// Who keeps a session, as a file does. Where it is known what is kept, its contracts say so.
-pub trait Keeper {
+pub trait SessionSaver {
     /// The bytes that are kept, where they are known.
     ghost kept: { Self → Option (List ℕ) } = { λ _. None };
 
     /// Keeps the session of the client as it is. It is called before any byte goes out that a change of it put out, and also where
     /// nothing has changed. After an error no byte goes out.
-    fn keep(&mut self, client: &ClientEnd) -> Result<(), NotKept>
+    fn keep(&mut self, client: &ClientEnd) -> Result<(), SaveError>
         ensures ok { OnOk result (Holds (kept self.old) (kept self.new) (saved_of client.now ∷ [])) }
         ensures err { OnErr result (Holds (kept self.old) (kept self.new) []) };
 }
 
 /// Keeps nothing: the session ends with the program.
 #[derive(Clone, Copy, Debug, PartialEq, Eq)]
-pub struct Nowhere;
+pub struct NoSaver;
 
-impl Keeper for Nowhere {
-    fn keep(&mut self, _client: &ClientEnd) -> Result<(), NotKept> {
+impl SessionSaver for NoSaver {
+    fn keep(&mut self, _client: &ClientEnd) -> Result<(), SaveError> {
         Ok(())
     }
 }
@@ -46,7 +46,7 @@ pub trait Store {
     ghost stands: { Self → Option (List ℕ) } = { λ _. None };
 
     /// Puts these bytes there, in the place of those that stood there: after an error those stand there still.
-    fn replace(&mut self, form: Vec<u8>) -> Result<(), NotKept>
+    fn replace(&mut self, form: Vec<u8>) -> Result<(), SaveError>
         ensures ok { OnOk result (Holds (stands self.old) (stands self.new) (form.items ∷ [])) }
         ensures err { OnErr result (Holds (stands self.old) (stands self.new) []) };
 }
@@ -60,13 +60,13 @@ pub struct Stored<S: Store> {
     pub store: S,
 }
 
-impl<S: Store> Keeper for Stored<S> {
+impl<S: Store> SessionSaver for Stored<S> {
     ghost kept = { λ s. S.stands s.store };
 
-    fn keep(&mut self, client: &ClientEnd) -> Result<(), NotKept> {
+    fn keep(&mut self, client: &ClientEnd) -> Result<(), SaveError> {
         let mut form = Vec::new(self.alloc);
         if client.save(&mut form).is_err() {
-            return Err(NotKept::Memory);
+            return Err(SaveError::Memory);
         }
         self.store.replace(form)
     }

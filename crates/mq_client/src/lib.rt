@@ -15,12 +15,12 @@ mod printing;
 mod programs;
 mod publishing;
 
-pub use crate::collecting::{Wish, begin, collect};
+pub use crate::collecting::{CollectGoal, begin, collect};
 pub use crate::dial::{Connection, Dial, Loopback};
 pub use crate::file::SessionFile;
-pub use crate::halt::Halt;
-pub use crate::keeper::{Keeper, NotKept, Nowhere, Store, Stored};
-pub use crate::loading::{Unloaded, load, new_client, saved_client};
+pub use crate::halt::ClientError;
+pub use crate::keeper::{NoSaver, SaveError, SessionSaver, Store, Stored};
+pub use crate::loading::{LoadFailure, load, new_client, saved_client};
 pub use crate::peer::Peer;
 pub use crate::printing::write_halt;
 pub use crate::programs::{collect_messages, publish_session, publish_texts};

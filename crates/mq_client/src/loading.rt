@@ -27,7 +27,7 @@ const KEEP_ALIVE: u16 = 60;
 
 /// Why a file gives no session.
 #[derive(Clone, Copy, Debug, PartialEq, Eq, Error)]
-pub enum Unloaded {
+pub enum LoadFailure {
     /// The file could not be read.
     #[error("the file was not read")]
     Unread,
@@ -39,14 +39,14 @@ pub enum Unloaded {
     Memory,
 }
 
-impl Unloaded {
+impl LoadFailure {
     /// The status that the program ends with: 3 where memory ran out, else 2.
     pub fn status(self) -> u8
         ensures { result ≡ unloaded_status self }
     {
         match self {
-            Unloaded::Memory => 3,
-            Unloaded::Unread | Unloaded::Session(_) => 2,
+            LoadFailure::Memory => 3,
+            LoadFailure::Unread | LoadFailure::Session(_) => 2,
         }
     }
 }
@@ -99,10 +99,10 @@ fn read_file<R: Files>(alloc: Global, files: &R, name: &str) -> io::Result<Optio
 }
 
 // What stops a program whose file could not be read.
-fn unread(error: &io::Error) -> Unloaded {
+fn unread(error: &io::Error) -> LoadFailure {
     match error.kind() {
-        ErrorKind::OutOfMemory => Unloaded::Memory,
-        _ => Unloaded::Unread,
+        ErrorKind::OutOfMemory => LoadFailure::Memory,
+        _ => LoadFailure::Unread,
     }
 }
 
@@ -112,15 +112,15 @@ pub fn load<R: Files>(
     files: &R,
     name: &str,
     id: &Text,
-) -> Result<Option<ClientEnd>, Unloaded>
+) -> Result<Option<ClientEnd>, LoadFailure>
     ensures { IfOk result (λ found. IfSome found (λ client.
         (bytes : List ℕ) × GoesOn id.now bytes client)) }
 {
     match read_file(alloc, files, name) {
         Ok(Some(bytes)) => match saved_client(alloc, id, bytes.as_slice()) {
             Ok(client) => Ok(Some(client)),
-            Err(LoadError::Memory) => Err(Unloaded::Memory),
-            Err(why) => Err(Unloaded::Session(why)),
+            Err(LoadError::Memory) => Err(LoadFailure::Memory),
+            Err(why) => Err(LoadFailure::Session(why)),
         },
         Ok(None) => Ok(None),
         Err(error) => Err(unread(&error)),

@@ -10,8 +10,8 @@ ghost use Rattle.mq_client.specs.Course.{IsIdle, Leaves, Opening, Subscription, 
 ghost use Rattle.mq_client.specs.Halts.{closes_of, halt_closes};
 ghost use Rattle.mq_client.specs.Publishing.{resumed_of};
 
-use crate::halt::Halt;
-use crate::keeper::{Keeper, NotKept};
+use crate::halt::ClientError;
+use crate::keeper::{SaveError, SessionSaver};
 use mq_end::{ClientEnd, CloseReason, Progress, PublishRefusal, State};
 use mq_flow::Sender;
 use mq_packet::{Message, NonEmpty, Request};
@@ -27,7 +27,7 @@ const MOST_QUIET: u32 = 900;
 /// A client end at a stream, with a clock, and with who keeps its session. Contracts see the end, what went over the stream, and what is
 /// kept.
 #[derive(Drop)]
-pub struct Peer<S: Stream, C: Clock, K: Keeper> {
+pub struct Peer<S: Stream, C: Clock, K: SessionSaver> {
     client: ClientEnd,
     stream: S,
     clock: C,
@@ -35,7 +35,7 @@ pub struct Peer<S: Stream, C: Clock, K: Keeper> {
     quiet: u32,
 }
 
-impl<S: Stream, C: Clock, K: Keeper> Model for Peer<S, C, K> {
+impl<S: Stream, C: Clock, K: SessionSaver> Model for Peer<S, C, K> {
     ghost use Rattle.std.specs.Coded.{codes, coded_ℕ};
     ghost use Rattle.std.specs.FinSet as set;
     ghost use Rattle.std.specs.Ordering.{nat_cmp};
@@ -49,27 +49,27 @@ impl<S: Stream, C: Clock, K: Keeper> Model for Peer<S, C, K> {
 }
 
 // Why a refusal stops a program.
-fn halt_of(why: PublishRefusal) -> Halt
+fn halt_of(why: PublishRefusal) -> ClientError
     ensures { halt_closes result ≡ [] }
 {
     match why {
-        PublishRefusal::Memory => Halt::Memory,
-        _ => Halt::Refused(why),
+        PublishRefusal::Memory => ClientError::Memory,
+        _ => ClientError::Refused(why),
     }
 }
 
 // Why a session that was not kept stops a program.
-fn unkept(why: NotKept) -> Halt
+fn unkept(why: SaveError) -> ClientError
     ensures { halt_closes result ≡ [] }
 {
     match why {
-        NotKept::Unwritten => Halt::NotKept,
-        NotKept::Memory => Halt::Memory,
+        SaveError::Unwritten => ClientError::SaveError,
+        SaveError::Memory => ClientError::Memory,
     }
 }
 
 // `false` where a message that is refused has to wait, or else why this stops a program.
-fn waits(why: PublishRefusal) -> Result<bool, Halt>
+fn waits(why: PublishRefusal) -> Result<bool, ClientError>
     ensures asks { (m : Message) → asked_by result m ≡ [] }
     ensures goes_on { closes_of result ≡ [] }
 {
@@ -87,7 +87,7 @@ fn in_use(sender: &Sender) -> usize
     sender.entries().count() + sender.released()
 }
 
-impl<S: Stream, C: Clock, K: Keeper> Peer<S, C, K> {
+impl<S: Stream, C: Clock, K: SessionSaver> Peer<S, C, K> {
     /// A client at a stream.
     pub fn new(client: ClientEnd, stream: S, clock: C, keeper: K) -> Peer<S, C, K>
         ensures client { result.client ≡ client }
@@ -127,7 +127,7 @@ impl<S: Stream, C: Clock, K: Keeper> Peer<S, C, K> {
     }
 
     // Tells the client the time, so that it keeps its connection alive (3.1.2.10).
-    fn tick(&mut self) -> Result<(), Halt>
+    fn tick(&mut self) -> Result<(), ClientError>
         ensures went { Went self.old self.new [] [] [] }
         ensures goes_on { closes_of result ≡ [] }
     {
@@ -137,7 +137,7 @@ impl<S: Stream, C: Clock, K: Keeper> Peer<S, C, K> {
     }
 
     /// Writes what the client put out, behind the keeping of its session. Where the stream fails, the connection is lost.
-    pub fn write(&mut self) -> Result<(), Halt>
+    pub fn write(&mut self) -> Result<(), ClientError>
         ensures went { Went self.old self.new [] [] [] }
         ensures goes_on { closes_of result ≡ [] }
         ensures all { OnOk result
@@ -151,13 +151,13 @@ impl<S: Stream, C: Clock, K: Keeper> Peer<S, C, K> {
             Ok(()) => Ok(()),
             Err(_) => {
                 self.client.dropped();
-                Err(Halt::Lost)
+                Err(ClientError::Lost)
             }
         }
     }
 
     /// Begins a connection, with clean session or not (3.1).
-    pub fn open(&mut self, clean: bool) -> Result<(), Halt>
+    pub fn open(&mut self, clean: bool) -> Result<(), ClientError>
         ensures ok { OnOk result (Went self.old self.new (Opening clean ∷ []) [] []) }
         ensures err { OnErr result
             (WentFirst self.old self.new (Opening clean ∷ []) [] []) }
@@ -169,16 +169,16 @@ impl<S: Stream, C: Clock, K: Keeper> Peer<S, C, K> {
     }
 
     // The connection is lost (4.2).
-    fn lose(&mut self) -> Halt
+    fn lose(&mut self) -> ClientError
         ensures went { Went self.old self.new [] [] [] }
         ensures goes_on { halt_closes result ≡ [] }
     {
         self.client.dropped();
-        Halt::Lost
+        ClientError::Lost
     }
 
     // One read. Where the stream ends or fails, or nothing came for too long, the connection is lost.
-    fn arrive(&mut self, room: &mut [u8]) -> Result<usize, Halt>
+    fn arrive(&mut self, room: &mut [u8]) -> Result<usize, ClientError>
         ensures ok { IfOk result (λ n. (n ≤ length room.new)
             × Consumes self.old.coming self.new.coming (take n room.new)) }
         ensures same { OnOk result (self.new.client ≡ self.old.client) }
@@ -204,7 +204,7 @@ impl<S: Stream, C: Clock, K: Keeper> Peer<S, C, K> {
     }
 
     /// Takes in what comes within the limit of a read.
-    pub fn hear(&mut self) -> Result<Progress, Halt>
+    pub fn hear(&mut self) -> Result<Progress, ClientError>
         ensures went { IfOk result
             (λ p. Went self.old self.new [] p.happenings (option_to_list p.closed)) }
         ensures lost { OnErr result (Went self.old self.new [] [] []) }
@@ -218,19 +218,19 @@ impl<S: Stream, C: Clock, K: Keeper> Peer<S, C, K> {
     }
 
     /// Writes what came of it, also where the client closed.
-    pub fn answer(&mut self, closed: Option<CloseReason>) -> Result<(), Halt>
+    pub fn answer(&mut self, closed: Option<CloseReason>) -> Result<(), ClientError>
         ensures went { Went self.old self.new [] [] [] }
         ensures closes { closes_of result ≡ option_to_list closed }
     {
         let written = self.write();
         match closed {
-            Some(reason) => Err(Halt::Closed(reason)),
+            Some(reason) => Err(ClientError::Closed(reason)),
             None => written,
         }
     }
 
     /// Takes in what comes, and writes what came of it.
-    pub fn listen(&mut self) -> Result<(), Halt>
+    pub fn listen(&mut self) -> Result<(), ClientError>
         ensures { (told : List Happening) × Went self.old self.new [] told (closes_of result) }
     {
         let progress = self.hear()?;
@@ -241,7 +241,7 @@ impl<S: Stream, C: Clock, K: Keeper> Peer<S, C, K> {
     pub fn is_up(&self) -> bool
         ensures { result ≡ is_up self.now.client.link.end.state }
     {
-        self.client.state() == State::Up
+        self.client.state() == State::Connected
     }
 
     /// Whether all that the client published is acknowledged (4.3.2, 4.3.3).
@@ -275,7 +275,7 @@ impl<S: Stream, C: Clock, K: Keeper> Peer<S, C, K> {
     }
 
     /// Publishes a message. `false` says that it has to wait, until the connection is up or an acknowledgement has come.
-    pub fn publish(&mut self, message: Message) -> Result<bool, Halt>
+    pub fn publish(&mut self, message: Message) -> Result<bool, ClientError>
         ensures went { Went self.old self.new (asked_by result message) [] [] }
         ensures goes_on { closes_of result ≡ [] }
     {
@@ -286,7 +286,7 @@ impl<S: Stream, C: Clock, K: Keeper> Peer<S, C, K> {
     }
 
     // Asks for a subscription.
-    pub(crate) fn subscribe(&mut self, requests: NonEmpty<Request>) -> Result<(), Halt>
+    pub(crate) fn subscribe(&mut self, requests: NonEmpty<Request>) -> Result<(), ClientError>
         ensures went { OnOk result
             (Went self.old self.new (Subscription requests ∷ []) [] []) }
         ensures refused { OnErr result (Went self.old self.new [] [] []) }
@@ -299,7 +299,7 @@ impl<S: Stream, C: Clock, K: Keeper> Peer<S, C, K> {
     }
 
     /// Leaves (3.14).
-    pub fn leave(&mut self) -> Result<(), Halt>
+    pub fn leave(&mut self) -> Result<(), ClientError>
         requires { is_up self.old.client.link.end.state ≡ true }
         ensures went { Went self.old self.new [] [] [] }
         ensures goes_on { closes_of result ≡ [] }
@@ -307,7 +307,7 @@ impl<S: Stream, C: Clock, K: Keeper> Peer<S, C, K> {
     {
         match self.client.disconnect() {
             Ok(()) => self.write(),
-            Err(_) => Err(Halt::Memory),
+            Err(_) => Err(ClientError::Memory),
         }
     }
 }

@@ -6,8 +6,8 @@ ghost use Rattle.std.specs.Io.KnownBytes.{Appends};
 ghost use Rattle.mq_client.specs.Halts.{halt_status, unloaded_status};
 ghost use Rattle.mq_client.specs.Printed.{halt_line, message_line, payload_word, told_line, unloaded_line};
 
-use crate::halt::Halt;
-use crate::loading::Unloaded;
+use crate::halt::ClientError;
+use crate::loading::LoadFailure;
 use mq_end::Happening;
 use mq_line::{Escaped, Hex};
 use mq_packet::Message;
@@ -30,32 +30,32 @@ impl fmt::Display for PayloadWord<'_> {
 }
 
 /// Writes why a program stops, and answers its status.
-pub fn write_halt<W: Write>(output: &mut W, halt: Halt) -> io::Result<u8>
+pub fn write_halt<W: Write>(output: &mut W, halt: ClientError) -> io::Result<u8>
     ensures printed { OnOk result
         (Appends (W.contents output.old) (W.contents output.new) (halt_line halt)) }
     ensures status { IfOk result (λ status. status ≡ halt_status halt) }
 {
     match halt {
-        Halt::Closed(reason) => writeln!(output, "closed {}", reason.code())?,
-        Halt::Lost => writeln!(output, "connection failed")?,
-        Halt::Refused(why) => writeln!(output, "refused {}", why.code())?,
-        Halt::NotSubscribed => writeln!(output, "not subscribed")?,
-        Halt::NotKept => writeln!(output, "session not written")?,
-        Halt::Memory => writeln!(output, "out of memory")?,
+        ClientError::Closed(reason) => writeln!(output, "closed {}", reason.code())?,
+        ClientError::Lost => writeln!(output, "connection failed")?,
+        ClientError::Refused(why) => writeln!(output, "refused {}", why.code())?,
+        ClientError::NotSubscribed => writeln!(output, "not subscribed")?,
+        ClientError::SaveError => writeln!(output, "session not written")?,
+        ClientError::Memory => writeln!(output, "out of memory")?,
     }
     Ok(halt.status())
 }
 
 // Writes why a file gives no session, and answers the status of the program.
-pub(crate) fn write_unloaded<W: Write>(output: &mut W, why: Unloaded) -> io::Result<u8>
+pub(crate) fn write_unloaded<W: Write>(output: &mut W, why: LoadFailure) -> io::Result<u8>
     ensures printed { OnOk result
         (Appends (W.contents output.old) (W.contents output.new) (unloaded_line why)) }
     ensures status { IfOk result (λ status. status ≡ unloaded_status why) }
 {
     match why {
-        Unloaded::Unread => writeln!(output, "file not read")?,
-        Unloaded::Session(why) => writeln!(output, "session {}", why.code())?,
-        Unloaded::Memory => writeln!(output, "out of memory")?,
+        LoadFailure::Unread => writeln!(output, "file not read")?,
+        LoadFailure::Session(why) => writeln!(output, "session {}", why.code())?,
+        LoadFailure::Memory => writeln!(output, "out of memory")?,
     }
     Ok(why.status())
 }

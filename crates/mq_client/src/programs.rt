@@ -5,12 +5,12 @@ ghost use Rattle.mq_line.specs.Lines.{Prints};
 ghost use Rattle.mq_client.specs.Program.{IsNewClient};
 ghost use Rattle.mq_client.specs.Programs.{IsClientOf, IsKeptDone, IsMessagesDone, IsSessionDone, IsTextsDone};
 
-use crate::collecting::{Wish, collect};
+use crate::collecting::{CollectGoal, collect};
 use crate::dial::Dial;
 use crate::file::SessionFile;
-use crate::halt::Halt;
-use crate::keeper::{Keeper, Nowhere, Stored};
-use crate::loading::{Unloaded, load, new_client};
+use crate::halt::ClientError;
+use crate::keeper::{NoSaver, SessionSaver, Stored};
+use crate::loading::{LoadFailure, load, new_client};
 use crate::peer::Peer;
 use crate::printing::{write_halt, write_unloaded};
 use crate::publishing::{Texts, publish, publish_all, resume};
@@ -23,11 +23,11 @@ use std::io::Write;
 use std::rt::Files;
 
 // A client at a connection that is made for it.
-fn connected<S: Stream, C: Clock, K: Keeper, D: Dial<S, C>>(
+fn connected<S: Stream, C: Clock, K: SessionSaver, D: Dial<S, C>>(
     client: ClientEnd,
     dialer: &mut D,
     keeper: K,
-) -> Result<Peer<S, C, K>, Halt>
+) -> Result<Peer<S, C, K>, ClientError>
 where
     K: Drop,
     ensures { IfOk result (λ peer. peer.client ≡ client) }
@@ -37,7 +37,7 @@ where
         Err(_) => {
             drop(client);
             drop(keeper);
-            Err(Halt::Lost)
+            Err(ClientError::Lost)
         }
     }
 }
@@ -47,10 +47,10 @@ fn newly_connected<S: Stream, C: Clock, D: Dial<S, C>>(
     alloc: Global,
     id: &Text,
     dialer: &mut D,
-) -> Result<Peer<S, C, Nowhere>, Halt>
+) -> Result<Peer<S, C, NoSaver>, ClientError>
     ensures { IfOk result (λ peer. IsNewClient id.now peer.client) }
 {
-    connected(new_client(alloc, id)?, dialer, Nowhere)
+    connected(new_client(alloc, id)?, dialer, NoSaver)
 }
 
 /// Makes a connection, and publishes texts over a clean session, as `publish` does.
@@ -78,7 +78,7 @@ pub fn publish_texts<S: Stream + Drop, C: Clock + Drop, D: Dial<S, C>, W: Write>
 pub fn collect_messages<S: Stream + Drop, C: Clock + Drop, D: Dial<S, C>, W: Write>(
     alloc: Global,
     id: &Text,
-    wish: &Wish<'_>,
+    wish: &CollectGoal<'_>,
     clean: bool,
     dialer: &mut D,
     output: &mut W,
@@ -102,7 +102,7 @@ fn start_anew<S: Stream + Drop, C: Clock + Drop, D: Dial<S, C>>(
     id: &Text,
     texts: &Texts<'_>,
     dialer: &mut D,
-) -> Result<(), Halt> {
+) -> Result<(), ClientError> {
     let mut peer = newly_connected(alloc, id, dialer)?;
     let none = Texts {
         texts: &[],
@@ -116,8 +116,8 @@ fn start_anew<S: Stream + Drop, C: Clock + Drop, D: Dial<S, C>>(
 // Why a program ends before it goes on with a session.
 #[derive(Clone, Copy)]
 enum Unstarted {
-    Unloaded(Unloaded),
-    Halted(Halt),
+    LoadFailure(LoadFailure),
+    Halted(ClientError),
 }
 
 // A new client, whose session begins empty at both ends.
@@ -126,7 +126,7 @@ fn anew<S: Stream + Drop, C: Clock + Drop, D: Dial<S, C>>(
     id: &Text,
     texts: &Texts<'_>,
     dialer: &mut D,
-) -> Result<ClientEnd, Halt>
+) -> Result<ClientEnd, ClientError>
     ensures { IfOk result (IsNewClient id.now) }
 {
     start_anew(alloc, id, texts, dialer)?;
@@ -150,7 +150,7 @@ fn client_of<S: Stream + Drop, C: Clock + Drop, D: Dial<S, C>, R: Files>(
             Ok(client) => Ok(client),
             Err(halt) => Err(Unstarted::Halted(halt)),
         },
-        Err(why) => Err(Unstarted::Unloaded(why)),
+        Err(why) => Err(Unstarted::LoadFailure(why)),
     }
 }
 
@@ -161,14 +161,14 @@ fn kept_client<'a, S: Stream, C: Clock, D: Dial<S, C>, R: Files>(
     files: &'a R,
     name: &'a str,
     dialer: &mut D,
-) -> Result<Peer<S, C, Stored<SessionFile<'a, R>>>, Halt>
+) -> Result<Peer<S, C, Stored<SessionFile<'a, R>>>, ClientError>
     ensures { IfOk result (λ peer. peer.client ≡ client) }
 {
     match SessionFile::new(alloc, files, name) {
         Ok(store) => connected(client, dialer, Stored { alloc, store }),
         Err(error) => {
             drop(client);
-            Err(Halt::from(error))
+            Err(ClientError::from(error))
         }
     }
 }
@@ -212,7 +212,7 @@ pub fn publish_session<S: Stream + Drop, C: Clock + Drop, D: Dial<S, C>, R: File
 {
     match client_of(alloc, id, texts, files, name, dialer) {
         Ok(client) => publish_kept(alloc, client, texts, files, name, dialer, output),
-        Err(Unstarted::Unloaded(why)) => write_unloaded(output, why),
+        Err(Unstarted::LoadFailure(why)) => write_unloaded(output, why),
         Err(Unstarted::Halted(halt)) => write_halt(output, halt),
     }
 }

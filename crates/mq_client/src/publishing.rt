@@ -5,8 +5,8 @@ ghost use Rattle.mq_line.specs.Lines.{Prints};
 ghost use Rattle.mq_client.specs.Halts.{closes_of};
 ghost use Rattle.mq_client.specs.Publishing.{AskedAll, AskedMore, IsPublishDone, IsResumeDone, Published, PublishHalts, asks_of, publishes, text_message};
 
-use crate::halt::Halt;
-use crate::keeper::Keeper;
+use crate::halt::ClientError;
+use crate::keeper::SessionSaver;
 use crate::peer::Peer;
 use crate::printing::write_halt;
 use bytes::Bytes;
@@ -32,13 +32,13 @@ pub struct Texts<'a> {
 }
 
 // The message of a text.
-fn message_of(alloc: Global, texts: &Texts<'_>, text: &str) -> Result<Message, Halt>
+fn message_of(alloc: Global, texts: &Texts<'_>, text: &str) -> Result<Message, ClientError>
     ensures ok { IfOk result (λ m. m ≡ text_message texts.now text.now) }
     ensures goes_on { closes_of result ≡ [] }
 {
     let bytes = Bytes::copy_from_slice(alloc, text.as_bytes())?;
     let Some(payload) = Payload::new(bytes) else {
-        return Err(Halt::Refused(PublishRefusal::TooLarge));
+        return Err(ClientError::Refused(PublishRefusal::TooLarge));
     };
     Ok(Message {
         topic: texts.topic.clone()?,
@@ -49,12 +49,12 @@ fn message_of(alloc: Global, texts: &Texts<'_>, text: &str) -> Result<Message, H
 }
 
 // Publishes the texts from `next` on, up to one that has to wait.
-fn publish_more<S: Stream, C: Clock, K: Keeper>(
+fn publish_more<S: Stream, C: Clock, K: SessionSaver>(
     alloc: Global,
     peer: &mut Peer<S, C, K>,
     texts: &Texts<'_>,
     next: &mut usize,
-) -> Result<(), Halt>
+) -> Result<(), ClientError>
     ensures went { AskedMore peer.old peer.new (asks_of texts.now) next.old next.new }
     ensures goes_on { closes_of result ≡ [] }
 {
@@ -69,11 +69,11 @@ fn publish_more<S: Stream, C: Clock, K: Keeper>(
 }
 
 // Publishes all texts, and waits until they are acknowledged.
-fn publish_acknowledged<S: Stream, C: Clock, K: Keeper>(
+fn publish_acknowledged<S: Stream, C: Clock, K: SessionSaver>(
     alloc: Global,
     peer: &mut Peer<S, C, K>,
     texts: &Texts<'_>,
-) -> Result<(), Halt>
+) -> Result<(), ClientError>
     ensures ok { OnOk result (AskedAll peer.old peer.new (asks_of texts.now)) }
     ensures err { IfErr result (PublishHalts peer.old peer.new (asks_of texts.now)) }
 {
@@ -86,16 +86,16 @@ fn publish_acknowledged<S: Stream, C: Clock, K: Keeper>(
             return Ok(());
         }
     }
-    Err(Halt::Lost)
+    Err(ClientError::Lost)
 }
 
 /// Connects, with clean session or not, publishes the texts in order, waits until all of them are acknowledged, and leaves.
-pub fn publish_all<S: Stream, C: Clock, K: Keeper>(
+pub fn publish_all<S: Stream, C: Clock, K: SessionSaver>(
     alloc: Global,
     peer: &mut Peer<S, C, K>,
     texts: &Texts<'_>,
     clean: bool,
-) -> Result<(), Halt>
+) -> Result<(), ClientError>
     ensures ok { OnOk result (Published peer.old peer.new clean texts.now) }
     ensures err { IfErr result (PublishHalts peer.old peer.new (publishes clean texts.now)) }
 {
@@ -105,7 +105,7 @@ pub fn publish_all<S: Stream, C: Clock, K: Keeper>(
 }
 
 /// Does that, and prints how many texts were published, or why it stopped; answers the status of the program.
-pub fn publish<S: Stream, C: Clock, K: Keeper, W: Write>(
+pub fn publish<S: Stream, C: Clock, K: SessionSaver, W: Write>(
     alloc: Global,
     peer: &mut Peer<S, C, K>,
     texts: &Texts<'_>,
@@ -126,7 +126,7 @@ pub fn publish<S: Stream, C: Clock, K: Keeper, W: Write>(
 
 /// Goes on with a session: prints how many messages of it are to be sent on, and publishes texts without a clean session; what is not
 /// acknowledged is sent again once the connection is up (4.4). Answers the status of the program.
-pub fn resume<S: Stream, C: Clock, K: Keeper, W: Write>(
+pub fn resume<S: Stream, C: Clock, K: SessionSaver, W: Write>(
     alloc: Global,
     peer: &mut Peer<S, C, K>,
     texts: &Texts<'_>,

@@ -1,13 +1,13 @@
 use crate::compare::expect_told;
 use crate::script::{Line, Scripted, line_of, peer_at, told};
-use mq_client::{Wish, collect};
+use mq_client::{CollectGoal, collect};
 use mq_topic::{Qos, TopicFilter};
 use std::alloc::Global;
 use std::process::Abort;
 use std::test::Fail;
 
 // The status, what is printed, and what is written, where messages are collected at a peer.
-fn told_of(alloc: Global, peer: &mut Scripted, wish: &Wish<'_>) -> Result<String, Fail> {
+fn told_of(alloc: Global, peer: &mut Scripted, wish: &CollectGoal<'_>) -> Result<String, Fail> {
     let mut output = Vec::new(alloc);
     let status = collect(alloc, peer, wish, false, &mut output)?;
     let written = peer.stream().written.as_slice();
@@ -17,7 +17,7 @@ fn told_of(alloc: Global, peer: &mut Scripted, wish: &Wish<'_>) -> Result<String
 // The same, where so many messages of `a/#` are collected.
 fn collected(alloc: Global, line: Line, count: u32) -> Result<String, Fail> {
     let filter = TopicFilter::parse(alloc, "a/#")?;
-    let wish = Wish {
+    let wish = CollectGoal {
         filter: &filter,
         qos: Qos::Q2,
         count,

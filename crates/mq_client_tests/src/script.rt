@@ -2,10 +2,10 @@
 
 ghost use Rattle.std.specs.Prelude.{◌≡◌, ◌≤◌, length};
 
-use mq_client::{Nowhere, Peer};
+use mq_client::{NoSaver, Peer};
 use mq_decode::Limits;
 use mq_end::{ClientConfig, ClientEnd};
-use mq_stream::{Arrival, Broken, Clock, Stream};
+use mq_stream::{Broken, Clock, ReadOutcome, Stream};
 use mq_wire::Text;
 use std::alloc::{AllocError, Global};
 use std::test::Fail;
@@ -54,23 +54,23 @@ pub(crate) fn put(room: &mut [u8], bytes: &[u8]) -> usize
 }
 
 impl Stream for Script {
-    fn read(&mut self, room: &mut [u8]) -> Arrival {
+    fn read(&mut self, room: &mut [u8]) -> ReadOutcome {
         if self.reads.is_empty() {
             return if self.is_quiet {
-                Arrival::Nothing
+                ReadOutcome::Nothing
             } else {
-                Arrival::End
+                ReadOutcome::End
             };
         }
         let (hex, rest) = self.reads.split_once(' ').unwrap_or((self.reads, ""));
         self.reads = rest;
         let Ok(bytes) = bytes_of(self.alloc, hex) else {
-            return Arrival::Failed;
+            return ReadOutcome::Failed;
         };
         if bytes.is_empty() {
-            return Arrival::Nothing;
+            return ReadOutcome::Nothing;
         }
-        Arrival::Bytes(put(room, bytes.as_slice()))
+        ReadOutcome::Bytes(put(room, bytes.as_slice()))
     }
 
     fn write_all(&mut self, bytes: &[u8]) -> Result<(), Broken> {
@@ -143,7 +143,7 @@ pub(crate) fn line_of(reads: &'static str) -> Line {
 }
 
 /// A client at such a stream, whose session no file keeps.
-pub(crate) type Scripted = Peer<Script, Steps, Nowhere>;
+pub(crate) type Scripted = Peer<Script, Steps, NoSaver>;
 
 /// A client at such a stream.
 pub(crate) fn peer_at(alloc: Global, line: Line) -> Result<Scripted, Fail> {
@@ -160,7 +160,7 @@ pub(crate) fn peer_at(alloc: Global, line: Line) -> Result<Scripted, Fail> {
         now: 0,
         step: line.step,
     };
-    Ok(Peer::new(client, script, clock, Nowhere))
+    Ok(Peer::new(client, script, clock, NoSaver))
 }
 
 /// The status, what was printed, and what was written.

@@ -3,11 +3,11 @@
 use crate::compare::expect_told;
 use crate::script::{Steps, new_client, put, told};
 use bytes::Bytes;
-use mq_client::{Nowhere, Peer, Texts, Wish, collect, publish};
+use mq_client::{CollectGoal, NoSaver, Peer, Texts, collect, publish};
 use mq_decode::Limits;
 use mq_end::{Happening, Progress, ServerConfig, ServerEnd};
 use mq_packet::{Message, NonEmpty, PacketId, Payload, SubAckCode};
-use mq_stream::{Arrival, Broken, Stream};
+use mq_stream::{Broken, ReadOutcome, Stream};
 use mq_topic::{Qos, TopicFilter, TopicName};
 use std::alloc::Global;
 use std::process::Abort;
@@ -83,15 +83,15 @@ impl Served {
 }
 
 impl Stream for Served {
-    fn read(&mut self, room: &mut [u8]) -> Arrival {
+    fn read(&mut self, room: &mut [u8]) -> ReadOutcome {
         let output = self.server.output();
         let count = output.len().min(self.most);
         let count = put(room, &output[..count]);
         if count == 0 {
-            return Arrival::Nothing;
+            return ReadOutcome::Nothing;
         }
         self.server.take_output(count);
-        Arrival::Bytes(count)
+        ReadOutcome::Bytes(count)
     }
 
     fn write_all(&mut self, bytes: &[u8]) -> Result<(), Broken> {
@@ -103,10 +103,10 @@ impl Stream for Served {
     }
 }
 
-fn peer_of(alloc: Global, most: usize) -> Result<Peer<Served, Steps, Nowhere>, Fail> {
+fn peer_of(alloc: Global, most: usize) -> Result<Peer<Served, Steps, NoSaver>, Fail> {
     let client = new_client(alloc, 100)?;
     let served = Served::new(alloc, most)?;
-    Ok(Peer::new(client, served, Steps { now: 0, step: 1 }, Nowhere))
+    Ok(Peer::new(client, served, Steps { now: 0, step: 1 }, NoSaver))
 }
 
 // What is published, so many bytes at a read, and the payloads that the server was handed.
@@ -146,7 +146,7 @@ fn a_server_gets_each_text_once(rt: &impl Abort, alloc: Global) -> Result<(), Fa
 
 fn collected(alloc: Global, most: usize) -> Result<String, Fail> {
     let filter = TopicFilter::parse(alloc, "a/#")?;
-    let wish = Wish {
+    let wish = CollectGoal {
         filter: &filter,
         qos: Qos::Q2,
         count: 3,

@@ -6,7 +6,7 @@ use crate::script::{Steps, put};
 use mq_client::{Connection, Dial};
 use mq_decode::Limits;
 use mq_end::{Happening, ServerConfig, ServerEnd};
-use mq_stream::{Arrival, Broken, Stream};
+use mq_stream::{Broken, ReadOutcome, Stream};
 use std::alloc::Global;
 use std::cell::RefCell;
 use std::test::Fail;
@@ -104,13 +104,13 @@ impl<'a> Dial<Wire<'a>, Steps> for Dialer<'a> {
 pub(crate) struct Wire<'a>(&'a RefCell<Side>);
 
 impl Stream for Wire<'_> {
-    fn read(&mut self, room: &mut [u8]) -> Arrival {
+    fn read(&mut self, room: &mut [u8]) -> ReadOutcome {
         let Ok(mut side) = self.0.try_borrow_mut() else {
-            return Arrival::Failed;
+            return ReadOutcome::Failed;
         };
         match side.give(room) {
-            0 => Arrival::Nothing,
-            count => Arrival::Bytes(count),
+            0 => ReadOutcome::Nothing,
+            count => ReadOutcome::Bytes(count),
         }
     }
 

@@ -303,7 +303,7 @@ fn connect_has_forbidden_flags(rt: &impl Abort, alloc: Global) -> Result<(), Fai
 }
 
 // Packets as they are written.
-fn spelled(alloc: Global, packets: &[Packet]) -> Result<Vec<u8>, Fail> {
+fn encoded(alloc: Global, packets: &[Packet]) -> Result<Vec<u8>, Fail> {
     let mut bytes = Vec::new(alloc);
     for packet in packets {
         encode_into(packet, &mut bytes)?;
@@ -312,9 +312,9 @@ fn spelled(alloc: Global, packets: &[Packet]) -> Result<Vec<u8>, Fail> {
 }
 
 // Whether these are the packets as they are written.
-pub(crate) fn are_spelled(alloc: Global, packets: &[Packet], bytes: &[u8]) -> Result<bool, Fail> {
-    let spelled = spelled(alloc, packets)?;
-    Ok(spelled.as_slice() == bytes)
+pub(crate) fn are_encoded(alloc: Global, packets: &[Packet], bytes: &[u8]) -> Result<bool, Fail> {
+    let encoded = encoded(alloc, packets)?;
+    Ok(encoded.as_slice() == bytes)
 }
 
 // Whether all of the first piece is held, and one packet comes with the second.
@@ -343,7 +343,7 @@ fn reads_in_two(
     let mut out = Vec::new(alloc);
     let mut decoder = Decoder::new(alloc, limits);
     let is_read = feeds_in_two(way, &mut decoder, &mut out, front, rest)?;
-    Ok(is_read && are_spelled(alloc, out.as_slice(), bytes)?)
+    Ok(is_read && are_encoded(alloc, out.as_slice(), bytes)?)
 }
 
 // In place it is whole with its last byte. Cut anywhere it is held, and then it comes out.
@@ -363,7 +363,7 @@ fn expect_packet(rt: &impl Abort, alloc: Global, bytes: &[u8], row: &str) -> Res
     Ok(())
 }
 
-fn packets_are_read_as_they_are_spelled(rt: &impl Abort, alloc: Global) -> Result<(), Fail> {
+fn packets_are_read_as_they_are_encoded(rt: &impl Abort, alloc: Global) -> Result<(), Fail> {
     for row in PACKETS {
         let bytes = bytes_of(alloc, row)?;
         expect_packet(rt, alloc, bytes.as_slice(), row)?;
@@ -387,7 +387,7 @@ fn reads_pieces(way: Way, alloc: Global, stream: &[u8], size: usize) -> Result<b
     let mut decoder = Decoder::new(alloc, least);
     let held = way.take_pieces(&mut decoder, stream, size, &mut out)?;
     let is_read = held == 0 && out.len() == PACKETS.len();
-    Ok(is_read && are_spelled(alloc, out.as_slice(), stream)?)
+    Ok(is_read && are_encoded(alloc, out.as_slice(), stream)?)
 }
 
 // Whether they are in two pieces, with nothing between them.
@@ -398,7 +398,7 @@ fn reads_cut(alloc: Global, stream: &[u8], cut: usize) -> Result<bool, Fail> {
     let answer = decode_pieces(alloc, least, &[front, b"", rest], &mut out);
     let count = out.len();
     let is_same = stepped(alloc, least, &[front, b"", rest]) == (answer, count);
-    Ok(is_same && answer == Ok(0) && are_spelled(alloc, out.as_slice(), stream)?)
+    Ok(is_same && answer == Ok(0) && are_encoded(alloc, out.as_slice(), stream)?)
 }
 
 fn expect_stream(rt: &impl Abort, alloc: Global, stream: &[u8]) -> Result<(), Fail> {
@@ -552,7 +552,7 @@ fn expect_rows_fed(
     let mut decoder = Decoder::new(alloc, greatest);
     expect_fed(rt, way, alloc, &mut decoder, &mut out, rows)?;
     let bytes = b"\x62\x02\x00\x01\xc0\x00";
-    assert!(rt; are_spelled(alloc, out.as_slice(), bytes)?);
+    assert!(rt; are_encoded(alloc, out.as_slice(), bytes)?);
     Ok(())
 }
 
@@ -733,7 +733,7 @@ fn faults_are_found(rt: &impl Abort, alloc: Global) -> Result<(), Fail> {
 fn packets_are_found(rt: &impl Abort, alloc: Global) -> Result<(), Fail> {
     places_count_from_the_first_byte(rt, alloc)?;
     connect_has_forbidden_flags(rt, alloc)?;
-    packets_are_read_as_they_are_spelled(rt, alloc)?;
+    packets_are_read_as_they_are_encoded(rt, alloc)?;
     streams_are_read_in_pieces(rt, alloc)
 }
 

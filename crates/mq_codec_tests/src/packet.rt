@@ -63,26 +63,26 @@ fn adds(alloc: Global, packet: &Packet, bytes: &[u8]) -> Result<bool, Fail> {
 }
 
 // Whether the packet has the size of these bytes, and a clone of it is spelled as they are.
-fn is_spelled(alloc: Global, packet: &Packet, bytes: &[u8]) -> Result<bool, Fail> {
+fn is_encoded(alloc: Global, packet: &Packet, bytes: &[u8]) -> Result<bool, Fail> {
     let size = encoded_len(packet).ok_or("too large")?;
     let copy = packet.clone()?;
     Ok(size as usize == bytes.len() && adds(alloc, &copy, bytes)?)
 }
 
 // The same of a packet that a call answers.
-fn is_spelled_as(alloc: Global, packet: Result<Packet, Fail>, bytes: &[u8]) -> Result<bool, Fail> {
+fn is_encoded_as(alloc: Global, packet: Result<Packet, Fail>, bytes: &[u8]) -> Result<bool, Fail> {
     let packet = packet?;
-    is_spelled(alloc, &packet, bytes)
+    is_encoded(alloc, &packet, bytes)
 }
 
 // The packet is spelled as these bytes.
-fn expect_spelled(
+fn expect_encoded(
     rt: &impl Abort,
     alloc: Global,
     packet: Result<Packet, Fail>,
     bytes: &[u8],
 ) -> Result<(), Fail> {
-    assert!(rt; is_spelled_as(alloc, packet, bytes)?, "{bytes:?}");
+    assert!(rt; is_encoded_as(alloc, packet, bytes)?, "{bytes:?}");
     Ok(())
 }
 
@@ -131,12 +131,12 @@ fn least_connect(alloc: Global) -> Result<Packet, Fail> {
     Ok(Packet::Connect(BoxedConnect::new(alloc, connect)?))
 }
 
-fn connect_is_spelled(rt: &impl Abort, alloc: Global) -> Result<(), Fail> {
+fn connect_is_encoded(rt: &impl Abort, alloc: Global) -> Result<(), Fail> {
     let whole =
         b"\x10\x1a\x00\x04MQTT\x04\xee\x00\x0a\x00\x01a\x00\x01w\x00\x02\x00\xff\x00\x01u\x00\x01p";
-    expect_spelled(rt, alloc, whole_connect(alloc), whole)?;
+    expect_encoded(rt, alloc, whole_connect(alloc), whole)?;
     let least = b"\x10\x0d\x00\x04MQTT\x04\x02\x00\x3c\x00\x01a";
-    expect_spelled(rt, alloc, least_connect(alloc), least)
+    expect_encoded(rt, alloc, least_connect(alloc), least)
 }
 
 // A PUBLISH of quality of service 2, which may have come before.
@@ -153,11 +153,11 @@ fn repeated_packet(alloc: Global) -> Result<Packet, Fail> {
     Ok(Packet::Publish(repeated_publish(alloc)?))
 }
 
-fn publish_is_spelled(rt: &impl Abort, alloc: Global) -> Result<(), Fail> {
+fn publish_is_encoded(rt: &impl Abort, alloc: Global) -> Result<(), Fail> {
     let once = publish(alloc, "a/b", Bytes::from_static(b"hi"));
-    expect_spelled(rt, alloc, once, b"\x30\x07\x00\x03a/bhi")?;
+    expect_encoded(rt, alloc, once, b"\x30\x07\x00\x03a/bhi")?;
     let bytes = b"\x3c\x09\x00\x03a/b\x00\x01hi";
-    expect_spelled(rt, alloc, repeated_packet(alloc), bytes)
+    expect_encoded(rt, alloc, repeated_packet(alloc), bytes)
 }
 
 // Whether a message that stays where it is adds these bytes to a byte, as a PUBLISH of quality of service 0.
@@ -183,7 +183,7 @@ fn repeated_in_place(alloc: Global, bytes: &[u8]) -> Result<bool, Fail> {
     Ok(are_behind_a_byte(out.as_slice(), bytes))
 }
 
-fn a_message_that_stays_is_spelled(rt: &impl Abort, alloc: Global) -> Result<(), Fail> {
+fn a_message_that_stays_is_encoded(rt: &impl Abort, alloc: Global) -> Result<(), Fail> {
     assert!(rt; once_in_place(alloc, b"\x30\x07\x00\x03a/bhi")?);
     assert!(rt; repeated_in_place(alloc, b"\x3c\x09\x00\x03a/b\x00\x01hi")?);
     Ok(())
@@ -245,41 +245,41 @@ fn unsubscribe(alloc: Global) -> Result<Packet, Fail> {
     Ok(Packet::Unsubscribe { id, filters })
 }
 
-fn lists_are_spelled(rt: &impl Abort, alloc: Global) -> Result<(), Fail> {
+fn lists_are_encoded(rt: &impl Abort, alloc: Global) -> Result<(), Fail> {
     let bytes = b"\x82\x0e\x00\x01\x00\x03a/+\x01\x00\x03a/#\x02";
-    expect_spelled(rt, alloc, subscribe(alloc), bytes)?;
-    expect_spelled(rt, alloc, sub_ack(alloc), b"\x90\x04\x00\x01\x01\x80")?;
+    expect_encoded(rt, alloc, subscribe(alloc), bytes)?;
+    expect_encoded(rt, alloc, sub_ack(alloc), b"\x90\x04\x00\x01\x01\x80")?;
     let bytes = b"\xa2\x05\x00\x01\x00\x01a";
-    expect_spelled(rt, alloc, unsubscribe(alloc), bytes)
+    expect_encoded(rt, alloc, unsubscribe(alloc), bytes)
 }
 
-fn connack_is_spelled(rt: &impl Abort, alloc: Global) -> Result<(), Fail> {
+fn connack_is_encoded(rt: &impl Abort, alloc: Global) -> Result<(), Fail> {
     let accepted = ConnAck::Accepted {
         session_present: true,
     };
     let refused = ConnAck::Refused(RefusalCode::NotAuthorized);
-    expect_spelled(
+    expect_encoded(
         rt,
         alloc,
         Ok(Packet::ConnAck(accepted)),
         b"\x20\x02\x01\x00",
     )?;
-    expect_spelled(rt, alloc, Ok(Packet::ConnAck(refused)), b"\x20\x02\x00\x05")
+    expect_encoded(rt, alloc, Ok(Packet::ConnAck(refused)), b"\x20\x02\x00\x05")
 }
 
-fn identifiers_are_spelled(rt: &impl Abort, alloc: Global) -> Result<(), Fail> {
+fn identifiers_are_encoded(rt: &impl Abort, alloc: Global) -> Result<(), Fail> {
     let id = id(1)?;
-    expect_spelled(rt, alloc, Ok(Packet::PubAck(id)), b"\x40\x02\x00\x01")?;
-    expect_spelled(rt, alloc, Ok(Packet::PubRec(id)), b"\x50\x02\x00\x01")?;
-    expect_spelled(rt, alloc, Ok(Packet::PubRel(id)), b"\x62\x02\x00\x01")?;
-    expect_spelled(rt, alloc, Ok(Packet::PubComp(id)), b"\x70\x02\x00\x01")?;
-    expect_spelled(rt, alloc, Ok(Packet::UnsubAck(id)), b"\xb0\x02\x00\x01")
+    expect_encoded(rt, alloc, Ok(Packet::PubAck(id)), b"\x40\x02\x00\x01")?;
+    expect_encoded(rt, alloc, Ok(Packet::PubRec(id)), b"\x50\x02\x00\x01")?;
+    expect_encoded(rt, alloc, Ok(Packet::PubRel(id)), b"\x62\x02\x00\x01")?;
+    expect_encoded(rt, alloc, Ok(Packet::PubComp(id)), b"\x70\x02\x00\x01")?;
+    expect_encoded(rt, alloc, Ok(Packet::UnsubAck(id)), b"\xb0\x02\x00\x01")
 }
 
-fn packets_of_two_bytes_are_spelled(rt: &impl Abort, alloc: Global) -> Result<(), Fail> {
-    expect_spelled(rt, alloc, Ok(Packet::PingReq), b"\xc0\x00")?;
-    expect_spelled(rt, alloc, Ok(Packet::PingResp), b"\xd0\x00")?;
-    expect_spelled(rt, alloc, Ok(Packet::Disconnect), b"\xe0\x00")
+fn packets_of_two_bytes_are_encoded(rt: &impl Abort, alloc: Global) -> Result<(), Fail> {
+    expect_encoded(rt, alloc, Ok(Packet::PingReq), b"\xc0\x00")?;
+    expect_encoded(rt, alloc, Ok(Packet::PingResp), b"\xd0\x00")?;
+    expect_encoded(rt, alloc, Ok(Packet::Disconnect), b"\xe0\x00")
 }
 
 fn codes_of_refusals_are_those_of_the_standard(rt: &impl Abort) {
@@ -453,18 +453,18 @@ fn a_writer_that_fails_has_a_beginning(rt: &impl Abort, alloc: Global) -> Result
     Ok(())
 }
 
-fn packets_with_a_message_are_spelled(rt: &impl Abort, alloc: Global) -> Result<(), Fail> {
-    connect_is_spelled(rt, alloc)?;
-    publish_is_spelled(rt, alloc)?;
-    a_message_that_stays_is_spelled(rt, alloc)?;
+fn packets_with_a_message_are_encoded(rt: &impl Abort, alloc: Global) -> Result<(), Fail> {
+    connect_is_encoded(rt, alloc)?;
+    publish_is_encoded(rt, alloc)?;
+    a_message_that_stays_is_encoded(rt, alloc)?;
     publish_shows_its_parts(rt, alloc)
 }
 
-fn other_packets_are_spelled(rt: &impl Abort, alloc: Global) -> Result<(), Fail> {
-    lists_are_spelled(rt, alloc)?;
-    connack_is_spelled(rt, alloc)?;
-    identifiers_are_spelled(rt, alloc)?;
-    packets_of_two_bytes_are_spelled(rt, alloc)
+fn other_packets_are_encoded(rt: &impl Abort, alloc: Global) -> Result<(), Fail> {
+    lists_are_encoded(rt, alloc)?;
+    connack_is_encoded(rt, alloc)?;
+    identifiers_are_encoded(rt, alloc)?;
+    packets_of_two_bytes_are_encoded(rt, alloc)
 }
 
 fn codes_and_bounds_are_as_they_are_to_be(rt: &impl Abort, alloc: Global) -> Result<(), Fail> {
@@ -476,7 +476,7 @@ fn codes_and_bounds_are_as_they_are_to_be(rt: &impl Abort, alloc: Global) -> Res
 
 #[test]
 fn all_hold(rt: HostRuntime) -> Result<(), Fail> {
-    packets_with_a_message_are_spelled(&rt, rt.alloc())?;
-    other_packets_are_spelled(&rt, rt.alloc())?;
+    packets_with_a_message_are_encoded(&rt, rt.alloc())?;
+    other_packets_are_encoded(&rt, rt.alloc())?;
     codes_and_bounds_are_as_they_are_to_be(&rt, rt.alloc())
 }

@@ -30,7 +30,7 @@ pub(crate) fn expect_view_fault(rt: &impl Abort, limits: Limits, bytes: &[u8], f
 }
 
 // Whether the packet of its own that a view gives is spelled as the bytes.
-fn is_spelled_again(alloc: Global, limits: Limits, bytes: &[u8]) -> Result<bool, Fail> {
+fn is_encoded_again(alloc: Global, limits: Limits, bytes: &[u8]) -> Result<bool, Fail> {
     let mut out = Vec::new(alloc);
     let View::Whole(lent, _) = view(bytes, limits) else {
         return Err("no packet".into());
@@ -59,7 +59,7 @@ pub(crate) fn expect_view(
         assert!(rt; size_in(limits, front) == Err(None), "{bytes:?} {cut}");
     }
     assert!(rt; size_in(limits, bytes) == Ok(bytes.len()), "{bytes:?}");
-    assert!(rt; is_spelled_again(alloc, limits, bytes)?, "{bytes:?}");
+    assert!(rt; is_encoded_again(alloc, limits, bytes)?, "{bytes:?}");
     let size = size_before_others(alloc, limits, bytes)?;
     assert!(rt; size == Some(bytes.len()), "{bytes:?}");
     Ok(())

@@ -19,7 +19,7 @@ use Rattle.mq_packet.specs.declared.publish.Delivery.{Delivery}
 use Rattle.mq_packet.specs.Codes.{refusal_number, refusal_from}
 use Rattle.mq_packet.specs.Identifier.{IsIdentifier}
 use Rattle.mq_packet.specs.Publication.{Publication, fits_delivery}
-use Rattle.mq_packet.specs.Spelling.{bit, connack_fields, delivery_fields, publish_fields, request_fields, code_fields, fields}
+use Rattle.mq_packet.specs.Encoding.{bit, connack_fields, delivery_fields, publish_fields, request_fields, code_fields, fields}
 use Rattle.mq_packet.specs.Values.{IsPublication, IsRequest, Always, IsPacket}
 use Rattle.mq_decode.specs.declared.fault.FaultKind.TheVariants.{ForbiddenCode, ForbiddenFlags}
 use Rattle.mq_decode.specs.declared.kind.Kind.{Kind}

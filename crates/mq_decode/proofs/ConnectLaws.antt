@@ -14,7 +14,7 @@ use Rattle.mq_topic.specs.Qos.{qos_number, qos_from}
 use Rattle.mq_packet.specs.declared.connect.Connect.{Connect}
 use Rattle.mq_packet.specs.declared.connect.Will.{Will}
 use Rattle.mq_packet.specs.declared.connect.Login.{Login}
-use Rattle.mq_packet.specs.Spelling.{bit, will_flags, login_flags, password_flag, connect_flags, connect_fields, will_fields, login_fields, password_fields}
+use Rattle.mq_packet.specs.Encoding.{bit, will_flags, login_flags, password_flag, connect_flags, connect_fields, will_fields, login_fields, password_fields}
 use Rattle.mq_packet.specs.Values.{IsBinary, IsWill, IsLogin, IsConnect}
 use Rattle.mq_decode.specs.declared.fault.FaultKind.TheVariants.{ProtocolName, ProtocolLevel}
 use Rattle.mq_decode.specs.declared.flags.ConnectFlags.{ConnectFlags}
@@ -315,8 +315,8 @@ flags_byte-view : (c : Connect) → flags_byte (flags_view c) ≡ connect_flags 
 flags_byte-view c = rw (will_bits-view c.will, login_bits-view c.login) refl
 
 -- the fields, one after another
-spelled : (c : Connect) → connect_fields c ≡ counted mqtt ++ (4 ∷ (flags_byte (flags_view c) ∷ (number c.keep_alive ++ (counted c.client_id ++ (will_fields c.will ++ login_fields c.login)))))
-spelled c = rw flags_byte-view refl
+encoded : (c : Connect) → connect_fields c ≡ counted mqtt ++ (4 ∷ (flags_byte (flags_view c) ∷ (number c.keep_alive ++ (counted c.client_id ++ (will_fields c.will ++ login_fields c.login)))))
+encoded c = rw flags_byte-view refl
 
 same_flags : (c : Connect) (flags : ConnectFlags) → c.clean_session ≡ flags.clean_session → will_view c.will ≡ flags.will → login_view c.login ≡ flags.password → flags ≡ flags_view c
 same_flags c flags clean will login = rw (clean, will, login) refl
@@ -326,7 +326,7 @@ joined : (c : Connect) (flags : ConnectFlags) (bytes a b f k t m l : List ℕ) �
     → k ≡ counted c.client_id ++ t → t ≡ will_fields c.will ++ m → m ≡ login_fields c.login ++ l → l ≡ [] → flags ≡ flags_view c → bytes ≡ connect_fields c
 joined c flags bytes a b f k t m l ea eb ef ek et em el ez flags_is =
     let tail : m ≡ login_fields c.login = el ∙ (ap (λ (r : List ℕ). login_fields c.login ++ r) ez ∙ append-nil (login_fields c.login)) in
-    ea ∙ (rw (eb, ef, ek, et, em, tail, flags_is) refl ∙ sym (spelled c))
+    ea ∙ (rw (eb, ef, ek, et, em, tail, flags_is) refl ∙ sym (encoded c))
 
 abbrev ConnectFound : List ℕ → Connect → Type 0
 ConnectFound bytes c = (bytes ≡ connect_fields c) × IsConnect c
@@ -373,7 +373,7 @@ pub connect_again : (w : Wire) (c : Connect) → IsConnect c → connect_at (con
 unfolding connect_at
 connect_again w c is =
     let tail : login_at (login_view c.login) (login_fields c.login) ≡ Ok (c.login, []) = ap (λ (b : List ℕ). login_at (login_view c.login) b) (sym (append-nil (login_fields c.login))) ∙ login_again w c.login [] is.login in
-    ap connect_at (spelled c) ∙ rw (
+    ap connect_at (encoded c) ∙ rw (
       protocol_again w (4 ∷ (flags_byte (flags_view c) ∷ (number c.keep_alive ++ (counted c.client_id ++ (will_fields c.will ++ login_fields c.login))))),
       flags_again_at (flags_view c) (number c.keep_alive ++ (counted c.client_id ++ (will_fields c.will ++ login_fields c.login))),
       number_again w c.keep_alive (counted c.client_id ++ (will_fields c.will ++ login_fields c.login)),

@@ -3,13 +3,13 @@ use Rattle.std.proofs.Common.{◌≡◌, ℕ, zero, suc, ◌+◌, ◌-◌, ◌^�
 use Rattle.std.proofs.lemmas.Bool.{ltb-false}
 use Rattle.std.proofs.lemmas.List.{take_at, length-append, length-take, take-append-drop}
 use Rattle.std.specs.Prelude.{IfSome}
-use Rattle.mq_wire.specs.declared.reading.LengthReading.{LengthReading}
-use Rattle.mq_wire.specs.declared.reading.LengthReading.TheVariants.{Whole, Unfinished, TooLong, Overlong}
+use Rattle.mq_wire.specs.declared.length_reading.LengthReading.{LengthReading}
+use Rattle.mq_wire.specs.declared.length_reading.LengthReading.TheVariants.{Whole, Unfinished, TooLong, Overlong}
 use Rattle.mq_wire.specs.Bytes.{AreBytes}
 use Rattle.mq_wire.specs.Length.{LengthUnder}
 use Rattle.mq_wire.specs.Reading.{read_length}
 use Rattle.mq_packet.specs.declared.packet.Packet.{Packet}
-use Rattle.mq_packet.specs.Spelling.{fields, first_byte}
+use Rattle.mq_packet.specs.Encoding.{fields, first_byte}
 use Rattle.mq_decode.specs.declared.fault.FaultKind.{FaultKind}
 use Rattle.mq_decode.specs.declared.fault.FaultKind.TheVariants.{LengthTooLong, LengthOverlong, OverLimit}
 use Rattle.mq_decode.specs.declared.fault.BadField.{BadField}
@@ -73,10 +73,10 @@ fields_found w limit first kind len body rest right formed size bytes = go (body
         let f = body_found w kind body p k.1 small bytes e in
         let first_is : first ≡ first_byte p = k.0 ∙ (ap kind_byte (sym f.kind_is) ∙ byte_again p f.packet) in
         let s : List ℕ = first ∷ (len ++ body) in
-        let spelled : s ≡ first_byte p ∷ (len ++ fields p) = rw (first_is, f.parts) refl in
+        let encoded : s ≡ first_byte p ∷ (len ++ fields p) = rw (first_is, f.parts) refl in
         let count : length body ≡ length (fields p) = ap length f.parts in
         let whole : ReadsWithin limit p s = (
-          reads_from limit.lenient p s (record { packet = f.packet; len = len; formed = subst (λ (n : ℕ). LengthUnder limit.lenient n len) count formed; bytes = spelled }),
+          reads_from limit.lenient p s (record { packet = f.packet; len = len; formed = subst (λ (n : ℕ). LengthUnder limit.lenient n len) count formed; bytes = encoded }),
           subst (λ (n : ℕ). n ≤ limit.most) count (within limit.most kind (length body) size),
         ) in
         let regrouped : s ++ rest ≡ first ∷ (len ++ (body ++ rest)) = ap (λ (t : List ℕ). first ∷ t) (append_assoc len body rest) in

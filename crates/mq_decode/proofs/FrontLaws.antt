@@ -5,7 +5,7 @@ use Rattle.std.proofs.lemmas.List.{take_at, drop_at, length-append}
 use Rattle.mq_wire.specs.Length.{LengthUnder}
 use Rattle.mq_packet.specs.declared.packet.Packet.{Packet}
 use Rattle.mq_packet.specs.Values.{IsPacket}
-use Rattle.mq_packet.specs.Spelling.{Spells, fields, first_byte}
+use Rattle.mq_packet.specs.Encoding.{Encodes, fields, first_byte}
 use Rattle.mq_decode.specs.declared.fault.FaultKind.{FaultKind}
 use Rattle.mq_decode.specs.declared.fault.FaultKind.TheVariants.{LengthTooLong, LengthOverlong}
 use Rattle.mq_decode.specs.declared.fault.DecodeFault.{DecodeFault}
@@ -40,8 +40,8 @@ reads_from false p b h = record { packet = h.packet; len = h.len; formed = h.for
 reads_from true p b h = record { packet = h.packet; len = h.len; formed = h.formed; bytes = h.bytes }
 
 -- what is spelled is read under all limits
-pub spelled_reads : (w : Wire) (lenient : Bool) (p : Packet) (b : List ℕ) → Spells p b → Reads lenient p b
-spelled_reads w lenient p b h = reads_from lenient p b (record { packet = h.packet; len = h.len; formed = w.lengths.reads lenient (length (fields p)) h.len h.formed; bytes = h.bytes })
+pub encoded_reads : (w : Wire) (lenient : Bool) (p : Packet) (b : List ℕ) → Encodes p b → Reads lenient p b
+encoded_reads w lenient p b h = reads_from lenient p b (record { packet = h.packet; len = h.len; formed = w.lengths.reads lenient (length (fields p)) h.len h.formed; bytes = h.bytes })
 
 -- ---- a header that is right
 

@@ -15,31 +15,31 @@ bind_same (Ok x) f g same = same x refl
 bind_same (Err bad) f g same = refl
 
 -- an item takes a byte or more
-shorter : {A : Type 0} (item : List ℕ → Result (A × List ℕ) BadField) (spelling : A → List ℕ) (IsItem : A → Type 0) → ItemLaws item spelling IsItem
+shorter : {A : Type 0} (item : List ℕ → Result (A × List ℕ) BadField) (encoding : A → List ℕ) (IsItem : A → Type 0) → ItemLaws item encoding IsItem
     → (bytes : List ℕ) (x : A) (after : List ℕ) → AreBytes bytes → item bytes ≡ Ok (x, after) → (length after < length bytes) × AreBytes after
-shorter item spelling IsItem laws bytes x after h e =
+shorter item encoding IsItem laws bytes x after h e =
     let l = laws.found bytes x after h e in
-    (omega (arith, ap length l.0.parts, length-append (spelling x) after, laws.more x l.1), l.0.rest_bytes)
+    (omega (arith, ap length l.0.parts, length-append (encoding x) after, laws.more x l.1), l.0.rest_bytes)
 
 -- so no more than so many are read, whatever the bound over that
-items_enough : {A : Type 0} (item : List ℕ → Result (A × List ℕ) BadField) (spelling : A → List ℕ) (IsItem : A → Type 0) → ItemLaws item spelling IsItem
+items_enough : {A : Type 0} (item : List ℕ → Result (A × List ℕ) BadField) (encoding : A → List ℕ) (IsItem : A → Type 0) → ItemLaws item encoding IsItem
     → (n m : ℕ) (bytes : List ℕ) → AreBytes bytes → length bytes ≤ n → length bytes ≤ m → items_at item n bytes ≡ items_at item m bytes
-items_enough item spelling IsItem laws n m [] h le few = refl
-items_enough item spelling IsItem laws zero m (b ∷ bytes) h le few = absurd (omega arith)
-items_enough item spelling IsItem laws (suc n) zero (b ∷ bytes) h le few = absurd (omega arith)
-items_enough {A} item spelling IsItem laws (suc n) (suc m) (b ∷ bytes) h le few =
+items_enough item encoding IsItem laws n m [] h le few = refl
+items_enough item encoding IsItem laws zero m (b ∷ bytes) h le few = absurd (omega arith)
+items_enough item encoding IsItem laws (suc n) zero (b ∷ bytes) h le few = absurd (omega arith)
+items_enough {A} item encoding IsItem laws (suc n) (suc m) (b ∷ bytes) h le few =
     bind_same (item (b ∷ bytes)) (λ x. items_at item n x.1 >>= λ xs. Ok (x.0 ∷ xs)) (λ x. items_at item m x.1 >>= λ xs. Ok (x.0 ∷ xs))
     (λ x e.
-    let s = shorter item spelling IsItem laws (b ∷ bytes) x.0 x.1 h e in
-    ap (λ (r : Result (List A) BadField). r >>= λ xs. Ok (x.0 ∷ xs)) (items_enough item spelling IsItem laws n m x.1 s.1 (omega (arith, s.0)) (omega (arith, s.0))))
+    let s = shorter item encoding IsItem laws (b ∷ bytes) x.0 x.1 h e in
+    ap (λ (r : Result (List A) BadField). r >>= λ xs. Ok (x.0 ∷ xs)) (items_enough item encoding IsItem laws n m x.1 s.1 (omega (arith, s.0)) (omega (arith, s.0))))
 
-left_after : {A : Type 0} (item : List ℕ → Result (A × List ℕ) BadField) (spelling : A → List ℕ) (IsItem : A → Type 0) → ItemLaws item spelling IsItem
+left_after : {A : Type 0} (item : List ℕ → Result (A × List ℕ) BadField) (encoding : A → List ℕ) (IsItem : A → Type 0) → ItemLaws item encoding IsItem
     → (rest : List ℕ) (x : A) (after : List ℕ) → AreBytes rest → 0 < length rest → item rest ≡ Ok (x, after)
     → items_at item (length rest) rest ≡ (items_at item (length after) after >>= λ xs. Ok (x ∷ xs))
-left_after item spelling IsItem laws [] x after h left e = absurd (omega arith)
-left_after {A} item spelling IsItem laws (b ∷ rest) x after h left e =
-    let s = shorter item spelling IsItem laws (b ∷ rest) x after h e in
-    rw e (ap (λ (r : Result (List A) BadField). r >>= λ xs. Ok (x ∷ xs)) (items_enough item spelling IsItem laws (length rest) (length after) after s.1 (omega (arith, s.0)) (omega arith)))
+left_after item encoding IsItem laws [] x after h left e = absurd (omega arith)
+left_after {A} item encoding IsItem laws (b ∷ rest) x after h left e =
+    let s = shorter item encoding IsItem laws (b ∷ rest) x after h e in
+    rw e (ap (λ (r : Result (List A) BadField). r >>= λ xs. Ok (x ∷ xs)) (items_enough item encoding IsItem laws (length rest) (length after) after s.1 (omega (arith, s.0)) (omega arith)))
 
 first_of : {A : Type 0} (x : A) (read : Result (List A) BadField) → IsOk (read >>= λ xs. Ok (x ∷ xs)) → (items_of (read >>= λ xs. Ok (x ∷ xs)) ≡ x ∷ items_of read) × IsOk read
 first_of x (Ok xs) h = (refl, refl)
@@ -50,9 +50,9 @@ pub record Next {A : Type 0} (item : List ℕ → Result (A × List ℕ) BadFiel
   pub items : items_of (items_at item (length rest) rest) ≡ x ∷ items_of (items_at item (length after) after)
   pub tested : IsOk (items_at item (length after) after)
 
-pub next_item : {A : Type 0} (item : List ℕ → Result (A × List ℕ) BadField) (spelling : A → List ℕ) (IsItem : A → Type 0) → ItemLaws item spelling IsItem
+pub next_item : {A : Type 0} (item : List ℕ → Result (A × List ℕ) BadField) (encoding : A → List ℕ) (IsItem : A → Type 0) → ItemLaws item encoding IsItem
     → (rest : List ℕ) (x : A) (after : List ℕ) → AreBytes rest → 0 < length rest → item rest ≡ Ok (x, after) → IsOk (items_at item (length rest) rest) → Next item rest x after
-next_item {A} item spelling IsItem laws rest x after h left e tested =
-    let all = left_after item spelling IsItem laws rest x after h left e in
+next_item {A} item encoding IsItem laws rest x after h left e tested =
+    let all = left_after item encoding IsItem laws rest x after h left e in
     let f = first_of x (items_at item (length after) after) (subst (λ (r : Result (List A) BadField). IsOk r) all tested) in
     record { items = rw all f.0; tested = f.1 }

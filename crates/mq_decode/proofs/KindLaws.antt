@@ -9,7 +9,7 @@ use Rattle.mq_packet.specs.declared.packet.Packet.TheVariants as packets
 use Rattle.mq_packet.specs.declared.connack.ConnAck.TheVariants.{Accepted, Refused}
 use Rattle.mq_packet.specs.declared.publish.Delivery.{Delivery}
 use Rattle.mq_packet.specs.Publication.{fits_delivery}
-use Rattle.mq_packet.specs.Spelling.{bit, dup_bit, first_byte, fields}
+use Rattle.mq_packet.specs.Encoding.{bit, dup_bit, first_byte, fields}
 use Rattle.mq_packet.specs.Values.{IsPacket}
 use Rattle.mq_decode.specs.declared.fault.FaultKind.{FaultKind}
 use Rattle.mq_decode.specs.declared.fault.FaultKind.TheVariants.{ForbiddenType, WrongFlags, DupWithoutDelivery}

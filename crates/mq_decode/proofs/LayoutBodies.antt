@@ -16,7 +16,7 @@ use Rattle.mq_packet.specs.declared.connect.Will.{Will}
 use Rattle.mq_packet.specs.declared.packet.Packet.TheVariants as packets
 use Rattle.mq_packet.specs.declared.packet.Request.{Request}
 use Rattle.mq_packet.specs.Codes.{code_from, refusal_from, refusal_number}
-use Rattle.mq_packet.specs.Spelling.{bit}
+use Rattle.mq_packet.specs.Encoding.{bit}
 use Rattle.mq_decode.specs.declared.fault.FaultKind.TheVariants.{ForbiddenFlags, ForbiddenCode}
 use Rattle.mq_decode.specs.declared.fault.BadField.{BadField}
 use Rattle.mq_decode.specs.declared.flags.ConnectFlags.{ConnectFlags}

@@ -14,7 +14,7 @@ use Rattle.mq_packet.specs.declared.packet.Request.{Request}
 use Rattle.mq_packet.specs.declared.packet.SubAckCode.{SubAckCode}
 use Rattle.mq_packet.specs.declared.packet.SubAckCode.TheVariants.{Granted, Failure}
 use Rattle.mq_packet.specs.Codes.{code_number, code_from}
-use Rattle.mq_packet.specs.Spelling.{request_fields, code_fields}
+use Rattle.mq_packet.specs.Encoding.{request_fields, code_fields}
 use Rattle.mq_packet.specs.Values.{IsRequest, Always, IsList}
 use Rattle.mq_decode.specs.declared.fault.BadField.{BadField}
 use Rattle.mq_decode.specs.Gives.{◌>>=◌}
@@ -23,30 +23,30 @@ use Rattle.mq_decode.specs.Lists.{items_at, list_at, request_at, suback_code_at,
 use Rattle.mq_decode.proofs.FieldLaws.{Wire, bind_ok, ok_is, done, Takes, takes, Takes-then, identifier_found, identifier_again, filter_found, filter_again}
 
 -- the laws of one item
-pub record ItemLaws {A : Type 0} (item : List ℕ → Result (A × List ℕ) BadField) (spelling : A → List ℕ) (IsItem : A → Type 0) : Type 0 where
-  pub found : (bytes : List ℕ) (a : A) (rest : List ℕ) → AreBytes bytes → item bytes ≡ Ok (a, rest) → Takes bytes (spelling a) rest × IsItem a
-  pub again : (a : A) (rest : List ℕ) → IsItem a → item (spelling a ++ rest) ≡ Ok (a, rest)
-  pub more : (a : A) → IsItem a → 0 < length (spelling a)
+pub record ItemLaws {A : Type 0} (item : List ℕ → Result (A × List ℕ) BadField) (encoding : A → List ℕ) (IsItem : A → Type 0) : Type 0 where
+  pub found : (bytes : List ℕ) (a : A) (rest : List ℕ) → AreBytes bytes → item bytes ≡ Ok (a, rest) → Takes bytes (encoding a) rest × IsItem a
+  pub again : (a : A) (rest : List ℕ) → IsItem a → item (encoding a ++ rest) ≡ Ok (a, rest)
+  pub more : (a : A) → IsItem a → 0 < length (encoding a)
 
 -- ---- lists
 
 abbrev Found : {A : Type 0} → (A → List ℕ) → (A → Type 0) → List ℕ → List A → Type 0
-Found spelling IsItem bytes xs = (bytes ≡ flat_map spelling xs) × AllByRecursion IsItem xs
+Found encoding IsItem bytes xs = (bytes ≡ flat_map encoding xs) × AllByRecursion IsItem xs
 
-items_found : {A : Type 0} (item : List ℕ → Result (A × List ℕ) BadField) (spelling : A → List ℕ) (IsItem : A → Type 0) → ItemLaws item spelling IsItem
-    → (fuel : ℕ) (bytes : List ℕ) (xs : List A) → length bytes ≤ fuel → AreBytes bytes → items_at item fuel bytes ≡ Ok xs → Found spelling IsItem bytes xs
-items_found item spelling IsItem laws fuel [] xs room h e = subst (Found spelling IsItem []) (ok_is [] xs e) (refl, tt)
-items_found item spelling IsItem laws zero (b ∷ bytes) xs room h e = absurd (omega arith)
-items_found {A} item spelling IsItem laws (suc fuel) (b ∷ bytes) xs room h e =
+items_found : {A : Type 0} (item : List ℕ → Result (A × List ℕ) BadField) (encoding : A → List ℕ) (IsItem : A → Type 0) → ItemLaws item encoding IsItem
+    → (fuel : ℕ) (bytes : List ℕ) (xs : List A) → length bytes ≤ fuel → AreBytes bytes → items_at item fuel bytes ≡ Ok xs → Found encoding IsItem bytes xs
+items_found item encoding IsItem laws fuel [] xs room h e = subst (Found encoding IsItem []) (ok_is [] xs e) (refl, tt)
+items_found item encoding IsItem laws zero (b ∷ bytes) xs room h e = absurd (omega arith)
+items_found {A} item encoding IsItem laws (suc fuel) (b ∷ bytes) xs room h e =
     let first = bind_ok (item (b ∷ bytes)) (λ x. items_at item fuel x.1 >>= λ ys. Ok (x.0 ∷ ys)) xs e in
     let x = first.0.0 in
     let rest = first.0.1 in
     let second = bind_ok (items_at item fuel rest) (λ ys. Ok (x ∷ ys)) xs first.2 in
     let l = laws.found (b ∷ bytes) x rest h first.1 in
-    let shorter : length rest < length (b ∷ bytes) = omega (arith, ap length l.0.parts, length-append (spelling x) rest, laws.more x l.1) in
-    let others = items_found item spelling IsItem laws fuel rest second.0 (omega arith) l.0.rest_bytes second.1 in
-    let whole : b ∷ bytes ≡ flat_map spelling (x ∷ second.0) = l.0.parts ∙ ap (λ (t : List ℕ). spelling x ++ t) others.0 in
-    subst (Found spelling IsItem (b ∷ bytes)) (ok_is (x ∷ second.0) xs second.2) (whole, (l.1, others.1))
+    let shorter : length rest < length (b ∷ bytes) = omega (arith, ap length l.0.parts, length-append (encoding x) rest, laws.more x l.1) in
+    let others = items_found item encoding IsItem laws fuel rest second.0 (omega arith) l.0.rest_bytes second.1 in
+    let whole : b ∷ bytes ≡ flat_map encoding (x ∷ second.0) = l.0.parts ∙ ap (λ (t : List ℕ). encoding x ++ t) others.0 in
+    subst (Found encoding IsItem (b ∷ bytes)) (ok_is (x ∷ second.0) xs second.2) (whole, (l.1, others.1))
 
 -- one item, and the others after it
 one_more : {A : Type 0} (item : List ℕ → Result (A × List ℕ) BadField) (fuel : ℕ) (text rest : List ℕ) (x : A) (xs : List A)
@@ -57,54 +57,54 @@ one_more item zero (b ∷ text) rest x xs left room first others = absurd (omega
 one_more item (suc fuel) (b ∷ text) rest x xs left room first others =
     rw (first, others fuel (omega (arith, length-append text rest))) refl
 
-items_again : {A : Type 0} (item : List ℕ → Result (A × List ℕ) BadField) (spelling : A → List ℕ) (IsItem : A → Type 0) → ItemLaws item spelling IsItem
-    → (xs : List A) (fuel : ℕ) → length (flat_map spelling xs) ≤ fuel → AllByRecursion IsItem xs → items_at item fuel (flat_map spelling xs) ≡ Ok xs
-items_again item spelling IsItem laws [] fuel room each = refl
-items_again item spelling IsItem laws (x ∷ xs) fuel room each =
-    one_more item fuel (spelling x) (flat_map spelling xs) x xs (laws.more x each.0) room (laws.again x (flat_map spelling xs) each.0)
-    (λ less fits. items_again item spelling IsItem laws xs less fits each.1)
+items_again : {A : Type 0} (item : List ℕ → Result (A × List ℕ) BadField) (encoding : A → List ℕ) (IsItem : A → Type 0) → ItemLaws item encoding IsItem
+    → (xs : List A) (fuel : ℕ) → length (flat_map encoding xs) ≤ fuel → AllByRecursion IsItem xs → items_at item fuel (flat_map encoding xs) ≡ Ok xs
+items_again item encoding IsItem laws [] fuel room each = refl
+items_again item encoding IsItem laws (x ∷ xs) fuel room each =
+    one_more item fuel (encoding x) (flat_map encoding xs) x xs (laws.more x each.0) room (laws.again x (flat_map encoding xs) each.0)
+    (λ less fits. items_again item encoding IsItem laws xs less fits each.1)
 
 -- ---- an identifier and a list of at least one item
 
-list_found : {A : Type 0} (item : List ℕ → Result (A × List ℕ) BadField) (spelling : A → List ℕ) (IsItem : A → Type 0) → ItemLaws item spelling IsItem
-    → (bytes : List ℕ) (xs : List A) → AreBytes bytes → list_at item bytes ≡ Ok xs → Found spelling IsItem bytes xs × (0 < length xs)
-list_found item spelling IsItem laws [] xs h e = absurd cc
-list_found {A} item spelling IsItem laws (b ∷ bytes) xs h e = with_item xs (items_found item spelling IsItem laws (length (b ∷ bytes)) (b ∷ bytes) xs (omega arith) h e)
+list_found : {A : Type 0} (item : List ℕ → Result (A × List ℕ) BadField) (encoding : A → List ℕ) (IsItem : A → Type 0) → ItemLaws item encoding IsItem
+    → (bytes : List ℕ) (xs : List A) → AreBytes bytes → list_at item bytes ≡ Ok xs → Found encoding IsItem bytes xs × (0 < length xs)
+list_found item encoding IsItem laws [] xs h e = absurd cc
+list_found {A} item encoding IsItem laws (b ∷ bytes) xs h e = with_item xs (items_found item encoding IsItem laws (length (b ∷ bytes)) (b ∷ bytes) xs (omega arith) h e)
   where
-    with_item : (xs : List A) → Found spelling IsItem (b ∷ bytes) xs → Found spelling IsItem (b ∷ bytes) xs × (0 < length xs)
+    with_item : (xs : List A) → Found encoding IsItem (b ∷ bytes) xs → Found encoding IsItem (b ∷ bytes) xs × (0 < length xs)
     with_item [] f = absurd cc
     with_item (x ∷ xs) f = (f, omega arith)
 
-list_again : {A : Type 0} (item : List ℕ → Result (A × List ℕ) BadField) (spelling : A → List ℕ) (IsItem : A → Type 0) → ItemLaws item spelling IsItem
-    → (xs : List A) → 0 < length xs → AllByRecursion IsItem xs → list_at item (flat_map spelling xs) ≡ Ok xs
-list_again item spelling IsItem laws [] some each = absurd (omega arith)
-list_again {A} item spelling IsItem laws (x ∷ xs) some each =
-    not_empty (flat_map spelling (x ∷ xs)) (omega (arith, length-append (spelling x) (flat_map spelling xs), laws.more x each.0)) (items_again item spelling IsItem laws (x ∷ xs) (length (flat_map spelling (x ∷ xs))) (omega arith) each)
+list_again : {A : Type 0} (item : List ℕ → Result (A × List ℕ) BadField) (encoding : A → List ℕ) (IsItem : A → Type 0) → ItemLaws item encoding IsItem
+    → (xs : List A) → 0 < length xs → AllByRecursion IsItem xs → list_at item (flat_map encoding xs) ≡ Ok xs
+list_again item encoding IsItem laws [] some each = absurd (omega arith)
+list_again {A} item encoding IsItem laws (x ∷ xs) some each =
+    not_empty (flat_map encoding (x ∷ xs)) (omega (arith, length-append (encoding x) (flat_map encoding xs), laws.more x each.0)) (items_again item encoding IsItem laws (x ∷ xs) (length (flat_map encoding (x ∷ xs))) (omega arith) each)
   where
     not_empty : (bytes : List ℕ) → 0 < length bytes → items_at item (length bytes) bytes ≡ Ok (x ∷ xs) → list_at item bytes ≡ Ok (x ∷ xs)
     not_empty [] left e = absurd (omega arith)
     not_empty (b ∷ bytes) left e = e
 
 abbrev FoundList : {A : Type 0} → (A → List ℕ) → (A → Type 0) → List ℕ → ℕ × List A → Type 0
-FoundList spelling IsItem bytes x = (bytes ≡ number x.0 ++ flat_map spelling x.1) × IsList IsItem x.0 x.1
+FoundList encoding IsItem bytes x = (bytes ≡ number x.0 ++ flat_map encoding x.1) × IsList IsItem x.0 x.1
 
-pub list_with_found : (w : Wire) {A : Type 0} (item : List ℕ → Result (A × List ℕ) BadField) (spelling : A → List ℕ) (IsItem : A → Type 0) → ItemLaws item spelling IsItem
-    → (bytes : List ℕ) (id : ℕ) (xs : List A) → AreBytes bytes → list_with item bytes ≡ Ok (id, xs) → (bytes ≡ number id ++ flat_map spelling xs) × IsList IsItem id xs
+pub list_with_found : (w : Wire) {A : Type 0} (item : List ℕ → Result (A × List ℕ) BadField) (encoding : A → List ℕ) (IsItem : A → Type 0) → ItemLaws item encoding IsItem
+    → (bytes : List ℕ) (id : ℕ) (xs : List A) → AreBytes bytes → list_with item bytes ≡ Ok (id, xs) → (bytes ≡ number id ++ flat_map encoding xs) × IsList IsItem id xs
 unfolding list_with
-list_with_found w {A} item spelling IsItem laws bytes id xs h e =
+list_with_found w {A} item encoding IsItem laws bytes id xs h e =
     let a = bind_ok (identifier_at bytes) (λ i. list_at item i.1 >>= λ items. Ok (i.0, items)) (id, xs) e in
     let b = bind_ok (list_at item a.0.1) (λ items. Ok (a.0.0, items)) (id, xs) a.2 in
     let l = identifier_found w bytes a.0.0 a.0.1 h a.1 in
-    let m = list_found item spelling IsItem laws a.0.1 b.0 l.0.rest_bytes b.1 in
+    let m = list_found item encoding IsItem laws a.0.1 b.0 l.0.rest_bytes b.1 in
     let made : ℕ × List A = (a.0.0, b.0) in
-    let whole : bytes ≡ number a.0.0 ++ flat_map spelling b.0 = l.0.parts ∙ ap (λ (t : List ℕ). number a.0.0 ++ t) m.0.0 in
-    subst (FoundList spelling IsItem bytes) (ok_is made (id, xs) b.2) (whole, record { identifier = l.1; item = m.1; each = m.0.1 })
+    let whole : bytes ≡ number a.0.0 ++ flat_map encoding b.0 = l.0.parts ∙ ap (λ (t : List ℕ). number a.0.0 ++ t) m.0.0 in
+    subst (FoundList encoding IsItem bytes) (ok_is made (id, xs) b.2) (whole, record { identifier = l.1; item = m.1; each = m.0.1 })
 
-pub list_with_again : (w : Wire) {A : Type 0} (item : List ℕ → Result (A × List ℕ) BadField) (spelling : A → List ℕ) (IsItem : A → Type 0) → ItemLaws item spelling IsItem
-    → (id : ℕ) (xs : List A) → IsList IsItem id xs → list_with item (number id ++ flat_map spelling xs) ≡ Ok (id, xs)
+pub list_with_again : (w : Wire) {A : Type 0} (item : List ℕ → Result (A × List ℕ) BadField) (encoding : A → List ℕ) (IsItem : A → Type 0) → ItemLaws item encoding IsItem
+    → (id : ℕ) (xs : List A) → IsList IsItem id xs → list_with item (number id ++ flat_map encoding xs) ≡ Ok (id, xs)
 unfolding list_with
-list_with_again w item spelling IsItem laws id xs is =
-    rw (identifier_again w id (flat_map spelling xs) is.identifier, list_again item spelling IsItem laws xs is.item is.each) refl
+list_with_again w item encoding IsItem laws id xs is =
+    rw (identifier_again w id (flat_map encoding xs) is.identifier, list_again item encoding IsItem laws xs is.item is.each) refl
 
 -- ---- the three kinds of items
 

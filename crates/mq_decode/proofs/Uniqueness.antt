@@ -2,8 +2,8 @@
 use Rattle.std.proofs.Common.{◌≡◌, ℕ, zero, suc, ◌+◌, ◌<◌, ◌≤◌, Bool, true, false, cond, ltb, List, [], ◌∷◌, ◌++◌, length, take, drop, Option, Some, None, Result, Ok, Err, refl, sym, ap, subst, ◌∙◌, append_assoc, arith, ◌⊎◌, inl, inr}
 use Rattle.std.proofs.lemmas.Bool.{ltb-true, ltb-false}
 use Rattle.std.proofs.lemmas.List.{length-take, length-drop, take-append-drop, drop_at, take_at}
-use Rattle.mq_wire.specs.declared.reading.LengthReading.{LengthReading}
-use Rattle.mq_wire.specs.declared.reading.LengthReading.TheVariants.{Whole, Unfinished, TooLong, Overlong}
+use Rattle.mq_wire.specs.declared.length_reading.LengthReading.{LengthReading}
+use Rattle.mq_wire.specs.declared.length_reading.LengthReading.TheVariants.{Whole, Unfinished, TooLong, Overlong}
 use Rattle.mq_wire.specs.Bytes.{AreBytes}
 use Rattle.mq_wire.specs.Length.{LengthUnder}
 use Rattle.mq_wire.specs.Reading.{read_length}
@@ -22,7 +22,7 @@ use Rattle.mq_decode.specs.Grammar.{ReadsWithin, Stream, Faulty, Ends, Reading}
 use Rattle.mq_decode.specs.Laws.{EachReads, OneReading, PendingIsShort, ReadsAgain}
 use Rattle.mq_decode.proofs.FieldLaws.{Wire, AreBytes-drop}
 use Rattle.mq_decode.proofs.ListLaws.{chosen}
-use Rattle.mq_decode.proofs.FrontLaws.{Read, parts_of, spelled_reads, whole_again, faulty_again}
+use Rattle.mq_decode.proofs.FrontLaws.{Read, parts_of, encoded_reads, whole_again, faulty_again}
 use Rattle.mq_decode.proofs.FrontFound.{FrontFound, front_found}
 
 -- ---- what is pending is short
@@ -193,7 +193,7 @@ not_faulty_front : (w : Wire) (limit : Bounds) (p : Packet) (s rest : List ℕ) 
 not_faulty_front w limit p s rest k place h bad = not_ended w limit p s rest (s ++ rest) (Some (fault_at k place)) h refl bad
 
 pub again_laws : (w : Wire) → ReadsAgain
-again_laws w = record { one = one_front w; some = some_bytes; right = not_faulty_front w; spelled = λ limits p s h le. (spelled_reads w limits.lenient p s h, le) }
+again_laws w = record { one = one_front w; some = some_bytes; right = not_faulty_front w; encoded = λ limits p s h le. (encoded_reads w limits.lenient p s h, le) }
 
 -- ---- each list of bytes has a reading
 

@@ -2,8 +2,8 @@
 use Rattle.std.proofs.Common.{◌≡◌, ℕ, suc, ◌+◌, ◌<◌, ◌≤◌, true, false, ltb, subst, List, [], ◌∷◌, ◌++◌, length, take, drop, Option, Some, None, Result, Ok, Err, refl, sym, ap, ◌∙◌, append_assoc, arith, inl, inr}
 use Rattle.std.proofs.lemmas.Bool.{cases_lt, le-ltb, lt-ltb}
 use Rattle.std.proofs.lemmas.List.{append-nil, nil_from_length, length-append, length-take, take-append-drop}
-use Rattle.mq_wire.specs.declared.reading.LengthReading.{LengthReading}
-use Rattle.mq_wire.specs.declared.reading.LengthReading.TheVariants.{Whole, Unfinished, TooLong, Overlong}
+use Rattle.mq_wire.specs.declared.length_reading.LengthReading.{LengthReading}
+use Rattle.mq_wire.specs.declared.length_reading.LengthReading.TheVariants.{Whole, Unfinished, TooLong, Overlong}
 use Rattle.mq_wire.specs.Bytes.{AreBytes}
 use Rattle.mq_wire.specs.Reading.{read_length}
 use Rattle.mq_packet.specs.declared.packet.Packet.{Packet}

@@ -4,7 +4,7 @@ use Rattle.mq_wire.specs.Length.{LooseLength, LengthUnder}
 use Rattle.mq_wire.specs.Reading.{IsTooLong, IsOverlong}
 use Rattle.mq_packet.specs.declared.packet.Packet.{Packet}
 use Rattle.mq_packet.specs.Values.{IsPacket}
-use Rattle.mq_packet.specs.Spelling.{Spells, first_byte, fields}
+use Rattle.mq_packet.specs.Encoding.{Encodes, first_byte, fields}
 use Rattle.mq_decode.specs.declared.fault.FaultKind.{FaultKind}
 use Rattle.mq_decode.specs.declared.fault.FaultKind.TheVariants.{LengthTooLong, LengthOverlong}
 use Rattle.mq_decode.specs.declared.fault.DecodeFault.{DecodeFault}
@@ -16,7 +16,7 @@ use Rattle.mq_decode.specs.Limits.{Bounds}
 use Rattle.mq_decode.specs.Bodies.{body_at}
 
 -- b spells p (chapter 3), but for a remaining length that may have more bytes than it needs
-pub record LooselySpells (p : Packet) (b : List ℕ) : Type 0 where
+pub record LooselyEncodes (p : Packet) (b : List ℕ) : Type 0 where
   pub packet : IsPacket p
   pub len : List ℕ
   pub formed : LooseLength (length (fields p)) len
@@ -24,8 +24,8 @@ pub record LooselySpells (p : Packet) (b : List ℕ) : Type 0 where
 
 -- b is read as p
 abbrev pub Reads : Bool → Packet → List ℕ → Type 0
-Reads false p b = Spells p b
-Reads true p b = LooselySpells p b
+Reads false p b = Encodes p b
+Reads true p b = LooselyEncodes p b
 
 -- b is read as p under these limits, within which its remaining length is
 abbrev pub ReadsWithin : Bounds → Packet → List ℕ → Type 0

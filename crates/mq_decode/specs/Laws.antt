@@ -2,7 +2,7 @@
 use Rattle.std.specs.Prelude.{◌≡◌, ℕ, ◌+◌, ◌<◌, ◌≤◌, List, ◌∷◌, ◌++◌, length, take, drop, Option}
 use Rattle.mq_wire.specs.Bytes.{AreBytes}
 use Rattle.mq_packet.specs.declared.packet.Packet.{Packet}
-use Rattle.mq_packet.specs.Spelling.{Spells, fields}
+use Rattle.mq_packet.specs.Encoding.{Encodes, fields}
 use Rattle.mq_decode.specs.declared.fault.FaultKind.{FaultKind}
 use Rattle.mq_decode.specs.declared.fault.DecodeFault.{DecodeFault}
 use Rattle.mq_decode.specs.Limits.{Bounds}
@@ -24,7 +24,7 @@ PendingIsShort = (limits : Bounds) (b : List ℕ) → AreBytes b → Pending lim
 -- a packet that is read at the front
 pub record ReadsAgain : Type 0 where
   -- each that is spelled is one, under all limits within which it is
-  pub spelled : (limits : Bounds) (p : Packet) (s : List ℕ) → Spells p s → length (fields p) ≤ limits.most → ReadsWithin limits p s
+  pub encoded : (limits : Bounds) (p : Packet) (s : List ℕ) → Encodes p s → length (fields p) ≤ limits.most → ReadsWithin limits p s
   -- is the only one
   pub one : (limits : Bounds) (p q : Packet) (s t rest more : List ℕ) → ReadsWithin limits p s → ReadsWithin limits q t → s ++ rest ≡ t ++ more → (p ≡ q) × (rest ≡ more)
   -- takes at least a byte

@@ -12,7 +12,7 @@ use Rattle.mq_packet.specs.declared.connack.RefusalCode.{RefusalCode}
 use Rattle.mq_packet.specs.declared.packet.SubAckCode.{SubAckCode}
 use Rattle.mq_packet.specs.Codes.{refusal_number, code_number}
 use Rattle.mq_packet.specs.Identifier.{IsIdentifier}
-use Rattle.mq_packet.specs.Spelling.{bit}
+use Rattle.mq_packet.specs.Encoding.{bit}
 use Rattle.mq_packet.specs.Values.{IsBinary}
 use Rattle.mq_decode.specs.declared.fault.FaultKind.{FaultKind}
 use Rattle.mq_decode.specs.declared.flags.ConnectFlags.{ConnectFlags}

@@ -15,7 +15,7 @@ use Rattle.mq_flow.specs.Sender.{blank_book, no_claims, release, awaits_suback, 
 use Rattle.mq_flow.specs.Receiver.{none_received}
 use Rattle.mq_flow.specs.Window.{fits_window}
 use Rattle.mq_end.specs.declared.state.State.{State}
-use Rattle.mq_end.specs.declared.state.State.TheVariants.{Closed, Open, Up}
+use Rattle.mq_end.specs.declared.state.State.TheVariants.{Disconnected, Connecting, Connected}
 use Rattle.mq_end.specs.declared.happening.Happening.TheVariants as happens
 use Rattle.mq_end.specs.declared.reason.CloseReason.{CloseReason}
 use Rattle.mq_end.specs.declared.reason.CloseReason.TheVariants as reasons
@@ -69,9 +69,9 @@ client_up_over packets.PingResp e = λ r h. stays e _ r h
 client_up_over p e = flow_over p e
 
 client_over : (st : State) (p : Packet) (e : End) → EndsOver e (client_gets_in st p e)
-client_over Closed p e = λ r h. stays e _ r h
-client_over Open p e = client_open_over p e
-client_over Up p e = client_up_over p e
+client_over Disconnected p e = λ r h. stays e _ r h
+client_over Connecting p e = client_open_over p e
+client_over Connected p e = client_up_over p e
 
 connect_over : (c : Connect) (e : End) → EndsOver e (connect_gets c e)
 connect_over c e = cond_both (not c.clean_session && eqb (length c.client_id) 0) (refuses IdentifierRejected e) _ (EndsOver e) (λ t r h. refl) (λ f r h. stays e _ r h)
@@ -88,9 +88,9 @@ server_up_over packets.Disconnect e = λ r h. refl
 server_up_over p e = flow_over p e
 
 server_over : (st : State) (p : Packet) (e : End) → EndsOver e (server_gets_in st p e)
-server_over Closed p e = λ r h. stays e _ r h
-server_over Open p e = server_open_over p e
-server_over Up p e = server_up_over p e
+server_over Disconnected p e = λ r h. stays e _ r h
+server_over Connecting p e = server_open_over p e
+server_over Connected p e = server_up_over p e
 
 late_over : (last now : ℕ) (e : End) → EndsOver e (server_ticks last now e)
 late_over last now e = cond_both (is_up e.state && is_late last e.keep_alive now) (closes reasons.KeepAlive e) (silent e) (EndsOver e) (λ t r h. refl) (λ f r h. stays e _ r h)
@@ -105,18 +105,18 @@ over_discards e h =
     let P : Bool → Type 0 = λ c. ((over (record e { clean = c })).book ≡ blank_book) × ((over (record e { clean = c })).received ≡ none_received) × ((over (record e { clean = c })).known ≡ false) in
     subst P (sym h) (refl, refl, refl)
 
-client_closed : (ps : List Packet) (e : End) → client_gets_all ps (record e { state = Closed }) ≡ silent (record e { state = Closed })
+client_closed : (ps : List Packet) (e : End) → client_gets_all ps (record e { state = Disconnected }) ≡ silent (record e { state = Disconnected })
 client_closed [] e = refl
-client_closed (p ∷ ps) e = ap (followed (silent (record e { state = Closed }))) (client_closed ps e)
+client_closed (p ∷ ps) e = ap (followed (silent (record e { state = Disconnected }))) (client_closed ps e)
 
-server_closed : (ps : List Packet) (e : End) → server_gets_all ps (record e { state = Closed }) ≡ silent (record e { state = Closed })
+server_closed : (ps : List Packet) (e : End) → server_gets_all ps (record e { state = Disconnected }) ≡ silent (record e { state = Disconnected })
 server_closed [] e = refl
-server_closed (p ∷ ps) e = ap (followed (silent (record e { state = Closed }))) (server_closed ps e)
+server_closed (p ∷ ps) e = ap (followed (silent (record e { state = Disconnected }))) (server_closed ps e)
 
-client_ignores : (ps : List Packet) (e : End) → e.state ≡ Closed → client_gets_all ps e ≡ silent e
+client_ignores : (ps : List Packet) (e : End) → e.state ≡ Disconnected → client_gets_all ps e ≡ silent e
 client_ignores ps e h = let P : State → Type 0 = λ st. client_gets_all ps (record e { state = st }) ≡ silent (record e { state = st }) in subst P (sym h) (client_closed ps e)
 
-server_ignores : (ps : List Packet) (e : End) → e.state ≡ Closed → server_gets_all ps e ≡ silent e
+server_ignores : (ps : List Packet) (e : End) → e.state ≡ Disconnected → server_gets_all ps e ≡ silent e
 server_ignores ps e h = let P : State → Type 0 = λ st. server_gets_all ps (record e { state = st }) ≡ silent (record e { state = st }) in subst P (sym h) (server_closed ps e)
 
 pub laws : ClosingLaws

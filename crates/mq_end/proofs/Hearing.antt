@@ -11,7 +11,7 @@ use Rattle.mq_end.specs.declared.reason.CloseReason.TheVariants as reasons
 use Rattle.mq_end.specs.declared.role.Role.{Role}
 use Rattle.mq_end.specs.declared.role.Role.TheVariants.{Client, Server}
 use Rattle.mq_end.specs.declared.happening.Happening.{Happening}
-use Rattle.mq_end.specs.declared.told.Told.{Told}
+use Rattle.mq_end.specs.declared.progress_builder.ProgressBuilder.{ProgressBuilder}
 use Rattle.mq_end.specs.End.{End, Reply, is_live, is_up, first_reason, followed, closes}
 use Rattle.mq_end.specs.Server.{level_refused}
 use Rattle.mq_end.specs.State.{EndState, PutsOut, is_level}
@@ -23,29 +23,29 @@ use Rattle.mq_end.proofs.Received.{received_shut, received_all, received_fault, 
 abbrev pub with_held : EndState → List ℕ → EndState
 with_held old h = record old { held = h }
 
-held_is : (old new : EndState) (h : List ℕ) (t u : Told) (r : Reply) → Makes r (with_held old h) new t u → new.held ≡ held_after r.close h
+held_is : (old new : EndState) (h : List ℕ) (t u : ProgressBuilder) (r : Reply) → Makes r (with_held old h) new t u → new.held ≡ held_after r.close h
 held_is old new h t u r m = ap (λ (s : EndState). s.held) m.state
 
-held_none : (old new : EndState) (h : List ℕ) (t u : Told) (r : Reply) (reason : CloseReason) → Makes r (with_held old h) new t u → r.close ≡ Some reason → new.held ≡ []
+held_none : (old new : EndState) (h : List ℕ) (t u : ProgressBuilder) (r : Reply) (reason : CloseReason) → Makes r (with_held old h) new t u → r.close ≡ Some reason → new.held ≡ []
 held_none old new h t u r reason m shut = held_is old new h t u r m ∙ ap (λ (c : Option CloseReason). held_after c h) shut
 
-held_all : (old new : EndState) (h : List ℕ) (t u : Told) (r : Reply) → Makes r (with_held old h) new t u → r.close ≡ None → new.held ≡ h
+held_all : (old new : EndState) (h : List ℕ) (t u : ProgressBuilder) (r : Reply) → Makes r (with_held old h) new t u → r.close ≡ None → new.held ≡ h
 held_all old new h t u r m none = held_is old new h t u r m ∙ ap (λ (c : Option CloseReason). held_after c h) none
 
-moment_is : (old new : EndState) (h : List ℕ) (t u : Told) (r : Reply) → Makes r (with_held old h) new t u → new.moment ≡ old.moment
-moment_is old new h t u r m = ap (λ (s : EndState). s.moment) m.state
+moment_is : (old new : EndState) (h : List ℕ) (t u : ProgressBuilder) (r : Reply) → Makes r (with_held old h) new t u → new.last_activity ≡ old.last_activity
+moment_is old new h t u r m = ap (λ (s : EndState). s.last_activity) m.state
 
-hears_from : (role : Role) (now : ℕ) (piece : List ℕ) (old mid new : EndState) (h : List ℕ) (t u : Told) (r : Reply) (closed : Option CloseReason)
-    → Receives old.limit (gets_as role) (faulted_as role) (old.held ++ piece) old.end r new.held → Makes r (with_held old h) mid t u → new ≡ record mid { moment = new.moment }
+hears_from : (role : Role) (now : ℕ) (piece : List ℕ) (old mid new : EndState) (h : List ℕ) (t u : ProgressBuilder) (r : Reply) (closed : Option CloseReason)
+    → Receives old.limit (gets_as role) (faulted_as role) (old.held ++ piece) old.end r new.held → Makes r (with_held old h) mid t u → new ≡ record mid { last_activity = new.last_activity }
     → HeardAs role now (old.held ++ piece) closed old new → closed ≡ r.close → Hears role now piece old new t u closed
 hears_from role now piece old mid new h t u r closed receives m later heard close = record {
   reply = r;
   receives = receives;
   out = subst (λ (o : List ℕ). PutsOut r.out old.output o) (sym out_is) m.out;
   state = later
-      ∙ ap (λ (s : EndState). record s { moment = new.moment }) m.state
-      ∙ ap (λ (o : List ℕ). record old { end = r.end; output = o; held = held_after r.close h; moment = new.moment }) (sym out_is)
-      ∙ ap (λ (hs : List ℕ). record old { end = r.end; output = new.output; held = hs; moment = new.moment }) (sym (ap (λ (s : EndState). s.held) later ∙ held_is old mid h t u r m));
+      ∙ ap (λ (s : EndState). record s { last_activity = new.last_activity }) m.state
+      ∙ ap (λ (o : List ℕ). record old { end = r.end; output = o; held = held_after r.close h; last_activity = new.last_activity }) (sym out_is)
+      ∙ ap (λ (hs : List ℕ). record old { end = r.end; output = new.output; held = hs; last_activity = new.last_activity }) (sym (ap (λ (s : EndState). s.held) later ∙ held_is old mid h t u r m));
   heard = heard;
   happenings = m.happenings;
   acknowledged = m.acknowledged;
@@ -58,7 +58,7 @@ hears_from role now piece old mid new h t u r closed receives m later heard clos
 -- ---- the moment of an end
 
 -- an end that closes keeps its moment
-heard_shut : (role : Role) (now : ℕ) (b : List ℕ) (reason : CloseReason) (old new : EndState) → new.moment ≡ old.moment → HeardAs role now b (Some reason) old new
+heard_shut : (role : Role) (now : ℕ) (b : List ℕ) (reason : CloseReason) (old new : EndState) → new.last_activity ≡ old.last_activity → HeardAs role now b (Some reason) old new
 heard_shut Client now b reason old new same = same
 heard_shut Server now b reason old new same = record { waits = λ p. same; closes = λ s. same; hears = λ none. cc }
 
@@ -73,34 +73,34 @@ none_pending : (limit : Bounds) (b front rest : List ℕ) → front ≡ [] → b
 none_pending limit b front rest none parts pending = subst (λ (t : List ℕ). Pending limit t) (sym (parts ∙ ap (λ (t : List ℕ). t ++ rest) none)) pending
 
 -- the server's moment, by whether a whole packet came
-server_heard : (now : ℕ) (ps : List Packet) (b rest : List ℕ) (old new : EndState) → Reading old.limit b ps rest None → new.moment ≡ cond (not (length ps == 0)) now old.moment → HearsAt now b None old new
-server_heard now [] b rest old new reading moment =
+server_heard : (now : ℕ) (ps : List Packet) (b rest : List ℕ) (old new : EndState) → Reading old.limit b ps rest None → new.last_activity ≡ cond (not (length ps == 0)) now old.last_activity → HearsAt now b None old new
+server_heard now [] b rest old new reading last_activity =
     let pending = none_pending old.limit b reading.front rest reading.stream reading.parts reading.ends in
-    record { waits = λ p. moment; closes = λ s. moment; hears = λ none whole. absurd (whole pending) }
-server_heard now (p ∷ ps) b rest old new reading moment = record {
+    record { waits = λ p. last_activity; closes = λ s. last_activity; hears = λ none whole. absurd (whole pending) }
+server_heard now (p ∷ ps) b rest old new reading last_activity = record {
   waits = λ pending. absurd (some_none p ps (pending_none old.limit (p ∷ ps) b reading.front rest reading.stream reading.parts pending));
   closes = λ s. cc;
-  hears = λ none whole. moment ∙ ap (λ (t : Bool). cond (not t) now old.moment) (eqb-suc-zero (length ps));
+  hears = λ none whole. last_activity ∙ ap (λ (t : Bool). cond (not t) now old.last_activity) (eqb-suc-zero (length ps));
 }
   where
     some_none : (q : Packet) (qs : List Packet) → q ∷ qs ≡ [] → ⊥
     some_none q qs h = cc
 
-heard_open : (role : Role) (now : ℕ) (ps : List Packet) (b rest : List ℕ) (old new : EndState) → Reading old.limit b ps rest None → new.moment ≡ heard_as role (not (length ps == 0)) now old.moment → HeardAs role now b None old new
-heard_open Client now ps b rest old new reading moment = moment
-heard_open Server now ps b rest old new reading moment = server_heard now ps b rest old new reading moment
+heard_open : (role : Role) (now : ℕ) (ps : List Packet) (b rest : List ℕ) (old new : EndState) → Reading old.limit b ps rest None → new.last_activity ≡ heard_as role (not (length ps == 0)) now old.last_activity → HeardAs role now b None old new
+heard_open Client now ps b rest old new reading last_activity = last_activity
+heard_open Server now ps b rest old new reading last_activity = server_heard now ps b rest old new reading last_activity
 
 -- an end keeps its moment, whether it has a connection or not
-kept_by : (live : Bool) (old new : EndState) → (live ≡ true → new.moment ≡ old.moment) → (live ≡ false → new ≡ old) → new.moment ≡ old.moment
+kept_by : (live : Bool) (old new : EndState) → (live ≡ true → new.last_activity ≡ old.last_activity) → (live ≡ false → new ≡ old) → new.last_activity ≡ old.last_activity
 kept_by true old new at_live at_shut = at_live refl
-kept_by false old new at_live at_shut = ap (λ (s : EndState). s.moment) (at_shut refl)
+kept_by false old new at_live at_shut = ap (λ (s : EndState). s.last_activity) (at_shut refl)
 
-pub kept_moment : (old new : EndState) → (is_live old.end.state ≡ true → new.moment ≡ old.moment) → (is_live old.end.state ≡ false → new ≡ old) → new.moment ≡ old.moment
+pub kept_moment : (old new : EndState) → (is_live old.end.state ≡ true → new.last_activity ≡ old.last_activity) → (is_live old.end.state ≡ false → new ≡ old) → new.last_activity ≡ old.last_activity
 kept_moment old new at_live at_shut = kept_by (is_live old.end.state) old new at_live at_shut
 
 -- ---- what comes of the bytes
 
-pub hears_shut : (role : Role) (now : ℕ) (piece : List ℕ) (old new : EndState) (h : List ℕ) (t u : Told) (r : Reply) (ps : List Packet) (front rest : List ℕ) (reason : CloseReason)
+pub hears_shut : (role : Role) (now : ℕ) (piece : List ℕ) (old new : EndState) (h : List ℕ) (t u : ProgressBuilder) (r : Reply) (ps : List Packet) (front rest : List ℕ) (reason : CloseReason)
     → ReadsAgain → Stream old.limit ps front → old.held ++ piece ≡ front ++ rest → Taken (gets_as role) ps old.end r → Makes r (with_held old h) new t u → Some reason ≡ r.close → Hears role now piece old new t u (Some reason)
 hears_shut role now piece old new h t u r ps front rest reason again stream parts taken m shut =
     hears_from role now piece old new new h t u r (Some reason)
@@ -108,25 +108,25 @@ hears_shut role now piece old new h t u r ps front rest reason again stream part
     m refl (heard_shut role now (old.held ++ piece) reason old new (moment_is old new h t u r m)) shut
 
 -- mid: before the moment of the packets is kept
-pub hears_all : (role : Role) (now : ℕ) (piece : List ℕ) (old mid new : EndState) (h : List ℕ) (t u : Told) (r : Reply) (ps : List Packet)
+pub hears_all : (role : Role) (now : ℕ) (piece : List ℕ) (old mid new : EndState) (h : List ℕ) (t u : ProgressBuilder) (r : Reply) (ps : List Packet)
     → Reading old.limit (old.held ++ piece) ps h None → Taken (gets_as role) ps old.end r → Makes r (with_held old h) mid t u → None ≡ r.close
-    → new ≡ record mid { moment = heard_as role (not (length ps == 0)) now mid.moment } → Hears role now piece old new t u None
+    → new ≡ record mid { last_activity = heard_as role (not (length ps == 0)) now mid.last_activity } → Hears role now piece old new t u None
 hears_all role now piece old mid new h t u r ps reading taken m none later =
     hears_from role now piece old mid new h t u r None
     (received_all old.limit (gets_as role) (faulted_as role) ps (old.held ++ piece) h old.end r new.held reading taken (sym none) (ap (λ (s : EndState). s.held) later ∙ held_all old mid h t u r m (sym none)))
-    m (later ∙ ap (λ (n : ℕ). record mid { moment = n }) (sym moment)) (heard_open role now ps (old.held ++ piece) h old new reading (moment ∙ ap (λ (n : ℕ). heard_as role (not (length ps == 0)) now n) (moment_is old mid h t u r m))) none
+    m (later ∙ ap (λ (n : ℕ). record mid { last_activity = n }) (sym last_activity)) (heard_open role now ps (old.held ++ piece) h old new reading (last_activity ∙ ap (λ (n : ℕ). heard_as role (not (length ps == 0)) now n) (moment_is old mid h t u r m))) none
   where
-    moment : new.moment ≡ heard_as role (not (length ps == 0)) now mid.moment
-    moment = ap (λ (s : EndState). s.moment) later
+    last_activity : new.last_activity ≡ heard_as role (not (length ps == 0)) now mid.last_activity
+    last_activity = ap (λ (s : EndState). s.last_activity) later
 
 -- two replies, of which the second closes
-twice : (old mid new : EndState) (h : List ℕ) (t u v : Told) (r x : Reply) → None ≡ r.close → Makes r (with_held old h) mid t u → Makes x mid new u v → Makes (followed r x) (with_held old h) new t v
+twice : (old mid new : EndState) (h : List ℕ) (t u v : ProgressBuilder) (r x : Reply) → None ≡ r.close → Makes r (with_held old h) mid t u → Makes x mid new u v → Makes (followed r x) (with_held old h) new t v
 twice old mid new h t u v r x none m k = makes_then r x (with_held old h) mid new t u v (sym none) m k
 
 close_is : (r x : Reply) (reason : CloseReason) → None ≡ r.close → Some reason ≡ x.close → Some reason ≡ (followed r x).close
 close_is r x reason none shut = shut ∙ ap (λ (c : Option CloseReason). first_reason c x.close) none
 
-pub hears_starved : (role : Role) (now : ℕ) (piece : List ℕ) (old mid new : EndState) (h : List ℕ) (t u v : Told) (r : Reply) (ps : List Packet)
+pub hears_starved : (role : Role) (now : ℕ) (piece : List ℕ) (old mid new : EndState) (h : List ℕ) (t u v : ProgressBuilder) (r : Reply) (ps : List Packet)
     → Begins old.limit (old.held ++ piece) ps → Taken (gets_as role) ps old.end r → Makes r (with_held old h) mid t u → None ≡ r.close → Makes (closes reasons.Memory r.end) mid new u v → Hears role now piece old new t v (Some reasons.Memory)
 hears_starved role now piece old mid new h t u v r ps begins taken m none k =
     let x = closes reasons.Memory r.end in
@@ -145,13 +145,13 @@ faulted_quiet Server fault e = by (not (is_up e.state) && is_level fault.kind)
     by true = (refl, refl)
     by false = (refl, refl)
 
-pub break_made : (role : Role) (fault : DecodeFault) (old new : EndState) (t : Told) (r : Reply) → IsBreak role fault old.end r → Acts r old new → Makes r old new t t
+pub break_made : (role : Role) (fault : DecodeFault) (old new : EndState) (t : ProgressBuilder) (r : Reply) → IsBreak role fault old.end r → Acts r old new → Makes r old new t t
 break_made role fault old new t r (inl e) a =
     let q = faulted_quiet role fault old.end in
     quiet r old new t a (ap (λ (x : Reply). x.happenings) e ∙ q.0) (ap (λ (x : Reply). x.freed) e ∙ q.1)
 break_made role fault old new t r (inr e) a = quiet r old new t a (ap (λ (x : Reply). x.happenings) e) (ap (λ (x : Reply). x.freed) e)
 
-pub hears_fault : (role : Role) (now : ℕ) (piece : List ℕ) (old mid new : EndState) (h : List ℕ) (t u v : Told) (r x : Reply) (ps : List Packet) (rest : List ℕ) (fault : DecodeFault) (reason : CloseReason)
+pub hears_fault : (role : Role) (now : ℕ) (piece : List ℕ) (old mid new : EndState) (h : List ℕ) (t u v : ProgressBuilder) (r x : Reply) (ps : List Packet) (rest : List ℕ) (fault : DecodeFault) (reason : CloseReason)
     → Reading old.limit (old.held ++ piece) ps rest (Some fault) → Taken (gets_as role) ps old.end r → Makes r (with_held old h) mid t u → None ≡ r.close
     → IsBreak role fault r.end x → Some reason ≡ x.close → Makes x mid new u v → Hears role now piece old new t v (Some reason)
 hears_fault role now piece old mid new h t u v r x ps rest fault reason reading taken m none break shut k =
@@ -170,7 +170,7 @@ hears_fault role now piece old mid new h t u v r x ps rest fault reason reading 
 
 -- ---- what the user sees of it
 
-shown : (role : Role) (now : ℕ) (piece : List ℕ) (old new : EndState) (t u : Told) (closed : Option CloseReason) (hs : List Happening) (acked : List ℕ) (shut : Option CloseReason) → (h : Hears role now piece old new t u closed)
+shown : (role : Role) (now : ℕ) (piece : List ℕ) (old new : EndState) (t u : ProgressBuilder) (closed : Option CloseReason) (hs : List Happening) (acked : List ℕ) (shut : Option CloseReason) → (h : Hears role now piece old new t u closed)
     → t.happenings.items ≡ [] → t.acknowledged.items ≡ [] → hs ≡ u.happenings.items → acked ≡ u.acknowledged.items → shut ≡ closed → Shows h.reply old new hs acked shut
 shown role now piece old new t u closed hs acked shut h none no_id same same_ids same_close = record {
   after = ap (λ (s : EndState). s.end) h.state;
@@ -180,7 +180,7 @@ shown role now piece old new t u closed hs acked shut h none no_id same same_ids
   close = same_close ∙ h.close;
 }
 
-pub receives_as : (role : Role) (now : ℕ) (piece : List ℕ) (old new : EndState) (t u : Told) (closed : Option CloseReason) (hs : List Happening) (acked : List ℕ) (shut : Option CloseReason) → Hears role now piece old new t u closed
+pub receives_as : (role : Role) (now : ℕ) (piece : List ℕ) (old new : EndState) (t u : ProgressBuilder) (closed : Option CloseReason) (hs : List Happening) (acked : List ℕ) (shut : Option CloseReason) → Hears role now piece old new t u closed
     → t.happenings.items ≡ [] → t.acknowledged.items ≡ [] → hs ≡ u.happenings.items → acked ≡ u.acknowledged.items → shut ≡ closed → ReceivesAs role piece old new hs acked shut
 receives_as Client now piece old new t u closed hs acked shut h none no_id same same_ids same_close = (h.reply, h.receives, shown Client now piece old new t u closed hs acked shut h none no_id same same_ids same_close)
 receives_as Server now piece old new t u closed hs acked shut h none no_id same same_ids same_close = (h.reply, h.receives, shown Server now piece old new t u closed hs acked shut h none no_id same same_ids same_close)

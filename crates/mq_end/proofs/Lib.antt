@@ -5,7 +5,7 @@ pub mod Windows
 pub mod Outcomes
 pub mod Replies
 pub mod Received
-pub mod Fews
+pub mod SmallLists
 pub mod Handings
 pub mod Outputs
 pub mod Hearing

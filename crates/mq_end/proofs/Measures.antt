@@ -12,7 +12,7 @@ use Rattle.mq_packet.specs.declared.packet.Request.{Request}
 use Rattle.mq_packet.specs.declared.packet.SubAckCode.{SubAckCode}
 use Rattle.mq_packet.specs.declared.packet.Packet.TheVariants as packets
 use Rattle.mq_packet.specs.Publication.{fits_delivery}
-use Rattle.mq_packet.specs.Spelling.{fields, delivery_fields, request_fields, code_fields}
+use Rattle.mq_packet.specs.Encoding.{fields, delivery_fields, request_fields, code_fields}
 use Rattle.mq_end.specs.Sizes.{identifier_size, publish_size, requests_size, filters_size, subscribe_size, unsubscribe_size, suback_size}
 use Rattle.mq_end.specs.SizeLaws.{SizeLaws}
 

@@ -4,10 +4,10 @@ use Rattle.mq_packet.specs.declared.packet.Packet.{Packet}
 use Rattle.mq_end.specs.declared.happening.Happening.{Happening}
 use Rattle.mq_end.specs.declared.reason.CloseReason.{CloseReason}
 use Rattle.mq_end.specs.declared.reason.CloseReason.TheVariants as reasons
-use Rattle.mq_end.specs.declared.outcome.Outcome.{Outcome}
+use Rattle.mq_end.specs.declared.packet_outcome.PacketOutcome.{PacketOutcome}
 use Rattle.mq_end.specs.declared.role.Role.{Role}
 use Rattle.mq_end.specs.declared.role.Role.TheVariants.{Client, Server}
-use Rattle.mq_end.specs.declared.told.Told.{Told}
+use Rattle.mq_end.specs.declared.progress_builder.ProgressBuilder.{ProgressBuilder}
 use Rattle.mq_end.specs.End.{Reply, closes}
 use Rattle.mq_end.specs.Server.{server_gets}
 use Rattle.mq_end.specs.State.{EndState, PutsOut}
@@ -15,8 +15,8 @@ use Rattle.mq_end.specs.Receiving.{Gives, Makes, TakesAs, TakesPacket, gets_as, 
 use Rattle.mq_end.proofs.Walking.{Came}
 
 -- what a reply that was made shows
-pub takes_one : (role : Role) (now : ℕ) (p : Packet) (old mid new : EndState) (told after : Told) (r : Reply) (happenings : List Happening) (acknowledged : List ℕ) (closed : Option CloseReason)
-    → (r ≡ gets_as role p old.end) ⊎ (r ≡ closes reasons.Memory old.end) → Makes r old mid told after → new ≡ record mid { moment = heard_one_as role r.close now old.moment }
+pub takes_one : (role : Role) (now : ℕ) (p : Packet) (old mid new : EndState) (told after : ProgressBuilder) (r : Reply) (happenings : List Happening) (acknowledged : List ℕ) (closed : Option CloseReason)
+    → (r ≡ gets_as role p old.end) ⊎ (r ≡ closes reasons.Memory old.end) → Makes r old mid told after → new ≡ record mid { last_activity = heard_one_as role r.close now old.last_activity }
     → told.happenings.items ≡ [] → told.acknowledged.items ≡ [] → happenings ≡ after.happenings.items → acknowledged ≡ after.acknowledged.items → closed ≡ r.close
     → TakesAs role now p old new happenings acknowledged closed
 takes_one role now p old mid new told after r happenings acknowledged closed does made last no_h no_a is_h is_a is_c =
@@ -33,8 +33,8 @@ takes_one role now p old mid new told after r happenings acknowledged closed doe
       };
       state =
           last
-          ∙ ap (λ (s : EndState). record s { moment = heard_one_as role r.close now old.moment }) made.state
-          ∙ ap (λ (b : List ℕ). record old { end = r.end; output = b; held = held_after r.close old.held; moment = heard_one_as role r.close now old.moment }) out_same;
+          ∙ ap (λ (s : EndState). record s { last_activity = heard_one_as role r.close now old.last_activity }) made.state
+          ∙ ap (λ (b : List ℕ). record old { end = r.end; output = b; held = held_after r.close old.held; last_activity = heard_one_as role r.close now old.last_activity }) out_same;
     }
 
 -- where the end closes it keeps its moment
@@ -42,9 +42,9 @@ kept_moment : (role : Role) (closed : Option CloseReason) (now last : ℕ) (reas
 kept_moment Client closed now last reason is = refl
 kept_moment Server closed now last reason is = ap (λ (c : Option CloseReason). heard_one c now last) is
 
-pub same_moment : (role : Role) (r : Reply) (old mid : EndState) (told after : Told) (now : ℕ) (reason : CloseReason) → r.close ≡ Some reason → Makes r old mid told after → mid ≡ record mid { moment = heard_one_as role r.close now old.moment }
+pub same_moment : (role : Role) (r : Reply) (old mid : EndState) (told after : ProgressBuilder) (now : ℕ) (reason : CloseReason) → r.close ≡ Some reason → Makes r old mid told after → mid ≡ record mid { last_activity = heard_one_as role r.close now old.last_activity }
 same_moment role r old mid told after now reason is made =
-    ap (λ (m : ℕ). record mid { moment = m }) (ap (λ (s : EndState). s.moment) made.state ∙ sym (kept_moment role r.close now old.moment reason is))
+    ap (λ (m : ℕ). record mid { last_activity = m }) (ap (λ (s : EndState). s.last_activity) made.state ∙ sym (kept_moment role r.close now old.last_activity reason is))
 
 -- else it is heard
 heard_alike : (role : Role) (closed : Option CloseReason) (none : Bool) (now last : ℕ) → is_some closed ≡ not none → heard_as role none now last ≡ heard_one_as role closed now last
@@ -55,35 +55,35 @@ heard_alike Server (Some reason) true now last is = absurd cc
 heard_alike Server (Some reason) false now last is = refl
 
 -- a packet of which a server end made its reply, and heard of it
-pub takes_heard : (now : ℕ) (p : Packet) (o : Outcome) (closed : Option CloseReason) (none : Bool) (old mid new : EndState) → Gives (server_gets p old.end) o old mid
-    → closed ≡ o.closed → is_some closed ≡ not none → new ≡ record mid { moment = heard_as Server none now mid.moment } → TakesPacket now p o old new
+pub takes_heard : (now : ℕ) (p : Packet) (o : PacketOutcome) (closed : Option CloseReason) (none : Bool) (old mid new : EndState) → Gives (server_gets p old.end) o old mid
+    → closed ≡ o.closed → is_some closed ≡ not none → new ≡ record mid { last_activity = heard_as Server none now mid.last_activity } → TakesPacket now p o old new
 takes_heard now p o closed none old mid new g is_closed is_none last =
     let r = server_gets p old.end in
     let out_same : mid.output ≡ new.output = sym (ap (λ (s : EndState). s.output) last) in
-    let moment =
-    ap (λ (m : ℕ). heard_as Server none now m) (ap (λ (s : EndState). s.moment) g.state)
-    ∙ heard_alike Server closed none now old.moment is_none
-    ∙ ap (λ (c : Option CloseReason). heard_one c now old.moment) (is_closed ∙ g.close) in
+    let last_activity =
+    ap (λ (m : ℕ). heard_as Server none now m) (ap (λ (s : EndState). s.last_activity) g.state)
+    ∙ heard_alike Server closed none now old.last_activity is_none
+    ∙ ap (λ (c : Option CloseReason). heard_one c now old.last_activity) (is_closed ∙ g.close) in
     record {
       out = subst (PutsOut r.out old.output) out_same g.out;
       state =
           last
-          ∙ ap (λ (m : ℕ). record mid { moment = m }) moment
-          ∙ ap (λ (s : EndState). record s { moment = heard_one r.close now old.moment }) g.state
-          ∙ ap (λ (b : List ℕ). record old { end = r.end; output = b; held = held_after r.close old.held; moment = heard_one r.close now old.moment }) out_same;
+          ∙ ap (λ (m : ℕ). record mid { last_activity = m }) last_activity
+          ∙ ap (λ (s : EndState). record s { last_activity = heard_one r.close now old.last_activity }) g.state
+          ∙ ap (λ (b : List ℕ). record old { end = r.end; output = b; held = held_after r.close old.held; last_activity = heard_one r.close now old.last_activity }) out_same;
       happening = g.happening;
       acknowledged = g.acknowledged;
       close = g.close;
     }
 
 -- a packet that came
-pub arrived : (role : Role) (now : ℕ) (p : Packet) (old mid new : EndState) (told after : Told) (none : Bool) (came closed : Option CloseReason) (happenings : List Happening) (acknowledged : List ℕ)
-    → Came role p old mid told after came → is_some came ≡ not none → new ≡ record mid { moment = heard_as role none now mid.moment }
+pub arrived : (role : Role) (now : ℕ) (p : Packet) (old mid new : EndState) (told after : ProgressBuilder) (none : Bool) (came closed : Option CloseReason) (happenings : List Happening) (acknowledged : List ℕ)
+    → Came role p old mid told after came → is_some came ≡ not none → new ≡ record mid { last_activity = heard_as role none now mid.last_activity }
     → told.happenings.items ≡ [] → told.acknowledged.items ≡ [] → happenings ≡ after.happenings.items → acknowledged ≡ after.acknowledged.items → closed ≡ came
     → TakesAs role now p old new happenings acknowledged closed
 arrived role now p old mid new told after none came closed happenings acknowledged x is last no_h no_a is_h is_a is_c =
-    let moment =
-    ap (λ (m : ℕ). heard_as role none now m) (ap (λ (s : EndState). s.moment) x.3.state)
-    ∙ heard_alike role came none now old.moment is
-    ∙ ap (λ (c : Option CloseReason). heard_one_as role c now old.moment) x.2 in
-    takes_one role now p old mid new told after x.0 happenings acknowledged closed x.1 x.3 (last ∙ ap (λ (m : ℕ). record mid { moment = m }) moment) no_h no_a is_h is_a (is_c ∙ x.2)
+    let last_activity =
+    ap (λ (m : ℕ). heard_as role none now m) (ap (λ (s : EndState). s.last_activity) x.3.state)
+    ∙ heard_alike role came none now old.last_activity is
+    ∙ ap (λ (c : Option CloseReason). heard_one_as role c now old.last_activity) x.2 in
+    takes_one role now p old mid new told after x.0 happenings acknowledged closed x.1 x.3 (last ∙ ap (λ (m : ℕ). record mid { last_activity = m }) last_activity) no_h no_a is_h is_a (is_c ∙ x.2)

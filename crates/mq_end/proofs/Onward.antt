@@ -4,30 +4,30 @@ use Rattle.std.specs.Result.{OnOk}
 use Rattle.std.specs.List.{list_any}
 use Rattle.std.proofs.lemmas.List.{append-nil}
 use Rattle.mq_packet.specs.declared.packet.Packet.{Packet}
-use Rattle.mq_packet.specs.Spelling.{Spells}
-use Rattle.mq_end.specs.State.{Spelled, PutsOut}
+use Rattle.mq_packet.specs.Encoding.{Encodes}
+use Rattle.mq_end.specs.State.{EncodesAll, PutsOut}
 use Rattle.mq_end.specs.Waiting.{Waiting}
 use Rattle.mq_end.proofs.Replies.{puts_then}
 
 -- what is put out behind the bytes of now for those that are left makes it all, behind those of old
 pub record Onward (left all : List Packet) (old now : List ℕ) : Type 0 where
-  pub whole : (b : List ℕ) → Spelled left b → PutsOut all old (now ++ b)
+  pub whole : (b : List ℕ) → EncodesAll left b → PutsOut all old (now ++ b)
 
 pub at_first : (left all : List Packet) (old : List ℕ) → left ≡ all → Onward left all old old
-at_first left all old e = record { whole = λ b h. (b, subst (λ (ps : List Packet). Spelled ps b) e h, refl) }
+at_first left all old e = record { whole = λ b h. (b, subst (λ (ps : List Packet). EncodesAll ps b) e h, refl) }
 
-pub one_more : (p : Packet) (left rest all : List Packet) (old now new : List ℕ) → left ≡ p ∷ rest → Onward left all old now → (s : List ℕ) × Spells p s × (new ≡ now ++ s) → Onward rest all old new
+pub one_more : (p : Packet) (left rest all : List Packet) (old now new : List ℕ) → left ≡ p ∷ rest → Onward left all old now → (s : List ℕ) × Encodes p s × (new ≡ now ++ s) → Onward rest all old new
 one_more p left rest all old now new e o k = record {
   whole = λ b h.
       subst (PutsOut all old) (sym (append_assoc now k.0 b) ∙ ap (λ (t : List ℕ). t ++ b) (sym k.2))
-      (o.whole (k.0 ++ b) (subst (λ (ps : List Packet). Spelled ps (k.0 ++ b)) (sym e) (k.0, b, k.1, h, refl)));
+      (o.whole (k.0 ++ b) (subst (λ (ps : List Packet). EncodesAll ps (k.0 ++ b)) (sym e) (k.0, b, k.1, h, refl)));
 }
 
 pub at_last : (left all : List Packet) (old now : List ℕ) → left ≡ [] → Onward left all old now → PutsOut all old now
-at_last left all old now e o = subst (PutsOut all old) (append-nil now) (o.whole [] (subst (λ (ps : List Packet). Spelled ps []) (sym e) refl))
+at_last left all old now e o = subst (PutsOut all old) (append-nil now) (o.whole [] (subst (λ (ps : List Packet). EncodesAll ps []) (sym e) refl))
 
 -- the bytes of a packet that was put behind others
-pub bytes_behind : (p : Packet) (old new : Waiting) → (b : List ℕ) × Spells p b × (new ≡ record old { bytes = old.bytes ++ b }) → (b : List ℕ) × Spells p b × (new.bytes ≡ old.bytes ++ b)
+pub bytes_behind : (p : Packet) (old new : Waiting) → (b : List ℕ) × Encodes p b × (new ≡ record old { bytes = old.bytes ++ b }) → (b : List ℕ) × Encodes p b × (new.bytes ≡ old.bytes ++ b)
 bytes_behind p old new h = (h.0, h.1, ap (λ (w : Waiting). w.bytes) h.2)
 
 -- bytes are put behind others
@@ -37,7 +37,7 @@ not_grown old = ([], sym (append-nil old))
 pub grown_twice : (old mid new : List ℕ) → (a : List ℕ) × (mid ≡ old ++ a) → (b : List ℕ) × (new ≡ mid ++ b) → (rest : List ℕ) × (new ≡ old ++ rest)
 grown_twice old mid new a b = (a.0 ++ b.0, b.1 ∙ ap (λ (t : List ℕ). t ++ b.0) a.1 ∙ append_assoc old a.0 b.0)
 
-pub grown_more : (p : Packet) (old now new : List ℕ) → (rest : List ℕ) × (now ≡ old ++ rest) → (s : List ℕ) × Spells p s × (new ≡ now ++ s) → (rest : List ℕ) × (new ≡ old ++ rest)
+pub grown_more : (p : Packet) (old now new : List ℕ) → (rest : List ℕ) × (now ≡ old ++ rest) → (s : List ℕ) × Encodes p s × (new ≡ now ++ s) → (rest : List ℕ) × (new ≡ old ++ rest)
 grown_more p old now new g k = grown_twice old now new g (k.0, k.2)
 
 pub put_grown : (ps : List Packet) (old new : List ℕ) → PutsOut ps old new → (rest : List ℕ) × (new ≡ old ++ rest)

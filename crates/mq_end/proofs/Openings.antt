@@ -4,7 +4,7 @@ use Rattle.mq_packet.specs.declared.connack.ConnAck.{ConnAck}
 use Rattle.mq_packet.specs.declared.packet.Packet.{Packet}
 use Rattle.mq_packet.specs.declared.packet.Packet.TheVariants as packets
 use Rattle.mq_decode.specs.declared.fault.DecodeFault.{DecodeFault}
-use Rattle.mq_end.specs.declared.opening.Terms.{Terms}
+use Rattle.mq_end.specs.declared.first_packet.Terms.{Terms}
 use Rattle.mq_end.specs.declared.reason.CloseReason.TheVariants as reasons
 use Rattle.mq_end.specs.declared.role.Role.{Role}
 use Rattle.mq_end.specs.declared.role.Role.TheVariants.{Client, Server}

@@ -14,7 +14,7 @@ use Rattle.mq_flow.specs.declared.claim.Claimed.{Claimed}
 use Rattle.mq_flow.specs.Sender.{SenderBook, uses, accept, is_awaited, is_full, same_qos, without_entry, on_puback, on_pubrec, on_pubcomp}
 use Rattle.mq_flow.specs.Window.{fits_window}
 use Rattle.mq_end.specs.declared.state.State.{State}
-use Rattle.mq_end.specs.declared.state.State.TheVariants.{Closed, Open, Up}
+use Rattle.mq_end.specs.declared.state.State.TheVariants.{Disconnected, Connecting, Connected}
 use Rattle.mq_end.specs.declared.reason.CloseReason.{CloseReason}
 use Rattle.mq_end.specs.declared.reason.CloseReason.TheVariants as reasons
 use Rattle.mq_end.specs.declared.refusal.PublishRefusal.{PublishRefusal}
@@ -236,9 +236,9 @@ up_keeps packets.Disconnect e h = absurd (goes_on reasons.Left h)
 up_keeps p e h = flow_keeps p e h
 
 gets_keeps : (s : State) (p : Packet) (e : End) → is_up s ≡ true → (server_gets_in s p e).close ≡ None → Keeps e (server_gets_in s p e).end
-gets_keeps Closed p e up h = absurd cc
-gets_keeps Open p e up h = absurd cc
-gets_keeps Up p e up h = up_keeps p e h
+gets_keeps Disconnected p e up h = absurd cc
+gets_keeps Connecting p e up h = absurd cc
+gets_keeps Connected p e up h = up_keeps p e h
 
 pub laws : ReadyLaws
 laws = record {

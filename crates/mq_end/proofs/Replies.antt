@@ -2,30 +2,30 @@
 use Rattle.std.proofs.Common.{◌≡◌, ℕ, List, [], ◌∷◌, ◌++◌, Option, Some, None, refl, sym, ap, subst, ◌∙◌, append_assoc}
 use Rattle.std.proofs.lemmas.List.{append-nil}
 use Rattle.mq_packet.specs.declared.packet.Packet.{Packet}
-use Rattle.mq_packet.specs.Spelling.{Spells}
+use Rattle.mq_packet.specs.Encoding.{Encodes}
 use Rattle.mq_end.specs.declared.reason.CloseReason.{CloseReason}
-use Rattle.mq_end.specs.declared.told.Told.{Told}
+use Rattle.mq_end.specs.declared.progress_builder.ProgressBuilder.{ProgressBuilder}
 use Rattle.mq_end.specs.End.{End, Reply, silent, first_reason, followed, one_by_one}
-use Rattle.mq_end.specs.State.{EndState, Spelled, PutsOut}
+use Rattle.mq_end.specs.State.{EndState, EncodesAll, PutsOut}
 use Rattle.mq_end.specs.Receiving.{Acts, Makes, held_after}
 
 -- ---- what is put out
 
-pub spelled_join : (ps qs : List Packet) (b c : List ℕ) → Spelled ps b → Spelled qs c → Spelled (ps ++ qs) (b ++ c)
-spelled_join [] qs b c h k = subst (Spelled qs) (sym (ap (λ (t : List ℕ). t ++ c) h)) k
-spelled_join (p ∷ ps) qs b c h k = (h.0, h.1 ++ c, h.2, spelled_join ps qs h.1 c h.3 k, ap (λ (t : List ℕ). t ++ c) h.4 ∙ append_assoc h.0 h.1 c)
+pub encoded_join : (ps qs : List Packet) (b c : List ℕ) → EncodesAll ps b → EncodesAll qs c → EncodesAll (ps ++ qs) (b ++ c)
+encoded_join [] qs b c h k = subst (EncodesAll qs) (sym (ap (λ (t : List ℕ). t ++ c) h)) k
+encoded_join (p ∷ ps) qs b c h k = (h.0, h.1 ++ c, h.2, encoded_join ps qs h.1 c h.3 k, ap (λ (t : List ℕ). t ++ c) h.4 ∙ append_assoc h.0 h.1 c)
 
-pub spelled_one : (p : Packet) (b : List ℕ) → Spells p b → Spelled (p ∷ []) b
-spelled_one p b h = (b, [], h, refl, sym (append-nil b))
+pub encoded_one : (p : Packet) (b : List ℕ) → Encodes p b → EncodesAll (p ∷ []) b
+encoded_one p b h = (b, [], h, refl, sym (append-nil b))
 
 pub puts_nothing : (b : List ℕ) → PutsOut [] b b
 puts_nothing b = ([], refl, sym (append-nil b))
 
-pub puts_one : (p : Packet) (s old new : List ℕ) → Spells p s → new ≡ old ++ s → PutsOut (p ∷ []) old new
-puts_one p s old new h e = (s, spelled_one p s h, e)
+pub puts_one : (p : Packet) (s old new : List ℕ) → Encodes p s → new ≡ old ++ s → PutsOut (p ∷ []) old new
+puts_one p s old new h e = (s, encoded_one p s h, e)
 
 pub puts_then : (ps qs : List Packet) (a b c : List ℕ) → PutsOut ps a b → PutsOut qs b c → PutsOut (ps ++ qs) a c
-puts_then ps qs a b c h k = (h.0 ++ k.0, spelled_join ps qs h.0 k.0 h.1 k.1, k.2 ∙ ap (λ (t : List ℕ). t ++ k.0) h.2 ∙ append_assoc a h.0 k.0)
+puts_then ps qs a b c h k = (h.0 ++ k.0, encoded_join ps qs h.0 k.0 h.1 k.1, k.2 ∙ ap (λ (t : List ℕ). t ++ k.0) h.2 ∙ append_assoc a h.0 k.0)
 
 -- ---- replies, one after another
 
@@ -68,11 +68,11 @@ one_by_one_last gets ps p e =
 
 -- ---- replies that are made
 
-pub makes_nothing : (s : EndState) (t : Told) → Makes (silent s.end) s s t t
+pub makes_nothing : (s : EndState) (t : ProgressBuilder) → Makes (silent s.end) s s t t
 makes_nothing s t = record { out = puts_nothing s.output; state = refl; happenings = sym (append-nil t.happenings.items); acknowledged = sym (append-nil t.acknowledged.items) }
 
 -- one reply after another that did not close
-pub makes_then : (r s : Reply) (old mid new : EndState) (t u v : Told) → r.close ≡ None → Makes r old mid t u → Makes s mid new u v → Makes (followed r s) old new t v
+pub makes_then : (r s : Reply) (old mid new : EndState) (t u v : ProgressBuilder) → r.close ≡ None → Makes r old mid t u → Makes s mid new u v → Makes (followed r s) old new t v
 makes_then r s old mid new t u v going h k = record {
   out = puts_then r.out s.out old.output mid.output new.output h.out k.out;
   state =
@@ -85,11 +85,11 @@ makes_then r s old mid new t u v going h k = record {
 }
 
 -- the end that a reply leaves
-pub makes_end : (r : Reply) (old new : EndState) (t u : Told) → Makes r old new t u → new.end ≡ r.end
+pub makes_end : (r : Reply) (old new : EndState) (t u : ProgressBuilder) → Makes r old new t u → new.end ≡ r.end
 makes_end r old new t u h = ap (λ (s : EndState). s.end) h.state
 
 -- a reply that tells nothing
-pub quiet : (r : Reply) (old new : EndState) (t : Told) → Acts r old new → r.happenings ≡ [] → r.freed ≡ [] → Makes r old new t t
+pub quiet : (r : Reply) (old new : EndState) (t : ProgressBuilder) → Acts r old new → r.happenings ≡ [] → r.freed ≡ [] → Makes r old new t t
 quiet r old new t h none no_id = record {
   out = h.out;
   state = h.state;

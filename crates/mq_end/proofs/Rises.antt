@@ -13,19 +13,19 @@ use Rattle.mq_packet.specs.declared.packet.Packet.{Packet}
 use Rattle.mq_packet.specs.declared.packet.Packet.TheVariants as packets
 use Rattle.mq_packet.specs.declared.publish.Delivery.{Delivery}
 use Rattle.mq_packet.specs.Publication.{fits_delivery}
-use Rattle.mq_packet.specs.Spelling.{fields}
+use Rattle.mq_packet.specs.Encoding.{fields}
 use Rattle.mq_flow.specs.declared.entry.Entry.{Entry}
 use Rattle.mq_flow.specs.Sender.{SenderBook, blank_book, no_claims, publish_packet, resent, same_qos}
-use Rattle.mq_end.specs.declared.handing.Handing.{Handing}
-use Rattle.mq_end.specs.declared.outcome.Outcome.{Outcome}
+use Rattle.mq_end.specs.declared.publish_outcome.PublishOutcome.{PublishOutcome}
+use Rattle.mq_end.specs.declared.packet_outcome.PacketOutcome.{PacketOutcome}
 use Rattle.mq_end.specs.declared.state.State.{State}
-use Rattle.mq_end.specs.declared.state.State.TheVariants.{Open}
+use Rattle.mq_end.specs.declared.state.State.TheVariants.{Connecting}
 use Rattle.mq_end.specs.End.{End, Reply, comes_up, is_live, is_up, over, renewed}
 use Rattle.mq_end.specs.Both.{has_identifier}
 use Rattle.mq_end.specs.Server.{connect_gets, opens, refuses, server_gets, server_gets_in}
 use Rattle.mq_end.specs.Sizes.{publish_size}
 use Rattle.mq_end.specs.State.{EndState, Room}
-use Rattle.mq_end.specs.Ready.{AreSpellable, CanRise, FitsRoom, HasRise, HasRoom, packets_size, publishes_size, size_at_once}
+use Rattle.mq_end.specs.Ready.{AreEncodable, CanRise, FitsRoom, HasRise, HasRoom, packets_size, publishes_size, size_at_once}
 use Rattle.mq_end.specs.Receiving.{TakesPacket, outcome_of, told_of}
 use Rattle.mq_end.proofs.Handings.{err_told, ok_told}
 use Rattle.mq_end.proofs.Measures.{laws}
@@ -69,7 +69,7 @@ over_out c e = opened_out c (over e) refl ∙ connect_puts c (over e) ∙ sym (c
 pub twice_out : (c : Connect) (e : End) → (server_gets (packets.Connect c) (opens (opens e).end).end).out ≡ (server_gets (packets.Connect c) (opens e).end).out
 twice_out c e = opened_out c (opens e).end refl
 
-pub waiting_out : (c : Connect) (e : End) → e.state ≡ Open → e.clean ≡ false → (server_gets (packets.Connect c) (opens e).end).out ≡ (server_gets (packets.Connect c) e).out
+pub waiting_out : (c : Connect) (e : End) → e.state ≡ Connecting → e.clean ≡ false → (server_gets (packets.Connect c) (opens e).end).out ≡ (server_gets (packets.Connect c) e).out
 waiting_out c e waits unclean = opened_out c e unclean ∙ sym (ap (λ (s : State). (server_gets_in s (packets.Connect c) e).out) waits)
 
 -- ---- its bytes
@@ -85,9 +85,9 @@ size_out false clean known b = let e = connack_size (connacks.Accepted (not clea
 small : (a : ConnAck) → length (fields (packets.ConnAck a)) < 2 ^ 28
 small a = let e = connack_size a in omega arith
 
-spellable_out : (refused clean known : Bool) (b : SenderBook) → AreSpellable (resent (cond clean blank_book b)) → AreSpellable (out_of refused clean known b)
-spellable_out true clean known b h = (small (connacks.Refused IdentifierRejected), tt)
-spellable_out false clean known b h = (small (connacks.Accepted (not clean && known)), h)
+encodable_out : (refused clean known : Bool) (b : SenderBook) → AreEncodable (resent (cond clean blank_book b)) → AreEncodable (out_of refused clean known b)
+encodable_out true clean known b h = (small (connacks.Refused IdentifierRejected), tt)
+encodable_out false clean known b h = (small (connacks.Accepted (not clean && known)), h)
 
 -- what is sent again, where neither this CONNECT nor the one before has clean session 1
 begun : (clean before : Bool) (b : SenderBook) → resent (cond clean blank_book (cond before blank_book (no_claims b))) ≡ cond (clean || before) [] (resent b)
@@ -101,10 +101,10 @@ rise_size c e =
     (subst (λ (ps : List Packet). packets_size (out_of (is_refused c) c.clean_session (opens e).end.known (opens e).end.book) ≤ 7 + packets_size ps) (begun c.clean_session e.clean e.book)
     (size_out (is_refused c) c.clean_session (opens e).end.known (opens e).end.book))
 
-pub rise_spellable : (c : Connect) (e : End) → AreSpellable (cond (c.clean_session || e.clean) [] (resent e.book)) → AreSpellable (server_gets (packets.Connect c) (opens e).end).out
-rise_spellable c e h =
-    subst AreSpellable (sym (connect_puts c (opens e).end))
-    (spellable_out (is_refused c) c.clean_session (opens e).end.known (opens e).end.book (subst AreSpellable (sym (begun c.clean_session e.clean e.book)) h))
+pub rise_encodable : (c : Connect) (e : End) → AreEncodable (cond (c.clean_session || e.clean) [] (resent e.book)) → AreEncodable (server_gets (packets.Connect c) (opens e).end).out
+rise_encodable c e h =
+    subst AreEncodable (sym (connect_puts c (opens e).end))
+    (encodable_out (is_refused c) c.clean_session (opens e).end.known (opens e).end.book (subst AreEncodable (sym (begun c.clean_session e.clean e.book)) h))
 
 -- ---- the room for it
 
@@ -116,7 +116,7 @@ rise_kept c ms more old new room out h = record {
       let same = ap (λ (r : Room). r.bytes) room in
       let had = h.bytes in
       omega arith;
-  spellable = subst AreSpellable (sym out) h.spellable;
+  encodable = subst AreEncodable (sym out) h.encodable;
 }
 
 -- where a connection is opened, and where one is lost
@@ -134,7 +134,7 @@ rise_more c ms more old new same messages bytes h = record {
       let less = ap (λ (e : End). packets_size (server_gets (packets.Connect c) (opens e).end).out) same in
       let had = h.bytes in
       omega arith;
-  spellable = subst (λ (e : End). AreSpellable (server_gets (packets.Connect c) (opens e).end).out) (sym same) h.spellable;
+  encodable = subst (λ (e : End). AreEncodable (server_gets (packets.Connect c) (opens e).end).out) (sym same) h.encodable;
 }
 
 pub rise_fits : (c : Connect) (ms : List Message) (more : ℕ) (s : EndState) → CanRise s → HasRise c ms more s → FitsRoom (server_gets (packets.Connect c) s.end).out s
@@ -144,10 +144,10 @@ rise_fits c ms more s w h =
     let had = h.bytes in
     omega arith
 
-pub rise_spells : (c : Connect) (ms : List Message) (more : ℕ) (s : EndState) → CanRise s → HasRise c ms more s → AreSpellable (server_gets (packets.Connect c) s.end).out
-rise_spells c ms more s w h = subst AreSpellable (waiting_out c s.end w.state w.clean) h.spellable
+pub rise_encodes : (c : Connect) (ms : List Message) (more : ℕ) (s : EndState) → CanRise s → HasRise c ms more s → AreEncodable (server_gets (packets.Connect c) s.end).out
+rise_encodes c ms more s w h = subst AreEncodable (waiting_out c s.end w.state w.clean) h.encodable
 
-pub risen_room : (now : ℕ) (c : Connect) (o : Outcome) (ms : List Message) (more : ℕ) (old new : EndState) → TakesPacket now (packets.Connect c) o old new → CanRise old → HasRise c ms more old → HasRoom ms more new
+pub risen_room : (now : ℕ) (c : Connect) (o : PacketOutcome) (ms : List Message) (more : ℕ) (old new : EndState) → TakesPacket now (packets.Connect c) o old new → CanRise old → HasRise c ms more old → HasRoom ms more new
 risen_room now c o ms more old new t w h = record {
   messages = subst (λ (r : Room). length (filter (λ m. has_identifier m.qos) ms) ≤ r.messages) (sym room) h.messages;
   bytes =
@@ -165,17 +165,17 @@ risen_room now c o ms more old new t w h = record {
 
 -- ---- what is sent again
 
-spellable_joined : (ps qs : List Packet) → AreSpellable ps → AreSpellable qs → AreSpellable (ps ++ qs)
-spellable_joined [] qs h k = k
-spellable_joined (p ∷ ps) qs h k = (h.0, spellable_joined ps qs h.1 k)
+encodable_joined : (ps qs : List Packet) → AreEncodable ps → AreEncodable qs → AreEncodable (ps ++ qs)
+encodable_joined [] qs h k = k
+encodable_joined (p ∷ ps) qs h k = (h.0, encodable_joined ps qs h.1 k)
 
 releases_size : (ids : List ℕ) → packets_size (map packets.PubRel ids) ≡ length ids * 7
 releases_size [] = refl
 releases_size (i ∷ ids) = let rest = releases_size ids in omega arith
 
-releases_spellable : (ids : List ℕ) → AreSpellable (map packets.PubRel ids)
-releases_spellable [] = tt
-releases_spellable (i ∷ ids) = (omega arith, releases_spellable ids)
+releases_encodable : (ids : List ℕ) → AreEncodable (map packets.PubRel ids)
+releases_encodable [] = tt
+releases_encodable (i ∷ ids) = (omega arith, releases_encodable ids)
 
 pub resent_size : (b : SenderBook) → packets_size (resent b) ≡ length b.released * 7 + packets_size (published b.entries)
 resent_size b =
@@ -199,8 +199,8 @@ pub always : {A : Type 0} (o : Option A) (P : Type 0) → P → IfSome o (λ x. 
 always (Some x) P h = h
 always None P h = tt
 
-pub resent_spellable : (b : SenderBook) → AreSpellable (published b.entries) → AreSpellable (resent b)
-resent_spellable b h = spellable_joined (map packets.PubRel b.released) (published b.entries) (releases_spellable b.released) h
+pub resent_encodable : (b : SenderBook) → AreEncodable (published b.entries) → AreEncodable (resent b)
+resent_encodable b h = encodable_joined (map packets.PubRel b.released) (published b.entries) (releases_encodable b.released) h
 
 fits_kept : (q : Qos) (d : Delivery) → same_qos Q0 q ≡ false → fits_delivery q (Some d) ≡ true
 fits_kept Q0 d h = absurd cc
@@ -219,7 +219,7 @@ first_size e es all is none =
 
 -- ---- a packet that a server takes in
 
-pub packet_room : {E : Type 0} (r : Result Outcome E) (now : ℕ) (p : Packet) (old new : EndState) (ms : List Message) (more : ℕ) → (is_live old.end.state ≡ true → IfOk r (λ o. TakesPacket now p o old new)) → OnErr r (new ≡ old) → is_up old.end.state ≡ true
+pub packet_room : {E : Type 0} (r : Result PacketOutcome E) (now : ℕ) (p : Packet) (old new : EndState) (ms : List Message) (more : ℕ) → (is_live old.end.state ≡ true → IfOk r (λ o. TakesPacket now p o old new)) → OnErr r (new ≡ old) → is_up old.end.state ≡ true
     → HasRoom ms (packets_size (server_gets p old.end).out + more) old → HasRoom ms more new
 packet_room (Ok o) now p old new ms more takes stays up h =
     let t = takes (up_is_live old.end.state up) in
@@ -229,18 +229,18 @@ packet_room (Err x) now p old new ms more takes stays up h =
     subst (λ (s : EndState). HasRoom ms more s) (sym stays) (record { messages = h.messages; bytes = let had = h.bytes in omega arith })
 
 -- where the message stays with the caller
-pub publish_room : {E : Type 0} (r : Result Handing E) (now : ℕ) (m : Message) (p : Packet) (old new : EndState) (ms : List Message) (more : ℕ)
+pub publish_room : {E : Type 0} (r : Result PublishOutcome E) (now : ℕ) (m : Message) (p : Packet) (old new : EndState) (ms : List Message) (more : ℕ)
     → (is_live old.end.state ≡ true → IfOk r (λ h. TakesPacket now p (outcome_of h m) old new)) → OnErr r (new ≡ old) → is_up old.end.state ≡ true
     → HasRoom ms (packets_size (server_gets p old.end).out + more) old → HasRoom ms more new
 publish_room r now m p old new ms more takes stays =
     packet_room (told_of m r) now p old new ms more (λ live. ok_told m (λ o. TakesPacket now p o old new) r (takes live)) (err_told m (new ≡ old) r stays)
 
-pub rises_room : {E : Type 0} (r : Result Outcome E) (now : ℕ) (c : Connect) (p : Packet) (old new : EndState) (ms : List Message) (more : ℕ) → p ≡ packets.Connect c → CanRise old → HasRise c ms more old
-    → (is_live old.end.state ≡ true → IfOk r (λ o. TakesPacket now p o old new)) → (old.end.state ≡ Open → AreSpellable (server_gets p old.end).out → FitsRoom (server_gets p old.end).out old → IsOk r) → IsOk r × HasRoom ms more new
+pub rises_room : {E : Type 0} (r : Result PacketOutcome E) (now : ℕ) (c : Connect) (p : Packet) (old new : EndState) (ms : List Message) (more : ℕ) → p ≡ packets.Connect c → CanRise old → HasRise c ms more old
+    → (is_live old.end.state ≡ true → IfOk r (λ o. TakesPacket now p o old new)) → (old.end.state ≡ Connecting → AreEncodable (server_gets p old.end).out → FitsRoom (server_gets p old.end).out old → IsOk r) → IsOk r × HasRoom ms more new
 rises_room (Ok o) now c p old new ms more is w h takes within =
     let t = subst (λ (q : Packet). TakesPacket now q o old new) is (takes (ap is_live w.state)) in
     (refl, risen_room now c o ms more old new t w h)
 rises_room (Err x) now c p old new ms more is w h takes within =
-    let bad : false ≡ true = within w.state (subst (λ (q : Packet). AreSpellable (server_gets q old.end).out) (sym is) (rise_spells c ms more old w h))
+    let bad : false ≡ true = within w.state (subst (λ (q : Packet). AreEncodable (server_gets q old.end).out) (sym is) (rise_encodes c ms more old w h))
     (subst (λ (q : Packet). FitsRoom (server_gets q old.end).out old) (sym is) (rise_fits c ms more old w h)) in
     absurd cc

@@ -9,17 +9,17 @@ use Rattle.mq_packet.specs.declared.message.Message.{Message}
 use Rattle.mq_packet.specs.declared.packet.Packet.{Packet}
 use Rattle.mq_packet.specs.declared.packet.Packet.TheVariants as packets
 use Rattle.mq_packet.specs.Publication.{fits_delivery}
-use Rattle.mq_packet.specs.Spelling.{Spells, fields}
+use Rattle.mq_packet.specs.Encoding.{Encodes, fields}
 use Rattle.mq_flow.specs.declared.entry.Entry.{Entry}
 use Rattle.mq_flow.specs.Sender.{publish_packet}
 use Rattle.mq_end.specs.declared.state.State.{State}
-use Rattle.mq_end.specs.declared.state.State.TheVariants.{Closed, Open, Up}
+use Rattle.mq_end.specs.declared.state.State.TheVariants.{Disconnected, Connecting, Connected}
 use Rattle.mq_end.specs.End.{End, Reply, closes, is_live, is_up}
 use Rattle.mq_end.specs.Both.{has_identifier, publishes_at}
 use Rattle.mq_end.specs.Sizes.{publish_size}
-use Rattle.mq_end.specs.State.{EndState, Room, Spelled, PutsOut}
+use Rattle.mq_end.specs.State.{EndState, Room, EncodesAll, PutsOut}
 use Rattle.mq_end.specs.Publishing.{Accepts, room_left}
-use Rattle.mq_end.specs.Ready.{AreSpellable, HasRoom, whole_size, packets_size, publishes_size, size_at_once}
+use Rattle.mq_end.specs.Ready.{AreEncodable, HasRoom, whole_size, packets_size, publishes_size, size_at_once}
 use Rattle.mq_end.specs.declared.happening.Happening.{Happening}
 use Rattle.mq_end.specs.declared.reason.CloseReason.{CloseReason}
 use Rattle.mq_end.specs.declared.reason.CloseReason.TheVariants as reasons
@@ -53,18 +53,18 @@ any_while up (m ∷ ms) = ap (λ (b : Bool). (not (has_identifier m.qos) && not 
 
 -- ---- bytes
 
-pub spelled_within : (p : Packet) (b : List ℕ) → Spells p b → length b ≤ whole_size (length (fields p))
-spelled_within p b h =
+pub encoded_within : (p : Packet) (b : List ℕ) → Encodes p b → length b ≤ whole_size (length (fields p))
+encoded_within p b h =
     let few : length h.len ≤ 4 = h.formed.1 in
     let all = ap length h.bytes in
     let parts = length-append h.len (fields p) in
     omega arith
 
-all_within : (ps : List Packet) (b : List ℕ) → Spelled ps b → length b ≤ packets_size ps
+all_within : (ps : List Packet) (b : List ℕ) → EncodesAll ps b → length b ≤ packets_size ps
 all_within [] b h = let e = ap length h in omega arith
 all_within (p ∷ ps) b h =
     let e = ap length h.4 ∙ length-append h.0 h.1 in
-    let one = spelled_within p h.0 h.2 in
+    let one = encoded_within p h.0 h.2 in
     let rest = all_within ps h.1 h.3 in
     omega arith
 
@@ -75,28 +75,28 @@ put_within ps old new h =
     omega arith
 
 -- the bytes of a packet behind others
-pub behind_within : (p : Packet) (old new : List ℕ) → (b : List ℕ) × Spells p b × (new ≡ old ++ b) → length new ≤ length old + whole_size (length (fields p))
+pub behind_within : (p : Packet) (old new : List ℕ) → (b : List ℕ) × Encodes p b × (new ≡ old ++ b) → length new ≤ length old + whole_size (length (fields p))
 behind_within p old new h =
     let e = ap length h.2 ∙ length-append old h.0 in
-    let few = spelled_within p h.0 h.1 in
+    let few = encoded_within p h.0 h.1 in
     omega arith
 
 pub sizes_joined : (ps qs : List Packet) → packets_size (ps ++ qs) ≡ packets_size ps + packets_size qs
 sizes_joined [] qs = omega arith
 sizes_joined (p ∷ ps) qs = let rest = sizes_joined ps qs in omega arith
 
-pub second_spellable : (ps qs : List Packet) → AreSpellable (ps ++ qs) → AreSpellable qs
-second_spellable [] qs h = h
-second_spellable (p ∷ ps) qs h = second_spellable ps qs h.1
+pub second_encodable : (ps qs : List Packet) → AreEncodable (ps ++ qs) → AreEncodable qs
+second_encodable [] qs h = h
+second_encodable (p ∷ ps) qs h = second_encodable ps qs h.1
 
 -- the PUBLISHes of messages that are kept
 abbrev pub published : List Entry → List Packet
 published es = map (λ (e : Entry). publish_packet e.id e.sent e.message) es
 
 pub at_most_all : (s : State) (ms : List Message) → size_at_once s ms ≤ publishes_size ms
-at_most_all Closed ms = omega arith
-at_most_all Open ms = omega arith
-at_most_all Up ms = omega arith
+at_most_all Disconnected ms = omega arith
+at_most_all Connecting ms = omega arith
+at_most_all Connected ms = omega arith
 
 -- the room behind packets that are put out
 pub keeps_room : (ps : List Packet) (ms : List Message) (more : ℕ) (old new : EndState) → PutsOut ps old.output new.output → new.room ≡ old.room → size_at_once new.end.state ms ≤ size_at_once old.end.state ms
@@ -136,9 +136,9 @@ place_taken true m ms n h = omega arith
 place_taken false m ms n h = h
 
 sizes_parted : (s : State) (m : Message) (ms : List Message) → size_at_once s (m ∷ ms) ≡ size_at_once s (m ∷ []) + size_at_once s ms
-sizes_parted Closed m ms = refl
-sizes_parted Open m ms = refl
-sizes_parted Up m ms = omega arith
+sizes_parted Disconnected m ms = refl
+sizes_parted Connecting m ms = refl
+sizes_parted Connected m ms = omega arith
 
 -- the room for the others
 pub accepted_room : (answer : Option ℕ) (m : Message) (rest : List Message) (more : ℕ) (old new : EndState) → (has_identifier m.qos ≡ false → is_up old.end.state ≡ true) → Accepts answer m old new
@@ -180,9 +180,9 @@ first_room m rest more s h = record {
 -- ---- a packet that comes
 
 pub up_is_live : (s : State) → is_up s ≡ true → is_live s ≡ true
-up_is_live Closed h = absurd cc
-up_is_live Open h = absurd cc
-up_is_live Up h = refl
+up_is_live Disconnected h = absurd cc
+up_is_live Connecting h = absurd cc
+up_is_live Connected h = refl
 
 -- the room for the others, where the answer has room too
 pub taken_room : (now : ℕ) (p : Packet) (old new : EndState) (happenings : List Happening) (acknowledged : List ℕ) (closed : Option CloseReason) (ms : List Message) (more : ℕ) → TakesOne now p old new happenings acknowledged closed → is_up old.end.state ≡ true

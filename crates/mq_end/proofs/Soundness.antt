@@ -17,7 +17,7 @@ use Rattle.mq_flow.specs.Window.{fits_window}
 use Rattle.mq_flow.specs.Laws.{IsSound, IsGiven}
 use Rattle.mq_flow.proofs.Books.{laws as books}
 use Rattle.mq_end.specs.declared.state.State.{State}
-use Rattle.mq_end.specs.declared.state.State.TheVariants.{Closed, Open, Up}
+use Rattle.mq_end.specs.declared.state.State.TheVariants.{Disconnected, Connecting, Connected}
 use Rattle.mq_end.specs.declared.happening.Happening.TheVariants as happens
 use Rattle.mq_end.specs.declared.reason.CloseReason.TheVariants as reasons
 use Rattle.mq_end.specs.declared.refusal.PublishRefusal.{PublishRefusal}
@@ -72,9 +72,9 @@ client_up_sound capacity packets.PingResp e s = s
 client_up_sound capacity p e s = flow_sound capacity p e s
 
 client_in_sound : (capacity : ℕ) (st : State) (p : Packet) (e : End) → IsSound capacity e.book → IsSound capacity (client_gets_in st p e).end.book
-client_in_sound capacity Closed p e s = s
-client_in_sound capacity Open p e s = client_open_sound capacity p e s
-client_in_sound capacity Up p e s = client_up_sound capacity p e s
+client_in_sound capacity Disconnected p e s = s
+client_in_sound capacity Connecting p e s = client_open_sound capacity p e s
+client_in_sound capacity Connected p e s = client_up_sound capacity p e s
 
 connect_sound : (capacity : ℕ) (c : Connect) (e : End) → IsSound capacity e.book → IsSound capacity (connect_gets c e).end.book
 connect_sound capacity c e s =
@@ -93,9 +93,9 @@ server_up_sound capacity packets.Disconnect e s = over_sound capacity e s
 server_up_sound capacity p e s = flow_sound capacity p e s
 
 server_in_sound : (capacity : ℕ) (st : State) (p : Packet) (e : End) → IsSound capacity e.book → IsSound capacity (server_gets_in st p e).end.book
-server_in_sound capacity Closed p e s = s
-server_in_sound capacity Open p e s = server_open_sound capacity p e s
-server_in_sound capacity Up p e s = server_up_sound capacity p e s
+server_in_sound capacity Disconnected p e s = s
+server_in_sound capacity Connecting p e s = server_open_sound capacity p e s
+server_in_sound capacity Connected p e s = server_up_sound capacity p e s
 
 -- ---- calls
 

@@ -18,7 +18,7 @@ use Rattle.mq_flow.specs.Receiver.{none_received}
 use Rattle.mq_flow.specs.Window.{fits_window, IsWithin}
 use Rattle.mq_flow.proofs.Windows.{same_within, within_after, none_within, removed_within, stored_within}
 use Rattle.mq_end.specs.declared.state.State.{State}
-use Rattle.mq_end.specs.declared.state.State.TheVariants.{Closed, Open, Up}
+use Rattle.mq_end.specs.declared.state.State.TheVariants.{Disconnected, Connecting, Connected}
 use Rattle.mq_end.specs.declared.happening.Happening.{Happening}
 use Rattle.mq_end.specs.declared.happening.Happening.TheVariants as happens
 use Rattle.mq_end.specs.declared.reason.CloseReason.{CloseReason}
@@ -82,9 +82,9 @@ client_up_window packets.PingResp e = still e
 client_up_window p e = flow_window p e
 
 client_window : (st : State) (p : Packet) (e : End) → KeepsWindow e (client_gets_in st p e).end
-client_window Closed p e = still e
-client_window Open p e = client_open_window p e
-client_window Up p e = client_up_window p e
+client_window Disconnected p e = still e
+client_window Connecting p e = client_open_window p e
+client_window Connected p e = client_up_window p e
 
 connect_window : (c : Connect) (e : End) → KeepsWindow e (connect_gets c e).end
 connect_window c e =
@@ -102,9 +102,9 @@ server_up_window packets.Disconnect e = over_window e
 server_up_window p e = flow_window p e
 
 server_window : (st : State) (p : Packet) (e : End) → KeepsWindow e (server_gets_in st p e).end
-server_window Closed p e = still e
-server_window Open p e = server_open_window p e
-server_window Up p e = server_up_window p e
+server_window Disconnected p e = still e
+server_window Connecting p e = server_open_window p e
+server_window Connected p e = server_up_window p e
 
 pub client_keeps : (p : Packet) (e : End) → KeepsWindow e (client_gets p e).end
 client_keeps p e = client_window e.state p e

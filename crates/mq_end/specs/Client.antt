@@ -9,7 +9,7 @@ use Rattle.mq_packet.specs.declared.packet.Packet.TheVariants as packets
 use Rattle.mq_flow.specs.declared.claim.Claim.TheVariants as claims
 use Rattle.mq_flow.specs.Sender.{is_full, claim, release, awaits_suback, awaits_unsuback}
 use Rattle.mq_end.specs.declared.state.State.{State}
-use Rattle.mq_end.specs.declared.state.State.TheVariants.{Closed, Open, Up}
+use Rattle.mq_end.specs.declared.state.State.TheVariants.{Disconnected, Connecting, Connected}
 use Rattle.mq_end.specs.declared.happening.Happening.TheVariants as happens
 use Rattle.mq_end.specs.declared.reason.CloseReason.TheVariants as reasons
 use Rattle.mq_end.specs.declared.refusal.PublishRefusal.{PublishRefusal}
@@ -54,9 +54,9 @@ client_up_gets p e = flow_gets p e
 -- a packet comes to a client whose connection is so far
 abbrev pub client_gets_in : State → Packet → End → Reply
 -- without a connection nothing comes
-client_gets_in Closed p e = silent e
-client_gets_in Open p e = client_open_gets p e
-client_gets_in Up p e = client_up_gets p e
+client_gets_in Disconnected p e = silent e
+client_gets_in Connecting p e = client_open_gets p e
+client_gets_in Connected p e = client_up_gets p e
 
 -- a packet comes to the client (3.2 to 3.13)
 abbrev pub client_gets : Packet → End → Reply
@@ -70,7 +70,7 @@ client_gets_all ps e = one_by_one client_gets ps e
 
 -- The user opens a connection with this CONNECT (3.1). One that was there is over first.
 abbrev pub connects : Connect → End → Reply
-connects c e = puts_out (packets.Connect c ∷ []) (record (renewed c.clean_session (over e)) { state = Open; keep_alive = c.keep_alive })
+connects c e = puts_out (packets.Connect c ∷ []) (record (renewed c.clean_session (over e)) { state = Connecting; keep_alive = c.keep_alive })
 
 -- SUBSCRIBE with this identifier (3.8)
 abbrev pub subscribes : ℕ → List Request → End → Reply

@@ -4,7 +4,7 @@ use Rattle.mq_packet.specs.declared.packet.Packet.{Packet}
 use Rattle.mq_flow.specs.Sender.{SenderBook, blank_book, no_claims, all_sent, resent}
 use Rattle.mq_flow.specs.Receiver.{ReceiverBook, none_received}
 use Rattle.mq_end.specs.declared.state.State.{State}
-use Rattle.mq_end.specs.declared.state.State.TheVariants.{Closed, Open, Up}
+use Rattle.mq_end.specs.declared.state.State.TheVariants.{Disconnected, Connecting, Connected}
 use Rattle.mq_end.specs.declared.happening.Happening.{Happening}
 use Rattle.mq_end.specs.declared.happening.Happening.TheVariants as happens
 use Rattle.mq_end.specs.declared.reason.CloseReason.{CloseReason}
@@ -30,12 +30,12 @@ pub record End : Type 0 where
 
 -- an end with this window, without a session (3.1.2.4) and without a connection
 abbrev pub blank_end : Option ℕ → End
-blank_end window = record { book = blank_book; received = none_received; last = 0; state = Closed; known = false; clean = false; keep_alive = 0; window = window }
+blank_end window = record { book = blank_book; received = none_received; last = 0; state = Disconnected; known = false; clean = false; keep_alive = 0; window = window }
 
 -- An end with this window that goes on with a session of before (3.1.2.4), its claimed identifiers freed; known is its mark.
 abbrev pub resumed : Option ℕ → Bool → SenderBook → ReceiverBook → ℕ → End
 resumed window known book received last =
-    record { book = no_claims book; received = received; last = last; state = Closed; known = known; clean = false; keep_alive = 0; window = window }
+    record { book = no_claims book; received = received; last = last; state = Disconnected; known = known; clean = false; keep_alive = 0; window = window }
 
 -- What comes of a packet or of a call: the end after it, the packets that it puts out in order, what it tells its user,
 -- the identifiers whose message of quality of service 1 is acknowledged, and why the connection is closed, where it is.
@@ -48,15 +48,15 @@ pub record Reply : Type 0 where
 
 -- the CONNECT of the connection is accepted (3.2)
 abbrev pub is_up : State → Bool
-is_up Closed = false
-is_up Open = false
-is_up Up = true
+is_up Disconnected = false
+is_up Connecting = false
+is_up Connected = true
 
 -- there is a connection (4.2)
 abbrev pub is_live : State → Bool
-is_live Closed = false
-is_live Open = true
-is_live Up = true
+is_live Disconnected = false
+is_live Connecting = true
+is_live Connected = true
 
 -- nothing comes of it but the end
 abbrev pub silent : End → Reply
@@ -78,7 +78,7 @@ over e = record e {
   book = if e.clean then blank_book else no_claims e.book;
   received = if e.clean then none_received else e.received;
   last = if e.clean then 0 else e.last;
-  state = Closed;
+  state = Disconnected;
   known = if e.clean then false else e.known;
   clean = false;
 }
@@ -106,7 +106,7 @@ renewed clean e = record e {
 -- accepted since.
 abbrev pub comes_up : List Packet → Bool → End → Reply
 comes_up before session_present e = record {
-  end = record e { state = Up; known = true; book = all_sent e.book };
+  end = record e { state = Connected; known = true; book = all_sent e.book };
   out = before ++ resent e.book;
   happenings = happens.Up session_present ∷ [];
   freed = [];

@@ -9,7 +9,7 @@ use Rattle.mq_flow.specs.Receiver.{none_received}
 use Rattle.mq_flow.specs.Window.{IsWithin}
 use Rattle.mq_flow.specs.Laws.{IsSound, IsGiven}
 use Rattle.mq_end.specs.declared.reason.CloseReason.{CloseReason}
-use Rattle.mq_end.specs.declared.state.State.TheVariants.{Closed}
+use Rattle.mq_end.specs.declared.state.State.TheVariants.{Disconnected}
 use Rattle.mq_end.specs.End.{End, drops, over, silent}
 use Rattle.mq_end.specs.Both.{publishes, publish_refusal, has_identifier}
 use Rattle.mq_end.specs.Client.{client_gets, client_gets_all, connects, subscribes, unsubscribes, subscribe_refusal, unsubscribe_refusal, leaves}
@@ -46,12 +46,12 @@ pub record ClosingLaws : Type 0 where
   pub level : (e : End) → (level_refused e).end ≡ over e
   pub late : (last now : ℕ) (e : End) (reason : CloseReason) → (server_ticks last now e).close ≡ Some reason → (server_ticks last now e).end ≡ over e
   pub leave : (e : End) → (leaves e).end ≡ over e
-  pub closed : (e : End) → (over e).state ≡ Closed
+  pub closed : (e : End) → (over e).state ≡ Disconnected
   pub keeps : (e : End) → e.clean ≡ false → ((over e).book ≡ no_claims e.book) × ((over e).received ≡ e.received) × ((over e).known ≡ e.known)
   pub discards : (e : End) → e.clean ≡ true → ((over e).book ≡ blank_book) × ((over e).received ≡ none_received) × ((over e).known ≡ false)
   -- a closed end takes nothing in
-  pub client_ignores : (ps : List Packet) (e : End) → e.state ≡ Closed → client_gets_all ps e ≡ silent e
-  pub server_ignores : (ps : List Packet) (e : End) → e.state ≡ Closed → server_gets_all ps e ≡ silent e
+  pub client_ignores : (ps : List Packet) (e : End) → e.state ≡ Disconnected → client_gets_all ps e ≡ silent e
+  pub server_ignores : (ps : List Packet) (e : End) → e.state ≡ Disconnected → server_gets_all ps e ≡ silent e
 
 -- From one end to the next: the window is the same, and at most as many identifiers are stored as it has or as were stored before.
 abbrev pub KeepsWindow : End → End → Type 0

@@ -1,5 +1,5 @@
 pub mod End
-pub mod Few
+pub mod SmallList
 pub mod Sizes
 pub mod SizeLaws
 pub mod Both

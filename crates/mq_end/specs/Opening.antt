@@ -6,7 +6,7 @@ use Rattle.mq_packet.specs.declared.connack.ConnAck.TheVariants as connacks
 use Rattle.mq_packet.specs.declared.connack.RefusalCode.TheVariants.{IdentifierRejected}
 use Rattle.mq_packet.specs.declared.packet.Packet.{Packet}
 use Rattle.mq_packet.specs.declared.packet.Packet.TheVariants as packets
-use Rattle.mq_end.specs.declared.opening.Terms.{Terms}
+use Rattle.mq_end.specs.declared.first_packet.Terms.{Terms}
 use Rattle.mq_end.specs.End.{End, Reply, comes_up, renewed}
 use Rattle.mq_end.specs.Server.{refuses}
 

@@ -5,10 +5,10 @@ use Rattle.mq_packet.specs.declared.connect.Connect.{Connect}
 use Rattle.mq_packet.specs.declared.message.Message.{Message}
 use Rattle.mq_packet.specs.declared.packet.Packet.{Packet}
 use Rattle.mq_packet.specs.declared.packet.Packet.TheVariants as packets
-use Rattle.mq_packet.specs.Spelling.{fields}
+use Rattle.mq_packet.specs.Encoding.{fields}
 use Rattle.mq_flow.specs.Sender.{same_qos}
 use Rattle.mq_end.specs.declared.state.State.{State}
-use Rattle.mq_end.specs.declared.state.State.TheVariants.{Open}
+use Rattle.mq_end.specs.declared.state.State.TheVariants.{Connecting}
 use Rattle.mq_end.specs.End.{is_up}
 use Rattle.mq_end.specs.Server.{opens, server_gets}
 use Rattle.mq_end.specs.Both.{has_identifier}
@@ -44,9 +44,9 @@ is_exactly_once (packets.Publish p) = same_qos Q2 p.message.qos
 is_exactly_once p = false
 
 -- each of these packets has a remaining length that can be spelled (2.2.3)
-abbrev pub AreSpellable : List Packet → Type 0
-AreSpellable [] = Unit {0}
-AreSpellable (p ∷ ps) = (length (fields p) < 2 ^ 28) × AreSpellable ps
+abbrev pub AreEncodable : List Packet → Type 0
+AreEncodable [] = Unit {0}
+AreEncodable (p ∷ ps) = (length (fields p) < 2 ^ 28) × AreEncodable ps
 
 -- An end has room for these packets to be put out: it takes no more memory for their bytes.
 abbrev pub FitsRoom : List Packet → EndState → Type 0
@@ -57,10 +57,10 @@ FitsRoom ps s = length s.output + packets_size ps ≤ s.room.bytes
 pub record HasRise (c : Connect) (ms : List Message) (more : ℕ) (s : EndState) : Type 0 where
   pub messages : length (filter (λ m. has_identifier m.qos) ms) ≤ s.room.messages
   pub bytes : packets_size (server_gets (packets.Connect c) (opens s.end).end).out + (publishes_size ms + more) ≤ s.room.bytes
-  pub spellable : AreSpellable (server_gets (packets.Connect c) (opens s.end).end).out
+  pub encodable : AreEncodable (server_gets (packets.Connect c) (opens s.end).end).out
 
 -- An end waits for a CONNECT on a connection that was opened, and nothing was put out on it (3.1).
 pub record CanRise (s : EndState) : Type 0 where
-  pub state : s.end.state ≡ Open
+  pub state : s.end.state ≡ Connecting
   pub clean : s.end.clean ≡ false
   pub output : s.output ≡ []

@@ -5,15 +5,15 @@ use Rattle.mq_packet.specs.declared.packet.Packet.{Packet}
 use Rattle.mq_decode.specs.declared.fault.DecodeFault.{DecodeFault}
 use Rattle.mq_decode.specs.Limits.{Bounds}
 use Rattle.mq_decode.specs.Grammar.{Stream, Pending, Faulty, ReadsWithin}
-use Rattle.mq_end.specs.declared.handing.Handing.{Handing}
-use Rattle.mq_end.specs.declared.handing.Handing.TheVariants as handings
+use Rattle.mq_end.specs.declared.publish_outcome.PublishOutcome.{PublishOutcome}
+use Rattle.mq_end.specs.declared.publish_outcome.PublishOutcome.TheVariants as handings
 use Rattle.mq_end.specs.declared.happening.Happening.{Happening}
 use Rattle.mq_end.specs.declared.happening.Happening.TheVariants as happens
 use Rattle.mq_end.specs.declared.reason.CloseReason.{CloseReason}
-use Rattle.mq_end.specs.declared.outcome.Outcome.{Outcome}
+use Rattle.mq_end.specs.declared.packet_outcome.PacketOutcome.{PacketOutcome}
 use Rattle.mq_end.specs.declared.role.Role.{Role}
 use Rattle.mq_end.specs.declared.role.Role.TheVariants.{Client, Server}
-use Rattle.mq_end.specs.declared.told.Told.{Told}
+use Rattle.mq_end.specs.declared.progress_builder.ProgressBuilder.{ProgressBuilder}
 use Rattle.mq_end.specs.declared.reason.CloseReason.TheVariants as reasons
 use Rattle.mq_end.specs.End.{End, Reply, closes, followed, is_up, one_by_one}
 use Rattle.mq_end.specs.Client.{client_gets}
@@ -66,9 +66,9 @@ ServerReceives piece old new happenings acknowledged closed = (r : Reply)
 -- The server's moment, of the last whole packet, after bytes that came now: b are those held before, and they. Less than a whole
 -- packet says nothing, and an end that closes keeps its moment (3.1.2.10).
 pub record HearsAt (now : ℕ) (b : List ℕ) (closed : Option CloseReason) (old new : EndState) : Type 0 where
-  pub waits : Pending old.limit b → new.moment ≡ old.moment
-  pub closes : IsSome closed → new.moment ≡ old.moment
-  pub hears : closed ≡ None → ¬ Pending old.limit b → new.moment ≡ now
+  pub waits : Pending old.limit b → new.last_activity ≡ old.last_activity
+  pub closes : IsSome closed → new.last_activity ≡ old.last_activity
+  pub hears : closed ≡ None → ¬ Pending old.limit b → new.last_activity ≡ now
 
 -- the moment of an end of this role, where a whole packet came now or none did (3.1.2.10)
 abbrev pub heard_as : Role → Bool → ℕ → ℕ → ℕ
@@ -77,7 +77,7 @@ heard_as Server came now last = if came then now else last
 
 -- the moment of an end of this role after bytes that came now: the client's is not that of what it hears (3.1.2.10)
 abbrev pub HeardAs : Role → ℕ → List ℕ → Option CloseReason → EndState → EndState → Type 0
-HeardAs Client now b closed old new = new.moment ≡ old.moment
+HeardAs Client now b closed old new = new.last_activity ≡ old.last_activity
 HeardAs Server now b closed old new = HearsAt now b closed old new
 
 -- ---- packets that are taken in, where memory may run out
@@ -93,7 +93,7 @@ pub record Acts (r : Reply) (old new : EndState) : Type 0 where
   pub state : new ≡ record old { end = r.end; output = new.output; held = held_after r.close old.held }
 
 -- A reply is made: the end after it, its packets put out; and the outcome says what it tells.
-pub record Gives (r : Reply) (o : Outcome) (old new : EndState) : Type 0 where
+pub record Gives (r : Reply) (o : PacketOutcome) (old new : EndState) : Type 0 where
   pub out : PutsOut r.out old.output new.output
   pub state : new ≡ record old { end = r.end; output = new.output; held = held_after r.close old.held }
   pub happening : option_to_list o.happening ≡ r.happenings
@@ -101,14 +101,14 @@ pub record Gives (r : Reply) (o : Outcome) (old new : EndState) : Type 0 where
   pub close : o.closed ≡ r.close
 
 -- A reply is made: the end after it, its packets put out, and what it tells behind what was told before.
-pub record Makes (r : Reply) (old new : EndState) (told now : Told) : Type 0 where
+pub record Makes (r : Reply) (old new : EndState) (told now : ProgressBuilder) : Type 0 where
   pub out : PutsOut r.out old.output new.output
   pub state : new ≡ record old { end = r.end; output = new.output; held = held_after r.close old.held }
   pub happenings : now.happenings.items ≡ told.happenings.items ++ r.happenings
   pub acknowledged : now.acknowledged.items ≡ told.acknowledged.items ++ r.freed
 
 -- nothing happens, since memory ran out
-pub record Stays (old new : EndState) (told now : Told) : Type 0 where
+pub record Stays (old new : EndState) (told now : ProgressBuilder) : Type 0 where
   pub state : new ≡ old
   pub happenings : now.happenings.items ≡ told.happenings.items
   pub acknowledged : now.acknowledged.items ≡ told.acknowledged.items
@@ -139,11 +139,11 @@ abbrev pub IsBreak : Role → DecodeFault → End → Reply → Type 0
 IsBreak role fault e r = (r ≡ faulted_as role fault e) ⊎ (r ≡ closes reasons.Memory e)
 
 -- Bytes came to an end with a connection, and this is what it did with them.
-pub record Hears (role : Role) (now : ℕ) (piece : List ℕ) (old new : EndState) (told after : Told) (closed : Option CloseReason) : Type 0 where
+pub record Hears (role : Role) (now : ℕ) (piece : List ℕ) (old new : EndState) (told after : ProgressBuilder) (closed : Option CloseReason) : Type 0 where
   pub reply : Reply
   pub receives : Receives old.limit (gets_as role) (faulted_as role) (old.held ++ piece) old.end reply new.held
   pub out : PutsOut reply.out old.output new.output
-  pub state : new ≡ record old { end = reply.end; output = new.output; held = new.held; moment = new.moment }
+  pub state : new ≡ record old { end = reply.end; output = new.output; held = new.held; last_activity = new.last_activity }
   pub heard : HeardAs role now (old.held ++ piece) closed old new
   pub happenings : after.happenings.items ≡ told.happenings.items ++ reply.happenings
   pub acknowledged : after.acknowledged.items ≡ told.acknowledged.items ++ reply.freed
@@ -151,7 +151,7 @@ pub record Hears (role : Role) (now : ℕ) (piece : List ℕ) (old new : EndStat
 
 -- The next whole packet of what is held and a piece came to an end of this role: it took so many bytes of the piece, this came of it, or
 -- there was no memory for it and the end closed; and why the end closed, where it did. Nothing is held behind it.
-pub record TakesNext (role : Role) (piece : List ℕ) (size : ℕ) (closed : Option CloseReason) (old new : EndState) (told now : Told) : Type 0 where
+pub record TakesNext (role : Role) (piece : List ℕ) (size : ℕ) (closed : Option CloseReason) (old new : EndState) (told now : ProgressBuilder) : Type 0 where
   pub within : size ≤ length piece
   pub packet : Packet
   pub reads : ReadsWithin old.limit packet (old.held ++ take size piece)
@@ -180,7 +180,7 @@ pub record TakesAs (role : Role) (now : ℕ) (p : Packet) (old new : EndState) (
   pub reply : Reply
   pub does : (reply ≡ gets_as role p old.end) ⊎ (reply ≡ closes reasons.Memory old.end)
   pub shows : Shows reply old new happenings acknowledged closed
-  pub state : new ≡ record old { end = reply.end; output = new.output; held = held_after reply.close old.held; moment = heard_one_as role reply.close now old.moment }
+  pub state : new ≡ record old { end = reply.end; output = new.output; held = held_after reply.close old.held; last_activity = heard_one_as role reply.close now old.last_activity }
 
 -- it came to the client
 abbrev pub ClientTakes : ℕ → Packet → EndState → EndState → List Happening → List ℕ → Option CloseReason → Type 0
@@ -192,29 +192,29 @@ TakesOne now p old new happenings acknowledged closed = TakesAs Server now p old
 
 -- A whole packet came to a server end with a connection, and this came of it: what is put out, all of the new state, and what the
 -- outcome tells.
-pub record TakesPacket (now : ℕ) (p : Packet) (o : Outcome) (old new : EndState) : Type 0 where
+pub record TakesPacket (now : ℕ) (p : Packet) (o : PacketOutcome) (old new : EndState) : Type 0 where
   pub out : PutsOut (server_gets p old.end).out old.output new.output
   pub state : new ≡ record old {
     end = (server_gets p old.end).end;
     output = new.output;
     held = held_after (server_gets p old.end).close old.held;
-    moment = heard_one (server_gets p old.end).close now old.moment;
+    last_activity = heard_one (server_gets p old.end).close now old.last_activity;
   }
   pub happening : option_to_list o.happening ≡ (server_gets p old.end).happenings
   pub acknowledged : option_to_list o.acknowledged ≡ (server_gets p old.end).freed
   pub close : o.closed ≡ (server_gets p old.end).close
 
 -- nothing came of it
-abbrev pub no_outcome : Outcome
+abbrev pub no_outcome : PacketOutcome
 no_outcome = record { happening = None; acknowledged = None; closed = None }
 
 -- what is told of a message, by what came of its PUBLISH (4.3)
-abbrev pub outcome_of : Handing → Message → Outcome
+abbrev pub outcome_of : PublishOutcome → Message → PacketOutcome
 outcome_of handings.HandedOn m = record { happening = Some (happens.Handed m); acknowledged = None; closed = None }
 outcome_of handings.Nothing m = no_outcome
 outcome_of (handings.Closed reason) m = record { happening = None; acknowledged = None; closed = Some reason }
 
 -- the same where memory may run out
-abbrev pub told_of : {E : Type 0} → Message → Result Handing E → Result Outcome E
+abbrev pub told_of : {E : Type 0} → Message → Result PublishOutcome E → Result PacketOutcome E
 told_of m (Ok handing) = Ok (outcome_of handing m)
 told_of m (Err e) = Err e

@@ -13,9 +13,9 @@ pub record Requests (id : ℕ) (r : Reply) (old new : EndState) : Type 0 where
 
 -- The client is told the time (3.1.2.10).
 pub record Ticks (now : ℕ) (old new : EndState) : Type 0 where
-  pub out : PutsOut (client_ticks old.moment now old.end).out old.output new.output
+  pub out : PutsOut (client_ticks old.last_activity now old.end).out old.output new.output
   pub state : new ≡ record old {
-    end = (client_ticks old.moment now old.end).end;
+    end = (client_ticks old.last_activity now old.end).end;
     output = new.output;
-    moment = client_since old.moment now old.end;
+    last_activity = client_since old.last_activity now old.end;
   }

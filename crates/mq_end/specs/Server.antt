@@ -11,7 +11,7 @@ use Rattle.mq_packet.specs.declared.packet.Packet.{Packet}
 use Rattle.mq_packet.specs.declared.packet.Packet.TheVariants as packets
 use Rattle.mq_flow.specs.Sender.{uses}
 use Rattle.mq_end.specs.declared.state.State.{State}
-use Rattle.mq_end.specs.declared.state.State.TheVariants.{Closed, Open, Up}
+use Rattle.mq_end.specs.declared.state.State.TheVariants.{Disconnected, Connecting, Connected}
 use Rattle.mq_end.specs.declared.happening.Happening.{Happening}
 use Rattle.mq_end.specs.declared.happening.Happening.TheVariants as happens
 use Rattle.mq_end.specs.declared.reason.CloseReason.TheVariants as reasons
@@ -62,9 +62,9 @@ server_up_gets p e = flow_gets p e
 -- a packet comes to a server whose connection is so far
 abbrev pub server_gets_in : State → Packet → End → Reply
 -- without a connection nothing comes
-server_gets_in Closed p e = silent e
-server_gets_in Open p e = server_open_gets p e
-server_gets_in Up p e = server_up_gets p e
+server_gets_in Disconnected p e = silent e
+server_gets_in Connecting p e = server_open_gets p e
+server_gets_in Connected p e = server_up_gets p e
 
 -- a packet comes to the server (3.1 to 3.14)
 abbrev pub server_gets : Packet → End → Reply
@@ -87,7 +87,7 @@ would_hand p e = list_any is_handed (server_gets p e).happenings
 
 -- a connection is opened (4.2); one that was there is over first
 abbrev pub opens : End → Reply
-opens e = silent (record (over e) { state = Open })
+opens e = silent (record (over e) { state = Connecting })
 
 -- why a message is refused, the first that stands: there has to be a session for the client (3.1.2.4)
 abbrev pub server_publish_refusal : ℕ → ℕ → Message → End → Option PublishRefusal

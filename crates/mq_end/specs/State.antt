@@ -1,7 +1,7 @@
 -- What contracts see of an end: what it sends and receives, and the bytes of its connection.
 use Rattle.std.specs.Prelude.{◌≡◌, ℕ, Bool, true, false, not, ◌&&◌, if◌then◌else◌, ◌-◌, List, [], ◌∷◌, ◌++◌}
 use Rattle.mq_packet.specs.declared.packet.Packet.{Packet}
-use Rattle.mq_packet.specs.Spelling.{Spells}
+use Rattle.mq_packet.specs.Encoding.{Encodes}
 use Rattle.mq_decode.specs.Limits.{Bounds}
 use Rattle.mq_decode.specs.declared.fault.FaultKind.{FaultKind}
 use Rattle.mq_decode.specs.declared.fault.FaultKind.TheVariants.{ProtocolLevel}
@@ -28,7 +28,7 @@ pub record EndState : Type 0 where
   pub limit : Bounds
   pub held : List ℕ
   pub output : List ℕ
-  pub moment : ℕ
+  pub last_activity : ℕ
   pub room : Room
 
 -- no room
@@ -44,13 +44,13 @@ abbrev pub bytes_less : ℕ → Room → Room
 bytes_less count r = record r { bytes = r.bytes - count }
 
 -- bytes that spell packets, one after another (chapter 3)
-abbrev pub Spelled : List Packet → List ℕ → Type 0
-Spelled [] b = b ≡ []
-Spelled (p ∷ ps) b = (first : List ℕ) × (rest : List ℕ) × Spells p first × Spelled ps rest × (b ≡ first ++ rest)
+abbrev pub EncodesAll : List Packet → List ℕ → Type 0
+EncodesAll [] b = b ≡ []
+EncodesAll (p ∷ ps) b = (first : List ℕ) × (rest : List ℕ) × Encodes p first × EncodesAll ps rest × (b ≡ first ++ rest)
 
 -- packets are put out: the bytes that wait to be written grow by their spellings
 abbrev pub PutsOut : List Packet → List ℕ → List ℕ → Type 0
-PutsOut ps old new = (b : List ℕ) × Spelled ps b × (new ≡ old ++ b)
+PutsOut ps old new = (b : List ℕ) × EncodesAll ps b × (new ≡ old ++ b)
 
 -- ---- bytes that are no packet
 

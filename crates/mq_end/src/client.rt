@@ -17,13 +17,13 @@ ghost use Rattle.mq_flow.specs.Saved.{AreWithin, IsSession};
 ghost use Rattle.mq_flow.specs.SavedTwo.{saved_form_two};
 
 use crate::config::ClientConfig;
-use crate::link::Link;
+use crate::endpoint::Endpoint;
 use crate::output::Output;
 use crate::progress::Progress;
 use crate::queue::ByteQueue;
 use crate::reason::CloseReason;
 use crate::refusal::PublishRefusal;
-use crate::resuming::{fits_within, names_another};
+use crate::resume::{fits_within, names_another};
 use crate::role::Role;
 use crate::state::State;
 use mq_decode::PacketView;
@@ -38,7 +38,7 @@ use std::marker::Model;
 #[derive(Debug, Drop)]
 pub struct ClientEnd {
     config: ClientConfig,
-    link: Link,
+    link: Endpoint,
 }
 
 impl Model for ClientEnd {
@@ -68,7 +68,7 @@ impl ClientEnd {
         ensures room { result.link.room ≡ no_room }
         ensures config { result.config ≡ config }
     {
-        let link = Link::new(alloc, config.limits, config.capacity, config.window);
+        let link = Endpoint::new(alloc, config.limits, config.capacity, config.window);
         ClientEnd { config, link }
     }
 
@@ -91,7 +91,7 @@ impl ClientEnd {
             drop(session);
             return None;
         }
-        let link = Link::with_session(alloc, config.limits, config.window, session, false);
+        let link = Endpoint::with_session(alloc, config.limits, config.window, session, false);
         Some(ClientEnd { config, link })
     }
 
@@ -127,7 +127,7 @@ impl ClientEnd {
             drop(saved);
             return Err(LoadError::TooLarge);
         }
-        let link = Link::with_session(
+        let link = Endpoint::with_session(
             alloc,
             config.limits,
             config.window,
@@ -170,7 +170,7 @@ impl ClientEnd {
         ensures end { OnOk result (self.new.link.end ≡ (connects (connect_of self.old.config clean) self.old.link.end).end) }
         ensures output { OnOk result (PutsOut (packets.Connect (connect_of self.old.config clean) ∷ []) [] self.new.link.output) }
         ensures held { OnOk result (self.new.link.held ≡ []) }
-        ensures moment { OnOk result (self.new.link.moment ≡ now) }
+        ensures last_activity { OnOk result (self.new.link.last_activity ≡ now) }
         ensures limit { self.new.link.limit ≡ self.old.link.limit }
         ensures capacity { self.new.link.capacity ≡ self.old.link.capacity }
         ensures config { self.new.config ≡ self.old.config }
@@ -195,7 +195,7 @@ impl ClientEnd {
             → (result.happenings ≡ []) × (result.acknowledged ≡ []) × (result.closed ≡ None) }
         ensures limit { self.new.link.limit ≡ self.old.link.limit }
         ensures capacity { self.new.link.capacity ≡ self.old.link.capacity }
-        ensures moment { self.new.link.moment ≡ self.old.link.moment }
+        ensures last_activity { self.new.link.last_activity ≡ self.old.link.last_activity }
         ensures window { KeepsWindow self.old.link.end self.new.link.end }
         ensures config { self.new.config ≡ self.old.config }
     {
@@ -279,7 +279,7 @@ impl ClientEnd {
     /// then nothing changes.
     pub fn tick(&mut self, now: u64) -> Result<Option<CloseReason>, AllocError>
         ensures ok { OnOk result (Ticks now self.old.link self.new.link) }
-        ensures memory { OnErr result (pings self.old.link.moment now self.old.link.end ≡ true) }
+        ensures memory { OnErr result (pings self.old.link.last_activity now self.old.link.end ≡ true) }
         ensures closed { IfOk result (λ closed. closed ≡ None) }
         ensures config { self.new.config ≡ self.old.config }
         ensures err { OnErr result (self.new ≡ self.old) }
@@ -295,7 +295,7 @@ impl ClientEnd {
         ensures held { self.new.link.held ≡ [] }
         ensures limit { self.new.link.limit ≡ self.old.link.limit }
         ensures capacity { self.new.link.capacity ≡ self.old.link.capacity }
-        ensures moment { self.new.link.moment ≡ self.old.link.moment }
+        ensures last_activity { self.new.link.last_activity ≡ self.old.link.last_activity }
         ensures room { self.new.link.room ≡ self.old.link.room }
         ensures config { self.new.config ≡ self.old.config }
     {

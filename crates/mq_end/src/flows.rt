@@ -10,9 +10,9 @@ ghost use Rattle.mq_end.specs.Both.{flow_gets, publish_gets, stores};
 ghost use Rattle.mq_end.specs.Ready.{FitsRoom, is_exactly_once};
 ghost use Rattle.mq_end.specs.Receiving.{Acts, Gives, outcome_of};
 
-use crate::handing::Handing;
-use crate::link::Link;
-use crate::outcome::Outcome;
+use crate::endpoint::Endpoint;
+use crate::packet_outcome::PacketOutcome;
+use crate::publish_outcome::PublishOutcome;
 use crate::reason::CloseReason;
 use mq_flow::{Reaction, Receiver};
 use mq_packet::{Delivery, Message, Packet, PacketId, Publish};
@@ -26,28 +26,28 @@ fn forget(receiver: &mut Receiver, id: PacketId)
     let _ = receiver.on_pubrel(id);
 }
 
-impl Link {
+impl Endpoint {
     /// A message of quality of service 1: it is handed on, and PUBACK answers (4.3.2).
-    fn take_at_least_once(&mut self, delivery: Delivery) -> Result<Handing, AllocError>
+    fn take_at_least_once(&mut self, delivery: Delivery) -> Result<PublishOutcome, AllocError>
         ensures ok { IfOk result (λ handing. (m : Message) → Gives (publish_gets Q1 (Some delivery) m self.old.end) (outcome_of handing m) self.old self.new) }
         ensures within { (m : Message) → FitsRoom (publish_gets Q1 (Some delivery) m self.old.end).out self.old → IsOk result }
         ensures err { OnErr result (self.new ≡ self.old) }
     {
         self.write(&Packet::PubAck(delivery.id))?;
-        Ok(Handing::HandedOn)
+        Ok(PublishOutcome::HandedOn)
     }
 
     /// A message of quality of service 2: its identifier is stored, and PUBREC answers; it is handed on where the
     /// identifier was not stored before (4.3.3).
-    fn take_exactly_once(&mut self, delivery: Delivery) -> Result<Handing, AllocError>
+    fn take_exactly_once(&mut self, delivery: Delivery) -> Result<PublishOutcome, AllocError>
         ensures ok { IfOk result (λ handing. (m : Message) → Gives (stores delivery.id m self.old.end) (outcome_of handing m) self.old self.new) }
         ensures err { OnErr result (self.new ≡ self.old) }
     {
         let before = self.output.len();
         self.write(&Packet::PubRec(delivery.id))?;
         match self.session.receiver.store(delivery.id) {
-            Ok(true) => Ok(Handing::HandedOn),
-            Ok(false) => Ok(Handing::Nothing),
+            Ok(true) => Ok(PublishOutcome::HandedOn),
+            Ok(false) => Ok(PublishOutcome::Nothing),
             Err(error) => {
                 self.output.truncate(before);
                 Err(error)
@@ -56,12 +56,12 @@ impl Link {
     }
 
     /// A message of quality of service 2: where it doesn't fit the window the end closes (4.3.3, 4.8).
-    fn take_within_window(&mut self, delivery: Delivery) -> Result<Handing, AllocError>
+    fn take_within_window(&mut self, delivery: Delivery) -> Result<PublishOutcome, AllocError>
         ensures ok { IfOk result (λ handing. (m : Message) → Gives (publish_gets Q2 (Some delivery) m self.old.end) (outcome_of handing m) self.old self.new) }
         ensures err { OnErr result (self.new ≡ self.old) }
     {
         if !self.session.receiver.fits(delivery.id, self.window) {
-            return Ok(Handing::Closed(self.close(CloseReason::Window)));
+            return Ok(PublishOutcome::Closed(self.close(CloseReason::Window)));
         }
         self.take_exactly_once(delivery)
     }
@@ -73,7 +73,7 @@ impl Link {
         &mut self,
         qos: Qos,
         delivery: Option<Delivery>,
-    ) -> Result<Handing, AllocError>
+    ) -> Result<PublishOutcome, AllocError>
         requires fits { fits_delivery qos delivery ≡ true }
         ensures ok { IfOk result (λ handing. (m : Message) → Gives (publish_gets qos delivery m self.old.end) (outcome_of handing m) self.old self.new) }
         ensures within { same_qos Q2 qos ≡ false → (m : Message) → FitsRoom (publish_gets qos delivery m self.old.end).out self.old → IsOk result }
@@ -82,7 +82,7 @@ impl Link {
         match (qos, delivery) {
             (Qos::Q1, Some(delivery)) => self.take_at_least_once(delivery),
             (Qos::Q2, Some(delivery)) => self.take_within_window(delivery),
-            _ => Ok(Handing::HandedOn),
+            _ => Ok(PublishOutcome::HandedOn),
         }
     }
 
@@ -92,7 +92,7 @@ impl Link {
         &mut self,
         delivery: Option<Delivery>,
         message: Message,
-    ) -> Result<Outcome, AllocError>
+    ) -> Result<PacketOutcome, AllocError>
         requires fits { fits_delivery message.qos delivery ≡ true }
         ensures ok { IfOk result (λ outcome. Gives (publish_gets message.qos delivery message self.old.end) outcome self.old self.new) }
         ensures within { is_exactly_once (packets.Publish (record { message = message; delivery = delivery })) ≡ false
@@ -105,7 +105,7 @@ impl Link {
 
     /// PUBLISH (3.3, 4.3).
     #[inline(always)]
-    fn take_publish(&mut self, publish: Publish) -> Result<Outcome, AllocError>
+    fn take_publish(&mut self, publish: Publish) -> Result<PacketOutcome, AllocError>
         ensures ok { IfOk result (λ outcome. Gives (flow_gets (packets.Publish publish) self.old.end) outcome self.old self.new) }
         ensures within { is_exactly_once (packets.Publish publish) ≡ false
             → FitsRoom (flow_gets (packets.Publish publish) self.old.end).out self.old → IsOk result }
@@ -116,12 +116,12 @@ impl Link {
     }
 
     /// PUBACK (3.4, 4.3.2).
-    pub(crate) fn take_puback(&mut self, id: PacketId) -> Outcome
+    pub(crate) fn take_puback(&mut self, id: PacketId) -> PacketOutcome
         ensures { Gives (flow_gets (packets.PubAck id) self.old.end) result self.old self.new }
     {
         match self.session.sender.on_puback(id) {
-            Reaction::Freed => Outcome::acknowledges(id),
-            Reaction::Release(_) | Reaction::Stray => Outcome::nothing(),
+            Reaction::Freed => PacketOutcome::acknowledges(id),
+            Reaction::Release(_) | Reaction::Stray => PacketOutcome::nothing(),
         }
     }
 
@@ -160,7 +160,7 @@ impl Link {
     /// which it does within the room only where an identifier is stored, and then nothing changes.
     #[inline(always)]
     #[tactic(auto, using(crate::proofs::Outcomes::quiet))]
-    pub(crate) fn take_flow(&mut self, packet: Packet) -> Result<Outcome, AllocError>
+    pub(crate) fn take_flow(&mut self, packet: Packet) -> Result<PacketOutcome, AllocError>
         ensures ok { IfOk result (λ outcome. Gives (flow_gets packet self.old.end) outcome self.old self.new) }
         ensures within { is_exactly_once packet ≡ false → FitsRoom (flow_gets packet self.old.end).out self.old → IsOk result }
         ensures err { OnErr result (self.new ≡ self.old) }
@@ -171,8 +171,8 @@ impl Link {
             Packet::PubRec(id) => self.take_pubrec(id)?,
             Packet::PubRel(id) => self.take_pubrel(id)?,
             Packet::PubComp(id) => self.take_pubcomp(id),
-            _ => return Ok(Outcome::closes(self.close(CloseReason::Unexpected))),
+            _ => return Ok(PacketOutcome::closes(self.close(CloseReason::Unexpected))),
         }
-        Ok(Outcome::nothing())
+        Ok(PacketOutcome::nothing())
     }
 }

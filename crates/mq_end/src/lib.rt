@@ -3,49 +3,49 @@
 //! The definitions are in `specs/`; this crate has the words that they share with the code.
 #![tactic(auto)]
 
+mod boxed_list;
 mod client;
 mod config;
-mod few;
+mod endpoint;
+mod first_packet;
 mod flows;
-mod handing;
 mod happening;
-mod items;
 mod laws;
-mod lent;
-mod link;
-mod opening;
-mod outcome;
 mod output;
+mod packet_outcome;
+mod packets;
 mod progress;
-mod publishing;
+mod progress_builder;
+mod publish;
+mod publish_outcome;
 mod queue;
 mod ready;
 mod reason;
-mod receiving;
+mod receive;
 mod refusal;
-mod requesting;
-mod resending;
-mod resuming;
-mod rising;
+mod requests;
+mod resend;
+mod reserve_connect;
+mod resume;
 mod role;
 mod server;
+mod small_list;
 mod state;
-mod taking;
-mod told;
+mod views;
 
+pub use crate::boxed_list::BoxedList;
 pub use crate::client::ClientEnd;
 pub use crate::config::{ClientConfig, ServerConfig};
-pub use crate::few::Few;
-pub use crate::handing::Handing;
 pub use crate::happening::Happening;
-pub use crate::items::Items;
 pub use crate::laws::{
     closing_laws, keep_alive_laws, ready_laws, size_laws, sound_laws, window_laws,
 };
-pub use crate::outcome::Outcome;
+pub use crate::packet_outcome::PacketOutcome;
 pub use crate::progress::Progress;
+pub use crate::publish_outcome::PublishOutcome;
 pub use crate::queue::ByteQueue;
 pub use crate::reason::CloseReason;
 pub use crate::refusal::PublishRefusal;
 pub use crate::server::ServerEnd;
+pub use crate::small_list::SmallList;
 pub use crate::state::State;

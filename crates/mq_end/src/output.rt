@@ -2,7 +2,7 @@
 
 ghost use Rattle.std.specs.Prelude.{◌≡◌, ℕ, ◌+◌, ◌-◌, ◌<◌, ◌≤◌, ◌^◌, List, [], ◌++◌, length, drop, take, true, IsOk, IfOk, OnOk, OnErr};
 ghost use Rattle.mq_packet.specs.Publication.{fits_delivery};
-ghost use Rattle.mq_packet.specs.Spelling.{Spells, fields};
+ghost use Rattle.mq_packet.specs.Encoding.{Encodes, fields};
 ghost use Rattle.mq_end.specs.Ready.{whole_size};
 
 use bytes::Bytes;
@@ -86,7 +86,7 @@ impl Output {
     /// too large, and then nothing changes.
     pub(crate) fn append_packet(&mut self, packet: &Packet) -> Result<(), AllocError>
         ensures ok { OnOk result
-            ((b : List ℕ) × Spells packet.now b × (self.new ≡ record self.old { bytes = self.old.bytes ++ b })) }
+            ((b : List ℕ) × Encodes packet.now b × (self.new ≡ record self.old { bytes = self.old.bytes ++ b })) }
         ensures within { length (fields packet.now) < 2 ^ 28
             → length self.old.bytes + whole_size (length (fields packet.now)) ≤ self.old.room → IsOk result }
         ensures err { OnErr result (self.new ≡ self.old) }
@@ -108,7 +108,7 @@ impl Output {
     ) -> Result<(), AllocError>
         requires { fits_delivery message.now.qos delivery ≡ true }
         ensures ok { let packet = Packet.Publish (record { message = message.now; delivery = delivery }) in OnOk result
-            ((b : List ℕ) × Spells packet b × (self.new ≡ record self.old { bytes = self.old.bytes ++ b })) }
+            ((b : List ℕ) × Encodes packet b × (self.new ≡ record self.old { bytes = self.old.bytes ++ b })) }
         ensures within { let packet = Packet.Publish (record { message = message.now; delivery = delivery }) in
             length (fields packet) < 2 ^ 28
             → length self.old.bytes + whole_size (length (fields packet)) ≤ self.old.room → IsOk result }

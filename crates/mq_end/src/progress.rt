@@ -2,9 +2,9 @@
 
 ghost use Rattle.std.specs.Prelude.{◌≡◌};
 
-use crate::few::Few;
 use crate::happening::Happening;
 use crate::reason::CloseReason;
+use crate::small_list::SmallList;
 use mq_packet::PacketId;
 use std::alloc::AllocError;
 
@@ -12,10 +12,10 @@ use std::alloc::AllocError;
 #[derive(Debug, Drop)]
 pub struct Progress {
     /// What the packets tell, in their order.
-    pub happenings: Few<Happening>,
+    pub happenings: SmallList<Happening>,
     /// The identifiers of the messages of quality of service 1 that were acknowledged and are free (4.3.2), in
     /// their order.
-    pub acknowledged: Few<PacketId>,
+    pub acknowledged: SmallList<PacketId>,
     /// Why the end closed, where it did.
     pub closed: Option<CloseReason>,
 }

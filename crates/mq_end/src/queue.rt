@@ -2,7 +2,7 @@
 
 ghost use Rattle.std.specs.Prelude.{◌≡◌, ℕ, ◌≤◌, ◌==◌, List, [], ◌++◌, length, drop, take, true, IsOk, IfOk, OnOk, OnErr};
 ghost use Rattle.mq_packet.specs.Publication.{fits_delivery};
-ghost use Rattle.mq_packet.specs.Spelling.{Spells};
+ghost use Rattle.mq_packet.specs.Encoding.{Encodes};
 
 use crate::output::Output;
 use bytes::Bytes;
@@ -68,7 +68,7 @@ impl ByteQueue {
     /// nothing changes.
     pub fn append_packet(&mut self, packet: &Packet) -> Result<(), AllocError>
         ensures ok { OnOk result
-            ((b : List ℕ) × Spells packet.now b × (self.new ≡ self.old ++ b)) }
+            ((b : List ℕ) × Encodes packet.now b × (self.new ≡ self.old ++ b)) }
         ensures err { OnErr result (self.new ≡ self.old) }
     {
         self.output.append_packet(packet)
@@ -83,7 +83,7 @@ impl ByteQueue {
     ) -> Result<(), AllocError>
         requires { fits_delivery message.now.qos delivery ≡ true }
         ensures ok { OnOk result
-            ((b : List ℕ) × Spells (Packet.Publish (record { message = message.now; delivery = delivery })) b
+            ((b : List ℕ) × Encodes (Packet.Publish (record { message = message.now; delivery = delivery })) b
             × (self.new ≡ self.old ++ b)) }
         ensures err { OnErr result (self.new ≡ self.old) }
     {

@@ -9,8 +9,8 @@ ghost use Rattle.mq_end.specs.Ready.{HasRoom, publishes_size, size_at_once};
 ghost use Rattle.mq_end.specs.Server.{ready_refusal};
 ghost use Rattle.mq_end.specs.Sizes.{publish_size};
 
-use crate::link::Link;
-use crate::publishing::publish_size;
+use crate::endpoint::Endpoint;
+use crate::publish::publish_size;
 use crate::refusal::PublishRefusal;
 use crate::state::State;
 use mq_packet::Message;
@@ -66,12 +66,12 @@ pub(crate) fn size_of_all(messages: &[Message]) -> Option<usize>
     Some(size)
 }
 
-impl Link {
+impl Endpoint {
     /// Whether the end is up (3.2).
     fn is_up(&self) -> bool
         ensures { result ≡ is_up self.now.end.state }
     {
-        self.state == State::Up
+        self.state == State::Connected
     }
 
     /// Whether one of the messages is refused for lack of a session (3.1.2.4).

@@ -17,14 +17,14 @@ ghost use Rattle.mq_end.specs.Laws.{KeepsWindow};
 ghost use Rattle.mq_end.specs.Resuming.{FitsWithin};
 
 use crate::config::ServerConfig;
-use crate::handing::Handing;
-use crate::link::Link;
-use crate::outcome::Outcome;
+use crate::endpoint::Endpoint;
+use crate::packet_outcome::PacketOutcome;
 use crate::progress::Progress;
+use crate::publish_outcome::PublishOutcome;
 use crate::queue::ByteQueue;
 use crate::reason::CloseReason;
 use crate::refusal::PublishRefusal;
-use crate::resuming::fits_within;
+use crate::resume::fits_within;
 use crate::role::Role;
 use crate::state::State;
 use mq_decode::PacketView;
@@ -38,7 +38,7 @@ use std::marker::Model;
 /// happenings and bytes come out; it knows no socket and no clock. Moments are milliseconds.
 #[derive(Debug, Drop)]
 pub struct ServerEnd {
-    link: Link,
+    link: Endpoint,
 }
 
 impl Model for ServerEnd {
@@ -67,7 +67,7 @@ impl ServerEnd {
         ensures room { result.room ≡ no_room }
     {
         ServerEnd {
-            link: Link::new(alloc, config.limits, config.capacity, config.window),
+            link: Endpoint::new(alloc, config.limits, config.capacity, config.window),
         }
     }
 
@@ -89,7 +89,7 @@ impl ServerEnd {
             drop(session);
             return None;
         }
-        let link = Link::with_session(alloc, config.limits, config.window, session, true);
+        let link = Endpoint::with_session(alloc, config.limits, config.window, session, true);
         Some(ServerEnd { link })
     }
 
@@ -101,10 +101,10 @@ impl ServerEnd {
         ensures held { self.new.held ≡ [] }
         ensures limit { self.new.limit ≡ self.old.limit }
         ensures capacity { self.new.capacity ≡ self.old.capacity }
-        ensures moment { self.new.moment ≡ now }
+        ensures last_activity { self.new.last_activity ≡ now }
         ensures room { self.new.room ≡ self.old.room }
         ensures waits { CanRise self.new }
-        ensures rise { (c : Connect) (ms : List Message) (more : ℕ) → HasRise c ms more self.old → HasRise c ms more self.new }
+        ensures connect_end { (c : Connect) (ms : List Message) (more : ℕ) → HasRise c ms more self.old → HasRise c ms more self.new }
     {
         self.link.open_connection(now);
     }
@@ -157,7 +157,7 @@ impl ServerEnd {
     /// runs out nothing changes. Without a connection the packet is ignored. Within the room that an end has that is up, memory runs
     /// out only where an identifier is stored, of a message of quality of service 2 (4.3.3); and not where an end that has room to rise
     /// takes the CONNECT in.
-    pub fn take_packet(&mut self, now: u64, packet: Packet) -> Result<Outcome, AllocError>
+    pub fn take_packet(&mut self, now: u64, packet: Packet) -> Result<PacketOutcome, AllocError>
         ensures open { is_live self.old.end.state ≡ true → IfOk result (λ outcome. TakesPacket now packet outcome self.old self.new) }
         ensures closed { is_live self.old.end.state ≡ false → self.new ≡ self.old }
         ensures nothing { is_live self.old.end.state ≡ false → result ≡ Ok no_outcome }
@@ -181,12 +181,12 @@ impl ServerEnd {
         now: u64,
         message: &Message,
         delivery: Option<Delivery>,
-    ) -> Result<Handing, AllocError>
+    ) -> Result<PublishOutcome, AllocError>
         requires fits { fits_delivery message.now.qos delivery ≡ true }
         ensures open { is_live self.old.end.state ≡ true → IfOk result (λ handing.
             TakesPacket now (Packet.Publish (record { message = message.now; delivery = delivery })) (outcome_of handing message.now) self.old self.new) }
         ensures closed { is_live self.old.end.state ≡ false → self.new ≡ self.old }
-        ensures nothing { is_live self.old.end.state ≡ false → result ≡ Ok Handing.Nothing }
+        ensures nothing { is_live self.old.end.state ≡ false → result ≡ Ok PublishOutcome.Nothing }
         ensures within { is_up self.old.end.state ≡ true → same_qos Q2 message.now.qos ≡ false
             → FitsRoom (server_gets (Packet.Publish (record { message = message.now; delivery = delivery })) self.old.end).out self.old → IsOk result }
         ensures kept { is_up self.old.end.state ≡ true → (ms : List Message) (more : ℕ)
@@ -200,7 +200,7 @@ impl ServerEnd {
     /// Makes room to come up by this CONNECT on a new connection: for CONNACK and for all that is sent again, and then for messages to
     /// be published and for so many bytes more (3.2, 4.4). So `opened` and a `take_packet` of the CONNECT are not refused. Fails if
     /// memory runs out; no room that was made before is lost.
-    pub fn ready_to_rise(
+    pub fn reserve_connect(
         &mut self,
         connect: &Connect,
         messages: &[Message],
@@ -209,16 +209,16 @@ impl ServerEnd {
         ensures room { OnOk result (HasRise connect.now messages.now more self.new) }
         ensures same { self.new ≡ record self.old { room = self.new.room } }
         ensures before { (ms : List Message) (n : ℕ) → HasRoom ms n self.old → HasRoom ms n self.new }
-        ensures rise { (c : Connect) (ms : List Message) (n : ℕ) → HasRise c ms n self.old → HasRise c ms n self.new }
+        ensures connect_end { (c : Connect) (ms : List Message) (n : ℕ) → HasRise c ms n self.old → HasRise c ms n self.new }
     {
-        self.link.ready_to_rise(connect, messages, more)
+        self.link.reserve_connect(connect, messages, more)
     }
 
     /// Whether a packet that comes now hands a message on, memory aside (4.3). It takes no memory.
     pub fn would_hand(&self, packet: &Packet) -> bool
         ensures { result ≡ would_hand packet.now self.now.end }
     {
-        if self.link.state != State::Up {
+        if self.link.state != State::Connected {
             return false;
         }
         match packet {
@@ -310,8 +310,8 @@ impl ServerEnd {
     /// It is this moment: where the end is up, and more than one and a half times its keep-alive has gone by since the last
     /// whole packet, it closes, and the answer says why (3.1.2.10). It takes no memory.
     pub fn tick(&mut self, now: u64) -> Option<CloseReason>
-        ensures closed { result ≡ (server_ticks self.old.moment now self.old.end).close }
-        ensures state { Acts (server_ticks self.old.moment now self.old.end) self.old self.new }
+        ensures closed { result ≡ (server_ticks self.old.last_activity now self.old.end).close }
+        ensures state { Acts (server_ticks self.old.last_activity now self.old.end) self.old self.new }
     {
         self.link.tick_server(now)
     }
@@ -323,9 +323,9 @@ impl ServerEnd {
         ensures held { self.new.held ≡ [] }
         ensures limit { self.new.limit ≡ self.old.limit }
         ensures capacity { self.new.capacity ≡ self.old.capacity }
-        ensures moment { self.new.moment ≡ self.old.moment }
+        ensures last_activity { self.new.last_activity ≡ self.old.last_activity }
         ensures room { self.new.room ≡ self.old.room }
-        ensures rise { (c : Connect) (ms : List Message) (more : ℕ) → HasRise c ms more self.old → HasRise c ms more self.new }
+        ensures connect_end { (c : Connect) (ms : List Message) (more : ℕ) → HasRise c ms more self.old → HasRise c ms more self.new }
     {
         self.link.drop_connection();
     }

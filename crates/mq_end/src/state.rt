@@ -4,9 +4,9 @@
 #[derive(Clone, Copy, Debug, PartialEq, Eq)]
 pub enum State {
     /// There is none.
-    Closed,
+    Disconnected,
     /// It is open, and its CONNECT isn't accepted yet (3.1, 3.2).
-    Open,
+    Connecting,
     /// Its CONNECT is accepted.
-    Up,
+    Connected,
 }

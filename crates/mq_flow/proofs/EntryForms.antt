@@ -5,9 +5,9 @@ use Rattle.std.proofs.lemmas.List.{append-nil, map-append}
 use Rattle.mq_topic.specs.Qos.{qos_number}
 use Rattle.mq_topic.specs.Topic.{IsTopicName}
 use Rattle.mq_packet.specs.declared.message.Message.{Message}
-use Rattle.mq_packet.specs.Spelling.{bit}
+use Rattle.mq_packet.specs.Encoding.{bit}
 use Rattle.mq_flow.specs.declared.entry.Entry.{Entry}
-use Rattle.mq_flow.specs.declared.loading.Flags.{Flags}
+use Rattle.mq_flow.specs.declared.load.Flags.{Flags}
 use Rattle.mq_flow.specs.Sender.{SenderBook, uses, times, IsFree, accept}
 use Rattle.mq_flow.specs.Laws.{IsSound}
 use Rattle.mq_wire.specs.Number.{number}

@@ -13,8 +13,8 @@ use Rattle.mq_topic.specs.Topic.{IsTopicName, is_topic_name, is_wildcard}
 use Rattle.mq_topic.specs.Fault.{name_fault}
 use Rattle.mq_topic.specs.declared.fault.TopicFault.{TopicFault}
 use Rattle.mq_topic.specs.declared.fault.TopicFault.TheVariants.{Empty, Nul, TooLong, Wildcard}
-use Rattle.mq_packet.specs.Spelling.{bit}
-use Rattle.mq_flow.specs.declared.loading.Flags.{Flags}
+use Rattle.mq_packet.specs.Encoding.{bit}
+use Rattle.mq_flow.specs.declared.load.Flags.{Flags}
 use Rattle.mq_flow.specs.Sender.{SenderBook, uses, times, IsFree}
 use Rattle.mq_wire.specs.Number.{number}
 use Rattle.mq_wire.specs.Text.{counted}

@@ -6,9 +6,9 @@ use Rattle.mq_wire.specs.Bytes.{AreBytes}
 use Rattle.mq_wire.specs.Text.{IsText, counted}
 use Rattle.mq_wire.specs.TextReading.{TextLaws, read_text}
 use Rattle.mq_wire.specs.declared.text.FieldFault.{FieldFault}
-use Rattle.mq_packet.specs.Spelling.{bit}
-use Rattle.mq_flow.specs.declared.loading.LoadError.{LoadError}
-use Rattle.mq_flow.specs.declared.loading.LoadError.TheVariants.{Version, Malformed, Memory, AnotherClient, TooLarge}
+use Rattle.mq_packet.specs.Encoding.{bit}
+use Rattle.mq_flow.specs.declared.load.LoadError.{LoadError}
+use Rattle.mq_flow.specs.declared.load.LoadError.TheVariants.{Version, Malformed, Memory, AnotherClient, TooLarge}
 use Rattle.mq_flow.specs.declared.saved.Saved as value
 use Rattle.mq_flow.specs.declared.session.Session.{Session}
 use Rattle.mq_flow.specs.Saved.{signature, saved_sender, saved_receiver, saved_form, Saved, IsSession}

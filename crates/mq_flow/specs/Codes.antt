@@ -1,7 +1,7 @@
 -- The codes by which refusals of a sender and of the saved form are printed.
 use Rattle.std.specs.Prelude.{ℕ, List, codes}
-use Rattle.mq_flow.specs.declared.loading.LoadError.{LoadError}
-use Rattle.mq_flow.specs.declared.loading.LoadError.TheVariants as loads
+use Rattle.mq_flow.specs.declared.load.LoadError.{LoadError}
+use Rattle.mq_flow.specs.declared.load.LoadError.TheVariants as loads
 use Rattle.mq_flow.specs.declared.reaction.Refusal.{Refusal}
 use Rattle.mq_flow.specs.declared.reaction.Refusal.TheVariants as refusals
 

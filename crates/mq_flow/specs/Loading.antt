@@ -9,12 +9,12 @@ use Rattle.mq_topic.specs.declared.qos.Qos.TheVariants.{Q1, Q2}
 use Rattle.mq_topic.specs.Fault.{name_fault}
 use Rattle.mq_packet.specs.declared.message.Message.{Message}
 use Rattle.mq_flow.specs.declared.entry.Entry.{Entry}
-use Rattle.mq_flow.specs.declared.loading.BadField.{BadField}
-use Rattle.mq_flow.specs.declared.loading.Flags.{Flags}
-use Rattle.mq_flow.specs.declared.loading.Unread.{Unread}
-use Rattle.mq_flow.specs.declared.loading.Unread.TheVariants as unread
-use Rattle.mq_flow.specs.declared.loading.LoadError.{LoadError}
-use Rattle.mq_flow.specs.declared.loading.LoadError.TheVariants as errors
+use Rattle.mq_flow.specs.declared.load.BadField.{BadField}
+use Rattle.mq_flow.specs.declared.load.Flags.{Flags}
+use Rattle.mq_flow.specs.declared.load.Unread.{Unread}
+use Rattle.mq_flow.specs.declared.load.Unread.TheVariants as unread
+use Rattle.mq_flow.specs.declared.load.LoadError.{LoadError}
+use Rattle.mq_flow.specs.declared.load.LoadError.TheVariants as errors
 use Rattle.mq_flow.specs.declared.session.Session.{Session}
 use Rattle.mq_flow.specs.Sender.{SenderBook, blank_book, uses, times, accept}
 use Rattle.mq_flow.specs.Sending.{Sending}

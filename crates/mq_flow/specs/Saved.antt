@@ -10,7 +10,7 @@ use Rattle.mq_topic.specs.Qos.{qos_number}
 use Rattle.mq_topic.specs.Topic.{IsTopicName}
 use Rattle.mq_packet.specs.Identifier.{IsIdentifier}
 use Rattle.mq_packet.specs.declared.message.Message.{Message}
-use Rattle.mq_packet.specs.Spelling.{bit}
+use Rattle.mq_packet.specs.Encoding.{bit}
 use Rattle.mq_flow.specs.declared.entry.Entry.{Entry}
 use Rattle.mq_flow.specs.declared.session.Session.{Session}
 use Rattle.mq_flow.specs.Sender.{no_claims}

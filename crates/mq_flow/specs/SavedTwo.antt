@@ -5,9 +5,9 @@ use Rattle.std.specs.List.{starts_with}
 use Rattle.mq_wire.specs.Text.{IsText, counted}
 use Rattle.mq_wire.specs.TextReading.{read_text}
 use Rattle.mq_wire.specs.declared.text.FieldFault.{FieldFault}
-use Rattle.mq_packet.specs.Spelling.{bit}
-use Rattle.mq_flow.specs.declared.loading.LoadError.{LoadError}
-use Rattle.mq_flow.specs.declared.loading.LoadError.TheVariants as errors
+use Rattle.mq_packet.specs.Encoding.{bit}
+use Rattle.mq_flow.specs.declared.load.LoadError.{LoadError}
+use Rattle.mq_flow.specs.declared.load.LoadError.TheVariants as errors
 use Rattle.mq_flow.specs.declared.saved.Saved as value
 use Rattle.mq_flow.specs.declared.session.Session.{Session}
 use Rattle.mq_flow.specs.Saved.{saved_sender, saved_receiver, Saved}

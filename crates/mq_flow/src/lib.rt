@@ -8,13 +8,13 @@ mod claim;
 mod entry;
 mod iter;
 mod laws;
-mod loading;
+mod load;
 mod queue;
 mod reaction;
 mod receiver;
 mod resend;
+mod save;
 mod saved;
-mod saving;
 mod sender;
 mod session;
 mod table;
@@ -25,7 +25,7 @@ pub use crate::iter::{Entries, Releases};
 pub use crate::laws::{
     identifier_laws, next_laws, receiver_laws, saved_laws, saved_two_laws, sending_laws, stray_laws,
 };
-pub use crate::loading::LoadError;
+pub use crate::load::LoadError;
 pub use crate::reaction::{Reaction, ReceiveRefusal, Refusal};
 pub use crate::receiver::Receiver;
 pub use crate::saved::Saved;

@@ -6,8 +6,8 @@ ghost use Rattle.mq_flow.specs.Loading.{Gives, Loads, has_version, placed};
 ghost use Rattle.mq_flow.specs.declared.saved.Saved as value;
 ghost use Rattle.mq_flow.specs.SavedTwo.{IsSavedAs, first_at, has_version_two, read_saved, saved_form_two, second_at, text_at};
 
-use crate::loading::{BadField, LoadError, Unread, flag, session};
-use crate::saving::{SIGNATURE, put_state, put_text};
+use crate::load::{BadField, LoadError, Unread, flag, session};
+use crate::save::{SIGNATURE, put_state, put_text};
 use crate::session::Session;
 use mq_wire::{Text, text_at, text_laws};
 use std::alloc::{AllocError, Global};

@@ -15,18 +15,18 @@ use Rattle.mq_packet.specs.declared.connect.Connect.{Connect}
 use Rattle.mq_packet.specs.declared.connect.Will.{Will}
 use Rattle.mq_packet.specs.declared.packet.Packet.{Packet}
 use Rattle.mq_packet.specs.declared.packet.Packet.TheVariants as packets
-use Rattle.mq_packet.specs.Spelling.{connect_head, fields, login_fields, will_fields}
+use Rattle.mq_packet.specs.Encoding.{connect_head, fields, login_fields, will_fields}
 use Rattle.mq_end.specs.declared.reason.CloseReason.TheVariants as reasons
 use Rattle.mq_end.specs.Sizes.{identifier_size}
 use Rattle.mq_route.specs.declared.act.Act.{Act}
 use Rattle.mq_route.specs.declared.close.HubClose.TheVariants.{Own}
 use Rattle.mq_route.specs.declared.conn.Conn.{Conn}
-use Rattle.mq_route.specs.declared.stage.Stage.TheVariants.{Shut}
-use Rattle.mq_route.specs.Arrives.{admit, at_first, goes_on, greet, greet_new, take_over, welcomes}
+use Rattle.mq_route.specs.declared.connection_state.ConnectionState.TheVariants.{Closed}
+use Rattle.mq_route.specs.Arrives.{accept_connect, on_first_packet, goes_on, resume_session, start_session, take_over, on_connect}
 use Rattle.mq_route.specs.Hub.{HubSession, HubState, key_of, stage_of, up_on}
 use Rattle.mq_route.specs.Welcome.{client_of, ends_on, ends_with, is_crowded, is_unavailable, login_refusal, needs_new, refusal}
 use Rattle.mq_route.specs.Work.{Work, close, put_on, remove}
-use Rattle.mq_hub.specs.Does.{GoesBy}
+use Rattle.mq_hub.specs.Does.{Refines}
 use Rattle.mq_hub.specs.Keeps.{IsWillWithin}
 use Rattle.mq_hub.specs.Rising.{has_session}
 use Rattle.mq_hub.specs.Welcome.{is_connect, refused}
@@ -139,8 +139,8 @@ not_connect packets.PingReq other = refl
 not_connect packets.PingResp other = refl
 not_connect packets.Disconnect other = refl
 
-closes_first : (k : Conn) (p : Packet) (fits : Bool) → is_connect p ≡ false → (w : Work) → at_first k p fits w ≡ close k (Own reasons.Unexpected) fits w
-unfolding at_first
+closes_first : (k : Conn) (p : Packet) (fits : Bool) → is_connect p ≡ false → (w : Work) → on_first_packet k p fits w ≡ close k (Own reasons.Unexpected) fits w
+unfolding on_first_packet
 closes_first k (packets.Connect c) fits other w = absurd (true≢false other)
 closes_first k (packets.ConnAck a) fits other w = refl
 closes_first k (packets.Publish m) fits other w = refl
@@ -157,60 +157,60 @@ closes_first k packets.PingResp fits other w = refl
 closes_first k packets.Disconnect fits other w = refl
 
 module _ (k : Conn) (fits : Bool) (h g : HubState) (did says : List Act) where
-  pub wrong_is_shut : (p : Packet) → is_connect p ≡ false → GoesBy (at_first k p fits) h did g says → stage_of k g.lines ≡ Shut
+  pub wrong_is_shut : (p : Packet) → is_connect p ≡ false → Refines (on_first_packet k p fits) h did g says → stage_of k g.connections ≡ Closed
   wrong_is_shut p other q =
       goes_shut k (Own reasons.Unexpected) fits h g did says
-      (goes_as (at_first k p fits) (close k (Own reasons.Unexpected) fits) h g did says (λ w e. sym (closes_first k p fits other w)) q)
+      (goes_as (on_first_packet k p fits) (close k (Own reasons.Unexpected) fits) h g did says (λ w e. sym (closes_first k p fits other w)) q)
 
-  pub refused_is_shut : (code : RefusalCode) → GoesBy (refused k code fits) h did g says → stage_of k g.lines ≡ Shut
+  pub refused_is_shut : (code : RefusalCode) → Refines (refused k code fits) h did g says → stage_of k g.connections ≡ Closed
   refused_is_shut code q =
       let w : Work = record { hub = h; did = did; sent = []; came = [] } in
-      ap (λ (s : HubState). stage_of k s.lines) (sym (q.hub w refl refl))
+      ap (λ (s : HubState). stage_of k s.connections) (sym (q.hub w refl refl))
       ∙ closed_is_shut k (Own (reasons.Refused code)) fits (put_on k (packets.ConnAck (connacks.Refused code) ∷ []) w)
 
 -- ---- the changes of the definition
 
 module _ (k : Conn) (c : Connect) (fits : Bool) (h g : HubState) (did says : List Act) where
   -- the session of a client that is up on no connection
-  module _ (client : List ℕ) (key : ℕ) (away : up_on key h.lines ≡ None) where
-    at_away : (w : Work) → w.hub ≡ h → admit k c client (Some key) fits w ≡ goes_on k c client key false w
+  module _ (client : List ℕ) (key : ℕ) (away : up_on key h.connections ≡ None) where
+    at_away : (w : Work) → w.hub ≡ h → accept_connect k c client (Some key) fits w ≡ goes_on k c client key false w
     at_away w e =
-        ap (λ (s : HubState). goes_on k c client key (ends_with key s) (take_over (up_on key s.lines) fits w)) e
-        ∙ ap (λ (o : Option Conn). goes_on k c client key (ends_on o h.lines) (take_over o fits w)) away
+        ap (λ (s : HubState). goes_on k c client key (ends_with key s) (take_over (up_on key s.connections) fits w)) e
+        ∙ ap (λ (o : Option Conn). goes_on k c client key (ends_on o h.connections) (take_over o fits w)) away
 
-    pub goes_renewed : c.clean_session ≡ true → GoesBy (λ w. greet_new k c client (remove key w)) h did g says → GoesBy (admit k c client (Some key) fits) h did g says
+    pub goes_renewed : c.clean_session ≡ true → Refines (λ w. start_session k c client (remove key w)) h did g says → Refines (accept_connect k c client (Some key) fits) h did g says
     unfolding goes_on
     goes_renewed clean q =
-        goes_as (λ w. greet_new k c client (remove key w)) (admit k c client (Some key) fits) h g did says
-        (λ w e. at_away w e ∙ cond-true c.clean_session (greet_new k c client (remove key w)) (greet k c key w) clean) q
+        goes_as (λ w. start_session k c client (remove key w)) (accept_connect k c client (Some key) fits) h g did says
+        (λ w e. at_away w e ∙ cond-true c.clean_session (start_session k c client (remove key w)) (resume_session k c key w) clean) q
 
-    pub goes_resumed : c.clean_session ≡ false → GoesBy (greet k c key) h did g says → GoesBy (admit k c client (Some key) fits) h did g says
+    pub goes_resumed : c.clean_session ≡ false → Refines (resume_session k c key) h did g says → Refines (accept_connect k c client (Some key) fits) h did g says
     unfolding goes_on
     goes_resumed going q =
-        goes_as (greet k c key) (admit k c client (Some key) fits) h g did says
-        (λ w e. at_away w e ∙ cond-false c.clean_session (greet_new k c client (remove key w)) (greet k c key w) going) q
+        goes_as (resume_session k c key) (accept_connect k c client (Some key) fits) h g did says
+        (λ w e. at_away w e ∙ cond-false c.clean_session (start_session k c client (remove key w)) (resume_session k c key w) going) q
 
   -- the session of a client, as it is found
-  pub goes_admitted : (client : List ℕ) (o : Option ℕ) → key_of client h.sessions ≡ o → GoesBy (admit k c client o fits) h did g says
-      → GoesBy (admit k c client (key_of client h.sessions) fits) h did g says
-  goes_admitted client o is q = subst (λ (p : Option ℕ). GoesBy (admit k c client p fits) h did g says) (sym is) q
+  pub goes_admitted : (client : List ℕ) (o : Option ℕ) → key_of client h.sessions ≡ o → Refines (accept_connect k c client o fits) h did g says
+      → Refines (accept_connect k c client (key_of client h.sessions) fits) h did g says
+  goes_admitted client o is q = subst (λ (p : Option ℕ). Refines (accept_connect k c client p fits) h did g says) (sym is) q
 
   -- a CONNECT that is refused, or not
-  pub goes_turned : (code : RefusalCode) → refusal c h ≡ Some code → GoesBy (refused k code fits) h did g says → GoesBy (welcomes k c (refusal c h) fits) h did g says
-  unfolding welcomes
-  goes_turned code is q = subst (λ (o : Option RefusalCode). GoesBy (welcomes k c o fits) h did g says) (sym is) q
+  pub goes_turned : (code : RefusalCode) → refusal c h ≡ Some code → Refines (refused k code fits) h did g says → Refines (on_connect k c (refusal c h) fits) h did g says
+  unfolding on_connect
+  goes_turned code is q = subst (λ (o : Option RefusalCode). Refines (on_connect k c o fits) h did g says) (sym is) q
 
-  pub goes_welcomed : (client : List ℕ) → client ≡ client_of c h.sessions → refusal c h ≡ None → GoesBy (admit k c client (key_of client h.sessions) fits) h did g says
-      → GoesBy (welcomes k c (refusal c h) fits) h did g says
-  unfolding welcomes
+  pub goes_welcomed : (client : List ℕ) → client ≡ client_of c h.sessions → refusal c h ≡ None → Refines (accept_connect k c client (key_of client h.sessions) fits) h did g says
+      → Refines (on_connect k c (refusal c h) fits) h did g says
+  unfolding on_connect
   goes_welcomed client name is q =
-      subst (λ (o : Option RefusalCode). GoesBy (welcomes k c o fits) h did g says) (sym is)
-      (goes_as (admit k c client (key_of client h.sessions) fits) (welcomes k c None fits) h g did says
-      (λ w e. ap (λ (s : HubState). admit k c (client_of c s.sessions) (key_of (client_of c s.sessions) s.sessions) fits w) e
-      ∙ ap (λ (n : List ℕ). admit k c n (key_of n h.sessions) fits w) (sym name)) q)
+      subst (λ (o : Option RefusalCode). Refines (on_connect k c o fits) h did g says) (sym is)
+      (goes_as (accept_connect k c client (key_of client h.sessions) fits) (on_connect k c None fits) h g did says
+      (λ w e. ap (λ (s : HubState). accept_connect k c (client_of c s.sessions) (key_of (client_of c s.sessions) s.sessions) fits w) e
+      ∙ ap (λ (n : List ℕ). accept_connect k c n (key_of n h.sessions) fits w) (sym name)) q)
 
-  pub goes_connect : GoesBy (welcomes k c (refusal c h) fits) h did g says → GoesBy (at_first k (packets.Connect c) fits) h did g says
-  unfolding at_first
+  pub goes_connect : Refines (on_connect k c (refusal c h) fits) h did g says → Refines (on_first_packet k (packets.Connect c) fits) h did g says
+  unfolding on_first_packet
   goes_connect q =
-      goes_as (welcomes k c (refusal c h) fits) (at_first k (packets.Connect c) fits) h g did says
-      (λ w e. ap (λ (s : HubState). welcomes k c (refusal c s) fits w) e) q
+      goes_as (on_connect k c (refusal c h) fits) (on_first_packet k (packets.Connect c) fits) h g did says
+      (λ w e. ap (λ (s : HubState). on_connect k c (refusal c s) fits w) e) q

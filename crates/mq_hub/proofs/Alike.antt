@@ -2,71 +2,71 @@
 use Rattle.std.proofs.Common.{◌≡◌, ◌||◌, ℕ, Bool, true, false, cond, List, [], ◌∷◌, map, Option, Some, refl, sym, ap, ◌∙◌}
 use Rattle.std.specs.List.{AllByRecursion}
 use Rattle.std.specs.Option.{is_some}
-use Rattle.mq_end.specs.declared.state.State.TheVariants.{Closed, Up}
+use Rattle.mq_end.specs.declared.state.State.TheVariants.{Disconnected, Connected}
 use Rattle.mq_route.specs.declared.config.HubConfig.{HubConfig}
 use Rattle.mq_route.specs.declared.conn.Conn.{Conn}
-use Rattle.mq_route.specs.declared.stage.Stage.{Stage}
-use Rattle.mq_route.specs.declared.stage.Stage.TheVariants.{Fresh, UpFor, Shut}
-use Rattle.mq_route.specs.Arrives.{heard}
-use Rattle.mq_route.specs.Hub.{Line, changed, held_on, is_clean, is_for, is_line, knows, up_on}
+use Rattle.mq_route.specs.declared.connection_state.ConnectionState.{ConnectionState}
+use Rattle.mq_route.specs.declared.connection_state.ConnectionState.TheVariants.{AwaitingConnect, ConnectedAs, Closed}
+use Rattle.mq_route.specs.Arrives.{touched}
+use Rattle.mq_route.specs.Hub.{HubConnection, changed, held_on, is_clean, is_for, is_connection, knows, up_on}
 use Rattle.mq_route.specs.Routed.{same_conn}
-use Rattle.mq_hub.specs.declared.session.Tenant.{Tenant}
+use Rattle.mq_hub.specs.declared.sessions.session.BrokerSession.{BrokerSession}
 use Rattle.mq_hub.specs.Coming.{hears, holds}
-use Rattle.mq_hub.specs.Keeps.{AreApart, HubKeeps, IsHoused, IsQuiet, IsSeated, stage_for}
+use Rattle.mq_hub.specs.Keeps.{AreApart, HubInvariant, ConnectionHasSession, IsQuiet, SessionMatchesConnection, stage_for}
 use Rattle.mq_hub.specs.Seen.{HubTables, all_seen, hub_of, seen, waiting_by}
 use Rattle.mq_hub.specs.Sessions.{sessions_of}
 use Rattle.mq_hub.proofs.Keeping.{kept_by}
 
 -- a change that keeps a connection's name and the client for which it is up, with its terms and the bytes that wait
-pub record StaysFor (f : Line → Line) : Type 0 where
-  pub name : (x : Line) → (f x).conn ≡ x.conn
-  pub client : (key : ℕ) (x : Line) → is_for key (f x).stage ≡ is_for key x.stage
-  pub clean : (x : Line) → is_clean (f x).stage ≡ is_clean x.stage
-  pub housed : (most : ℕ) (ts : List Tenant) (x : Line) → IsHoused most ts x.stage → IsHoused most ts (f x).stage
-  pub quiet : (x : Line) → IsQuiet x.stage x.waiting → IsQuiet (f x).stage (f x).waiting
-  pub seen : (ts : List Tenant) (x : Line) → seen ts (f x) ≡ f (seen ts x)
+pub record StaysFor (f : HubConnection → HubConnection) : Type 0 where
+  pub name : (x : HubConnection) → (f x).conn ≡ x.conn
+  pub client : (key : ℕ) (x : HubConnection) → is_for key (f x).stage ≡ is_for key x.stage
+  pub clean : (x : HubConnection) → is_clean (f x).stage ≡ is_clean x.stage
+  pub housed : (most : ℕ) (ts : List BrokerSession) (x : HubConnection) → ConnectionHasSession most ts x.stage → ConnectionHasSession most ts (f x).stage
+  pub quiet : (x : HubConnection) → IsQuiet x.stage x.waiting → IsQuiet (f x).stage (f x).waiting
+  pub seen : (ts : List BrokerSession) (x : HubConnection) → seen ts (f x) ≡ f (seen ts x)
 
 -- it may be made of one connection alone
-pub stays_on : (k : Conn) (f : Line → Line) → StaysFor f → StaysFor (changed f k)
+pub stays_on : (k : Conn) (f : HubConnection → HubConnection) → StaysFor f → StaysFor (changed f k)
 stays_on k f s = record {
-  name = λ x. name x (is_line k x);
-  client = λ key x. client key x (is_line k x);
-  clean = λ x. clean x (is_line k x);
-  housed = λ most ts x. housed most ts x (is_line k x);
-  quiet = λ x. quiet x (is_line k x);
-  seen = λ ts x. see ts x (is_line k x);
+  name = λ x. name x (is_connection k x);
+  client = λ key x. client key x (is_connection k x);
+  clean = λ x. clean x (is_connection k x);
+  housed = λ most ts x. housed most ts x (is_connection k x);
+  quiet = λ x. quiet x (is_connection k x);
+  seen = λ ts x. see ts x (is_connection k x);
 }
   where
-    name : (x : Line) (b : Bool) → (cond b (f x) x).conn ≡ x.conn
+    name : (x : HubConnection) (b : Bool) → (cond b (f x) x).conn ≡ x.conn
     name x true = s.name x
     name x false = refl
 
-    client : (key : ℕ) (x : Line) (b : Bool) → is_for key (cond b (f x) x).stage ≡ is_for key x.stage
+    client : (key : ℕ) (x : HubConnection) (b : Bool) → is_for key (cond b (f x) x).stage ≡ is_for key x.stage
     client key x true = s.client key x
     client key x false = refl
 
-    clean : (x : Line) (b : Bool) → is_clean (cond b (f x) x).stage ≡ is_clean x.stage
+    clean : (x : HubConnection) (b : Bool) → is_clean (cond b (f x) x).stage ≡ is_clean x.stage
     clean x true = s.clean x
     clean x false = refl
 
-    housed : (most : ℕ) (ts : List Tenant) (x : Line) (b : Bool) → IsHoused most ts x.stage → IsHoused most ts (cond b (f x) x).stage
+    housed : (most : ℕ) (ts : List BrokerSession) (x : HubConnection) (b : Bool) → ConnectionHasSession most ts x.stage → ConnectionHasSession most ts (cond b (f x) x).stage
     housed most ts x true = s.housed most ts x
     housed most ts x false = λ h. h
 
-    quiet : (x : Line) (b : Bool) → IsQuiet x.stage x.waiting → IsQuiet (cond b (f x) x).stage (cond b (f x) x).waiting
+    quiet : (x : HubConnection) (b : Bool) → IsQuiet x.stage x.waiting → IsQuiet (cond b (f x) x).stage (cond b (f x) x).waiting
     quiet x true = s.quiet x
     quiet x false = λ h. h
 
-    see : (ts : List Tenant) (x : Line) (b : Bool) → seen ts (cond b (f x) x) ≡ cond b (f (seen ts x)) (seen ts x)
+    see : (ts : List BrokerSession) (x : HubConnection) (b : Bool) → seen ts (cond b (f x) x) ≡ cond b (f (seen ts x)) (seen ts x)
     see ts x true = s.seen ts x
     see ts x false = refl
 
-module _ (g : Line → Line) (s : StaysFor g) where
-  up_alike : (key : ℕ) (xs : List Line) → up_on key (map g xs) ≡ up_on key xs
+module _ (g : HubConnection → HubConnection) (s : StaysFor g) where
+  up_alike : (key : ℕ) (xs : List HubConnection) → up_on key (map g xs) ≡ up_on key xs
   up_alike key [] = refl
   up_alike key (x ∷ xs) = λ i. cond (s.client key x i) (Some (s.name x i)) (up_alike key xs i)
 
-  clean_alike : (key : ℕ) (xs : List Line) → is_clean (stage_for key (map g xs)) ≡ is_clean (stage_for key xs)
+  clean_alike : (key : ℕ) (xs : List HubConnection) → is_clean (stage_for key (map g xs)) ≡ is_clean (stage_for key xs)
   clean_alike key [] = refl
   clean_alike key (x ∷ xs) =
       ap (λ (b : Bool). is_clean (cond b (g x).stage (stage_for key (map g xs)))) (s.client key x)
@@ -77,11 +77,11 @@ module _ (g : Line → Line) (s : StaysFor g) where
       go true rest = s.clean x
       go false rest = rest
 
-  known_alike : (k : Conn) (xs : List Line) → knows k (map g xs) ≡ knows k xs
+  known_alike : (k : Conn) (xs : List HubConnection) → knows k (map g xs) ≡ knows k xs
   known_alike k [] = refl
   known_alike k (x ∷ xs) = λ i. same_conn (s.name x i) k || known_alike k xs i
 
-  apart_alike : (xs : List Line) → AreApart xs → AreApart (map g xs)
+  apart_alike : (xs : List HubConnection) → AreApart xs → AreApart (map g xs)
   apart_alike [] apart = tt
   apart_alike (x ∷ xs) apart = (
     known_alike (g x).conn xs ∙ ap (λ (n : Conn). knows n xs) (s.name x) ∙ apart.0,
@@ -89,43 +89,43 @@ module _ (g : Line → Line) (s : StaysFor g) where
     apart_alike xs apart.2,
   )
 
-  housed_alike : (most : ℕ) (ts : List Tenant) (xs : List Line) → AllByRecursion (λ x. IsHoused most ts x.stage) xs
-      → AllByRecursion (λ x. IsHoused most ts x.stage) (map g xs)
+  housed_alike : (most : ℕ) (ts : List BrokerSession) (xs : List HubConnection) → AllByRecursion (λ x. ConnectionHasSession most ts x.stage) xs
+      → AllByRecursion (λ x. ConnectionHasSession most ts x.stage) (map g xs)
   housed_alike most ts [] all = tt
   housed_alike most ts (x ∷ xs) all = (s.housed most ts x all.0, housed_alike most ts xs all.1)
 
-  quiet_alike : (xs : List Line) → AllByRecursion (λ x. IsQuiet x.stage x.waiting) xs → AllByRecursion (λ x. IsQuiet x.stage x.waiting) (map g xs)
+  quiet_alike : (xs : List HubConnection) → AllByRecursion (λ x. IsQuiet x.stage x.waiting) xs → AllByRecursion (λ x. IsQuiet x.stage x.waiting) (map g xs)
   quiet_alike [] all = tt
   quiet_alike (x ∷ xs) all = (s.quiet x all.0, quiet_alike xs all.1)
 
-  seated_alike : (config : HubConfig) (xs : List Line) (t : Tenant) → IsSeated config xs t → IsSeated config (map g xs) t
+  seated_alike : (config : HubConfig) (xs : List HubConnection) (t : BrokerSession) → SessionMatchesConnection config xs t → SessionMatchesConnection config (map g xs) t
   seated_alike config xs t seat = record {
     capacity = seat.capacity;
     limit = seat.limit;
     window = seat.window;
     known = seat.known;
-    state = seat.state ∙ ap (λ (o : Option Conn). cond (is_some o) Up Closed) (sym (up_alike t.key xs));
+    state = seat.state ∙ ap (λ (o : Option Conn). cond (is_some o) Connected Disconnected) (sym (up_alike t.key xs));
     clean = seat.clean ∙ sym (clean_alike t.key xs);
     away = λ none. seat.away (sym (up_alike t.key xs) ∙ none);
   }
 
-  all_seated_alike : (config : HubConfig) (xs : List Line) (ts : List Tenant) → AllByRecursion (IsSeated config xs) ts
-      → AllByRecursion (IsSeated config (map g xs)) ts
+  all_seated_alike : (config : HubConfig) (xs : List HubConnection) (ts : List BrokerSession) → AllByRecursion (SessionMatchesConnection config xs) ts
+      → AllByRecursion (SessionMatchesConnection config (map g xs)) ts
   all_seated_alike config xs [] all = tt
   all_seated_alike config xs (t ∷ ts) all = (seated_alike config xs t all.0, all_seated_alike config xs ts all.1)
 
-  all_seen_alike : (ts : List Tenant) (xs : List Line) → all_seen ts (map g xs) ≡ map g (all_seen ts xs)
+  all_seen_alike : (ts : List BrokerSession) (xs : List HubConnection) → all_seen ts (map g xs) ≡ map g (all_seen ts xs)
   all_seen_alike ts [] = refl
   all_seen_alike ts (x ∷ xs) = λ i. s.seen ts x i ∷ all_seen_alike ts xs i
 
   module _ (config : HubConfig) (next : ℕ) (t u : HubTables) (rows : u.rows ≡ t.rows) (retained : u.retained.messages ≡ t.retained.messages)
-      (tenants : u.sessions.tenants ≡ t.sessions.tenants) (lines : u.lines.lines ≡ map g t.lines.lines) where
-    pub kept_alike : HubKeeps config next t → u.lines.limits ≡ t.lines.limits → HubKeeps config next u
+      (tenants : u.sessions.tenants ≡ t.sessions.tenants) (connections : u.connections.connections ≡ map g t.connections.connections) where
+    pub kept_alike : HubInvariant config next t → u.connections.limits ≡ t.connections.limits → HubInvariant config next u
     kept_alike kept limits =
         let ts = t.sessions.tenants in
-        let xs = t.lines.lines in
-        let v : HubTables = record t { lines = record t.lines { lines = map g xs } } in
-        let k : HubKeeps config next v = record {
+        let xs = t.connections.connections in
+        let v : HubTables = record t { connections = record t.connections { connections = map g xs } } in
+        let k : HubInvariant config next v = record {
           capacity = kept.capacity;
           window = kept.window;
           limits = kept.limits;
@@ -139,12 +139,12 @@ module _ (g : Line → Line) (s : StaysFor g) where
           owned = kept.owned;
           retained = kept.retained;
         } in
-        kept_by config next v u k rows retained tenants lines limits
+        kept_by config next v u k rows retained tenants connections limits
 
-    pub hub_alike : (clock : ℕ) → hub_of config clock next u ≡ record (hub_of config clock next t) { lines = map g (all_seen t.sessions.tenants t.lines.lines) }
+    pub hub_alike : (clock : ℕ) → hub_of config clock next u ≡ record (hub_of config clock next t) { connections = map g (all_seen t.sessions.tenants t.connections.connections) }
     hub_alike clock =
-        let waits : all_seen u.sessions.tenants u.lines.lines ≡ map g (all_seen t.sessions.tenants t.lines.lines) =
-        (λ i. all_seen (tenants i) (lines i)) ∙ all_seen_alike t.sessions.tenants t.lines.lines in
+        let waits : all_seen u.sessions.tenants u.connections.connections ≡ map g (all_seen t.sessions.tenants t.connections.connections) =
+        (λ i. all_seen (tenants i) (connections i)) ∙ all_seen_alike t.sessions.tenants t.connections.connections in
         λ i. record {
           config = config;
           clock = clock;
@@ -152,7 +152,7 @@ module _ (g : Line → Line) (s : StaysFor g) where
           rows = rows i;
           retained = retained i;
           sessions = sessions_of (tenants i);
-          lines = waits i;
+          connections = waits i;
         }
 
 -- ---- the two changes
@@ -177,33 +177,33 @@ hears_stays now = record {
   seen = λ ts x. ap (λ (b : List ℕ). record (hears now x) { waiting = b }) (waits ts x.waiting x.stage);
 }
   where
-    client : (key : ℕ) (s : Stage) → is_for key (heard now s) ≡ is_for key s
-    client key Fresh = refl
-    client key (UpFor other terms moment) = refl
-    client key Shut = refl
+    client : (key : ℕ) (s : ConnectionState) → is_for key (touched now s) ≡ is_for key s
+    client key AwaitingConnect = refl
+    client key (ConnectedAs other terms last_activity) = refl
+    client key Closed = refl
 
-    clean : (s : Stage) → is_clean (heard now s) ≡ is_clean s
-    clean Fresh = refl
-    clean (UpFor other terms moment) = refl
-    clean Shut = refl
+    clean : (s : ConnectionState) → is_clean (touched now s) ≡ is_clean s
+    clean AwaitingConnect = refl
+    clean (ConnectedAs other terms last_activity) = refl
+    clean Closed = refl
 
-    housed : (most : ℕ) (ts : List Tenant) (s : Stage) → IsHoused most ts s → IsHoused most ts (heard now s)
-    housed most ts Fresh h = h
-    housed most ts (UpFor other terms moment) h = h
-    housed most ts Shut h = h
+    housed : (most : ℕ) (ts : List BrokerSession) (s : ConnectionState) → ConnectionHasSession most ts s → ConnectionHasSession most ts (touched now s)
+    housed most ts AwaitingConnect h = h
+    housed most ts (ConnectedAs other terms last_activity) h = h
+    housed most ts Closed h = h
 
-    quiet : (b : List ℕ) (s : Stage) → IsQuiet s b → IsQuiet (heard now s) b
-    quiet b Fresh h = h
-    quiet b (UpFor other terms moment) h = h
-    quiet b Shut h = h
+    quiet : (b : List ℕ) (s : ConnectionState) → IsQuiet s b → IsQuiet (touched now s) b
+    quiet b AwaitingConnect h = h
+    quiet b (ConnectedAs other terms last_activity) h = h
+    quiet b Closed h = h
 
-    waits : (ts : List Tenant) (own : List ℕ) (s : Stage) → waiting_by (heard now s) ts own ≡ waiting_by s ts own
-    waits ts own Fresh = refl
-    waits ts own (UpFor other terms moment) = refl
-    waits ts own Shut = refl
+    waits : (ts : List BrokerSession) (own : List ℕ) (s : ConnectionState) → waiting_by (touched now s) ts own ≡ waiting_by s ts own
+    waits ts own AwaitingConnect = refl
+    waits ts own (ConnectedAs other terms last_activity) = refl
+    waits ts own Closed = refl
 
 -- ---- what is held
 
-pub held_seen : (k : Conn) (ts : List Tenant) (xs : List Line) → held_on k (all_seen ts xs) ≡ held_on k xs
+pub held_seen : (k : Conn) (ts : List BrokerSession) (xs : List HubConnection) → held_on k (all_seen ts xs) ≡ held_on k xs
 held_seen k ts [] = refl
-held_seen k ts (x ∷ xs) = ap (λ (b : List ℕ). cond (is_line k x) x.held b) (held_seen k ts xs)
+held_seen k ts (x ∷ xs) = ap (λ (b : List ℕ). cond (is_connection k x) x.held b) (held_seen k ts xs)

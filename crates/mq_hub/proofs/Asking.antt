@@ -1,24 +1,24 @@
 -- A packet of a client that is up whose end only tells what is asked for, or closes.
 use Rattle.std.proofs.Common.{◌≡◌, ℕ, Bool, true, false, List, ◌++◌, Option, Some, refl, sym, ap, subst, ◌∙◌, append-nil, true≢false}
 use Rattle.mq_packet.specs.declared.packet.Packet.{Packet}
-use Rattle.mq_packet.specs.Spelling.{spellings}
+use Rattle.mq_packet.specs.Encoding.{encodings}
 use Rattle.mq_end.specs.declared.happening.Happening.{Happening}
 use Rattle.mq_end.specs.declared.reason.CloseReason.{CloseReason}
 use Rattle.mq_end.specs.declared.state.State.{State}
-use Rattle.mq_end.specs.declared.state.State.TheVariants.{Closed, Open, Up}
+use Rattle.mq_end.specs.declared.state.State.TheVariants.{Disconnected, Connecting, Connected}
 use Rattle.mq_end.specs.End.{End, Reply, closes, is_up, tells}
 use Rattle.mq_end.specs.Server.{server_gets, server_up_gets}
 use Rattle.mq_route.specs.declared.act.Act.{Act}
 use Rattle.mq_route.specs.declared.close.HubClose.TheVariants.{Own, TargetFull}
 use Rattle.mq_route.specs.declared.config.HubConfig.{HubConfig}
 use Rattle.mq_route.specs.declared.conn.Conn.{Conn}
-use Rattle.mq_route.specs.Arrives.{answers, due_by, replies, while_up}
+use Rattle.mq_route.specs.Arrives.{answers, due_by, replies, on_connected_packet}
 use Rattle.mq_route.specs.Hub.{HubState, end_of, up_on}
 use Rattle.mq_route.specs.Work.{Work, close, does, have_room, put_on}
-use Rattle.mq_hub.specs.declared.session.Tenant.{Tenant}
+use Rattle.mq_hub.specs.declared.sessions.session.BrokerSession.{BrokerSession}
 use Rattle.mq_hub.specs.Calls.{Replies}
-use Rattle.mq_hub.specs.Does.{GoesBy}
-use Rattle.mq_hub.specs.Keeps.{HubKeeps}
+use Rattle.mq_hub.specs.Does.{Refines}
+use Rattle.mq_hub.specs.Keeps.{HubInvariant}
 use Rattle.mq_hub.specs.Placing.{with_tenants}
 use Rattle.mq_hub.specs.Seen.{HubTables, hub_of}
 use Rattle.mq_hub.specs.Sessions.{with_server}
@@ -30,7 +30,7 @@ use Rattle.mq_hub.proofs.Readiness.{same_change}
 use Rattle.mq_hub.proofs.Replying.{end_there, gets_up, replied_goes}
 use Rattle.mq_hub.proofs.Taking.{full_goes, telling_goes}
 
-module _ (config : HubConfig) (clock next key : ℕ) (t : HubTables) (kept : HubKeeps config next t) (k : Conn) (on : up_on key t.lines.lines ≡ Some k) where
+module _ (config : HubConfig) (clock next key : ℕ) (t : HubTables) (kept : HubInvariant config next t) (k : Conn) (on : up_on key t.connections.connections ≡ Some k) where
   abbrev old : HubState
   old = hub_of config clock next t
 
@@ -51,45 +51,45 @@ module _ (config : HubConfig) (clock next key : ℕ) (t : HubTables) (kept : Hub
     same : Replies (server_gets p at.tenant.end.end) at.tenant.end at.tenant.end
     same = record {
       end = ap (λ (r : Reply). r.end) (sym told);
-      output = sym (ap (λ (r : Reply). at.tenant.end.output ++ spellings r.out) told ∙ append-nil at.tenant.end.output);
+      output = sym (ap (λ (r : Reply). at.tenant.end.output ++ encodings r.out) told ∙ append-nil at.tenant.end.output);
       capacity = refl;
       limit = refl;
     }
 
     -- it changes nothing
-    unmoved : (did : List Act) → GoesBy (does key (server_gets p)) old did old did
+    unmoved : (did : List Act) → Refines (does key (server_gets p)) old did old did
     unmoved did =
         let e = at.tenant.end in
         let ts = t.sessions.tenants in
         let is : with_server key e ts ≡ ts = same_change (λ s. s) key at.tenant ts kept.ascending at.there ∙ same_ends key ts in
-        subst (λ (xs : List Tenant). GoesBy (does key (server_gets p)) old did (hub_of config clock next (with_tenants xs t)) did) is
+        subst (λ (xs : List BrokerSession). Refines (does key (server_gets p)) old did (hub_of config clock next (with_tenants xs t)) did) is
         (replied_goes config next key at.tenant e t at.there kept k on clock (server_gets p) same did)
 
     -- and the broker does what is asked for, where it has room for what is due
-    pub asked_goes : (conn : Conn) (fits : Bool) (new : HubState) (did says : List Act) → have_room (due_by key old h) old ≡ true → GoesBy (answers conn key h) old did new says
-        → GoesBy (while_up conn key p fits) old did new says
+    pub asked_goes : (conn : Conn) (fits : Bool) (new : HubState) (did says : List Act) → have_room (due_by key old h) old ≡ true → Refines (answers conn key h) old did new says
+        → Refines (on_connected_packet conn key p fits) old did new says
     asked_goes conn fits new did says room goes =
         telling_goes conn key p fits old new did says (ap (λ (r : Reply). r.close) told_at) h (ap (λ (r : Reply). r.happenings) told_at) room
         (goes_then (does key (server_gets p)) (answers conn key h) old old new did did says (unmoved did) goes)
 
-    pub unasked_goes : (conn : Conn) (fits : Bool) (new : HubState) (did says : List Act) → have_room (due_by key old h) old ≡ false → GoesBy (close conn TargetFull fits) old did new says
-        → GoesBy (while_up conn key p fits) old did new says
+    pub unasked_goes : (conn : Conn) (fits : Bool) (new : HubState) (did says : List Act) → have_room (due_by key old h) old ≡ false → Refines (close conn TargetFull fits) old did new says
+        → Refines (on_connected_packet conn key p fits) old did new says
     unasked_goes conn fits new did says room goes =
         full_goes conn key p fits old new did says (ap (λ (r : Reply). r.close) told_at) h (ap (λ (r : Reply). r.happenings) told_at) room goes
 
 -- ---- an end that is up, and closes or tells nothing
 
-up_is : (s : State) → is_up s ≡ true → s ≡ Up
-up_is Closed up = absurd (true≢false (sym up))
-up_is Open up = absurd (true≢false (sym up))
-up_is Up up = refl
+up_is : (s : State) → is_up s ≡ true → s ≡ Connected
+up_is Disconnected up = absurd (true≢false (sym up))
+up_is Connecting up = absurd (true≢false (sym up))
+up_is Connected up = refl
 
 pub got_up : (p : Packet) (e : End) → is_up e.state ≡ true → server_gets p e ≡ server_up_gets p e
 got_up p e up = gets_up p e (up_is e.state up)
 
 -- the end closes, and puts nothing out
 pub closing_goes : (old : HubState) (key : ℕ) → is_up (end_of key old.sessions).state ≡ true → (p : Packet) (reason : CloseReason) → ((e : End) → server_up_gets p e ≡ closes reason e)
-    → (conn : Conn) (fits : Bool) (new : HubState) (did says : List Act) → GoesBy (close conn (Own reason) fits) old did new says → GoesBy (while_up conn key p fits) old did new says
+    → (conn : Conn) (fits : Bool) (new : HubState) (did says : List Act) → Refines (close conn (Own reason) fits) old did new says → Refines (on_connected_packet conn key p fits) old did new says
 unfolding replies
 closing_goes old key up p reason ends conn fits new did says goes = record {
   hub = λ w e f. ap (λ (v : Work). v.hub) (is w e) ∙ goes.hub w e f;
@@ -99,7 +99,7 @@ closing_goes old key up p reason ends conn fits new did says goes = record {
     closed : (w : Work) → w.hub ≡ old → server_gets p (end_of key w.hub.sessions) ≡ closes reason (end_of key old.sessions)
     closed w e = ap (λ (h : HubState). server_gets p (end_of key h.sessions)) e ∙ got_up p (end_of key old.sessions) up ∙ ends (end_of key old.sessions)
 
-    is : (w : Work) → w.hub ≡ old → while_up conn key p fits w ≡ close conn (Own reason) fits w
+    is : (w : Work) → w.hub ≡ old → on_connected_packet conn key p fits w ≡ close conn (Own reason) fits w
     is w e =
         ap (λ (o : Option CloseReason). replies conn key (server_gets p) o fits w) (ap (λ (r : Reply). r.close) (closed w e))
         ∙ ap (λ (r : Reply). close conn (Own reason) fits (put_on conn r.out w)) (closed w e)

@@ -4,10 +4,10 @@ use Rattle.std.proofs.Common.{append-nil, true≢false}
 use Rattle.std.proofs.lemmas.Bool.{cond-true}
 use Rattle.std.specs.List.{AllByRecursion}
 use Rattle.std.specs.Option.{is_some}
-use Rattle.mq_packet.specs.Spelling.{spellings}
+use Rattle.mq_packet.specs.Encoding.{encodings}
 use Rattle.mq_decode.specs.declared.fault.DecodeFault.{DecodeFault}
 use Rattle.mq_end.specs.declared.reason.CloseReason.TheVariants as reasons
-use Rattle.mq_end.specs.declared.state.State.TheVariants.{Closed, Up}
+use Rattle.mq_end.specs.declared.state.State.TheVariants.{Disconnected, Connected}
 use Rattle.mq_end.specs.End.{End, Reply, closes, is_up}
 use Rattle.mq_end.specs.Server.{level_refused}
 use Rattle.mq_end.specs.State.{is_level, server_faulted}
@@ -15,13 +15,13 @@ use Rattle.mq_route.specs.declared.act.Act.{Act}
 use Rattle.mq_route.specs.declared.close.HubClose.TheVariants.{Own}
 use Rattle.mq_route.specs.declared.config.HubConfig.{HubConfig}
 use Rattle.mq_route.specs.declared.conn.Conn.{Conn}
-use Rattle.mq_route.specs.declared.stage.Stage.{Stage}
-use Rattle.mq_route.specs.Arrives.{breaks, broken, closes_by}
-use Rattle.mq_route.specs.Hub.{HubState, Line, end_of, end_on, is_line, key_on, stage_of, up_on, with_line}
+use Rattle.mq_route.specs.declared.connection_state.ConnectionState.{ConnectionState}
+use Rattle.mq_route.specs.Arrives.{on_malformed, broken, closes_by}
+use Rattle.mq_route.specs.Hub.{HubState, HubConnection, end_of, end_on, is_connection, key_on, stage_of, up_on, with_connection}
 use Rattle.mq_route.specs.Work.{Work, close, put_on}
-use Rattle.mq_hub.specs.declared.session.Tenant.{Tenant}
-use Rattle.mq_hub.specs.Does.{GoesBy}
-use Rattle.mq_hub.specs.Keeps.{HubKeeps, IsSeated}
+use Rattle.mq_hub.specs.declared.sessions.session.BrokerSession.{BrokerSession}
+use Rattle.mq_hub.specs.Does.{Refines}
+use Rattle.mq_hub.specs.Keeps.{HubInvariant, SessionMatchesConnection}
 use Rattle.mq_hub.specs.Seen.{HubTables}
 use Rattle.mq_hub.specs.Sessions.{sessions_of, tenant_of}
 use Rattle.mq_hub.proofs.Changing.{up_there}
@@ -30,12 +30,12 @@ use Rattle.mq_hub.proofs.Serving.{key_is, seat_of}
 use Rattle.mq_hub.proofs.Tied.{end_there}
 
 -- nothing is put out
-abbrev waits : Line → Line
-waits x = record x { waiting = x.waiting ++ spellings [] }
+abbrev waits : HubConnection → HubConnection
+waits x = record x { waiting = x.waiting ++ encodings [] }
 
-same_lines : (k : Conn) (xs : List Line) → with_line waits k xs ≡ xs
+same_lines : (k : Conn) (xs : List HubConnection) → with_connection waits k xs ≡ xs
 same_lines k [] = refl
-same_lines k (x ∷ xs) = λ i. go (is_line k x) i ∷ same_lines k xs i
+same_lines k (x ∷ xs) = λ i. go (is_connection k x) i ∷ same_lines k xs i
   where
     go : (b : Bool) → cond b (waits x) x ≡ x
     go true = ap (λ (w : List ℕ). record x { waiting = w }) (append-nil x.waiting)
@@ -43,45 +43,45 @@ same_lines k (x ∷ xs) = λ i. go (is_line k x) i ∷ same_lines k xs i
 
 pub put_nothing : (k : Conn) (w : Work) → put_on k [] w ≡ w
 unfolding put_on
-put_nothing k w = λ i. record w { hub = record w.hub { lines = same_lines k w.hub.lines i }; sent = append-nil w.sent i }
+put_nothing k w = λ i. record w { hub = record w.hub { connections = same_lines k w.hub.connections i }; sent = append-nil w.sent i }
 
 -- an end that is up
 closed_up : (fault : DecodeFault) (e : End) → is_up e.state ≡ true → server_faulted fault e ≡ closes (reasons.Fault fault) e
 closed_up fault e up = ap (λ (b : Bool). cond (not b && is_level fault.kind) (level_refused e) (closes (reasons.Fault fault) e)) up
 
-module _ (k : Conn) (fault : DecodeFault) (key : ℕ) (old : HubState) (at : key_on (stage_of k old.lines) ≡ Some key)
+module _ (k : Conn) (fault : DecodeFault) (key : ℕ) (old : HubState) (at : key_on (stage_of k old.connections) ≡ Some key)
     (up : is_up (end_of key old.sessions).state ≡ true) where
   broken_is : (w : Work) → w.hub ≡ old → broken k fault w ≡ closes (reasons.Fault fault) (end_of key old.sessions)
   broken_is w e =
-      let there = is_up_for key (stage_of k old.lines) at in
-      ap (λ (h : HubState). server_faulted fault (end_on (stage_of k h.lines) h.sessions)) e
-      ∙ ap (λ (s : Stage). server_faulted fault (end_on s old.sessions)) there.is
+      let there = is_up_for key (stage_of k old.connections) at in
+      ap (λ (h : HubState). server_faulted fault (end_on (stage_of k h.connections) h.sessions)) e
+      ∙ ap (λ (s : ConnectionState). server_faulted fault (end_on s old.sessions)) there.is
       ∙ closed_up fault (end_of key old.sessions) up
 
-  breaks_is : (fits : Bool) (w : Work) → w.hub ≡ old → breaks k fault fits w ≡ close k (Own (reasons.Fault fault)) fits w
-  unfolding breaks
+  breaks_is : (fits : Bool) (w : Work) → w.hub ≡ old → on_malformed k fault fits w ≡ close k (Own (reasons.Fault fault)) fits w
+  unfolding on_malformed
   breaks_is fits w e =
       ap (λ (r : Reply). closes_by k r.close fits (put_on k r.out w)) (broken_is w e) ∙ ap (close k (Own (reasons.Fault fault)) fits) (put_nothing k w)
 
-  pub broken_up : (fits : Bool) (new : HubState) (did says : List Act) → GoesBy (close k (Own (reasons.Fault fault)) fits) old did new says
-      → GoesBy (breaks k fault fits) old did new says
+  pub broken_up : (fits : Bool) (new : HubState) (did says : List Act) → Refines (close k (Own (reasons.Fault fault)) fits) old did new says
+      → Refines (on_malformed k fault fits) old did new says
   broken_up fits new did says goes = record {
     hub = λ w e f. ap (λ (v : Work). v.hub) (breaks_is fits w e) ∙ goes.hub w e f;
     did = λ w e f. ap (λ (v : Work). v.did) (breaks_is fits w e) ∙ goes.did w e f;
   }
 
 -- the end of the session of a connection that is up is up
-pub end_up : (config : HubConfig) (next : ℕ) (t : HubTables) (k : Conn) (key : ℕ) → HubKeeps config next t → key_on (stage_of k t.lines.lines) ≡ Some key
+pub end_up : (config : HubConfig) (next : ℕ) (t : HubTables) (k : Conn) (key : ℕ) → HubInvariant config next t → key_on (stage_of k t.connections.connections) ≡ Some key
     → is_up (end_of key (sessions_of t.sessions.tenants)).state ≡ true
-end_up config next t k key kept at = go t.sessions.tenants t.lines.lines kept.seated at (tenant_of key t.sessions.tenants) refl
-    (housed_at config.limits.most k key t.sessions.tenants t.lines.lines kept.housed at)
+end_up config next t k key kept at = go t.sessions.tenants t.connections.connections kept.seated at (tenant_of key t.sessions.tenants) refl
+    (housed_at config.limits.most k key t.sessions.tenants t.connections.connections kept.housed at)
   where
-    go : (ts : List Tenant) (xs : List Line) → AllByRecursion (IsSeated config xs) ts → key_on (stage_of k xs) ≡ Some key
-        → (o : Option Tenant) → tenant_of key ts ≡ o → is_some o ≡ true → is_up (end_of key (sessions_of ts)).state ≡ true
+    go : (ts : List BrokerSession) (xs : List HubConnection) → AllByRecursion (SessionMatchesConnection config xs) ts → key_on (stage_of k xs) ≡ Some key
+        → (o : Option BrokerSession) → tenant_of key ts ≡ o → is_some o ≡ true → is_up (end_of key (sessions_of ts)).state ≡ true
     go ts xs seated at None e there = absurd (true≢false (sym there))
     go ts xs seated at (Some s) e there =
-        let seat : IsSeated config xs s = seat_of (IsSeated config xs) key s ts e seated in
+        let seat : SessionMatchesConnection config xs s = seat_of (SessionMatchesConnection config xs) key s ts e seated in
         let up = is_up_for key (stage_of k xs) at in
         ap (λ (x : End). is_up x.state) (end_there key s ts e)
-        ∙ ap is_up (seat.state ∙ cond-true (is_some (up_on s.key xs)) Up Closed
-        (ap (λ (n : ℕ). is_some (up_on n xs)) (key_is key s ts e) ∙ up_there k key up.terms up.moment xs up.is))
+        ∙ ap is_up (seat.state ∙ cond-true (is_some (up_on s.key xs)) Connected Disconnected
+        (ap (λ (n : ℕ). is_some (up_on n xs)) (key_is key s ts e) ∙ up_there k key up.terms up.last_activity xs up.is))

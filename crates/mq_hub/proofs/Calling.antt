@@ -4,50 +4,50 @@ use Rattle.std.specs.Prelude.{⊤}
 use Rattle.std.specs.declared.alloc.AllocError.{AllocError}
 use Rattle.mq_packet.specs.declared.message.Message.{Message}
 use Rattle.mq_packet.specs.declared.packet.Packet.{Packet}
-use Rattle.mq_packet.specs.Spelling.{SpellingLaws, fields, spellings}
-use Rattle.mq_packet.specs.Spelling.{Spelled as IsSpelled}
-use Rattle.mq_end.specs.declared.handing.Handing.{Handing}
-use Rattle.mq_end.specs.declared.outcome.Outcome.{Outcome}
+use Rattle.mq_packet.specs.Encoding.{EncodingLaws, fields, encodings}
+use Rattle.mq_packet.specs.Encoding.{EncodesAll as IsEncoded}
+use Rattle.mq_end.specs.declared.publish_outcome.PublishOutcome.{PublishOutcome}
+use Rattle.mq_end.specs.declared.packet_outcome.PacketOutcome.{PacketOutcome}
 use Rattle.mq_end.specs.declared.refusal.PublishRefusal.{PublishRefusal}
 use Rattle.mq_end.specs.declared.state.State.{State}
-use Rattle.mq_end.specs.declared.state.State.TheVariants.{Closed, Open, Up}
+use Rattle.mq_end.specs.declared.state.State.TheVariants.{Disconnected, Connecting, Connected}
 use Rattle.mq_end.specs.End.{End, Reply, puts_out, is_live, is_up}
 use Rattle.mq_end.specs.Ready.{FitsRoom, HasRoom, is_exactly_once, packets_size, whole_size}
 use Rattle.mq_end.specs.Receiving.{Acts, TakesPacket, no_outcome, outcome_of, told_of}
 use Rattle.mq_end.specs.Server.{ready_refusal, server_gets, suback_refusal, unsuback_refusal}
-use Rattle.mq_end.specs.State.{EndState, PutsOut, Spelled}
-use Rattle.mq_hub.specs.declared.call.Call.{Call}
-use Rattle.mq_hub.specs.declared.call.Call.TheVariants.{Takes, Grants, Drops}
-use Rattle.mq_hub.specs.declared.session.Tenant.{Tenant}
+use Rattle.mq_end.specs.State.{EndState, PutsOut, EncodesAll}
+use Rattle.mq_hub.specs.declared.sessions.call.Call.{Call}
+use Rattle.mq_hub.specs.declared.sessions.call.Call.TheVariants.{Takes, Grants, Drops}
+use Rattle.mq_hub.specs.declared.sessions.session.BrokerSession.{BrokerSession}
 use Rattle.mq_hub.specs.Calls.{CanServe, IsAllowed, Serves, ServesAt, Tells, reply_of, is_storing}
 use Rattle.mq_hub.specs.Placing.{AreSameButRoom, IsReady, IsReadyAt, roomless}
 use Rattle.mq_hub.specs.Sessions.{AreAscending, tenant_of, with_server}
 use Rattle.mq_hub.proofs.Readiness.{changed_at, changed_own, same_change, same_tenant, some_same}
 
-spelled : (ps : List Packet) (b : List ℕ) → Spelled ps b → IsSpelled ps b
-spelled [] b h = h
-spelled (p ∷ ps) b h = (h.0, h.1, h.2, spelled ps h.1 h.3, h.4)
+encoded : (ps : List Packet) (b : List ℕ) → EncodesAll ps b → IsEncoded ps b
+encoded [] b h = h
+encoded (p ∷ ps) b h = (h.0, h.1, h.2, encoded ps h.1 h.3, h.4)
 
-put_out : SpellingLaws → (ps : List Packet) (old new : List ℕ) → PutsOut ps old new → new ≡ old ++ spellings ps
-put_out spelling ps old new out = out.2 ∙ ap (λ (b : List ℕ). old ++ b) (spelling.all ps out.0 (spelled ps out.0 out.1))
+put_out : EncodingLaws → (ps : List Packet) (old new : List ℕ) → PutsOut ps old new → new ≡ old ++ encodings ps
+put_out encoding ps old new out = out.2 ∙ ap (λ (b : List ℕ). old ++ b) (encoding.all ps out.0 (encoded ps out.0 out.1))
 
 -- ---- a packet comes
 
 pub up_live : (s : State) → is_up s ≡ true → is_live s ≡ true
-up_live Closed up = up
-up_live Open up = absurd (true≢false (sym up))
-up_live Up up = refl
+up_live Disconnected up = up
+up_live Connecting up = absurd (true≢false (sym up))
+up_live Connected up = refl
 
-pub takes_serves : SpellingLaws → (now : ℕ) (p : Packet) (answer : Result Outcome AllocError) (old new : EndState)
+pub takes_serves : EncodingLaws → (now : ℕ) (p : Packet) (answer : Result PacketOutcome AllocError) (old new : EndState)
     → IfOk answer (λ o. TakesPacket now p o old new) → OnErr answer (new ≡ old) → (is_exactly_once p ≡ false → FitsRoom (server_gets p old.end).out old → IsOk answer)
     → ((ms : List Message) (more : ℕ) → HasRoom ms (packets_size (server_gets p old.end).out + more) old → HasRoom ms more new) → Serves (Takes now p) answer old new
-takes_serves spelling now p answer old new takes still within kept = record { ok = go answer takes; err = still; within = within; kept = kept }
+takes_serves encoding now p answer old new takes still within kept = record { ok = go answer takes; err = still; within = within; kept = kept }
   where
-    go : (a : Result Outcome AllocError) → IfOk a (λ o. TakesPacket now p o old new) → IfOk a (λ o. Tells (server_gets p old.end) o old new)
+    go : (a : Result PacketOutcome AllocError) → IfOk a (λ o. TakesPacket now p o old new) → IfOk a (λ o. Tells (server_gets p old.end) o old new)
     go (Ok o) t = record {
       replies = record {
         end = ap (λ (s : EndState). s.end) t.state;
-        output = put_out spelling (server_gets p old.end).out old.output new.output t.out;
+        output = put_out encoding (server_gets p old.end).out old.output new.output t.out;
         capacity = ap (λ (s : EndState). s.capacity) t.state;
         limit = ap (λ (s : EndState). s.limit) t.state;
       };
@@ -57,41 +57,41 @@ takes_serves spelling now p answer old new takes still within kept = record { ok
     go (Err e) t = tt
 
 -- a message that stays with the broker, of whose PUBLISH this comes
-pub ok_told : {E : Type 0} (m : Message) (P : Outcome → Type 0) (r : Result Handing E) → IfOk r (λ handing. P (outcome_of handing m)) → IfOk (told_of m r) P
+pub ok_told : {E : Type 0} (m : Message) (P : PacketOutcome → Type 0) (r : Result PublishOutcome E) → IfOk r (λ handing. P (outcome_of handing m)) → IfOk (told_of m r) P
 ok_told m P (Ok handing) x = x
 ok_told m P (Err e) x = x
 
-pub err_told : {E : Type 0} (m : Message) (X : Type 0) (r : Result Handing E) → OnErr r X → OnErr (told_of m r) X
+pub err_told : {E : Type 0} (m : Message) (X : Type 0) (r : Result PublishOutcome E) → OnErr r X → OnErr (told_of m r) X
 err_told m X (Ok handing) x = x
 err_told m X (Err e) x = x
 
-pub err_untold : {E : Type 0} (m : Message) (X : Type 0) (r : Result Handing E) → OnErr (told_of m r) X → OnErr r X
+pub err_untold : {E : Type 0} (m : Message) (X : Type 0) (r : Result PublishOutcome E) → OnErr (told_of m r) X → OnErr r X
 err_untold m X (Ok handing) x = x
 err_untold m X (Err e) x = x
 
-pub is_ok_told : {E : Type 0} (m : Message) (r : Result Handing E) → IsOk r → IsOk (told_of m r)
+pub is_ok_told : {E : Type 0} (m : Message) (r : Result PublishOutcome E) → IsOk r → IsOk (told_of m r)
 is_ok_told m (Ok handing) x = x
 is_ok_told m (Err e) x = x
 
 -- ---- it answers
 
 -- an answer of one packet of this remaining length (2.2.3)
-module _ (spelling : SpellingLaws) (call : Call) (p : Packet) (size : ℕ) (old new : EndState) (reply : reply_of call old.end ≡ puts_out (p ∷ []) old.end)
+module _ (encoding : EncodingLaws) (call : Call) (p : Packet) (size : ℕ) (old new : EndState) (reply : reply_of call old.end ≡ puts_out (p ∷ []) old.end)
     (long : length (fields p) ≡ size) where
   with_size : (ms : List Message) (more : ℕ) → HasRoom ms (packets_size (reply_of call old.end).out + more) old → HasRoom ms (whole_size size + more) old
   with_size ms more room =
       subst (λ (n : ℕ). HasRoom ms n old)
       (ap (λ (r : Reply). packets_size r.out + more) reply ∙ (let w : packets_size (p ∷ []) + more ≡ whole_size size + more = omega (arith, long) in w)) room
 
-  pub answer_serves : (r : Result ⊤ PublishRefusal) (answer : Result Outcome AllocError) → OnOk r (answer ≡ Ok no_outcome) → OnErr r (IsErr answer)
+  pub answer_serves : (r : Result ⊤ PublishRefusal) (answer : Result PacketOutcome AllocError) → OnOk r (answer ≡ Ok no_outcome) → OnErr r (IsErr answer)
       → OnOk r (Acts (puts_out (p ∷ []) old.end) old new) → OnErr r (new ≡ old)
       → ((ms : List Message) (more : ℕ) → HasRoom ms (whole_size size + more) old → IsOk r × HasRoom ms more new) → Serves call answer old new
   answer_serves (Ok x) answer is failed acts err kept =
-      subst (λ (a : Result Outcome AllocError). Serves call a old new) (sym is) (record {
+      subst (λ (a : Result PacketOutcome AllocError). Serves call a old new) (sym is) (record {
         ok = subst (λ (r : Reply). Tells r no_outcome old new) (sym reply) (record {
           replies = record {
             end = ap (λ (s : EndState). s.end) acts.state;
-            output = put_out spelling (p ∷ []) old.output new.output acts.out;
+            output = put_out encoding (p ∷ []) old.output new.output acts.out;
             capacity = ap (λ (s : EndState). s.capacity) acts.state;
             limit = ap (λ (s : EndState). s.limit) acts.state;
           };
@@ -111,7 +111,7 @@ module _ (spelling : SpellingLaws) (call : Call) (p : Packet) (size : ℕ) (old 
           go true = omega arith
           go false = omega arith
 
-      go : (a : Result Outcome AllocError) → IsErr a → Serves call a old new
+      go : (a : Result PacketOutcome AllocError) → IsErr a → Serves call a old new
       go (Ok o) no_error = absurd (true≢false (sym no_error))
       go (Err f) error = record {
         ok = tt;
@@ -122,16 +122,16 @@ module _ (spelling : SpellingLaws) (call : Call) (p : Packet) (size : ℕ) (old 
 
 -- ---- for lack of memory
 
-pub same_ends : (key : ℕ) (ts : List Tenant) → changed_at (λ s. s) key ts ≡ ts
+pub same_ends : (key : ℕ) (ts : List BrokerSession) → changed_at (λ s. s) key ts ≡ ts
 same_ends key [] = refl
-same_ends key (t ∷ ts) = ap₂ (λ (x : Tenant) (xs : List Tenant). x ∷ xs) (one (eqb t.key key)) (same_ends key ts)
+same_ends key (t ∷ ts) = ap₂ (λ (x : BrokerSession) (xs : List BrokerSession). x ∷ xs) (one (eqb t.key key)) (same_ends key ts)
   where
     one : (b : Bool) → cond b (record t { end = t.end }) t ≡ t
     one true = refl
     one false = refl
 
 -- the sessions stay
-pub unserved : (key : ℕ) (call : Call) (answer : Result Outcome AllocError) (old new : List Tenant) → AreAscending old → ServesAt key call answer old new → OnErr answer (new ≡ old)
+pub unserved : (key : ℕ) (call : Call) (answer : Result PacketOutcome AllocError) (old new : List BrokerSession) → AreAscending old → ServesAt key call answer old new → OnErr answer (new ≡ old)
 unserved key call (Ok o) old new up r = tt
 unserved key call (Err e) old new up r = r.after ∙ ap (λ (s : EndState). with_server key s old) r.serves.err ∙ same_change (λ s. s) key r.tenant old up r.there ∙ same_ends key old
 
@@ -142,8 +142,8 @@ abbrev FitsAll : Call → ℕ → Type 0
 FitsAll call more = (e : End) → packets_size (reply_of call e).out ≤ more
 
 -- an end that is ready does it
-pub served_ok : (key : ℕ) (call : Call) (answer : Result Outcome AllocError) (ms : List Message) (more : ℕ) (old new : List Tenant) → ServesAt key call answer old new → IsReadyAt key ms more old
-    → is_storing call ≡ false → FitsAll call more → (o : Outcome) × (answer ≡ Ok o)
+pub served_ok : (key : ℕ) (call : Call) (answer : Result PacketOutcome AllocError) (ms : List Message) (more : ℕ) (old new : List BrokerSession) → ServesAt key call answer old new → IsReadyAt key ms more old
+    → is_storing call ≡ false → FitsAll call more → (o : PacketOutcome) × (answer ≡ Ok o)
 served_ok key call answer ms more old new r ready small fits = go answer refl (r.serves.within small room)
   where
     is : ready.tenant ≡ r.tenant
@@ -152,37 +152,37 @@ served_ok key call answer ms more old new r ready small fits = go answer refl (r
     room : FitsRoom (reply_of call r.tenant.end.end).out r.tenant.end
     room =
         let size = fits r.tenant.end.end in
-        let bytes = subst (λ (t : Tenant). HasRoom ms more t.end) is ready.ready.room in
+        let bytes = subst (λ (t : BrokerSession). HasRoom ms more t.end) is ready.ready.room in
         let b = bytes.bytes in
         omega arith
 
-    go : (a : Result Outcome AllocError) → answer ≡ a → IsOk a → (o : Outcome) × (answer ≡ Ok o)
+    go : (a : Result PacketOutcome AllocError) → answer ≡ a → IsOk a → (o : PacketOutcome) × (answer ≡ Ok o)
     go (Ok o) e ok = (o, e)
     go (Err x) e ok = absurd (true≢false (sym ok))
 
 -- ---- sessions with other room
 
-pub can_alike : (key : ℕ) (call : Call) (old new : List Tenant) → AreSameButRoom old new → CanServe key call old → CanServe key call new
+pub can_alike : (key : ℕ) (call : Call) (old new : List BrokerSession) → AreSameButRoom old new → CanServe key call old → CanServe key call new
 can_alike key call old new same can = record {
   tenant = w.0;
   there = w.1;
-  up = ap (λ (t : Tenant). is_up t.end.end.state) w.2 ∙ can.up;
+  up = ap (λ (t : BrokerSession). is_up t.end.end.state) w.2 ∙ can.up;
   allowed = go call can.allowed;
 }
   where
-    w : (s : Tenant) × (tenant_of key new ≡ Some s) × (roomless s ≡ roomless can.tenant)
+    w : (s : BrokerSession) × (tenant_of key new ≡ Some s) × (roomless s ≡ roomless can.tenant)
     w = same_tenant key can.tenant old new same can.there
 
     go : (c : Call) → IsAllowed c can.tenant.end → IsAllowed c w.0.end
     go (Takes now p) a = tt
-    go (Grants i codes) a = ap (λ (t : Tenant). suback_refusal t.end.limit.most codes t.end.end) w.2 ∙ a
-    go (Drops i) a = ap (λ (t : Tenant). unsuback_refusal t.end.limit.most t.end.end) w.2 ∙ a
+    go (Grants i codes) a = ap (λ (t : BrokerSession). suback_refusal t.end.limit.most codes t.end.end) w.2 ∙ a
+    go (Drops i) a = ap (λ (t : BrokerSession). unsuback_refusal t.end.limit.most t.end.end) w.2 ∙ a
 
 -- an end that answered, and is as it was but for its bytes, is ready for the messages for which it was made ready
-pub left_ready : (key : ℕ) (call : Call) (answer : Result Outcome AllocError) (ms : List Message) (more : ℕ) (old new : List Tenant) → ServesAt key call answer old new → (o : Outcome) → answer ≡ Ok o
+pub left_ready : (key : ℕ) (call : Call) (answer : Result PacketOutcome AllocError) (ms : List Message) (more : ℕ) (old new : List BrokerSession) → ServesAt key call answer old new → (o : PacketOutcome) → answer ≡ Ok o
     → ((e : End) → (reply_of call e).end ≡ e) → FitsAll call more → IsReadyAt key ms more old → IsReadyAt key ms 0 new
 left_ready key call answer ms more old new r o ok same fits ready =
-    subst (λ (ts : List Tenant). IsReadyAt key ms 0 ts) (sym r.after) (record {
+    subst (λ (ts : List BrokerSession). IsReadyAt key ms 0 ts) (sym r.after) (record {
       tenant = record r.tenant { end = r.end };
       there = changed_own (λ s. r.end) key r.tenant old r.there;
       ready = record { accepted = accepted; room = r.serves.kept ms 0 room };
@@ -192,10 +192,10 @@ left_ready key call answer ms more old new r o ok same fits ready =
     is = some_same (sym ready.there ∙ r.there)
 
     was : IsReady ms more r.tenant.end
-    was = subst (λ (t : Tenant). IsReady ms more t.end) is ready.ready
+    was = subst (λ (t : BrokerSession). IsReady ms more t.end) is ready.ready
 
     tells : Tells (reply_of call r.tenant.end.end) o r.tenant.end r.end
-    tells = subst (λ (a : Result Outcome AllocError). IfOk a (λ o. Tells (reply_of call r.tenant.end.end) o r.tenant.end r.end)) ok r.serves.ok
+    tells = subst (λ (a : Result PacketOutcome AllocError). IfOk a (λ o. Tells (reply_of call r.tenant.end.end) o r.tenant.end r.end)) ok r.serves.ok
 
     accepted : ready_refusal r.end.limit.most r.end.capacity ms r.end.end ≡ None
     accepted =

@@ -12,25 +12,25 @@ use Rattle.mq_topic.specs.Rows.{matched}
 use Rattle.mq_packet.specs.declared.message.Message.{Message}
 use Rattle.mq_packet.specs.declared.packet.Request.{Request}
 use Rattle.mq_route.specs.Copies.{copy, copy_by, is_hidden_name, retained_for}
-use Rattle.mq_route.specs.Hub.{HubState, Line, copies_of, for_key, up_on}
+use Rattle.mq_route.specs.Hub.{HubState, HubConnection, copies_of, for_key, up_on}
 use Rattle.mq_route.specs.Work.{retained_copies}
 use Rattle.mq_hub.specs.Placing.{AreApart, AreUpAlike, copies_found, is_among}
 
 -- ---- copies for the clients that were found
 
-pub found_next : (lines : List Line) (m : Message) (key : ℕ) (q : Qos) (later : List (ℕ × Qos)) (o : Option Message) (done : List (ℕ × Message))
-    → option_to_list o ≡ copy_by (is_some (up_on key lines)) m (Some q)
-    → (done ++ for_key key (option_to_list o)) ++ copies_found lines m later ≡ done ++ copies_found lines m ((key, q) ∷ later)
-found_next lines m key q later o done e =
-    append_assoc done (for_key key (option_to_list o)) (copies_found lines m later)
-    ∙ ap (λ (ms : List Message). done ++ (for_key key ms ++ copies_found lines m later)) e
+pub found_next : (connections : List HubConnection) (m : Message) (key : ℕ) (q : Qos) (later : List (ℕ × Qos)) (o : Option Message) (done : List (ℕ × Message))
+    → option_to_list o ≡ copy_by (is_some (up_on key connections)) m (Some q)
+    → (done ++ for_key key (option_to_list o)) ++ copies_found connections m later ≡ done ++ copies_found connections m ((key, q) ∷ later)
+found_next connections m key q later o done e =
+    append_assoc done (for_key key (option_to_list o)) (copies_found connections m later)
+    ∙ ap (λ (ms : List Message). done ++ (for_key key ms ++ copies_found connections m later)) e
 
-pub found_alike : (xs ys : List Line) (m : Message) (found : List (ℕ × Qos)) → AreUpAlike xs ys → copies_found ys m found ≡ copies_found xs m found
+pub found_alike : (xs ys : List HubConnection) (m : Message) (found : List (ℕ × Qos)) → AreUpAlike xs ys → copies_found ys m found ≡ copies_found xs m found
 found_alike xs ys m [] alike = refl
 found_alike xs ys m (f ∷ found) alike =
     ap₂ (λ (up : Bool) (rest : List (ℕ × Message)). for_key f.0 (copy_by up m (Some f.1)) ++ rest) (sym (alike f.0)) (found_alike xs ys m found alike)
 
-pub found_is : (m : Message) (h : HubState) → is_hidden_name m.topic ≡ false → copies_found h.lines m (matched m.topic h.rows) ≡ copies_of m h
+pub found_is : (m : Message) (h : HubState) → is_hidden_name m.topic ≡ false → copies_found h.connections m (matched m.topic h.rows) ≡ copies_of m h
 unfolding copies_of
 found_is m h shown = rw shown refl
 
@@ -60,19 +60,19 @@ among_others : (key d : ℕ) (ms : List Message) (rest : List (ℕ × Message)) 
 among_others key d [] rest apart none = none
 among_others key d (m ∷ ms) rest apart none = rw apart (among_others key d ms rest apart none)
 
-none_found : (lines : List Line) (m : Message) (key : ℕ) (found : List (ℕ × Qos)) → T (below_all nat_cmp key found) → is_among key (copies_found lines m found) ≡ false
-none_found lines m key [] below = refl
-none_found lines m key (f ∷ found) below =
-    among_others key f.0 (copy_by (is_some (up_on f.0 lines)) m (Some f.1)) (copies_found lines m found) (apart_below key f.0 (first _ _ below)) (none_found lines m key found (second _ _ below))
+none_found : (connections : List HubConnection) (m : Message) (key : ℕ) (found : List (ℕ × Qos)) → T (below_all nat_cmp key found) → is_among key (copies_found connections m found) ≡ false
+none_found connections m key [] below = refl
+none_found connections m key (f ∷ found) below =
+    among_others key f.0 (copy_by (is_some (up_on f.0 connections)) m (Some f.1)) (copies_found connections m found) (apart_below key f.0 (first _ _ below)) (none_found connections m key found (second _ _ below))
 
 one_more_apart : (key : ℕ) (b : Bool) (m : Message) (rest : List (ℕ × Message)) → is_among key rest ≡ false → AreApart rest → AreApart (for_key key (cond b [] (m ∷ [])) ++ rest)
 one_more_apart key true m rest none apart = apart
 one_more_apart key false m rest none apart = (none, apart)
 
-pub found_apart : (lines : List Line) (m : Message) (found : List (ℕ × Qos)) → T (is_sorted nat_cmp found) → AreApart (copies_found lines m found)
-found_apart lines m [] sorted = tt
-found_apart lines m (f ∷ found) sorted =
-    one_more_apart f.0 _ (copy f.1 false m) (copies_found lines m found) (none_found lines m f.0 found (first _ _ sorted)) (found_apart lines m found (second _ _ sorted))
+pub found_apart : (connections : List HubConnection) (m : Message) (found : List (ℕ × Qos)) → T (is_sorted nat_cmp found) → AreApart (copies_found connections m found)
+found_apart connections m [] sorted = tt
+found_apart connections m (f ∷ found) sorted =
+    one_more_apart f.0 _ (copy f.1 false m) (copies_found connections m found) (none_found connections m f.0 found (first _ _ sorted)) (found_apart connections m found (second _ _ sorted))
 
 -- ---- retained messages
 

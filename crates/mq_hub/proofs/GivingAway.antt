@@ -4,16 +4,16 @@ use Rattle.std.specs.declared.alloc.AllocError.{AllocError}
 use Rattle.mq_end.specs.State.{EndState}
 use Rattle.mq_route.specs.declared.config.HubConfig.{HubConfig}
 use Rattle.mq_route.specs.declared.conn.Conn.{Conn}
-use Rattle.mq_route.specs.Hub.{key_on, stage_of, waiting_on, with_line}
+use Rattle.mq_route.specs.Hub.{key_on, stage_of, waiting_on, with_connection}
 use Rattle.mq_route.specs.Step.{collected}
-use Rattle.mq_hub.specs.declared.session.Tenant.{Tenant}
+use Rattle.mq_hub.specs.declared.sessions.session.BrokerSession.{BrokerSession}
 use Rattle.mq_hub.specs.Collecting.{Collects, drained}
-use Rattle.mq_hub.specs.Keeps.{HubKeeps}
-use Rattle.mq_hub.specs.Lines.{LineTable}
+use Rattle.mq_hub.specs.Keeps.{HubInvariant}
+use Rattle.mq_hub.specs.Connections.{LineTable}
 use Rattle.mq_hub.specs.Seen.{HubTables, all_seen, hub_of}
 use Rattle.mq_hub.specs.Placing.{roomless}
 use Rattle.mq_hub.specs.Sessions.{sessions_of, tenant_of, with_server}
-use Rattle.mq_hub.specs.Sharing.{AreTablesAlike}
+use Rattle.mq_hub.specs.DeliveryPlan.{AreTablesAlike}
 use Rattle.mq_hub.proofs.Changing.{waiting_own}
 use Rattle.mq_hub.proofs.Collecting.{emptied, hub_drained, hub_emptied, kept_drained, kept_emptied, waits_up}
 use Rattle.mq_hub.proofs.Keeping.{kept_by}
@@ -25,7 +25,7 @@ Answer = Result (List ℕ) AllocError
 
 -- ---- of one that is up
 
-module _ (config : HubConfig) (next key : ℕ) (s : Tenant) (e : EndState) (t u : HubTables) (there : tenant_of key t.sessions.tenants ≡ Some s) (kept : HubKeeps config next t)
+module _ (config : HubConfig) (next key : ℕ) (s : BrokerSession) (e : EndState) (t u : HubTables) (there : tenant_of key t.sessions.tenants ≡ Some s) (kept : HubInvariant config next t)
     (rest : u ≡ record t { sessions = u.sessions }) (after : u.sessions.tenants ≡ with_server key e t.sessions.tenants) where
   rows : u.rows ≡ t.rows
   rows = ap (λ (v : HubTables). v.rows) rest
@@ -33,8 +33,8 @@ module _ (config : HubConfig) (next key : ℕ) (s : Tenant) (e : EndState) (t u 
   retained : u.retained.messages ≡ t.retained.messages
   retained = ap (λ (v : HubTables). v.retained.messages) rest
 
-  lines : u.lines ≡ t.lines
-  lines = ap (λ (v : HubTables). v.lines) rest
+  connections : u.connections ≡ t.connections
+  connections = ap (λ (v : HubTables). v.connections) rest
 
   taken_out : e ≡ drained e.room s.end → u.sessions.tenants ≡ with_server key (drained e.room s.end) t.sessions.tenants
   taken_out is = after ∙ ap (λ (x : EndState). with_server key x t.sessions.tenants) is
@@ -43,24 +43,24 @@ module _ (config : HubConfig) (next key : ℕ) (s : Tenant) (e : EndState) (t u 
   stays is = record {
     rows = rows;
     retained = retained;
-    tenants = subst (λ (ts : List Tenant). map roomless ts ≡ map roomless t.sessions.tenants) (sym (after ∙ ap (λ (x : EndState). with_server key x t.sessions.tenants) is))
+    tenants = subst (λ (ts : List BrokerSession). map roomless ts ≡ map roomless t.sessions.tenants) (sym (after ∙ ap (λ (x : EndState). with_server key x t.sessions.tenants) is))
         (other_room e.room key s t.sessions.tenants kept.ascending there);
-    lines = lines;
+    connections = connections;
   }
 
-  pub up_keeps : (r : Answer) → Collects r s.end e → HubKeeps config next u
+  pub up_keeps : (r : Answer) → Collects r s.end e → HubInvariant config next u
   up_keeps (Ok b) is =
-      kept_drained config next key e.room s t u there kept rows retained (taken_out is.1) (ap (λ (l : LineTable). l.lines) lines) (ap (λ (l : LineTable). l.limits) lines)
+      kept_drained config next key e.room s t u there kept rows retained (taken_out is.1) (ap (λ (l : LineTable). l.connections) connections) (ap (λ (l : LineTable). l.limits) connections)
   up_keeps (Err x) is = kept_alike config next t u (stays is) kept
 
-  module _ (clock : ℕ) (k : Conn) (up : key_on (stage_of k t.lines.lines) ≡ Some key) where
-    pub up_bytes : (r : Answer) → Collects r s.end e → IfOk r (λ b. b ≡ waiting_on k (hub_of config clock next t).lines)
-    up_bytes (Ok b) is = is.0 ∙ sym (waits_up k key s t.sessions.tenants t.lines.lines up there)
+  module _ (clock : ℕ) (k : Conn) (up : key_on (stage_of k t.connections.connections) ≡ Some key) where
+    pub up_bytes : (r : Answer) → Collects r s.end e → IfOk r (λ b. b ≡ waiting_on k (hub_of config clock next t).connections)
+    up_bytes (Ok b) is = is.0 ∙ sym (waits_up k key s t.sessions.tenants t.connections.connections up there)
     up_bytes (Err x) is = tt
 
     pub up_taken : (r : Answer) → Collects r s.end e → OnOk r (hub_of config clock next u ≡ collected k (hub_of config clock next t))
     up_taken (Ok b) is =
-        hub_drained config next key e.room s t u there kept rows retained (taken_out is.1) (ap (λ (l : LineTable). l.lines) lines) clock k up
+        hub_drained config next key e.room s t u there kept rows retained (taken_out is.1) (ap (λ (l : LineTable). l.connections) connections) clock k up
     up_taken (Err x) is = tt
 
     pub up_err : (r : Answer) → Collects r s.end e → OnErr r (hub_of config clock next u ≡ hub_of config clock next t)
@@ -69,7 +69,7 @@ module _ (config : HubConfig) (next key : ℕ) (s : Tenant) (e : EndState) (t u 
 
 -- ---- of one that isn't
 
-module _ (config : HubConfig) (next : ℕ) (k : Conn) (t u : HubTables) (kept : HubKeeps config next t) (rest : u ≡ record t { lines = u.lines }) where
+module _ (config : HubConfig) (next : ℕ) (k : Conn) (t u : HubTables) (kept : HubInvariant config next t) (rest : u ≡ record t { connections = u.connections }) where
   own_rows : u.rows ≡ t.rows
   own_rows = ap (λ (v : HubTables). v.rows) rest
 
@@ -79,20 +79,20 @@ module _ (config : HubConfig) (next : ℕ) (k : Conn) (t u : HubTables) (kept : 
   own_tenants : u.sessions.tenants ≡ t.sessions.tenants
   own_tenants = ap (λ (v : HubTables). v.sessions.tenants) rest
 
-  pub own_keeps : (r : Answer) → OnOk r (u.lines.lines ≡ with_line emptied k t.lines.lines) → OnErr r (u.lines.lines ≡ t.lines.lines) → u.lines.limits ≡ t.lines.limits → HubKeeps config next u
+  pub own_keeps : (r : Answer) → OnOk r (u.connections.connections ≡ with_connection emptied k t.connections.connections) → OnErr r (u.connections.connections ≡ t.connections.connections) → u.connections.limits ≡ t.connections.limits → HubInvariant config next u
   own_keeps (Ok b) taken same limits = kept_emptied config next k t u kept own_rows own_retained own_tenants taken limits
   own_keeps (Err x) taken same limits = kept_by config next t u kept own_rows own_retained own_tenants same limits
 
-  module _ (clock : ℕ) (down : key_on (stage_of k t.lines.lines) ≡ None) where
-    pub own_bytes_as : (r : Answer) → IfOk r (λ b. b ≡ waiting_on k t.lines.lines) → IfOk r (λ b. b ≡ waiting_on k (hub_of config clock next t).lines)
-    own_bytes_as (Ok b) is = is ∙ sym (waiting_own k t.sessions.tenants t.lines.lines down)
+  module _ (clock : ℕ) (down : key_on (stage_of k t.connections.connections) ≡ None) where
+    pub own_bytes_as : (r : Answer) → IfOk r (λ b. b ≡ waiting_on k t.connections.connections) → IfOk r (λ b. b ≡ waiting_on k (hub_of config clock next t).connections)
+    own_bytes_as (Ok b) is = is ∙ sym (waiting_own k t.sessions.tenants t.connections.connections down)
     own_bytes_as (Err x) is = tt
 
-    pub own_taken : (r : Answer) → OnOk r (u.lines.lines ≡ with_line emptied k t.lines.lines) → OnOk r (hub_of config clock next u ≡ collected k (hub_of config clock next t))
+    pub own_taken : (r : Answer) → OnOk r (u.connections.connections ≡ with_connection emptied k t.connections.connections) → OnOk r (hub_of config clock next u ≡ collected k (hub_of config clock next t))
     own_taken (Ok b) taken = hub_emptied config clock next k t u kept down own_rows own_retained own_tenants taken
     own_taken (Err x) taken = tt
 
-    pub own_err : (r : Answer) → OnErr r (u.lines.lines ≡ t.lines.lines) → OnErr r (hub_of config clock next u ≡ hub_of config clock next t)
+    pub own_err : (r : Answer) → OnErr r (u.connections.connections ≡ t.connections.connections) → OnErr r (hub_of config clock next u ≡ hub_of config clock next t)
     own_err (Ok b) same = tt
     own_err (Err x) same = λ i. record {
       config = config;
@@ -101,5 +101,5 @@ module _ (config : HubConfig) (next : ℕ) (k : Conn) (t u : HubTables) (kept : 
       rows = own_rows i;
       retained = own_retained i;
       sessions = sessions_of (own_tenants i);
-      lines = all_seen (own_tenants i) (same i);
+      connections = all_seen (own_tenants i) (same i);
     }

@@ -11,7 +11,7 @@ use Rattle.mq_topic.specs.declared.qos.Qos.{Qos}
 use Rattle.mq_topic.specs.Rows.{Row, is_key, key_cmp, with_row, without_row}
 use Rattle.mq_packet.specs.declared.packet.Request.{Request}
 use Rattle.mq_end.specs.declared.state.State.{State}
-use Rattle.mq_end.specs.declared.state.State.TheVariants.{Closed, Up}
+use Rattle.mq_end.specs.declared.state.State.TheVariants.{Disconnected, Connected}
 use Rattle.mq_decode.specs.Limits.{Bounds}
 use Rattle.mq_end.specs.declared.refusal.PublishRefusal.TheVariants as refusals
 use Rattle.mq_end.specs.End.{End, is_up}
@@ -24,19 +24,19 @@ use Rattle.mq_route.specs.declared.act.Act.TheVariants as acts
 use Rattle.mq_route.specs.declared.config.HubConfig.{HubConfig}
 use Rattle.mq_route.specs.declared.conn.Conn.{Conn}
 use Rattle.mq_route.specs.Arrives.{answers}
-use Rattle.mq_route.specs.Hub.{HubState, HubSession, Line, up_on}
+use Rattle.mq_route.specs.Hub.{HubState, HubSession, HubConnection, up_on}
 use Rattle.mq_route.specs.Work.{Work, does, said, subscribed, unsubscribed}
-use Rattle.mq_hub.specs.declared.call.Call.{Call}
-use Rattle.mq_hub.specs.declared.call.Call.TheVariants.{Takes, Drops}
-use Rattle.mq_hub.specs.declared.session.Tenant.{Tenant}
+use Rattle.mq_hub.specs.declared.sessions.call.Call.{Call}
+use Rattle.mq_hub.specs.declared.sessions.call.Call.TheVariants.{Takes, Drops}
+use Rattle.mq_hub.specs.declared.sessions.session.BrokerSession.{BrokerSession}
 use Rattle.mq_hub.specs.Answers.{Answers}
 use Rattle.mq_hub.specs.Calls.{CanServe, reply_of}
-use Rattle.mq_hub.specs.Does.{GoesBy}
-use Rattle.mq_hub.specs.Keeps.{HubKeeps, IsSeated, Stands}
+use Rattle.mq_hub.specs.Does.{Refines}
+use Rattle.mq_hub.specs.Keeps.{HubInvariant, SessionMatchesConnection, Stands}
 use Rattle.mq_hub.specs.Placing.{with_tenants}
 use Rattle.mq_hub.specs.Retained.{RetainedTable}
 use Rattle.mq_hub.specs.Seen.{HubTables, all_seen, hub_of}
-use Rattle.mq_hub.specs.Lines.{LineTable}
+use Rattle.mq_hub.specs.Connections.{LineTable}
 use Rattle.mq_hub.specs.Sessions.{sessions_of, tenant_of, with_server}
 use Rattle.mq_hub.specs.Subscribing.{subscribed_acts, unsubscribed_acts, with_rows, without_rows}
 use Rattle.mq_hub.proofs.Rerooming.{alike_seen, kept_ready}
@@ -97,14 +97,14 @@ unsubscribed_did key (f ∷ fs) w =
     unsubscribed_did key fs (said (acts.Unsubscribed key f) (record w { hub = record w.hub { rows = without_row key f w.hub.rows } }))
     ∙ append_assoc w.did (acts.Unsubscribed key f ∷ []) (unsubscribed_acts key fs)
 
-pub goes_subscribed : (key : ℕ) (rs : List Request) (h : HubState) (did : List Act) → GoesBy (subscribed key rs) h did (record h { rows = with_rows key rs h.rows }) (did ++ subscribed_acts key rs)
+pub goes_subscribed : (key : ℕ) (rs : List Request) (h : HubState) (did : List Act) → Refines (subscribed key rs) h did (record h { rows = with_rows key rs h.rows }) (did ++ subscribed_acts key rs)
 goes_subscribed key rs h did = record {
   hub = λ w e f. subscribed_hub key rs w ∙ ap (λ (a : HubState). record a { rows = with_rows key rs a.rows }) e;
   did = λ w e f. subscribed_did key rs w ∙ ap (λ (a : List Act). a ++ subscribed_acts key rs) f;
 }
 
 pub goes_unsubscribed : (key : ℕ) (fs : List (List ℕ)) (h : HubState) (did : List Act)
-    → GoesBy (unsubscribed key fs) h did (record h { rows = without_rows key fs h.rows }) (did ++ unsubscribed_acts key fs)
+    → Refines (unsubscribed key fs) h did (record h { rows = without_rows key fs h.rows }) (did ++ unsubscribed_acts key fs)
 goes_unsubscribed key fs h did = record {
   hub = λ w e f. unsubscribed_hub key fs w ∙ ap (λ (a : HubState). record a { rows = without_rows key fs a.rows }) e;
   did = λ w e f. unsubscribed_did key fs w ∙ ap (λ (a : List Act). a ++ unsubscribed_acts key fs) f;
@@ -113,52 +113,52 @@ goes_unsubscribed key fs h did = record {
 -- ---- the end of a client that is up
 
 -- is up
-up_state : (config : HubConfig) (xs : List Line) (k : Conn) (key : ℕ) (t : Tenant) (ts : List Tenant) → tenant_of key ts ≡ Some t → up_on key xs ≡ Some k → IsSeated config xs t → t.end.end.state ≡ Up
+up_state : (config : HubConfig) (xs : List HubConnection) (k : Conn) (key : ℕ) (t : BrokerSession) (ts : List BrokerSession) → tenant_of key ts ≡ Some t → up_on key xs ≡ Some k → SessionMatchesConnection config xs t → t.end.end.state ≡ Connected
 up_state config xs k key t ts there on seat =
-    seat.state ∙ ap (λ (n : ℕ). cond (is_some (up_on n xs)) Up Closed) (key_there key t ts there) ∙ ap (λ (o : Option Conn). cond (is_some o) Up Closed) on
+    seat.state ∙ ap (λ (n : ℕ). cond (is_some (up_on n xs)) Connected Disconnected) (key_there key t ts there) ∙ ap (λ (o : Option Conn). cond (is_some o) Connected Disconnected) on
 
 -- a session stands for a client that is up
-pub stands_up : (config : HubConfig) (next : ℕ) (t : HubTables) → HubKeeps config next t → (key : ℕ) (k : Conn) → up_on key t.lines.lines ≡ Some k → Stands t.sessions.tenants key
-stands_up config next t kept key k on = housed_at config.limits.most k key t.sessions.tenants t.lines.lines kept.housed (on_at k key t.lines.lines kept.apart on).1
+pub stands_up : (config : HubConfig) (next : ℕ) (t : HubTables) → HubInvariant config next t → (key : ℕ) (k : Conn) → up_on key t.connections.connections ≡ Some k → Stands t.sessions.tenants key
+stands_up config next t kept key k on = housed_at config.limits.most k key t.sessions.tenants t.connections.connections kept.housed (on_at k key t.connections.connections kept.apart on).1
 
 -- and its end is up, within the configured bounds
-pub record IsUpEnd (config : HubConfig) (key : ℕ) (ts : List Tenant) : Type 0 where
-  pub tenant : Tenant
+pub record IsUpEnd (config : HubConfig) (key : ℕ) (ts : List BrokerSession) : Type 0 where
+  pub tenant : BrokerSession
   pub there : tenant_of key ts ≡ Some tenant
-  pub state : tenant.end.end.state ≡ Up
+  pub state : tenant.end.end.state ≡ Connected
   pub limit : tenant.end.limit ≡ config.limits
   pub known : tenant.end.end.known ≡ true
 
-pub up_end : (config : HubConfig) (next : ℕ) (t : HubTables) → HubKeeps config next t → (key : ℕ) (k : Conn) → up_on key t.lines.lines ≡ Some k → IsUpEnd config key t.sessions.tenants
+pub up_end : (config : HubConfig) (next : ℕ) (t : HubTables) → HubInvariant config next t → (key : ℕ) (k : Conn) → up_on key t.connections.connections ≡ Some k → IsUpEnd config key t.sessions.tenants
 up_end config next t kept key k on = go (tenant_of key t.sessions.tenants) refl
   where
-    go : (o : Option Tenant) → tenant_of key t.sessions.tenants ≡ o → IsUpEnd config key t.sessions.tenants
+    go : (o : Option BrokerSession) → tenant_of key t.sessions.tenants ≡ o → IsUpEnd config key t.sessions.tenants
     go None e = absurd (true≢false (sym (stands_up config next t kept key k on) ∙ ap is_some e))
     go (Some s) e =
-        let seat = all_there (IsSeated config t.lines.lines) key s t.sessions.tenants kept.seated e in
-        record { tenant = s; there = e; state = up_state config t.lines.lines k key s t.sessions.tenants e on seat; limit = seat.limit; known = seat.known }
+        let seat = all_there (SessionMatchesConnection config t.connections.connections) key s t.sessions.tenants kept.seated e in
+        record { tenant = s; there = e; state = up_state config t.connections.connections k key s t.sessions.tenants e on seat; limit = seat.limit; known = seat.known }
 
 -- a client is up on a connection
-pub record IsOn (key : ℕ) (xs : List Line) : Type 0 where
+pub record IsOn (key : ℕ) (xs : List HubConnection) : Type 0 where
   pub conn : Conn
   pub is : up_on key xs ≡ Some conn
 
-pub on_seen : (config : HubConfig) (clock next : ℕ) (t : HubTables) (h : HubState) (key : ℕ) → hub_of config clock next t ≡ h → is_some (up_on key h.lines) ≡ true → IsOn key t.lines.lines
+pub on_seen : (config : HubConfig) (clock next : ℕ) (t : HubTables) (h : HubState) (key : ℕ) → hub_of config clock next t ≡ h → is_some (up_on key h.connections) ≡ true → IsOn key t.connections.connections
 on_seen config clock next t h key view up =
-    go (up_on key t.lines.lines) refl
-    (ap is_some (sym (up_seen key t.sessions.tenants t.lines.lines) ∙ ap (λ (a : HubState). up_on key a.lines) view) ∙ up)
+    go (up_on key t.connections.connections) refl
+    (ap is_some (sym (up_seen key t.sessions.tenants t.connections.connections) ∙ ap (λ (a : HubState). up_on key a.connections) view) ∙ up)
   where
-    go : (o : Option Conn) → up_on key t.lines.lines ≡ o → is_some o ≡ true → IsOn key t.lines.lines
+    go : (o : Option Conn) → up_on key t.connections.connections ≡ o → is_some o ≡ true → IsOn key t.connections.connections
     go None e some = absurd (true≢false (sym some))
     go (Some k) e some = record { conn = k; is = e }
 
-pub allowed_within : (limit size : ℕ) (e : End) → e.state ≡ Up → size ≤ limit → answer_refusal limit size e ≡ None
+pub allowed_within : (limit size : ℕ) (e : End) → e.state ≡ Connected → size ≤ limit → answer_refusal limit size e ≡ None
 allowed_within limit size e up within =
     let fits : ltb limit size ≡ false = lt-leb (suc limit) size (omega arith) in
     ap (λ (s : State). cond (not (is_up s)) (Some refusals.NotConnected) (cond (ltb limit size) (Some refusals.TooLarge) None)) up
     ∙ cond-false (ltb limit size) (Some refusals.TooLarge) None fits
 
-pub can_drop : (config : HubConfig) (next : ℕ) (t : HubTables) → HubKeeps config next t → (key : ℕ) (k : Conn) → up_on key t.lines.lines ≡ Some k → (i : ℕ) → unsuback_size ≤ config.limits.most
+pub can_drop : (config : HubConfig) (next : ℕ) (t : HubTables) → HubInvariant config next t → (key : ℕ) (k : Conn) → up_on key t.connections.connections ≡ Some k → (i : ℕ) → unsuback_size ≤ config.limits.most
     → CanServe key (Drops i) t.sessions.tenants
 can_drop config next t kept key k on i within =
     let e = up_end config next t kept key k on in
@@ -169,7 +169,7 @@ can_drop config next t kept key k on i within =
       allowed = allowed_within e.tenant.end.limit.most unsuback_size e.tenant.end.end e.state (subst (λ (b : Bounds). unsuback_size ≤ b.most) (sym e.limit) within);
     }
 
-pub can_take : (config : HubConfig) (next : ℕ) (t : HubTables) → HubKeeps config next t → (key : ℕ) (k : Conn) → up_on key t.lines.lines ≡ Some k → (now : ℕ) (p : Packet)
+pub can_take : (config : HubConfig) (next : ℕ) (t : HubTables) → HubInvariant config next t → (key : ℕ) (k : Conn) → up_on key t.connections.connections ≡ Some k → (now : ℕ) (p : Packet)
     → CanServe key (Takes now p) t.sessions.tenants
 can_take config next t kept key k on now p = let e = up_end config next t kept key k on in record { tenant = e.tenant; there = e.there; up = ap is_up e.state; allowed = tt }
 
@@ -188,36 +188,36 @@ err_so (Err e) a f = f a
 
 -- ---- the broker, once rows are set and the end did what it was to do
 
-module _ (config : HubConfig) (next key : ℕ) (t u : HubTables) (kept : HubKeeps config next t) (k : Conn) (on : up_on key t.lines.lines ≡ Some k) (call : Call)
+module _ (config : HubConfig) (next key : ℕ) (t u : HubTables) (kept : HubInvariant config next t) (k : Conn) (on : up_on key t.connections.connections ≡ Some k) (call : Call)
     (rows : List Row) (owned : AllByRecursion (λ r. Stands t.sessions.tenants r.0.0) rows) (a : Answers key call rows t u) where
   abbrev between : HubTables
   between = record t { rows = rows; sessions = record t.sessions { tenants = a.ready } }
 
-  kept_between : HubKeeps config next between
+  kept_between : HubInvariant config next between
   kept_between = kept_ready config next t kept a.ready a.same rows owned
 
-  pub kept_answered : (a.serves.tenant.end.end.state ≡ Up → Stays a.serves.tenant.end.end (reply_of call a.serves.tenant.end.end).end) → HubKeeps config next u
+  pub kept_answered : (a.serves.tenant.end.end.state ≡ Connected → Stays a.serves.tenant.end.end (reply_of call a.serves.tenant.end.end).end) → HubInvariant config next u
   kept_answered stays =
       let s = a.serves.tenant in
-      let seat = all_there (IsSeated config t.lines.lines) key s a.ready kept_between.seated a.serves.there in
-      let state = up_state config t.lines.lines k key s a.ready a.serves.there on seat in
+      let seat = all_there (SessionMatchesConnection config t.connections.connections) key s a.ready kept_between.seated a.serves.there in
+      let state = up_state config t.connections.connections k key s a.ready a.serves.there on seat in
       let v : HubTables = with_tenants (with_server key a.serves.end a.ready) between in
       kept_by config next v u
       (kept_replied config next key s a.serves.end between a.serves.there kept_between k on (reply_of call s.end.end) a.serves.serves.ok.replies (stays state))
-      a.rows (ap (λ (r : RetainedTable). r.messages) a.retained) a.serves.after (ap (λ (l : LineTable). l.lines) a.lines) (ap (λ (l : LineTable). l.limits) a.lines)
+      a.rows (ap (λ (r : RetainedTable). r.messages) a.retained) a.serves.after (ap (λ (l : LineTable). l.connections) a.connections) (ap (λ (l : LineTable). l.limits) a.connections)
 
   module _ (clock : ℕ) where
     hub_between : hub_of config clock next between ≡ record (hub_of config clock next t) { rows = rows }
     hub_between =
-        ap₂ (λ (ss : List HubSession) (ls : List Line). record (hub_of config clock next t) { rows = rows; sessions = ss; lines = ls })
-        (same_sessions t.sessions.tenants a.ready a.same) (alike_seen t.sessions.tenants a.ready a.same t.lines.lines)
+        ap₂ (λ (ss : List HubSession) (ls : List HubConnection). record (hub_of config clock next t) { rows = rows; sessions = ss; connections = ls })
+        (same_sessions t.sessions.tenants a.ready a.same) (alike_seen t.sessions.tenants a.ready a.same t.connections.connections)
 
     hub_after : hub_of config clock next (with_tenants (with_server key a.serves.end a.ready) between) ≡ hub_of config clock next u
     hub_after =
         let tenants = a.serves.after in
         let rows_are = a.rows in
         let retained = a.retained in
-        let lines = a.lines in
+        let connections = a.connections in
         λ i. record {
           config = config;
           clock = clock;
@@ -225,31 +225,31 @@ module _ (config : HubConfig) (next key : ℕ) (t u : HubTables) (kept : HubKeep
           rows = sym rows_are i;
           retained = (sym retained i).messages;
           sessions = sessions_of (sym tenants i);
-          lines = all_seen (sym tenants i) (sym lines i).lines;
+          connections = all_seen (sym tenants i) (sym connections i).connections;
         }
 
-    pub answered_goes : (did : List Act) → GoesBy (does key (reply_of call)) (record (hub_of config clock next t) { rows = rows }) did (hub_of config clock next u) did
+    pub answered_goes : (did : List Act) → Refines (does key (reply_of call)) (record (hub_of config clock next t) { rows = rows }) did (hub_of config clock next u) did
     answered_goes did =
         let s = a.serves.tenant in
-        subst (λ (h : HubState). GoesBy (does key (reply_of call)) h did (hub_of config clock next u) did) hub_between
-        (subst (λ (h : HubState). GoesBy (does key (reply_of call)) (hub_of config clock next between) did h did) hub_after
+        subst (λ (h : HubState). Refines (does key (reply_of call)) h did (hub_of config clock next u) did) hub_between
+        (subst (λ (h : HubState). Refines (does key (reply_of call)) (hub_of config clock next between) did h did) hub_after
         (replied_goes config next key s a.serves.end between a.serves.there kept_between k on clock (reply_of call) a.serves.serves.ok.replies did))
 
 -- ---- UNSUBSCRIBE
 
-dropped_stays : (i : ℕ) (e : End) → e.state ≡ Up → Stays e (reply_of (Drops i) e).end
+dropped_stays : (i : ℕ) (e : End) → e.state ≡ Connected → Stays e (reply_of (Drops i) e).end
 dropped_stays i e up = record { window = refl; known = refl; state = refl; clean = refl }
 
-module _ (config : HubConfig) (next key : ℕ) (t u : HubTables) (kept : HubKeeps config next t) (k : Conn) (on : up_on key t.lines.lines ≡ Some k) (i : ℕ) (fs : List (List ℕ))
+module _ (config : HubConfig) (next key : ℕ) (t u : HubTables) (kept : HubInvariant config next t) (k : Conn) (on : up_on key t.connections.connections ≡ Some k) (i : ℕ) (fs : List (List ℕ))
     (a : Answers key (Drops i) (without_rows key fs t.rows) t u) where
   dropped_owned : AllByRecursion (λ r. Stands t.sessions.tenants r.0.0) (without_rows key fs t.rows)
   dropped_owned = without_owned (λ r. Stands t.sessions.tenants r.0.0) key fs t.rows kept.owned
 
-  pub kept_unsubscribed : HubKeeps config next u
+  pub kept_unsubscribed : HubInvariant config next u
   kept_unsubscribed = kept_answered config next key t u kept k on (Drops i) (without_rows key fs t.rows) dropped_owned a (dropped_stays i a.serves.tenant.end.end)
 
   pub unsubscribed_goes : (clock : ℕ) (conn : Conn) (did : List Act)
-      → GoesBy (answers conn key (happens.Unsubscribe i fs)) (hub_of config clock next t) did (hub_of config clock next u) (did ++ unsubscribed_acts key fs)
+      → Refines (answers conn key (happens.Unsubscribe i fs)) (hub_of config clock next t) did (hub_of config clock next u) (did ++ unsubscribed_acts key fs)
   unfolding answers
   unsubscribed_goes clock conn did =
       let h = hub_of config clock next t in

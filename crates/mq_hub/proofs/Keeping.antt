@@ -3,109 +3,109 @@ use Rattle.std.proofs.Common.{◌≡◌, ◌||◌, ℕ, Bool, false, cond, List,
 use Rattle.std.proofs.lemmas.Bool.{or_parts}
 use Rattle.std.specs.List.{AllByRecursion}
 use Rattle.std.specs.Option.{is_some}
-use Rattle.mq_end.specs.declared.state.State.TheVariants.{Closed, Up}
+use Rattle.mq_end.specs.declared.state.State.TheVariants.{Disconnected, Connected}
 use Rattle.mq_route.specs.declared.config.HubConfig.{HubConfig}
 use Rattle.mq_route.specs.declared.conn.Conn.{Conn}
-use Rattle.mq_route.specs.declared.stage.Stage.{Stage}
-use Rattle.mq_route.specs.declared.stage.Stage.TheVariants.{Fresh}
-use Rattle.mq_route.specs.Hub.{Line, is_clean, is_for, knows, up_on}
+use Rattle.mq_route.specs.declared.connection_state.ConnectionState.{ConnectionState}
+use Rattle.mq_route.specs.declared.connection_state.ConnectionState.TheVariants.{AwaitingConnect}
+use Rattle.mq_route.specs.Hub.{HubConnection, is_clean, is_for, knows, up_on}
 use Rattle.mq_route.specs.Routed.{same_conn}
 use Rattle.mq_topic.specs.Rows.{Row}
 use Rattle.mq_packet.specs.declared.message.Message.{Message}
-use Rattle.mq_hub.specs.declared.session.Tenant.{Tenant}
-use Rattle.mq_hub.specs.Keeps.{AreApart, HubKeeps, IsHoused, IsQuiet, IsSeated, IsWithin, Stands, stage_for}
+use Rattle.mq_hub.specs.declared.sessions.session.BrokerSession.{BrokerSession}
+use Rattle.mq_hub.specs.Keeps.{AreApart, HubInvariant, ConnectionHasSession, IsQuiet, SessionMatchesConnection, IsWithin, Stands, stage_for}
 use Rattle.mq_hub.specs.Seen.{HubTables}
 use Rattle.mq_hub.specs.Sessions.{AreAscending, AreBelow}
-use Rattle.mq_hub.proofs.Connections.{symm}
+use Rattle.mq_hub.proofs.ConnectionTable.{symm}
 
 -- ---- tables that are seen as the same
 
-pub kept_by : (config : HubConfig) (next : ℕ) (t u : HubTables) → HubKeeps config next t → u.rows ≡ t.rows → u.retained.messages ≡ t.retained.messages
-    → u.sessions.tenants ≡ t.sessions.tenants → u.lines.lines ≡ t.lines.lines → u.lines.limits ≡ t.lines.limits → HubKeeps config next u
-kept_by config next t u kept rows retained tenants lines limits = record {
+pub kept_by : (config : HubConfig) (next : ℕ) (t u : HubTables) → HubInvariant config next t → u.rows ≡ t.rows → u.retained.messages ≡ t.retained.messages
+    → u.sessions.tenants ≡ t.sessions.tenants → u.connections.connections ≡ t.connections.connections → u.connections.limits ≡ t.connections.limits → HubInvariant config next u
+kept_by config next t u kept rows retained tenants connections limits = record {
   capacity = kept.capacity;
   window = kept.window;
   limits = limits ∙ kept.limits;
-  apart = subst AreApart (sym lines) kept.apart;
-  quiet = subst (λ (xs : List Line). AllByRecursion (λ x. IsQuiet x.stage x.waiting) xs) (sym lines) kept.quiet;
+  apart = subst AreApart (sym connections) kept.apart;
+  quiet = subst (λ (xs : List HubConnection). AllByRecursion (λ x. IsQuiet x.stage x.waiting) xs) (sym connections) kept.quiet;
   housed =
-      subst (λ (xs : List Line). AllByRecursion (λ x. IsHoused config.limits.most u.sessions.tenants x.stage) xs) (sym lines)
-      (subst (λ (ts : List Tenant). AllByRecursion (λ x. IsHoused config.limits.most ts x.stage) t.lines.lines) (sym tenants) kept.housed);
+      subst (λ (xs : List HubConnection). AllByRecursion (λ x. ConnectionHasSession config.limits.most u.sessions.tenants x.stage) xs) (sym connections)
+      (subst (λ (ts : List BrokerSession). AllByRecursion (λ x. ConnectionHasSession config.limits.most ts x.stage) t.connections.connections) (sym tenants) kept.housed);
   seated =
-      subst (λ (ts : List Tenant). AllByRecursion (IsSeated config u.lines.lines) ts) (sym tenants)
-      (subst (λ (xs : List Line). AllByRecursion (IsSeated config xs) t.sessions.tenants) (sym lines) kept.seated);
+      subst (λ (ts : List BrokerSession). AllByRecursion (SessionMatchesConnection config u.connections.connections) ts) (sym tenants)
+      (subst (λ (xs : List HubConnection). AllByRecursion (SessionMatchesConnection config xs) t.sessions.tenants) (sym connections) kept.seated);
   ascending = subst AreAscending (sym tenants) kept.ascending;
   below = subst (AreBelow next) (sym tenants) kept.below;
   next = kept.next;
   owned =
       subst (λ (rs : List Row). AllByRecursion (λ r. Stands u.sessions.tenants r.0.0) rs) (sym rows)
-      (subst (λ (ts : List Tenant). AllByRecursion (λ r. Stands ts r.0.0) t.rows) (sym tenants) kept.owned);
+      (subst (λ (ts : List BrokerSession). AllByRecursion (λ r. Stands ts r.0.0) t.rows) (sym tenants) kept.owned);
   retained = subst (λ (ms : List Message). AllByRecursion (IsWithin config.limits.most) ms) (sym retained) kept.retained;
 }
 
 -- ---- sessions while other connections come and go
 
 -- a session stands as before where its client is up as before
-pub seated_same : (config : HubConfig) (xs ys : List Line) → ((key : ℕ) → up_on key ys ≡ up_on key xs) → ((key : ℕ) → stage_for key ys ≡ stage_for key xs) → (t : Tenant)
-    → IsSeated config xs t → IsSeated config ys t
+pub seated_same : (config : HubConfig) (xs ys : List HubConnection) → ((key : ℕ) → up_on key ys ≡ up_on key xs) → ((key : ℕ) → stage_for key ys ≡ stage_for key xs) → (t : BrokerSession)
+    → SessionMatchesConnection config xs t → SessionMatchesConnection config ys t
 seated_same config xs ys up stage t seat = record {
   capacity = seat.capacity;
   limit = seat.limit;
   window = seat.window;
   known = seat.known;
-  state = seat.state ∙ ap (λ (o : Option Conn). cond (is_some o) Up Closed) (sym (up t.key));
+  state = seat.state ∙ ap (λ (o : Option Conn). cond (is_some o) Connected Disconnected) (sym (up t.key));
   clean = seat.clean ∙ ap is_clean (sym (stage t.key));
   away = λ none. seat.away (sym (up t.key) ∙ none);
 }
 
-pub all_seated_same : (config : HubConfig) (xs ys : List Line) → ((key : ℕ) → up_on key ys ≡ up_on key xs) → ((key : ℕ) → stage_for key ys ≡ stage_for key xs) → (ts : List Tenant)
-    → AllByRecursion (IsSeated config xs) ts → AllByRecursion (IsSeated config ys) ts
+pub all_seated_same : (config : HubConfig) (xs ys : List HubConnection) → ((key : ℕ) → up_on key ys ≡ up_on key xs) → ((key : ℕ) → stage_for key ys ≡ stage_for key xs) → (ts : List BrokerSession)
+    → AllByRecursion (SessionMatchesConnection config xs) ts → AllByRecursion (SessionMatchesConnection config ys) ts
 all_seated_same config xs ys up stage [] all = tt
 all_seated_same config xs ys up stage (t ∷ ts) all = (seated_same config xs ys up stage t all.0, all_seated_same config xs ys up stage ts all.1)
 
 -- ---- a connection that is opened
 
-module _ (x : Line) (fresh : x.stage ≡ Fresh) (empty : x.waiting ≡ []) where
+module _ (x : HubConnection) (fresh : x.stage ≡ AwaitingConnect) (empty : x.waiting ≡ []) where
   not_for : (key : ℕ) → is_for key x.stage ≡ false
   not_for key = ap (is_for key) fresh
 
-  pub up_opened : (key : ℕ) (xs : List Line) → up_on key (xs ++ x ∷ []) ≡ up_on key xs
+  pub up_opened : (key : ℕ) (xs : List HubConnection) → up_on key (xs ++ x ∷ []) ≡ up_on key xs
   up_opened key [] = ap (λ (b : Bool). cond b (Some x.conn) None) (not_for key)
   up_opened key (y ∷ ys) = ap (λ (o : Option Conn). cond (is_for key y.stage) (Some y.conn) o) (up_opened key ys)
 
-  pub stage_opened : (key : ℕ) (xs : List Line) → stage_for key (xs ++ x ∷ []) ≡ stage_for key xs
+  pub stage_opened : (key : ℕ) (xs : List HubConnection) → stage_for key (xs ++ x ∷ []) ≡ stage_for key xs
   stage_opened key [] = ap (λ (b : Bool). cond b x.stage (stage_for key [])) (not_for key)
-  stage_opened key (y ∷ ys) = ap (λ (s : Stage). cond (is_for key y.stage) y.stage s) (stage_opened key ys)
+  stage_opened key (y ∷ ys) = ap (λ (s : ConnectionState). cond (is_for key y.stage) y.stage s) (stage_opened key ys)
 
-  known_opened : (k : Conn) (xs : List Line) → knows k xs ≡ false → same_conn x.conn k ≡ false → knows k (xs ++ x ∷ []) ≡ false
+  known_opened : (k : Conn) (xs : List HubConnection) → knows k xs ≡ false → same_conn x.conn k ≡ false → knows k (xs ++ x ∷ []) ≡ false
   known_opened k [] none other = ap (λ (b : Bool). b || false) other
   known_opened k (y ∷ ys) none other =
       let p = or_parts (same_conn y.conn k) (knows k ys) none in
       ap₂ (λ (a b : Bool). a || b) p.0 (known_opened k ys p.1 other)
 
-  pub apart_opened : (xs : List Line) → knows x.conn xs ≡ false → AreApart xs → AreApart (xs ++ x ∷ [])
+  pub apart_opened : (xs : List HubConnection) → knows x.conn xs ≡ false → AreApart xs → AreApart (xs ++ x ∷ [])
   apart_opened [] none apart = (refl, λ key e. refl, tt)
   apart_opened (y ∷ ys) none apart =
       let p = or_parts (same_conn y.conn x.conn) (knows x.conn ys) none in
       (known_opened y.conn ys apart.0 (symm x.conn y.conn ∙ p.0), λ key e. up_opened key ys ∙ apart.1 key e, apart_opened ys p.1 apart.2)
 
-  pub housed_opened : (most : ℕ) (ts : List Tenant) (xs : List Line) → AllByRecursion (λ y. IsHoused most ts y.stage) xs
-      → AllByRecursion (λ y. IsHoused most ts y.stage) (xs ++ x ∷ [])
-  housed_opened most ts [] all = (subst (IsHoused most ts) (sym fresh) tt, tt)
+  pub housed_opened : (most : ℕ) (ts : List BrokerSession) (xs : List HubConnection) → AllByRecursion (λ y. ConnectionHasSession most ts y.stage) xs
+      → AllByRecursion (λ y. ConnectionHasSession most ts y.stage) (xs ++ x ∷ [])
+  housed_opened most ts [] all = (subst (ConnectionHasSession most ts) (sym fresh) tt, tt)
   housed_opened most ts (y ∷ ys) all = (all.0, housed_opened most ts ys all.1)
 
-  quiet_opened : (xs : List Line) → AllByRecursion (λ y. IsQuiet y.stage y.waiting) xs → AllByRecursion (λ y. IsQuiet y.stage y.waiting) (xs ++ x ∷ [])
-  quiet_opened [] all = (subst (λ (s : Stage). IsQuiet s x.waiting) (sym fresh) empty, tt)
+  quiet_opened : (xs : List HubConnection) → AllByRecursion (λ y. IsQuiet y.stage y.waiting) xs → AllByRecursion (λ y. IsQuiet y.stage y.waiting) (xs ++ x ∷ [])
+  quiet_opened [] all = (subst (λ (s : ConnectionState). IsQuiet s x.waiting) (sym fresh) empty, tt)
   quiet_opened (y ∷ ys) all = (all.0, quiet_opened ys all.1)
 
-  pub kept_opened : (config : HubConfig) (next : ℕ) (t u : HubTables) → HubKeeps config next t → knows x.conn t.lines.lines ≡ false → u.rows ≡ t.rows
-      → u.retained.messages ≡ t.retained.messages → u.sessions.tenants ≡ t.sessions.tenants → u.lines.lines ≡ t.lines.lines ++ x ∷ [] → u.lines.limits ≡ t.lines.limits
-      → HubKeeps config next u
-  kept_opened config next t u kept none rows retained tenants lines limits =
-      let xs = t.lines.lines in
+  pub kept_opened : (config : HubConfig) (next : ℕ) (t u : HubTables) → HubInvariant config next t → knows x.conn t.connections.connections ≡ false → u.rows ≡ t.rows
+      → u.retained.messages ≡ t.retained.messages → u.sessions.tenants ≡ t.sessions.tenants → u.connections.connections ≡ t.connections.connections ++ x ∷ [] → u.connections.limits ≡ t.connections.limits
+      → HubInvariant config next u
+  kept_opened config next t u kept none rows retained tenants connections limits =
+      let xs = t.connections.connections in
       let ts = t.sessions.tenants in
-      let v : HubTables = record t { lines = record t.lines { lines = xs ++ x ∷ [] } } in
-      let k : HubKeeps config next v = record {
+      let v : HubTables = record t { connections = record t.connections { connections = xs ++ x ∷ [] } } in
+      let k : HubInvariant config next v = record {
         capacity = kept.capacity;
         window = kept.window;
         limits = kept.limits;
@@ -119,30 +119,30 @@ module _ (x : Line) (fresh : x.stage ≡ Fresh) (empty : x.waiting ≡ []) where
         owned = kept.owned;
         retained = kept.retained;
       } in
-      kept_by config next v u k rows retained tenants lines limits
+      kept_by config next v u k rows retained tenants connections limits
 
 -- ---- connections that stay as far as they are
 
 -- names and stages stay
-module _ (g : Line → Line) (stages : (x : Line) → (g x).stage ≡ x.stage) where
-  pub stage_same : (key : ℕ) (xs : List Line) → stage_for key (map g xs) ≡ stage_for key xs
+module _ (g : HubConnection → HubConnection) (stages : (x : HubConnection) → (g x).stage ≡ x.stage) where
+  pub stage_same : (key : ℕ) (xs : List HubConnection) → stage_for key (map g xs) ≡ stage_for key xs
   stage_same key [] = refl
   stage_same key (x ∷ xs) = λ i. cond (is_for key (stages x i)) (stages x i) (stage_same key xs i)
 
-  pub housed_same : (most : ℕ) (ts : List Tenant) (xs : List Line) → AllByRecursion (λ y. IsHoused most ts y.stage) xs → AllByRecursion (λ y. IsHoused most ts y.stage) (map g xs)
+  pub housed_same : (most : ℕ) (ts : List BrokerSession) (xs : List HubConnection) → AllByRecursion (λ y. ConnectionHasSession most ts y.stage) xs → AllByRecursion (λ y. ConnectionHasSession most ts y.stage) (map g xs)
   housed_same most ts [] all = tt
-  housed_same most ts (x ∷ xs) all = (subst (IsHoused most ts) (sym (stages x)) all.0, housed_same most ts xs all.1)
+  housed_same most ts (x ∷ xs) all = (subst (ConnectionHasSession most ts) (sym (stages x)) all.0, housed_same most ts xs all.1)
 
-module _ (g : Line → Line) (names : (x : Line) → (g x).conn ≡ x.conn) (stages : (x : Line) → (g x).stage ≡ x.stage) where
-  pub up_same : (key : ℕ) (xs : List Line) → up_on key (map g xs) ≡ up_on key xs
+module _ (g : HubConnection → HubConnection) (names : (x : HubConnection) → (g x).conn ≡ x.conn) (stages : (x : HubConnection) → (g x).stage ≡ x.stage) where
+  pub up_same : (key : ℕ) (xs : List HubConnection) → up_on key (map g xs) ≡ up_on key xs
   up_same key [] = refl
   up_same key (x ∷ xs) = λ i. cond (is_for key (stages x i)) (Some (names x i)) (up_same key xs i)
 
-  pub known_same : (k : Conn) (xs : List Line) → knows k (map g xs) ≡ knows k xs
+  pub known_same : (k : Conn) (xs : List HubConnection) → knows k (map g xs) ≡ knows k xs
   known_same k [] = refl
   known_same k (x ∷ xs) = λ i. same_conn (names x i) k || known_same k xs i
 
-  pub apart_same : (xs : List Line) → AreApart xs → AreApart (map g xs)
+  pub apart_same : (xs : List HubConnection) → AreApart xs → AreApart (map g xs)
   apart_same [] apart = tt
   apart_same (x ∷ xs) apart = (
     known_same (g x).conn xs ∙ ap (λ (n : Conn). knows n xs) (names x) ∙ apart.0,

@@ -6,20 +6,20 @@ use Rattle.mq_route.specs.declared.act.Act.{Act}
 use Rattle.mq_route.specs.declared.act.Act.TheVariants as acts
 use Rattle.mq_route.specs.Copies.{will_message}
 use Rattle.mq_route.specs.Hub.{HubState, copies_of}
-use Rattle.mq_route.specs.Work.{Work, have_room, last_will, said, share}
-use Rattle.mq_hub.specs.Does.{GoesBy}
+use Rattle.mq_route.specs.Work.{Work, have_room, last_will, said, deliver}
+use Rattle.mq_hub.specs.Does.{Refines}
 use Rattle.mq_hub.proofs.Going.{goes_on}
 
 module _ (key : ℕ) (will : Will) where
   abbrev shares : Work → Work
-  shares = share (acts.Will key (will_message will)) (will_message will)
+  shares = deliver (acts.Will key (will_message will)) (will_message will)
 
   abbrev fit : Bool → HubState → Bool
   fit fits h = fits && have_room (copies_of (will_message will) h) h
 
   -- there is room for all its copies
-  pub goes_published : (h g : HubState) (x y : List Act) → true ≡ have_room (copies_of (will_message will) h) h → GoesBy shares h x g y
-      → GoesBy (last_will key (Some will) true) h x g y
+  pub goes_published : (h g : HubState) (x y : List Act) → true ≡ have_room (copies_of (will_message will) h) h → Refines shares h x g y
+      → Refines (last_will key (Some will) true) h x g y
   unfolding last_will
   goes_published h g x y enough p = record {
     hub = λ w e f.
@@ -30,7 +30,7 @@ module _ (key : ℕ) (will : Will) where
 
   -- there is none for one, or no memory
   pub goes_dropped : (h g : HubState) (x y z : List Act) → (fits : Bool) × (fit fits h ≡ false) → (g ≡ h) × (y ≡ x) → z ≡ y ++ acts.WillDropped key ∷ []
-      → (fits : Bool) × GoesBy (last_will key (Some will) fits) h x g z
+      → (fits : Bool) × Refines (last_will key (Some will) fits) h x g z
   unfolding last_will
   goes_dropped h g x y z none same says = (
     none.0,
@@ -44,7 +44,7 @@ module _ (key : ℕ) (will : Will) where
   )
 
 -- a client that has none
-pub goes_without : (key : ℕ) (will : Option Will) (h : HubState) (x : List Act) → will ≡ None → (fits : Bool) × GoesBy (last_will key will fits) h x h x
+pub goes_without : (key : ℕ) (will : Option Will) (h : HubState) (x : List Act) → will ≡ None → (fits : Bool) × Refines (last_will key will fits) h x h x
 unfolding last_will
 goes_without key will h x none =
-    (true, subst (λ (o : Option Will). GoesBy (last_will key o true) h x h x) (sym none) (goes_on h x))
+    (true, subst (λ (o : Option Will). Refines (last_will key o true) h x h x) (sym none) (goes_on h x))

@@ -9,7 +9,7 @@ pub mod Calling
 pub mod Changing
 pub mod Checks
 pub mod Collecting
-pub mod Connections
+pub mod ConnectionTable
 pub mod Counting
 pub mod DueCopies
 pub mod Filing
@@ -18,7 +18,7 @@ pub mod Fronting
 pub mod GivingAway
 pub mod Going
 pub mod Granting
-pub mod Handing
+pub mod PublishOutcome
 pub mod Heard
 pub mod Keeping
 pub mod LastWills

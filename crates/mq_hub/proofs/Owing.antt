@@ -12,15 +12,15 @@ use Rattle.mq_topic.specs.Matching.{is_match}
 use Rattle.mq_topic.specs.Rows.{Row, greater_of, matched, qos_of}
 use Rattle.mq_packet.specs.declared.message.Message.{Message}
 use Rattle.mq_decode.specs.Limits.{Bounds}
-use Rattle.mq_end.specs.declared.state.State.TheVariants.{Closed, Up}
+use Rattle.mq_end.specs.declared.state.State.TheVariants.{Disconnected, Connected}
 use Rattle.mq_end.specs.Both.{has_identifier}
 use Rattle.mq_end.specs.End.{is_up}
 use Rattle.mq_end.specs.Sizes.{identifier_size, publish_size}
 use Rattle.mq_route.specs.declared.config.HubConfig.{HubConfig}
 use Rattle.mq_route.specs.Copies.{copy, lesser}
 use Rattle.mq_route.specs.Hub.{for_key, up_on}
-use Rattle.mq_hub.specs.declared.session.Tenant.{Tenant}
-use Rattle.mq_hub.specs.Keeps.{HubKeeps, IsSeated, Stands}
+use Rattle.mq_hub.specs.declared.sessions.session.BrokerSession.{BrokerSession}
+use Rattle.mq_hub.specs.Keeps.{HubInvariant, SessionMatchesConnection, Stands}
 use Rattle.mq_hub.specs.Placing.{AreFor, IsFor, copies_found}
 use Rattle.mq_hub.specs.Seen.{HubTables}
 use Rattle.mq_hub.specs.Sessions.{tenant_of}
@@ -62,18 +62,18 @@ copy_size q retain m = let less = lesser_size m.qos q in omega arith
 
 -- ---- the copies
 
-up_where : (b : Bool) → is_up (cond b Up Closed) ≡ b
+up_where : (b : Bool) → is_up (cond b Connected Disconnected) ≡ b
 up_where true = refl
 up_where false = refl
 
-stands_there : (key : ℕ) (ts : List Tenant) → Stands ts key → (s : Tenant) × (tenant_of key ts ≡ Some s)
+stands_there : (key : ℕ) (ts : List BrokerSession) → Stands ts key → (s : BrokerSession) × (tenant_of key ts ≡ Some s)
 stands_there key ts stands = go (tenant_of key ts) refl
   where
-    go : (o : Option Tenant) → tenant_of key ts ≡ o → (s : Tenant) × (tenant_of key ts ≡ Some s)
+    go : (o : Option BrokerSession) → tenant_of key ts ≡ o → (s : BrokerSession) × (tenant_of key ts ≡ Some s)
     go (Some s) e = (s, e)
     go None e = absurd (true≢false (sym stands ∙ ap is_some e))
 
-one_for : (key : ℕ) (m : Message) (up : Bool) (ts : List Tenant) (rest : List (ℕ × Message)) → ((has_identifier m.qos ≡ false → up ≡ true) → IsFor key (m ∷ []) ts) → AreFor ts rest
+one_for : (key : ℕ) (m : Message) (up : Bool) (ts : List BrokerSession) (rest : List (ℕ × Message)) → ((has_identifier m.qos ≡ false → up ≡ true) → IsFor key (m ∷ []) ts) → AreFor ts rest
     → AreFor ts (for_key key (cond (not (has_identifier m.qos) && not up) [] (m ∷ [])) ++ rest)
 one_for key m up ts rest for all = go (has_identifier m.qos) up refl refl
   where
@@ -82,26 +82,26 @@ one_for key m up ts rest for all = go (has_identifier m.qos) up refl refl
     go false true ea eb = (for (λ none. eb), all)
     go false false ea eb = all
 
-pub due_for : (config : HubConfig) (next_key : ℕ) (t : HubTables) (m : Message) → HubKeeps config next_key t → publish_size m ≤ config.limits.most
-    → AreFor t.sessions.tenants (copies_found t.lines.lines m (matched m.topic t.rows))
+pub due_for : (config : HubConfig) (next_key : ℕ) (t : HubTables) (m : Message) → HubInvariant config next_key t → publish_size m ≤ config.limits.most
+    → AreFor t.sessions.tenants (copies_found t.connections.connections m (matched m.topic t.rows))
 due_for config next_key t m keeps fits = go (matched m.topic t.rows) (found_owned (Stands t.sessions.tenants) m.topic t.rows keeps.owned)
   where
-    go : (found : List (ℕ × Qos)) → AllByRecursion (λ e. Stands t.sessions.tenants e.0) found → AreFor t.sessions.tenants (copies_found t.lines.lines m found)
+    go : (found : List (ℕ × Qos)) → AllByRecursion (λ e. Stands t.sessions.tenants e.0) found → AreFor t.sessions.tenants (copies_found t.connections.connections m found)
     go [] all = tt
     go (f ∷ found) all =
         let s = stands_there f.0 t.sessions.tenants all.0 in
-        let seat = all_there (IsSeated config t.lines.lines) f.0 s.0 t.sessions.tenants keeps.seated s.1 in
+        let seat = all_there (SessionMatchesConnection config t.connections.connections) f.0 s.0 t.sessions.tenants keeps.seated s.1 in
         let key = key_there f.0 s.0 t.sessions.tenants s.1 in
         let size = copy_size f.1 false m in
         let limit = ap (λ (b : Bounds). b.most) seat.limit in
-        one_for f.0 (copy f.1 false m) (is_some (up_on f.0 t.lines.lines)) t.sessions.tenants (copies_found t.lines.lines m found)
+        one_for f.0 (copy f.1 false m) (is_some (up_on f.0 t.connections.connections)) t.sessions.tenants (copies_found t.connections.connections m found)
         (λ up. record {
           tenant = s.0;
           there = s.1;
           may_go = (
             record {
               known = seat.known;
-              up = λ none. ap is_up seat.state ∙ up_where (is_some (up_on s.0.key t.lines.lines)) ∙ ap (λ (k : ℕ). is_some (up_on k t.lines.lines)) key ∙ up none;
+              up = λ none. ap is_up seat.state ∙ up_where (is_some (up_on s.0.key t.connections.connections)) ∙ ap (λ (k : ℕ). is_some (up_on k t.connections.connections)) key ∙ up none;
               fits = omega arith;
             },
             tt,

@@ -5,18 +5,18 @@ use Rattle.mq_packet.specs.declared.packet.Packet.{Packet}
 use Rattle.mq_packet.specs.declared.packet.Packet.TheVariants as packets
 use Rattle.mq_packet.specs.declared.packet.Request.{Request}
 use Rattle.mq_packet.specs.Publication.{Publication, fits_delivery}
-use Rattle.mq_packet.specs.Spelling.{fields}
+use Rattle.mq_packet.specs.Encoding.{fields}
 use Rattle.mq_end.specs.SizeLaws.{SizeLaws}
 use Rattle.mq_end.specs.Sizes.{publish_size, subscribe_size, unsuback_size, unsubscribe_size}
 use Rattle.mq_route.specs.declared.conn.Conn.{Conn}
-use Rattle.mq_route.specs.Hub.{Line, key_on, stage_of, up_on}
+use Rattle.mq_route.specs.Hub.{HubConnection, key_on, stage_of, up_on}
 use Rattle.mq_hub.specs.Calls.{AsksNothing}
 use Rattle.mq_hub.proofs.Changing.{up_there}
 use Rattle.mq_hub.proofs.Collecting.{is_up_for}
 
 -- the client of a connection that is up for its session is up
-pub up_where : (k : Conn) (key : ℕ) (xs : List Line) → key_on (stage_of k xs) ≡ Some key → is_some (up_on key xs) ≡ true
-up_where k key xs on = let at = is_up_for key (stage_of k xs) on in up_there k key at.terms at.moment xs at.is
+pub up_where : (k : Conn) (key : ℕ) (xs : List HubConnection) → key_on (stage_of k xs) ≡ Some key → is_some (up_on key xs) ≡ true
+up_where k key xs on = let at = is_up_for key (stage_of k xs) on in up_there k key at.terms at.last_activity xs at.is
 
 -- a packet of another kind asks nothing
 pub asks_nothing : (p : Packet) → ((a : Publication) → p ≡ packets.Publish a → ⊥) → ((i : ℕ) (rs : List Request) → p ≡ packets.Subscribe i rs → ⊥)

@@ -13,21 +13,21 @@ use Rattle.mq_route.specs.declared.act.Act.TheVariants as acts
 use Rattle.mq_route.specs.declared.close.HubClose.TheVariants.{TargetFull}
 use Rattle.mq_route.specs.declared.config.HubConfig.{HubConfig}
 use Rattle.mq_route.specs.declared.conn.Conn.{Conn}
-use Rattle.mq_route.specs.Arrives.{answers, while_up}
+use Rattle.mq_route.specs.Arrives.{answers, on_connected_packet}
 use Rattle.mq_route.specs.Copies.{copy_by, is_hidden_name}
 use Rattle.mq_route.specs.Hub.{HubState, copies_of, end_of, for_key, up_on}
-use Rattle.mq_route.specs.Work.{close, does, have_room, share}
-use Rattle.mq_hub.specs.declared.call.Call.TheVariants.{Takes}
-use Rattle.mq_hub.specs.declared.reception.Reception.TheVariants.{Handed}
+use Rattle.mq_route.specs.Work.{close, does, have_room, deliver}
+use Rattle.mq_hub.specs.declared.sessions.call.Call.TheVariants.{Takes}
+use Rattle.mq_hub.specs.declared.publish.reception.Reception.TheVariants.{Handed}
 use Rattle.mq_hub.specs.Answers.{AreAlike, Answers}
 use Rattle.mq_hub.specs.Calls.{CanServe}
-use Rattle.mq_hub.specs.Does.{GoesBy}
-use Rattle.mq_hub.specs.Keeps.{HubKeeps}
-use Rattle.mq_hub.specs.Lines.{LineTable}
+use Rattle.mq_hub.specs.Does.{Refines}
+use Rattle.mq_hub.specs.Keeps.{HubInvariant}
+use Rattle.mq_hub.specs.Connections.{LineTable}
 use Rattle.mq_hub.specs.Receiving.{IsReceived}
 use Rattle.mq_hub.specs.Seen.{HubTables, hub_of}
 use Rattle.mq_hub.specs.Sessions.{sessions_of}
-use Rattle.mq_hub.specs.Sharing.{AreTablesAlike}
+use Rattle.mq_hub.specs.DeliveryPlan.{AreTablesAlike}
 use Rattle.mq_hub.proofs.Changing.{up_seen}
 use Rattle.mq_hub.proofs.Going.{goes_then}
 use Rattle.mq_hub.proofs.Granting.{can_take}
@@ -37,7 +37,7 @@ use Rattle.mq_hub.proofs.Taking.{full_goes, kept_taken, taken_goes, telling_goes
 
 -- ---- the copies that are due stay while only ends change
 
-copies_by : (m : Message) (h g : HubState) → h.rows ≡ g.rows → ((key : ℕ) → up_on key h.lines ≡ up_on key g.lines) → copies_of m h ≡ copies_of m g
+copies_by : (m : Message) (h g : HubState) → h.rows ≡ g.rows → ((key : ℕ) → up_on key h.connections ≡ up_on key g.connections) → copies_of m h ≡ copies_of m g
 unfolding copies_of
 copies_by m h g rows up =
     λ i. cond (is_hidden_name m.topic) [] (flat_map (λ found. for_key found.0 (copy_by (is_some (up found.0 i)) m (Some found.1))) (matched m.topic (rows i)))
@@ -63,19 +63,19 @@ same_publish p m delivery is_message is_delivery = λ i. publish_of (is_message 
 
 -- ---- a PUBLISH at tables that were made ready for it
 
-module _ (config : HubConfig) (clock next key : ℕ) (t p : HubTables) (kept : HubKeeps config next t) (alike : AreTablesAlike t p) (conn : Conn)
-    (on : up_on key t.lines.lines ≡ Some conn) (m : Publication) where
+module _ (config : HubConfig) (clock next key : ℕ) (t p : HubTables) (kept : HubInvariant config next t) (alike : AreTablesAlike t p) (conn : Conn)
+    (on : up_on key t.connections.connections ≡ Some conn) (m : Publication) where
   abbrev old : HubState
   old = hub_of config clock next t
 
-  pub kept_ready : HubKeeps config next p
+  pub kept_ready : HubInvariant config next p
   kept_ready = kept_alike config next t p alike kept
 
   pub same_ready : hub_of config clock next p ≡ old
   same_ready = hub_alike config clock next t p alike
 
-  on_ready : up_on key p.lines.lines ≡ Some conn
-  on_ready = ap (λ (l : LineTable). up_on key l.lines) alike.lines ∙ on
+  on_ready : up_on key p.connections.connections ≡ Some conn
+  on_ready = ap (λ (l : LineTable). up_on key l.connections) alike.connections ∙ on
 
   pub can_hand : CanServe key (Takes clock (packets.Publish m)) p.sessions.tenants
   can_hand = can_take config next p kept_ready key conn on_ready clock (packets.Publish m)
@@ -85,34 +85,34 @@ module _ (config : HubConfig) (clock next key : ℕ) (t p : HubTables) (kept : H
     stays_ready = ap (λ (h : HubState). (server_gets (packets.Publish m) (end_of key h.sessions)).close) same_ready ∙ handed.0
 
     module _ (u : HubTables) (a : Answers key (Takes clock (packets.Publish m)) p.rows p u) where
-      pub kept_handed : HubKeeps config next u
+      pub kept_handed : HubInvariant config next u
       kept_handed = kept_taken config next key p u kept_ready conn on_ready clock (packets.Publish m) a stays_ready
 
       pub copies_handed : copies_of m.message (hub_of config clock next u) ≡ copies_of m.message old
       copies_handed =
           copies_by m.message (hub_of config clock next u) (hub_of config clock next p) a.rows
-          (λ c. up_seen c u.sessions.tenants u.lines.lines ∙ ap (λ (l : LineTable). up_on c l.lines) a.lines ∙ sym (up_seen c p.sessions.tenants p.lines.lines))
+          (λ c. up_seen c u.sessions.tenants u.connections.connections ∙ ap (λ (l : LineTable). up_on c l.connections) a.connections ∙ sym (up_seen c p.sessions.tenants p.connections.connections))
           ∙ ap (copies_of m.message) same_ready
 
       pub handed_goes : (k : Conn) (fits : Bool) (new : HubState) (did says : List Act) → have_room (copies_of m.message old) old ≡ true
-          → GoesBy (share (acts.Took key m.message) m.message) (hub_of config clock next u) did new says
-          → GoesBy (while_up k key (packets.Publish m) fits) old did new says
+          → Refines (deliver (acts.Took key m.message) m.message) (hub_of config clock next u) did new says
+          → Refines (on_connected_packet k key (packets.Publish m) fits) old did new says
       unfolding answers
       handed_goes k fits new did says room goes =
           let get = server_gets (packets.Publish m) in
           telling_goes k key (packets.Publish m) fits old new did says handed.0 (happens.Handed m.message) handed.1 room
-          (goes_then (does key get) (share (acts.Took key m.message) m.message) old (hub_of config clock next u) new did did says
-          (subst (λ (h : HubState). GoesBy (does key get) h did (hub_of config clock next u) did) same_ready
+          (goes_then (does key get) (deliver (acts.Took key m.message) m.message) old (hub_of config clock next u) new did did says
+          (subst (λ (h : HubState). Refines (does key get) h did (hub_of config clock next u) did) same_ready
           (taken_goes config next key p u kept_ready conn on_ready clock (packets.Publish m) a clock did)) goes)
 
     pub unhanded_goes : (k : Conn) (fits : Bool) (new : HubState) (did says : List Act) → have_room (copies_of m.message old) old ≡ false
-        → GoesBy (close k TargetFull fits) old did new says → GoesBy (while_up k key (packets.Publish m) fits) old did new says
+        → Refines (close k TargetFull fits) old did new says → Refines (on_connected_packet k key (packets.Publish m) fits) old did new says
     unhanded_goes k fits new did says room goes =
         full_goes k key (packets.Publish m) fits old new did says handed.0 (happens.Handed m.message) handed.1 room goes
 
   -- out of memory it is as it was
   module _ (u : HubTables) (a : AreAlike p u) where
-    pub kept_unhanded : HubKeeps config next u
+    pub kept_unhanded : HubInvariant config next u
     kept_unhanded = rooms.kept_alike config next p kept_ready u a
 
     pub same_unhanded : hub_of config clock next u ≡ old

@@ -4,7 +4,7 @@ use Rattle.std.proofs.Common.{subst, ◌∙◌, arith, true≢false}
 use Rattle.std.proofs.lemmas.Bool.{cond-true}
 use Rattle.std.proofs.lemmas.List.{append_assoc, length-append, take-append-drop}
 use Rattle.mq_packet.specs.declared.packet.Packet.{Packet}
-use Rattle.mq_packet.specs.Spelling.{fields, first_byte}
+use Rattle.mq_packet.specs.Encoding.{fields, first_byte}
 use Rattle.mq_decode.specs.declared.fault.DecodeFault.{DecodeFault}
 use Rattle.mq_decode.specs.declared.fault.FaultKind.{FaultKind}
 use Rattle.mq_decode.specs.Grammar.{Faulty, AtFirst, AtLength, AtSize, AtField, Pending, Reads}
@@ -16,18 +16,18 @@ use Rattle.mq_route.specs.declared.conn.Conn.{Conn}
 use Rattle.mq_route.specs.declared.event.HubEvent.TheVariants.{Bytes}
 use Rattle.mq_route.specs.declared.refusal.HubRefusal.TheVariants as refusals
 use Rattle.mq_route.specs.declared.reply.HubReply.{HubReply}
-use Rattle.mq_route.specs.Arrives.{breaks, takes}
-use Rattle.mq_route.specs.Hub.{HubState, Line, held_on, is_open, knows, stage_of}
+use Rattle.mq_route.specs.Arrives.{on_malformed, takes}
+use Rattle.mq_route.specs.Hub.{HubState, HubConnection, held_on, is_open, knows, stage_of}
 use Rattle.mq_route.specs.Step.{Arrives, Waits, Breaks, Starves, LetsGo, HubStep, holding}
 use Rattle.mq_route.specs.Work.{Work, begin, close}
-use Rattle.mq_hub.specs.Coming.{Came, ComesBy, TakenBy, with_held}
-use Rattle.mq_hub.specs.Does.{GoesBy}
-use Rattle.mq_hub.proofs.Connections.{unknown_shut}
+use Rattle.mq_hub.specs.Coming.{Came, RefinesBytes, TakenBy, with_held}
+use Rattle.mq_hub.specs.Does.{Refines}
+use Rattle.mq_hub.proofs.ConnectionTable.{unknown_shut}
 
 -- what comes from here on comes of all that came
 abbrev pub LeadsOn : Bounds → Conn → List ℕ → HubState → List Act → List ℕ → HubState → List Act → Type 0
-LeadsOn limits k all old said left new says = (end : HubState) (ends : List Act) → ComesBy limits k left new says end ends
-    → ComesBy limits k all old said end ends
+LeadsOn limits k all old said left new says = (end : HubState) (ends : List Act) → RefinesBytes limits k left new says end ends
+    → RefinesBytes limits k all old said end ends
 
 -- a packet has a byte at least
 some_bytes : (lenient : Bool) (p : Packet) (b : List ℕ) → Reads lenient p b → 0 < length b
@@ -50,16 +50,16 @@ faulty_some limits b kind place (AtSize f) = let w : length b ≡ length (f.firs
 faulty_some limits b kind place (AtField f) = let w : length b ≡ length (f.first ∷ f.len ++ (f.body ++ f.rest)) = ap length f.bytes in omega (arith, w)
 
 module _ (limits : Bounds) (k : Conn) where
-  open_so_far : (h : HubState) (w : Work) → w.hub ≡ h → is_open (stage_of k h.lines) ≡ true → is_open (stage_of k w.hub.lines) ≡ true
-  open_so_far h w e is_on = ap (λ (x : HubState). is_open (stage_of k x.lines)) e ∙ is_on
+  open_so_far : (h : HubState) (w : Work) → w.hub ≡ h → is_open (stage_of k h.connections) ≡ true → is_open (stage_of k w.hub.connections) ≡ true
+  open_so_far h w e is_on = ap (λ (x : HubState). is_open (stage_of k x.connections)) e ∙ is_on
 
   parts : (held rest : List ℕ) (used : ℕ) → (held ++ take used rest) ++ drop used rest ≡ held ++ rest
   parts held rest used = append_assoc held (take used rest) (drop used rest) ∙ ap (λ (b : List ℕ). held ++ b) (take-append-drop used rest)
 
   -- a packet came, and then what is left
-  pub arrives_by : (held rest : List ℕ) (used : ℕ) (old new end : HubState) (said says ends : List Act) → is_open (stage_of k old.lines) ≡ true
-      → TakenBy limits k held rest used old said new says → ComesBy limits k (drop used rest) new says end ends
-      → ComesBy limits k (held ++ rest) old said end ends
+  pub arrives_by : (held rest : List ℕ) (used : ℕ) (old new end : HubState) (said says ends : List Act) → is_open (stage_of k old.connections) ≡ true
+      → TakenBy limits k held rest used old said new says → RefinesBytes limits k (drop used rest) new says end ends
+      → RefinesBytes limits k (held ++ rest) old said end ends
   arrives_by held rest used old new end said says ends is_on t later = λ w e f.
       let v : Work = takes k t.packet t.growth w in
       let c = later v (t.goes.hub w e f) (t.goes.did w e f) in
@@ -72,8 +72,8 @@ module _ (limits : Bounds) (k : Conn) where
       })
 
   -- they are less than a packet, and are held
-  pub waits_by : (b : List ℕ) (old : HubState) (said : List Act) → is_open (stage_of k old.lines) ≡ true → Pending limits b
-      → ComesBy limits k b old said (with_held k b old) said
+  pub waits_by : (b : List ℕ) (old : HubState) (said : List Act) → is_open (stage_of k old.connections) ≡ true → Pending limits b
+      → RefinesBytes limits k b old said (with_held k b old) said
   waits_by b old said is_on pending = λ w e f. record {
     after = holding k b w;
     comes = Waits b w (open_so_far old w e is_on) pending;
@@ -82,18 +82,18 @@ module _ (limits : Bounds) (k : Conn) where
   }
 
   -- they begin with what is no packet
-  pub breaks_by : (b : List ℕ) (fault : DecodeFault) (fits : Bool) (old new : HubState) (said says : List Act) → is_open (stage_of k old.lines) ≡ true
-      → Faulty limits b fault.kind fault.place → GoesBy (breaks k fault fits) old said new says → ComesBy limits k b old said new says
+  pub breaks_by : (b : List ℕ) (fault : DecodeFault) (fits : Bool) (old new : HubState) (said says : List Act) → is_open (stage_of k old.connections) ≡ true
+      → Faulty limits b fault.kind fault.place → Refines (on_malformed k fault fits) old said new says → RefinesBytes limits k b old said new says
   breaks_by b fault fits old new said says is_on faulty goes = λ w e f. record {
-    after = breaks k fault fits w;
+    after = on_malformed k fault fits w;
     comes = Breaks b fault fits w (open_so_far old w e is_on) faulty;
     hub = goes.hub w e f;
     did = goes.did w e f;
   }
 
   -- there is no memory for them
-  pub starves_by : (b : List ℕ) (fits : Bool) (old new : HubState) (said says : List Act) → is_open (stage_of k old.lines) ≡ true → 0 < length b
-      → GoesBy (close k (Own reasons.Memory) fits) old said new says → ComesBy limits k b old said new says
+  pub starves_by : (b : List ℕ) (fits : Bool) (old new : HubState) (said says : List Act) → is_open (stage_of k old.connections) ≡ true → 0 < length b
+      → Refines (close k (Own reasons.Memory) fits) old said new says → RefinesBytes limits k b old said new says
   starves_by b fits old new said says is_on some goes = λ w e f. record {
     after = close k (Own reasons.Memory) fits w;
     comes = Starves b fits w (open_so_far old w e is_on) some;
@@ -102,10 +102,10 @@ module _ (limits : Bounds) (k : Conn) where
   }
 
   -- the connection is closed, and lets them go
-  pub lets_go_by : (b : List ℕ) (old : HubState) (said : List Act) → is_open (stage_of k old.lines) ≡ false → ComesBy limits k b old said old said
+  pub lets_go_by : (b : List ℕ) (old : HubState) (said : List Act) → is_open (stage_of k old.connections) ≡ false → RefinesBytes limits k b old said old said
   lets_go_by b old said closed = λ w e f. record {
     after = w;
-    comes = LetsGo b w (ap (λ (x : HubState). is_open (stage_of k x.lines)) e ∙ closed);
+    comes = LetsGo b w (ap (λ (x : HubState). is_open (stage_of k x.connections)) e ∙ closed);
     hub = e;
     did = f;
   }
@@ -113,7 +113,7 @@ module _ (limits : Bounds) (k : Conn) where
 -- ---- the step
 
 -- a connection that is open is known
-pub open_known : (k : Conn) (xs : List Line) → is_open (stage_of k xs) ≡ true → knows k xs ≡ true
+pub open_known : (k : Conn) (xs : List HubConnection) → is_open (stage_of k xs) ≡ true → knows k xs ≡ true
 open_known k xs is_on = go (knows k xs) refl
   where
     go : (b : Bool) → knows k xs ≡ b → knows k xs ≡ true
@@ -121,20 +121,20 @@ open_known k xs is_on = go (knows k xs) refl
     go false e = absurd (true≢false (sym is_on ∙ ap is_open (unknown_shut k xs e)))
 
 -- what comes of the bytes that a connection held and those that came is the step of these
-pub received_by : (h mid new : HubState) (k : Conn) (piece b : List ℕ) (limits : Bounds) (said says : List Act) (r : HubReply) → knows k h.lines ≡ true
-    → mid ≡ with_held k [] h → said ≡ [] → b ≡ held_on k h.lines ++ piece → limits ≡ h.config.limits → ComesBy limits k b mid said new says
-    → r ≡ record { acts = says; output = []; alive = is_open (stage_of k new.lines) } → HubStep h (Bytes k piece) r new
+pub received_by : (h mid new : HubState) (k : Conn) (piece b : List ℕ) (limits : Bounds) (said says : List Act) (r : HubReply) → knows k h.connections ≡ true
+    → mid ≡ with_held k [] h → said ≡ [] → b ≡ held_on k h.connections ++ piece → limits ≡ h.config.limits → RefinesBytes limits k b mid said new says
+    → r ≡ record { acts = says; output = []; alive = is_open (stage_of k new.connections) } → HubStep h (Bytes k piece) r new
 received_by h mid new k piece b limits said says r known mid_is said_is bytes same comes reply =
     let w : Work = holding k [] (begin h) in
-    let came : Came h.config.limits k (held_on k h.lines ++ piece) w new says =
-    subst (λ (l : Bounds). Came l k (held_on k h.lines ++ piece) w new says) same
+    let came : Came h.config.limits k (held_on k h.connections ++ piece) w new says =
+    subst (λ (l : Bounds). Came l k (held_on k h.connections ++ piece) w new says) same
     (subst (λ (x : List ℕ). Came limits k x w new says) bytes (comes w (sym mid_is) (sym said_is))) in
     record {
-      right = cond-true (knows k h.lines) None (Some refusals.UnknownConn) known;
+      right = cond-true (knows k h.connections) None (Some refusals.UnknownConn) known;
       work = came.after;
       does = (
         came.comes,
-        reply ∙ λ i. record { acts = sym came.did i; output = []; alive = is_open (stage_of k (sym came.hub i).lines) },
+        reply ∙ λ i. record { acts = sym came.did i; output = []; alive = is_open (stage_of k (sym came.hub i).connections) },
       );
       after = sym came.hub;
     }

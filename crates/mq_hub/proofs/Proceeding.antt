@@ -14,23 +14,23 @@ use Rattle.mq_route.specs.declared.act.Act.TheVariants as acts
 use Rattle.mq_route.specs.declared.close.HubClose.{HubClose}
 use Rattle.mq_route.specs.declared.config.HubConfig.{HubConfig}
 use Rattle.mq_route.specs.declared.conn.Conn.{Conn}
-use Rattle.mq_route.specs.declared.stage.Stage.{Stage}
-use Rattle.mq_route.specs.declared.stage.Stage.TheVariants.{Fresh}
-use Rattle.mq_route.specs.Hub.{HubState, Line, is_clean, is_line, key_of, key_on, stage_of, up_on, with_line}
+use Rattle.mq_route.specs.declared.connection_state.ConnectionState.{ConnectionState}
+use Rattle.mq_route.specs.declared.connection_state.ConnectionState.TheVariants.{AwaitingConnect}
+use Rattle.mq_route.specs.Hub.{HubState, HubConnection, is_clean, is_connection, key_of, key_on, stage_of, up_on, with_connection}
 use Rattle.mq_route.specs.Routed.{same_conn}
 use Rattle.mq_route.specs.Work.{Work, close, last_will}
-use Rattle.mq_hub.specs.declared.session.Tenant.{Tenant}
-use Rattle.mq_hub.specs.Does.{GoesBy}
-use Rattle.mq_hub.specs.Keeps.{HubKeeps, IsWillWithin}
+use Rattle.mq_hub.specs.declared.sessions.session.BrokerSession.{BrokerSession}
+use Rattle.mq_hub.specs.Does.{Refines}
+use Rattle.mq_hub.specs.Keeps.{HubInvariant, IsWillWithin}
 use Rattle.mq_hub.specs.Leaving.{left_with, parted, parts, will_left}
 use Rattle.mq_hub.specs.Placing.{placed_all, placed_at, published, publishing}
 use Rattle.mq_hub.specs.Proceeding.{AreHubs, Proceeds, Spares}
 use Rattle.mq_hub.specs.Seen.{HubTables, hub_of}
 use Rattle.mq_hub.specs.Sessions.{sessions_of, tenant_of, without_tenant}
-use Rattle.mq_hub.specs.Sharing.{AreTablesAlike}
+use Rattle.mq_hub.specs.DeliveryPlan.{AreTablesAlike}
 use Rattle.mq_hub.proofs.Changing.{stage_seen}
 use Rattle.mq_hub.proofs.Collecting.{IsUpFor, housed_at, is_up_for}
-use Rattle.mq_hub.proofs.Connections.{one_conn}
+use Rattle.mq_hub.proofs.ConnectionTable.{one_conn}
 use Rattle.mq_hub.proofs.Leaves.{IsParted, IsPartedBy, parted_there}
 use Rattle.mq_hub.proofs.Parting.{goes_close, goes_left, goes_parted, hub_left, hub_parted, kept_left, kept_parted, lines_there, up_left, will_within}
 use Rattle.mq_hub.proofs.Readiness.{same_sessions}
@@ -46,23 +46,23 @@ ok_as P Q (Err e) f p = tt
 
 -- ---- a connection that is closed, and another
 
-module _ (f : Line → Line) (names : (x : Line) → (f x).conn ≡ x.conn) (j k : Conn) (far : same_conn k j ≡ false) where
-  pub stage_other : (xs : List Line) → stage_of j (with_line f k xs) ≡ stage_of j xs
+module _ (f : HubConnection → HubConnection) (names : (x : HubConnection) → (f x).conn ≡ x.conn) (j k : Conn) (far : same_conn k j ≡ false) where
+  pub stage_other : (xs : List HubConnection) → stage_of j (with_connection f k xs) ≡ stage_of j xs
   stage_other [] = refl
-  stage_other (x ∷ xs) = go (is_line k x) refl (stage_other xs)
+  stage_other (x ∷ xs) = go (is_connection k x) refl (stage_other xs)
     where
-      go : (b : Bool) → is_line k x ≡ b → stage_of j (with_line f k xs) ≡ stage_of j xs → stage_of j (with_line f k (x ∷ xs)) ≡ stage_of j (x ∷ xs)
+      go : (b : Bool) → is_connection k x ≡ b → stage_of j (with_connection f k xs) ≡ stage_of j xs → stage_of j (with_connection f k (x ∷ xs)) ≡ stage_of j (x ∷ xs)
       go true same rest =
-          let other : is_line j x ≡ false = ap (λ (n : Conn). same_conn n j) (one_conn x.conn k same) ∙ far in
-          ap (λ (y : Line). stage_of j (y ∷ with_line f k xs)) (cond-true (is_line k x) (f x) x same)
-          ∙ cond-false (is_line j (f x)) (f x).stage (stage_of j (with_line f k xs)) (ap (λ (n : Conn). same_conn n j) (names x) ∙ other)
-          ∙ rest ∙ sym (cond-false (is_line j x) x.stage (stage_of j xs) other)
+          let other : is_connection j x ≡ false = ap (λ (n : Conn). same_conn n j) (one_conn x.conn k same) ∙ far in
+          ap (λ (y : HubConnection). stage_of j (y ∷ with_connection f k xs)) (cond-true (is_connection k x) (f x) x same)
+          ∙ cond-false (is_connection j (f x)) (f x).stage (stage_of j (with_connection f k xs)) (ap (λ (n : Conn). same_conn n j) (names x) ∙ other)
+          ∙ rest ∙ sym (cond-false (is_connection j x) x.stage (stage_of j xs) other)
       go false differ rest =
-          ap (λ (y : Line). stage_of j (y ∷ with_line f k xs)) (cond-false (is_line k x) (f x) x differ)
-          ∙ ap (λ (s : Stage). cond (is_line j x) x.stage s) rest
+          ap (λ (y : HubConnection). stage_of j (y ∷ with_connection f k xs)) (cond-false (is_connection k x) (f x) x differ)
+          ∙ ap (λ (s : ConnectionState). cond (is_connection j x) x.stage s) rest
 
 -- one that is up is not one that waits for its CONNECT
-fresh_far : (j k : Conn) (key : ℕ) (xs : List Line) → key_on (stage_of k xs) ≡ Some key → stage_of j xs ≡ Fresh → same_conn k j ≡ false
+fresh_far : (j k : Conn) (key : ℕ) (xs : List HubConnection) → key_on (stage_of k xs) ≡ Some key → stage_of j xs ≡ AwaitingConnect → same_conn k j ≡ false
 fresh_far j k key xs up first = go (same_conn k j) refl
   where
     go : (b : Bool) → same_conn k j ≡ b → same_conn k j ≡ false
@@ -71,87 +71,87 @@ fresh_far j k key xs up first = go (same_conn k j) refl
         let w : None ≡ Some key = ap key_on (sym first) ∙ ap (λ (n : Conn). key_on (stage_of n xs)) (sym (one_conn k j e)) ∙ up in
         absurd cc
 
-fresh_left : (j k : Conn) (key : ℕ) (b : List ℕ) (xs ys : List Line) → key_on (stage_of k xs) ≡ Some key → ys ≡ with_line (left_with b) k xs
-    → stage_of j xs ≡ Fresh → stage_of j ys ≡ Fresh
+fresh_left : (j k : Conn) (key : ℕ) (b : List ℕ) (xs ys : List HubConnection) → key_on (stage_of k xs) ≡ Some key → ys ≡ with_connection (left_with b) k xs
+    → stage_of j xs ≡ AwaitingConnect → stage_of j ys ≡ AwaitingConnect
 fresh_left j k key b xs ys up is first = ap (stage_of j) is ∙ stage_other (left_with b) (λ x. refl) j k (fresh_far j k key xs up first) xs ∙ first
 
 -- ---- clients of sessions
 
-named_placed : (n : List ℕ) (key : ℕ) (m : Message) (ts : List Tenant) → key_of n (sessions_of (placed_at key m ts)) ≡ key_of n (sessions_of ts)
+named_placed : (n : List ℕ) (key : ℕ) (m : Message) (ts : List BrokerSession) → key_of n (sessions_of (placed_at key m ts)) ≡ key_of n (sessions_of ts)
 named_placed n key m [] = refl
 named_placed n key m (t ∷ ts) = λ i. cond (bytes_eq (client i) n) (Some (own i)) (named_placed n key m ts i)
   where
     client : (publishing key m t).client ≡ t.client
-    client = cond_both (eqb t.key key) (record t { end = published m t.end }) t (λ (s : Tenant). s.client ≡ t.client) (λ e. refl) (λ e. refl)
+    client = cond_both (eqb t.key key) (record t { end = published m t.end }) t (λ (s : BrokerSession). s.client ≡ t.client) (λ e. refl) (λ e. refl)
 
     own : (publishing key m t).key ≡ t.key
-    own = cond_both (eqb t.key key) (record t { end = published m t.end }) t (λ (s : Tenant). s.key ≡ t.key) (λ e. refl) (λ e. refl)
+    own = cond_both (eqb t.key key) (record t { end = published m t.end }) t (λ (s : BrokerSession). s.key ≡ t.key) (λ e. refl) (λ e. refl)
 
-named_placed_all : (n : List ℕ) (cs : List (ℕ × Message)) (ts : List Tenant) → key_of n (sessions_of (placed_all cs ts)) ≡ key_of n (sessions_of ts)
+named_placed_all : (n : List ℕ) (cs : List (ℕ × Message)) (ts : List BrokerSession) → key_of n (sessions_of (placed_all cs ts)) ≡ key_of n (sessions_of ts)
 named_placed_all n [] ts = refl
 named_placed_all n (c ∷ cs) ts = named_placed_all n cs (placed_at c.0 c.1 ts) ∙ named_placed n c.0 c.1 ts
 
 -- ---- a message that is shared
 
 pub alike_same : (t : HubTables) → AreTablesAlike t t
-alike_same t = record { rows = refl; retained = refl; tenants = refl; lines = refl }
+alike_same t = record { rows = refl; retained = refl; tenants = refl; connections = refl }
 
 pub spares_alike : (t u : HubTables) → AreTablesAlike t u → u.sessions.room ≡ t.sessions.room → Spares t u
 spares_alike t u alike room = record {
   keeps = λ config next kept. kept_alike config next t u alike kept;
-  lines = alike.lines;
+  connections = alike.connections;
   room = omega arith;
   clients = λ n. ap (key_of n) (same_sessions t.sessions.tenants u.sessions.tenants alike.tenants);
 }
 
 -- a size is within the limit that a broker has
-pub within_limit : (config : HubConfig) (next n : ℕ) (t : HubTables) → HubKeeps config next t → n ≤ t.lines.limits.most → n ≤ config.limits.most
+pub within_limit : (config : HubConfig) (next n : ℕ) (t : HubTables) → HubInvariant config next t → n ≤ t.connections.limits.most → n ≤ config.limits.most
 within_limit config next n t kept within = subst (λ (l : Bounds). n ≤ l.most) kept.limits within
 
 -- tables that are made ready, and then a message is shared
 pub spares_shared : (m : Message) (cs : List (ℕ × Message)) (t p u : HubTables) → AreTablesAlike t p → p.sessions.room ≡ t.sessions.room
-    → publish_size m ≤ t.lines.limits.most
-    → ((config : HubConfig) (next : ℕ) → HubKeeps config next p → publish_size m ≤ config.limits.most → HubKeeps config next u)
-    → u.sessions.tenants ≡ placed_all cs p.sessions.tenants → u.sessions.room ≡ p.sessions.room → u.lines ≡ p.lines → Spares t u
-spares_shared m cs t p u alike room within keeps tenants after lines = record {
+    → publish_size m ≤ t.connections.limits.most
+    → ((config : HubConfig) (next : ℕ) → HubInvariant config next p → publish_size m ≤ config.limits.most → HubInvariant config next u)
+    → u.sessions.tenants ≡ placed_all cs p.sessions.tenants → u.sessions.room ≡ p.sessions.room → u.connections ≡ p.connections → Spares t u
+spares_shared m cs t p u alike room within keeps tenants after connections = record {
   keeps = λ config next kept. keeps config next (kept_alike config next t p alike kept) (within_limit config next (publish_size m) t kept within);
-  lines = lines ∙ alike.lines;
+  connections = connections ∙ alike.connections;
   room = omega arith;
   clients = λ n.
-      ap (λ (ts : List Tenant). key_of n (sessions_of ts)) tenants ∙ named_placed_all n cs p.sessions.tenants
+      ap (λ (ts : List BrokerSession). key_of n (sessions_of ts)) tenants ∙ named_placed_all n cs p.sessions.tenants
       ∙ ap (key_of n) (same_sessions t.sessions.tenants p.sessions.tenants alike.tenants);
 }
 
 pub spares_none : (t : HubTables) → Spares t t
-spares_none t = record { keeps = λ config next kept. kept; lines = refl; room = omega arith; clients = λ n. refl }
+spares_none t = record { keeps = λ config next kept. kept; connections = refl; room = omega arith; clients = λ n. refl }
 
 -- ---- a connection that is up is closed
 
 -- what comes of the close at the tables, before the will
-module _ (k : Conn) (why : HubClose) (key : ℕ) (t v : HubTables) (hubs : AreHubs t) (up : key_on (stage_of k t.lines.lines) ≡ Some key)
+module _ (k : Conn) (why : HubClose) (key : ℕ) (t v : HubTables) (hubs : AreHubs t) (up : key_on (stage_of k t.connections.connections) ≡ Some key)
     (tenants : IsPartedBy key t.sessions.tenants v.sessions.tenants)
-    (lines : IfSome (tenant_of key t.sessions.tenants) (λ s. v.lines.lines ≡ with_line (left_with s.end.output) k t.lines.lines))
-    (limits : v.lines.limits ≡ t.lines.limits) (room : v.sessions.room ≡ t.sessions.room) (rises : t.lines.rises ≤ v.lines.rises)
-    (rest : v ≡ record t { sessions = v.sessions; lines = v.lines }) where
-  at : IsUpFor key (stage_of k t.lines.lines)
-  at = is_up_for key (stage_of k t.lines.lines) up
+    (connections : IfSome (tenant_of key t.sessions.tenants) (λ s. v.connections.connections ≡ with_connection (left_with s.end.output) k t.connections.connections))
+    (limits : v.connections.limits ≡ t.connections.limits) (room : v.sessions.room ≡ t.sessions.room) (rises : t.connections.rises ≤ v.connections.rises)
+    (rest : v ≡ record t { sessions = v.sessions; connections = v.connections }) where
+  at : IsUpFor key (stage_of k t.connections.connections)
+  at = is_up_for key (stage_of k t.connections.connections) up
 
-  part : IsParted key t.sessions.tenants v.sessions.tenants
-  part =
+  detach : IsParted key t.sessions.tenants v.sessions.tenants
+  detach =
       parted_there key t.sessions.tenants v.sessions.tenants
-      (housed_at hubs.config.limits.most k key t.sessions.tenants t.lines.lines hubs.keeps.housed up) tenants
+      (housed_at hubs.config.limits.most k key t.sessions.tenants t.connections.connections hubs.keeps.housed up) tenants
 
-  left : v.lines.lines ≡ with_line (left_with part.session.end.output) k t.lines.lines
-  left = lines_there k key part.session t.sessions.tenants t.lines.lines v.lines.lines part.there lines
+  left : v.connections.connections ≡ with_connection (left_with detach.session.end.output) k t.connections.connections
+  left = lines_there k key detach.session t.sessions.tenants t.connections.connections v.connections.connections detach.there connections
 
-  pub up_none : up_on key v.lines.lines ≡ None
-  up_none = ap (up_on key) left ∙ up_left k key at.terms at.moment part.session.end.output t.lines.lines hubs.keeps.apart at.is
+  pub up_none : up_on key v.connections.connections ≡ None
+  up_none = ap (up_on key) left ∙ up_left k key at.terms at.last_activity detach.session.end.output t.connections.connections hubs.keeps.apart at.is
 
   pub clients_parted : (n : List ℕ) → key_of n (sessions_of v.sessions.tenants) ≡ key_of n (sessions_of t.sessions.tenants)
   clients_parted n =
-      ap (λ (ts : List Tenant). key_of n (sessions_of ts)) part.after ∙ named_with n key (parted part.session.end) t.sessions.tenants
+      ap (λ (ts : List BrokerSession). key_of n (sessions_of ts)) detach.after ∙ named_with n key (parted detach.session.end) t.sessions.tenants
 
-  pub proceeds_parted : (did says : List Act) → is_clean (stage_of k t.lines.lines) ≡ false → says ≡ did ++ acts.Closed k why ∷ []
+  pub proceeds_parted : (did says : List Act) → is_clean (stage_of k t.connections.connections) ≡ false → says ≡ did ++ acts.Closed k why ∷ []
       → Proceeds (λ fits. parts k why key false) t did v says
   proceeds_parted did says lasts said =
       let clean = ap is_clean (sym at.is) ∙ lasts in
@@ -161,12 +161,12 @@ module _ (k : Conn) (why : HubClose) (key : ℕ) (t v : HubTables) (hubs : AreHu
         goes = λ config clock next kept. (
           true,
           goes_parted k why key (hub_of config clock next t) (hub_of config clock next v) did says
-              (hub_parted config next k key at.terms at.moment part.session t v kept at.is part.there retained left clean rows part.after clock) said,
+              (hub_parted config next k key at.terms at.last_activity detach.session t v kept at.is detach.there retained left clean rows detach.after clock) said,
         );
-        keeps = λ config next kept. kept_parted config next k key at.terms at.moment part.session t v kept at.is part.there retained left clean rows part.after limits;
+        keeps = λ config next kept. kept_parted config next k key at.terms at.last_activity detach.session t v kept at.is detach.there retained left clean rows detach.after limits;
         room = omega arith;
         rises = rises;
-        fresh = λ j first. fresh_left j k key part.session.end.output t.lines.lines v.lines.lines up left first;
+        fresh = λ j first. fresh_left j k key detach.session.end.output t.connections.connections v.connections.connections up left first;
       }
 
   -- and its session ends
@@ -176,32 +176,32 @@ module _ (k : Conn) (why : HubClose) (key : ℕ) (t v : HubTables) (hubs : AreHu
   proceeds_left u did says gone without more after said =
       let rows = gone ∙ ap (λ (a : HubTables). without_client key a.rows) rest in
       let retained = ap (λ (a : HubTables). a.retained.messages) after ∙ ap (λ (a : HubTables). a.retained.messages) rest in
-      let ts = without ∙ ap (without_tenant key) part.after in
-      let ys = ap (λ (a : HubTables). a.lines.lines) after ∙ left in
+      let ts = without ∙ ap (without_tenant key) detach.after in
+      let ys = ap (λ (a : HubTables). a.connections.connections) after ∙ left in
       record {
         goes = λ config clock next kept. (
           true,
           goes_left k why key (hub_of config clock next t) (hub_of config clock next u) did says
-              (hub_left config next k key at.terms at.moment part.session t u kept at.is part.there retained ys rows ts clock) said,
+              (hub_left config next k key at.terms at.last_activity detach.session t u kept at.is detach.there retained ys rows ts clock) said,
         );
         keeps = λ config next kept.
-            kept_left config next k key at.terms at.moment part.session t u kept at.is part.there retained ys rows ts
-            (ap (λ (a : HubTables). a.lines.limits) after ∙ limits);
+            kept_left config next k key at.terms at.last_activity detach.session t u kept at.is detach.there retained ys rows ts
+            (ap (λ (a : HubTables). a.connections.limits) after ∙ limits);
         room = omega arith;
-        rises = subst (λ (a : HubTables). t.lines.rises ≤ a.lines.rises) (sym after) rises;
-        fresh = λ j first. fresh_left j k key part.session.end.output t.lines.lines u.lines.lines up ys first;
+        rises = subst (λ (a : HubTables). t.connections.rises ≤ a.connections.rises) (sym after) rises;
+        fresh = λ j first. fresh_left j k key detach.session.end.output t.connections.connections u.connections.connections up ys first;
       }
 
 -- and then its will is published
 pub proceeds_closed : (k : Conn) (why : HubClose) (key : ℕ) (will : Option Will) (t v u : HubTables) (did mid says : List Act)
-    → key_on (stage_of k t.lines.lines) ≡ Some key
-    → will ≡ will_left why (stage_of k t.lines.lines) → Proceeds (λ fits. parts k why key (is_clean (stage_of k t.lines.lines))) t did v mid
-    → ((config : HubConfig) (clock next : ℕ) → HubKeeps config next v
-    → (fits : Bool) × GoesBy (last_will key will fits) (hub_of config clock next v) mid (hub_of config clock next u) says)
+    → key_on (stage_of k t.connections.connections) ≡ Some key
+    → will ≡ will_left why (stage_of k t.connections.connections) → Proceeds (λ fits. parts k why key (is_clean (stage_of k t.connections.connections))) t did v mid
+    → ((config : HubConfig) (clock next : ℕ) → HubInvariant config next v
+    → (fits : Bool) × Refines (last_will key will fits) (hub_of config clock next v) mid (hub_of config clock next u) says)
     → Spares v u → Proceeds (close k why) t did u says
 proceeds_closed k why key will t v u did mid says up is first last spares =
     let ts = t.sessions.tenants in
-    let xs = t.lines.lines in
+    let xs = t.connections.connections in
     let seen = sym (stage_seen k ts xs) in
     record {
       goes = λ config clock next kept.
@@ -211,12 +211,12 @@ proceeds_closed k why key will t v u did mid says up is first last spares =
           let q = last config clock next (first.keeps config next kept) in (
             q.0,
             goes_close k why q.0 key h (hub_of config clock next u) did says will g mid (ap key_on (sym seen) ∙ up) (is ∙ ap (will_left why) seen)
-                (subst (λ (s : Stage). GoesBy (parts k why key (is_clean s)) h did g mid) seen p.1) q.1,
+                (subst (λ (s : ConnectionState). Refines (parts k why key (is_clean s)) h did g mid) seen p.1) q.1,
           );
       keeps = λ config next kept. spares.keeps config next (first.keeps config next kept);
       room = let a = first.room in let b = spares.room in omega arith;
-      rises = subst (λ (n : ℕ). t.lines.rises ≤ n) (sym (ap (λ l. l.rises) spares.lines)) first.rises;
-      fresh = λ j f. ap (λ l. stage_of j l.lines) spares.lines ∙ first.fresh j f;
+      rises = subst (λ (n : ℕ). t.connections.rises ≤ n) (sym (ap (λ l. l.rises) spares.connections)) first.rises;
+      fresh = λ j f. ap (λ l. stage_of j l.connections) spares.connections ∙ first.fresh j f;
     }
 
 -- the tables after a part of the step are those of a broker, too
@@ -225,9 +225,9 @@ hubs_after change t v did says hubs p = record { config = hubs.config; next_key 
 
 -- and the will that is left is within their limit
 pub will_after_close : (change : Bool → Work → Work) (k : Conn) (why : HubClose) (will : Option Will) (t v : HubTables) (did says : List Act) → AreHubs t
-    → Proceeds change t did v says → will ≡ will_left why (stage_of k t.lines.lines) → IsWillWithin v.lines.limits.most will
+    → Proceeds change t did v says → will ≡ will_left why (stage_of k t.connections.connections) → IsWillWithin v.connections.limits.most will
 will_after_close change k why will t v did says hubs p is =
     let kept = hubs.keeps in
-    let within = will_within hubs.config.limits.most why k t.sessions.tenants t.lines.lines kept.housed in
+    let within = will_within hubs.config.limits.most why k t.sessions.tenants t.connections.connections kept.housed in
     subst (λ (l : Bounds). IsWillWithin l.most will) (sym (p.keeps hubs.config hubs.next_key kept).limits)
     (subst (IsWillWithin hubs.config.limits.most) (sym is) within)

@@ -7,8 +7,8 @@ use Rattle.mq_topic.specs.declared.qos.Qos.{Qos}
 use Rattle.mq_topic.specs.declared.qos.Qos.TheVariants.{Q0, Q1, Q2}
 use Rattle.mq_packet.specs.declared.message.Message.{Message}
 use Rattle.mq_packet.specs.declared.packet.Packet.{Packet}
-use Rattle.mq_packet.specs.Spelling.{SpellingLaws, spellings}
-use Rattle.mq_packet.specs.Spelling.{Spelled as IsSpelled}
+use Rattle.mq_packet.specs.Encoding.{EncodingLaws, encodings}
+use Rattle.mq_packet.specs.Encoding.{EncodesAll as IsEncoded}
 use Rattle.mq_flow.specs.declared.entry.Entry.{Entry}
 use Rattle.mq_flow.specs.Next.{NextLaws, next_identifier}
 use Rattle.mq_flow.specs.Sender.{SenderBook, accept, uses}
@@ -20,7 +20,7 @@ use Rattle.mq_end.specs.Publishing.{Accepts, room_left}
 use Rattle.mq_end.specs.Ready.{HasRoom, publishes_size}
 use Rattle.mq_end.specs.Server.{ready_refusal, server_publish_refusal}
 use Rattle.mq_end.specs.Sizes.{publish_size}
-use Rattle.mq_end.specs.State.{EndState, Spelled}
+use Rattle.mq_end.specs.State.{EndState, EncodesAll}
 use Rattle.mq_end.specs.declared.state.State.{State}
 use Rattle.mq_route.specs.Work.{publishes_next}
 use Rattle.mq_hub.specs.Placing.{IsReady, published}
@@ -170,17 +170,17 @@ by_qos Q0 i j m e same = refl
 by_qos Q1 i j m e same = ap (λ (n : ℕ). publishes_at Q1 n m e) (same refl)
 by_qos Q2 i j m e same = ap (λ (n : ℕ). publishes_at Q2 n m e) (same refl)
 
-pub spelled : (ps : List Packet) (b : List ℕ) → Spelled ps b → IsSpelled ps b
-spelled [] b h = h
-spelled (p ∷ ps) b h = (h.0, h.1, h.2, spelled ps h.1 h.3, h.4)
+pub encoded : (ps : List Packet) (b : List ℕ) → EncodesAll ps b → IsEncoded ps b
+encoded [] b h = h
+encoded (p ∷ ps) b h = (h.0, h.1, h.2, encoded ps h.1 h.3, h.4)
 
-pub published_is : NextLaws → SpellingLaws → (answer : Option ℕ) (m : Message) (old new : EndState) → Accepts answer m old new → new ≡ published m old
-published_is next spelling answer m old new a =
+pub published_is : NextLaws → EncodingLaws → (answer : Option ℕ) (m : Message) (old new : EndState) → Accepts answer m old new → new ≡ published m old
+published_is next encoding answer m old new a =
     let same : publishes_at m.qos a.id m old.end ≡ publishes_next m old.end =
     by_qos m.qos a.id (next_identifier old.end.last old.end.book) m old.end (λ id. next.only old.end.last a.id old.end.book (a.first id)) in
     let out = (publishes_at m.qos a.id m old.end).out in
-    let bytes : new.output ≡ old.output ++ spellings (publishes_next m old.end).out =
-    a.out.2 ∙ ap (λ (b : List ℕ). old.output ++ b) (spelling.all out a.out.0 (spelled out a.out.0 a.out.1)) ∙ ap (λ (r : Reply). old.output ++ spellings r.out) same in
+    let bytes : new.output ≡ old.output ++ encodings (publishes_next m old.end).out =
+    a.out.2 ∙ ap (λ (b : List ℕ). old.output ++ b) (encoding.all out a.out.0 (encoded out a.out.0 a.out.1)) ∙ ap (λ (r : Reply). old.output ++ encodings r.out) same in
     a.state
     ∙ ap (λ (r : Reply). record old { end = r.end; output = new.output; room = room_left m.qos old.room }) same
     ∙ ap (λ (b : List ℕ). record old { end = (publishes_next m old.end).end; output = b; room = room_left m.qos old.room }) bytes

@@ -16,7 +16,7 @@ use Rattle.mq_end.specs.Sizes.{publish_size}
 use Rattle.mq_end.specs.State.{EndState, Room}
 use Rattle.mq_route.specs.Hub.{HubState, HubSession, for_key}
 use Rattle.mq_route.specs.Work.{have_room, needs}
-use Rattle.mq_hub.specs.declared.session.Tenant.{Tenant}
+use Rattle.mq_hub.specs.declared.sessions.session.BrokerSession.{BrokerSession}
 use Rattle.mq_hub.specs.Sessions.{AreAscending, sessions_of, session_of, tenant_of, with_server}
 use Rattle.mq_hub.specs.Placing.{AreApart, AreFor, AreReady, AreSameButRoom, AreStillReady, HasSessions, IsFor, IsReadyAt, MayGo, ReadiesAt, is_among, placed_at, published, roomless}
 
@@ -72,14 +72,14 @@ other_needs k key (m ∷ ms) cs apart =
 
 -- ---- whether the sessions have room
 
-abbrev room_of : ℕ → List (ℕ × Message) → List Tenant → Bool
+abbrev room_of : ℕ → List (ℕ × Message) → List BrokerSession → Bool
 room_of cap cs ts = list_all (λ s. nat_le (needs s.key cs) (cap - length (uses s.end.book))) (sessions_of ts)
 
 -- the sessions of a key have so many identifiers free
-abbrev AreFree : ℕ → ℕ → ℕ → List Tenant → Type 0
+abbrev AreFree : ℕ → ℕ → ℕ → List BrokerSession → Type 0
 AreFree key n cap ts = AllByRecursion (λ s. s.key ≡ key → n ≤ cap - length (uses s.end.end.book)) ts
 
-with_own : (key : ℕ) (ms : List Message) (cs : List (ℕ × Message)) (cap : ℕ) (ts : List Tenant) → is_among key cs ≡ false → AreFree key (count ms) cap ts
+with_own : (key : ℕ) (ms : List Message) (cs : List (ℕ × Message)) (cap : ℕ) (ts : List BrokerSession) → is_among key cs ≡ false → AreFree key (count ms) cap ts
     → room_of cap (for_key key ms ++ cs) ts ≡ room_of cap cs ts
 with_own key ms cs cap [] none free = refl
 with_own key ms cs cap (t ∷ ts) none free = ap₂ (λ (a b : Bool). a && b) (go (eqb key t.key) refl) (with_own key ms cs cap ts none free.1)
@@ -98,7 +98,7 @@ and_no : (a : Bool) → (a && false) ≡ false
 and_no true = refl
 and_no false = refl
 
-short_own : (key : ℕ) (ms : List Message) (cs : List (ℕ × Message)) (cap : ℕ) (t : Tenant) (ts : List Tenant) → is_among key cs ≡ false → tenant_of key ts ≡ Some t
+short_own : (key : ℕ) (ms : List Message) (cs : List (ℕ × Message)) (cap : ℕ) (t : BrokerSession) (ts : List BrokerSession) → is_among key cs ≡ false → tenant_of key ts ≡ Some t
     → cap - length (uses t.end.end.book) < count ms → room_of cap (for_key key ms ++ cs) ts ≡ false
 short_own key ms cs cap t [] none there short = absurd cc
 short_own key ms cs cap t (s ∷ ts) none there short = go (eqb s.key key) refl (short_own key ms cs cap t ts none)
@@ -109,7 +109,7 @@ short_own key ms cs cap t (s ∷ ts) none there short = go (eqb s.key key) refl 
         let is : s ≡ t = some_same (sym (cond-true (eqb s.key key) (Some s) (tenant_of key ts) e) ∙ there) in
         let own : needs s.key (for_key key ms ++ cs) ≡ count ms = subst (λ (k : ℕ). needs k (for_key key ms ++ cs) ≡ count ms) (sym (eqb-true s.key key e)) (own_needs key ms cs none) in
         let few : cap - length (uses s.end.end.book) < needs s.key (for_key key ms ++ cs) =
-        subst (λ (n : ℕ). cap - length (uses s.end.end.book) < n) (sym own) (subst (λ (x : Tenant). cap - length (uses x.end.end.book) < count ms) (sym is) short) in
+        subst (λ (n : ℕ). cap - length (uses s.end.end.book) < n) (sym own) (subst (λ (x : BrokerSession). cap - length (uses x.end.end.book) < count ms) (sym is) short) in
         ap (λ (b : Bool). b && room_of cap (for_key key ms ++ cs) ts) (lt-leb (needs s.key (for_key key ms ++ cs)) (cap - length (uses s.end.end.book)) few)
     go false e rest =
         ap (λ (b : Bool). nat_le (needs s.key (for_key key ms ++ cs)) (cap - length (uses s.end.end.book)) && b) (rest (sym (cond-false (eqb s.key key) (Some s) (tenant_of key ts) e) ∙ there) short)
@@ -118,11 +118,11 @@ short_own key ms cs cap t (s ∷ ts) none there short = go (eqb s.key key) refl 
 -- ---- the one session of a key
 
 -- sessions above a key are not of it
-none_of_key : (P : Tenant → Type 0) (key : ℕ) (ts : List Tenant) → AllByRecursion (λ s. key < s.key) ts → AllByRecursion (λ s. s.key ≡ key → P s) ts
+none_of_key : (P : BrokerSession → Type 0) (key : ℕ) (ts : List BrokerSession) → AllByRecursion (λ s. key < s.key) ts → AllByRecursion (λ s. s.key ≡ key → P s) ts
 none_of_key P key [] above = tt
 none_of_key P key (s ∷ ts) above = let l = above.0 in (λ same. absurd (omega arith), none_of_key P key ts above.1)
 
-pub only_own : (P : Tenant → Type 0) (key : ℕ) (t : Tenant) (ts : List Tenant) → AreAscending ts → tenant_of key ts ≡ Some t → P t → AllByRecursion (λ s. s.key ≡ key → P s) ts
+pub only_own : (P : BrokerSession → Type 0) (key : ℕ) (t : BrokerSession) (ts : List BrokerSession) → AreAscending ts → tenant_of key ts ≡ Some t → P t → AllByRecursion (λ s. s.key ≡ key → P s) ts
 only_own P key t [] up there p = tt
 only_own P key t (s ∷ ts) up there p = go (eqb s.key key) refl (only_own P key t ts up.1)
   where
@@ -133,33 +133,33 @@ only_own P key t (s ∷ ts) up there p = go (eqb s.key key) refl (only_own P key
     go false e rest =
         (λ same. absurd (true≢false (sym (eq-eqb s.key key same) ∙ e)), rest (sym (cond-false (eqb s.key key) (Some s) (tenant_of key ts) e) ∙ there) p)
 
-pub key_there : (key : ℕ) (t : Tenant) (ts : List Tenant) → tenant_of key ts ≡ Some t → t.key ≡ key
+pub key_there : (key : ℕ) (t : BrokerSession) (ts : List BrokerSession) → tenant_of key ts ≡ Some t → t.key ≡ key
 key_there key t [] there = absurd cc
 key_there key t (s ∷ ts) there = go (eqb s.key key) refl (key_there key t ts)
   where
     go : (b : Bool) → eqb s.key key ≡ b → (tenant_of key ts ≡ Some t → t.key ≡ key) → t.key ≡ key
-    go true e rest = subst (λ (x : Tenant). x.key ≡ key) (some_same (sym (cond-true (eqb s.key key) (Some s) (tenant_of key ts) e) ∙ there)) (eqb-true s.key key e)
+    go true e rest = subst (λ (x : BrokerSession). x.key ≡ key) (some_same (sym (cond-true (eqb s.key key) (Some s) (tenant_of key ts) e) ∙ there)) (eqb-true s.key key e)
     go false e rest = rest (sym (cond-false (eqb s.key key) (Some s) (tenant_of key ts) e) ∙ there)
 
 -- the sessions after a change of that of a key
-abbrev pub changing : (EndState → EndState) → ℕ → Tenant → Tenant
+abbrev pub changing : (EndState → EndState) → ℕ → BrokerSession → BrokerSession
 changing f key t = cond (eqb t.key key) (record t { end = f t.end }) t
 
-abbrev pub changed_at : (EndState → EndState) → ℕ → List Tenant → List Tenant
+abbrev pub changed_at : (EndState → EndState) → ℕ → List BrokerSession → List BrokerSession
 changed_at f key ts = map (changing f key) ts
 
-pub same_change : (f : EndState → EndState) (key : ℕ) (t : Tenant) (ts : List Tenant) → AreAscending ts → tenant_of key ts ≡ Some t → with_server key (f t.end) ts ≡ changed_at f key ts
+pub same_change : (f : EndState → EndState) (key : ℕ) (t : BrokerSession) (ts : List BrokerSession) → AreAscending ts → tenant_of key ts ≡ Some t → with_server key (f t.end) ts ≡ changed_at f key ts
 same_change f key t ts up there = go ts (only_own (λ s. f s.end ≡ f t.end) key t ts up there refl)
   where
-    one : (s : Tenant) (b : Bool) → eqb s.key key ≡ b → (s.key ≡ key → f s.end ≡ f t.end) → cond b (record s { end = f t.end }) s ≡ cond b (record s { end = f s.end }) s
+    one : (s : BrokerSession) (b : Bool) → eqb s.key key ≡ b → (s.key ≡ key → f s.end ≡ f t.end) → cond b (record s { end = f t.end }) s ≡ cond b (record s { end = f s.end }) s
     one s true e same = ap (λ (x : EndState). record s { end = x }) (sym (same (eqb-true s.key key e)))
     one s false e same = refl
 
-    go : (ss : List Tenant) → AllByRecursion (λ s. s.key ≡ key → f s.end ≡ f t.end) ss → with_server key (f t.end) ss ≡ changed_at f key ss
+    go : (ss : List BrokerSession) → AllByRecursion (λ s. s.key ≡ key → f s.end ≡ f t.end) ss → with_server key (f t.end) ss ≡ changed_at f key ss
     go [] all = refl
-    go (s ∷ ss) all = ap₂ (λ (x : Tenant) (xs : List Tenant). x ∷ xs) (one s (eqb s.key key) refl all.0) (go ss all.1)
+    go (s ∷ ss) all = ap₂ (λ (x : BrokerSession) (xs : List BrokerSession). x ∷ xs) (one s (eqb s.key key) refl all.0) (go ss all.1)
 
-pub changed_own : (f : EndState → EndState) (key : ℕ) (t : Tenant) (ts : List Tenant) → tenant_of key ts ≡ Some t → tenant_of key (changed_at f key ts) ≡ Some (record t { end = f t.end })
+pub changed_own : (f : EndState → EndState) (key : ℕ) (t : BrokerSession) (ts : List BrokerSession) → tenant_of key ts ≡ Some t → tenant_of key (changed_at f key ts) ≡ Some (record t { end = f t.end })
 changed_own f key t [] there = absurd cc
 changed_own f key t (s ∷ ts) there = go (eqb s.key key) refl (changed_own f key t ts)
   where
@@ -167,11 +167,11 @@ changed_own f key t (s ∷ ts) there = go (eqb s.key key) refl (changed_own f ke
         → tenant_of key (cond b (record s { end = f s.end }) s ∷ changed_at f key ts) ≡ Some (record t { end = f t.end })
     go true e rest =
         let is : s ≡ t = some_same (sym (cond-true (eqb s.key key) (Some s) (tenant_of key ts) e) ∙ there) in
-        cond-true (eqb s.key key) (Some (record s { end = f s.end })) (tenant_of key (changed_at f key ts)) e ∙ ap (λ (x : Tenant). Some (record x { end = f x.end })) is
+        cond-true (eqb s.key key) (Some (record s { end = f s.end })) (tenant_of key (changed_at f key ts)) e ∙ ap (λ (x : BrokerSession). Some (record x { end = f x.end })) is
     go false e rest =
         cond-false (eqb s.key key) (Some s) (tenant_of key (changed_at f key ts)) e ∙ rest (sym (cond-false (eqb s.key key) (Some s) (tenant_of key ts) e) ∙ there)
 
-pub changed_other : (f : EndState → EndState) (key k : ℕ) (ts : List Tenant) → eqb key k ≡ false → tenant_of k (changed_at f key ts) ≡ tenant_of k ts
+pub changed_other : (f : EndState → EndState) (key k : ℕ) (ts : List BrokerSession) → eqb key k ≡ false → tenant_of k (changed_at f key ts) ≡ tenant_of k ts
 changed_other f key k [] apart = refl
 changed_other f key k (s ∷ ts) apart = go (eqb s.key key) refl (changed_other f key k ts apart)
   where
@@ -179,9 +179,9 @@ changed_other f key k (s ∷ ts) apart = go (eqb s.key key) refl (changed_other 
     go true e rest =
         let no : eqb s.key k ≡ false = subst (λ (x : ℕ). eqb x k ≡ false) (sym (eqb-true s.key key e)) apart in
         cond-false (eqb s.key k) (Some (record s { end = f s.end })) (tenant_of k (changed_at f key ts)) no ∙ rest ∙ sym (cond-false (eqb s.key k) (Some s) (tenant_of k ts) no)
-    go false e rest = ap (λ (o : Option Tenant). cond (eqb s.key k) (Some s) o) rest
+    go false e rest = ap (λ (o : Option BrokerSession). cond (eqb s.key k) (Some s) o) rest
 
-pub changed_length : (f : EndState → EndState) (key : ℕ) (ts : List Tenant) → length (changed_at f key ts) ≡ length ts
+pub changed_length : (f : EndState → EndState) (key : ℕ) (ts : List BrokerSession) → length (changed_at f key ts) ≡ length ts
 changed_length f key [] = refl
 changed_length f key (t ∷ ts) = ap suc (changed_length f key ts)
 
@@ -190,41 +190,41 @@ changed_length f key (t ∷ ts) = ap suc (changed_length f key ts)
 abbrev rooming : Room → EndState → EndState
 rooming r s = record s { room = r }
 
-reroomed_same : (room : Room) (key : ℕ) (ts : List Tenant) → map roomless (changed_at (rooming room) key ts) ≡ map roomless ts
+reroomed_same : (room : Room) (key : ℕ) (ts : List BrokerSession) → map roomless (changed_at (rooming room) key ts) ≡ map roomless ts
 reroomed_same room key [] = refl
-reroomed_same room key (t ∷ ts) = ap₂ (λ (x : Tenant) (xs : List Tenant). x ∷ xs) (one (eqb t.key key)) (reroomed_same room key ts)
+reroomed_same room key (t ∷ ts) = ap₂ (λ (x : BrokerSession) (xs : List BrokerSession). x ∷ xs) (one (eqb t.key key)) (reroomed_same room key ts)
   where
     one : (b : Bool) → roomless (cond b (record t { end = rooming room t.end }) t) ≡ roomless t
     one true = refl
     one false = refl
 
 -- the end of a session has other room
-pub other_room : (room : Room) (key : ℕ) (t : Tenant) (ts : List Tenant) → AreAscending ts → tenant_of key ts ≡ Some t → AreSameButRoom ts (with_server key (record t.end { room = room }) ts)
+pub other_room : (room : Room) (key : ℕ) (t : BrokerSession) (ts : List BrokerSession) → AreAscending ts → tenant_of key ts ≡ Some t → AreSameButRoom ts (with_server key (record t.end { room = room }) ts)
 other_room room key t ts up there = ap (map roomless) (same_change (rooming room) key t ts up there) ∙ reroomed_same room key ts
 
-pub same_sessions : (old new : List Tenant) → AreSameButRoom old new → sessions_of new ≡ sessions_of old
+pub same_sessions : (old new : List BrokerSession) → AreSameButRoom old new → sessions_of new ≡ sessions_of old
 same_sessions old new same = sym (go new) ∙ ap (map session_of) same ∙ go old
   where
-    go : (ts : List Tenant) → map session_of (map roomless ts) ≡ map session_of ts
+    go : (ts : List BrokerSession) → map session_of (map roomless ts) ≡ map session_of ts
     go [] = refl
     go (t ∷ ts) = ap (λ (ss : List HubSession). session_of t ∷ ss) (go ts)
 
-same_first : (s t : Tenant) (ss ts : List Tenant) → roomless s ∷ map roomless ss ≡ roomless t ∷ map roomless ts → roomless s ≡ roomless t
+same_first : (s t : BrokerSession) (ss ts : List BrokerSession) → roomless s ∷ map roomless ss ≡ roomless t ∷ map roomless ts → roomless s ≡ roomless t
 same_first s t ss ts e = cc
 
-same_later : (s t : Tenant) (ss ts : List Tenant) → roomless s ∷ map roomless ss ≡ roomless t ∷ map roomless ts → map roomless ss ≡ map roomless ts
+same_later : (s t : BrokerSession) (ss ts : List BrokerSession) → roomless s ∷ map roomless ss ≡ roomless t ∷ map roomless ts → map roomless ss ≡ map roomless ts
 same_later s t ss ts e = cc
 
-pub same_tenant : (key : ℕ) (t : Tenant) (old new : List Tenant) → AreSameButRoom old new → tenant_of key old ≡ Some t → (s : Tenant) × (tenant_of key new ≡ Some s) × (roomless s ≡ roomless t)
+pub same_tenant : (key : ℕ) (t : BrokerSession) (old new : List BrokerSession) → AreSameButRoom old new → tenant_of key old ≡ Some t → (s : BrokerSession) × (tenant_of key new ≡ Some s) × (roomless s ≡ roomless t)
 same_tenant key t [] new same there = absurd cc
 same_tenant key t (o ∷ old) [] same there = absurd cc
 same_tenant key t (o ∷ old) (n ∷ new) same there = go (eqb o.key key) refl (same_tenant key t old new (same_later n o new old same))
   where
     alike : n.key ≡ o.key
-    alike = ap (λ (x : Tenant). x.key) (same_first n o new old same)
+    alike = ap (λ (x : BrokerSession). x.key) (same_first n o new old same)
 
-    go : (b : Bool) → eqb o.key key ≡ b → (tenant_of key old ≡ Some t → (s : Tenant) × (tenant_of key new ≡ Some s) × (roomless s ≡ roomless t))
-        → (s : Tenant) × (tenant_of key (n ∷ new) ≡ Some s) × (roomless s ≡ roomless t)
+    go : (b : Bool) → eqb o.key key ≡ b → (tenant_of key old ≡ Some t → (s : BrokerSession) × (tenant_of key new ≡ Some s) × (roomless s ≡ roomless t))
+        → (s : BrokerSession) × (tenant_of key (n ∷ new) ≡ Some s) × (roomless s ≡ roomless t)
     go true e rest =
         let is : o ≡ t = some_same (sym (cond-true (eqb o.key key) (Some o) (tenant_of key old) e) ∙ there) in (
           n,
@@ -238,33 +238,33 @@ same_tenant key t (o ∷ old) (n ∷ new) same there = go (eqb o.key key) refl (
           w.2,
         )
 
-may_go_same : (m : Message) (s t : Tenant) → roomless s ≡ roomless t → MayGo m t.end → MayGo m s.end
+may_go_same : (m : Message) (s t : BrokerSession) → roomless s ≡ roomless t → MayGo m t.end → MayGo m s.end
 may_go_same m s t same may = record {
-  known = ap (λ (x : Tenant). x.end.end.known) same ∙ may.known;
-  up = λ once. ap (λ (x : Tenant). is_up x.end.end.state) same ∙ may.up once;
-  fits = subst (λ (n : ℕ). publish_size m ≤ n) (sym (ap (λ (x : Tenant). x.end.limit.most) same)) may.fits;
+  known = ap (λ (x : BrokerSession). x.end.end.known) same ∙ may.known;
+  up = λ once. ap (λ (x : BrokerSession). is_up x.end.end.state) same ∙ may.up once;
+  fits = subst (λ (n : ℕ). publish_size m ≤ n) (sym (ap (λ (x : BrokerSession). x.end.limit.most) same)) may.fits;
 }
 
-all_may_go_same : (ms : List Message) (s t : Tenant) → roomless s ≡ roomless t → AllByRecursion (λ m. MayGo m t.end) ms → AllByRecursion (λ m. MayGo m s.end) ms
+all_may_go_same : (ms : List Message) (s t : BrokerSession) → roomless s ≡ roomless t → AllByRecursion (λ m. MayGo m t.end) ms → AllByRecursion (λ m. MayGo m s.end) ms
 all_may_go_same [] s t same all = tt
 all_may_go_same (m ∷ ms) s t same all = (may_go_same m s t same all.0, all_may_go_same ms s t same all.1)
 
-pub is_for_same : (key : ℕ) (ms : List Message) (old new : List Tenant) → AreSameButRoom old new → IsFor key ms old → IsFor key ms new
+pub is_for_same : (key : ℕ) (ms : List Message) (old new : List BrokerSession) → AreSameButRoom old new → IsFor key ms old → IsFor key ms new
 is_for_same key ms old new same for =
     let w = same_tenant key for.tenant old new same for.there in
     record { tenant = w.0; there = w.1; may_go = all_may_go_same ms w.0 for.tenant w.2 for.may_go }
 
-pub are_for_same : (old new : List Tenant) (cs : List (ℕ × Message)) → AreSameButRoom old new → AreFor old cs → AreFor new cs
+pub are_for_same : (old new : List BrokerSession) (cs : List (ℕ × Message)) → AreSameButRoom old new → AreFor old cs → AreFor new cs
 are_for_same old new [] same all = tt
 are_for_same old new (c ∷ cs) same all = (is_for_same c.0 (c.1 ∷ []) old new same all.0, are_for_same old new cs same all.1)
 
-same_capacity : (cap : ℕ) (old new : List Tenant) → AreSameButRoom old new → AllByRecursion (λ t. t.end.capacity ≡ cap) old → AllByRecursion (λ t. t.end.capacity ≡ cap) new
+same_capacity : (cap : ℕ) (old new : List BrokerSession) → AreSameButRoom old new → AllByRecursion (λ t. t.end.capacity ≡ cap) old → AllByRecursion (λ t. t.end.capacity ≡ cap) new
 same_capacity cap old [] same all = tt
 same_capacity cap [] (n ∷ new) same all = absurd cc
 same_capacity cap (o ∷ old) (n ∷ new) same all =
-    (ap (λ (x : Tenant). x.end.capacity) (same_first n o new old same) ∙ all.0, same_capacity cap old new (same_later n o new old same) all.1)
+    (ap (λ (x : BrokerSession). x.end.capacity) (same_first n o new old same) ∙ all.0, same_capacity cap old new (same_later n o new old same) all.1)
 
-pub has_same : (old new : List Tenant) (h : HubState) → AreSameButRoom old new → HasSessions old h → HasSessions new h
+pub has_same : (old new : List BrokerSession) (h : HubState) → AreSameButRoom old new → HasSessions old h → HasSessions new h
 has_same old new h same has = record {
   sessions = has.sessions ∙ sym (same_sessions old new same);
   capacity = same_capacity h.config.capacity old new same has.capacity;
@@ -272,7 +272,7 @@ has_same old new h same has = record {
 
 -- ---- what comes of it
 
-pub all_there : (P : Tenant → Type 0) (key : ℕ) (t : Tenant) (ts : List Tenant) → AllByRecursion P ts → tenant_of key ts ≡ Some t → P t
+pub all_there : (P : BrokerSession → Type 0) (key : ℕ) (t : BrokerSession) (ts : List BrokerSession) → AllByRecursion P ts → tenant_of key ts ≡ Some t → P t
 all_there P key t [] all there = absurd cc
 all_there P key t (s ∷ ts) all there = go (eqb s.key key) refl (all_there P key t ts all.1)
   where
@@ -308,7 +308,7 @@ full_only s ms all = rw (none_unknown s ms all, none_down s ms all, none_large s
 ok_err : (a : Result ⊤ PublishRefusal) (why : PublishRefusal) → a ≡ Ok tt → a ≡ Err why → ⊥
 ok_err a why e f = absurd cc
 
-module _ (key : ℕ) (ms : List Message) (more : ℕ) (answer : Result ⊤ PublishRefusal) (old new : List Tenant) (up : AreAscending old) (r : ReadiesAt key ms more answer old new) where
+module _ (key : ℕ) (ms : List Message) (more : ℕ) (answer : Result ⊤ PublishRefusal) (old new : List BrokerSession) (up : AreAscending old) (r : ReadiesAt key ms more answer old new) where
   readied : new ≡ changed_at (rooming r.end.room) key old
   readied = r.after ∙ ap (λ (e : EndState). with_server key e old) r.readies.same ∙ same_change (rooming r.end.room) key r.tenant old up r.there
 
@@ -316,7 +316,7 @@ module _ (key : ℕ) (ms : List Message) (more : ℕ) (answer : Result ⊤ Publi
   ready_same = ap (map roomless) readied ∙ reroomed_same r.end.room key old
 
   pub ready_still : AreStillReady old new
-  ready_still k others n was = subst (λ (ts : List Tenant). IsReadyAt k others n ts) (sym readied) (go (eqb key k) refl)
+  ready_still k others n was = subst (λ (ts : List BrokerSession). IsReadyAt k others n ts) (sym readied) (go (eqb key k) refl)
     where
       go : (b : Bool) → eqb key k ≡ b → IsReadyAt k others n (changed_at (rooming r.end.room) key old)
       go true e =
@@ -329,8 +329,8 @@ module _ (key : ℕ) (ms : List Message) (more : ℕ) (answer : Result ⊤ Publi
                 (changed_own (rooming r.end.room) key was.tenant old there);
             ready = record {
               accepted = was.ready.accepted;
-              room = subst (λ (x : Tenant). HasRoom others n (rooming r.end.room x.end)) (sym is)
-                  (subst (λ (x : EndState). HasRoom others n x) r.readies.same (r.readies.before others n (subst (λ (x : Tenant). HasRoom others n x.end) is was.ready.room)));
+              room = subst (λ (x : BrokerSession). HasRoom others n (rooming r.end.room x.end)) (sym is)
+                  (subst (λ (x : EndState). HasRoom others n x) r.readies.same (r.readies.before others n (subst (λ (x : BrokerSession). HasRoom others n x.end) is was.ready.room)));
             };
           }
       go false e = record { tenant = was.tenant; there = changed_other (rooming r.end.room) key k old e ∙ was.there; ready = was.ready }
@@ -343,7 +343,7 @@ module _ (key : ℕ) (ms : List Message) (more : ℕ) (answer : Result ⊤ Publi
       go (Some why) e = absurd (ok_err answer why ok (subst (λ (o : Option PublishRefusal). IfSome o (λ why. answer ≡ Err why)) e r.readies.refused))
 
   pub ready_now : answer ≡ Ok tt → IsReadyAt key ms more new
-  ready_now ok = subst (λ (ts : List Tenant). IsReadyAt key ms more ts) (sym readied) (record {
+  ready_now ok = subst (λ (ts : List BrokerSession). IsReadyAt key ms more ts) (sym readied) (record {
     tenant = record r.tenant { end = rooming r.end.room r.tenant.end };
     there = changed_own (rooming r.end.room) key r.tenant old r.there;
     ready = record {
@@ -354,7 +354,7 @@ module _ (key : ℕ) (ms : List Message) (more : ℕ) (answer : Result ⊤ Publi
 
   module _ (for : IsFor key ms old) where
     may : AllByRecursion (λ m. MayGo m r.tenant.end) ms
-    may = subst (λ (x : Tenant). AllByRecursion (λ m. MayGo m x.end) ms) (some_same (sym for.there ∙ r.there)) for.may_go
+    may = subst (λ (x : BrokerSession). AllByRecursion (λ m. MayGo m x.end) ms) (some_same (sym for.there ∙ r.there)) for.may_go
 
     pub has_enough : answer ≡ Ok tt → (cs : List (ℕ × Message)) (h : HubState) → HasSessions old h → is_among key cs ≡ false → have_room (for_key key ms ++ cs) h ≡ have_room cs h
     unfolding have_room
@@ -404,7 +404,7 @@ all_at P [] i d l all = absurd (omega arith)
 all_at P (x ∷ xs) zero d l all = all.0
 all_at P (x ∷ xs) (suc i) d l all = all_at P xs i d (omega arith) all.1
 
-pub still_all : (more : ℕ) (old new : List Tenant) (cs : List (ℕ × Message)) → AreStillReady old new → AreReady more old cs → AreReady more new cs
+pub still_all : (more : ℕ) (old new : List BrokerSession) (cs : List (ℕ × Message)) → AreStillReady old new → AreReady more old cs → AreReady more new cs
 still_all more old new [] still all = tt
 still_all more old new (c ∷ cs) still all = (still c.0 (c.1 ∷ []) more all.0, still_all more old new cs still all.1)
 
@@ -433,7 +433,7 @@ room_none h = go h.sessions
     go (s ∷ ss) = ap₂ (λ (a b : Bool). a && b) (le-leb 0 (h.config.capacity - length (uses s.end.book)) (omega arith)) (go ss)
 
 -- a copy that is placed leaves the sessions of other clients ready
-pub placed_others : (key : ℕ) (m : Message) (more : ℕ) (ts : List Tenant) (cs : List (ℕ × Message)) → is_among key cs ≡ false → AreReady more ts cs → AreReady more (placed_at key m ts) cs
+pub placed_others : (key : ℕ) (m : Message) (more : ℕ) (ts : List BrokerSession) (cs : List (ℕ × Message)) → is_among key cs ≡ false → AreReady more ts cs → AreReady more (placed_at key m ts) cs
 placed_others key m more ts [] none all = tt
 placed_others key m more ts (c ∷ cs) none all =
     let apart : eqb key c.0 ≡ false = turned key c.0 (or_left (eqb c.0 key) (is_among key cs) none) in (

@@ -10,13 +10,13 @@ use Rattle.mq_route.specs.declared.act.Act.{Act}
 use Rattle.mq_route.specs.declared.close.HubClose.TheVariants.{Own}
 use Rattle.mq_route.specs.declared.config.HubConfig.{HubConfig}
 use Rattle.mq_route.specs.declared.conn.Conn.{Conn}
-use Rattle.mq_route.specs.Arrives.{replies, while_up}
-use Rattle.mq_route.specs.Hub.{HubState, Line, end_of, key_on, stage_of, up_on}
+use Rattle.mq_route.specs.Arrives.{replies, on_connected_packet}
+use Rattle.mq_route.specs.Hub.{HubState, HubConnection, end_of, key_on, stage_of, up_on}
 use Rattle.mq_route.specs.Work.{Work, close, put_on}
-use Rattle.mq_hub.specs.declared.reception.Reception.TheVariants.{Unfit}
-use Rattle.mq_hub.specs.declared.session.Tenant.{Tenant}
-use Rattle.mq_hub.specs.Does.{GoesBy}
-use Rattle.mq_hub.specs.Keeps.{HubKeeps, IsSeated}
+use Rattle.mq_hub.specs.declared.publish.reception.Reception.TheVariants.{Unfit}
+use Rattle.mq_hub.specs.declared.sessions.session.BrokerSession.{BrokerSession}
+use Rattle.mq_hub.specs.Does.{Refines}
+use Rattle.mq_hub.specs.Keeps.{HubInvariant, SessionMatchesConnection}
 use Rattle.mq_hub.specs.Receiving.{CanReceive, IsReceived}
 use Rattle.mq_hub.specs.Seen.{HubTables}
 use Rattle.mq_hub.specs.Sessions.{tenant_of}
@@ -28,25 +28,25 @@ use Rattle.mq_hub.proofs.Readiness.{all_there}
 
 -- ---- the end of a session
 
-pub none_there : (key : ℕ) (t : Tenant) (ts : List Tenant) → tenant_of key ts ≡ Some t → tenant_of key ts ≡ None → ⊥
+pub none_there : (key : ℕ) (t : BrokerSession) (ts : List BrokerSession) → tenant_of key ts ≡ Some t → tenant_of key ts ≡ None → ⊥
 none_there key t ts there none = let e : Some t ≡ None = sym there ∙ none in absurd cc
 
 -- ---- the end of a client that is up
 
-pub can_receive : (config : HubConfig) (next : ℕ) (t : HubTables) → HubKeeps config next t → (key : ℕ) (k : Conn) → up_on key t.lines.lines ≡ Some k
+pub can_receive : (config : HubConfig) (next : ℕ) (t : HubTables) → HubInvariant config next t → (key : ℕ) (k : Conn) → up_on key t.connections.connections ≡ Some k
     → CanReceive key config.window t.sessions.tenants
 can_receive config next t kept key k on =
     let e = up_end config next t kept key k on in
-    let seat = all_there (IsSeated config t.lines.lines) key e.tenant t.sessions.tenants kept.seated e.there in
+    let seat = all_there (SessionMatchesConnection config t.connections.connections) key e.tenant t.sessions.tenants kept.seated e.there in
     record { tenant = e.tenant; there = e.there; up = ap is_up e.state; known = e.known; window = seat.window }
 
 -- a client is up where its connection is
-pub up_by : (k : Conn) (key : ℕ) (xs : List Line) → key_on (stage_of k xs) ≡ Some key → is_some (up_on key xs) ≡ true
-up_by k key xs on = let at = is_up_for key (stage_of k xs) on in up_there k key at.terms at.moment xs at.is
+pub up_by : (k : Conn) (key : ℕ) (xs : List HubConnection) → key_on (stage_of k xs) ≡ Some key → is_some (up_on key xs) ≡ true
+up_by k key xs on = let at = is_up_for key (stage_of k xs) on in up_there k key at.terms at.last_activity xs at.is
 
 -- its end closes, and puts nothing out
 pub unfit_goes : (old : HubState) (key : ℕ) (p : Publication) → IsReceived Unfit p (end_of key old.sessions)
-    → (conn : Conn) (fits : Bool) (new : HubState) (did says : List Act) → GoesBy (close conn (Own reasons.Window) fits) old did new says → GoesBy (while_up conn key (packets.Publish p) fits) old did new says
+    → (conn : Conn) (fits : Bool) (new : HubState) (did says : List Act) → Refines (close conn (Own reasons.Window) fits) old did new says → Refines (on_connected_packet conn key (packets.Publish p) fits) old did new says
 unfolding replies
 unfit_goes old key p unfit conn fits new did says goes = record {
   hub = λ w e f. ap (λ (v : Work). v.hub) (is w e) ∙ goes.hub w e f;
@@ -56,7 +56,7 @@ unfit_goes old key p unfit conn fits new did says goes = record {
     closed : (w : Work) → w.hub ≡ old → server_gets (packets.Publish p) (end_of key w.hub.sessions) ≡ closes reasons.Window (end_of key old.sessions)
     closed w e = ap (λ (h : HubState). server_gets (packets.Publish p) (end_of key h.sessions)) e ∙ unfit
 
-    is : (w : Work) → w.hub ≡ old → while_up conn key (packets.Publish p) fits w ≡ close conn (Own reasons.Window) fits w
+    is : (w : Work) → w.hub ≡ old → on_connected_packet conn key (packets.Publish p) fits w ≡ close conn (Own reasons.Window) fits w
     is w e =
         ap (λ (o : Option CloseReason). replies conn key (server_gets (packets.Publish p)) o fits w) (ap (λ (r : Reply). r.close) (closed w e))
         ∙ ap (λ (r : Reply). close conn (Own reasons.Window) fits (put_on conn r.out w)) (closed w e)

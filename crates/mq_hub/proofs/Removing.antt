@@ -7,13 +7,13 @@ use Rattle.mq_topic.specs.Rows.{Row, without_client}
 use Rattle.mq_route.specs.declared.act.Act.{Act}
 use Rattle.mq_route.specs.declared.act.Act.TheVariants as acts
 use Rattle.mq_route.specs.declared.config.HubConfig.{HubConfig}
-use Rattle.mq_route.specs.declared.stage.Stage.{Stage}
-use Rattle.mq_route.specs.declared.stage.Stage.TheVariants.{Fresh, UpFor, Shut}
-use Rattle.mq_route.specs.Hub.{HubState, HubSession, Line, is_for, up_on, without_session}
+use Rattle.mq_route.specs.declared.connection_state.ConnectionState.{ConnectionState}
+use Rattle.mq_route.specs.declared.connection_state.ConnectionState.TheVariants.{AwaitingConnect, ConnectedAs, Closed}
+use Rattle.mq_route.specs.Hub.{HubState, HubSession, HubConnection, is_for, up_on, without_session}
 use Rattle.mq_route.specs.Work.{remove}
-use Rattle.mq_hub.specs.declared.session.Tenant.{Tenant}
-use Rattle.mq_hub.specs.Does.{GoesBy}
-use Rattle.mq_hub.specs.Keeps.{HubKeeps, IsHoused, IsSeated, Stands}
+use Rattle.mq_hub.specs.declared.sessions.session.BrokerSession.{BrokerSession}
+use Rattle.mq_hub.specs.Does.{Refines}
+use Rattle.mq_hub.specs.Keeps.{HubInvariant, ConnectionHasSession, SessionMatchesConnection, Stands}
 use Rattle.mq_hub.specs.Seen.{HubTables, all_seen, hub_of, output_of, seen, waiting_by}
 use Rattle.mq_hub.specs.Sessions.{session_of, sessions_of, tenant_of, without_tenant}
 use Rattle.mq_hub.proofs.Changing.{seen_others}
@@ -21,12 +21,12 @@ use Rattle.mq_hub.proofs.Keeping.{kept_by}
 use Rattle.mq_hub.proofs.Tenants.{ascending_without}
 
 module _ (key : ℕ) where
-  far_key : (s : Tenant) (c : ℕ) → eqb s.key key ≡ true → eqb c key ≡ false → eqb s.key c ≡ false
+  far_key : (s : BrokerSession) (c : ℕ) → eqb s.key key ≡ true → eqb c key ≡ false → eqb s.key c ≡ false
   far_key s c own apart = ne_eqb s.key c (λ w. true≢false (sym (eq-eqb c key (sym w ∙ eqb-true s.key key own)) ∙ apart))
 
   -- ---- the other sessions
 
-  found_without : (c : ℕ) (ts : List Tenant) → eqb c key ≡ false → tenant_of c (without_tenant key ts) ≡ tenant_of c ts
+  found_without : (c : ℕ) (ts : List BrokerSession) → eqb c key ≡ false → tenant_of c (without_tenant key ts) ≡ tenant_of c ts
   found_without c [] apart = refl
   found_without c (s ∷ ts) apart = go (eqb s.key key) refl (found_without c ts apart)
     where
@@ -36,9 +36,9 @@ module _ (key : ℕ) where
           ap (tenant_of c) left ∙ rest ∙ sym (cond-false (eqb s.key c) (Some s) (tenant_of c ts) (far_key s c own apart))
       go false own rest =
           let left : without_tenant key (s ∷ ts) ≡ s ∷ without_tenant key ts = rw own refl in
-          ap (tenant_of c) left ∙ ap (λ (o : Option Tenant). cond (eqb s.key c) (Some s) o) rest
+          ap (tenant_of c) left ∙ ap (λ (o : Option BrokerSession). cond (eqb s.key c) (Some s) o) rest
 
-  output_without : (c : ℕ) (ts : List Tenant) → eqb c key ≡ false → output_of c (without_tenant key ts) ≡ output_of c ts
+  output_without : (c : ℕ) (ts : List BrokerSession) → eqb c key ≡ false → output_of c (without_tenant key ts) ≡ output_of c ts
   output_without c [] apart = refl
   output_without c (s ∷ ts) apart = go (eqb s.key key) refl (output_without c ts apart)
     where
@@ -50,15 +50,15 @@ module _ (key : ℕ) where
           let left : without_tenant key (s ∷ ts) ≡ s ∷ without_tenant key ts = rw own refl in
           ap (output_of c) left ∙ ap (λ (b : List ℕ). cond (eqb s.key c) s.end.output b) rest
 
-  pub seen_without : (ts : List Tenant) (x : Line) → is_for key x.stage ≡ false → seen (without_tenant key ts) x ≡ seen ts x
+  pub seen_without : (ts : List BrokerSession) (x : HubConnection) → is_for key x.stage ≡ false → seen (without_tenant key ts) x ≡ seen ts x
   seen_without ts x apart = ap (λ (b : List ℕ). record x { waiting = b }) (of x.stage apart)
     where
-      of : (s : Stage) → is_for key s ≡ false → waiting_by s (without_tenant key ts) x.waiting ≡ waiting_by s ts x.waiting
-      of Fresh e = refl
-      of (UpFor c terms moment) e = output_without c ts e
-      of Shut e = refl
+      of : (s : ConnectionState) → is_for key s ≡ false → waiting_by s (without_tenant key ts) x.waiting ≡ waiting_by s ts x.waiting
+      of AwaitingConnect e = refl
+      of (ConnectedAs c terms last_activity) e = output_without c ts e
+      of Closed e = refl
 
-  pub sessions_without : (ts : List Tenant) → sessions_of (without_tenant key ts) ≡ without_session key (sessions_of ts)
+  pub sessions_without : (ts : List BrokerSession) → sessions_of (without_tenant key ts) ≡ without_session key (sessions_of ts)
   sessions_without [] = refl
   sessions_without (s ∷ ts) = go (eqb s.key key) refl (sessions_without ts)
     where
@@ -67,7 +67,7 @@ module _ (key : ℕ) where
       go true own rest = rw own rest
       go false own rest = rw own (ap (λ (ss : List HubSession). session_of s ∷ ss) rest)
 
-  pub all_without : (P : Tenant → Type 0) (ts : List Tenant) → AllByRecursion P ts → AllByRecursion P (without_tenant key ts)
+  pub all_without : (P : BrokerSession → Type 0) (ts : List BrokerSession) → AllByRecursion P ts → AllByRecursion P (without_tenant key ts)
   all_without P [] all = tt
   all_without P (s ∷ ts) all = go (not (eqb s.key key)) (all_without P ts all.1)
     where
@@ -75,10 +75,10 @@ module _ (key : ℕ) where
       go true rest = (all.0, rest)
       go false rest = rest
 
-  stands_without : (c : ℕ) (ts : List Tenant) → eqb c key ≡ false → Stands ts c → Stands (without_tenant key ts) c
+  stands_without : (c : ℕ) (ts : List BrokerSession) → eqb c key ≡ false → Stands ts c → Stands (without_tenant key ts) c
   stands_without c ts apart stands = ap is_some (found_without c ts apart) ∙ stands
 
-  pub owned_without : (ts : List Tenant) (rs : List Row) → AllByRecursion (λ r. Stands ts r.0.0) rs → AllByRecursion (λ r. Stands (without_tenant key ts) r.0.0) (without_client key rs)
+  pub owned_without : (ts : List BrokerSession) (rs : List Row) → AllByRecursion (λ r. Stands ts r.0.0) rs → AllByRecursion (λ r. Stands (without_tenant key ts) r.0.0) (without_client key rs)
   owned_without ts [] all = tt
   owned_without ts (r ∷ rs) all = go (eqb r.0.0 key) refl (owned_without ts rs all.1)
     where
@@ -91,53 +91,53 @@ module _ (key : ℕ) where
           let left : without_client key (r ∷ rs) ≡ r ∷ without_client key rs = rw own refl in
           subst (λ (qs : List Row). AllByRecursion (λ q. Stands (without_tenant key ts) q.0.0) qs) (sym left) (stands_without r.0.0 ts own all.0, rest)
 
-  pub housed_without : (most : ℕ) (ts : List Tenant) (xs : List Line) → up_on key xs ≡ None → AllByRecursion (λ x. IsHoused most ts x.stage) xs
-      → AllByRecursion (λ x. IsHoused most (without_tenant key ts) x.stage) xs
+  pub housed_without : (most : ℕ) (ts : List BrokerSession) (xs : List HubConnection) → up_on key xs ≡ None → AllByRecursion (λ x. ConnectionHasSession most ts x.stage) xs
+      → AllByRecursion (λ x. ConnectionHasSession most (without_tenant key ts) x.stage) xs
   housed_without most ts [] none all = tt
   housed_without most ts (x ∷ xs) none all = go (is_for key x.stage) refl (housed_without most ts xs)
     where
-      of : (s : Stage) → is_for key s ≡ false → IsHoused most ts s → IsHoused most (without_tenant key ts) s
-      of Fresh e housed = tt
-      of (UpFor c terms moment) e housed = (stands_without c ts e housed.0, housed.1)
-      of Shut e housed = tt
+      of : (s : ConnectionState) → is_for key s ≡ false → ConnectionHasSession most ts s → ConnectionHasSession most (without_tenant key ts) s
+      of AwaitingConnect e housed = tt
+      of (ConnectedAs c terms last_activity) e housed = (stands_without c ts e housed.0, housed.1)
+      of Closed e housed = tt
 
       go : (b : Bool) → is_for key x.stage ≡ b
-          → (up_on key xs ≡ None → AllByRecursion (λ y. IsHoused most ts y.stage) xs → AllByRecursion (λ y. IsHoused most (without_tenant key ts) y.stage) xs)
-          → AllByRecursion (λ y. IsHoused most (without_tenant key ts) y.stage) (x ∷ xs)
+          → (up_on key xs ≡ None → AllByRecursion (λ y. ConnectionHasSession most ts y.stage) xs → AllByRecursion (λ y. ConnectionHasSession most (without_tenant key ts) y.stage) xs)
+          → AllByRecursion (λ y. ConnectionHasSession most (without_tenant key ts) y.stage) (x ∷ xs)
       go true up rest = let w : Some x.conn ≡ None = sym (cond-true (is_for key x.stage) (Some x.conn) (up_on key xs) up) ∙ none in absurd cc
       go false down rest = (of x.stage down all.0, rest (sym (cond-false (is_for key x.stage) (Some x.conn) (up_on key xs) down) ∙ none) all.1)
 
   -- ---- the broker
 
-  module _ (config : HubConfig) (next : ℕ) (t u : HubTables) (kept : HubKeeps config next t) (none : up_on key t.lines.lines ≡ None) (rows : u.rows ≡ without_client key t.rows)
-      (retained : u.retained.messages ≡ t.retained.messages) (tenants : u.sessions.tenants ≡ without_tenant key t.sessions.tenants) (lines : u.lines.lines ≡ t.lines.lines) where
-    pub kept_removed : u.lines.limits ≡ t.lines.limits → HubKeeps config next u
+  module _ (config : HubConfig) (next : ℕ) (t u : HubTables) (kept : HubInvariant config next t) (none : up_on key t.connections.connections ≡ None) (rows : u.rows ≡ without_client key t.rows)
+      (retained : u.retained.messages ≡ t.retained.messages) (tenants : u.sessions.tenants ≡ without_tenant key t.sessions.tenants) (connections : u.connections.connections ≡ t.connections.connections) where
+    pub kept_removed : u.connections.limits ≡ t.connections.limits → HubInvariant config next u
     kept_removed limits =
         let ts = t.sessions.tenants in
         let v : HubTables = record t { rows = without_client key t.rows; sessions = record t.sessions { tenants = without_tenant key ts } } in
-        let k : HubKeeps config next v = record {
+        let k : HubInvariant config next v = record {
           capacity = kept.capacity;
           window = kept.window;
           limits = kept.limits;
           apart = kept.apart;
           quiet = kept.quiet;
-          housed = housed_without config.limits.most ts t.lines.lines none kept.housed;
-          seated = all_without (IsSeated config t.lines.lines) ts kept.seated;
+          housed = housed_without config.limits.most ts t.connections.connections none kept.housed;
+          seated = all_without (SessionMatchesConnection config t.connections.connections) ts kept.seated;
           ascending = ascending_without key ts kept.ascending;
           below = all_without (λ s. s.key < next) ts kept.below;
           next = kept.next;
           owned = owned_without ts t.rows kept.owned;
           retained = kept.retained;
         } in
-        kept_by config next v u k rows retained tenants lines limits
+        kept_by config next v u k rows retained tenants connections limits
 
     pub hub_removed : (clock : ℕ) → hub_of config clock next u
         ≡ record (hub_of config clock next t) { rows = without_client key t.rows; sessions = without_session key (sessions_of t.sessions.tenants) }
     hub_removed clock =
         let ts = t.sessions.tenants in
-        let xs = t.lines.lines in
+        let xs = t.connections.connections in
         let sessions : sessions_of u.sessions.tenants ≡ without_session key (sessions_of ts) = ap sessions_of tenants ∙ sessions_without ts in
-        let waits : all_seen u.sessions.tenants u.lines.lines ≡ all_seen ts xs = (λ i. all_seen (tenants i) (lines i)) ∙ seen_others key ts (without_tenant key ts) (seen_without ts) xs none in
+        let waits : all_seen u.sessions.tenants u.connections.connections ≡ all_seen ts xs = (λ i. all_seen (tenants i) (connections i)) ∙ seen_others key ts (without_tenant key ts) (seen_without ts) xs none in
         λ i. record {
           config = config;
           clock = clock;
@@ -145,12 +145,12 @@ module _ (key : ℕ) where
           rows = rows i;
           retained = retained i;
           sessions = sessions i;
-          lines = waits i;
+          connections = waits i;
         }
 
   -- the change of the definition
   pub goes_removed : (h g : HubState) (said says : List Act) → g ≡ record h { rows = without_client key h.rows; sessions = without_session key h.sessions }
-      → says ≡ said ++ acts.Removed key ∷ [] → GoesBy (remove key) h said g says
+      → says ≡ said ++ acts.Removed key ∷ [] → Refines (remove key) h said g says
   unfolding remove
   goes_removed h g said says is did = record {
     hub = λ w e f. ap (λ (a : HubState). record a { rows = without_client key a.rows; sessions = without_session key a.sessions }) e ∙ sym is;

@@ -8,11 +8,11 @@ use Rattle.mq_packet.specs.declared.message.Message.{Message}
 use Rattle.mq_packet.specs.declared.publish.Delivery.{Delivery}
 use Rattle.mq_packet.specs.declared.packet.Packet.{Packet}
 use Rattle.mq_packet.specs.declared.packet.Packet.TheVariants as packets
-use Rattle.mq_packet.specs.Spelling.{spellings}
+use Rattle.mq_packet.specs.Encoding.{encodings}
 use Rattle.mq_flow.specs.Window.{fits_window}
 use Rattle.mq_end.specs.declared.reason.CloseReason.TheVariants as reasons
 use Rattle.mq_end.specs.declared.state.State.{State}
-use Rattle.mq_end.specs.declared.state.State.TheVariants.{Up}
+use Rattle.mq_end.specs.declared.state.State.TheVariants.{Connected}
 use Rattle.mq_end.specs.Both.{publish_gets, stores}
 use Rattle.mq_end.specs.End.{End, Reply, closes}
 use Rattle.mq_end.specs.Server.{server_gets, server_gets_in, server_up_gets}
@@ -20,22 +20,22 @@ use Rattle.mq_end.specs.State.{EndState}
 use Rattle.mq_route.specs.declared.act.Act.{Act}
 use Rattle.mq_route.specs.declared.config.HubConfig.{HubConfig}
 use Rattle.mq_route.specs.declared.conn.Conn.{Conn}
-use Rattle.mq_route.specs.declared.stage.Stage.{Stage}
-use Rattle.mq_route.specs.declared.stage.Stage.TheVariants.{Fresh, UpFor, Shut}
-use Rattle.mq_route.specs.declared.stage.Terms.{Terms}
-use Rattle.mq_route.specs.Hub.{HubState, HubSession, Line, end_of, is_for, is_line, key_on, knows, stage_of, up_on, with_end, with_line}
+use Rattle.mq_route.specs.declared.connection_state.ConnectionState.{ConnectionState}
+use Rattle.mq_route.specs.declared.connection_state.ConnectionState.TheVariants.{AwaitingConnect, ConnectedAs, Closed}
+use Rattle.mq_route.specs.declared.connection_state.ConnectionTerms.{ConnectionTerms}
+use Rattle.mq_route.specs.Hub.{HubState, HubSession, HubConnection, end_of, is_for, is_connection, key_on, knows, stage_of, up_on, with_end, with_connection}
 use Rattle.mq_route.specs.Routed.{same_conn}
 use Rattle.mq_route.specs.Work.{Work, does, put_on, put_where, with_sessions}
-use Rattle.mq_hub.specs.declared.session.Tenant.{Tenant}
+use Rattle.mq_hub.specs.declared.sessions.session.BrokerSession.{BrokerSession}
 use Rattle.mq_hub.specs.Calls.{Replies}
-use Rattle.mq_hub.specs.Does.{GoesBy}
-use Rattle.mq_hub.specs.Keeps.{AreApart, HubKeeps, IsSeated, Stands}
+use Rattle.mq_hub.specs.Does.{Refines}
+use Rattle.mq_hub.specs.Keeps.{AreApart, HubInvariant, SessionMatchesConnection, Stands}
 use Rattle.mq_hub.specs.Placing.{with_tenants}
 use Rattle.mq_hub.specs.Seen.{HubTables, all_seen, hub_of, output_of, seen, waiting_by}
 use Rattle.mq_hub.specs.Sessions.{session_of, sessions_of, tenant_of, with_server}
 use Rattle.mq_hub.proofs.Changing.{output_here, seen_changed, seen_served, up_seen, up_there}
 use Rattle.mq_hub.proofs.Collecting.{is_up_for}
-use Rattle.mq_hub.proofs.Connections.{itself, one_conn}
+use Rattle.mq_hub.proofs.ConnectionTable.{itself, one_conn}
 use Rattle.mq_hub.proofs.Readiness.{all_there, key_there, some_same}
 use Rattle.mq_hub.proofs.Serving.{all_housed_as, all_owned_as, all_seated_with, below_as}
 use Rattle.mq_hub.proofs.Tenants.{ascending_with}
@@ -83,47 +83,47 @@ up_stays packets.PingReq e lives = still e
 up_stays packets.PingResp e lives = absurd (some_none lives)
 up_stays packets.Disconnect e lives = absurd (some_none lives)
 
-pub gets_up : (p : Packet) (e : End) → e.state ≡ Up → server_gets p e ≡ server_up_gets p e
+pub gets_up : (p : Packet) (e : End) → e.state ≡ Connected → server_gets p e ≡ server_up_gets p e
 gets_up p e up = ap (λ (s : State). server_gets_in s p e) up
 
 -- a packet at which an end that is up doesn't close
-pub packet_stays : (p : Packet) (e : End) → e.state ≡ Up → (server_gets p e).close ≡ None → Stays e (server_gets p e).end
+pub packet_stays : (p : Packet) (e : End) → e.state ≡ Connected → (server_gets p e).close ≡ None → Stays e (server_gets p e).end
 packet_stays p e up lives =
     let is = gets_up p e up in
     subst (λ (r : Reply). Stays e r.end) (sym is) (up_stays p e (ap (λ (r : Reply). r.close) (sym is) ∙ lives))
 
 -- ---- the connection on which the client is up
 
-pub up_at : (k : Conn) (key : ℕ) (terms : Terms) (moment : ℕ) (xs : List Line) → AreApart xs → stage_of k xs ≡ UpFor key terms moment → up_on key xs ≡ Some k
-up_at k key terms moment [] apart at = absurd cc
-up_at k key terms moment (x ∷ xs) apart at = go (is_line k x) refl (up_at k key terms moment xs apart.2)
+pub up_at : (k : Conn) (key : ℕ) (terms : ConnectionTerms) (last_activity : ℕ) (xs : List HubConnection) → AreApart xs → stage_of k xs ≡ ConnectedAs key terms last_activity → up_on key xs ≡ Some k
+up_at k key terms last_activity [] apart at = absurd cc
+up_at k key terms last_activity (x ∷ xs) apart at = go (is_connection k x) refl (up_at k key terms last_activity xs apart.2)
   where
-    go : (b : Bool) → is_line k x ≡ b → (stage_of k xs ≡ UpFor key terms moment → up_on key xs ≡ Some k) → up_on key (x ∷ xs) ≡ Some k
+    go : (b : Bool) → is_connection k x ≡ b → (stage_of k xs ≡ ConnectedAs key terms last_activity → up_on key xs ≡ Some k) → up_on key (x ∷ xs) ≡ Some k
     go true same rest =
-        let here : x.stage ≡ UpFor key terms moment = sym (cond-true (is_line k x) x.stage (stage_of k xs) same) ∙ at in
+        let here : x.stage ≡ ConnectedAs key terms last_activity = sym (cond-true (is_connection k x) x.stage (stage_of k xs) same) ∙ at in
         cond-true (is_for key x.stage) (Some x.conn) (up_on key xs) (ap (is_for key) here ∙ eq-eqb key key refl) ∙ ap (λ (c : Conn). Some c) (one_conn x.conn k same)
     go false differ rest = later (is_for key x.stage) refl
       where
-        there : stage_of k xs ≡ UpFor key terms moment
-        there = sym (cond-false (is_line k x) x.stage (stage_of k xs) differ) ∙ at
+        there : stage_of k xs ≡ ConnectedAs key terms last_activity
+        there = sym (cond-false (is_connection k x) x.stage (stage_of k xs) differ) ∙ at
 
         later : (b : Bool) → is_for key x.stage ≡ b → up_on key (x ∷ xs) ≡ Some k
-        later true up = absurd (true≢false (sym (up_there k key terms moment xs there) ∙ ap is_some (apart.1 key up)))
+        later true up = absurd (true≢false (sym (up_there k key terms last_activity xs there) ∙ ap is_some (apart.1 key up)))
         later false down = cond-false (is_for key x.stage) (Some x.conn) (up_on key xs) down ∙ rest there
 
-known_not : (k : Conn) (xs : List Line) → knows k xs ≡ true → (x : Line) → knows x.conn xs ≡ false → is_line k x ≡ false
-known_not k xs known x none = go (is_line k x) refl
+known_not : (k : Conn) (xs : List HubConnection) → knows k xs ≡ true → (x : HubConnection) → knows x.conn xs ≡ false → is_connection k x ≡ false
+known_not k xs known x none = go (is_connection k x) refl
   where
-    go : (b : Bool) → is_line k x ≡ b → is_line k x ≡ false
+    go : (b : Bool) → is_connection k x ≡ b → is_connection k x ≡ false
     go true same = absurd (true≢false (sym known ∙ ap (λ (n : Conn). knows n xs) (sym (one_conn x.conn k same)) ∙ none))
     go false differ = differ
 
-is_for_key : (key : ℕ) (s : Stage) → is_for key s ≡ true → key_on s ≡ Some key
-is_for_key key Fresh e = absurd (true≢false (sym e))
-is_for_key key (UpFor c terms moment) e = ap (λ (n : ℕ). Some n) (eqb-true c key e)
-is_for_key key Shut e = absurd (true≢false (sym e))
+is_for_key : (key : ℕ) (s : ConnectionState) → is_for key s ≡ true → key_on s ≡ Some key
+is_for_key key AwaitingConnect e = absurd (true≢false (sym e))
+is_for_key key (ConnectedAs c terms last_activity) e = ap (λ (n : ℕ). Some n) (eqb-true c key e)
+is_for_key key Closed e = absurd (true≢false (sym e))
 
-pub on_at : (k : Conn) (key : ℕ) (xs : List Line) → AreApart xs → up_on key xs ≡ Some k → (knows k xs ≡ true) × (key_on (stage_of k xs) ≡ Some key)
+pub on_at : (k : Conn) (key : ℕ) (xs : List HubConnection) → AreApart xs → up_on key xs ≡ Some k → (knows k xs ≡ true) × (key_on (stage_of k xs) ≡ Some key)
 on_at k key [] apart on = absurd cc
 on_at k key (x ∷ xs) apart on = go (is_for key x.stage) refl (on_at k key xs apart.2)
   where
@@ -131,61 +131,61 @@ on_at k key (x ∷ xs) apart on = go (is_for key x.stage) refl (on_at k key xs a
         → (knows k (x ∷ xs) ≡ true) × (key_on (stage_of k (x ∷ xs)) ≡ Some key)
     go true up rest =
         let is : x.conn ≡ k = some_same (sym (cond-true (is_for key x.stage) (Some x.conn) (up_on key xs) up) ∙ on) in
-        let here : is_line k x ≡ true = ap (λ (c : Conn). same_conn c k) is ∙ itself k in
-        (ap (λ (b : Bool). b || knows k xs) here, ap key_on (cond-true (is_line k x) x.stage (stage_of k xs) here) ∙ is_for_key key x.stage up)
+        let here : is_connection k x ≡ true = ap (λ (c : Conn). same_conn c k) is ∙ itself k in
+        (ap (λ (b : Bool). b || knows k xs) here, ap key_on (cond-true (is_connection k x) x.stage (stage_of k xs) here) ∙ is_for_key key x.stage up)
     go false down rest =
         let w = rest (sym (cond-false (is_for key x.stage) (Some x.conn) (up_on key xs) down) ∙ on) in
-        let far : is_line k x ≡ false = known_not k xs w.0 x apart.0 in
-        (ap (λ (b : Bool). b || knows k xs) far ∙ w.0, ap key_on (cond-false (is_line k x) x.stage (stage_of k xs) far) ∙ w.1)
+        let far : is_connection k x ≡ false = known_not k xs w.0 x apart.0 in
+        (ap (λ (b : Bool). b || knows k xs) far ∙ w.0, ap key_on (cond-false (is_connection k x) x.stage (stage_of k xs) far) ∙ w.1)
 
-still_lines : (k : Conn) (xs : List Line) → with_line (λ x. x) k xs ≡ xs
+still_lines : (k : Conn) (xs : List HubConnection) → with_connection (λ x. x) k xs ≡ xs
 still_lines k [] = refl
-still_lines k (x ∷ xs) = λ i. cond_both (is_line k x) x x (λ (y : Line). y ≡ x) (λ e. refl) (λ e. refl) i ∷ still_lines k xs i
+still_lines k (x ∷ xs) = λ i. cond_both (is_connection k x) x x (λ (y : HubConnection). y ≡ x) (λ e. refl) (λ e. refl) i ∷ still_lines k xs i
 
 -- ---- the change of the definition
 
-abbrev put_line : (End → Reply) → End → Line → Line
-put_line move e x = record x { waiting = x.waiting ++ spellings (move e).out }
+abbrev put_line : (End → Reply) → End → HubConnection → HubConnection
+put_line move e x = record x { waiting = x.waiting ++ encodings (move e).out }
 
 abbrev served : (End → Reply) → ℕ → Conn → HubState → HubState
 served move key k h = record h {
   sessions = with_end key (move (end_of key h.sessions)).end h.sessions;
-  lines = with_line (put_line move (end_of key h.sessions)) k h.lines;
+  connections = with_connection (put_line move (end_of key h.sessions)) k h.connections;
 }
 
-does_hub : (move : End → Reply) (key : ℕ) (k : Conn) (w : Work) → up_on key w.hub.lines ≡ Some k → (does key move w).hub ≡ served move key k w.hub
+does_hub : (move : End → Reply) (key : ℕ) (k : Conn) (w : Work) → up_on key w.hub.connections ≡ Some k → (does key move w).hub ≡ served move key k w.hub
 unfolding does put_on
 does_hub move key k w up =
     ap (λ (o : Option Conn). (put_where o (move (end_of key w.hub.sessions)).out (with_sessions (with_end key (move (end_of key w.hub.sessions)).end) w)).hub) up
 
-does_did : (move : End → Reply) (key : ℕ) (k : Conn) (w : Work) → up_on key w.hub.lines ≡ Some k → (does key move w).did ≡ w.did
+does_did : (move : End → Reply) (key : ℕ) (k : Conn) (w : Work) → up_on key w.hub.connections ≡ Some k → (does key move w).did ≡ w.did
 unfolding does put_on
 does_did move key k w up =
     ap (λ (o : Option Conn). (put_where o (move (end_of key w.hub.sessions)).out (with_sessions (with_end key (move (end_of key w.hub.sessions)).end) w)).did) up
 
 -- ---- the sessions and the bytes that wait
 
-pub end_there : (key : ℕ) (t : Tenant) (ts : List Tenant) → tenant_of key ts ≡ Some t → end_of key (sessions_of ts) ≡ t.end.end
+pub end_there : (key : ℕ) (t : BrokerSession) (ts : List BrokerSession) → tenant_of key ts ≡ Some t → end_of key (sessions_of ts) ≡ t.end.end
 end_there key t [] there = absurd cc
 end_there key t (s ∷ ts) there = go (eqb s.key key) refl (end_there key t ts)
   where
     go : (b : Bool) → eqb s.key key ≡ b → (tenant_of key ts ≡ Some t → end_of key (sessions_of ts) ≡ t.end.end) → end_of key (sessions_of (s ∷ ts)) ≡ t.end.end
     go true e rest =
         cond-true (eqb s.key key) s.end.end (end_of key (sessions_of ts)) e
-        ∙ ap (λ (x : Tenant). x.end.end) (some_same (sym (cond-true (eqb s.key key) (Some s) (tenant_of key ts) e) ∙ there))
+        ∙ ap (λ (x : BrokerSession). x.end.end) (some_same (sym (cond-true (eqb s.key key) (Some s) (tenant_of key ts) e) ∙ there))
     go false e rest = cond-false (eqb s.key key) s.end.end (end_of key (sessions_of ts)) e ∙ rest (sym (cond-false (eqb s.key key) (Some s) (tenant_of key ts) e) ∙ there)
 
-output_there : (key : ℕ) (t : Tenant) (ts : List Tenant) → tenant_of key ts ≡ Some t → output_of key ts ≡ t.end.output
+output_there : (key : ℕ) (t : BrokerSession) (ts : List BrokerSession) → tenant_of key ts ≡ Some t → output_of key ts ≡ t.end.output
 output_there key t [] there = absurd cc
 output_there key t (s ∷ ts) there = go (eqb s.key key) refl (output_there key t ts)
   where
     go : (b : Bool) → eqb s.key key ≡ b → (tenant_of key ts ≡ Some t → output_of key ts ≡ t.end.output) → output_of key (s ∷ ts) ≡ t.end.output
     go true e rest =
         cond-true (eqb s.key key) s.end.output (output_of key ts) e
-        ∙ ap (λ (x : Tenant). x.end.output) (some_same (sym (cond-true (eqb s.key key) (Some s) (tenant_of key ts) e) ∙ there))
+        ∙ ap (λ (x : BrokerSession). x.end.output) (some_same (sym (cond-true (eqb s.key key) (Some s) (tenant_of key ts) e) ∙ there))
     go false e rest = cond-false (eqb s.key key) s.end.output (output_of key ts) e ∙ rest (sym (cond-false (eqb s.key key) (Some s) (tenant_of key ts) e) ∙ there)
 
-ended : (key : ℕ) (e : EndState) (ss : List Tenant) → with_end key e.end (sessions_of ss) ≡ sessions_of (with_server key e ss)
+ended : (key : ℕ) (e : EndState) (ss : List BrokerSession) → with_end key e.end (sessions_of ss) ≡ sessions_of (with_server key e ss)
 ended key e [] = refl
 ended key e (s ∷ ss) = ap₂ (λ (x : HubSession) (xs : List HubSession). x ∷ xs) (one (eqb s.key key)) (ended key e ss)
   where
@@ -195,18 +195,18 @@ ended key e (s ∷ ss) = ap₂ (λ (x : HubSession) (xs : List HubSession). x �
 
 -- ---- the broker
 
-module _ (config : HubConfig) (next key : ℕ) (s : Tenant) (e : EndState) (t : HubTables) (there : tenant_of key t.sessions.tenants ≡ Some s) (kept : HubKeeps config next t)
-    (k : Conn) (on : up_on key t.lines.lines ≡ Some k) where
+module _ (config : HubConfig) (next key : ℕ) (s : BrokerSession) (e : EndState) (t : HubTables) (there : tenant_of key t.sessions.tenants ≡ Some s) (kept : HubInvariant config next t)
+    (k : Conn) (on : up_on key t.connections.connections ≡ Some k) where
   abbrev pub after : HubTables
   after = with_tenants (with_server key e t.sessions.tenants) t
 
-  pub kept_replied : (r : Reply) → Replies r s.end e → Stays s.end.end r.end → HubKeeps config next after
+  pub kept_replied : (r : Reply) → Replies r s.end e → Stays s.end.end r.end → HubInvariant config next after
   kept_replied r replies stays =
       let ts = t.sessions.tenants in
-      let xs = t.lines.lines in
-      let seat = all_there (IsSeated config xs) key s ts kept.seated there in
+      let xs = t.connections.connections in
+      let seat = all_there (SessionMatchesConnection config xs) key s ts kept.seated there in
       let is : e.end ≡ r.end = replies.end in
-      let here : IsSeated config xs (record s { end = e }) = record {
+      let here : SessionMatchesConnection config xs (record s { end = e }) = record {
         capacity = replies.capacity ∙ seat.capacity;
         limit = replies.limit ∙ seat.limit;
         window = ap (λ (x : End). x.window) is ∙ stays.window ∙ seat.window;
@@ -230,34 +230,34 @@ module _ (config : HubConfig) (next key : ℕ) (s : Tenant) (e : EndState) (t : 
       }
 
   module _ (clock : ℕ) (move : End → Reply) (replies : Replies (move s.end.end) s.end e) where
-    lines_replied : with_line (put_line move s.end.end) k (all_seen t.sessions.tenants t.lines.lines) ≡ all_seen (with_server key e t.sessions.tenants) t.lines.lines
+    lines_replied : with_connection (put_line move s.end.end) k (all_seen t.sessions.tenants t.connections.connections) ≡ all_seen (with_server key e t.sessions.tenants) t.connections.connections
     lines_replied =
         let ts = t.sessions.tenants in
-        let xs = t.lines.lines in
+        let xs = t.connections.connections in
         let at = is_up_for key (stage_of k xs) (on_at k key xs kept.apart on).1 in
         let stands : Stands ts key = ap is_some there in
-        let waits : output_of key (with_server key e ts) ≡ output_of key ts ++ spellings (move s.end.end).out =
-        output_here key e ts stands ∙ replies.output ∙ ap (λ (b : List ℕ). b ++ spellings (move s.end.end).out) (sym (output_there key s ts there)) in
-        let here : (x : Line) → x.stage ≡ UpFor key at.terms at.moment → seen (with_server key e ts) x ≡ put_line move s.end.end (seen ts x) =
+        let waits : output_of key (with_server key e ts) ≡ output_of key ts ++ encodings (move s.end.end).out =
+        output_here key e ts stands ∙ replies.output ∙ ap (λ (b : List ℕ). b ++ encodings (move s.end.end).out) (sym (output_there key s ts there)) in
+        let here : (x : HubConnection) → x.stage ≡ ConnectedAs key at.terms at.last_activity → seen (with_server key e ts) x ≡ put_line move s.end.end (seen ts x) =
         λ x stage. ap (λ (b : List ℕ). record x { waiting = b })
-        (ap (λ (c : Stage). waiting_by c (with_server key e ts) x.waiting) stage ∙ waits
-        ∙ ap (λ (c : Stage). waiting_by c ts x.waiting ++ spellings (move s.end.end).out) (sym stage)) in
-        sym (seen_changed key ts (with_server key e ts) (seen_served key e ts) k at.terms at.moment (λ x. x) (put_line move s.end.end) here xs kept.apart at.is)
+        (ap (λ (c : ConnectionState). waiting_by c (with_server key e ts) x.waiting) stage ∙ waits
+        ∙ ap (λ (c : ConnectionState). waiting_by c ts x.waiting ++ encodings (move s.end.end).out) (sym stage)) in
+        sym (seen_changed key ts (with_server key e ts) (seen_served key e ts) k at.terms at.last_activity (λ x. x) (put_line move s.end.end) here xs kept.apart at.is)
         ∙ ap (all_seen (with_server key e ts)) (still_lines k xs)
 
     hub_replied : served move key k (hub_of config clock next t) ≡ hub_of config clock next after
     hub_replied =
         let ts = t.sessions.tenants in
-        let xs = t.lines.lines in
-        ap (λ (x : End). record (hub_of config clock next t) { sessions = with_end key (move x).end (sessions_of ts); lines = with_line (put_line move x) k (all_seen ts xs) })
+        let xs = t.connections.connections in
+        ap (λ (x : End). record (hub_of config clock next t) { sessions = with_end key (move x).end (sessions_of ts); connections = with_connection (put_line move x) k (all_seen ts xs) })
         (end_there key s ts there)
-        ∙ ap₂ (λ (ss : List HubSession) (ls : List Line). record (hub_of config clock next t) { sessions = ss; lines = ls })
+        ∙ ap₂ (λ (ss : List HubSession) (ls : List HubConnection). record (hub_of config clock next t) { sessions = ss; connections = ls })
         (ap (λ (x : End). with_end key x (sessions_of ts)) (sym replies.end) ∙ ended key e ts) lines_replied
 
-    pub replied_goes : (said : List Act) → GoesBy (does key move) (hub_of config clock next t) said (hub_of config clock next after) said
+    pub replied_goes : (said : List Act) → Refines (does key move) (hub_of config clock next t) said (hub_of config clock next after) said
     replied_goes said =
-        let there_on : (w : Work) → w.hub ≡ hub_of config clock next t → up_on key w.hub.lines ≡ Some k =
-        λ w at. ap (λ (h : HubState). up_on key h.lines) at ∙ up_seen key t.sessions.tenants t.lines.lines ∙ on in record {
+        let there_on : (w : Work) → w.hub ≡ hub_of config clock next t → up_on key w.hub.connections ≡ Some k =
+        λ w at. ap (λ (h : HubState). up_on key h.connections) at ∙ up_seen key t.sessions.tenants t.connections.connections ∙ on in record {
           hub = λ w at did. does_hub move key k w (there_on w at) ∙ ap (served move key k) at ∙ hub_replied;
           did = λ w at did. does_did move key k w (there_on w at) ∙ did;
         }

@@ -3,15 +3,15 @@ use Rattle.std.proofs.Common.{◌≡◌, ℕ, ◌<◌, Bool, true, false, cond, 
 use Rattle.std.specs.List.{AllByRecursion}
 use Rattle.std.specs.Option.{is_some}
 use Rattle.mq_topic.specs.Rows.{Row}
-use Rattle.mq_end.specs.declared.state.State.TheVariants.{Closed, Up}
+use Rattle.mq_end.specs.declared.state.State.TheVariants.{Disconnected, Connected}
 use Rattle.mq_route.specs.declared.config.HubConfig.{HubConfig}
-use Rattle.mq_route.specs.declared.stage.Stage.{Stage}
-use Rattle.mq_route.specs.declared.stage.Stage.TheVariants.{Fresh, UpFor, Shut}
-use Rattle.mq_route.specs.Hub.{Line, is_clean, up_on}
-use Rattle.mq_hub.specs.declared.session.Tenant.{Tenant}
+use Rattle.mq_route.specs.declared.connection_state.ConnectionState.{ConnectionState}
+use Rattle.mq_route.specs.declared.connection_state.ConnectionState.TheVariants.{AwaitingConnect, ConnectedAs, Closed}
+use Rattle.mq_route.specs.Hub.{HubConnection, is_clean, up_on}
+use Rattle.mq_hub.specs.declared.sessions.session.BrokerSession.{BrokerSession}
 use Rattle.mq_hub.specs.Answers.{AreAlike}
-use Rattle.mq_hub.specs.Keeps.{HubKeeps, IsHoused, IsSeated, Stands, stage_for}
-use Rattle.mq_hub.specs.Lines.{LineTable}
+use Rattle.mq_hub.specs.Keeps.{HubInvariant, ConnectionHasSession, SessionMatchesConnection, Stands, stage_for}
+use Rattle.mq_hub.specs.Connections.{LineTable}
 use Rattle.mq_hub.specs.Retained.{RetainedTable}
 use Rattle.mq_hub.specs.Placing.{AreSameButRoom, roomless}
 use Rattle.mq_hub.specs.Seen.{HubTables, all_seen, hub_of, output_of, waiting_by}
@@ -21,22 +21,22 @@ use Rattle.mq_hub.proofs.Readiness.{same_sessions}
 
 -- ---- other room
 
-first : (n o : Tenant) (new old : List Tenant) → roomless n ∷ map roomless new ≡ roomless o ∷ map roomless old → roomless n ≡ roomless o
+first : (n o : BrokerSession) (new old : List BrokerSession) → roomless n ∷ map roomless new ≡ roomless o ∷ map roomless old → roomless n ≡ roomless o
 first n o new old e = cc
 
-later : (n o : Tenant) (new old : List Tenant) → roomless n ∷ map roomless new ≡ roomless o ∷ map roomless old → map roomless new ≡ map roomless old
+later : (n o : BrokerSession) (new old : List BrokerSession) → roomless n ∷ map roomless new ≡ roomless o ∷ map roomless old → map roomless new ≡ map roomless old
 later n o new old e = cc
 
-alike_all : (P : Tenant → Type 0) → ((o n : Tenant) → roomless n ≡ roomless o → P o → P n) → (old new : List Tenant) → AreSameButRoom old new → AllByRecursion P old → AllByRecursion P new
+alike_all : (P : BrokerSession → Type 0) → ((o n : BrokerSession) → roomless n ≡ roomless o → P o → P n) → (old new : List BrokerSession) → AreSameButRoom old new → AllByRecursion P old → AllByRecursion P new
 alike_all P one [] [] same all = tt
 alike_all P one [] (n ∷ new) same all = absurd cc
 alike_all P one (o ∷ old) [] same all = absurd cc
 alike_all P one (o ∷ old) (n ∷ new) same all = (one o n (first n o new old same) all.0, alike_all P one old new (later n o new old same) all.1)
 
-alike_key : (n o : Tenant) → roomless n ≡ roomless o → n.key ≡ o.key
-alike_key n o e = ap (λ (x : Tenant). x.key) e
+alike_key : (n o : BrokerSession) → roomless n ≡ roomless o → n.key ≡ o.key
+alike_key n o e = ap (λ (x : BrokerSession). x.key) e
 
-alike_ascending : (old new : List Tenant) → AreSameButRoom old new → AreAscending old → AreAscending new
+alike_ascending : (old new : List BrokerSession) → AreSameButRoom old new → AreAscending old → AreAscending new
 alike_ascending [] [] same up = tt
 alike_ascending [] (n ∷ new) same up = absurd cc
 alike_ascending (o ∷ old) [] same up = absurd cc
@@ -48,7 +48,7 @@ alike_ascending (o ∷ old) (n ∷ new) same up =
       alike_ascending old new rest up.1,
     )
 
-alike_found : (c : ℕ) (old new : List Tenant) → AreSameButRoom old new → is_some (tenant_of c new) ≡ is_some (tenant_of c old)
+alike_found : (c : ℕ) (old new : List BrokerSession) → AreSameButRoom old new → is_some (tenant_of c new) ≡ is_some (tenant_of c old)
 alike_found c [] [] same = refl
 alike_found c [] (n ∷ new) same = absurd cc
 alike_found c (o ∷ old) [] same = absurd cc
@@ -61,7 +61,7 @@ alike_found c (o ∷ old) (n ∷ new) same =
     go true false e rest = absurd cc
     go false true e rest = absurd cc
 
-alike_output : (c : ℕ) (old new : List Tenant) → AreSameButRoom old new → output_of c new ≡ output_of c old
+alike_output : (c : ℕ) (old new : List BrokerSession) → AreSameButRoom old new → output_of c new ≡ output_of c old
 alike_output c [] [] same = refl
 alike_output c [] (n ∷ new) same = absurd cc
 alike_output c (o ∷ old) [] same = absurd cc
@@ -70,55 +70,55 @@ alike_output c (o ∷ old) (n ∷ new) same =
     let rest = alike_output c old new (later n o new old same) in
     λ i. cond (eqb (here i).key c) (here i).end.output (rest i)
 
-pub alike_seen : (old new : List Tenant) → AreSameButRoom old new → (xs : List Line) → all_seen new xs ≡ all_seen old xs
+pub alike_seen : (old new : List BrokerSession) → AreSameButRoom old new → (xs : List HubConnection) → all_seen new xs ≡ all_seen old xs
 alike_seen old new same [] = refl
 alike_seen old new same (x ∷ xs) =
-    ap₂ (λ (b : List ℕ) (ls : List Line). record x { waiting = b } ∷ ls) (of x.stage) (alike_seen old new same xs)
+    ap₂ (λ (b : List ℕ) (ls : List HubConnection). record x { waiting = b } ∷ ls) (of x.stage) (alike_seen old new same xs)
   where
-    of : (s : Stage) → waiting_by s new x.waiting ≡ waiting_by s old x.waiting
-    of Fresh = refl
-    of (UpFor c terms moment) = alike_output c old new same
-    of Shut = refl
+    of : (s : ConnectionState) → waiting_by s new x.waiting ≡ waiting_by s old x.waiting
+    of AwaitingConnect = refl
+    of (ConnectedAs c terms last_activity) = alike_output c old new same
+    of Closed = refl
 
-alike_seat : (config : HubConfig) (xs : List Line) (o n : Tenant) → roomless n ≡ roomless o → IsSeated config xs o → IsSeated config xs n
+alike_seat : (config : HubConfig) (xs : List HubConnection) (o n : BrokerSession) → roomless n ≡ roomless o → SessionMatchesConnection config xs o → SessionMatchesConnection config xs n
 alike_seat config xs o n e seat = record {
-  capacity = ap (λ (x : Tenant). x.end.capacity) e ∙ seat.capacity;
-  limit = ap (λ (x : Tenant). x.end.limit) e ∙ seat.limit;
-  window = ap (λ (x : Tenant). x.end.end.window) e ∙ seat.window;
-  known = ap (λ (x : Tenant). x.end.end.known) e ∙ seat.known;
-  state = ap (λ (x : Tenant). x.end.end.state) e ∙ seat.state ∙ ap (λ (k : ℕ). cond (is_some (up_on k xs)) Up Closed) (sym (alike_key n o e));
-  clean = ap (λ (x : Tenant). x.end.end.clean) e ∙ seat.clean ∙ ap (λ (x : Tenant). is_clean (stage_for x.key xs)) (sym e);
-  away = λ none. ap (λ (x : Tenant). x.end.output) e ∙ seat.away (ap (λ (k : ℕ). up_on k xs) (sym (alike_key n o e)) ∙ none);
+  capacity = ap (λ (x : BrokerSession). x.end.capacity) e ∙ seat.capacity;
+  limit = ap (λ (x : BrokerSession). x.end.limit) e ∙ seat.limit;
+  window = ap (λ (x : BrokerSession). x.end.end.window) e ∙ seat.window;
+  known = ap (λ (x : BrokerSession). x.end.end.known) e ∙ seat.known;
+  state = ap (λ (x : BrokerSession). x.end.end.state) e ∙ seat.state ∙ ap (λ (k : ℕ). cond (is_some (up_on k xs)) Connected Disconnected) (sym (alike_key n o e));
+  clean = ap (λ (x : BrokerSession). x.end.end.clean) e ∙ seat.clean ∙ ap (λ (x : BrokerSession). is_clean (stage_for x.key xs)) (sym e);
+  away = λ none. ap (λ (x : BrokerSession). x.end.output) e ∙ seat.away (ap (λ (k : ℕ). up_on k xs) (sym (alike_key n o e)) ∙ none);
 }
 
-alike_housed : (most : ℕ) (old new : List Tenant) → AreSameButRoom old new → (xs : List Line) → AllByRecursion (λ x. IsHoused most old x.stage) xs → AllByRecursion (λ x. IsHoused most new x.stage) xs
+alike_housed : (most : ℕ) (old new : List BrokerSession) → AreSameButRoom old new → (xs : List HubConnection) → AllByRecursion (λ x. ConnectionHasSession most old x.stage) xs → AllByRecursion (λ x. ConnectionHasSession most new x.stage) xs
 alike_housed most old new same [] all = tt
 alike_housed most old new same (x ∷ xs) all = (of x.stage all.0, alike_housed most old new same xs all.1)
   where
-    of : (s : Stage) → IsHoused most old s → IsHoused most new s
-    of Fresh housed = tt
-    of (UpFor c terms moment) housed = (alike_found c old new same ∙ housed.0, housed.1)
-    of Shut housed = tt
+    of : (s : ConnectionState) → ConnectionHasSession most old s → ConnectionHasSession most new s
+    of AwaitingConnect housed = tt
+    of (ConnectedAs c terms last_activity) housed = (alike_found c old new same ∙ housed.0, housed.1)
+    of Closed housed = tt
 
-pub alike_owned : (old new : List Tenant) → AreSameButRoom old new → (rs : List Row) → AllByRecursion (λ r. Stands old r.0.0) rs → AllByRecursion (λ r. Stands new r.0.0) rs
+pub alike_owned : (old new : List BrokerSession) → AreSameButRoom old new → (rs : List Row) → AllByRecursion (λ r. Stands old r.0.0) rs → AllByRecursion (λ r. Stands new r.0.0) rs
 alike_owned old new same [] all = tt
 alike_owned old new same (r ∷ rs) all = (alike_found r.0.0 old new same ∙ all.0, alike_owned old new same rs all.1)
 
 -- ---- the broker with other room, and with other rows
 
-module _ (config : HubConfig) (next : ℕ) (t : HubTables) (kept : HubKeeps config next t) where
-  pub kept_ready : (ts : List Tenant) → AreSameButRoom t.sessions.tenants ts → (rows : List Row) → AllByRecursion (λ r. Stands t.sessions.tenants r.0.0) rows
-      → HubKeeps config next (record t { rows = rows; sessions = record t.sessions { tenants = ts } })
+module _ (config : HubConfig) (next : ℕ) (t : HubTables) (kept : HubInvariant config next t) where
+  pub kept_ready : (ts : List BrokerSession) → AreSameButRoom t.sessions.tenants ts → (rows : List Row) → AllByRecursion (λ r. Stands t.sessions.tenants r.0.0) rows
+      → HubInvariant config next (record t { rows = rows; sessions = record t.sessions { tenants = ts } })
   kept_ready ts same rows owned =
       let old = t.sessions.tenants in
-      let xs = t.lines.lines in record {
+      let xs = t.connections.connections in record {
         capacity = kept.capacity;
         window = kept.window;
         limits = kept.limits;
         apart = kept.apart;
         quiet = kept.quiet;
         housed = alike_housed config.limits.most old ts same xs kept.housed;
-        seated = alike_all (IsSeated config xs) (alike_seat config xs) old ts same kept.seated;
+        seated = alike_all (SessionMatchesConnection config xs) (alike_seat config xs) old ts same kept.seated;
         ascending = alike_ascending old ts same kept.ascending;
         below = alike_all (λ s. s.key < next) (λ a b e l. subst (λ (k : ℕ). k < next) (sym (alike_key b a e)) l) old ts same kept.below;
         next = kept.next;
@@ -126,17 +126,17 @@ module _ (config : HubConfig) (next : ℕ) (t : HubTables) (kept : HubKeeps conf
         retained = kept.retained;
       }
 
-  pub kept_alike : (u : HubTables) → AreAlike t u → HubKeeps config next u
+  pub kept_alike : (u : HubTables) → AreAlike t u → HubInvariant config next u
   kept_alike u a =
       let v : HubTables = record t { rows = t.rows; sessions = record t.sessions { tenants = u.sessions.tenants } } in
       kept_by config next v u (kept_ready u.sessions.tenants a.sessions t.rows kept.owned) a.rows (ap (λ (r : RetainedTable). r.messages) a.retained) refl
-      (ap (λ (l : LineTable). l.lines) a.lines) (ap (λ (l : LineTable). l.limits) a.lines)
+      (ap (λ (l : LineTable). l.connections) a.connections) (ap (λ (l : LineTable). l.limits) a.connections)
 
   pub hub_alike : (clock : ℕ) (u : HubTables) → AreAlike t u → hub_of config clock next u ≡ hub_of config clock next t
   hub_alike clock u a =
       let sessions = same_sessions t.sessions.tenants u.sessions.tenants a.sessions in
-      let waits : all_seen u.sessions.tenants u.lines.lines ≡ all_seen t.sessions.tenants t.lines.lines =
-      ap (λ (l : LineTable). all_seen u.sessions.tenants l.lines) a.lines ∙ alike_seen t.sessions.tenants u.sessions.tenants a.sessions t.lines.lines in
+      let waits : all_seen u.sessions.tenants u.connections.connections ≡ all_seen t.sessions.tenants t.connections.connections =
+      ap (λ (l : LineTable). all_seen u.sessions.tenants l.connections) a.connections ∙ alike_seen t.sessions.tenants u.sessions.tenants a.sessions t.connections.connections in
       λ i. record {
         config = config;
         clock = clock;
@@ -144,5 +144,5 @@ module _ (config : HubConfig) (next : ℕ) (t : HubTables) (kept : HubKeeps conf
         rows = a.rows i;
         retained = (a.retained i).messages;
         sessions = sessions i;
-        lines = waits i;
+        connections = waits i;
       }

@@ -8,18 +8,18 @@ use Rattle.std.specs.List.Sorted.{IsPermutation}
 use Rattle.std.specs.Map.{keys_of, lookup}
 use Rattle.std.specs.declared.cmp.Reverse.{Reverse}
 use Rattle.mq_route.specs.declared.conn.Conn.{Conn}
-use Rattle.mq_route.specs.declared.stage.Stage.{Stage}
-use Rattle.mq_route.specs.declared.stage.Stage.TheVariants.{Fresh, UpFor, Shut}
-use Rattle.mq_route.specs.Arrives.{heard}
-use Rattle.mq_route.specs.Hub.{Line}
+use Rattle.mq_route.specs.declared.connection_state.ConnectionState.{ConnectionState}
+use Rattle.mq_route.specs.declared.connection_state.ConnectionState.TheVariants.{AwaitingConnect, ConnectedAs, Closed}
+use Rattle.mq_route.specs.Arrives.{touched}
+use Rattle.mq_route.specs.Hub.{HubConnection}
 use Rattle.mq_route.specs.Routed.{same_conn}
 use Rattle.mq_route.specs.Step.{is_late_on}
-use Rattle.mq_hub.specs.declared.alarms.Alarm.{Alarm}
-use Rattle.mq_hub.specs.declared.connection.Connection.{Connection}
+use Rattle.mq_hub.specs.declared.keep_alive.deadlines.Alarm.{Alarm}
+use Rattle.mq_hub.specs.declared.connections.connection.Connection.{Connection}
 use Rattle.mq_hub.specs.Alarms.{AlarmTable, AreAwaited, AreAwaitedBut, IsAwaited, IsQuiet, RingsWith, is_named}
-use Rattle.mq_hub.specs.Lines.{IsTimely, line_of, lines_of}
+use Rattle.mq_hub.specs.Connections.{IsTimely, line_of, lines_of}
 use Rattle.mq_hub.specs.Ticking.{HasLate, HasLateBut, HasLateNamed}
-use Rattle.mq_hub.proofs.Connections.{AreNamed, Entry, itself, one_conn, symm}
+use Rattle.mq_hub.proofs.ConnectionTable.{AreNamed, Entry, itself, one_conn, symm}
 
 -- ---- an alarm more, and one less
 
@@ -39,7 +39,7 @@ module _ (k : Conn) (now : ℕ) where
 -- ---- one connection
 
 -- it is never late
-pub never_late : (a : AlarmTable) (k : Conn) (s t : Stage) → s ≡ t → ((now : ℕ) → is_late_on now t ≡ false) → IsAwaited a k s
+pub never_late : (a : AlarmTable) (k : Conn) (s t : ConnectionState) → s ≡ t → ((now : ℕ) → is_late_on now t ≡ false) → IsAwaited a k s
 never_late a k s t same never = λ now quiet. ap (is_late_on now) same ∙ never now
 
 -- it is the same one
@@ -47,24 +47,24 @@ pub same_awaited : (a : AlarmTable) (c w : Connection) → w.conn ≡ c.conn →
 same_awaited a c w conn stage awaited = λ now quiet. ap (is_late_on now) stage ∙ awaited now (subst (λ (k : Conn). IsQuiet a k now) conn quiet)
 
 -- the table rings with what rang for it
-pub still_awaited : (a b : AlarmTable) (k : Conn) (s : Stage) → RingsWith a b → IsAwaited a k s → IsAwaited b k s
+pub still_awaited : (a b : AlarmTable) (k : Conn) (s : ConnectionState) → RingsWith a b → IsAwaited a k s → IsAwaited b k s
 still_awaited a b k s rings awaited = λ now quiet. awaited now (rings k now quiet)
 
 -- its alarm is set
-pub alarm_awaited : (a : AlarmTable) (k : Conn) (until : ℕ) (s : Stage) → ((now : ℕ) → IsQuiet a k now → now ≤ until) → IsTimely until s → IsAwaited a k s
+pub alarm_awaited : (a : AlarmTable) (k : Conn) (until : ℕ) (s : ConnectionState) → ((now : ℕ) → IsQuiet a k now → now ≤ until) → IsTimely until s → IsAwaited a k s
 alarm_awaited a k until s rings timely = λ now quiet. timely now (rings now quiet)
 
 -- it is heard no sooner than before
-pub heard_awaited : (a : AlarmTable) (c w : Connection) (now : ℕ) → w.conn ≡ c.conn → w.stage ≡ heard now c.stage
-    → ((n : ℕ) → is_late_on n c.stage ≡ false → is_late_on n (heard now c.stage) ≡ false) → IsAwaited a c.conn c.stage → IsAwaited a w.conn w.stage
+pub heard_awaited : (a : AlarmTable) (c w : Connection) (now : ℕ) → w.conn ≡ c.conn → w.stage ≡ touched now c.stage
+    → ((n : ℕ) → is_late_on n c.stage ≡ false → is_late_on n (touched now c.stage) ≡ false) → IsAwaited a c.conn c.stage → IsAwaited a w.conn w.stage
 heard_awaited a c w now conn stage later awaited = λ n quiet.
     ap (is_late_on n) stage ∙ later n (awaited n (subst (λ (k : Conn). IsQuiet a k n) conn quiet))
 
 -- at the beginning of time none is late
-early : (s : Stage) (now : ℕ) → now ≤ 0 → is_late_on now s ≡ false
-early Fresh now le = refl
-early Shut now le = refl
-early (UpFor key terms moment) now le = go (ltb 0 terms.keep_alive) (le-ltb (moment + 1500 * terms.keep_alive) now (omega (arith, le)))
+early : (s : ConnectionState) (now : ℕ) → now ≤ 0 → is_late_on now s ≡ false
+early AwaitingConnect now le = refl
+early Closed now le = refl
+early (ConnectedAs key terms last_activity) now le = go (ltb 0 terms.keep_alive) (le-ltb (last_activity + 1500 * terms.keep_alive) now (omega (arith, le)))
   where
     go : (b : Bool) {c : Bool} → c ≡ false → (b && c) ≡ false
     go true e = e
@@ -173,13 +173,13 @@ found_name k (e ∷ es) c named there = go (same_conn k e.0) refl (found_name k 
     go false apart rest = rest (sym (cond-false (same_conn k e.0) (Some e.1) (lookup (same_conn k) es) apart) ∙ there)
 
 -- the entry at a place, by its line
-record IsAt (es : List Entry) (i : ℕ) (x : Line) : Type 0 where
+record IsAt (es : List Entry) (i : ℕ) (x : HubConnection) : Type 0 where
   pub entry : Entry
   pub there : slice_get es i ≡ Some entry
   pub line : line_of entry.1 ≡ x
   pub name : entry.0 ≡ entry.1.conn
 
-entry_at : (es : List Entry) (i : ℕ) (x : Line) → AreNamed es → slice_get (lines_of es) i ≡ Some x → IsAt es i x
+entry_at : (es : List Entry) (i : ℕ) (x : HubConnection) → AreNamed es → slice_get (lines_of es) i ≡ Some x → IsAt es i x
 entry_at [] i x named at = absurd cc
 entry_at (e ∷ es) zero x named at = record { entry = e; there = refl; line = cc; name = named.0 }
 entry_at (e ∷ es) (suc i) x named at = let r = entry_at es i x named.1 at in record { entry = r.entry; there = r.there; line = r.line; name = r.name }
@@ -214,7 +214,7 @@ module _ (now : ℕ) (es : List Entry) (k : Conn) (names : List Conn) (places af
   late_none named apart all = λ i x at late none.
       let r = entry_at es i x named at in
       more i (all i x at late (named_last x.conn k names none
-      (symm x.conn k ∙ ap (same_conn k) (ap (λ (l : Line). l.conn) (sym r.line) ∙ sym r.name) ∙ apart_at k es i r.entry apart r.there)))
+      (symm x.conn k ∙ ap (same_conn k) (ap (λ (l : HubConnection). l.conn) (sym r.line) ∙ sym r.name) ∙ apart_at k es i r.entry apart r.there)))
 
   -- the one of the name has its place there, where it may be late
   module _ (c : Connection) (key : Conn) (place until : ℕ) (timely : IsTimely until c.stage) (pushed : until < now → Contains after place) where
@@ -222,17 +222,17 @@ module _ (now : ℕ) (es : List Entry) (k : Conn) (names : List Conn) (places af
         → HasLateBut now (lines_of es) (names ++ k ∷ []) places → HasLateBut now (lines_of es) names after
     late_one named distinct there at all = λ i x here late none. go i x here late none (same_conn x.conn k) refl
       where
-        go : (i : ℕ) (x : Line) → slice_get (lines_of es) i ≡ Some x → is_late_on now x.stage ≡ true → is_named x.conn names ≡ false
+        go : (i : ℕ) (x : HubConnection) → slice_get (lines_of es) i ≡ Some x → is_late_on now x.stage ≡ true → is_named x.conn names ≡ false
             → (t : Bool) → same_conn x.conn k ≡ t → Contains after i
         go i x here late none false apart = more i (all i x here late (named_last x.conn k names none apart))
         go i x here late none true same =
             let r = entry_at es i x named here in
             let name : r.entry.0 ≡ key =
-            r.name ∙ ap (λ (l : Line). l.conn) r.line ∙ one_conn x.conn k same ∙ found_name k es c named there ∙ sym (name_at es place (key, c) named at) in
+            r.name ∙ ap (λ (l : HubConnection). l.conn) r.line ∙ one_conn x.conn k same ∙ found_name k es c named there ∙ sym (name_at es place (key, c) named at) in
             let is : i ≡ place = one_place es i place r.entry (key, c) distinct r.there at name in
             let own : Some r.entry ≡ Some (key, c) = sym r.there ∙ ap (slice_get es) is ∙ at in
             let entry : r.entry ≡ (key, c) = cc in
-            let stage : x.stage ≡ c.stage = ap (λ (l : Line). l.stage) (sym r.line) ∙ ap (λ (e : Entry). e.1.stage) entry in
+            let stage : x.stage ≡ c.stage = ap (λ (l : HubConnection). l.stage) (sym r.line) ∙ ap (λ (e : Entry). e.1.stage) entry in
             subst (Contains after) (sym is) (pushed (over (ltb until now) refl (sym (ap (is_late_on now) stage) ∙ late)))
           where
             over : (b : Bool) → ltb until now ≡ b → is_late_on now c.stage ≡ true → until < now
@@ -240,11 +240,11 @@ module _ (now : ℕ) (es : List Entry) (k : Conn) (names : List Conn) (places af
             over false e late = absurd (true≢false (sym late ∙ timely now (ltb-false until now e)))
 
 -- no name is left
-pub late_all : (now : ℕ) (xs : List Line) (places : List ℕ) → HasLateBut now xs [] places → HasLate now xs places
+pub late_all : (now : ℕ) (xs : List HubConnection) (places : List ℕ) → HasLateBut now xs [] places → HasLate now xs places
 late_all now xs places all = λ i x at late. all i x at late refl
 
 -- at first all late ones are named
-pub late_named : (now : ℕ) (xs : List Line) (names : List Conn) (places : List ℕ) → HasLateNamed now xs names → HasLateBut now xs names places
+pub late_named : (now : ℕ) (xs : List HubConnection) (names : List Conn) (places : List ℕ) → HasLateNamed now xs names → HasLateBut now xs names places
 late_named now xs names places named = λ i x at late none. absurd (true≢false (sym (named i x at late) ∙ none))
 
 -- those are named whose alarms rang
@@ -258,10 +258,10 @@ late_rang now a b names es named all quiet others = λ i x at late.
     awaited_at (d ∷ ds) zero e every there = let is : d ≡ e = cc in subst (λ (y : Entry). IsAwaited a y.1.conn y.1.stage) is every.0
     awaited_at (d ∷ ds) (suc i) e every there = awaited_at ds i e every.1 there
 
-    go : (i : ℕ) (x : Line) → is_late_on now x.stage ≡ true → IsAt es i x → (t : Bool) → is_named x.conn names ≡ t → is_named x.conn names ≡ true
+    go : (i : ℕ) (x : HubConnection) → is_late_on now x.stage ≡ true → IsAt es i x → (t : Bool) → is_named x.conn names ≡ t → is_named x.conn names ≡ true
     go i x late r true e = e
     go i x late r false e =
         let k = r.entry.1.conn in
-        let none : is_named k names ≡ false = ap (λ (l : Line). is_named l.conn names) r.line ∙ e in
-        absurd (true≢false (sym late ∙ ap (λ (l : Line). is_late_on now l.stage) (sym r.line)
+        let none : is_named k names ≡ false = ap (λ (l : HubConnection). is_named l.conn names) r.line ∙ e in
+        absurd (true≢false (sym late ∙ ap (λ (l : HubConnection). is_late_on now l.stage) (sym r.line)
         ∙ awaited_at es i r.entry all r.there now (others k now none (quiet k))))

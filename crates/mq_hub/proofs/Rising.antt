@@ -7,12 +7,12 @@ use Rattle.mq_packet.specs.declared.connack.ConnAck.TheVariants as connacks
 use Rattle.mq_packet.specs.declared.connack.RefusalCode.TheVariants.{IdentifierRejected}
 use Rattle.mq_packet.specs.declared.connect.Connect.{Connect}
 use Rattle.mq_packet.specs.declared.packet.Packet.TheVariants as packets
-use Rattle.mq_packet.specs.Spelling.{SpellingLaws, spellings}
+use Rattle.mq_packet.specs.Encoding.{EncodingLaws, encodings}
 use Rattle.mq_end.specs.declared.happening.Happening.{Happening}
 use Rattle.mq_end.specs.declared.happening.Happening.TheVariants as happens
-use Rattle.mq_end.specs.declared.outcome.Outcome.{Outcome}
+use Rattle.mq_end.specs.declared.packet_outcome.PacketOutcome.{PacketOutcome}
 use Rattle.mq_end.specs.declared.reason.CloseReason.{CloseReason}
-use Rattle.mq_end.specs.declared.state.State.TheVariants.{Closed, Up}
+use Rattle.mq_end.specs.declared.state.State.TheVariants.{Disconnected, Connected}
 use Rattle.mq_end.specs.End.{End, Reply, comes_up, renewed}
 use Rattle.mq_end.specs.Receiving.{TakesPacket, held_after, heard_one}
 use Rattle.mq_end.specs.Server.{opens, refuses, server_gets}
@@ -21,25 +21,25 @@ use Rattle.mq_route.specs.declared.act.Act.{Act}
 use Rattle.mq_route.specs.declared.act.Act.TheVariants as acts
 use Rattle.mq_route.specs.declared.config.HubConfig.{HubConfig}
 use Rattle.mq_route.specs.declared.conn.Conn.{Conn}
-use Rattle.mq_route.specs.declared.stage.Stage.{Stage}
-use Rattle.mq_route.specs.declared.stage.Stage.TheVariants.{Fresh, UpFor, Shut}
-use Rattle.mq_route.specs.Arrives.{answers, answers_all, greet, greeting, terms_of}
-use Rattle.mq_route.specs.Hub.{HubState, HubSession, Line, changed, end_of, is_clean, is_for, is_line, knows, stage_of, up_on, with_end, with_line}
+use Rattle.mq_route.specs.declared.connection_state.ConnectionState.{ConnectionState}
+use Rattle.mq_route.specs.declared.connection_state.ConnectionState.TheVariants.{AwaitingConnect, ConnectedAs, Closed}
+use Rattle.mq_route.specs.Arrives.{answers, answers_all, resume_session, greeting, terms_of}
+use Rattle.mq_route.specs.Hub.{HubState, HubSession, HubConnection, changed, end_of, is_clean, is_for, is_connection, knows, stage_of, up_on, with_end, with_connection}
 use Rattle.mq_route.specs.Routed.{same_conn}
 use Rattle.mq_route.specs.Work.{Work, does, put_on, put_where, said, staged, with_sessions}
-use Rattle.mq_hub.specs.declared.session.Tenant.{Tenant}
-use Rattle.mq_hub.specs.Does.{GoesBy}
-use Rattle.mq_hub.specs.Keeps.{AreApart, HubKeeps, IsHoused, IsQuiet, IsSeated, IsWillWithin, stage_for}
+use Rattle.mq_hub.specs.declared.sessions.session.BrokerSession.{BrokerSession}
+use Rattle.mq_hub.specs.Does.{Refines}
+use Rattle.mq_hub.specs.Keeps.{AreApart, HubInvariant, ConnectionHasSession, IsQuiet, SessionMatchesConnection, IsWillWithin, stage_for}
 use Rattle.mq_hub.specs.Rising.{has_session, risen, roomed, IsGreeted, IsRoomed}
 use Rattle.mq_hub.specs.Seen.{HubTables, all_seen, hub_of, seen, waiting_by}
 use Rattle.mq_hub.specs.Sessions.{session_of, sessions_of, tenant_of, with_server}
 use Rattle.mq_hub.proofs.Changing.{output_here, rest_unknown, seen_others, seen_served, stage_seen, up_seen}
 use Rattle.mq_hub.proofs.Collecting.{served_twice}
-use Rattle.mq_hub.proofs.Connections.{one_conn, unknown}
+use Rattle.mq_hub.proofs.ConnectionTable.{one_conn, unknown}
 use Rattle.mq_hub.proofs.Fronting.{goes_as}
 use Rattle.mq_hub.proofs.Going.{goes_then, goes_to}
 use Rattle.mq_hub.proofs.Keeping.{apart_same, kept_by}
-use Rattle.mq_hub.proofs.Publishing.{spelled}
+use Rattle.mq_hub.proofs.Publishing.{encoded}
 use Rattle.mq_hub.proofs.Refusing.{changed_twice, grown, seen_fresh}
 use Rattle.mq_hub.proofs.Serving.{all_housed_as, all_owned_as, all_seated_with, below_as, key_is, seat_of, sessions_as}
 use Rattle.mq_hub.proofs.Tenants.{ascending_with}
@@ -62,43 +62,43 @@ accepting c e =
 pub greeting_is : (c : Connect) (e : End) → is_anonymous c ≡ false → greeting c e ≡ accepting c e
 greeting_is c e named = cond-false (is_anonymous c) (refuses IdentifierRejected (opens e).end) (accepting c e) named
 
-heard_now : (o : Option CloseReason) (now moment : ℕ) → moment ≡ now → heard_one o now moment ≡ now
-heard_now None now moment e = refl
-heard_now (Some reason) now moment e = e
+heard_now : (o : Option CloseReason) (now last_activity : ℕ) → last_activity ≡ now → heard_one o now last_activity ≡ now
+heard_now None now last_activity e = refl
+heard_now (Some reason) now last_activity e = e
 
 held_none : (o : Option CloseReason) (held : List ℕ) → held ≡ [] → held_after o held ≡ []
 held_none None held e = e
 held_none (Some reason) held e = refl
 
-pub risen_is : SpellingLaws → (c : Connect) (now : ℕ) (o : Outcome) (s a b : EndState) → a.end ≡ (opens s.end).end → a.output ≡ [] → a.held ≡ [] → a.limit ≡ s.limit → a.capacity ≡ s.capacity
-    → a.moment ≡ now → a.room ≡ s.room → TakesPacket now (packets.Connect c) o a b → b ≡ risen c now s
-risen_is laws c now o s a b end output held limit capacity moment room takes =
+pub risen_is : EncodingLaws → (c : Connect) (now : ℕ) (o : PacketOutcome) (s a b : EndState) → a.end ≡ (opens s.end).end → a.output ≡ [] → a.held ≡ [] → a.limit ≡ s.limit → a.capacity ≡ s.capacity
+    → a.last_activity ≡ now → a.room ≡ s.room → TakesPacket now (packets.Connect c) o a b → b ≡ risen c now s
+risen_is laws c now o s a b end output held limit capacity last_activity room takes =
     let r : Reply = server_gets (packets.Connect c) a.end in
     let same : r ≡ greeting c s.end = ap (server_gets (packets.Connect c)) end in
-    let bytes : b.output ≡ spellings (greeting c s.end).out =
-    takes.out.2 ∙ ap (λ (x : List ℕ). x ++ takes.out.0) output ∙ laws.all r.out takes.out.0 (spelled r.out takes.out.0 takes.out.1) ∙ ap (λ (x : Reply). spellings x.out) same in
+    let bytes : b.output ≡ encodings (greeting c s.end).out =
+    takes.out.2 ∙ ap (λ (x : List ℕ). x ++ takes.out.0) output ∙ laws.all r.out takes.out.0 (encoded r.out takes.out.0 takes.out.1) ∙ ap (λ (x : Reply). encodings x.out) same in
     let none : held_after r.close a.held ≡ [] = held_none r.close a.held held in
-    let heard : heard_one r.close now a.moment ≡ now = heard_now r.close now a.moment moment in
+    let touched : heard_one r.close now a.last_activity ≡ now = heard_now r.close now a.last_activity last_activity in
     takes.state
-    ∙ (λ i. record { end = (same i).end; capacity = capacity i; limit = limit i; held = none i; output = bytes i; moment = heard i; room = room i })
+    ∙ (λ i. record { end = (same i).end; capacity = capacity i; limit = limit i; held = none i; output = bytes i; last_activity = touched i; room = room i })
 
 -- ---- an end that is taken out and put back
 
-pub record IsSwapped (key : ℕ) (taken back : EndState) (ts vs : List Tenant) : Type 0 where
-  pub tenant : Tenant
+pub record IsSwapped (key : ℕ) (taken back : EndState) (ts vs : List BrokerSession) : Type 0 where
+  pub tenant : BrokerSession
   pub there : tenant_of key ts ≡ Some tenant
   pub own : taken ≡ tenant.end
   pub after : vs ≡ with_server key back ts
 
-pub swapped : (key : ℕ) (ts us vs : List Tenant) (blank taken back : EndState) → us ≡ with_server key blank ts → is_some (tenant_of key ts) ≡ true → IfSome (tenant_of key ts) (λ s. taken ≡ s.end)
+pub swapped : (key : ℕ) (ts us vs : List BrokerSession) (blank taken back : EndState) → us ≡ with_server key blank ts → is_some (tenant_of key ts) ≡ true → IfSome (tenant_of key ts) (λ s. taken ≡ s.end)
     → vs ≡ with_server key back us → IsSwapped key taken back ts vs
 swapped key ts us vs blank taken back first stands says second = go (tenant_of key ts) refl stands says
   where
-    go : (o : Option Tenant) → tenant_of key ts ≡ o → is_some o ≡ true → IfSome o (λ s. taken ≡ s.end) → IsSwapped key taken back ts vs
+    go : (o : Option BrokerSession) → tenant_of key ts ≡ o → is_some o ≡ true → IfSome o (λ s. taken ≡ s.end) → IsSwapped key taken back ts vs
     go None e some is = absurd (true≢false (sym some))
     go (Some s) e some is = record { tenant = s; there = e; own = is; after = second ∙ ap (with_server key back) first ∙ served_twice key blank back ts }
 
-pub is_greeted : (c : Connect) (now key : ℕ) (taken back : EndState) (ts vs : List Tenant) → IsSwapped key taken back ts vs → (room : Room) × (back ≡ risen c now (roomed room taken))
+pub is_greeted : (c : Connect) (now key : ℕ) (taken back : EndState) (ts vs : List BrokerSession) → IsSwapped key taken back ts vs → (room : Room) × (back ≡ risen c now (roomed room taken))
     → IsGreeted c now key ts vs
 is_greeted c now key taken back ts vs s p = record {
   tenant = s.tenant;
@@ -107,7 +107,7 @@ is_greeted c now key taken back ts vs s p = record {
   after = s.after ∙ ap (λ (e : EndState). with_server key e ts) (p.1 ∙ ap (λ (e : EndState). risen c now (roomed p.0 e)) s.own);
 }
 
-pub is_roomed : (key : ℕ) (taken back : EndState) (ts vs : List Tenant) → IsSwapped key taken back ts vs → (room : Room) × (back ≡ roomed room taken) → IsRoomed key ts vs
+pub is_roomed : (key : ℕ) (taken back : EndState) (ts vs : List BrokerSession) → IsSwapped key taken back ts vs → (room : Room) × (back ≡ roomed room taken) → IsRoomed key ts vs
 is_roomed key taken back ts vs s p = record {
   tenant = s.tenant;
   there = s.there;
@@ -116,7 +116,7 @@ is_roomed key taken back ts vs s p = record {
 }
 
 -- the session of a key stands
-pub stands_of : (key : ℕ) (ts : List Tenant) → has_session key (sessions_of ts) ≡ true → is_some (tenant_of key ts) ≡ true
+pub stands_of : (key : ℕ) (ts : List BrokerSession) → has_session key (sessions_of ts) ≡ true → is_some (tenant_of key ts) ≡ true
 stands_of key [] e = absurd (true≢false (sym e))
 stands_of key (t ∷ ts) e = go (eqb t.key key) refl (stands_of key ts)
   where
@@ -128,15 +128,15 @@ stands_of key (t ∷ ts) e = go (eqb t.key key) refl (stands_of key ts)
 
 -- ---- an end that has other room
 
-module _ (config : HubConfig) (next key : ℕ) (t u : HubTables) (kept : HubKeeps config next t) (none : up_on key t.lines.lines ≡ None) (is : IsRoomed key t.sessions.tenants u.sessions.tenants)
-    (rows : u.rows ≡ t.rows) (retained : u.retained.messages ≡ t.retained.messages) (lines : u.lines.lines ≡ t.lines.lines) where
-  pub kept_roomed : u.lines.limits ≡ t.lines.limits → HubKeeps config next u
+module _ (config : HubConfig) (next key : ℕ) (t u : HubTables) (kept : HubInvariant config next t) (none : up_on key t.connections.connections ≡ None) (is : IsRoomed key t.sessions.tenants u.sessions.tenants)
+    (rows : u.rows ≡ t.rows) (retained : u.retained.messages ≡ t.retained.messages) (connections : u.connections.connections ≡ t.connections.connections) where
+  pub kept_roomed : u.connections.limits ≡ t.connections.limits → HubInvariant config next u
   kept_roomed limits =
       let ts = t.sessions.tenants in
-      let xs = t.lines.lines in
+      let xs = t.connections.connections in
       let e : EndState = roomed is.room is.tenant.end in
-      let seat = seat_of (IsSeated config xs) key is.tenant ts is.there kept.seated in
-      let here : IsSeated config xs (record is.tenant { end = e }) = record {
+      let seat = seat_of (SessionMatchesConnection config xs) key is.tenant ts is.there kept.seated in
+      let here : SessionMatchesConnection config xs (record is.tenant { end = e }) = record {
         capacity = seat.capacity;
         limit = seat.limit;
         window = seat.window;
@@ -146,7 +146,7 @@ module _ (config : HubConfig) (next key : ℕ) (t u : HubTables) (kept : HubKeep
         away = seat.away;
       } in
       let v : HubTables = record t { sessions = record t.sessions { tenants = with_server key e ts } } in
-      let k : HubKeeps config next v = record {
+      let k : HubInvariant config next v = record {
         capacity = kept.capacity;
         window = kept.window;
         limits = kept.limits;
@@ -160,16 +160,16 @@ module _ (config : HubConfig) (next key : ℕ) (t u : HubTables) (kept : HubKeep
         owned = all_owned_as key e ts t.rows kept.owned;
         retained = kept.retained;
       } in
-      kept_by config next v u k rows retained is.after lines limits
+      kept_by config next v u k rows retained is.after connections limits
 
   pub hub_roomed : (clock : ℕ) → hub_of config clock next u ≡ hub_of config clock next t
   hub_roomed clock =
       let ts = t.sessions.tenants in
-      let xs = t.lines.lines in
+      let xs = t.connections.connections in
       let e : EndState = roomed is.room is.tenant.end in
       let sessions : sessions_of u.sessions.tenants ≡ sessions_of ts = ap sessions_of is.after ∙ sessions_as key e is.tenant ts kept.ascending is.there refl in
-      let waits : all_seen u.sessions.tenants u.lines.lines ≡ all_seen ts xs =
-      (λ i. all_seen (is.after i) (lines i)) ∙ seen_others key ts (with_server key e ts) (seen_served key e ts) xs none in
+      let waits : all_seen u.sessions.tenants u.connections.connections ≡ all_seen ts xs =
+      (λ i. all_seen (is.after i) (connections i)) ∙ seen_others key ts (with_server key e ts) (seen_served key e ts) xs none in
       λ i. record {
         config = config;
         clock = clock;
@@ -177,7 +177,7 @@ module _ (config : HubConfig) (next key : ℕ) (t u : HubTables) (kept : HubKeep
         rows = rows i;
         retained = retained i;
         sessions = sessions i;
-        lines = waits i;
+        connections = waits i;
       }
 
 -- ---- the connections
@@ -186,50 +186,50 @@ some_none : {X : Type 0} {x : X} → Some x ≡ None → ⊥
 some_none e = absurd cc
 
 -- no connection is up for the client: the first isn't, nor is one behind it
-not_first : (key : ℕ) (x : Line) (xs : List Line) → up_on key (x ∷ xs) ≡ None → (is_for key x.stage ≡ false) × (up_on key xs ≡ None)
+not_first : (key : ℕ) (x : HubConnection) (xs : List HubConnection) → up_on key (x ∷ xs) ≡ None → (is_for key x.stage ≡ false) × (up_on key xs ≡ None)
 not_first key x xs none = go (is_for key x.stage) refl
   where
     go : (b : Bool) → is_for key x.stage ≡ b → (is_for key x.stage ≡ false) × (up_on key xs ≡ None)
     go true e = absurd (some_none (sym (cond-true (is_for key x.stage) (Some x.conn) (up_on key xs) e) ∙ none))
     go false e = (e, sym (cond-false (is_for key x.stage) (Some x.conn) (up_on key xs) e) ∙ none)
 
-pub none_for : (key : ℕ) (xs : List Line) → up_on key xs ≡ None → AllByRecursion (λ x. is_for key x.stage ≡ false) xs
+pub none_for : (key : ℕ) (xs : List HubConnection) → up_on key xs ≡ None → AllByRecursion (λ x. is_for key x.stage ≡ false) xs
 none_for key [] none = tt
 none_for key (x ∷ xs) none = let p = not_first key x xs none in (p.0, none_for key xs p.1)
 
-module _ (k : Conn) (key : ℕ) (s : Stage) (for : (c : ℕ) → is_for c s ≡ eqb key c) where
-  abbrev pub up : Line → Line
+module _ (k : Conn) (key : ℕ) (s : ConnectionState) (for : (c : ℕ) → is_for c s ≡ eqb key c) where
+  abbrev pub up : HubConnection → HubConnection
   up x = record x { stage = s }
 
-  up_name : (x : Line) → (changed up k x).conn ≡ x.conn
-  up_name x = cond_both (is_line k x) (up x) x (λ (y : Line). y.conn ≡ x.conn) (λ e. refl) (λ e. refl)
+  up_name : (x : HubConnection) → (changed up k x).conn ≡ x.conn
+  up_name x = cond_both (is_connection k x) (up x) x (λ (y : HubConnection). y.conn ≡ x.conn) (λ e. refl) (λ e. refl)
 
-  known_risen : (n : Conn) (xs : List Line) → knows n (with_line up k xs) ≡ knows n xs
+  known_risen : (n : Conn) (xs : List HubConnection) → knows n (with_connection up k xs) ≡ knows n xs
   known_risen n [] = refl
   known_risen n (x ∷ xs) = λ i. same_conn (up_name x i) n || known_risen n xs i
 
-  module _ {X : Type 0} (c : ℕ) (p : Line → X) (v : X) (here : (x : Line) → is_line k x ≡ true → p (up x) ≡ v) (g : List Line → X)
-      (step : (x : Line) (xs : List Line) → g (x ∷ xs) ≡ cond (is_for c x.stage) (p x) (g xs)) where
-    found_risen : (xs : List Line) → AreApart xs → up_on key xs ≡ None → stage_of k xs ≡ Fresh → g (with_line up k xs) ≡ cond (eqb key c) v (g xs)
+  module _ {X : Type 0} (c : ℕ) (p : HubConnection → X) (v : X) (here : (x : HubConnection) → is_connection k x ≡ true → p (up x) ≡ v) (g : List HubConnection → X)
+      (step : (x : HubConnection) (xs : List HubConnection) → g (x ∷ xs) ≡ cond (is_for c x.stage) (p x) (g xs)) where
+    found_risen : (xs : List HubConnection) → AreApart xs → up_on key xs ≡ None → stage_of k xs ≡ AwaitingConnect → g (with_connection up k xs) ≡ cond (eqb key c) v (g xs)
     found_risen [] apart none at = absurd cc
-    found_risen (x ∷ xs) apart none at = go (is_line k x) refl (found_risen xs apart.2)
+    found_risen (x ∷ xs) apart none at = go (is_connection k x) refl (found_risen xs apart.2)
       where
         left : (is_for key x.stage ≡ false) × (up_on key xs ≡ None)
         left = not_first key x xs none
 
-        go : (b : Bool) → is_line k x ≡ b → (up_on key xs ≡ None → stage_of k xs ≡ Fresh → g (with_line up k xs) ≡ cond (eqb key c) v (g xs))
-            → g (with_line up k (x ∷ xs)) ≡ cond (eqb key c) v (g (x ∷ xs))
+        go : (b : Bool) → is_connection k x ≡ b → (up_on key xs ≡ None → stage_of k xs ≡ AwaitingConnect → g (with_connection up k xs) ≡ cond (eqb key c) v (g xs))
+            → g (with_connection up k (x ∷ xs)) ≡ cond (eqb key c) v (g (x ∷ xs))
         go true same rest =
-            let fresh : x.stage ≡ Fresh = sym (cond-true (is_line k x) x.stage (stage_of k xs) same) ∙ at in
-            ap (λ (y : Line). g (y ∷ with_line up k xs)) (cond-true (is_line k x) (up x) x same)
-            ∙ ap (λ (ys : List Line). g (up x ∷ ys)) (unknown up k xs (rest_unknown k x xs same apart.0))
+            let fresh : x.stage ≡ AwaitingConnect = sym (cond-true (is_connection k x) x.stage (stage_of k xs) same) ∙ at in
+            ap (λ (y : HubConnection). g (y ∷ with_connection up k xs)) (cond-true (is_connection k x) (up x) x same)
+            ∙ ap (λ (ys : List HubConnection). g (up x ∷ ys)) (unknown up k xs (rest_unknown k x xs same apart.0))
             ∙ step (up x) xs
             ∙ ap₂ (λ (b : Bool) (w : X). cond b w (g xs)) (for c) (here x same)
             ∙ ap (λ (w : X). cond (eqb key c) v w) (sym (step x xs ∙ cond-false (is_for c x.stage) (p x) (g xs) (ap (is_for c) fresh)))
         go false differ rest =
-            ap (λ (y : Line). g (y ∷ with_line up k xs)) (cond-false (is_line k x) (up x) x differ)
-            ∙ step x (with_line up k xs)
-            ∙ ap (λ (w : X). cond (is_for c x.stage) (p x) w) (rest left.1 (sym (cond-false (is_line k x) x.stage (stage_of k xs) differ) ∙ at))
+            ap (λ (y : HubConnection). g (y ∷ with_connection up k xs)) (cond-false (is_connection k x) (up x) x differ)
+            ∙ step x (with_connection up k xs)
+            ∙ ap (λ (w : X). cond (is_for c x.stage) (p x) w) (rest left.1 (sym (cond-false (is_connection k x) x.stage (stage_of k xs) differ) ∙ at))
             ∙ turn (eqb key c) refl
             ∙ ap (λ (w : X). cond (eqb key c) v w) (sym (step x xs))
           where
@@ -240,64 +240,64 @@ module _ (k : Conn) (key : ℕ) (s : Stage) (for : (c : ℕ) → is_for c s ≡ 
                 ∙ sym (cond-true (eqb key c) v (cond (is_for c x.stage) (p x) (g xs)) e)
             turn false e = rw e refl
 
-  pub up_risen : (c : ℕ) (xs : List Line) → AreApart xs → up_on key xs ≡ None → stage_of k xs ≡ Fresh → up_on c (with_line up k xs) ≡ cond (eqb key c) (Some k) (up_on c xs)
-  up_risen c = found_risen c (λ (x : Line). Some x.conn) (Some k) (λ x same. ap Some (one_conn x.conn k same)) (up_on c) (λ x xs. refl)
+  pub up_risen : (c : ℕ) (xs : List HubConnection) → AreApart xs → up_on key xs ≡ None → stage_of k xs ≡ AwaitingConnect → up_on c (with_connection up k xs) ≡ cond (eqb key c) (Some k) (up_on c xs)
+  up_risen c = found_risen c (λ (x : HubConnection). Some x.conn) (Some k) (λ x same. ap Some (one_conn x.conn k same)) (up_on c) (λ x xs. refl)
 
-  pub stage_risen : (c : ℕ) (xs : List Line) → AreApart xs → up_on key xs ≡ None → stage_of k xs ≡ Fresh → stage_for c (with_line up k xs) ≡ cond (eqb key c) s (stage_for c xs)
-  stage_risen c = found_risen c (λ (x : Line). x.stage) s (λ x same. refl) (stage_for c) (λ x xs. refl)
+  pub stage_risen : (c : ℕ) (xs : List HubConnection) → AreApart xs → up_on key xs ≡ None → stage_of k xs ≡ AwaitingConnect → stage_for c (with_connection up k xs) ≡ cond (eqb key c) s (stage_for c xs)
+  stage_risen c = found_risen c (λ (x : HubConnection). x.stage) s (λ x same. refl) (stage_for c) (λ x xs. refl)
 
-  pub apart_risen : (xs : List Line) → AreApart xs → up_on key xs ≡ None → stage_of k xs ≡ Fresh → AreApart (with_line up k xs)
+  pub apart_risen : (xs : List HubConnection) → AreApart xs → up_on key xs ≡ None → stage_of k xs ≡ AwaitingConnect → AreApart (with_connection up k xs)
   apart_risen [] apart none at = tt
-  apart_risen (x ∷ xs) apart none at = go (is_line k x) refl (apart_risen xs apart.2)
+  apart_risen (x ∷ xs) apart none at = go (is_connection k x) refl (apart_risen xs apart.2)
     where
       left : (is_for key x.stage ≡ false) × (up_on key xs ≡ None)
       left = not_first key x xs none
 
-      go : (b : Bool) → is_line k x ≡ b → (up_on key xs ≡ None → stage_of k xs ≡ Fresh → AreApart (with_line up k xs)) → AreApart (with_line up k (x ∷ xs))
+      go : (b : Bool) → is_connection k x ≡ b → (up_on key xs ≡ None → stage_of k xs ≡ AwaitingConnect → AreApart (with_connection up k xs)) → AreApart (with_connection up k (x ∷ xs))
       go true same rest =
-          subst AreApart (sym (ap₂ (λ (y : Line) (ys : List Line). y ∷ ys) (cond-true (is_line k x) (up x) x same) (unknown up k xs (rest_unknown k x xs same apart.0))))
+          subst AreApart (sym (ap₂ (λ (y : HubConnection) (ys : List HubConnection). y ∷ ys) (cond-true (is_connection k x) (up x) x same) (unknown up k xs (rest_unknown k x xs same apart.0))))
           (apart.0, λ c e. subst (λ (n : ℕ). up_on n xs ≡ None) (eqb-true key c (sym (for c) ∙ e)) left.1, apart.2)
       go false differ rest =
-          let later : stage_of k xs ≡ Fresh = sym (cond-false (is_line k x) x.stage (stage_of k xs) differ) ∙ at in
-          subst (λ (y : Line). AreApart (y ∷ with_line up k xs)) (sym (cond-false (is_line k x) (up x) x differ))
+          let later : stage_of k xs ≡ AwaitingConnect = sym (cond-false (is_connection k x) x.stage (stage_of k xs) differ) ∙ at in
+          subst (λ (y : HubConnection). AreApart (y ∷ with_connection up k xs)) (sym (cond-false (is_connection k x) (up x) x differ))
           (known_risen x.conn xs ∙ apart.0, λ c e. up_risen c xs apart.2 left.1 later ∙ none_up c e (eqb key c) refl ∙ apart.1 c e, rest left.1 later)
         where
           none_up : (c : ℕ) → is_for c x.stage ≡ true → (b : Bool) → eqb key c ≡ b → cond (eqb key c) (Some k) (up_on c xs) ≡ up_on c xs
           none_up c e true is = absurd (true≢false (sym e ∙ subst (λ (n : ℕ). is_for n x.stage ≡ false) (eqb-true key c is) left.0))
           none_up c e false is = cond-false (eqb key c) (Some k) (up_on c xs) is
 
-  pub housed_risen : (most : ℕ) (ts : List Tenant) → IsHoused most ts s → (xs : List Line) → AllByRecursion (λ y. IsHoused most ts y.stage) xs
-      → AllByRecursion (λ y. IsHoused most ts y.stage) (with_line up k xs)
+  pub housed_risen : (most : ℕ) (ts : List BrokerSession) → ConnectionHasSession most ts s → (xs : List HubConnection) → AllByRecursion (λ y. ConnectionHasSession most ts y.stage) xs
+      → AllByRecursion (λ y. ConnectionHasSession most ts y.stage) (with_connection up k xs)
   housed_risen most ts one [] all = tt
   housed_risen most ts one (x ∷ xs) all =
-      (cond_both (is_line k x) (up x) x (λ (y : Line). IsHoused most ts y.stage) (λ e. one) (λ e. all.0), housed_risen most ts one xs all.1)
+      (cond_both (is_connection k x) (up x) x (λ (y : HubConnection). ConnectionHasSession most ts y.stage) (λ e. one) (λ e. all.0), housed_risen most ts one xs all.1)
 
-  pub quiet_risen : ((b : List ℕ) → IsQuiet s b) → (xs : List Line) → AllByRecursion (λ y. IsQuiet y.stage y.waiting) xs → AllByRecursion (λ y. IsQuiet y.stage y.waiting) (with_line up k xs)
+  pub quiet_risen : ((b : List ℕ) → IsQuiet s b) → (xs : List HubConnection) → AllByRecursion (λ y. IsQuiet y.stage y.waiting) xs → AllByRecursion (λ y. IsQuiet y.stage y.waiting) (with_connection up k xs)
   quiet_risen one [] all = tt
   quiet_risen one (x ∷ xs) all =
-      (cond_both (is_line k x) (up x) x (λ (y : Line). IsQuiet y.stage y.waiting) (λ e. one x.waiting) (λ e. all.0), quiet_risen one xs all.1)
+      (cond_both (is_connection k x) (up x) x (λ (y : HubConnection). IsQuiet y.stage y.waiting) (λ e. one x.waiting) (λ e. all.0), quiet_risen one xs all.1)
 
   -- the other sessions
-  pub seated_other : (config : HubConfig) (xs : List Line) → AreApart xs → up_on key xs ≡ None → stage_of k xs ≡ Fresh → (t : Tenant) → eqb t.key key ≡ false → IsSeated config xs t
-      → IsSeated config (with_line up k xs) t
+  pub seated_other : (config : HubConfig) (xs : List HubConnection) → AreApart xs → up_on key xs ≡ None → stage_of k xs ≡ AwaitingConnect → (t : BrokerSession) → eqb t.key key ≡ false → SessionMatchesConnection config xs t
+      → SessionMatchesConnection config (with_connection up k xs) t
   seated_other config xs apart none at t far seat =
       let other : eqb key t.key ≡ false = ne_eqb key t.key (λ w. true≢false (sym (eq-eqb t.key key (sym w)) ∙ far)) in
-      let up_same : up_on t.key (with_line up k xs) ≡ up_on t.key xs = up_risen t.key xs apart none at ∙ cond-false (eqb key t.key) (Some k) (up_on t.key xs) other in
-      let stage_same : stage_for t.key (with_line up k xs) ≡ stage_for t.key xs = stage_risen t.key xs apart none at ∙ cond-false (eqb key t.key) s (stage_for t.key xs) other in
+      let up_same : up_on t.key (with_connection up k xs) ≡ up_on t.key xs = up_risen t.key xs apart none at ∙ cond-false (eqb key t.key) (Some k) (up_on t.key xs) other in
+      let stage_same : stage_for t.key (with_connection up k xs) ≡ stage_for t.key xs = stage_risen t.key xs apart none at ∙ cond-false (eqb key t.key) s (stage_for t.key xs) other in
       record {
         capacity = seat.capacity;
         limit = seat.limit;
         window = seat.window;
         known = seat.known;
-        state = seat.state ∙ ap (λ (o : Option Conn). cond (is_some o) Up Closed) (sym up_same);
+        state = seat.state ∙ ap (λ (o : Option Conn). cond (is_some o) Connected Disconnected) (sym up_same);
         clean = seat.clean ∙ ap is_clean (sym stage_same);
         away = λ e. seat.away (sym up_same ∙ e);
       }
 
 -- ---- the session that takes the CONNECT in
 
-abbrev pub stage_by : ℕ → Connect → ℕ → Stage
-stage_by key c now = UpFor key (terms_of c) now
+abbrev pub stage_by : ℕ → Connect → ℕ → ConnectionState
+stage_by key c now = ConnectedAs key (terms_of c) now
 
 pub for_key : (key : ℕ) (c : Connect) (now n : ℕ) → is_for n (stage_by key c now) ≡ eqb key n
 for_key key c now n = refl
@@ -306,44 +306,44 @@ own_up : (key n : ℕ) (k : Conn) (o : Option Conn) → n ≡ key → cond (eqb 
 own_up key n k o same = cond-true (eqb key n) (Some k) o (eq-eqb key n (sym same))
 
 module _ (k : Conn) (key : ℕ) (c : Connect) (now : ℕ) (named : is_anonymous c ≡ false) where
-  abbrev risen_line : Line → Line
+  abbrev risen_line : HubConnection → HubConnection
   risen_line x = record x { stage = stage_by key c now }
 
   -- the session of the key, its end another one that took the CONNECT in
-  pub seated_risen : (config : HubConfig) (xs : List Line) → AreApart xs → up_on key xs ≡ None → stage_of k xs ≡ Fresh → (t : Tenant) (e : EndState) → t.key ≡ key → e.capacity ≡ config.capacity
-      → e.limit ≡ config.limits → e.end.window ≡ config.window → IsSeated config (with_line risen_line k xs) (record t { end = risen c now e })
+  pub seated_risen : (config : HubConfig) (xs : List HubConnection) → AreApart xs → up_on key xs ≡ None → stage_of k xs ≡ AwaitingConnect → (t : BrokerSession) (e : EndState) → t.key ≡ key → e.capacity ≡ config.capacity
+      → e.limit ≡ config.limits → e.end.window ≡ config.window → SessionMatchesConnection config (with_connection risen_line k xs) (record t { end = risen c now e })
   seated_risen config xs apart none at t e own capacity limit window =
       let is = greeting_is c e.end named in
-      let there : up_on t.key (with_line risen_line k xs) ≡ Some k =
+      let there : up_on t.key (with_connection risen_line k xs) ≡ Some k =
       up_risen k key (stage_by key c now) (for_key key c now) t.key xs apart none at ∙ own_up key t.key k (up_on t.key xs) own in
-      let stage : stage_for t.key (with_line risen_line k xs) ≡ stage_by key c now =
+      let stage : stage_for t.key (with_connection risen_line k xs) ≡ stage_by key c now =
       stage_risen k key (stage_by key c now) (for_key key c now) t.key xs apart none at ∙ cond-true (eqb key t.key) (stage_by key c now) (stage_for t.key xs) (eq-eqb key t.key (sym own)) in
       record {
         capacity = capacity;
         limit = limit;
         window = ap (λ (r : Reply). r.end.window) is ∙ window;
         known = ap (λ (r : Reply). r.end.known) is;
-        state = ap (λ (r : Reply). r.end.state) is ∙ ap (λ (o : Option Conn). cond (is_some o) Up Closed) (sym there);
+        state = ap (λ (r : Reply). r.end.state) is ∙ ap (λ (o : Option Conn). cond (is_some o) Connected Disconnected) (sym there);
         clean = ap (λ (r : Reply). r.end.clean) is ∙ ap is_clean (sym stage);
         away = λ no. absurd (some_none (sym there ∙ no));
       }
 
-  module _ (config : HubConfig) (next : ℕ) (t u : HubTables) (kept : HubKeeps config next t) (none : up_on key t.lines.lines ≡ None) (at : stage_of k t.lines.lines ≡ Fresh)
-      (session : Tenant) (there : tenant_of key t.sessions.tenants ≡ Some session) (room : Room) (rows : u.rows ≡ t.rows) (retained : u.retained.messages ≡ t.retained.messages)
-      (tenants : u.sessions.tenants ≡ with_server key (risen c now (roomed room session.end)) t.sessions.tenants) (lines : u.lines.lines ≡ with_line risen_line k t.lines.lines) where
-    pub kept_greeted : IsWillWithin config.limits.most c.will → u.lines.limits ≡ t.lines.limits → HubKeeps config next u
+  module _ (config : HubConfig) (next : ℕ) (t u : HubTables) (kept : HubInvariant config next t) (none : up_on key t.connections.connections ≡ None) (at : stage_of k t.connections.connections ≡ AwaitingConnect)
+      (session : BrokerSession) (there : tenant_of key t.sessions.tenants ≡ Some session) (room : Room) (rows : u.rows ≡ t.rows) (retained : u.retained.messages ≡ t.retained.messages)
+      (tenants : u.sessions.tenants ≡ with_server key (risen c now (roomed room session.end)) t.sessions.tenants) (connections : u.connections.connections ≡ with_connection risen_line k t.connections.connections) where
+    pub kept_greeted : IsWillWithin config.limits.most c.will → u.connections.limits ≡ t.connections.limits → HubInvariant config next u
     kept_greeted will limits =
         let ts = t.sessions.tenants in
-        let xs = t.lines.lines in
+        let xs = t.connections.connections in
         let e : EndState = risen c now (roomed room session.end) in
         let us = with_server key e ts in
-        let ys = with_line risen_line k xs in
+        let ys = with_connection risen_line k xs in
         let for = for_key key c now in
         let s = stage_by key c now in
-        let seat = seat_of (IsSeated config xs) key session ts there kept.seated in
+        let seat = seat_of (SessionMatchesConnection config xs) key session ts there kept.seated in
         let own = key_is key session ts there in
-        let v : HubTables = record t { sessions = record t.sessions { tenants = us }; lines = record t.lines { lines = ys } } in
-        let kv : HubKeeps config next v = record {
+        let v : HubTables = record t { sessions = record t.sessions { tenants = us }; connections = record t.connections { connections = ys } } in
+        let kv : HubInvariant config next v = record {
           capacity = kept.capacity;
           window = kept.window;
           limits = kept.limits;
@@ -359,22 +359,22 @@ module _ (k : Conn) (key : ℕ) (c : Connect) (now : ℕ) (named : is_anonymous 
           owned = all_owned_as key e ts t.rows kept.owned;
           retained = kept.retained;
         } in
-        kept_by config next v u kv rows retained tenants lines limits
+        kept_by config next v u kv rows retained tenants connections limits
 
     pub hub_greeted : (clock : ℕ) → hub_of config clock next u ≡ record (hub_of config clock next t) {
       sessions = with_end key (greeting c session.end.end).end (sessions_of t.sessions.tenants);
-      lines = with_line (grown (spellings (greeting c session.end.end).out)) k (with_line risen_line k (all_seen t.sessions.tenants t.lines.lines));
+      connections = with_connection (grown (encodings (greeting c session.end.end).out)) k (with_connection risen_line k (all_seen t.sessions.tenants t.connections.connections));
     }
     hub_greeted clock =
         let ts = t.sessions.tenants in
-        let xs = t.lines.lines in
+        let xs = t.connections.connections in
         let e : EndState = risen c now (roomed room session.end) in
         let us = with_server key e ts in
-        let b = spellings (greeting c session.end.end).out in
-        let here : (x : Line) → x.stage ≡ Fresh → x.waiting ≡ [] → seen us (risen_line x) ≡ grown b (risen_line (seen ts x)) =
+        let b = encodings (greeting c session.end.end).out in
+        let here : (x : HubConnection) → x.stage ≡ AwaitingConnect → x.waiting ≡ [] → seen us (risen_line x) ≡ grown b (risen_line (seen ts x)) =
         λ x fresh empty. ap (λ (w : List ℕ). record (risen_line x) { waiting = w }) (output_here key e ts (ap is_some there) ∙ (λ i. waiting_by (sym fresh i) ts (sym empty i) ++ b)) in
-        let waits : all_seen u.sessions.tenants u.lines.lines ≡ with_line (grown b) k (with_line risen_line k (all_seen ts xs)) =
-        (λ i. all_seen (tenants i) (lines i))
+        let waits : all_seen u.sessions.tenants u.connections.connections ≡ with_connection (grown b) k (with_connection risen_line k (all_seen ts xs)) =
+        (λ i. all_seen (tenants i) (connections i))
         ∙ seen_fresh k ts us (λ x. is_for key x.stage ≡ false) (λ x far. seen_served key e ts x far) risen_line (λ x. grown b (risen_line x)) here xs kept.apart kept.quiet (none_for key xs none) at
         ∙ sym (changed_twice k risen_line (grown b) (λ x. refl) (all_seen ts xs)) in
         let sessions : sessions_of u.sessions.tenants ≡ with_end key (greeting c session.end.end).end (sessions_of ts) = ap sessions_of tenants ∙ sessions_served e ts in
@@ -385,95 +385,95 @@ module _ (k : Conn) (key : ℕ) (c : Connect) (now : ℕ) (named : is_anonymous 
           rows = rows i;
           retained = retained i;
           sessions = sessions i;
-          lines = waits i;
+          connections = waits i;
         }
       where
-        one : (e : EndState) (s : Tenant) (b : Bool) → session_of (cond b (record s { end = e }) s) ≡ cond b (record (session_of s) { end = e.end }) (session_of s)
+        one : (e : EndState) (s : BrokerSession) (b : Bool) → session_of (cond b (record s { end = e }) s) ≡ cond b (record (session_of s) { end = e.end }) (session_of s)
         one e s true = refl
         one e s false = refl
 
-        sessions_served : (e : EndState) (ts : List Tenant) → sessions_of (with_server key e ts) ≡ with_end key e.end (sessions_of ts)
+        sessions_served : (e : EndState) (ts : List BrokerSession) → sessions_of (with_server key e ts) ≡ with_end key e.end (sessions_of ts)
         sessions_served e [] = refl
         sessions_served e (s ∷ ts) = ap₂ (λ (x : HubSession) (xs : List HubSession). x ∷ xs) (one e s (eqb s.key key)) (sessions_served e ts)
 
 -- ---- the change of the definition
 
-module _ (k : Conn) (c : Connect) (key : ℕ) (named : is_anonymous c ≡ false) (h : HubState) (did : List Act) (apart : AreApart h.lines) (none : up_on key h.lines ≡ None)
-    (at : stage_of k h.lines ≡ Fresh) where
+module _ (k : Conn) (c : Connect) (key : ℕ) (named : is_anonymous c ≡ false) (h : HubState) (did : List Act) (apart : AreApart h.connections) (none : up_on key h.connections ≡ None)
+    (at : stage_of k h.connections ≡ AwaitingConnect) where
   abbrev reply : Reply
   reply = greeting c (end_of key h.sessions)
 
-  abbrev staged_line : Line → Line
-  staged_line x = record x { stage = UpFor key (terms_of c) h.clock }
+  abbrev staged_line : HubConnection → HubConnection
+  staged_line x = record x { stage = ConnectedAs key (terms_of c) h.clock }
 
   abbrev up_hub : HubState
-  up_hub = record h { lines = with_line staged_line k h.lines }
+  up_hub = record h { connections = with_connection staged_line k h.connections }
 
   abbrev pub greeted_hub : HubState
-  greeted_hub = record h { sessions = with_end key reply.end h.sessions; lines = with_line (grown (spellings reply.out)) k (with_line staged_line k h.lines) }
+  greeted_hub = record h { sessions = with_end key reply.end h.sessions; connections = with_connection (grown (encodings reply.out)) k (with_connection staged_line k h.connections) }
 
-  goes_up : GoesBy (λ w. staged k (UpFor key (terms_of c) w.hub.clock) w) h did up_hub did
+  goes_up : Refines (λ w. staged k (ConnectedAs key (terms_of c) w.hub.clock) w) h did up_hub did
   goes_up =
-      goes_to (λ w. staged k (UpFor key (terms_of c) w.hub.clock) w) h up_hub did
-      (λ w e. ap (λ (a : HubState). record a { lines = with_line (λ x. record x { stage = UpFor key (terms_of c) a.clock }) k a.lines }) e) (λ w. refl)
+      goes_to (λ w. staged k (ConnectedAs key (terms_of c) w.hub.clock) w) h up_hub did
+      (λ w e. ap (λ (a : HubState). record a { connections = with_connection (λ x. record x { stage = ConnectedAs key (terms_of c) a.clock }) k a.connections }) e) (λ w. refl)
 
   put : Work → Work
   put w = put_on k (greeting c (end_of key w.hub.sessions)).out (with_sessions (with_end key (greeting c (end_of key w.hub.sessions)).end) w)
 
-  goes_does : GoesBy (does key (greeting c)) up_hub did greeted_hub did
+  goes_does : Refines (does key (greeting c)) up_hub did greeted_hub did
   unfolding does put_on put
   goes_does =
       goes_as put (does key (greeting c)) up_hub greeted_hub did did
       (λ w e. ap (λ (o : Option Conn). put_where o (greeting c (end_of key w.hub.sessions)).out (with_sessions (with_end key (greeting c (end_of key w.hub.sessions)).end) w))
-      (ap (λ (a : HubState). up_on key a.lines) e
-      ∙ up_risen k key (stage_by key c h.clock) (for_key key c h.clock) key h.lines apart none at ∙ own_up key key k (up_on key h.lines) refl))
+      (ap (λ (a : HubState). up_on key a.connections) e
+      ∙ up_risen k key (stage_by key c h.clock) (for_key key c h.clock) key h.connections apart none at ∙ own_up key key k (up_on key h.connections) refl))
       (goes_to put up_hub greeted_hub did
       (λ w e. ap (λ (a : HubState). record a {
         sessions = with_end key (greeting c (end_of key a.sessions)).end a.sessions;
-        lines = with_line (grown (spellings (greeting c (end_of key a.sessions)).out)) k a.lines;
+        connections = with_connection (grown (encodings (greeting c (end_of key a.sessions)).out)) k a.connections;
       }) e) (λ w. refl))
 
-  pub goes_greeted : (present : Bool) → is_present c (end_of key h.sessions) ≡ present → GoesBy (greet k c key) h did greeted_hub (did ++ acts.Up k key present ∷ [])
-  unfolding greet answers
+  pub goes_greeted : (present : Bool) → is_present c (end_of key h.sessions) ≡ present → Refines (resume_session k c key) h did greeted_hub (did ++ acts.Up k key present ∷ [])
+  unfolding resume_session answers
   goes_greeted present is =
-      let turned : Work → Work = λ w. does key (greeting c) (staged k (UpFor key (terms_of c) w.hub.clock) w) in
-      goes_as (λ w. said (acts.Up k key present) (turned w)) (greet k c key) h greeted_hub did (did ++ acts.Up k key present ∷ [])
+      let turned : Work → Work = λ w. does key (greeting c) (staged k (ConnectedAs key (terms_of c) w.hub.clock) w) in
+      goes_as (λ w. said (acts.Up k key present) (turned w)) (resume_session k c key) h greeted_hub did (did ++ acts.Up k key present ∷ [])
       (λ w e. ap (λ (hs : List Happening). answers_all k key hs (turned w))
       (ap (λ (r : Reply). r.happenings) (greeting_is c (end_of key w.hub.sessions) named)
       ∙ ap (λ (a : HubState). happens.Up (is_present c (end_of key a.sessions)) ∷ []) e ∙ ap (λ (b : Bool). happens.Up b ∷ []) is))
       (goes_then turned (said (acts.Up k key present)) h greeted_hub greeted_hub did did (did ++ acts.Up k key present ∷ [])
-      (goes_then (λ w. staged k (UpFor key (terms_of c) w.hub.clock) w) (does key (greeting c)) h up_hub greeted_hub did did did goes_up goes_does)
+      (goes_then (λ w. staged k (ConnectedAs key (terms_of c) w.hub.clock) w) (does key (greeting c)) h up_hub greeted_hub did did did goes_up goes_does)
       (record { hub = λ w e f. e; did = λ w e f. ap (λ (a : List Act). a ++ acts.Up k key present ∷ []) f }))
 
 -- ---- the tables, and the change of the definition
 
 -- a client that is up on no connection
-shut_for : (key : ℕ) (xs : List Line) → up_on key xs ≡ None → stage_for key xs ≡ Shut
+shut_for : (key : ℕ) (xs : List HubConnection) → up_on key xs ≡ None → stage_for key xs ≡ Closed
 shut_for key [] none = refl
 shut_for key (x ∷ xs) none = let p = not_first key x xs none in cond-false (is_for key x.stage) x.stage (stage_for key xs) p.0 ∙ shut_for key xs p.1
 
-module _ (k : Conn) (c : Connect) (key : ℕ) (named : is_anonymous c ≡ false) (config : HubConfig) (clock next : ℕ) (t u : HubTables) (kept : HubKeeps config next t)
-    (none : up_on key t.lines.lines ≡ None) (at : stage_of k t.lines.lines ≡ Fresh) (is : IsGreeted c clock key t.sessions.tenants u.sessions.tenants) (rows : u.rows ≡ t.rows)
-    (retained : u.retained.messages ≡ t.retained.messages) (lines : u.lines.lines ≡ with_line (λ x. record x { stage = stage_by key c clock }) k t.lines.lines) where
-  pub keeps_greeted : IsWillWithin config.limits.most c.will → u.lines.limits ≡ t.lines.limits → HubKeeps config next u
-  keeps_greeted will limits = kept_greeted k key c clock named config next t u kept none at is.tenant is.there is.room rows retained is.after lines will limits
+module _ (k : Conn) (c : Connect) (key : ℕ) (named : is_anonymous c ≡ false) (config : HubConfig) (clock next : ℕ) (t u : HubTables) (kept : HubInvariant config next t)
+    (none : up_on key t.connections.connections ≡ None) (at : stage_of k t.connections.connections ≡ AwaitingConnect) (is : IsGreeted c clock key t.sessions.tenants u.sessions.tenants) (rows : u.rows ≡ t.rows)
+    (retained : u.retained.messages ≡ t.retained.messages) (connections : u.connections.connections ≡ with_connection (λ x. record x { stage = stage_by key c clock }) k t.connections.connections) where
+  pub keeps_greeted : IsWillWithin config.limits.most c.will → u.connections.limits ≡ t.connections.limits → HubInvariant config next u
+  keeps_greeted will limits = kept_greeted k key c clock named config next t u kept none at is.tenant is.there is.room rows retained is.after connections will limits
 
-  pub goes_on_greeted : c.clean_session ≡ false → (did : List Act) → GoesBy (greet k c key) (hub_of config clock next t) did (hub_of config clock next u) (did ++ acts.Up k key true ∷ [])
+  pub goes_on_greeted : c.clean_session ≡ false → (did : List Act) → Refines (resume_session k c key) (hub_of config clock next t) did (hub_of config clock next u) (did ++ acts.Up k key true ∷ [])
   goes_on_greeted going did =
       let ts = t.sessions.tenants in
-      let xs = t.lines.lines in
+      let xs = t.connections.connections in
       let h = hub_of config clock next t in
       let there : end_of key h.sessions ≡ is.tenant.end.end = end_there key is.tenant ts is.there in
-      let seat = seat_of (IsSeated config xs) key is.tenant ts is.there kept.seated in
+      let seat = seat_of (SessionMatchesConnection config xs) key is.tenant ts is.there kept.seated in
       let own = key_is key is.tenant ts is.there in
       let quit : is.tenant.end.end.clean ≡ false = seat.clean ∙ ap (λ (n : ℕ). is_clean (stage_for n xs)) own ∙ ap is_clean (shut_for key xs none) in
       let present : is_present c (end_of key h.sessions) ≡ true =
       ap (is_present c) there ∙ (λ i. not (going i) && cond (quit i) false (seat.known i)) in
       let after : hub_of config clock next u ≡ greeted_hub k c key named h did (apart_same (seen ts) (λ x. refl) (λ x. refl) xs kept.apart) (up_seen key ts xs ∙ none) (stage_seen k ts xs ∙ at) =
-      hub_greeted k key c clock named config next t u kept none at is.tenant is.there is.room rows retained is.after lines clock
+      hub_greeted k key c clock named config next t u kept none at is.tenant is.there is.room rows retained is.after connections clock
       ∙ ap (λ (e : End). record h {
         sessions = with_end key (greeting c e).end h.sessions;
-        lines = with_line (grown (spellings (greeting c e).out)) k (with_line (λ x. record x { stage = stage_by key c clock }) k h.lines);
+        connections = with_connection (grown (encodings (greeting c e).out)) k (with_connection (λ x. record x { stage = stage_by key c clock }) k h.connections);
       }) (sym there) in
-      subst (λ (g : HubState). GoesBy (greet k c key) h did g (did ++ acts.Up k key true ∷ [])) (sym after)
+      subst (λ (g : HubState). Refines (resume_session k c key) h did g (did ++ acts.Up k key true ∷ [])) (sym after)
       (goes_greeted k c key named h did (apart_same (seen ts) (λ x. refl) (λ x. refl) xs kept.apart) (up_seen key ts xs ∙ none) (stage_seen k ts xs ∙ at) true present)

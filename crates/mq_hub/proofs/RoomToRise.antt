@@ -16,16 +16,16 @@ use Rattle.mq_packet.specs.declared.packet.Packet.{Packet}
 use Rattle.mq_packet.specs.declared.packet.Packet.TheVariants as packets
 use Rattle.mq_packet.specs.declared.publish.Delivery.{Delivery}
 use Rattle.mq_packet.specs.Publication.{fits_delivery}
-use Rattle.mq_packet.specs.Spelling.{fields}
+use Rattle.mq_packet.specs.Encoding.{fields}
 use Rattle.mq_flow.specs.declared.entry.Entry.{Entry}
 use Rattle.mq_flow.specs.Next.{next_identifier}
 use Rattle.mq_flow.specs.Sender.{SenderBook, accept, blank_book, no_claims, publish_packet, resent, uses}
 use Rattle.mq_end.specs.declared.refusal.PublishRefusal.{PublishRefusal}
 use Rattle.mq_end.specs.declared.refusal.PublishRefusal.TheVariants as refusals
-use Rattle.mq_end.specs.declared.state.State.TheVariants.{Closed, Up}
+use Rattle.mq_end.specs.declared.state.State.TheVariants.{Disconnected, Connected}
 use Rattle.mq_end.specs.Both.{has_identifier, publishes_at}
 use Rattle.mq_end.specs.End.{End, Reply, comes_up, is_up, renewed}
-use Rattle.mq_end.specs.Ready.{AreSpellable, HasRise, packets_size, size_at_once, whole_size}
+use Rattle.mq_end.specs.Ready.{AreEncodable, HasRise, packets_size, size_at_once, whole_size}
 use Rattle.mq_end.specs.Server.{connect_gets, opens, ready_refusal, refuses, server_gets}
 use Rattle.mq_end.specs.SizeLaws.{SizeLaws}
 use Rattle.mq_end.specs.Sizes.{identifier_size, publish_size}
@@ -33,9 +33,9 @@ use Rattle.mq_end.specs.State.{EndState}
 use Rattle.mq_route.specs.declared.config.HubConfig.{HubConfig}
 use Rattle.mq_route.specs.declared.conn.Conn.{Conn}
 use Rattle.mq_route.specs.Copies.{copy, copy_by, is_hidden_name, lesser}
-use Rattle.mq_route.specs.Hub.{HubState, Line, copies_of, for_key, up_on}
-use Rattle.mq_hub.specs.declared.session.Tenant.{Tenant}
-use Rattle.mq_hub.specs.Keeps.{HubKeeps, IsSeated}
+use Rattle.mq_route.specs.Hub.{HubState, HubConnection, copies_of, for_key, up_on}
+use Rattle.mq_hub.specs.declared.sessions.session.BrokerSession.{BrokerSession}
+use Rattle.mq_hub.specs.Keeps.{HubInvariant, SessionMatchesConnection}
 use Rattle.mq_hub.specs.Placing.{is_among, placed_all, placed_at, published, AreApart, AreSameButRoom, AreStillReady, IsReadyAt, ReadiesAt}
 use Rattle.mq_hub.specs.Proceeding.{AreHubs}
 use Rattle.mq_hub.specs.Rising.{roomed, HasRiseAt, IsEnlarged, LeavesRise}
@@ -46,9 +46,9 @@ use Rattle.mq_hub.proofs.Serving.{seat_of}
 
 -- ---- an end that is another
 
-pub rise_with : (c : Connect) (key : ℕ) (ms : List Message) (more : ℕ) (e : EndState) (t : Tenant) (ts : List Tenant) → tenant_of key ts ≡ Some t → HasRise c ms more e
+pub rise_with : (c : Connect) (key : ℕ) (ms : List Message) (more : ℕ) (e : EndState) (t : BrokerSession) (ts : List BrokerSession) → tenant_of key ts ≡ Some t → HasRise c ms more e
     → HasRiseAt c key ms more (with_server key e ts)
-rise_with c key ms more e t ts there h = record { tenant = record t { end = e }; there = changed_own (λ (x : EndState). e) key t ts there; rise = h }
+rise_with c key ms more e t ts there h = record { tenant = record t { end = e }; there = changed_own (λ (x : EndState). e) key t ts there; connect_end = h }
 
 -- ---- an end that has more room
 
@@ -59,7 +59,7 @@ abbrev no_memory : Result ⊤ PublishRefusal
 no_memory = Err refusals.Memory
 
 -- it is as one that was made ready for nothing, where memory ran out
-readies_none : (key : ℕ) (old new : List Tenant) → IsEnlarged key old new → ReadiesAt key [] 0 no_memory old new
+readies_none : (key : ℕ) (old new : List BrokerSession) → IsEnlarged key old new → ReadiesAt key [] 0 no_memory old new
 readies_none key old new h =
     let none = none_refused h.tenant.end.limit.most h.tenant.end.capacity h.tenant.end.end in
     record {
@@ -76,34 +76,34 @@ readies_none key old new h =
       after = h.after;
     }
 
-pub enlarged_same : (key : ℕ) (old new : List Tenant) → AreAscending old → IsEnlarged key old new → AreSameButRoom old new
+pub enlarged_same : (key : ℕ) (old new : List BrokerSession) → AreAscending old → IsEnlarged key old new → AreSameButRoom old new
 enlarged_same key old new up h = ready_same key [] 0 no_memory old new up (readies_none key old new h)
 
-pub enlarged_still : (key : ℕ) (old new : List Tenant) → AreAscending old → IsEnlarged key old new → AreStillReady old new
+pub enlarged_still : (key : ℕ) (old new : List BrokerSession) → AreAscending old → IsEnlarged key old new → AreStillReady old new
 enlarged_still key old new up h = ready_still key [] 0 no_memory old new up (readies_none key old new h)
 
 -- ---- less is asked
 
 -- the room of a message is as good as so many bytes
-pub rise_bytes : (c : Connect) (key : ℕ) (m : Message) (ts : List Tenant) → HasRiseAt c key (m ∷ []) 0 ts → HasRiseAt c key [] (whole_size (publish_size m)) ts
+pub rise_bytes : (c : Connect) (key : ℕ) (m : Message) (ts : List BrokerSession) → HasRiseAt c key (m ∷ []) 0 ts → HasRiseAt c key [] (whole_size (publish_size m)) ts
 rise_bytes c key m ts r = record {
   tenant = r.tenant;
   there = r.there;
-  rise = record { messages = omega arith; bytes = let had = r.rise.bytes in omega arith; spellable = r.rise.spellable };
+  connect_end = record { messages = omega arith; bytes = let had = r.connect_end.bytes in omega arith; encodable = r.connect_end.encodable };
 }
 
-pub rise_less : (c : Connect) (key : ℕ) (ms : List Message) (more : ℕ) (ts : List Tenant) → HasRiseAt c key ms more ts → HasRiseAt c key [] 0 ts
+pub rise_less : (c : Connect) (key : ℕ) (ms : List Message) (more : ℕ) (ts : List BrokerSession) → HasRiseAt c key ms more ts → HasRiseAt c key [] 0 ts
 rise_less c key ms more ts r = record {
   tenant = r.tenant;
   there = r.there;
-  rise = record { messages = omega arith; bytes = let had = r.rise.bytes in omega arith; spellable = r.rise.spellable };
+  connect_end = record { messages = omega arith; bytes = let had = r.connect_end.bytes in omega arith; encodable = r.connect_end.encodable };
 }
 
 -- ---- sessions that are made ready
 
 -- that of a client that is away keeps its room
-pub rise_still : (c : Connect) (key n : ℕ) (old new : List Tenant) → AreSameButRoom old new → AreStillReady old new → (r : HasRiseAt c key [] n old)
-    → r.tenant.end.end.state ≡ Closed
+pub rise_still : (c : Connect) (key n : ℕ) (old new : List BrokerSession) → AreSameButRoom old new → AreStillReady old new → (r : HasRiseAt c key [] n old)
+    → r.tenant.end.end.state ≡ Disconnected
     → r.tenant.end.output ≡ [] → HasRiseAt c key [] n new
 rise_still c key n old new same still r closed empty =
     let w = same_tenant key r.tenant old new same r.there in
@@ -121,31 +121,31 @@ rise_still c key n old new same still r closed empty =
       };
     }) in
     let is : now.tenant ≡ w.0 = some_same (sym now.there ∙ w.1) in
-    let end = ap (λ (x : Tenant). x.end.end) w.2 in
+    let end = ap (λ (x : BrokerSession). x.end.end) w.2 in
     record {
       tenant = w.0;
       there = w.1;
-      rise = record {
+      connect_end = record {
         messages = omega arith;
         bytes =
-            let had = r.rise.bytes in
+            let had = r.connect_end.bytes in
             let has = now.ready.room.bytes in
-            let here = ap (λ (x : Tenant). x.end.room.bytes) is in
+            let here = ap (λ (x : BrokerSession). x.end.room.bytes) is in
             let out = ap (λ (e : End). packets_size (server_gets (packets.Connect c) (opens e).end).out) end in
             omega arith;
-        spellable = subst (λ (e : End). AreSpellable (server_gets (packets.Connect c) (opens e).end).out) (sym end) r.rise.spellable;
+        encodable = subst (λ (e : End). AreEncodable (server_gets (packets.Connect c) (opens e).end).out) (sym end) r.connect_end.encodable;
       };
     }
 
-pub rise_kept : (config : HubConfig) (next : ℕ) (t : HubTables) → HubKeeps config next t → (c : Connect) (key n : ℕ) → up_on key t.lines.lines ≡ None
-    → (new : List Tenant)
+pub rise_kept : (config : HubConfig) (next : ℕ) (t : HubTables) → HubInvariant config next t → (c : Connect) (key n : ℕ) → up_on key t.connections.connections ≡ None
+    → (new : List BrokerSession)
     → AreSameButRoom t.sessions.tenants new → AreStillReady t.sessions.tenants new → HasRiseAt c key [] n t.sessions.tenants → HasRiseAt c key [] n new
 rise_kept config next t kept c key n none new same still r =
     let ts = t.sessions.tenants in
-    let xs = t.lines.lines in
-    let seat = seat_of (IsSeated config xs) key r.tenant ts r.there kept.seated in
+    let xs = t.connections.connections in
+    let seat = seat_of (SessionMatchesConnection config xs) key r.tenant ts r.there kept.seated in
     let away : up_on r.tenant.key xs ≡ None = ap (λ (k : ℕ). up_on k xs) (key_there key r.tenant ts r.there) ∙ none in
-    rise_still c key n ts new same still r (seat.state ∙ ap (λ (o : Option Conn). cond (is_some o) Up Closed) away) (seat.away away)
+    rise_still c key n ts new same still r (seat.state ∙ ap (λ (o : Option Conn). cond (is_some o) Connected Disconnected) away) (seat.away away)
 
 -- ---- what answers a CONNECT, where one message more is kept
 
@@ -171,9 +171,9 @@ sizes_joined : (ps qs : List Packet) → packets_size (ps ++ qs) ≡ packets_siz
 sizes_joined [] qs = omega arith
 sizes_joined (p ∷ ps) qs = let rest = sizes_joined ps qs in omega arith
 
-spellable_joined : (ps qs : List Packet) → AreSpellable ps → AreSpellable qs → AreSpellable (ps ++ qs)
-spellable_joined [] qs h k = k
-spellable_joined (p ∷ ps) qs h k = (h.0, spellable_joined ps qs h.1 k)
+encodable_joined : (ps qs : List Packet) → AreEncodable ps → AreEncodable qs → AreEncodable (ps ++ qs)
+encodable_joined [] qs h k = k
+encodable_joined (p ∷ ps) qs h k = (h.0, encodable_joined ps qs h.1 k)
 
 -- the PUBLISHes of messages that are kept
 abbrev kept_packets : List Entry → List Packet
@@ -195,13 +195,13 @@ resent_more i m sent b =
 -- what is put out, and what is put out with one packet more
 record Grows (p : Packet) (ps qs : List Packet) : Type 0 where
   size : packets_size qs ≤ packets_size ps + whole_size (length (fields p))
-  spellable : AreSpellable ps → length (fields p) < 2 ^ 28 → AreSpellable qs
+  encodable : AreEncodable ps → length (fields p) < 2 ^ 28 → AreEncodable qs
 
 grows_not : (p : Packet) (ps : List Packet) → Grows p ps ps
-grows_not p ps = record { size = omega arith; spellable = λ h small. h }
+grows_not p ps = record { size = omega arith; encodable = λ h small. h }
 
 grows_last : (p : Packet) (ps : List Packet) → Grows p ps (ps ++ p ∷ [])
-grows_last p ps = record { size = let parts = sizes_joined ps (p ∷ []) in omega arith; spellable = λ h small. spellable_joined ps (p ∷ []) h (small, tt) }
+grows_last p ps = record { size = let parts = sizes_joined ps (p ∷ []) in omega arith; encodable = λ h small. encodable_joined ps (p ∷ []) h (small, tt) }
 
 grows_out : (refused clean before known : Bool) (i : ℕ) (m : Message) (sent : Bool) (b : SenderBook)
     → Grows (publish_packet i sent m) (out_of refused clean known (cond before blank_book (no_claims b)))
@@ -231,10 +231,10 @@ grows_answer c i m sent e =
 
 record FitsBehind (c : Connect) (n : ℕ) (e f : End) : Type 0 where
   size : packets_size (answer c f) ≤ packets_size (answer c e) + whole_size n
-  spellable : n < 2 ^ 28 → AreSpellable (answer c e) → AreSpellable (answer c f)
+  encodable : n < 2 ^ 28 → AreEncodable (answer c e) → AreEncodable (answer c f)
 
 fits_same : (c : Connect) (size : ℕ) (e : End) → FitsBehind c size e e
-fits_same c size e = record { size = omega arith; spellable = λ small h. h }
+fits_same c size e = record { size = omega arith; encodable = λ small h. h }
 
 fits_kept : (c : Connect) (i : ℕ) (m : Message) (sent : Bool) (e : End) → length (fields (publish_packet i sent m)) ≡ publish_size m
     → FitsBehind c (publish_size m) e (record e { book = accept i m sent e.book; last = i })
@@ -242,7 +242,7 @@ fits_kept c i m sent e same =
     let g = grows_answer c i m sent e in
     record {
       size = let grown = g.size in omega arith;
-      spellable = λ small h. g.spellable h (omega (arith, same, small));
+      encodable = λ small h. g.encodable h (omega (arith, same, small));
     }
 
 fits_published : SizeLaws → (c : Connect) (q : Qos) (i : ℕ) (m : Message) (e : End) → q ≡ m.qos → FitsBehind c (publish_size m) e (publishes_at q i m e).end
@@ -261,7 +261,7 @@ published_rise laws c size m s fits small h =
     record {
       messages = omega arith;
       bytes = let grown = f.size in let had = h.bytes in omega arith;
-      spellable = f.spellable (omega (arith, fits, small)) h.spellable;
+      encodable = f.encodable (omega (arith, fits, small)) h.encodable;
     }
 
 -- ---- copies that are placed
@@ -278,10 +278,10 @@ turned : (a b : ℕ) → eqb b a ≡ false → eqb a b ≡ false
 turned a b e = ne_eqb a b (λ same. true≢false (sym (eq-eqb b a (sym same)) ∙ e))
 
 -- a copy for another client
-rise_beside : (c : Connect) (key n k : ℕ) (m : Message) (ts : List Tenant) → eqb k key ≡ false → HasRiseAt c key [] n ts → HasRiseAt c key [] n (placed_at k m ts)
-rise_beside c key n k m ts apart r = record { tenant = r.tenant; there = changed_other (published m) k key ts apart ∙ r.there; rise = r.rise }
+rise_beside : (c : Connect) (key n k : ℕ) (m : Message) (ts : List BrokerSession) → eqb k key ≡ false → HasRiseAt c key [] n ts → HasRiseAt c key [] n (placed_at k m ts)
+rise_beside c key n k m ts apart r = record { tenant = r.tenant; there = changed_other (published m) k key ts apart ∙ r.there; connect_end = r.connect_end }
 
-rise_others : (c : Connect) (key n : ℕ) (cs : List (ℕ × Message)) → is_among key cs ≡ false → (ts : List Tenant) → HasRiseAt c key [] n ts
+rise_others : (c : Connect) (key n : ℕ) (cs : List (ℕ × Message)) → is_among key cs ≡ false → (ts : List BrokerSession) → HasRiseAt c key [] n ts
     → HasRiseAt c key [] n (placed_all cs ts)
 rise_others c key n [] none ts r = r
 rise_others c key n (x ∷ cs) none ts r =
@@ -290,7 +290,7 @@ rise_others c key n (x ∷ cs) none ts r =
 
 -- each is for another client, and none is larger than this
 pub rise_placed : SizeLaws → (c : Connect) (key size : ℕ) → size < 2 ^ 28 → (cs : List (ℕ × Message)) → AreApart cs
-    → AllByRecursion (λ x. publish_size x.1 ≤ size) cs → (ts : List Tenant)
+    → AllByRecursion (λ x. publish_size x.1 ≤ size) cs → (ts : List BrokerSession)
     → HasRiseAt c key [] (whole_size size) ts → HasRiseAt c key [] 0 (placed_all cs ts)
 rise_placed laws c key size small [] apart fits ts r = rise_less c key [] (whole_size size) ts r
 rise_placed laws c key size small (x ∷ cs) apart fits ts r = go (eqb x.0 key) refl (rise_placed laws c key size small cs apart.1 fits.1 (placed_at x.0 x.1 ts))
@@ -303,7 +303,7 @@ rise_placed laws c key size small (x ∷ cs) apart fits ts r = go (eqb x.0 key) 
         (subst (λ (k : ℕ). HasRiseAt c key [] 0 (placed_at k x.1 ts)) (sym same) (record {
           tenant = record r.tenant { end = published x.1 r.tenant.end };
           there = changed_own (published x.1) key r.tenant ts r.there;
-          rise = published_rise laws c size x.1 r.tenant.end fits.0 small r.rise;
+          connect_end = published_rise laws c size x.1 r.tenant.end fits.0 small r.connect_end;
         }))
     go false e rest = rest (rise_beside c key (whole_size size) x.0 x.1 ts e r)
 
@@ -329,7 +329,7 @@ one_fits : (key : ℕ) (hides : Bool) (m n : Message) (rest : List (ℕ × Messa
 one_fits key true m n rest small all = all
 one_fits key false m n rest small all = (small, all)
 
-found_fit : (xs : List Line) (m : Message) (found : List (ℕ × Qos)) → Fit m (flat_map (λ f. for_key f.0 (copy_by (is_some (up_on f.0 xs)) m (Some f.1))) found)
+found_fit : (xs : List HubConnection) (m : Message) (found : List (ℕ × Qos)) → Fit m (flat_map (λ f. for_key f.0 (copy_by (is_some (up_on f.0 xs)) m (Some f.1))) found)
 found_fit xs m [] = tt
 found_fit xs m (f ∷ found) =
     one_fits f.0 (not (has_identifier (copy f.1 false m).qos) && not (is_some (up_on f.0 xs))) m (copy f.1 false m)
@@ -339,50 +339,50 @@ pub copies_fit : (m : Message) (h : HubState) → AllByRecursion (λ x. publish_
 unfolding copies_of
 copies_fit m h = go (is_hidden_name m.topic)
   where
-    go : (b : Bool) → Fit m (cond b [] (flat_map (λ found. for_key found.0 (copy_by (is_some (up_on found.0 h.lines)) m (Some found.1))) (matched m.topic h.rows)))
+    go : (b : Bool) → Fit m (cond b [] (flat_map (λ found. for_key found.0 (copy_by (is_some (up_on found.0 h.connections)) m (Some found.1))) (matched m.topic h.rows)))
     go true = tt
-    go false = found_fit h.lines m (matched m.topic h.rows)
+    go false = found_fit h.connections m (matched m.topic h.rows)
 
 -- ---- what a session's end does
 
 -- the session of a key whose end changed so
-pub record IsChanged (f : EndState → EndState) (key : ℕ) (ts us : List Tenant) : Type 0 where
-  pub session : Tenant
+pub record IsChanged (f : EndState → EndState) (key : ℕ) (ts us : List BrokerSession) : Type 0 where
+  pub session : BrokerSession
   pub there : tenant_of key ts ≡ Some session
   pub after : us ≡ with_server key (f session.end) ts
 
-abbrev pub IsChangedBy : (EndState → EndState) → ℕ → List Tenant → List Tenant → Type 0
+abbrev pub IsChangedBy : (EndState → EndState) → ℕ → List BrokerSession → List BrokerSession → Type 0
 IsChangedBy f key ts us = IfSome (tenant_of key ts) (λ s. us ≡ with_server key (f s.end) ts)
 
-pub changed_there : (f : EndState → EndState) (key : ℕ) (ts us : List Tenant) → is_some (tenant_of key ts) ≡ true → IsChangedBy f key ts us → IsChanged f key ts us
+pub changed_there : (f : EndState → EndState) (key : ℕ) (ts us : List BrokerSession) → is_some (tenant_of key ts) ≡ true → IsChangedBy f key ts us → IsChanged f key ts us
 changed_there f key ts us stands says = go (tenant_of key ts) refl stands says
   where
-    go : (o : Option Tenant) → tenant_of key ts ≡ o → is_some o ≡ true → IfSome o (λ s. us ≡ with_server key (f s.end) ts) → IsChanged f key ts us
+    go : (o : Option BrokerSession) → tenant_of key ts ≡ o → is_some o ≡ true → IfSome o (λ s. us ≡ with_server key (f s.end) ts) → IsChanged f key ts us
     go None e there is = absurd (true≢false (sym there))
     go (Some s) e there is = record { session = s; there = e; after = is }
 
 -- ---- a will that is published, or dropped
 
 pub leaves_same : (ms : List Message) (t : HubTables) → LeavesRise ms t t
-leaves_same ms t = record { rise = λ c key small none r. rise_less c key ms 0 t.sessions.tenants r }
+leaves_same ms t = record { connect_end = λ c key small none r. rise_less c key ms 0 t.sessions.tenants r }
 
 module _ (m : Message) (t p : HubTables) (hubs : AreHubs t) (same : AreSameButRoom t.sessions.tenants p.sessions.tenants)
     (still : AreStillReady t.sessions.tenants p.sessions.tenants) where
   -- the sessions are ready for its copies
-  rise_ready : (c : Connect) (key : ℕ) → up_on key t.lines.lines ≡ None → HasRiseAt c key (m ∷ []) 0 t.sessions.tenants
+  rise_ready : (c : Connect) (key : ℕ) → up_on key t.connections.connections ≡ None → HasRiseAt c key (m ∷ []) 0 t.sessions.tenants
       → HasRiseAt c key [] (whole_size (publish_size m)) p.sessions.tenants
   rise_ready c key none r =
       rise_kept hubs.config hubs.next_key t hubs.keeps c key (whole_size (publish_size m)) none p.sessions.tenants same still (rise_bytes c key m t.sessions.tenants r)
 
   pub leaves_ready : LeavesRise (m ∷ []) t p
-  leaves_ready = record { rise = λ c key small none r. rise_less c key [] (whole_size (publish_size m)) p.sessions.tenants (rise_ready c key none r) }
+  leaves_ready = record { connect_end = λ c key small none r. rise_less c key [] (whole_size (publish_size m)) p.sessions.tenants (rise_ready c key none r) }
 
   -- and they are placed
-  pub leaves_shared : SizeLaws → (cs : List (ℕ × Message)) (u : HubTables) → publish_size m ≤ t.lines.limits.most → AreApart cs → (h : HubState) → cs ≡ copies_of m h
+  pub leaves_shared : SizeLaws → (cs : List (ℕ × Message)) (u : HubTables) → publish_size m ≤ t.connections.limits.most → AreApart cs → (h : HubState) → cs ≡ copies_of m h
       → u.sessions.tenants ≡ placed_all cs p.sessions.tenants → LeavesRise (m ∷ []) t u
   leaves_shared laws cs u within apart h due placed = record {
-    rise = λ c key small none r.
-        subst (λ (us : List Tenant). HasRiseAt c key [] 0 us) (sym placed)
+    connect_end = λ c key small none r.
+        subst (λ (us : List BrokerSession). HasRiseAt c key [] 0 us) (sym placed)
         (rise_placed laws c key (publish_size m) (omega (arith, within, small)) cs apart
         (subst (λ (xs : List (ℕ × Message)). AllByRecursion (λ x. publish_size x.1 ≤ publish_size m) xs) (sym due) (copies_fit m h)) p.sessions.tenants
         (rise_ready c key none r));

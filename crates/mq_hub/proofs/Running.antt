@@ -10,7 +10,7 @@ use Rattle.mq_route.specs.declared.event.HubEvent.{HubEvent}
 use Rattle.mq_route.specs.declared.refusal.HubRefusal.{HubRefusal}
 use Rattle.mq_route.specs.declared.refusal.HubRefusal.TheVariants as refusals
 use Rattle.mq_route.specs.declared.reply.HubReply.{HubReply}
-use Rattle.mq_route.specs.declared.trace.Account.{Account}
+use Rattle.mq_route.specs.declared.trace.ClientLog.{ClientLog}
 use Rattle.mq_route.specs.declared.trace.HubTrace.{HubTrace}
 use Rattle.mq_route.specs.Hub.{HubState, new_hub}
 use Rattle.mq_route.specs.Runs.{AreAccounts, Episode, Follows, IsRun, acts_of}
@@ -85,7 +85,7 @@ acts_in : (es : List Episode) → flat_map (λ (r : HubReply). r.acts) (map (λ 
 acts_in [] = refl
 acts_in (e ∷ es) = ap (λ (more : List Act). e.reply.acts ++ more) (acts_in es)
 
-pub run_is : (config : HubConfig) (first hub : HubState) (events : List HubEvent) (replies : List HubReply) (accounts : List Account) (trace : HubTrace)
+pub run_is : (config : HubConfig) (first hub : HubState) (events : List HubEvent) (replies : List HubReply) (accounts : List ClientLog) (trace : HubTrace)
     → first ≡ new_hub config → IsFollowed first events replies hub → length accounts ≡ hub.next_key
     → AreAccounts 0 (flat_map (λ r. r.acts) replies) accounts → trace.replies ≡ replies → trace.accounts ≡ accounts → IsRun config events hub trace
 run_is config first hub events replies accounts trace new p keys are said told = record {

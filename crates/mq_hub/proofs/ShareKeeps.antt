@@ -8,8 +8,8 @@ use Rattle.mq_topic.specs.declared.qos.Qos.{Qos}
 use Rattle.mq_topic.specs.declared.qos.Qos.TheVariants.{Q0, Q1, Q2}
 use Rattle.mq_packet.specs.declared.message.Message.{Message}
 use Rattle.mq_packet.specs.declared.packet.Packet.{Packet}
-use Rattle.mq_packet.specs.Spelling.{spellings}
-use Rattle.mq_end.specs.declared.state.State.TheVariants.{Closed, Up}
+use Rattle.mq_packet.specs.Encoding.{encodings}
+use Rattle.mq_end.specs.declared.state.State.TheVariants.{Disconnected, Connected}
 use Rattle.mq_end.specs.Both.{has_identifier, publishes_at}
 use Rattle.mq_end.specs.End.{End, is_up}
 use Rattle.mq_end.specs.State.{EndState}
@@ -18,14 +18,14 @@ use Rattle.mq_route.specs.declared.act.Act.{Act}
 use Rattle.mq_route.specs.declared.config.HubConfig.{HubConfig}
 use Rattle.mq_route.specs.declared.conn.Conn.{Conn}
 use Rattle.mq_route.specs.Copies.{is_hidden_name, is_of, kept, replaced}
-use Rattle.mq_route.specs.Hub.{HubState, Line, copies_of, up_on}
-use Rattle.mq_route.specs.Work.{have_room, share}
-use Rattle.mq_hub.specs.declared.session.Tenant.{Tenant}
-use Rattle.mq_hub.specs.Does.{GoesBy}
-use Rattle.mq_hub.specs.Keeps.{HubKeeps, IsSeated, IsWithin}
+use Rattle.mq_route.specs.Hub.{HubState, HubConnection, copies_of, up_on}
+use Rattle.mq_route.specs.Work.{have_room, deliver}
+use Rattle.mq_hub.specs.declared.sessions.session.BrokerSession.{BrokerSession}
+use Rattle.mq_hub.specs.Does.{Refines}
+use Rattle.mq_hub.specs.Keeps.{HubInvariant, SessionMatchesConnection, IsWithin}
 use Rattle.mq_hub.specs.Placing.{AreApart, AreReady, HasSessions, IsReady, IsReadyAt, placed_all, placed_at, published, with_retained, with_tenants}
-use Rattle.mq_hub.specs.Lines.{LineTable}
-use Rattle.mq_hub.specs.Sharing.{AreTablesAlike}
+use Rattle.mq_hub.specs.Connections.{LineTable}
+use Rattle.mq_hub.specs.DeliveryPlan.{AreTablesAlike}
 use Rattle.mq_hub.specs.Seen.{HubTables, all_seen, hub_of}
 use Rattle.mq_hub.specs.Sessions.{sessions_of, tenant_of, with_server}
 use Rattle.mq_hub.proofs.Keeping.{kept_by}
@@ -37,12 +37,12 @@ use Rattle.mq_hub.proofs.Tenants.{ascending_with}
 
 -- ---- the end of a session is another one
 
-pub kept_served : (config : HubConfig) (next key : ℕ) (e : EndState) (s : Tenant) (t : HubTables) → HubKeeps config next t
+pub kept_served : (config : HubConfig) (next key : ℕ) (e : EndState) (s : BrokerSession) (t : HubTables) → HubInvariant config next t
     → tenant_of key t.sessions.tenants ≡ Some s
-    → IsSeated config t.lines.lines (record s { end = e }) → HubKeeps config next (with_tenants (with_server key e t.sessions.tenants) t)
+    → SessionMatchesConnection config t.connections.connections (record s { end = e }) → HubInvariant config next (with_tenants (with_server key e t.sessions.tenants) t)
 kept_served config next key e s t kept there here =
     let ts = t.sessions.tenants in
-    let xs = t.lines.lines in
+    let xs = t.connections.connections in
     record {
       capacity = kept.capacity;
       window = kept.window;
@@ -105,11 +105,11 @@ has_one m s ready down =
     go true e none = e
     go false e none = absurd (true≢false (sym (ap₂ (λ (a b : Bool). not a && not b) e down) ∙ none))
 
-down_none : (o : Option Conn) → o ≡ None → is_up (cond (is_some o) Up Closed) ≡ false
-down_none o e = ap (λ (x : Option Conn). is_up (cond (is_some x) Up Closed)) e
+down_none : (o : Option Conn) → o ≡ None → is_up (cond (is_some o) Connected Disconnected) ≡ false
+down_none o e = ap (λ (x : Option Conn). is_up (cond (is_some x) Connected Disconnected)) e
 
-seated_placed : (config : HubConfig) (xs : List Line) (m : Message) (s : Tenant) → IsReady (m ∷ []) 0 s.end → IsSeated config xs s
-    → IsSeated config xs (record s { end = published m s.end })
+seated_placed : (config : HubConfig) (xs : List HubConnection) (m : Message) (s : BrokerSession) → IsReady (m ∷ []) 0 s.end → SessionMatchesConnection config xs s
+    → SessionMatchesConnection config xs (record s { end = published m s.end })
 seated_placed config xs m s ready seat =
     let i = next_identifier s.end.end.last s.end.end.book in
     record {
@@ -121,21 +121,21 @@ seated_placed config xs m s ready seat =
       clean = same_clean m.qos i m s.end.end ∙ seat.clean;
       away = λ none.
           let down = ap is_up seat.state ∙ down_none (up_on s.key xs) none in
-          ap₂ (λ (b : List ℕ) (ps : List Packet). b ++ spellings ps) (seat.away none) (none_out m.qos i m s.end.end down (has_one m s.end ready down));
+          ap₂ (λ (b : List ℕ) (ps : List Packet). b ++ encodings ps) (seat.away none) (none_out m.qos i m s.end.end down (has_one m s.end ready down));
     }
 
-kept_placed : (config : HubConfig) (next key : ℕ) (m : Message) (t : HubTables) → HubKeeps config next t → IsReadyAt key (m ∷ []) 0 t.sessions.tenants
-    → HubKeeps config next (with_tenants (placed_at key m t.sessions.tenants) t)
+kept_placed : (config : HubConfig) (next key : ℕ) (m : Message) (t : HubTables) → HubInvariant config next t → IsReadyAt key (m ∷ []) 0 t.sessions.tenants
+    → HubInvariant config next (with_tenants (placed_at key m t.sessions.tenants) t)
 kept_placed config next key m t kept ready =
     let s = ready.tenant in
     let ts = t.sessions.tenants in
-    let seat = seat_of (IsSeated config t.lines.lines) key s ts ready.there kept.seated in
-    subst (λ (us : List Tenant). HubKeeps config next (with_tenants us t)) (same_change (published m) key s ts kept.ascending ready.there)
-    (kept_served config next key (published m s.end) s t kept ready.there (seated_placed config t.lines.lines m s ready.ready seat))
+    let seat = seat_of (SessionMatchesConnection config t.connections.connections) key s ts ready.there kept.seated in
+    subst (λ (us : List BrokerSession). HubInvariant config next (with_tenants us t)) (same_change (published m) key s ts kept.ascending ready.there)
+    (kept_served config next key (published m s.end) s t kept ready.there (seated_placed config t.connections.connections m s ready.ready seat))
 
 pub kept_placed_all : (config : HubConfig) (next : ℕ) (cs : List (ℕ × Message)) (t : HubTables) → AreApart cs → AreReady 0 t.sessions.tenants cs
-    → HubKeeps config next t
-    → HubKeeps config next (with_tenants (placed_all cs t.sessions.tenants) t)
+    → HubInvariant config next t
+    → HubInvariant config next (with_tenants (placed_all cs t.sessions.tenants) t)
 kept_placed_all config next [] t apart ready kept = kept
 kept_placed_all config next (c ∷ cs) t apart ready kept =
     let ts = t.sessions.tenants in
@@ -173,14 +173,14 @@ all_kept P m ms p all =
 
 -- ---- and both
 
-pub kept_shared : (config : HubConfig) (next : ℕ) (m : Message) (cs : List (ℕ × Message)) (t u : HubTables) → HubKeeps config next t
+pub kept_shared : (config : HubConfig) (next : ℕ) (m : Message) (cs : List (ℕ × Message)) (t u : HubTables) → HubInvariant config next t
     → IsWithin config.limits.most m → AreApart cs
-    → AreReady 0 t.sessions.tenants cs → u.rows ≡ t.rows → u.lines ≡ t.lines → u.retained.messages ≡ kept m t.retained.messages
+    → AreReady 0 t.sessions.tenants cs → u.rows ≡ t.rows → u.connections ≡ t.connections → u.retained.messages ≡ kept m t.retained.messages
     → u.sessions.tenants ≡ placed_all cs t.sessions.tenants
-    → HubKeeps config next u
-kept_shared config next m cs t u keeps within apart ready rows lines retained tenants =
-    let v : HubKeeps config next (with_tenants (placed_all cs t.sessions.tenants) t) = kept_placed_all config next cs t apart ready keeps in
-    let w : HubKeeps config next (with_retained (kept m t.retained.messages) (with_tenants (placed_all cs t.sessions.tenants) t)) = record {
+    → HubInvariant config next u
+kept_shared config next m cs t u keeps within apart ready rows connections retained tenants =
+    let v : HubInvariant config next (with_tenants (placed_all cs t.sessions.tenants) t) = kept_placed_all config next cs t apart ready keeps in
+    let w : HubInvariant config next (with_retained (kept m t.retained.messages) (with_tenants (placed_all cs t.sessions.tenants) t)) = record {
       capacity = v.capacity;
       window = v.window;
       limits = v.limits;
@@ -195,23 +195,23 @@ kept_shared config next m cs t u keeps within apart ready rows lines retained te
       retained = all_kept (IsWithin config.limits.most) m t.retained.messages within v.retained;
     } in
     kept_by config next (with_retained (kept m t.retained.messages) (with_tenants (placed_all cs t.sessions.tenants) t)) u w rows retained tenants
-    (ap (λ (l : LineTable). l.lines) lines) (ap (λ (l : LineTable). l.limits) lines)
+    (ap (λ (l : LineTable). l.connections) connections) (ap (λ (l : LineTable). l.limits) connections)
 
 -- ---- tables that are the same but for room
 
-pub kept_alike : (config : HubConfig) (next : ℕ) (t u : HubTables) → AreTablesAlike t u → HubKeeps config next t → HubKeeps config next u
+pub kept_alike : (config : HubConfig) (next : ℕ) (t u : HubTables) → AreTablesAlike t u → HubInvariant config next t → HubInvariant config next u
 kept_alike config next t u same kept =
     let v : HubTables = record t { rows = t.rows; sessions = record t.sessions { tenants = u.sessions.tenants } } in
     kept_by config next v u (kept_ready config next t kept u.sessions.tenants same.tenants t.rows kept.owned) same.rows same.retained refl
-    (ap (λ (l : LineTable). l.lines) same.lines) (ap (λ (l : LineTable). l.limits) same.lines)
+    (ap (λ (l : LineTable). l.connections) same.connections) (ap (λ (l : LineTable). l.limits) same.connections)
 
 pub hub_alike : (config : HubConfig) (clock next : ℕ) (t u : HubTables) → AreTablesAlike t u → hub_of config clock next u ≡ hub_of config clock next t
 hub_alike config clock next t u same =
     let ts = t.sessions.tenants in
     let us = u.sessions.tenants in
     let sessions : sessions_of us ≡ sessions_of ts = same_sessions ts us same.tenants in
-    let waits : all_seen us u.lines.lines ≡ all_seen ts t.lines.lines =
-    ap (λ (l : LineTable). all_seen us l.lines) same.lines ∙ alike_seen ts us same.tenants t.lines.lines in
+    let waits : all_seen us u.connections.connections ≡ all_seen ts t.connections.connections =
+    ap (λ (l : LineTable). all_seen us l.connections) same.connections ∙ alike_seen ts us same.tenants t.connections.connections in
     λ i. record {
       config = config;
       clock = clock;
@@ -219,17 +219,17 @@ hub_alike config clock next t u same =
       rows = same.rows i;
       retained = same.retained i;
       sessions = sessions i;
-      lines = waits i;
+      connections = waits i;
     }
 
 -- a broker has the sessions of its tables
-pub has_sessions : (config : HubConfig) (clock next : ℕ) (t : HubTables) → HubKeeps config next t → HasSessions t.sessions.tenants (hub_of config clock next t)
+pub has_sessions : (config : HubConfig) (clock next : ℕ) (t : HubTables) → HubInvariant config next t → HasSessions t.sessions.tenants (hub_of config clock next t)
 has_sessions config clock next t kept = record {
   sessions = refl;
   capacity = all_capacity t.sessions.tenants kept.seated;
 }
   where
-    all_capacity : (ts : List Tenant) → AllByRecursion (IsSeated config t.lines.lines) ts → AllByRecursion (λ s. s.end.capacity ≡ config.capacity) ts
+    all_capacity : (ts : List BrokerSession) → AllByRecursion (SessionMatchesConnection config t.connections.connections) ts → AllByRecursion (λ s. s.end.capacity ≡ config.capacity) ts
     all_capacity [] all = tt
     all_capacity (s ∷ ts) all = (all.0.capacity, all_capacity ts all.1)
 
@@ -237,11 +237,11 @@ has_sessions config clock next t kept = record {
 
 -- the same message, broker and acts
 pub goes_as : (a : Act) (m n : Message) (h i g : HubState) (x y z : List Act) → m ≡ n → h ≡ i → x ≡ y
-    → GoesBy (share a m) h x g z → GoesBy (share a n) i y g z
+    → Refines (deliver a m) h x g z → Refines (deliver a n) i y g z
 goes_as a m n h i g x y z message hub did goes =
-    subst (λ (p : Message). GoesBy (share a p) i y g z) message
-    (subst (λ (s : HubState). GoesBy (share a m) s y g z) hub
-    (subst (λ (d : List Act). GoesBy (share a m) h d g z) did goes))
+    subst (λ (p : Message). Refines (deliver a p) i y g z) message
+    (subst (λ (s : HubState). Refines (deliver a m) s y g z) hub
+    (subst (λ (d : List Act). Refines (deliver a m) h d g z) did goes))
 
 -- ---- and whether there is room
 

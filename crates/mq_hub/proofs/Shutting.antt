@@ -7,94 +7,94 @@ use Rattle.mq_route.specs.declared.act.Act.TheVariants as acts
 use Rattle.mq_route.specs.declared.close.HubClose.{HubClose}
 use Rattle.mq_route.specs.declared.config.HubConfig.{HubConfig}
 use Rattle.mq_route.specs.declared.conn.Conn.{Conn}
-use Rattle.mq_route.specs.declared.stage.Stage.{Stage}
-use Rattle.mq_route.specs.declared.stage.Stage.TheVariants.{Fresh, UpFor, Shut}
-use Rattle.mq_route.specs.Hub.{HubState, Line, changed, is_for, is_line, key_on, knows, stage_of, up_on, with_line}
+use Rattle.mq_route.specs.declared.connection_state.ConnectionState.{ConnectionState}
+use Rattle.mq_route.specs.declared.connection_state.ConnectionState.TheVariants.{AwaitingConnect, ConnectedAs, Closed}
+use Rattle.mq_route.specs.Hub.{HubState, HubConnection, changed, is_for, is_connection, key_on, knows, stage_of, up_on, with_connection}
 use Rattle.mq_route.specs.Routed.{same_conn}
 use Rattle.mq_route.specs.Work.{Work, close, leaves_behind, said, shut}
-use Rattle.mq_hub.specs.declared.session.Tenant.{Tenant}
-use Rattle.mq_hub.specs.Does.{GoesBy}
-use Rattle.mq_hub.specs.Keeps.{AreApart, HubKeeps, IsHoused, IsQuiet, stage_for}
+use Rattle.mq_hub.specs.declared.sessions.session.BrokerSession.{BrokerSession}
+use Rattle.mq_hub.specs.Does.{Refines}
+use Rattle.mq_hub.specs.Keeps.{AreApart, HubInvariant, ConnectionHasSession, IsQuiet, stage_for}
 use Rattle.mq_hub.specs.Seen.{HubTables, all_seen, hub_of, seen}
 use Rattle.mq_hub.specs.Sessions.{sessions_of}
 use Rattle.mq_hub.proofs.Changing.{own_bytes, rest_unknown, seen_still}
-use Rattle.mq_hub.proofs.Connections.{unknown}
+use Rattle.mq_hub.proofs.ConnectionTable.{unknown}
 use Rattle.mq_hub.proofs.Keeping.{all_seated_same, kept_by}
 
-abbrev pub closed : Line → Line
-closed x = record x { stage = Shut; held = [] }
+abbrev pub closed : HubConnection → HubConnection
+closed x = record x { stage = Closed; held = [] }
 
 -- it is up for no client
-pub not_up : (s : Stage) (c : ℕ) → key_on s ≡ None → is_for c s ≡ false
-not_up Fresh c e = refl
-not_up (UpFor key terms moment) c e = absurd cc
-not_up Shut c e = refl
+pub not_up : (s : ConnectionState) (c : ℕ) → key_on s ≡ None → is_for c s ≡ false
+not_up AwaitingConnect c e = refl
+not_up (ConnectedAs key terms last_activity) c e = absurd cc
+not_up Closed c e = refl
 
 module _ (k : Conn) where
-  closed_name : (x : Line) → (changed closed k x).conn ≡ x.conn
-  closed_name x = cond_both (is_line k x) (closed x) x (λ (y : Line). y.conn ≡ x.conn) (λ e. refl) (λ e. refl)
+  closed_name : (x : HubConnection) → (changed closed k x).conn ≡ x.conn
+  closed_name x = cond_both (is_connection k x) (closed x) x (λ (y : HubConnection). y.conn ≡ x.conn) (λ e. refl) (λ e. refl)
 
-  pub known_closed : (n : Conn) (xs : List Line) → knows n (with_line closed k xs) ≡ knows n xs
+  pub known_closed : (n : Conn) (xs : List HubConnection) → knows n (with_connection closed k xs) ≡ knows n xs
   known_closed n [] = refl
   known_closed n (x ∷ xs) = λ i. same_conn (closed_name x i) n || known_closed n xs i
 
   -- what is looked up by a client is as before
-  module _ {X : Type 0} (c : ℕ) (p : Line → X) (g : List Line → X) (step : (x : Line) (xs : List Line) → g (x ∷ xs) ≡ cond (is_for c x.stage) (p x) (g xs)) where
-    found_closed : (xs : List Line) → AreApart xs → key_on (stage_of k xs) ≡ None → g (with_line closed k xs) ≡ g xs
+  module _ {X : Type 0} (c : ℕ) (p : HubConnection → X) (g : List HubConnection → X) (step : (x : HubConnection) (xs : List HubConnection) → g (x ∷ xs) ≡ cond (is_for c x.stage) (p x) (g xs)) where
+    found_closed : (xs : List HubConnection) → AreApart xs → key_on (stage_of k xs) ≡ None → g (with_connection closed k xs) ≡ g xs
     found_closed [] apart idle = refl
-    found_closed (x ∷ xs) apart idle = go (is_line k x) refl (found_closed xs apart.2)
+    found_closed (x ∷ xs) apart idle = go (is_connection k x) refl (found_closed xs apart.2)
       where
-        go : (b : Bool) → is_line k x ≡ b → (key_on (stage_of k xs) ≡ None → g (with_line closed k xs) ≡ g xs) → g (with_line closed k (x ∷ xs)) ≡ g (x ∷ xs)
+        go : (b : Bool) → is_connection k x ≡ b → (key_on (stage_of k xs) ≡ None → g (with_connection closed k xs) ≡ g xs) → g (with_connection closed k (x ∷ xs)) ≡ g (x ∷ xs)
         go true same rest =
-            let down : is_for c x.stage ≡ false = not_up x.stage c (ap key_on (sym (cond-true (is_line k x) x.stage (stage_of k xs) same)) ∙ idle) in
-            ap (λ (y : Line). g (y ∷ with_line closed k xs)) (cond-true (is_line k x) (closed x) x same)
-            ∙ ap (λ (ys : List Line). g (closed x ∷ ys)) (unknown closed k xs (rest_unknown k x xs same apart.0))
+            let down : is_for c x.stage ≡ false = not_up x.stage c (ap key_on (sym (cond-true (is_connection k x) x.stage (stage_of k xs) same)) ∙ idle) in
+            ap (λ (y : HubConnection). g (y ∷ with_connection closed k xs)) (cond-true (is_connection k x) (closed x) x same)
+            ∙ ap (λ (ys : List HubConnection). g (closed x ∷ ys)) (unknown closed k xs (rest_unknown k x xs same apart.0))
             ∙ step (closed x) xs
             ∙ sym (cond-false (is_for c x.stage) (p x) (g xs) down) ∙ sym (step x xs)
         go false differ rest =
-            ap (λ (y : Line). g (y ∷ with_line closed k xs)) (cond-false (is_line k x) (closed x) x differ)
-            ∙ step x (with_line closed k xs)
-            ∙ ap (λ (v : X). cond (is_for c x.stage) (p x) v) (rest (ap key_on (sym (cond-false (is_line k x) x.stage (stage_of k xs) differ)) ∙ idle))
+            ap (λ (y : HubConnection). g (y ∷ with_connection closed k xs)) (cond-false (is_connection k x) (closed x) x differ)
+            ∙ step x (with_connection closed k xs)
+            ∙ ap (λ (v : X). cond (is_for c x.stage) (p x) v) (rest (ap key_on (sym (cond-false (is_connection k x) x.stage (stage_of k xs) differ)) ∙ idle))
             ∙ sym (step x xs)
 
-  pub up_closed : (c : ℕ) (xs : List Line) → AreApart xs → key_on (stage_of k xs) ≡ None → up_on c (with_line closed k xs) ≡ up_on c xs
-  up_closed c = found_closed c (λ (x : Line). Some x.conn) (up_on c) (λ x xs. refl)
+  pub up_closed : (c : ℕ) (xs : List HubConnection) → AreApart xs → key_on (stage_of k xs) ≡ None → up_on c (with_connection closed k xs) ≡ up_on c xs
+  up_closed c = found_closed c (λ (x : HubConnection). Some x.conn) (up_on c) (λ x xs. refl)
 
-  pub stage_closed : (c : ℕ) (xs : List Line) → AreApart xs → key_on (stage_of k xs) ≡ None → stage_for c (with_line closed k xs) ≡ stage_for c xs
-  stage_closed c = found_closed c (λ (x : Line). x.stage) (stage_for c) (λ x xs. refl)
+  pub stage_closed : (c : ℕ) (xs : List HubConnection) → AreApart xs → key_on (stage_of k xs) ≡ None → stage_for c (with_connection closed k xs) ≡ stage_for c xs
+  stage_closed c = found_closed c (λ (x : HubConnection). x.stage) (stage_for c) (λ x xs. refl)
 
-  housed_closed : (most : ℕ) (ts : List Tenant) (xs : List Line) → AllByRecursion (λ y. IsHoused most ts y.stage) xs → AllByRecursion (λ y. IsHoused most ts y.stage) (with_line closed k xs)
+  housed_closed : (most : ℕ) (ts : List BrokerSession) (xs : List HubConnection) → AllByRecursion (λ y. ConnectionHasSession most ts y.stage) xs → AllByRecursion (λ y. ConnectionHasSession most ts y.stage) (with_connection closed k xs)
   housed_closed most ts [] all = tt
   housed_closed most ts (x ∷ xs) all =
-      (cond_both (is_line k x) (closed x) x (λ (y : Line). IsHoused most ts y.stage) (λ e. tt) (λ e. all.0), housed_closed most ts xs all.1)
+      (cond_both (is_connection k x) (closed x) x (λ (y : HubConnection). ConnectionHasSession most ts y.stage) (λ e. tt) (λ e. all.0), housed_closed most ts xs all.1)
 
-  quiet_closed : (xs : List Line) → AllByRecursion (λ y. IsQuiet y.stage y.waiting) xs → AllByRecursion (λ y. IsQuiet y.stage y.waiting) (with_line closed k xs)
+  quiet_closed : (xs : List HubConnection) → AllByRecursion (λ y. IsQuiet y.stage y.waiting) xs → AllByRecursion (λ y. IsQuiet y.stage y.waiting) (with_connection closed k xs)
   quiet_closed [] all = tt
   quiet_closed (x ∷ xs) all =
-      (cond_both (is_line k x) (closed x) x (λ (y : Line). IsQuiet y.stage y.waiting) (λ e. tt) (λ e. all.0), quiet_closed xs all.1)
+      (cond_both (is_connection k x) (closed x) x (λ (y : HubConnection). IsQuiet y.stage y.waiting) (λ e. tt) (λ e. all.0), quiet_closed xs all.1)
 
-  apart_closed : (xs : List Line) → AreApart xs → key_on (stage_of k xs) ≡ None → AreApart (with_line closed k xs)
+  apart_closed : (xs : List HubConnection) → AreApart xs → key_on (stage_of k xs) ≡ None → AreApart (with_connection closed k xs)
   apart_closed [] apart idle = tt
-  apart_closed (x ∷ xs) apart idle = go (is_line k x) refl (apart_closed xs apart.2)
+  apart_closed (x ∷ xs) apart idle = go (is_connection k x) refl (apart_closed xs apart.2)
     where
-      go : (b : Bool) → is_line k x ≡ b → (key_on (stage_of k xs) ≡ None → AreApart (with_line closed k xs)) → AreApart (with_line closed k (x ∷ xs))
+      go : (b : Bool) → is_connection k x ≡ b → (key_on (stage_of k xs) ≡ None → AreApart (with_connection closed k xs)) → AreApart (with_connection closed k (x ∷ xs))
       go true same rest =
-          subst AreApart (sym (ap₂ (λ (y : Line) (ys : List Line). y ∷ ys) (cond-true (is_line k x) (closed x) x same) (unknown closed k xs (rest_unknown k x xs same apart.0))))
+          subst AreApart (sym (ap₂ (λ (y : HubConnection) (ys : List HubConnection). y ∷ ys) (cond-true (is_connection k x) (closed x) x same) (unknown closed k xs (rest_unknown k x xs same apart.0))))
           (apart.0, λ key e. absurd (true≢false (sym e)), apart.2)
       go false differ rest =
-          let later : key_on (stage_of k xs) ≡ None = ap key_on (sym (cond-false (is_line k x) x.stage (stage_of k xs) differ)) ∙ idle in
-          subst (λ (y : Line). AreApart (y ∷ with_line closed k xs)) (sym (cond-false (is_line k x) (closed x) x differ))
+          let later : key_on (stage_of k xs) ≡ None = ap key_on (sym (cond-false (is_connection k x) x.stage (stage_of k xs) differ)) ∙ idle in
+          subst (λ (y : HubConnection). AreApart (y ∷ with_connection closed k xs)) (sym (cond-false (is_connection k x) (closed x) x differ))
           (known_closed x.conn xs ∙ apart.0, λ key e. up_closed key xs apart.2 later ∙ apart.1 key e, rest later)
 
-  module _ (config : HubConfig) (next : ℕ) (t u : HubTables) (kept : HubKeeps config next t) (idle : key_on (stage_of k t.lines.lines) ≡ None) (rows : u.rows ≡ t.rows)
-      (retained : u.retained.messages ≡ t.retained.messages) (tenants : u.sessions.tenants ≡ t.sessions.tenants) (lines : u.lines.lines ≡ with_line closed k t.lines.lines) where
-    pub kept_closed : u.lines.limits ≡ t.lines.limits → HubKeeps config next u
+  module _ (config : HubConfig) (next : ℕ) (t u : HubTables) (kept : HubInvariant config next t) (idle : key_on (stage_of k t.connections.connections) ≡ None) (rows : u.rows ≡ t.rows)
+      (retained : u.retained.messages ≡ t.retained.messages) (tenants : u.sessions.tenants ≡ t.sessions.tenants) (connections : u.connections.connections ≡ with_connection closed k t.connections.connections) where
+    pub kept_closed : u.connections.limits ≡ t.connections.limits → HubInvariant config next u
     kept_closed limits =
         let ts = t.sessions.tenants in
-        let xs = t.lines.lines in
-        let ys = with_line closed k xs in
-        let v : HubTables = record t { lines = record t.lines { lines = ys } } in
-        let w : HubKeeps config next v = record {
+        let xs = t.connections.connections in
+        let ys = with_connection closed k xs in
+        let v : HubTables = record t { connections = record t.connections { connections = ys } } in
+        let w : HubInvariant config next v = record {
           capacity = kept.capacity;
           window = kept.window;
           limits = kept.limits;
@@ -108,16 +108,16 @@ module _ (k : Conn) where
           owned = kept.owned;
           retained = kept.retained;
         } in
-        kept_by config next v u w rows retained tenants lines limits
+        kept_by config next v u w rows retained tenants connections limits
 
-    pub hub_closed : (clock : ℕ) → hub_of config clock next u ≡ record (hub_of config clock next t) { lines = with_line closed k (all_seen t.sessions.tenants t.lines.lines) }
+    pub hub_closed : (clock : ℕ) → hub_of config clock next u ≡ record (hub_of config clock next t) { connections = with_connection closed k (all_seen t.sessions.tenants t.connections.connections) }
     hub_closed clock =
         let ts = t.sessions.tenants in
-        let xs = t.lines.lines in
-        let here : (x : Line) → x.stage ≡ stage_of k xs → seen ts (closed x) ≡ closed (seen ts x) =
+        let xs = t.connections.connections in
+        let here : (x : HubConnection) → x.stage ≡ stage_of k xs → seen ts (closed x) ≡ closed (seen ts x) =
         λ x stage. ap (λ (b : List ℕ). record (closed x) { waiting = b }) (sym (own_bytes x.stage ts x.waiting (ap key_on stage ∙ idle))) in
-        let waits : all_seen u.sessions.tenants u.lines.lines ≡ with_line closed k (all_seen ts xs) =
-        (λ i. all_seen (tenants i) (lines i)) ∙ seen_still k ts (stage_of k xs) closed closed here xs kept.apart refl in
+        let waits : all_seen u.sessions.tenants u.connections.connections ≡ with_connection closed k (all_seen ts xs) =
+        (λ i. all_seen (tenants i) (connections i)) ∙ seen_still k ts (stage_of k xs) closed closed here xs kept.apart refl in
         λ i. record {
           config = config;
           clock = clock;
@@ -125,24 +125,24 @@ module _ (k : Conn) where
           rows = rows i;
           retained = retained i;
           sessions = sessions_of (tenants i);
-          lines = waits i;
+          connections = waits i;
         }
 
 -- nothing is left behind by one that isn't up
-nothing_left : (why : HubClose) (fits : Bool) (s : Stage) (w : Work) → key_on s ≡ None → leaves_behind why fits s w ≡ w
+nothing_left : (why : HubClose) (fits : Bool) (s : ConnectionState) (w : Work) → key_on s ≡ None → leaves_behind why fits s w ≡ w
 unfolding leaves_behind
-nothing_left why fits Fresh w e = refl
-nothing_left why fits (UpFor key terms moment) w e = absurd cc
-nothing_left why fits Shut w e = refl
+nothing_left why fits AwaitingConnect w e = refl
+nothing_left why fits (ConnectedAs key terms last_activity) w e = absurd cc
+nothing_left why fits Closed w e = refl
 
 -- the change of the definition
-pub goes_closed : (k : Conn) (why : HubClose) (fits : Bool) (h g : HubState) (did says : List Act) → key_on (stage_of k h.lines) ≡ None → g ≡ record h { lines = with_line closed k h.lines }
-    → says ≡ did ++ acts.Closed k why ∷ [] → GoesBy (close k why fits) h did g says
+pub goes_closed : (k : Conn) (why : HubClose) (fits : Bool) (h g : HubState) (did says : List Act) → key_on (stage_of k h.connections) ≡ None → g ≡ record h { connections = with_connection closed k h.connections }
+    → says ≡ did ++ acts.Closed k why ∷ [] → Refines (close k why fits) h did g says
 unfolding close
 goes_closed k why fits h g did says idle is said_is = record {
-  hub = λ w e f. ap (λ (v : Work). v.hub) (left w e) ∙ ap (λ (a : HubState). record a { lines = with_line closed k a.lines }) e ∙ sym is;
+  hub = λ w e f. ap (λ (v : Work). v.hub) (left w e) ∙ ap (λ (a : HubState). record a { connections = with_connection closed k a.connections }) e ∙ sym is;
   did = λ w e f. ap (λ (v : Work). v.did) (left w e) ∙ ap (λ (a : List Act). a ++ acts.Closed k why ∷ []) f ∙ sym said_is;
 }
   where
-    left : (w : Work) → w.hub ≡ h → leaves_behind why fits (stage_of k w.hub.lines) (said (acts.Closed k why) (shut k w)) ≡ said (acts.Closed k why) (shut k w)
-    left w e = nothing_left why fits (stage_of k w.hub.lines) (said (acts.Closed k why) (shut k w)) (ap (λ (a : HubState). key_on (stage_of k a.lines)) e ∙ idle)
+    left : (w : Work) → w.hub ≡ h → leaves_behind why fits (stage_of k w.hub.connections) (said (acts.Closed k why) (shut k w)) ≡ said (acts.Closed k why) (shut k w)
+    left w e = nothing_left why fits (stage_of k w.hub.connections) (said (acts.Closed k why) (shut k w)) (ap (λ (a : HubState). key_on (stage_of k a.connections)) e ∙ idle)

@@ -8,7 +8,7 @@ use Rattle.mq_packet.specs.declared.message.Message.{Message}
 use Rattle.mq_packet.specs.declared.packet.Packet.{Packet}
 use Rattle.mq_packet.specs.declared.packet.Packet.TheVariants as packets
 use Rattle.mq_packet.specs.declared.packet.Request.{Request}
-use Rattle.mq_packet.specs.Spelling.{spellings}
+use Rattle.mq_packet.specs.Encoding.{encodings}
 use Rattle.mq_end.specs.declared.happening.Happening.{Happening}
 use Rattle.mq_end.specs.declared.happening.Happening.TheVariants as happens
 use Rattle.mq_end.specs.declared.reason.CloseReason.{CloseReason}
@@ -19,29 +19,29 @@ use Rattle.mq_route.specs.declared.act.Act.TheVariants as acts
 use Rattle.mq_route.specs.declared.close.HubClose.{HubClose}
 use Rattle.mq_route.specs.declared.close.HubClose.TheVariants.{Own, TargetFull, TakenOver}
 use Rattle.mq_route.specs.declared.conn.Conn.{Conn}
-use Rattle.mq_route.specs.declared.stage.Stage.{Stage}
-use Rattle.mq_route.specs.declared.stage.Stage.TheVariants.{Fresh, UpFor, Shut}
-use Rattle.mq_route.specs.Arrives.{Growth, admit, answers, answers_all, arrives, at_first, comes_in, due, granted, greet, greeting, greet_new}
-use Rattle.mq_route.specs.Arrives.{goes_on, heard_on, new_session, replies, take_over, takes, terms_of, welcomes}
+use Rattle.mq_route.specs.declared.connection_state.ConnectionState.{ConnectionState}
+use Rattle.mq_route.specs.declared.connection_state.ConnectionState.TheVariants.{AwaitingConnect, ConnectedAs, Closed}
+use Rattle.mq_route.specs.Arrives.{Growth, accept_connect, answers, answers_all, arrives, on_first_packet, dispatch_packet, due, granted, resume_session, greeting, start_session}
+use Rattle.mq_route.specs.Arrives.{goes_on, touched_on, new_session, replies, take_over, takes, terms_of, on_connect}
 use Rattle.mq_route.specs.Copies.{will_message}
-use Rattle.mq_route.specs.Hub.{HubState, Line, changed, copies_of, end_of, is_line, stage_of, up_on, with_end, with_line}
+use Rattle.mq_route.specs.Hub.{HubState, HubConnection, changed, copies_of, end_of, is_connection, stage_of, up_on, with_end, with_connection}
 use Rattle.mq_route.specs.Routed.{same_conn}
 use Rattle.mq_route.specs.Welcome.{ends_with, refusal}
 use Rattle.mq_route.specs.Work.{Work, close, does, have_room, last_will, leaves_behind, place, place_all, publishes_next, put_on, put_where, remove}
-use Rattle.mq_route.specs.Work.{remove_if, retained_copies, said, share, shut, staged, subscribed, unsubscribed, will_after, with_sessions}
-use Rattle.mq_hub.specs.Does.{GoesBy}
+use Rattle.mq_route.specs.Work.{remove_if, retained_copies, said, deliver, shut, staged, subscribed, unsubscribed, will_after, with_sessions}
+use Rattle.mq_hub.specs.Does.{Refines}
 
 -- ---- how far connections are
 
-module _ (g : Line → Line) (names : (x : Line) → (g x).conn ≡ x.conn) (stages : (x : Line) → (g x).stage ≡ x.stage) where
-  pub stage_kept : (k : Conn) (xs : List Line) → stage_of k (map g xs) ≡ stage_of k xs
+module _ (g : HubConnection → HubConnection) (names : (x : HubConnection) → (g x).conn ≡ x.conn) (stages : (x : HubConnection) → (g x).stage ≡ x.stage) where
+  pub stage_kept : (k : Conn) (xs : List HubConnection) → stage_of k (map g xs) ≡ stage_of k xs
   stage_kept k [] = refl
   stage_kept k (x ∷ xs) = λ i. cond (same_conn (names x i) k) (stages x i) (stage_kept k xs i)
 
 -- a part of a step that leaves them and the configuration
 pub record IsFirm (w v : Work) : Type 0 where
   pub config : v.hub.config ≡ w.hub.config
-  pub stage : (k : Conn) → stage_of k v.hub.lines ≡ stage_of k w.hub.lines
+  pub stage : (k : Conn) → stage_of k v.hub.connections ≡ stage_of k w.hub.connections
 
 firm_same : (w : Work) → IsFirm w w
 firm_same w = record { config = refl; stage = λ k. refl }
@@ -53,17 +53,17 @@ firm_put_on : (k : Conn) (ps : List Packet) (w : Work) → IsFirm w (put_on k ps
 unfolding put_on
 firm_put_on k ps w = record {
   config = refl;
-  stage = λ j. stage_kept (changed waits k) (λ x. name x (is_line k x)) (λ x. stage x (is_line k x)) j w.hub.lines;
+  stage = λ j. stage_kept (changed waits k) (λ x. name x (is_connection k x)) (λ x. stage x (is_connection k x)) j w.hub.connections;
 }
   where
-    waits : Line → Line
-    waits x = record x { waiting = x.waiting ++ spellings ps }
+    waits : HubConnection → HubConnection
+    waits x = record x { waiting = x.waiting ++ encodings ps }
 
-    name : (x : Line) (b : Bool) → (cond b (waits x) x).conn ≡ x.conn
+    name : (x : HubConnection) (b : Bool) → (cond b (waits x) x).conn ≡ x.conn
     name x true = refl
     name x false = refl
 
-    stage : (x : Line) (b : Bool) → (cond b (waits x) x).stage ≡ x.stage
+    stage : (x : HubConnection) (b : Bool) → (cond b (waits x) x).stage ≡ x.stage
     stage x true = refl
     stage x false = refl
 
@@ -75,7 +75,7 @@ firm_does : (key : ℕ) (move : End → Reply) (w : Work) → IsFirm w (does key
 unfolding does
 firm_does key move w =
     let v : Work = with_sessions (with_end key (move (end_of key w.hub.sessions)).end) w in
-    let p = firm_put_where (up_on key w.hub.lines) (move (end_of key w.hub.sessions)).out v in
+    let p = firm_put_where (up_on key w.hub.connections) (move (end_of key w.hub.sessions)).out v in
     record { config = p.config; stage = p.stage }
 
 firm_place : (key : ℕ) (m : Message) (w : Work) → IsFirm w (place key m w)
@@ -86,8 +86,8 @@ firm_place_all : (copies : List (ℕ × Message)) (w : Work) → IsFirm w (place
 firm_place_all [] w = firm_same w
 firm_place_all (c ∷ cs) w = firm_then w (place c.0 c.1 w) (place_all cs (place c.0 c.1 w)) (firm_place c.0 c.1 w) (firm_place_all cs (place c.0 c.1 w))
 
-firm_share : (act : Act) (m : Message) (w : Work) → IsFirm w (share act m w)
-unfolding share
+firm_share : (act : Act) (m : Message) (w : Work) → IsFirm w (deliver act m w)
+unfolding deliver
 firm_share act m w =
     let p = firm_place_all (copies_of m w.hub) _ in
     record { config = p.config; stage = p.stage }
@@ -105,44 +105,44 @@ unfolding last_will
 firm_last_will key None fits w = firm_same w
 firm_last_will key (Some will) fits w =
     let m = will_message will in
-    cond_both (fits && have_room (copies_of m w.hub) w.hub) (share (acts.Will key m) m w) (said (acts.WillDropped key) w) (λ (v : Work). IsFirm w v)
+    cond_both (fits && have_room (copies_of m w.hub) w.hub) (deliver (acts.Will key m) m w) (said (acts.WillDropped key) w) (λ (v : Work). IsFirm w v)
     (λ e. firm_share (acts.Will key m) m w)
     (λ e. record { config = refl; stage = λ k. refl })
 
-firm_leaves : (why : HubClose) (fits : Bool) (s : Stage) (w : Work) → IsFirm w (leaves_behind why fits s w)
+firm_leaves : (why : HubClose) (fits : Bool) (s : ConnectionState) (w : Work) → IsFirm w (leaves_behind why fits s w)
 unfolding leaves_behind
-firm_leaves why fits Fresh w = firm_same w
-firm_leaves why fits (UpFor key terms moment) w =
+firm_leaves why fits AwaitingConnect w = firm_same w
+firm_leaves why fits (ConnectedAs key terms last_activity) w =
     let v : Work = with_sessions (with_end key (over (end_of key w.hub.sessions))) w in
     let p = firm_remove_if terms.clean_session key v in
     let q = firm_last_will key (will_after why terms.will) fits (remove_if terms.clean_session key v) in
     record { config = q.config ∙ p.config; stage = λ k. q.stage k ∙ p.stage k }
-firm_leaves why fits Shut w = firm_same w
+firm_leaves why fits Closed w = firm_same w
 
 -- ---- a connection that is closed
 
-abbrev shuts : Line → Line
-shuts x = record x { stage = Shut; held = [] }
+abbrev shuts : HubConnection → HubConnection
+shuts x = record x { stage = Closed; held = [] }
 
-shut_there : (k : Conn) (xs : List Line) → stage_of k (with_line shuts k xs) ≡ Shut
+shut_there : (k : Conn) (xs : List HubConnection) → stage_of k (with_connection shuts k xs) ≡ Closed
 shut_there k [] = refl
-shut_there k (x ∷ xs) = go (is_line k x) refl (shut_there k xs)
+shut_there k (x ∷ xs) = go (is_connection k x) refl (shut_there k xs)
   where
-    go : (b : Bool) → is_line k x ≡ b → stage_of k (with_line shuts k xs) ≡ Shut → stage_of k (with_line shuts k (x ∷ xs)) ≡ Shut
+    go : (b : Bool) → is_connection k x ≡ b → stage_of k (with_connection shuts k xs) ≡ Closed → stage_of k (with_connection shuts k (x ∷ xs)) ≡ Closed
     go true same rest =
-        ap (λ (y : Line). stage_of k (y ∷ with_line shuts k xs)) (cond-true (is_line k x) (shuts x) x same)
-        ∙ cond-true (is_line k x) Shut (stage_of k (with_line shuts k xs)) same
+        ap (λ (y : HubConnection). stage_of k (y ∷ with_connection shuts k xs)) (cond-true (is_connection k x) (shuts x) x same)
+        ∙ cond-true (is_connection k x) Closed (stage_of k (with_connection shuts k xs)) same
     go false other rest =
-        ap (λ (y : Line). stage_of k (y ∷ with_line shuts k xs)) (cond-false (is_line k x) (shuts x) x other)
-        ∙ cond-false (is_line k x) x.stage (stage_of k (with_line shuts k xs)) other ∙ rest
+        ap (λ (y : HubConnection). stage_of k (y ∷ with_connection shuts k xs)) (cond-false (is_connection k x) (shuts x) x other)
+        ∙ cond-false (is_connection k x) x.stage (stage_of k (with_connection shuts k xs)) other ∙ rest
 
-pub closed_is_shut : (k : Conn) (why : HubClose) (fits : Bool) (w : Work) → stage_of k (close k why fits w).hub.lines ≡ Shut
+pub closed_is_shut : (k : Conn) (why : HubClose) (fits : Bool) (w : Work) → stage_of k (close k why fits w).hub.connections ≡ Closed
 unfolding close
-closed_is_shut k why fits w = (firm_leaves why fits (stage_of k w.hub.lines) (said (acts.Closed k why) (shut k w))).stage k ∙ shut_there k w.hub.lines
+closed_is_shut k why fits w = (firm_leaves why fits (stage_of k w.hub.connections) (said (acts.Closed k why) (shut k w))).stage k ∙ shut_there k w.hub.connections
 
 pub config_close : (k : Conn) (why : HubClose) (fits : Bool) (w : Work) → (close k why fits w).hub.config ≡ w.hub.config
 unfolding close
-config_close k why fits w = (firm_leaves why fits (stage_of k w.hub.lines) (said (acts.Closed k why) (shut k w))).config
+config_close k why fits w = (firm_leaves why fits (stage_of k w.hub.connections) (said (acts.Closed k why) (shut k w))).config
 
 -- ---- the configuration
 
@@ -184,24 +184,24 @@ config_replies k key move None fits w =
     (λ e. config_answers_all k key told (does key move w) ∙ (firm_does key move w).config)
     (λ e. config_close k TargetFull fits w)
 
-config_greet : (k : Conn) (c : Connect) (key : ℕ) (w : Work) → (greet k c key w).hub.config ≡ w.hub.config
-unfolding greet
+config_greet : (k : Conn) (c : Connect) (key : ℕ) (w : Work) → (resume_session k c key w).hub.config ≡ w.hub.config
+unfolding resume_session
 config_greet k c key w =
-    let v : Work = staged k (UpFor key (terms_of c) w.hub.clock) w in
+    let v : Work = staged k (ConnectedAs key (terms_of c) w.hub.clock) w in
     config_answers_all k key (greeting c (end_of key w.hub.sessions)).happenings (does key (greeting c) v) ∙ (firm_does key (greeting c) v).config
 
 config_new_session : (client : List ℕ) (w : Work) → (new_session client w).hub.config ≡ w.hub.config
 unfolding new_session
 config_new_session client w = refl
 
-config_greet_new : (k : Conn) (c : Connect) (client : List ℕ) (w : Work) → (greet_new k c client w).hub.config ≡ w.hub.config
+config_greet_new : (k : Conn) (c : Connect) (client : List ℕ) (w : Work) → (start_session k c client w).hub.config ≡ w.hub.config
 config_greet_new k c client w = config_greet k c w.hub.next_key (new_session client w) ∙ config_new_session client w
 
 config_goes_on : (k : Conn) (c : Connect) (client : List ℕ) (key : ℕ) (ends : Bool) (w : Work) → (goes_on k c client key ends w).hub.config ≡ w.hub.config
 unfolding goes_on
 config_goes_on k c client key true w = config_greet_new k c client w
 config_goes_on k c client key false w =
-    cond_both c.clean_session (greet_new k c client (remove key w)) (greet k c key w) (λ (v : Work). v.hub.config ≡ w.hub.config)
+    cond_both c.clean_session (start_session k c client (remove key w)) (resume_session k c key w) (λ (v : Work). v.hub.config ≡ w.hub.config)
     (λ e. config_greet_new k c client (remove key w) ∙ (firm_remove key w).config)
     (λ e. config_greet k c key w)
 
@@ -209,18 +209,18 @@ config_take_over : (o : Option Conn) (fits : Bool) (w : Work) → (take_over o f
 config_take_over None fits w = refl
 config_take_over (Some k) fits w = config_close k TakenOver fits w
 
-config_admit : (k : Conn) (c : Connect) (client : List ℕ) (o : Option ℕ) (fits : Bool) (w : Work) → (admit k c client o fits w).hub.config ≡ w.hub.config
+config_admit : (k : Conn) (c : Connect) (client : List ℕ) (o : Option ℕ) (fits : Bool) (w : Work) → (accept_connect k c client o fits w).hub.config ≡ w.hub.config
 config_admit k c client None fits w = config_greet_new k c client w
 config_admit k c client (Some key) fits w =
-    config_goes_on k c client key (ends_with key w.hub) (take_over (up_on key w.hub.lines) fits w) ∙ config_take_over (up_on key w.hub.lines) fits w
+    config_goes_on k c client key (ends_with key w.hub) (take_over (up_on key w.hub.connections) fits w) ∙ config_take_over (up_on key w.hub.connections) fits w
 
-config_welcomes : (k : Conn) (c : Connect) (o : Option RefusalCode) (fits : Bool) (w : Work) → (welcomes k c o fits w).hub.config ≡ w.hub.config
-unfolding welcomes
+config_welcomes : (k : Conn) (c : Connect) (o : Option RefusalCode) (fits : Bool) (w : Work) → (on_connect k c o fits w).hub.config ≡ w.hub.config
+unfolding on_connect
 config_welcomes k c (Some code) fits w = config_close k _ fits (put_on k _ w) ∙ (firm_put_on k _ w).config
 config_welcomes k c None fits w = config_admit k c _ _ fits w
 
-config_at_first : (k : Conn) (p : Packet) (fits : Bool) (w : Work) → (at_first k p fits w).hub.config ≡ w.hub.config
-unfolding at_first
+config_at_first : (k : Conn) (p : Packet) (fits : Bool) (w : Work) → (on_first_packet k p fits w).hub.config ≡ w.hub.config
+unfolding on_first_packet
 config_at_first k (packets.Connect c) fits w = config_welcomes k c (refusal c w.hub) fits w
 config_at_first k (packets.ConnAck a) fits w = config_close k _ fits w
 config_at_first k (packets.Publish a) fits w = config_close k _ fits w
@@ -236,17 +236,17 @@ config_at_first k packets.PingReq fits w = config_close k _ fits w
 config_at_first k packets.PingResp fits w = config_close k _ fits w
 config_at_first k packets.Disconnect fits w = config_close k _ fits w
 
-config_comes_in : (k : Conn) (p : Packet) (fits : Bool) (s : Stage) (w : Work) → (comes_in k p fits s w).hub.config ≡ w.hub.config
-unfolding comes_in
-config_comes_in k p fits Fresh w = config_at_first k p fits w
-config_comes_in k p fits (UpFor key terms moment) w = config_replies k key (server_gets p) (server_gets p (end_of key w.hub.sessions)).close fits w
-config_comes_in k p fits Shut w = refl
+config_comes_in : (k : Conn) (p : Packet) (fits : Bool) (s : ConnectionState) (w : Work) → (dispatch_packet k p fits s w).hub.config ≡ w.hub.config
+unfolding dispatch_packet
+config_comes_in k p fits AwaitingConnect w = config_at_first k p fits w
+config_comes_in k p fits (ConnectedAs key terms last_activity) w = config_replies k key (server_gets p) (server_gets p (end_of key w.hub.sessions)).close fits w
+config_comes_in k p fits Closed w = refl
 
 config_arrives : (k : Conn) (p : Packet) (g : Growth) (w : Work) → (arrives k p g w).hub.config ≡ w.hub.config
 unfolding arrives
 config_arrives k p g w =
-    cond_both g.fits (comes_in k p g.will_fits (stage_of k w.hub.lines) (heard_on k w)) (close k _ g.will_fits w) (λ (v : Work). v.hub.config ≡ w.hub.config)
-    (λ e. config_comes_in k p g.will_fits (stage_of k w.hub.lines) (heard_on k w))
+    cond_both g.fits (dispatch_packet k p g.will_fits (stage_of k w.hub.connections) (touched_on k w)) (close k _ g.will_fits w) (λ (v : Work). v.hub.config ≡ w.hub.config)
+    (λ e. config_comes_in k p g.will_fits (stage_of k w.hub.connections) (touched_on k w))
     (λ e. config_close k _ g.will_fits w)
 
 config_takes : (k : Conn) (p : Packet) (g : Growth) (w : Work) → (takes k p g w).hub.config ≡ w.hub.config
@@ -258,12 +258,12 @@ config_takes k p g w = config_arrives k p g w
 abbrev so_far : HubState → List Act → Work
 so_far h did = record { hub = h; did = did; sent = []; came = [] }
 
-pub goes_shut : (k : Conn) (why : HubClose) (fits : Bool) (old new : HubState) (said says : List Act) → GoesBy (close k why fits) old said new says
-    → stage_of k new.lines ≡ Shut
+pub goes_shut : (k : Conn) (why : HubClose) (fits : Bool) (old new : HubState) (said says : List Act) → Refines (close k why fits) old said new says
+    → stage_of k new.connections ≡ Closed
 goes_shut k why fits old new said says goes =
-    ap (λ (h : HubState). stage_of k h.lines) (sym (goes.hub (so_far old said) refl refl)) ∙ closed_is_shut k why fits (so_far old said)
+    ap (λ (h : HubState). stage_of k h.connections) (sym (goes.hub (so_far old said) refl refl)) ∙ closed_is_shut k why fits (so_far old said)
 
-pub goes_config : (k : Conn) (p : Packet) (g : Growth) (old new : HubState) (said says : List Act) → GoesBy (takes k p g) old said new says
+pub goes_config : (k : Conn) (p : Packet) (g : Growth) (old new : HubState) (said says : List Act) → Refines (takes k p g) old said new says
     → new.config ≡ old.config
 goes_config k p g old new said says goes =
     ap (λ (h : HubState). h.config) (sym (goes.hub (so_far old said) refl refl)) ∙ config_takes k p g (so_far old said)

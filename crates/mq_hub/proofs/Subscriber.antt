@@ -9,7 +9,7 @@ use Rattle.mq_packet.specs.declared.message.Message.{Message}
 use Rattle.mq_packet.specs.declared.packet.Packet.TheVariants as packets
 use Rattle.mq_packet.specs.declared.packet.Request.{Request}
 use Rattle.mq_packet.specs.declared.packet.SubAckCode.{SubAckCode}
-use Rattle.mq_packet.specs.Spelling.{fields}
+use Rattle.mq_packet.specs.Encoding.{fields}
 use Rattle.mq_decode.specs.Limits.{Bounds}
 use Rattle.mq_flow.specs.Next.{next_identifier}
 use Rattle.mq_end.specs.declared.happening.Happening.TheVariants as happens
@@ -23,15 +23,15 @@ use Rattle.mq_route.specs.declared.config.HubConfig.{HubConfig}
 use Rattle.mq_route.specs.declared.conn.Conn.{Conn}
 use Rattle.mq_route.specs.Arrives.{answers, granted}
 use Rattle.mq_route.specs.Copies.{copy, retained_for}
-use Rattle.mq_route.specs.Hub.{HubState, Line, for_key, up_on}
+use Rattle.mq_route.specs.Hub.{HubState, HubConnection, for_key, up_on}
 use Rattle.mq_route.specs.Work.{Work, does, have_room, place_all, publishes_next, retained_copies, subscribed}
-use Rattle.mq_hub.specs.declared.call.Call.TheVariants.{Grants}
-use Rattle.mq_hub.specs.declared.session.Tenant.{Tenant}
+use Rattle.mq_hub.specs.declared.sessions.call.Call.TheVariants.{Grants}
+use Rattle.mq_hub.specs.declared.sessions.session.BrokerSession.{BrokerSession}
 use Rattle.mq_hub.specs.Answers.{Subscribes}
 use Rattle.mq_hub.specs.Calls.{CanServe, reply_of}
-use Rattle.mq_hub.specs.Does.{GoesBy}
-use Rattle.mq_hub.specs.Keeps.{HubKeeps, IsSeated, IsWithin, Stands}
-use Rattle.mq_hub.specs.Lines.{LineTable}
+use Rattle.mq_hub.specs.Does.{Refines}
+use Rattle.mq_hub.specs.Keeps.{HubInvariant, SessionMatchesConnection, IsWithin, Stands}
+use Rattle.mq_hub.specs.Connections.{LineTable}
 use Rattle.mq_hub.specs.Placing.{HasSessions, IsFor, MayGo, placed_acts, placed_all, placed_at, published, with_tenants}
 use Rattle.mq_hub.specs.Retained.{RetainedTable}
 use Rattle.mq_hub.specs.Seen.{HubTables, all_seen, hub_of}
@@ -55,14 +55,14 @@ publish_still m e = go m.qos (next_identifier e.last e.book)
     go Q1 i = record { window = refl; known = refl; state = refl; clean = refl }
     go Q2 i = record { window = refl; known = refl; state = refl; clean = refl }
 
-one_placed : (config : HubConfig) (next key : ℕ) (t : HubTables) → HubKeeps config next t → (k : Conn) → up_on key t.lines.lines ≡ Some k → (s : Tenant) → tenant_of key t.sessions.tenants ≡ Some s
-    → (m : Message) → HubKeeps config next (with_tenants (placed_at key m t.sessions.tenants) t)
+one_placed : (config : HubConfig) (next key : ℕ) (t : HubTables) → HubInvariant config next t → (k : Conn) → up_on key t.connections.connections ≡ Some k → (s : BrokerSession) → tenant_of key t.sessions.tenants ≡ Some s
+    → (m : Message) → HubInvariant config next (with_tenants (placed_at key m t.sessions.tenants) t)
 one_placed config next key t kept k on s there m =
-    subst (λ (ts : List Tenant). HubKeeps config next (with_tenants ts t)) (same_change (published m) key s t.sessions.tenants kept.ascending there)
+    subst (λ (ts : List BrokerSession). HubInvariant config next (with_tenants ts t)) (same_change (published m) key s t.sessions.tenants kept.ascending there)
     (kept_replied config next key s (published m s.end) t there kept k on (publishes_next m s.end.end) (record { end = refl; output = refl; capacity = refl; limit = refl }) (publish_still m s.end.end))
 
-pub all_placed : (config : HubConfig) (next key : ℕ) (ms : List Message) (t : HubTables) → HubKeeps config next t → (k : Conn) → up_on key t.lines.lines ≡ Some k
-    → (s : Tenant) → tenant_of key t.sessions.tenants ≡ Some s → HubKeeps config next (with_tenants (placed_all (for_key key ms) t.sessions.tenants) t)
+pub all_placed : (config : HubConfig) (next key : ℕ) (ms : List Message) (t : HubTables) → HubInvariant config next t → (k : Conn) → up_on key t.connections.connections ≡ Some k
+    → (s : BrokerSession) → tenant_of key t.sessions.tenants ≡ Some s → HubInvariant config next (with_tenants (placed_all (for_key key ms) t.sessions.tenants) t)
 all_placed config next key [] t kept k on s there = kept
 all_placed config next key (m ∷ ms) t kept k on s there =
     all_placed config next key ms (with_tenants (placed_at key m t.sessions.tenants) t) (one_placed config next key t kept k on s there m) k on
@@ -105,7 +105,7 @@ all_within most key (r ∷ rs) ms all =
     all_joined (λ c. IsWithin most c.1) (for_key key (retained_for r.filter r.qos ms)) (retained_copies key rs ms)
     (to_key most key (retained_for r.filter r.qos ms) (retained_within most r.filter r.qos ms all)) (all_within most key rs ms all)
 
-pub due_retained : (config : HubConfig) (next : ℕ) (t : HubTables) → HubKeeps config next t → (key : ℕ) (k : Conn) → up_on key t.lines.lines ≡ Some k → (rs : List Request) (ms : List Message)
+pub due_retained : (config : HubConfig) (next : ℕ) (t : HubTables) → HubInvariant config next t → (key : ℕ) (k : Conn) → up_on key t.connections.connections ≡ Some k → (rs : List Request) (ms : List Message)
     → for_key key ms ≡ retained_copies key rs t.retained.messages → IsFor key ms t.sessions.tenants
 due_retained config next t kept key k on rs ms due =
     let e = up_end config next t kept key k on in
@@ -113,7 +113,7 @@ due_retained config next t kept key k on rs ms due =
     (subst (λ (cs : List (ℕ × Message)). AllByRecursion (λ c. IsWithin config.limits.most c.1) cs) (sym due) (all_within config.limits.most key rs t.retained.messages kept.retained)) in
     record { tenant = e.tenant; there = e.there; may_go = go e.tenant (ap (λ (b : Bounds). b.most) e.limit) e.known (ap is_up e.state) ms all }
   where
-    go : (s : Tenant) → s.end.limit.most ≡ config.limits.most → s.end.end.known ≡ true → is_up s.end.end.state ≡ true → (ms : List Message) → AllByRecursion (IsWithin config.limits.most) ms
+    go : (s : BrokerSession) → s.end.limit.most ≡ config.limits.most → s.end.end.known ≡ true → is_up s.end.end.state ≡ true → (ms : List Message) → AllByRecursion (IsWithin config.limits.most) ms
         → AllByRecursion (λ m. MayGo m s.end) ms
     go s limit known up [] all = tt
     go s limit known up (m ∷ ms) all =
@@ -144,7 +144,7 @@ enough_for key ms cs h b c room due is =
     go true c is = is
     go false c is = is
 
-pub can_grant : (config : HubConfig) (next : ℕ) (t : HubTables) → HubKeeps config next t → (key : ℕ) (k : Conn) → up_on key t.lines.lines ≡ Some k → (i : ℕ) (rs : List Request)
+pub can_grant : (config : HubConfig) (next : ℕ) (t : HubTables) → HubInvariant config next t → (key : ℕ) (k : Conn) → up_on key t.connections.connections ≡ Some k → (i : ℕ) (rs : List Request)
     → subscribe_size rs ≤ config.limits.most → CanServe key (Grants i (granted rs)) t.sessions.tenants
 can_grant config next t kept key k on i rs within =
     let e = up_end config next t kept key k on in
@@ -159,25 +159,25 @@ can_grant config next t kept key k on i rs within =
 
 -- ---- the broker
 
-module _ (config : HubConfig) (next key : ℕ) (t u : HubTables) (kept : HubKeeps config next t) (k : Conn) (on : up_on key t.lines.lines ≡ Some k) (i : ℕ) (rs : List Request)
+module _ (config : HubConfig) (next key : ℕ) (t u : HubTables) (kept : HubInvariant config next t) (k : Conn) (on : up_on key t.connections.connections ≡ Some k) (i : ℕ) (rs : List Request)
     (s : Subscribes key i rs t u) where
   owned : AllByRecursion (λ r. Stands t.sessions.tenants r.0.0) (with_rows key rs t.rows)
   owned = with_owned (Stands t.sessions.tenants) key rs t.rows (stands_up config next t kept key k on) kept.owned
 
-  kept_between : HubKeeps config next s.between
+  kept_between : HubInvariant config next s.between
   kept_between =
       kept_answered config next key t s.between kept k on (Grants i (granted rs)) (with_rows key rs t.rows) owned s.answers
       (λ up. record { window = refl; known = refl; state = refl; clean = refl })
 
-  pub kept_subscribed : HubKeeps config next u
+  pub kept_subscribed : HubInvariant config next u
   kept_subscribed =
-      let on_between = ap (λ (l : LineTable). up_on key l.lines) s.answers.lines ∙ on in
+      let on_between = ap (λ (l : LineTable). up_on key l.connections) s.answers.connections ∙ on in
       let v : HubTables = with_tenants (placed_all (for_key key s.messages) s.between.sessions.tenants) s.between in
       kept_by config next v u (all_placed config next key s.messages s.between kept_between k on_between s.ready.tenant s.ready.there)
-      s.rows (ap (λ (r : RetainedTable). r.messages) s.retained) s.tenants (ap (λ (l : LineTable). l.lines) s.lines) (ap (λ (l : LineTable). l.limits) s.lines)
+      s.rows (ap (λ (r : RetainedTable). r.messages) s.retained) s.tenants (ap (λ (l : LineTable). l.connections) s.connections) (ap (λ (l : LineTable). l.limits) s.connections)
 
   module _ (clock : ℕ) (did : List Act) where
-    served_goes : GoesBy (λ w. does key (subacks i (granted rs)) (subscribed key rs w)) (hub_of config clock next t) did (hub_of config clock next s.between) (did ++ subscribed_acts key rs)
+    served_goes : Refines (λ w. does key (subacks i (granted rs)) (subscribed key rs w)) (hub_of config clock next t) did (hub_of config clock next s.between) (did ++ subscribed_acts key rs)
     served_goes =
         let h = hub_of config clock next t in
         goes_then (subscribed key rs) (does key (subacks i (granted rs))) h (record h { rows = with_rows key rs t.rows }) (hub_of config clock next s.between) did
@@ -188,7 +188,7 @@ module _ (config : HubConfig) (next key : ℕ) (t u : HubTables) (kept : HubKeep
     hub_placed =
         let rows = s.rows in
         let retained = s.retained in
-        let lines = s.lines in
+        let connections = s.connections in
         λ i. record {
           config = config;
           clock = clock;
@@ -196,18 +196,18 @@ module _ (config : HubConfig) (next key : ℕ) (t u : HubTables) (kept : HubKeep
           rows = sym rows i;
           retained = (sym retained i).messages;
           sessions = sessions_of u.sessions.tenants;
-          lines = all_seen u.sessions.tenants (sym lines i).lines;
+          connections = all_seen u.sessions.tenants (sym connections i).connections;
         }
 
-    placed_goes : GoesBy (place_all (for_key key s.messages)) (hub_of config clock next s.between) (did ++ subscribed_acts key rs) (hub_of config clock next u)
+    placed_goes : Refines (place_all (for_key key s.messages)) (hub_of config clock next s.between) (did ++ subscribed_acts key rs) (hub_of config clock next u)
         ((did ++ subscribed_acts key rs) ++ placed_acts (for_key key s.messages))
     placed_goes =
-        subst (λ (h : HubState). GoesBy (place_all (for_key key s.messages)) (hub_of config clock next s.between) (did ++ subscribed_acts key rs) h
+        subst (λ (h : HubState). Refines (place_all (for_key key s.messages)) (hub_of config clock next s.between) (did ++ subscribed_acts key rs) h
         ((did ++ subscribed_acts key rs) ++ placed_acts (for_key key s.messages))) hub_placed
         (goes config clock next s.between (did ++ subscribed_acts key rs) (for_key key s.messages) s.between.sessions.tenants u.sessions.tenants refl
         (can_place config next s.between kept_between) (for_placeable key s.messages 0 s.between.sessions.tenants s.ready) s.tenants)
 
-    pub subscribed_goes : (conn : Conn) → GoesBy (answers conn key (happens.Subscribe i rs)) (hub_of config clock next t) did (hub_of config clock next u)
+    pub subscribed_goes : (conn : Conn) → Refines (answers conn key (happens.Subscribe i rs)) (hub_of config clock next t) did (hub_of config clock next u)
         ((did ++ subscribed_acts key rs) ++ placed_acts (retained_copies key rs t.retained.messages))
     unfolding answers
     subscribed_goes conn =
@@ -233,12 +233,12 @@ pub if_ok : {X : Type 0} {P Q : X → Type 0} (r : Result X AllocError) → ((x 
 if_ok (Ok x) f p = f x p
 if_ok (Err e) f p = tt
 
-all_capacity : (config : HubConfig) (xs : List Line) (ts : List Tenant) → AllByRecursion (IsSeated config xs) ts → AllByRecursion (λ t. t.end.capacity ≡ config.capacity) ts
+all_capacity : (config : HubConfig) (xs : List HubConnection) (ts : List BrokerSession) → AllByRecursion (SessionMatchesConnection config xs) ts → AllByRecursion (λ t. t.end.capacity ≡ config.capacity) ts
 all_capacity config xs [] all = tt
 all_capacity config xs (t ∷ ts) all = (all.0.capacity, all_capacity config xs ts all.1)
 
-pub has_sessions : (config : HubConfig) (clock next : ℕ) (t : HubTables) → HubKeeps config next t → HasSessions t.sessions.tenants (hub_of config clock next t)
-has_sessions config clock next t kept = record { sessions = refl; capacity = all_capacity config t.lines.lines t.sessions.tenants kept.seated }
+pub has_sessions : (config : HubConfig) (clock next : ℕ) (t : HubTables) → HubInvariant config next t → HasSessions t.sessions.tenants (hub_of config clock next t)
+has_sessions config clock next t kept = record { sessions = refl; capacity = all_capacity config t.connections.connections t.sessions.tenants kept.seated }
 
 pub err_bool : {A X : Type 0} (r : Result Bool AllocError) → OnErr r A → (A → X) → OnErr r X
 err_bool (Ok x) a f = tt

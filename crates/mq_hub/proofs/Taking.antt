@@ -11,13 +11,13 @@ use Rattle.mq_route.specs.declared.act.Act.{Act}
 use Rattle.mq_route.specs.declared.close.HubClose.TheVariants.{TargetFull}
 use Rattle.mq_route.specs.declared.config.HubConfig.{HubConfig}
 use Rattle.mq_route.specs.declared.conn.Conn.{Conn}
-use Rattle.mq_route.specs.Arrives.{answers, answers_all, due, due_by, replies, while_up}
+use Rattle.mq_route.specs.Arrives.{answers, answers_all, due, due_by, replies, on_connected_packet}
 use Rattle.mq_route.specs.Hub.{HubState, end_of, up_on}
 use Rattle.mq_route.specs.Work.{Work, close, does, have_room}
-use Rattle.mq_hub.specs.declared.call.Call.TheVariants.{Takes}
+use Rattle.mq_hub.specs.declared.sessions.call.Call.TheVariants.{Takes}
 use Rattle.mq_hub.specs.Answers.{Answers}
-use Rattle.mq_hub.specs.Does.{GoesBy}
-use Rattle.mq_hub.specs.Keeps.{HubKeeps}
+use Rattle.mq_hub.specs.Does.{Refines}
+use Rattle.mq_hub.specs.Keeps.{HubInvariant}
 use Rattle.mq_hub.specs.Seen.{HubTables, hub_of}
 use Rattle.mq_hub.specs.Sessions.{sessions_of}
 use Rattle.mq_hub.proofs.Granting.{answered_goes, kept_answered}
@@ -29,7 +29,7 @@ use Rattle.mq_hub.proofs.Replying.{end_there, packet_stays}
 module _ (conn : Conn) (key : ℕ) (p : Packet) (fits : Bool) where
   -- it tells nothing
   silent : (w : Work) → (server_gets p (end_of key w.hub.sessions)).close ≡ None → (server_gets p (end_of key w.hub.sessions)).happenings ≡ []
-      → while_up conn key p fits w ≡ does key (server_gets p) w
+      → on_connected_packet conn key p fits w ≡ does key (server_gets p) w
   unfolding replies
   silent w stays tells =
       ap (λ (o : Option CloseReason). replies conn key (server_gets p) o fits w) stays
@@ -38,7 +38,7 @@ module _ (conn : Conn) (key : ℕ) (p : Packet) (fits : Bool) where
 
   -- it tells something, for which there is room
   telling : (h : Happening) (w : Work) → (server_gets p (end_of key w.hub.sessions)).close ≡ None → (server_gets p (end_of key w.hub.sessions)).happenings ≡ h ∷ []
-      → have_room (due_by key w.hub h) w.hub ≡ true → while_up conn key p fits w ≡ answers conn key h (does key (server_gets p) w)
+      → have_room (due_by key w.hub h) w.hub ≡ true → on_connected_packet conn key p fits w ≡ answers conn key h (does key (server_gets p) w)
   unfolding replies
   telling h w stays tells room =
       ap (λ (o : Option CloseReason). replies conn key (server_gets p) o fits w) stays
@@ -48,7 +48,7 @@ module _ (conn : Conn) (key : ℕ) (p : Packet) (fits : Bool) where
 
   -- and a session is too full for what is due
   full : (h : Happening) (w : Work) → (server_gets p (end_of key w.hub.sessions)).close ≡ None → (server_gets p (end_of key w.hub.sessions)).happenings ≡ h ∷ []
-      → have_room (due_by key w.hub h) w.hub ≡ false → while_up conn key p fits w ≡ close conn TargetFull fits w
+      → have_room (due_by key w.hub h) w.hub ≡ false → on_connected_packet conn key p fits w ≡ close conn TargetFull fits w
   unfolding replies
   full h w stays tells room =
       ap (λ (o : Option CloseReason). replies conn key (server_gets p) o fits w) stays
@@ -60,18 +60,18 @@ module _ (conn : Conn) (key : ℕ) (p : Packet) (fits : Bool) where
     stays_at : (w : Work) → w.hub ≡ old → (server_gets p (end_of key w.hub.sessions)).close ≡ None
     stays_at w at = ap (λ (h : HubState). (server_gets p (end_of key h.sessions)).close) at ∙ stays
 
-    pub silent_goes : (server_gets p (end_of key old.sessions)).happenings ≡ [] → GoesBy (does key (server_gets p)) old did new says → GoesBy (while_up conn key p fits) old did new says
+    pub silent_goes : (server_gets p (end_of key old.sessions)).happenings ≡ [] → Refines (does key (server_gets p)) old did new says → Refines (on_connected_packet conn key p fits) old did new says
     silent_goes tells goes =
-        let is : (w : Work) → w.hub ≡ old → while_up conn key p fits w ≡ does key (server_gets p) w =
+        let is : (w : Work) → w.hub ≡ old → on_connected_packet conn key p fits w ≡ does key (server_gets p) w =
         λ w at. silent w (stays_at w at) (ap (λ (h : HubState). (server_gets p (end_of key h.sessions)).happenings) at ∙ tells) in record {
           hub = λ w at said. ap (λ (v : Work). v.hub) (is w at) ∙ goes.hub w at said;
           did = λ w at said. ap (λ (v : Work). v.did) (is w at) ∙ goes.did w at said;
         }
 
     pub telling_goes : (h : Happening) → (server_gets p (end_of key old.sessions)).happenings ≡ h ∷ [] → have_room (due_by key old h) old ≡ true
-        → GoesBy (λ w. answers conn key h (does key (server_gets p) w)) old did new says → GoesBy (while_up conn key p fits) old did new says
+        → Refines (λ w. answers conn key h (does key (server_gets p) w)) old did new says → Refines (on_connected_packet conn key p fits) old did new says
     telling_goes h tells room goes =
-        let is : (w : Work) → w.hub ≡ old → while_up conn key p fits w ≡ answers conn key h (does key (server_gets p) w) =
+        let is : (w : Work) → w.hub ≡ old → on_connected_packet conn key p fits w ≡ answers conn key h (does key (server_gets p) w) =
         λ w at. telling h w (stays_at w at) (ap (λ (a : HubState). (server_gets p (end_of key a.sessions)).happenings) at ∙ tells)
         (ap (λ (a : HubState). have_room (due_by key a h) a) at ∙ room) in record {
           hub = λ w at said. ap (λ (v : Work). v.hub) (is w at) ∙ goes.hub w at said;
@@ -79,9 +79,9 @@ module _ (conn : Conn) (key : ℕ) (p : Packet) (fits : Bool) where
         }
 
     pub full_goes : (h : Happening) → (server_gets p (end_of key old.sessions)).happenings ≡ h ∷ [] → have_room (due_by key old h) old ≡ false
-        → GoesBy (close conn TargetFull fits) old did new says → GoesBy (while_up conn key p fits) old did new says
+        → Refines (close conn TargetFull fits) old did new says → Refines (on_connected_packet conn key p fits) old did new says
     full_goes h tells room goes =
-        let is : (w : Work) → w.hub ≡ old → while_up conn key p fits w ≡ close conn TargetFull fits w =
+        let is : (w : Work) → w.hub ≡ old → on_connected_packet conn key p fits w ≡ close conn TargetFull fits w =
         λ w at. full h w (stays_at w at) (ap (λ (a : HubState). (server_gets p (end_of key a.sessions)).happenings) at ∙ tells)
         (ap (λ (a : HubState). have_room (due_by key a h) a) at ∙ room) in record {
           hub = λ w at said. ap (λ (v : Work). v.hub) (is w at) ∙ goes.hub w at said;
@@ -90,14 +90,14 @@ module _ (conn : Conn) (key : ℕ) (p : Packet) (fits : Bool) where
 
 -- ---- the end takes it in
 
-module _ (config : HubConfig) (next key : ℕ) (t u : HubTables) (kept : HubKeeps config next t) (k : Conn) (on : up_on key t.lines.lines ≡ Some k) (now : ℕ) (p : Packet)
+module _ (config : HubConfig) (next key : ℕ) (t u : HubTables) (kept : HubInvariant config next t) (k : Conn) (on : up_on key t.connections.connections ≡ Some k) (now : ℕ) (p : Packet)
     (a : Answers key (Takes now p) t.rows t u) where
-  pub kept_taken : (server_gets p (end_of key (sessions_of t.sessions.tenants))).close ≡ None → HubKeeps config next u
+  pub kept_taken : (server_gets p (end_of key (sessions_of t.sessions.tenants))).close ≡ None → HubInvariant config next u
   kept_taken stays =
       let end : end_of key (sessions_of t.sessions.tenants) ≡ a.serves.tenant.end.end =
       ap (end_of key) (sym (same_sessions t.sessions.tenants a.ready a.same)) ∙ end_there key a.serves.tenant a.ready a.serves.there in
       kept_answered config next key t u kept k on (Takes now p) t.rows kept.owned a
       (λ up. packet_stays p a.serves.tenant.end.end up (ap (λ (e : End). (server_gets p e).close) (sym end) ∙ stays))
 
-  pub taken_goes : (clock : ℕ) (did : List Act) → GoesBy (does key (server_gets p)) (hub_of config clock next t) did (hub_of config clock next u) did
+  pub taken_goes : (clock : ℕ) (did : List Act) → Refines (does key (server_gets p)) (hub_of config clock next t) did (hub_of config clock next u) did
   taken_goes clock did = answered_goes config next key t u kept k on (Takes now p) t.rows kept.owned a clock did

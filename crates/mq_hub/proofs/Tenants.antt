@@ -9,23 +9,23 @@ use Rattle.std.specs.Option.{is_some, option_copied}
 use Rattle.std.specs.Str.{bytes_eq}
 use Rattle.mq_end.specs.State.{EndState}
 use Rattle.mq_route.specs.Hub.{key_of}
-use Rattle.mq_hub.specs.declared.session.Tenant.{Tenant}
+use Rattle.mq_hub.specs.declared.sessions.session.BrokerSession.{BrokerSession}
 use Rattle.mq_hub.specs.Sessions.{sessions_of, tenant_of, with_server, without_tenant, AreBelow, AreAscending, AreDistinct, AreSessions}
 use Rattle.mq_hub.proofs.Bytes.{same_bytes, bytes_symm, bytes_itself}
 
 -- ---- places
 
 -- how many keys are below one
-abbrev pub place : ℕ → List Tenant → ℕ
+abbrev pub place : ℕ → List BrokerSession → ℕ
 place key ts = prefix_len (λ t. ltb t.key key) ts
 
-above : (low : ℕ) (ts : List Tenant) → AllByRecursion (λ s. low < s.key) ts → (j : ℕ) (d : Tenant) → j < length ts → low < (get_or ts j d).key
+above : (low : ℕ) (ts : List BrokerSession) → AllByRecursion (λ s. low < s.key) ts → (j : ℕ) (d : BrokerSession) → j < length ts → low < (get_or ts j d).key
 above low [] all j d l = absurd (omega arith)
 above low (t ∷ ts) all zero d l = all.0
 above low (t ∷ ts) all (suc j) d l = above low ts all.1 j d (omega arith)
 
 -- where a session has the key, as many keys are below as stand before it
-pub known_place : (key : ℕ) (ts : List Tenant) (i : ℕ) (d : Tenant) → AreAscending ts → i < length ts → (get_or ts i d).key ≡ key → i ≡ place key ts
+pub known_place : (key : ℕ) (ts : List BrokerSession) (i : ℕ) (d : BrokerSession) → AreAscending ts → i < length ts → (get_or ts i d).key ≡ key → i ≡ place key ts
 known_place key [] i d up within same = absurd (omega arith)
 known_place key (t ∷ ts) zero d up within same = rw (le-ltb t.key key (omega (arith, same))) refl
 known_place key (t ∷ ts) (suc i) d up within same =
@@ -34,7 +34,7 @@ known_place key (t ∷ ts) (suc i) d up within same =
     rw low (omega arith)
 
 -- those whose keys are below stand in front
-pub partitioned : (key : ℕ) (ts : List Tenant) → AreAscending ts → IsPartitionedBy (λ t. ltb t.key key) ts
+pub partitioned : (key : ℕ) (ts : List BrokerSession) → AreAscending ts → IsPartitionedBy (λ t. ltb t.key key) ts
 partitioned key [] up i j d a b p = absurd (omega arith)
 partitioned key (t ∷ ts) up zero zero d a b p = p
 partitioned key (t ∷ ts) up zero (suc j) d a b p =
@@ -43,8 +43,8 @@ partitioned key (t ∷ ts) up (suc i) zero d a b p = absurd (omega arith)
 partitioned key (t ∷ ts) up (suc i) (suc j) d a b p = partitioned key ts up.1 i j d (omega arith) (omega arith) p
 
 -- as many pass the test in front as stand before the place
-pub point : (p : Tenant → Bool) (ts : List Tenant) (i : ℕ) → i ≤ length ts
-    → ((k : ℕ) (d : Tenant) → k < i → p (get_or ts k d) ≡ true) → ((k : ℕ) (d : Tenant) → i ≤ k → k < length ts → p (get_or ts k d) ≡ false) → i ≡ prefix_len p ts
+pub point : (p : BrokerSession → Bool) (ts : List BrokerSession) (i : ℕ) → i ≤ length ts
+    → ((k : ℕ) (d : BrokerSession) → k < i → p (get_or ts k d) ≡ true) → ((k : ℕ) (d : BrokerSession) → i ≤ k → k < length ts → p (get_or ts k d) ≡ false) → i ≡ prefix_len p ts
 point p [] i le passes fails = omega arith
 point p (t ∷ ts) zero le passes fails = rw (fails 0 t (omega arith) (omega arith)) refl
 point p (t ∷ ts) (suc i) le passes fails =
@@ -54,12 +54,12 @@ point p (t ∷ ts) (suc i) le passes fails =
 -- ---- the session of a key
 
 -- the session in a place, where it has the key
-abbrev pub at_place : ℕ → Option Tenant → Option Tenant
+abbrev pub at_place : ℕ → Option BrokerSession → Option BrokerSession
 at_place key None = None
 at_place key (Some t) = cond (eqb t.key key) (Some t) None
 
 -- keys above this one are not it
-none_above : (key low : ℕ) (ts : List Tenant) → key ≤ low → AllByRecursion (λ s. low < s.key) ts → tenant_of key ts ≡ None
+none_above : (key low : ℕ) (ts : List BrokerSession) → key ≤ low → AllByRecursion (λ s. low < s.key) ts → tenant_of key ts ≡ None
 none_above key low [] le all = refl
 none_above key low (t ∷ ts) le all =
     let l = all.0 in
@@ -77,7 +77,7 @@ le_same a b e = let w = eqb-true a b e in omega arith
 one_more : (n : ℕ) → 1 + n ≡ suc n
 one_more n = omega arith
 
-pub found : (key : ℕ) (ts : List Tenant) → AreAscending ts → tenant_of key ts ≡ at_place key (slice_get ts (place key ts))
+pub found : (key : ℕ) (ts : List BrokerSession) → AreAscending ts → tenant_of key ts ≡ at_place key (slice_get ts (place key ts))
 found key [] up = refl
 found key (t ∷ ts) up = go (ltb t.key key) refl (found key ts up.1)
   where
@@ -89,26 +89,26 @@ found key (t ∷ ts) up = go (ltb t.key key) refl (found key ts up.1)
         ∙ ap (λ (n : ℕ). at_place key (slice_get (t ∷ ts) n)) (sym (one_more (place key ts)) ∙ sym (cond-true (ltb t.key key) (1 + place key ts) 0 below))
     go false over rest =
         let l : key ≤ t.key = ltb-false t.key key over in
-        ap (λ (o : Option Tenant). cond (eqb t.key key) (Some t) o) (none_above key t.key ts l up.0)
+        ap (λ (o : Option BrokerSession). cond (eqb t.key key) (Some t) o) (none_above key t.key ts l up.0)
         ∙ ap (λ (n : ℕ). at_place key (slice_get (t ∷ ts) n)) (sym (cond-false (ltb t.key key) (1 + place key ts) 0 over))
 
 -- ---- a session is taken out
 
-kept_above : (key low : ℕ) (ts : List Tenant) → key ≤ low → AllByRecursion (λ s. low < s.key) ts → without_tenant key ts ≡ ts
+kept_above : (key low : ℕ) (ts : List BrokerSession) → key ≤ low → AllByRecursion (λ s. low < s.key) ts → without_tenant key ts ≡ ts
 kept_above key low [] le all = refl
 kept_above key low (t ∷ ts) le all =
     let l = all.0 in
-    rw (ne_eqb t.key key (λ e. omega arith)) (ap (λ (rs : List Tenant). t ∷ rs) (kept_above key low ts le all.1))
+    rw (ne_eqb t.key key (λ e. omega arith)) (ap (λ (rs : List BrokerSession). t ∷ rs) (kept_above key low ts le all.1))
 
-pub absent : (key : ℕ) (ts : List Tenant) → tenant_of key ts ≡ None → without_tenant key ts ≡ ts
+pub absent : (key : ℕ) (ts : List BrokerSession) → tenant_of key ts ≡ None → without_tenant key ts ≡ ts
 absent key [] none = refl
 absent key (t ∷ ts) none = go (eqb t.key key) refl (absent key ts)
   where
     go : (b : Bool) → eqb t.key key ≡ b → (tenant_of key ts ≡ None → without_tenant key ts ≡ ts) → without_tenant key (t ∷ ts) ≡ t ∷ ts
     go true same rest = let w : Some t ≡ None = sym (cond-true (eqb t.key key) (Some t) (tenant_of key ts) same) ∙ none in absurd cc
-    go false apart rest = rw apart (ap (λ (rs : List Tenant). t ∷ rs) (rest (sym (cond-false (eqb t.key key) (Some t) (tenant_of key ts) apart) ∙ none)))
+    go false apart rest = rw apart (ap (λ (rs : List BrokerSession). t ∷ rs) (rest (sym (cond-false (eqb t.key key) (Some t) (tenant_of key ts) apart) ∙ none)))
 
-pub taken : (key : ℕ) (t : Tenant) (ts : List Tenant) → AreAscending ts → tenant_of key ts ≡ Some t → remove ts (place key ts) ≡ without_tenant key ts
+pub taken : (key : ℕ) (t : BrokerSession) (ts : List BrokerSession) → AreAscending ts → tenant_of key ts ≡ Some t → remove ts (place key ts) ≡ without_tenant key ts
 taken key t [] up there = absurd cc
 taken key t (s ∷ ts) up there = go (ltb s.key key) refl (taken key t ts up.1)
   where
@@ -118,7 +118,7 @@ taken key t (s ∷ ts) up there = go (ltb s.key key) refl (taken key t ts up.1)
         let apart : eqb s.key key ≡ false = ne_eqb s.key key (λ e. omega arith) in
         let later = rest (sym (cond-false (eqb s.key key) (Some s) (tenant_of key ts) apart) ∙ there) in
         ap (λ (n : ℕ). remove (s ∷ ts) n) (cond-true (ltb s.key key) (1 + place key ts) 0 below ∙ one_more (place key ts))
-        ∙ ap (λ (rs : List Tenant). s ∷ rs) later ∙ (rw apart refl)
+        ∙ ap (λ (rs : List BrokerSession). s ∷ rs) later ∙ (rw apart refl)
     go false over rest =
         let l : key ≤ s.key = ltb-false s.key key over in
         let same : eqb s.key key ≡ true = first (eqb s.key key) refl in
@@ -133,15 +133,15 @@ taken key t (s ∷ ts) up there = go (ltb s.key key) refl (taken key t ts up.1)
 
 -- ---- what stays true
 
-pub below_last : (t : Tenant) (ts : List Tenant) → AreAscending ts → AreBelow t.key ts → AreAscending (ts ++ t ∷ [])
+pub below_last : (t : BrokerSession) (ts : List BrokerSession) → AreAscending ts → AreBelow t.key ts → AreAscending (ts ++ t ∷ [])
 below_last t [] up below = (tt, tt)
 below_last t (s ∷ ts) up below = (all_last s.key t ts up.0 below.0, below_last t ts up.1 below.1)
   where
-    all_last : (low : ℕ) (t : Tenant) (ts : List Tenant) → AllByRecursion (λ s. low < s.key) ts → low < t.key → AllByRecursion (λ s. low < s.key) (ts ++ t ∷ [])
+    all_last : (low : ℕ) (t : BrokerSession) (ts : List BrokerSession) → AllByRecursion (λ s. low < s.key) ts → low < t.key → AllByRecursion (λ s. low < s.key) (ts ++ t ∷ [])
     all_last low t [] all l = (l, tt)
     all_last low t (s ∷ ts) all l = (all.0, all_last low t ts all.1 l)
 
-all_kept : (key low : ℕ) (ts : List Tenant) → AllByRecursion (λ s. low < s.key) ts → AllByRecursion (λ s. low < s.key) (without_tenant key ts)
+all_kept : (key low : ℕ) (ts : List BrokerSession) → AllByRecursion (λ s. low < s.key) ts → AllByRecursion (λ s. low < s.key) (without_tenant key ts)
 all_kept key low [] all = tt
 all_kept key low (t ∷ ts) all = go (not (eqb t.key key)) (all_kept key low ts all.1)
   where
@@ -149,7 +149,7 @@ all_kept key low (t ∷ ts) all = go (not (eqb t.key key)) (all_kept key low ts 
     go true rest = (all.0, rest)
     go false rest = rest
 
-pub ascending_without : (key : ℕ) (ts : List Tenant) → AreAscending ts → AreAscending (without_tenant key ts)
+pub ascending_without : (key : ℕ) (ts : List BrokerSession) → AreAscending ts → AreAscending (without_tenant key ts)
 ascending_without key [] up = tt
 ascending_without key (t ∷ ts) up = go (not (eqb t.key key)) (ascending_without key ts up.1)
   where
@@ -160,7 +160,7 @@ ascending_without key (t ∷ ts) up = go (not (eqb t.key key)) (ascending_withou
 -- ---- client identifiers
 
 -- where a new session goes last
-pub named_last : (n : List ℕ) (t : Tenant) (ts : List Tenant) → key_of t.client (sessions_of ts) ≡ None
+pub named_last : (n : List ℕ) (t : BrokerSession) (ts : List BrokerSession) → key_of t.client (sessions_of ts) ≡ None
     → key_of n (sessions_of (ts ++ t ∷ [])) ≡ cond (bytes_eq t.client n) (Some t.key) (key_of n (sessions_of ts))
 named_last n t [] none = refl
 named_last n t (s ∷ ts) none = split (bytes_eq s.client t.client) refl (named_last n t ts)
@@ -183,7 +183,7 @@ named_last n t (s ∷ ts) none = split (bytes_eq s.client t.client) refl (named_
         go (bytes_eq s.client n) refl (bytes_eq t.client n) refl apart (rest (sym (cond-false (bytes_eq s.client t.client) (Some s.key) (key_of t.client (sessions_of ts)) apart) ∙ none))
 
 -- no two sessions have one identifier, after a new one too
-pub distinct_last : (t : Tenant) (ts : List Tenant) → AreDistinct ts → key_of t.client (sessions_of ts) ≡ None → AreDistinct (ts ++ t ∷ [])
+pub distinct_last : (t : BrokerSession) (ts : List BrokerSession) → AreDistinct ts → key_of t.client (sessions_of ts) ≡ None → AreDistinct (ts ++ t ∷ [])
 distinct_last t [] distinct none = (refl, tt)
 distinct_last t (s ∷ ts) distinct none = split (bytes_eq s.client t.client) refl (distinct_last t ts distinct.1)
   where
@@ -196,7 +196,7 @@ distinct_last t (s ∷ ts) distinct none = split (bytes_eq s.client t.client) re
         (named_last s.client t ts other ∙ cond-false (bytes_eq t.client s.client) (Some t.key) (key_of s.client (sessions_of ts)) flipped ∙ distinct.0, rest other)
 
 -- a session's identifier is found
-pub there : (key : ℕ) (t : Tenant) (ts : List Tenant) → tenant_of key ts ≡ Some t → is_some (key_of t.client (sessions_of ts)) ≡ true
+pub there : (key : ℕ) (t : BrokerSession) (ts : List BrokerSession) → tenant_of key ts ≡ Some t → is_some (key_of t.client (sessions_of ts)) ≡ true
 there key t [] e = absurd cc
 there key t (s ∷ ts) e = go (eqb s.key key) refl (there key t ts)
   where
@@ -208,13 +208,13 @@ there key t (s ∷ ts) e = go (eqb s.key key) refl (there key t ts)
     go true same rest =
         let w : Some s ≡ Some t = sym (cond-true (eqb s.key key) (Some s) (tenant_of key ts) same) ∙ e in
         let is : s ≡ t = cc in
-        let own : bytes_eq s.client t.client ≡ true = subst (λ (x : Tenant). bytes_eq s.client x.client ≡ true) is (bytes_itself s.client) in
+        let own : bytes_eq s.client t.client ≡ true = subst (λ (x : BrokerSession). bytes_eq s.client x.client ≡ true) is (bytes_itself s.client) in
         ap is_some (cond-true (bytes_eq s.client t.client) (Some s.key) (key_of t.client (sessions_of ts)) own)
     go false apart rest =
         later (bytes_eq s.client t.client) (rest (sym (cond-false (eqb s.key key) (Some s) (tenant_of key ts) apart) ∙ e))
 
 -- the identifiers that are found where a session is taken out
-pub named_without : (n : List ℕ) (key : ℕ) (t : Tenant) (ts : List Tenant) → AreAscending ts → AreDistinct ts → tenant_of key ts ≡ Some t
+pub named_without : (n : List ℕ) (key : ℕ) (t : BrokerSession) (ts : List BrokerSession) → AreAscending ts → AreDistinct ts → tenant_of key ts ≡ Some t
     → key_of n (sessions_of (without_tenant key ts)) ≡ cond (bytes_eq t.client n) None (key_of n (sessions_of ts))
 named_without n key t [] up distinct e = absurd cc
 named_without n key t (s ∷ ts) up distinct e = go (eqb s.key key) refl (named_without n key t ts up.1 distinct.1)
@@ -240,16 +240,16 @@ named_without n key t (s ∷ ts) up distinct e = go (eqb s.key key) refl (named_
         let w : Some s ≡ Some t = sym (cond-true (eqb s.key key) (Some s) (tenant_of key ts) same) ∙ e in
         let is : s ≡ t = cc in
         let left : without_tenant key (s ∷ ts) ≡ ts = (rw same refl) ∙ kept_above key s.key ts (le_same s.key key same) up.0 in
-        ap (λ (rs : List Tenant). key_of n (sessions_of rs)) left
-        ∙ subst (λ (x : Tenant). key_of n (sessions_of ts) ≡ cond (bytes_eq x.client n) None (key_of n (sessions_of (s ∷ ts)))) is (first (bytes_eq s.client n) refl)
+        ap (λ (rs : List BrokerSession). key_of n (sessions_of rs)) left
+        ∙ subst (λ (x : BrokerSession). key_of n (sessions_of ts) ≡ cond (bytes_eq x.client n) None (key_of n (sessions_of (s ∷ ts)))) is (first (bytes_eq s.client n) refl)
     go false apart rest =
         let later = sym (cond-false (eqb s.key key) (Some s) (tenant_of key ts) apart) ∙ e in
         let left : without_tenant key (s ∷ ts) ≡ s ∷ without_tenant key ts = rw apart refl in
-        ap (λ (rs : List Tenant). key_of n (sessions_of rs)) left
+        ap (λ (rs : List BrokerSession). key_of n (sessions_of rs)) left
         ∙ ap (λ (o : Option ℕ). cond (bytes_eq s.client n) (Some s.key) o) (rest later)
         ∙ other (bytes_eq s.client n) refl (bytes_eq t.client n) refl (there key t ts later)
 
-none_without : (n : List ℕ) (key : ℕ) (ts : List Tenant) → key_of n (sessions_of ts) ≡ None → key_of n (sessions_of (without_tenant key ts)) ≡ None
+none_without : (n : List ℕ) (key : ℕ) (ts : List BrokerSession) → key_of n (sessions_of ts) ≡ None → key_of n (sessions_of (without_tenant key ts)) ≡ None
 none_without n key [] none = refl
 none_without n key (t ∷ ts) none = go (bytes_eq t.client n) refl (eqb t.key key) refl (none_without n key ts)
   where
@@ -263,7 +263,7 @@ none_without n key (t ∷ ts) none = go (bytes_eq t.client n) refl (eqb t.key ke
         by false eb left = rw (eb, ea) left
 
 -- a client whose session is taken out has none
-pub none_taken : (n : List ℕ) (key : ℕ) (ts : List Tenant) → AreDistinct ts → key_of n (sessions_of ts) ≡ Some key
+pub none_taken : (n : List ℕ) (key : ℕ) (ts : List BrokerSession) → AreDistinct ts → key_of n (sessions_of ts) ≡ Some key
     → key_of n (sessions_of (without_tenant key ts)) ≡ None
 none_taken n key [] distinct e = refl
 none_taken n key (t ∷ ts) distinct e = go (bytes_eq t.client n) refl (eqb t.key key) refl (none_taken n key ts distinct.1)
@@ -273,7 +273,7 @@ none_taken n key (t ∷ ts) distinct e = go (bytes_eq t.client n) refl (eqb t.ke
         → key_of n (sessions_of (without_tenant key (t ∷ ts))) ≡ None
     go true same true own rest =
         let left : without_tenant key (t ∷ ts) ≡ without_tenant key ts = rw own refl in
-        ap (λ (rs : List Tenant). key_of n (sessions_of rs)) left
+        ap (λ (rs : List BrokerSession). key_of n (sessions_of rs)) left
         ∙ none_without n key ts (subst (λ (m : List ℕ). key_of m (sessions_of ts) ≡ None) (same_bytes t.client n same) distinct.0)
     go true same false apart rest =
         let w : Some t.key ≡ Some key = sym (cond-true (bytes_eq t.client n) (Some t.key) (key_of n (sessions_of ts)) same) ∙ e in
@@ -281,15 +281,15 @@ none_taken n key (t ∷ ts) distinct e = go (bytes_eq t.client n) refl (eqb t.ke
         absurd (true≢false (sym (eq-eqb t.key key is) ∙ apart))
     go false other true own rest =
         let left : without_tenant key (t ∷ ts) ≡ without_tenant key ts = rw own refl in
-        ap (λ (rs : List Tenant). key_of n (sessions_of rs)) left
+        ap (λ (rs : List BrokerSession). key_of n (sessions_of rs)) left
         ∙ rest (sym (cond-false (bytes_eq t.client n) (Some t.key) (key_of n (sessions_of ts)) other) ∙ e)
     go false other false apart rest =
         let left : without_tenant key (t ∷ ts) ≡ t ∷ without_tenant key ts = rw apart refl in
-        ap (λ (rs : List Tenant). key_of n (sessions_of rs)) left
+        ap (λ (rs : List BrokerSession). key_of n (sessions_of rs)) left
         ∙ cond-false (bytes_eq t.client n) (Some t.key) (key_of n (sessions_of (without_tenant key ts))) other
         ∙ rest (sym (cond-false (bytes_eq t.client n) (Some t.key) (key_of n (sessions_of ts)) other) ∙ e)
 
-pub distinct_without : (key : ℕ) (ts : List Tenant) → AreDistinct ts → AreDistinct (without_tenant key ts)
+pub distinct_without : (key : ℕ) (ts : List BrokerSession) → AreDistinct ts → AreDistinct (without_tenant key ts)
 distinct_without key [] distinct = tt
 distinct_without key (t ∷ ts) distinct = go (not (eqb t.key key)) (distinct_without key ts distinct.1)
   where
@@ -299,7 +299,7 @@ distinct_without key (t ∷ ts) distinct = go (not (eqb t.key key)) (distinct_wi
 
 -- ---- another end
 
-pub named_with : (n : List ℕ) (key : ℕ) (e : EndState) (ts : List Tenant) → key_of n (sessions_of (with_server key e ts)) ≡ key_of n (sessions_of ts)
+pub named_with : (n : List ℕ) (key : ℕ) (e : EndState) (ts : List BrokerSession) → key_of n (sessions_of (with_server key e ts)) ≡ key_of n (sessions_of ts)
 named_with n key e [] = refl
 named_with n key e (t ∷ ts) = go (eqb t.key key) (named_with n key e ts)
   where
@@ -308,7 +308,7 @@ named_with n key e (t ∷ ts) = go (eqb t.key key) (named_with n key e ts)
     go true rest = ap (λ (o : Option ℕ). cond (bytes_eq t.client n) (Some t.key) o) rest
     go false rest = ap (λ (o : Option ℕ). cond (bytes_eq t.client n) (Some t.key) o) rest
 
-all_with : (low key : ℕ) (e : EndState) (ts : List Tenant) → AllByRecursion (λ s. low < s.key) ts → AllByRecursion (λ s. low < s.key) (with_server key e ts)
+all_with : (low key : ℕ) (e : EndState) (ts : List BrokerSession) → AllByRecursion (λ s. low < s.key) ts → AllByRecursion (λ s. low < s.key) (with_server key e ts)
 all_with low key e [] all = tt
 all_with low key e (t ∷ ts) all = go (eqb t.key key) (all_with low key e ts all.1)
   where
@@ -316,7 +316,7 @@ all_with low key e (t ∷ ts) all = go (eqb t.key key) (all_with low key e ts al
     go true rest = (all.0, rest)
     go false rest = (all.0, rest)
 
-pub ascending_with : (key : ℕ) (e : EndState) (ts : List Tenant) → AreAscending ts → AreAscending (with_server key e ts)
+pub ascending_with : (key : ℕ) (e : EndState) (ts : List BrokerSession) → AreAscending ts → AreAscending (with_server key e ts)
 ascending_with key e [] up = tt
 ascending_with key e (t ∷ ts) up = go (eqb t.key key) (all_with t.key key e ts up.0) (ascending_with key e ts up.1)
   where
@@ -324,7 +324,7 @@ ascending_with key e (t ∷ ts) up = go (eqb t.key key) (all_with t.key key e ts
     go true all rest = (all, rest)
     go false all rest = (all, rest)
 
-pub distinct_with : (key : ℕ) (e : EndState) (ts : List Tenant) → AreDistinct ts → AreDistinct (with_server key e ts)
+pub distinct_with : (key : ℕ) (e : EndState) (ts : List BrokerSession) → AreDistinct ts → AreDistinct (with_server key e ts)
 distinct_with key e [] distinct = tt
 distinct_with key e (t ∷ ts) distinct = go (eqb t.key key) (named_with t.client key e ts ∙ distinct.0) (distinct_with key e ts distinct.1)
   where
@@ -332,7 +332,7 @@ distinct_with key e (t ∷ ts) distinct = go (eqb t.key key) (named_with t.clien
     go true none rest = (none, rest)
     go false none rest = (none, rest)
 
-pub with_above : (key low : ℕ) (e : EndState) (ts : List Tenant) → key ≤ low → AllByRecursion (λ s. low < s.key) ts → with_server key e ts ≡ ts
+pub with_above : (key low : ℕ) (e : EndState) (ts : List BrokerSession) → key ≤ low → AllByRecursion (λ s. low < s.key) ts → with_server key e ts ≡ ts
 with_above key low e [] le all = refl
 with_above key low e (t ∷ ts) le all =
     let l = all.0 in
@@ -340,7 +340,7 @@ with_above key low e (t ∷ ts) le all =
 
 -- ---- in the place of a key
 
-pub at_there : (key : ℕ) (t : Tenant) (o : Option Tenant) → at_place key o ≡ Some t → o ≡ Some t
+pub at_there : (key : ℕ) (t : BrokerSession) (o : Option BrokerSession) → at_place key o ≡ Some t → o ≡ Some t
 at_there key t None e = absurd cc
 at_there key t (Some s) e = go (eqb s.key key) refl
   where
@@ -348,34 +348,34 @@ at_there key t (Some s) e = go (eqb s.key key) refl
     go true same = sym (cond-true (eqb s.key key) (Some s) None same) ∙ e
     go false apart = absurd (some_none (sym e ∙ cond-false (eqb s.key key) (Some s) None apart))
 
-pub there_place : (key : ℕ) (t : Tenant) (ts : List Tenant) → AreAscending ts → tenant_of key ts ≡ Some t → slice_get ts (place key ts) ≡ Some t
+pub there_place : (key : ℕ) (t : BrokerSession) (ts : List BrokerSession) → AreAscending ts → tenant_of key ts ≡ Some t → slice_get ts (place key ts) ≡ Some t
 there_place key t ts up e = at_there key t (slice_get ts (place key ts)) (sym (found key ts up) ∙ e)
 
-pub inside : (t : Tenant) (ts : List Tenant) (i : ℕ) → slice_get ts i ≡ Some t → i < length ts
+pub inside : (t : BrokerSession) (ts : List BrokerSession) (i : ℕ) → slice_get ts i ≡ Some t → i < length ts
 inside t [] zero e = absurd cc
 inside t [] (suc i) e = absurd cc
 inside t (s ∷ ts) zero e = omega arith
 inside t (s ∷ ts) (suc i) e = let l = inside t ts i e in omega arith
 
-pub got : (t d : Tenant) (ts : List Tenant) (i : ℕ) → slice_get ts i ≡ Some t → get_or ts i d ≡ t
+pub got : (t d : BrokerSession) (ts : List BrokerSession) (i : ℕ) → slice_get ts i ≡ Some t → get_or ts i d ≡ t
 got t d [] zero e = absurd cc
 got t d [] (suc i) e = absurd cc
 got t d (s ∷ ts) zero e = cc
 got t d (s ∷ ts) (suc i) e = got t d ts i e
 
-pub past : (ts : List Tenant) (i : ℕ) → length ts ≤ i → slice_get ts i ≡ None
+pub past : (ts : List BrokerSession) (i : ℕ) → length ts ≤ i → slice_get ts i ≡ None
 past [] zero le = refl
 past [] (suc i) le = refl
 past (s ∷ ts) zero le = absurd (omega arith)
 past (s ∷ ts) (suc i) le = past ts i (omega arith)
 
-pub got_some : (d : Tenant) (ts : List Tenant) (i : ℕ) → i < length ts → slice_get ts i ≡ Some (get_or ts i d)
+pub got_some : (d : BrokerSession) (ts : List BrokerSession) (i : ℕ) → i < length ts → slice_get ts i ≡ Some (get_or ts i d)
 got_some d [] i l = absurd (omega arith)
 got_some d (s ∷ ts) zero l = refl
 got_some d (s ∷ ts) (suc i) l = got_some d ts i (omega arith)
 
 -- the end of the session in the place of a key is exchanged
-pub swapped : (key : ℕ) (e : EndState) (t : Tenant) (ts : List Tenant) → AreAscending ts → tenant_of key ts ≡ Some t → set ts (place key ts) (record t { end = e }) ≡ with_server key e ts
+pub swapped : (key : ℕ) (e : EndState) (t : BrokerSession) (ts : List BrokerSession) → AreAscending ts → tenant_of key ts ≡ Some t → set ts (place key ts) (record t { end = e }) ≡ with_server key e ts
 swapped key e t [] up there = absurd cc
 swapped key e t (s ∷ ts) up there = go (ltb s.key key) refl (swapped key e t ts up.1)
   where
@@ -391,17 +391,17 @@ swapped key e t (s ∷ ts) up there = go (ltb s.key key) refl (swapped key e t t
         let apart : eqb s.key key ≡ false = ne_eqb s.key key (λ w. omega arith) in
         let later = rest (sym (cond-false (eqb s.key key) (Some s) (tenant_of key ts) apart) ∙ there) in
         ap (λ (n : ℕ). set (s ∷ ts) n (record t { end = e })) (cond-true (ltb s.key key) (1 + place key ts) 0 below ∙ one_more (place key ts))
-        ∙ ap (λ (rs : List Tenant). s ∷ rs) later
+        ∙ ap (λ (rs : List BrokerSession). s ∷ rs) later
         ∙ (λ i. sym (cond-false (eqb s.key key) (record s { end = e }) s apart) i ∷ with_server key e ts)
     go false over rest =
         let l : key ≤ s.key = ltb-false s.key key over in
         let w = first (eqb s.key key) refl l in
         ap (λ (n : ℕ). set (s ∷ ts) n (record t { end = e })) (cond-false (ltb s.key key) (1 + place key ts) 0 over)
-        ∙ (λ i. sym (cond-true (eqb s.key key) (record s { end = e }) s w.1 ∙ ap (λ (x : Tenant). record x { end = e }) w.0) i ∷ sym (with_above key s.key e ts l up.0) i)
+        ∙ (λ i. sym (cond-true (eqb s.key key) (record s { end = e }) s w.1 ∙ ap (λ (x : BrokerSession). record x { end = e }) w.0) i ∷ sym (with_above key s.key e ts l up.0) i)
 
 -- ---- what the table keeps true
 
-pub kept_last : (t : Tenant) (ts : List Tenant) (find after : List ℕ → Option ℕ) → AreSessions ts find → AreBelow t.key ts → key_of t.client (sessions_of ts) ≡ None
+pub kept_last : (t : BrokerSession) (ts : List BrokerSession) (find after : List ℕ → Option ℕ) → AreSessions ts find → AreBelow t.key ts → key_of t.client (sessions_of ts) ≡ None
     → ((n : List ℕ) → after n ≡ cond (bytes_eq t.client n) (Some t.key) (find n)) → AreSessions (ts ++ t ∷ []) after
 kept_last t ts find after kept below none says = record {
   ascending = below_last t ts kept.ascending below;
@@ -409,14 +409,14 @@ kept_last t ts find after kept below none says = record {
   named = λ n. says n ∙ ap (λ (o : Option ℕ). cond (bytes_eq t.client n) (Some t.key) o) (kept.named n) ∙ sym (named_last n t ts none);
 }
 
-pub kept_with : (key : ℕ) (e : EndState) (ts : List Tenant) (find : List ℕ → Option ℕ) → AreSessions ts find → AreSessions (with_server key e ts) find
+pub kept_with : (key : ℕ) (e : EndState) (ts : List BrokerSession) (find : List ℕ → Option ℕ) → AreSessions ts find → AreSessions (with_server key e ts) find
 kept_with key e ts find kept = record {
   ascending = ascending_with key e ts kept.ascending;
   distinct = distinct_with key e ts kept.distinct;
   named = λ n. kept.named n ∙ sym (named_with n key e ts);
 }
 
-pub kept_without : (key : ℕ) (t : Tenant) (ts : List Tenant) (find after : List ℕ → Option ℕ) → AreSessions ts find → tenant_of key ts ≡ Some t
+pub kept_without : (key : ℕ) (t : BrokerSession) (ts : List BrokerSession) (find after : List ℕ → Option ℕ) → AreSessions ts find → tenant_of key ts ≡ Some t
     → ((n : List ℕ) → after n ≡ cond (bytes_eq t.client n) None (find n)) → AreSessions (without_tenant key ts) after
 kept_without key t ts find after kept there says = record {
   ascending = ascending_without key ts kept.ascending;
@@ -424,7 +424,7 @@ kept_without key t ts find after kept there says = record {
   named = λ n. says n ∙ ap (λ (o : Option ℕ). cond (bytes_eq t.client n) None o) (kept.named n) ∙ sym (named_without n key t ts kept.ascending kept.distinct there);
 }
 
-pub shorter : (key : ℕ) (ts : List Tenant) → length (without_tenant key ts) ≤ length ts
+pub shorter : (key : ℕ) (ts : List BrokerSession) → length (without_tenant key ts) ≤ length ts
 shorter key [] = omega arith
 shorter key (t ∷ ts) = go (not (eqb t.key key)) (shorter key ts)
   where
@@ -434,40 +434,40 @@ shorter key (t ∷ ts) = go (not (eqb t.key key)) (shorter key ts)
 
 -- ---- where a session of the key stands
 
-pub copied_there : (o : Option (Bor Tenant)) → is_some o ≡ true → is_some (option_copied o) ≡ true
+pub copied_there : (o : Option (Bor BrokerSession)) → is_some o ≡ true → is_some (option_copied o) ≡ true
 copied_there None there = absurd (true≢false (sym there))
 copied_there (Some t) there = refl
 
 -- what stands in the place of the key
-pub record InPlace (key : ℕ) (ts : List Tenant) (d : Tenant) : Type 0 where
+pub record InPlace (key : ℕ) (ts : List BrokerSession) (d : BrokerSession) : Type 0 where
   pub within : place key ts < length ts
   pub here : tenant_of key ts ≡ Some (get_or ts (place key ts) d)
 
-pub in_place : (key : ℕ) (ts : List Tenant) (d : Tenant) → AreAscending ts → is_some (tenant_of key ts) ≡ true → InPlace key ts d
+pub in_place : (key : ℕ) (ts : List BrokerSession) (d : BrokerSession) → AreAscending ts → is_some (tenant_of key ts) ≡ true → InPlace key ts d
 in_place key ts d up there = go (tenant_of key ts) refl
   where
-    go : (o : Option Tenant) → tenant_of key ts ≡ o → InPlace key ts d
+    go : (o : Option BrokerSession) → tenant_of key ts ≡ o → InPlace key ts d
     go None e = absurd (true≢false (sym there ∙ ap is_some e))
     go (Some t) e =
         let at = there_place key t ts up e in
-        record { within = inside t ts (place key ts) at; here = e ∙ ap (λ (x : Tenant). Some x) (sym (got t d ts (place key ts) at)) }
+        record { within = inside t ts (place key ts) at; here = e ∙ ap (λ (x : BrokerSession). Some x) (sym (got t d ts (place key ts) at)) }
 
-pub found_within : (key : ℕ) (ts : List Tenant) → AreAscending ts → is_some (tenant_of key ts) ≡ true → place key ts < length ts
+pub found_within : (key : ℕ) (ts : List BrokerSession) → AreAscending ts → is_some (tenant_of key ts) ≡ true → place key ts < length ts
 found_within key [] up there = absurd (true≢false (sym there))
 found_within key (t ∷ ts) up there = (in_place key (t ∷ ts) t up there).within
 
-pub copied_none : (o : Option (Bor Tenant)) → is_some o ≡ false → option_copied o ≡ None
+pub copied_none : (o : Option (Bor BrokerSession)) → is_some o ≡ false → option_copied o ≡ None
 copied_none None none = refl
 copied_none (Some t) none = absurd (true≢false none)
 
 -- ---- a list that was written through
 
-pub same_length : (key : ℕ) (e : EndState) (ts : List Tenant) → length (with_server key e ts) ≡ length ts
+pub same_length : (key : ℕ) (e : EndState) (ts : List BrokerSession) → length (with_server key e ts) ≡ length ts
 same_length key e [] = refl
 same_length key e (t ∷ ts) = ap suc (same_length key e ts)
 
-pub written : (new ts : List Tenant) → length new ≡ length ts → take (length ts) (new ++ drop (length new) ts) ≡ new
+pub written : (new ts : List BrokerSession) → length new ≡ length ts → take (length ts) (new ++ drop (length new) ts) ≡ new
 written [] [] same = refl
 written [] (t ∷ ts) same = absurd (omega arith)
 written (x ∷ new) [] same = absurd (omega arith)
-written (x ∷ new) (t ∷ ts) same = ap (λ (rs : List Tenant). x ∷ rs) (written new ts (omega arith))
+written (x ∷ new) (t ∷ ts) same = ap (λ (rs : List BrokerSession). x ∷ rs) (written new ts (omega arith))

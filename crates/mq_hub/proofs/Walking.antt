@@ -6,11 +6,11 @@ use Rattle.mq_decode.specs.Limits.{Bounds}
 use Rattle.mq_route.specs.declared.act.Act.{Act}
 use Rattle.mq_route.specs.declared.conn.Conn.{Conn}
 use Rattle.mq_route.specs.Hub.{HubState, is_open, stage_of}
-use Rattle.mq_hub.specs.Coming.{ComesBy, TakenBy, with_held}
+use Rattle.mq_hub.specs.Coming.{RefinesBytes, TakenBy, with_held}
 use Rattle.mq_hub.proofs.Piecewise.{LeadsOn, arrives_by, waits_by}
 
 module _ (limits own : Bounds) (k : Conn) (piece held rest : List ℕ) (used : ℕ) (old new : HubState) (said says : List Act)
-    (same : own ≡ limits) (here : rest ≡ drop used piece) (is_on : is_open (stage_of k old.lines) ≡ true) where
+    (same : own ≡ limits) (here : rest ≡ drop used piece) (is_on : is_open (stage_of k old.connections) ≡ true) where
   -- a packet came: what comes of what is left behind it comes of all
   pub leads_past : (all kept : List ℕ) (count : ℕ) (first : HubState) (begun : List Act) → LeadsOn limits k all first begun (held ++ drop used piece) old said
       → TakenBy own k held rest count old said new says → kept ≡ [] → LeadsOn limits k all first begun (kept ++ drop (used + count) piece) new says
@@ -19,15 +19,15 @@ module _ (limits own : Bounds) (k : Conn) (piece held rest : List ℕ) (used : �
       (λ i. none i ++ drop (used + count) piece) ∙ sym (drop-drop count used piece) ∙ ap (drop count) (sym here) in
       let within = subst (λ (l : Bounds). TakenBy l k held rest count old said new says) same taken in
       leads end ends
-      (subst (λ (b : List ℕ). ComesBy limits k (held ++ b) old said end ends) here
+      (subst (λ (b : List ℕ). RefinesBytes limits k (held ++ b) old said end ends) here
       (arrives_by limits k held rest count old new end said says ends is_on within
-      (subst (λ (b : List ℕ). ComesBy limits k b new says end ends) left later)))
+      (subst (λ (b : List ℕ). RefinesBytes limits k b new says end ends) left later)))
 
   -- less than a packet is left, and is held
   pub waits_past : (mid : HubState) (kept : List ℕ) → Pending own (held ++ rest) → mid ≡ old → says ≡ said → kept ≡ held ++ rest → new ≡ with_held k kept mid
-      → ComesBy limits k (held ++ drop used piece) old said new says
+      → RefinesBytes limits k (held ++ drop used piece) old said new says
   waits_past mid kept pending stays quiet all after =
-      subst (λ (b : List ℕ). ComesBy limits k (held ++ b) old said new says) here
-      (subst (λ (h : HubState). ComesBy limits k (held ++ rest) old said h says) (sym (after ∙ λ i. with_held k (all i) (stays i)))
-      (subst (λ (acts : List Act). ComesBy limits k (held ++ rest) old said (with_held k (held ++ rest) old) acts) (sym quiet)
+      subst (λ (b : List ℕ). RefinesBytes limits k (held ++ b) old said new says) here
+      (subst (λ (h : HubState). RefinesBytes limits k (held ++ rest) old said h says) (sym (after ∙ λ i. with_held k (all i) (stays i)))
+      (subst (λ (acts : List Act). RefinesBytes limits k (held ++ rest) old said (with_held k (held ++ rest) old) acts) (sym quiet)
       (waits_by limits k (held ++ rest) old said is_on (subst (λ (l : Bounds). Pending l (held ++ rest)) same pending))))

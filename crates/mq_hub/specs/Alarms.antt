@@ -5,11 +5,11 @@ use Rattle.std.specs.Ordering.{nat_cmp, ordering_then}
 use Rattle.std.specs.declared.cmp.Ordering.{Ordering}
 use Rattle.std.specs.declared.cmp.Reverse.{Reverse}
 use Rattle.mq_route.specs.declared.conn.Conn.{Conn}
-use Rattle.mq_route.specs.declared.stage.Stage.{Stage}
+use Rattle.mq_route.specs.declared.connection_state.ConnectionState.{ConnectionState}
 use Rattle.mq_route.specs.Routed.{same_conn}
 use Rattle.mq_route.specs.Step.{is_late_on}
-use Rattle.mq_hub.specs.declared.alarms.Alarm.{Alarm}
-use Rattle.mq_hub.specs.declared.connection.Connection.{Connection}
+use Rattle.mq_hub.specs.declared.keep_alive.deadlines.Alarm.{Alarm}
+use Rattle.mq_hub.specs.declared.connections.connection.Connection.{Connection}
 
 -- The alarms: each is a moment up to which the connection that it names is not late. After `until` any may be.
 pub record AlarmTable : Type 0 where
@@ -26,7 +26,7 @@ abbrev pub IsQuiet : AlarmTable → Conn → ℕ → Type 0
 IsQuiet a k now = (now ≤ a.until) × All (λ r. r.0.conn ≡ k → now ≤ r.0.until) a.alarms
 
 -- before an alarm of its rings, a connection at this stage is not late
-abbrev pub IsAwaited : AlarmTable → Conn → Stage → Type 0
+abbrev pub IsAwaited : AlarmTable → Conn → ConnectionState → Type 0
 IsAwaited a k s = (now : ℕ) → IsQuiet a k now → is_late_on now s ≡ false
 
 -- the second table rings wherever the first one does, and maybe sooner

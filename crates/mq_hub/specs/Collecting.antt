@@ -2,7 +2,7 @@
 use Rattle.std.specs.Prelude.{◌≡◌, ℕ, List, [], Some, Result, Ok, Err}
 use Rattle.std.specs.declared.alloc.AllocError.{AllocError}
 use Rattle.mq_end.specs.State.{EndState, Room}
-use Rattle.mq_hub.specs.declared.session.Tenant.{Tenant}
+use Rattle.mq_hub.specs.declared.sessions.session.BrokerSession.{BrokerSession}
 use Rattle.mq_hub.specs.Sessions.{tenant_of, with_server}
 
 -- an end of which all bytes that wait are taken
@@ -16,8 +16,8 @@ Collects (Ok bytes) old new = (bytes ≡ old.output) × (new ≡ drained new.roo
 Collects (Err e) old new = new ≡ record old { room = new.room }
 
 -- and of taking those that wait in the end of the session of a key
-pub record CollectsAt (key : ℕ) (answer : Result (List ℕ) AllocError) (old new : List Tenant) : Type 0 where
-  pub tenant : Tenant
+pub record CollectsAt (key : ℕ) (answer : Result (List ℕ) AllocError) (old new : List BrokerSession) : Type 0 where
+  pub tenant : BrokerSession
   pub there : tenant_of key old ≡ Some tenant
   pub end : EndState
   pub collects : Collects answer tenant.end end

@@ -6,6 +6,6 @@ use Rattle.mq_route.specs.Work.{Work}
 
 -- A step that has come so far, the broker being `old` and its acts `said`, goes on by this change: then the broker is `new`, and its
 -- acts are `says`.
-pub record GoesBy (change : Work → Work) (old : HubState) (said : List Act) (new : HubState) (says : List Act) : Type 0 where
+pub record Refines (change : Work → Work) (old : HubState) (said : List Act) (new : HubState) (says : List Act) : Type 0 where
   pub hub : (w : Work) → w.hub ≡ old → w.did ≡ said → (change w).hub ≡ new
   pub did : (w : Work) → w.hub ≡ old → w.did ≡ said → (change w).did ≡ says

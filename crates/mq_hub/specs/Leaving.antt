@@ -6,9 +6,9 @@ use Rattle.mq_end.specs.State.{EndState, no_bytes}
 use Rattle.mq_route.specs.declared.act.Act.TheVariants as acts
 use Rattle.mq_route.specs.declared.close.HubClose.{HubClose}
 use Rattle.mq_route.specs.declared.conn.Conn.{Conn}
-use Rattle.mq_route.specs.declared.stage.Stage.{Stage}
-use Rattle.mq_route.specs.declared.stage.Stage.TheVariants.{Fresh, UpFor, Shut}
-use Rattle.mq_route.specs.Hub.{Line, end_of, with_end}
+use Rattle.mq_route.specs.declared.connection_state.ConnectionState.{ConnectionState}
+use Rattle.mq_route.specs.declared.connection_state.ConnectionState.TheVariants.{AwaitingConnect, ConnectedAs, Closed}
+use Rattle.mq_route.specs.Hub.{HubConnection, end_of, with_end}
 use Rattle.mq_route.specs.Work.{Work, remove_if, said, shut, will_after, with_sessions}
 
 -- an end whose connection is over, and of which no bytes wait any more
@@ -16,8 +16,8 @@ abbrev pub parted : EndState → EndState
 parted e = record e { end = over e.end; held = []; output = []; room = no_bytes e.room }
 
 -- a connection that is closed, and on which these bytes wait
-abbrev pub left_with : List ℕ → Line → Line
-left_with b x = record x { stage = Shut; held = []; waiting = b }
+abbrev pub left_with : List ℕ → HubConnection → HubConnection
+left_with b x = record x { stage = Closed; held = []; waiting = b }
 
 -- What comes of a close before the client's will is published: the connection is closed, the session's end has none, and the session
 -- ends with it where it is to (3.1.2.4).
@@ -25,7 +25,7 @@ unfoldable pub parts : Conn → HubClose → ℕ → Bool → Work → Work
 parts k why key clean w = remove_if clean key (with_sessions (with_end key (over (end_of key w.hub.sessions))) (said (acts.Closed k why) (shut k w)))
 
 -- the will that is then to be published, where there is one (3.1.2.5, 3.14.4)
-abbrev pub will_left : HubClose → Stage → Option Will
-will_left why Fresh = None
-will_left why (UpFor key terms moment) = will_after why terms.will
-will_left why Shut = None
+abbrev pub will_left : HubClose → ConnectionState → Option Will
+will_left why AwaitingConnect = None
+will_left why (ConnectedAs key terms last_activity) = will_after why terms.will
+will_left why Closed = None

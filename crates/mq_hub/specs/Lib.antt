@@ -4,7 +4,7 @@ pub mod Collecting
 pub mod Coming
 pub mod Answers
 pub mod Calls
-pub mod Lines
+pub mod Connections
 pub mod Placing
 pub mod Receiving
 pub mod Retained
@@ -15,8 +15,8 @@ pub mod Seen
 pub mod Keeps
 pub mod Does
 pub mod Leaving
-pub mod Sharing
-pub mod Doings
+pub mod DeliveryPlan
+pub mod ActLog
 pub mod Filing
 pub mod Proceeding
 pub mod Ticking

@@ -3,11 +3,11 @@ use Rattle.std.specs.Prelude.{◌≡◌, ℕ, ◌≤◌, Bool, List}
 use Rattle.mq_route.specs.declared.act.Act.{Act}
 use Rattle.mq_route.specs.declared.config.HubConfig.{HubConfig}
 use Rattle.mq_route.specs.declared.conn.Conn.{Conn}
-use Rattle.mq_route.specs.declared.stage.Stage.TheVariants.{Fresh}
+use Rattle.mq_route.specs.declared.connection_state.ConnectionState.TheVariants.{AwaitingConnect}
 use Rattle.mq_route.specs.Hub.{key_of, stage_of}
 use Rattle.mq_route.specs.Work.{Work}
-use Rattle.mq_hub.specs.Does.{GoesBy}
-use Rattle.mq_hub.specs.Keeps.{HubKeeps}
+use Rattle.mq_hub.specs.Does.{Refines}
+use Rattle.mq_hub.specs.Keeps.{HubInvariant}
 use Rattle.mq_hub.specs.Seen.{HubTables, hub_of}
 use Rattle.mq_hub.specs.Sessions.{sessions_of}
 
@@ -15,21 +15,21 @@ use Rattle.mq_hub.specs.Sessions.{sessions_of}
 pub record AreHubs (t : HubTables) : Type 0 where
   pub config : HubConfig
   pub next_key : ℕ
-  pub keeps : HubKeeps config next_key t
+  pub keeps : HubInvariant config next_key t
 
 -- No connection changes, no client gets another session, and no room is lost that was made for one.
 pub record Spares (old new : HubTables) : Type 0 where
-  pub keeps : (config : HubConfig) (next_key : ℕ) → HubKeeps config next_key old → HubKeeps config next_key new
-  pub lines : new.lines ≡ old.lines
+  pub keeps : (config : HubConfig) (next_key : ℕ) → HubInvariant config next_key old → HubInvariant config next_key new
+  pub connections : new.connections ≡ old.connections
   pub room : old.sessions.room ≤ new.sessions.room
   pub clients : (n : List ℕ) → key_of n (sessions_of new.sessions.tenants) ≡ key_of n (sessions_of old.sessions.tenants)
 
 -- The step goes on by a change, with memory for a will or without. A connection that waits for its CONNECT does so still, and no room is
 -- lost that was made for a session, or for a connection to come up.
 pub record Proceeds (change : Bool → Work → Work) (old : HubTables) (said : List Act) (new : HubTables) (says : List Act) : Type 0 where
-  pub goes : (config : HubConfig) (clock next_key : ℕ) → HubKeeps config next_key old
-      → (fits : Bool) × GoesBy (change fits) (hub_of config clock next_key old) said (hub_of config clock next_key new) says
-  pub keeps : (config : HubConfig) (next_key : ℕ) → HubKeeps config next_key old → HubKeeps config next_key new
+  pub goes : (config : HubConfig) (clock next_key : ℕ) → HubInvariant config next_key old
+      → (fits : Bool) × Refines (change fits) (hub_of config clock next_key old) said (hub_of config clock next_key new) says
+  pub keeps : (config : HubConfig) (next_key : ℕ) → HubInvariant config next_key old → HubInvariant config next_key new
   pub room : old.sessions.room ≤ new.sessions.room
-  pub rises : old.lines.rises ≤ new.lines.rises
-  pub fresh : (k : Conn) → stage_of k old.lines.lines ≡ Fresh → stage_of k new.lines.lines ≡ Fresh
+  pub rises : old.connections.rises ≤ new.connections.rises
+  pub fresh : (k : Conn) → stage_of k old.connections.connections ≡ AwaitingConnect → stage_of k new.connections.connections ≡ AwaitingConnect

@@ -6,9 +6,9 @@ use Rattle.mq_end.specs.declared.happening.Happening.TheVariants as happens
 use Rattle.mq_end.specs.declared.reason.CloseReason.TheVariants as reasons
 use Rattle.mq_end.specs.End.{End, closes, is_up}
 use Rattle.mq_end.specs.Server.{server_gets}
-use Rattle.mq_hub.specs.declared.reception.Reception.{Reception}
-use Rattle.mq_hub.specs.declared.reception.Reception.TheVariants.{Handed, Repeated, Unfit}
-use Rattle.mq_hub.specs.declared.session.Tenant.{Tenant}
+use Rattle.mq_hub.specs.declared.publish.reception.Reception.{Reception}
+use Rattle.mq_hub.specs.declared.publish.reception.Reception.TheVariants.{Handed, Repeated, Unfit}
+use Rattle.mq_hub.specs.declared.sessions.session.BrokerSession.{BrokerSession}
 use Rattle.mq_hub.specs.Sessions.{tenant_of}
 
 -- with quality of service 2: whether its identifier fits the window, and whether it is stored (4.3.3)
@@ -25,8 +25,8 @@ IsReceived Repeated p e = ((server_gets (packets.Publish p) e).close ≡ None) �
 IsReceived Unfit p e = server_gets (packets.Publish p) e ≡ closes reasons.Window e
 
 -- the session of a key is there, and its end is up, with a receiving window of so many places
-pub record CanReceive (key : ℕ) (places : Option ℕ) (ts : List Tenant) : Type 0 where
-  pub tenant : Tenant
+pub record CanReceive (key : ℕ) (places : Option ℕ) (ts : List BrokerSession) : Type 0 where
+  pub tenant : BrokerSession
   pub there : tenant_of key ts ≡ Some tenant
   pub up : is_up tenant.end.end.state ≡ true
   pub known : tenant.end.end.known ≡ true

@@ -2,11 +2,11 @@
 use Rattle.std.specs.Prelude.{ℕ, ◌==◌, List, [], ◌∷◌, map, if◌then◌else◌}
 use Rattle.mq_topic.specs.Rows.{Row}
 use Rattle.mq_route.specs.declared.config.HubConfig.{HubConfig}
-use Rattle.mq_route.specs.declared.stage.Stage.{Stage}
-use Rattle.mq_route.specs.declared.stage.Stage.TheVariants.{Fresh, UpFor, Shut}
-use Rattle.mq_route.specs.Hub.{HubState, Line}
-use Rattle.mq_hub.specs.declared.session.Tenant.{Tenant}
-use Rattle.mq_hub.specs.Lines.{LineTable}
+use Rattle.mq_route.specs.declared.connection_state.ConnectionState.{ConnectionState}
+use Rattle.mq_route.specs.declared.connection_state.ConnectionState.TheVariants.{AwaitingConnect, ConnectedAs, Closed}
+use Rattle.mq_route.specs.Hub.{HubState, HubConnection}
+use Rattle.mq_hub.specs.declared.sessions.session.BrokerSession.{BrokerSession}
+use Rattle.mq_hub.specs.Connections.{LineTable}
 use Rattle.mq_hub.specs.Retained.{RetainedTable}
 use Rattle.mq_hub.specs.Sessions.{SessionTable, sessions_of}
 
@@ -16,23 +16,23 @@ pub record HubTables : Type 0 where
   pub rows : List Row
   pub retained : RetainedTable
   pub sessions : SessionTable
-  pub lines : LineTable
+  pub connections : LineTable
 
 -- the bytes that wait in the end of the session of a key
-abbrev pub output_of : ℕ → List Tenant → List ℕ
+abbrev pub output_of : ℕ → List BrokerSession → List ℕ
 output_of key [] = []
 output_of key (t ∷ ts) = if t.key == key then t.end.output else output_of key ts
 
 -- the bytes that wait on a connection: while it is up its session's end has them, else its own are they
-abbrev pub waiting_by : Stage → List Tenant → List ℕ → List ℕ
-waiting_by Fresh ts own = own
-waiting_by (UpFor key terms moment) ts own = output_of key ts
-waiting_by Shut ts own = own
+abbrev pub waiting_by : ConnectionState → List BrokerSession → List ℕ → List ℕ
+waiting_by AwaitingConnect ts own = own
+waiting_by (ConnectedAs key terms last_activity) ts own = output_of key ts
+waiting_by Closed ts own = own
 
-abbrev pub seen : List Tenant → Line → Line
+abbrev pub seen : List BrokerSession → HubConnection → HubConnection
 seen ts x = record x { waiting = waiting_by x.stage ts x.waiting }
 
-abbrev pub all_seen : List Tenant → List Line → List Line
+abbrev pub all_seen : List BrokerSession → List HubConnection → List HubConnection
 all_seen ts xs = map (seen ts) xs
 
 -- the broker that has these tables
@@ -44,5 +44,5 @@ hub_of config clock next_key t = record {
   rows = t.rows;
   retained = t.retained.messages;
   sessions = sessions_of t.sessions.tenants;
-  lines = all_seen t.sessions.tenants t.lines.lines;
+  connections = all_seen t.sessions.tenants t.connections.connections;
 }

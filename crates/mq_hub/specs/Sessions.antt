@@ -3,53 +3,53 @@ use Rattle.std.specs.Prelude.{◌≡◌, ℕ, ◌<◌, ◌==◌, not, if◌then�
 use Rattle.std.specs.List.{AllByRecursion}
 use Rattle.mq_end.specs.State.{EndState}
 use Rattle.mq_route.specs.Hub.{HubSession, key_of}
-use Rattle.mq_hub.specs.declared.session.Tenant.{Tenant}
+use Rattle.mq_hub.specs.declared.sessions.session.BrokerSession.{BrokerSession}
 
 -- The sessions by ascending key; and how many more there may be without more memory.
 pub record SessionTable : Type 0 where
-  pub tenants : List Tenant
+  pub tenants : List BrokerSession
   pub room : ℕ
 
 -- what the broker's definition sees of a session
-abbrev pub session_of : Tenant → HubSession
+abbrev pub session_of : BrokerSession → HubSession
 session_of t = record { client = t.client; key = t.key; end = t.end.end }
 
-abbrev pub sessions_of : List Tenant → List HubSession
+abbrev pub sessions_of : List BrokerSession → List HubSession
 sessions_of ts = map session_of ts
 
 -- the session of a key
-abbrev pub tenant_of : ℕ → List Tenant → Option Tenant
+abbrev pub tenant_of : ℕ → List BrokerSession → Option BrokerSession
 tenant_of key [] = None
 tenant_of key (t ∷ ts) = if t.key == key then Some t else tenant_of key ts
 
 -- the same with another end
-abbrev pub served_by : ℕ → EndState → Tenant → Tenant
+abbrev pub served_by : ℕ → EndState → BrokerSession → BrokerSession
 served_by key e t = if t.key == key then record t { end = e } else t
 
 -- the sessions, that of a key with another end
-abbrev pub with_server : ℕ → EndState → List Tenant → List Tenant
+abbrev pub with_server : ℕ → EndState → List BrokerSession → List BrokerSession
 with_server key e ts = map (served_by key e) ts
 
 -- the sessions without that of a key
-abbrev pub without_tenant : ℕ → List Tenant → List Tenant
+abbrev pub without_tenant : ℕ → List BrokerSession → List BrokerSession
 without_tenant key ts = filter (λ t. not (t.key == key)) ts
 
 -- all keys are below this one
-abbrev pub AreBelow : ℕ → List Tenant → Type 0
+abbrev pub AreBelow : ℕ → List BrokerSession → Type 0
 AreBelow key = AllByRecursion (λ t. t.key < key)
 
 -- keys ascend
-abbrev pub AreAscending : List Tenant → Type 0
+abbrev pub AreAscending : List BrokerSession → Type 0
 AreAscending [] = Unit {0}
 AreAscending (t ∷ ts) = AllByRecursion (λ s. t.key < s.key) ts × AreAscending ts
 
 -- no two have one identifier
-abbrev pub AreDistinct : List Tenant → Type 0
+abbrev pub AreDistinct : List BrokerSession → Type 0
 AreDistinct [] = Unit {0}
 AreDistinct (t ∷ ts) = (key_of t.client (sessions_of ts) ≡ None) × AreDistinct ts
 
 -- What the table keeps true: keys ascend, no two sessions have one identifier, and `find` gives the key of each.
-pub record AreSessions (ts : List Tenant) (find : List ℕ → Option ℕ) : Type 0 where
+pub record AreSessions (ts : List BrokerSession) (find : List ℕ → Option ℕ) : Type 0 where
   pub ascending : AreAscending ts
   pub distinct : AreDistinct ts
   pub named : (n : List ℕ) → find n ≡ key_of n (sessions_of ts)

@@ -3,36 +3,36 @@ use Rattle.std.specs.Prelude.{◌≡◌, ℕ, false, true, slice_get, List, Opti
 use Rattle.std.specs.List.{AllByRecursion, Contains}
 use Rattle.mq_route.specs.declared.act.Act.{Act}
 use Rattle.mq_route.specs.declared.conn.Conn.{Conn}
-use Rattle.mq_route.specs.Hub.{HubState, Line}
+use Rattle.mq_route.specs.Hub.{HubState, HubConnection}
 use Rattle.mq_route.specs.Step.{Ticks, is_late_on}
 use Rattle.mq_route.specs.Work.{Work, begin}
 use Rattle.mq_hub.specs.Alarms.{is_named}
 
 -- the name of a connection that is late at this moment
-abbrev pub late_of : ℕ → Option Line → Option Conn
+abbrev pub late_of : ℕ → Option HubConnection → Option Conn
 late_of now None = None
 late_of now (Some x) = if is_late_on now x.stage then Some x.conn else None
 
 -- no connection is late at this moment
-abbrev pub AreInTime : ℕ → List Line → Type 0
+abbrev pub AreInTime : ℕ → List HubConnection → Type 0
 AreInTime now = AllByRecursion (λ x. is_late_on now x.stage ≡ false)
 
 -- each late one has its place among these
-abbrev pub HasLate : ℕ → List Line → List ℕ → Type 0
-HasLate now xs places = (i : ℕ) (x : Line) → slice_get xs i ≡ Some x → is_late_on now x.stage ≡ true → Contains places i
+abbrev pub HasLate : ℕ → List HubConnection → List ℕ → Type 0
+HasLate now xs places = (i : ℕ) (x : HubConnection) → slice_get xs i ≡ Some x → is_late_on now x.stage ≡ true → Contains places i
 
 -- or its name
-abbrev pub HasLateNamed : ℕ → List Line → List Conn → Type 0
-HasLateNamed now xs names = (i : ℕ) (x : Line) → slice_get xs i ≡ Some x → is_late_on now x.stage ≡ true → is_named x.conn names ≡ true
+abbrev pub HasLateNamed : ℕ → List HubConnection → List Conn → Type 0
+HasLateNamed now xs names = (i : ℕ) (x : HubConnection) → slice_get xs i ≡ Some x → is_late_on now x.stage ≡ true → is_named x.conn names ≡ true
 
 -- each has its place among these, but for those of these names
-abbrev pub HasLateBut : ℕ → List Line → List Conn → List ℕ → Type 0
+abbrev pub HasLateBut : ℕ → List HubConnection → List Conn → List ℕ → Type 0
 HasLateBut now xs names places =
-    (i : ℕ) (x : Line) → slice_get xs i ≡ Some x → is_late_on now x.stage ≡ true → is_named x.conn names ≡ false → Contains places i
+    (i : ℕ) (x : HubConnection) → slice_get xs i ≡ Some x → is_late_on now x.stage ≡ true → is_named x.conn names ≡ false → Contains places i
 
 -- A broker to which nothing was done in its step so far is told this moment: then it is `new`, and did these acts.
 pub record TicksTo (now : ℕ) (old new : HubState) (acts : List Act) : Type 0 where
   pub work : Work
-  pub ticks : Ticks now old.lines (begin old) work
+  pub ticks : Ticks now old.connections (begin old) work
   pub hub : new ≡ work.hub
   pub did : acts ≡ work.did

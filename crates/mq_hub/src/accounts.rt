@@ -7,25 +7,25 @@ ghost use Rattle.mq_route.specs.declared.act.Act.{Act};
 ghost use Rattle.mq_route.specs.declared.act.Act.TheVariants.{Placed, Took};
 ghost use Rattle.mq_hub.specs.Filing.{all_noted, IsBlank};
 
-use mq_end::Items;
+use mq_end::BoxedList;
 use mq_packet::Message;
-use mq_route::{Account, Act, HubReply};
+use mq_route::{Act, ClientLog, HubReply};
 use mq_topic::ClientKey;
 use std::alloc::{AllocError, Global};
 use std::mem;
 
 // An account on which nothing stands. It takes no memory.
-fn blank(alloc: Global) -> Account
+fn blank(alloc: Global) -> ClientLog
     ensures { IsBlank result }
 {
-    Account {
-        taken: Items::from_vec(Vec::new(alloc)),
-        placed: Items::from_vec(Vec::new(alloc)),
+    ClientLog {
+        taken: BoxedList::from_vec(Vec::new(alloc)),
+        placed: BoxedList::from_vec(Vec::new(alloc)),
     }
 }
 
 // Accounts on which nothing stands, one for each of `count` clients.
-fn blank_accounts(alloc: Global, count: usize) -> Result<Vec<Account>, AllocError>
+fn blank_accounts(alloc: Global, count: usize) -> Result<Vec<ClientLog>, AllocError>
     ensures count { IfOk result (λ accounts. length accounts.items ≡ count) }
     ensures blank { IfOk result (λ accounts. AreAccounts 0 [] accounts.items) }
 {
@@ -37,19 +37,19 @@ fn blank_accounts(alloc: Global, count: usize) -> Result<Vec<Account>, AllocErro
 }
 
 // Appends a message to a list. If memory runs out the list is lost.
-fn append(alloc: Global, list: &mut Items<Message>, message: &Message) -> Result<(), AllocError>
+fn append(alloc: Global, list: &mut BoxedList<Message>, message: &Message) -> Result<(), AllocError>
     ensures { OnOk result (list.new ≡ list.old ++ message.now ∷ []) }
 {
-    let mut messages = mem::replace(list, Items::from_vec(Vec::new(alloc))).into_vec();
+    let mut messages = mem::replace(list, BoxedList::from_vec(Vec::new(alloc))).into_vec();
     messages.push(message.clone()?)?;
-    *list = Items::from_vec(messages);
+    *list = BoxedList::from_vec(messages);
     Ok(())
 }
 
 // Notes that a message was taken from a client, in its account if there is one.
 fn note_taken(
     alloc: Global,
-    accounts: &mut [Account],
+    accounts: &mut [ClientLog],
     key: ClientKey,
     message: &Message,
 ) -> Result<(), AllocError>
@@ -65,7 +65,7 @@ fn note_taken(
 // Notes that a message was placed for a client, in its account if there is one.
 fn note_placed(
     alloc: Global,
-    accounts: &mut [Account],
+    accounts: &mut [ClientLog],
     key: ClientKey,
     message: &Message,
 ) -> Result<(), AllocError>
@@ -79,7 +79,7 @@ fn note_placed(
 }
 
 // Notes an act in the account of its client.
-fn note(alloc: Global, accounts: &mut [Account], act: &Act) -> Result<(), AllocError>
+fn note(alloc: Global, accounts: &mut [ClientLog], act: &Act) -> Result<(), AllocError>
     ensures { OnOk result (accounts.new ≡ all_noted 0 act.now accounts.old) }
 {
     match act {
@@ -90,7 +90,7 @@ fn note(alloc: Global, accounts: &mut [Account], act: &Act) -> Result<(), AllocE
 }
 
 // Notes acts in the accounts of their clients, one after another.
-fn note_all(alloc: Global, accounts: &mut [Account], acts: &[Act]) -> Result<(), AllocError>
+fn note_all(alloc: Global, accounts: &mut [ClientLog], acts: &[Act]) -> Result<(), AllocError>
     ensures accounts { OnOk result ((log : List Act) → AreAccounts 0 log accounts.old → AreAccounts 0 (log ++ acts.now) accounts.new) }
     ensures count { OnOk result (length accounts.new ≡ length accounts.old) }
 {
@@ -105,7 +105,7 @@ pub(crate) fn accounts_of(
     alloc: Global,
     count: usize,
     replies: &[HubReply],
-) -> Result<Vec<Account>, AllocError>
+) -> Result<Vec<ClientLog>, AllocError>
     ensures count { IfOk result (λ accounts. length accounts.items ≡ count) }
     ensures accounts { IfOk result (λ accounts. AreAccounts 0 (flat_map (λ r. r.acts) replies.now) accounts.items) }
 {

@@ -28,7 +28,7 @@ impl<S: FilterStore> Model for HubOver<S> {
     ghost use Rattle.std.specs.FinSet as set;
     ghost use Rattle.std.specs.Ordering.{nat_cmp};
     ghost use Rattle.mq_route.specs.Hub.{HubState};
-    ghost use Rattle.mq_hub.specs.Keeps.{HubKeeps};
+    ghost use Rattle.mq_hub.specs.Keeps.{HubInvariant};
     ghost use Rattle.mq_hub.specs.Seen.{hub_of};
 
     ghost Value = { HubState };
@@ -37,7 +37,7 @@ impl<S: FilterStore> Model for HubOver<S> {
 
     ghost view = { λ h. hub_of h.config h.clock h.next_key h.tables };
 
-    ghost invariant = { λ h. HubKeeps h.config h.next_key h.tables };
+    ghost invariant = { λ h. HubInvariant h.config h.next_key h.tables };
 }
 
 impl HubOver<TrieStore> {
@@ -71,9 +71,9 @@ impl<S: FilterStore> HubOver<S> {
 
     /// Whether a connection is known: it was opened, and is not over. It takes no memory.
     pub fn knows(&self, conn: Conn) -> bool
-        ensures { result ≡ knows conn self.now.lines }
+        ensures { result ≡ knows conn self.now.connections }
     {
-        self.tables.lines.knows(conn)
+        self.tables.connections.knows(conn)
     }
 
     /// Why an event is refused, memory aside. It takes no memory.

@@ -2,57 +2,26 @@
 #![tactic(auto)]
 
 mod accounts;
-mod admitted;
-mod alarms;
-mod arriving;
-mod asked;
-mod begun;
-mod call;
-mod closed;
-mod collected;
-mod coming;
-mod connection;
-mod copies;
-mod decoding;
-mod doings;
-mod dropped;
-mod ended;
-mod first;
-mod granted;
-mod greeted;
-mod handed;
+mod acts;
+mod close;
+mod connect;
+mod connections;
 mod hub;
-mod leaving;
-mod lines;
-mod listed;
-mod opened;
-mod placing;
-mod preparing;
-mod published;
-mod received;
-mod reception;
-mod refused;
-mod removed;
+mod input;
+mod keep_alive;
+mod publish;
 mod retained;
-mod risen;
-mod rows;
 mod run;
-mod session;
 mod sessions;
-mod shared;
-mod sharing;
-mod standing;
 mod step;
-mod stopped;
+mod subscribe;
+mod subscriptions;
 mod tables;
-mod taken;
-mod taken_over;
-mod ticked;
-mod welcome;
-mod wills;
+mod unsubscribe;
+mod will;
 
 pub use crate::hub::{Hub, HubOver};
 pub use crate::run::{hub_run, hub_run_over};
 pub use mq_route::{
-    Account, Act, Conn, HubClose, HubConfig, HubEvent, HubRefusal, HubReply, HubTrace, User,
+    Act, ClientLog, Conn, HubClose, HubConfig, HubEvent, HubRefusal, HubReply, HubTrace, User,
 };

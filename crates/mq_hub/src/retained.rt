@@ -7,7 +7,7 @@ ghost use Rattle.mq_route.specs.Copies.{is_of, kept, replaced, retained_for};
 ghost use Rattle.mq_packet.specs.declared.message.Message.{Message};
 ghost use Rattle.mq_hub.specs.Retained.{AreKept, IsKeptOf};
 
-use crate::copies::{copy, is_hidden_name};
+use crate::publish::recipients::{copy, is_hidden_name};
 use indexmap::IndexMap;
 use mq_packet::Message;
 use mq_topic::{Qos, TopicFilter, TopicName, matches};
@@ -18,7 +18,7 @@ use std::marker::Model;
 type ByName = IndexMap<TopicName, Message>;
 
 /// A message that is to be retained, behind its topic name.
-pub(crate) type Named = (TopicName, Message);
+pub(crate) type RetainedEntry = (TopicName, Message);
 
 /// The retained messages, each found by its topic name at once, the name that came first in front (3.3.1.3).
 #[derive(Drop)]
@@ -81,9 +81,9 @@ fn copies_of(
 /// What is to be retained of a message: the message behind its topic name, or nothing where RETAIN is not set (3.3.1.3) or the name begins
 /// with `$` (4.7.2). It shares the message's bytes. Fails if memory runs out.
 #[inline(always)]
-pub(crate) fn kept_of(message: &Message) -> Result<Option<Named>, AllocError>
-    ensures kept { IfOk result (λ part. IsKeptOf message.now part) }
-    ensures named { IfOk result (λ part. IfSome part (λ named. named.0 ≡ named.1.topic)) }
+pub(crate) fn to_retain(message: &Message) -> Result<Option<RetainedEntry>, AllocError>
+    ensures kept { IfOk result (λ detach. IsKeptOf message.now detach) }
+    ensures named { IfOk result (λ detach. IfSome detach (λ named. named.0 ≡ named.1.topic)) }
 {
     if !message.retain || is_hidden_name(&message.topic) {
         return Ok(None);
@@ -132,13 +132,13 @@ impl Retained {
     }
 
     /// What is to be retained of a message is kept, as `keep` keeps the message. It takes no memory.
-    pub(crate) fn keep_of(&mut self, part: Option<Named>)
-        requires named { IfSome part (λ named. named.0 ≡ named.1.topic) }
+    pub(crate) fn retain_planned(&mut self, detach: Option<RetainedEntry>)
+        requires named { IfSome detach (λ named. named.0 ≡ named.1.topic) }
         requires room { 0 < self.old.room }
-        ensures messages { (m : Message) → IsKeptOf m part → self.new.messages ≡ kept m self.old.messages }
+        ensures messages { (m : Message) → IsKeptOf m detach → self.new.messages ≡ kept m self.old.messages }
         ensures room { self.old.room ≤ self.new.room + 1 }
     {
-        match part {
+        match detach {
             Some((name, message)) => self.keep(name, message),
             None => {}
         }

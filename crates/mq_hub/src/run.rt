@@ -8,8 +8,8 @@ ghost use Rattle.mq_hub.specs.Running.{IsFollowed, IsRefused, IsTraced};
 
 use crate::accounts::accounts_of;
 use crate::hub::{Hub, HubOver};
-use mq_end::Items;
-use mq_route::{Account, HubConfig, HubEvent, HubRefusal, HubReply, HubTrace};
+use mq_end::BoxedList;
+use mq_route::{ClientLog, HubConfig, HubEvent, HubRefusal, HubReply, HubTrace};
 use mq_topic::{FilterStore, TrieStore};
 use std::alloc::{AllocError, Global};
 
@@ -31,7 +31,7 @@ impl<S: FilterStore> HubOver<S> {
     }
 
     // The accounts of the clients to which a key was given, after these replies.
-    fn accounts(&self, replies: &[HubReply]) -> Result<Vec<Account>, AllocError>
+    fn accounts(&self, replies: &[HubReply]) -> Result<Vec<ClientLog>, AllocError>
         ensures count { IfOk result (λ accounts. length accounts.items ≡ self.now.next_key) }
         ensures accounts { IfOk result (λ accounts. AreAccounts 0 (flat_map (λ r. r.acts) replies.now) accounts.items) }
     {
@@ -48,8 +48,8 @@ impl<S: FilterStore> HubOver<S> {
             return Err(HubRefusal::Memory);
         };
         Ok(HubTrace {
-            replies: Items::from_vec(replies),
-            accounts: Items::from_vec(accounts),
+            replies: BoxedList::from_vec(replies),
+            accounts: BoxedList::from_vec(accounts),
         })
     }
 }

@@ -20,11 +20,11 @@ impl<S: FilterStore> HubOver<S> {
             return Err(why);
         }
         match event {
-            HubEvent::Opened(conn) => self.opened(*conn),
-            HubEvent::Bytes(conn, piece) => self.received(*conn, piece),
-            HubEvent::Ended(conn) => self.ended(*conn),
-            HubEvent::Tick(now) => self.ticked(*now),
-            HubEvent::Collect(conn) => self.collected(*conn),
+            HubEvent::Opened(conn) => self.on_open(*conn),
+            HubEvent::Bytes(conn, piece) => self.on_bytes(*conn, piece),
+            HubEvent::Ended(conn) => self.on_end(*conn),
+            HubEvent::Tick(now) => self.on_tick(*now),
+            HubEvent::Collect(conn) => self.on_collect(*conn),
         }
     }
 }

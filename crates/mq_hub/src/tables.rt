@@ -1,21 +1,21 @@
 //! The tables of a broker.
 
 ghost use Rattle.std.specs.Prelude.{◌≡◌, ◌≤◌, ℕ, List, Some, None, [], ◌∷◌, ◌++◌, true, false, OnOk, OnErr, IfOk, IsSome, IfSome};
-ghost use Rattle.mq_route.specs.Hub.{held_on, is_open, key_of, key_on, knows, stage_of, waiting_on, with_line, without_line};
+ghost use Rattle.mq_route.specs.Hub.{held_on, is_open, key_of, key_on, knows, stage_of, waiting_on, with_connection, without_connection};
 ghost use Rattle.mq_hub.specs.Collecting.{CollectsAt};
 ghost use Rattle.mq_hub.specs.Coming.{hears, holds};
 ghost use Rattle.mq_hub.specs.Leaving.{left_with, parted};
 ghost use Rattle.mq_hub.specs.Sessions.{sessions_of, tenant_of, with_server, without_tenant};
 ghost use Rattle.mq_topic.specs.Rows.{without_client};
 
-use crate::connection::BoxedConnection;
-use crate::lines::Lines;
+use crate::connections::connection::BoxedConnection;
+use crate::connections::table::Connections;
 use crate::retained::Retained;
-use crate::sessions::Sessions;
+use crate::sessions::table::Sessions;
 use bytes::Bytes;
 use mq_decode::{Decoder, Limits};
 use mq_end::ByteQueue;
-use mq_route::{Conn, Stage};
+use mq_route::{Conn, ConnectionState};
 use mq_topic::{ClientKey, FilterStore};
 use std::alloc::{AllocError, Global};
 use std::marker::Model;
@@ -26,7 +26,7 @@ pub(crate) struct Tables<S: FilterStore> {
     pub(crate) store: S,
     pub(crate) retained: Retained,
     pub(crate) sessions: Sessions,
-    pub(crate) lines: Lines,
+    pub(crate) connections: Connections,
 }
 
 impl<S: FilterStore> Model for Tables<S> {
@@ -39,7 +39,7 @@ impl<S: FilterStore> Model for Tables<S> {
 
     ghost coded = { Prim.hlevel (codes, set.code {R = nat_cmp} coded_ℕ) };
 
-    ghost view = { λ t. record { rows = S.rows t.store; retained = t.retained; sessions = t.sessions; lines = t.lines } };
+    ghost view = { λ t. record { rows = S.rows t.store; retained = t.retained; sessions = t.sessions; connections = t.connections } };
 }
 
 impl<S: FilterStore> Tables<S> {
@@ -48,46 +48,46 @@ impl<S: FilterStore> Tables<S> {
         ensures rows { result.rows ≡ S.rows store }
         ensures retained { result.retained.messages ≡ [] }
         ensures sessions { result.sessions.tenants ≡ [] }
-        ensures lines { result.lines.lines ≡ [] }
-        ensures limits { result.lines.limits ≡ limits }
+        ensures connections { result.connections.connections ≡ [] }
+        ensures limits { result.connections.limits ≡ limits }
     {
         Tables {
             store,
             retained: Retained::new(alloc),
             sessions: Sessions::new(alloc),
-            lines: Lines::new(alloc, limits),
+            connections: Connections::new(alloc, limits),
         }
     }
 
     /// A connection is opened, whose name isn't known (4.2). Fails if memory runs out, and then the tables stay, but for their room.
     pub(crate) fn open(&mut self, alloc: Global, conn: Conn) -> Result<(), AllocError>
-        requires { knows conn self.old.lines.lines ≡ false }
-        ensures ok { OnOk result (self.new.lines.lines
-            ≡ self.old.lines.lines ++ record { conn = conn; stage = Stage.Fresh; held = []; waiting = [] } ∷ []) }
-        ensures err { OnErr result (self.new.lines.lines ≡ self.old.lines.lines) }
-        ensures limits { self.new.lines.limits ≡ self.old.lines.limits }
-        ensures rest { self.new ≡ record self.old { lines = self.new.lines } }
+        requires { knows conn self.old.connections.connections ≡ false }
+        ensures ok { OnOk result (self.new.connections.connections
+            ≡ self.old.connections.connections ++ record { conn = conn; stage = ConnectionState.AwaitingConnect; held = []; waiting = [] } ∷ []) }
+        ensures err { OnErr result (self.new.connections.connections ≡ self.old.connections.connections) }
+        ensures limits { self.new.connections.limits ≡ self.old.connections.limits }
+        ensures rest { self.new ≡ record self.old { connections = self.new.connections } }
     {
-        self.lines.reserve(1)?;
-        let boxed = BoxedConnection::new(alloc, conn, self.lines.limits())?;
-        self.lines.open(boxed);
+        self.connections.reserve(1)?;
+        let boxed = BoxedConnection::new(alloc, conn, self.connections.limits())?;
+        self.connections.open(boxed);
         Ok(())
     }
 
     /// The key of the session for which a connection is up.
     pub(crate) fn key(&self, conn: Conn) -> Option<ClientKey>
-        ensures { result ≡ key_on (stage_of conn self.now.lines.lines) }
+        ensures { result ≡ key_on (stage_of conn self.now.connections.connections) }
     {
-        self.lines.key(conn)
+        self.connections.key(conn)
     }
 
     /// Whether a connection is open, which is looked for at this place first.
     pub(crate) fn is_open_near(&self, conn: Conn, place: usize) -> bool
-        ensures { result ≡ is_open (stage_of conn self.now.lines.lines) }
+        ensures { result ≡ is_open (stage_of conn self.now.connections.connections) }
     {
-        match self.lines.stage_near(conn, place) {
-            Some(Stage::Fresh | Stage::UpFor(..)) => true,
-            Some(Stage::Shut) | None => false,
+        match self.connections.stage_near(conn, place) {
+            Some(ConnectionState::AwaitingConnect | ConnectionState::ConnectedAs(..)) => true,
+            Some(ConnectionState::Closed) | None => false,
         }
     }
 
@@ -102,79 +102,79 @@ impl<S: FilterStore> Tables<S> {
 
     /// The bytes that wait on a connection while it isn't up are taken, and none is copied. Out of memory they stay.
     pub(crate) fn collect_own(&mut self, conn: Conn) -> Result<Bytes, AllocError>
-        requires { knows conn self.old.lines.lines ≡ true }
-        ensures bytes { IfOk result (λ b. b ≡ waiting_on conn self.old.lines.lines) }
-        ensures taken { OnOk result (self.new.lines.lines ≡ with_line (λ x. record x { waiting = [] }) conn self.old.lines.lines) }
-        ensures err { OnErr result (self.new.lines.lines ≡ self.old.lines.lines) }
-        ensures limits { self.new.lines.limits ≡ self.old.lines.limits }
-        ensures rest { self.new ≡ record self.old { lines = self.new.lines } }
+        requires { knows conn self.old.connections.connections ≡ true }
+        ensures bytes { IfOk result (λ b. b ≡ waiting_on conn self.old.connections.connections) }
+        ensures taken { OnOk result (self.new.connections.connections ≡ with_connection (λ x. record x { waiting = [] }) conn self.old.connections.connections) }
+        ensures err { OnErr result (self.new.connections.connections ≡ self.old.connections.connections) }
+        ensures limits { self.new.connections.limits ≡ self.old.connections.limits }
+        ensures rest { self.new ≡ record self.old { connections = self.new.connections } }
     {
-        self.lines.collect(conn)
+        self.connections.collect(conn)
     }
 
     /// A connection is closed: what it holds of a packet is gone, what waits stays (4.8). It takes no memory.
     pub(crate) fn shut(&mut self, conn: Conn)
-        ensures lines { self.new.lines.lines ≡ with_line (λ x. record x { stage = Stage.Shut; held = [] }) conn self.old.lines.lines }
-        ensures limits { self.new.lines.limits ≡ self.old.lines.limits }
-        ensures rest { self.new ≡ record self.old { lines = self.new.lines } }
+        ensures connections { self.new.connections.connections ≡ with_connection (λ x. record x { stage = ConnectionState.Closed; held = [] }) conn self.old.connections.connections }
+        ensures limits { self.new.connections.limits ≡ self.old.connections.limits }
+        ensures rest { self.new ≡ record self.old { connections = self.new.connections } }
     {
-        let _ = self.lines.shut(conn);
+        let _ = self.connections.shut(conn);
     }
 
     /// A connection on which the client of a session is up is closed: its session's end loses it, and the bytes that wait there are the
     /// connection's then (3.1.2.4, 4.8). It says how far the connection was. It takes no memory.
-    pub(crate) fn part(&mut self, alloc: Global, conn: Conn, key: ClientKey) -> Stage
-        requires up { key_on (stage_of conn self.old.lines.lines) ≡ Some key }
+    pub(crate) fn detach(&mut self, alloc: Global, conn: Conn, key: ClientKey) -> ConnectionState
+        requires up { key_on (stage_of conn self.old.connections.connections) ≡ Some key }
         requires there { IsSome (tenant_of key self.old.sessions.tenants) }
-        ensures stage { result ≡ stage_of conn self.old.lines.lines }
+        ensures stage { result ≡ stage_of conn self.old.connections.connections }
         ensures tenants { IfSome (tenant_of key self.old.sessions.tenants) (λ t.
             self.new.sessions.tenants ≡ with_server key (parted t.end) self.old.sessions.tenants) }
-        ensures lines { IfSome (tenant_of key self.old.sessions.tenants) (λ t.
-            self.new.lines.lines ≡ with_line (left_with t.end.output) conn self.old.lines.lines) }
-        ensures limits { self.new.lines.limits ≡ self.old.lines.limits }
+        ensures connections { IfSome (tenant_of key self.old.sessions.tenants) (λ t.
+            self.new.connections.connections ≡ with_connection (left_with t.end.output) conn self.old.connections.connections) }
+        ensures limits { self.new.connections.limits ≡ self.old.connections.limits }
         ensures room { self.new.sessions.room ≡ self.old.sessions.room }
-        ensures rises { self.old.lines.rises ≤ self.new.lines.rises }
-        ensures rest { self.new ≡ record self.old { sessions = self.new.sessions; lines = self.new.lines } }
+        ensures rises { self.old.connections.rises ≤ self.new.connections.rises }
+        ensures rest { self.new ≡ record self.old { sessions = self.new.sessions; connections = self.new.connections } }
     {
         let mut output = ByteQueue::new(alloc);
-        self.sessions.part(key, &mut output);
-        let stage = self.lines.shut(conn);
-        self.lines.swap_waiting(conn, &mut output);
+        self.sessions.detach(key, &mut output);
+        let stage = self.connections.shut(conn);
+        self.connections.swap_waiting(conn, &mut output);
         stage
     }
 
     /// A connection that isn't up is over, and not known any more (4.2). It takes no memory.
     pub(crate) fn forget(&mut self, conn: Conn)
-        requires { key_on (stage_of conn self.old.lines.lines) ≡ None }
-        ensures lines { self.new.lines.lines ≡ without_line conn self.old.lines.lines }
-        ensures limits { self.new.lines.limits ≡ self.old.lines.limits }
-        ensures rest { self.new ≡ record self.old { lines = self.new.lines } }
+        requires { key_on (stage_of conn self.old.connections.connections) ≡ None }
+        ensures connections { self.new.connections.connections ≡ without_connection conn self.old.connections.connections }
+        ensures limits { self.new.connections.limits ≡ self.old.connections.limits }
+        ensures rest { self.new ≡ record self.old { connections = self.new.connections } }
     {
-        self.lines.remove(conn);
+        self.connections.remove(conn);
     }
 
     /// Notes the moment of the last whole packet of a connection (3.1.2.10), and answers the key of the session for which it is up. The
     /// connection is looked for at this place first. It takes no memory.
-    pub(crate) fn heard(&mut self, conn: Conn, place: usize, now: u64) -> Option<ClientKey>
-        ensures key { result ≡ key_on (stage_of conn self.old.lines.lines) }
-        ensures lines { self.new.lines.lines ≡ with_line (hears now) conn self.old.lines.lines }
-        ensures limits { self.new.lines.limits ≡ self.old.lines.limits }
-        ensures rest { self.new ≡ record self.old { lines = self.new.lines } }
+    pub(crate) fn touched(&mut self, conn: Conn, place: usize, now: u64) -> Option<ClientKey>
+        ensures key { result ≡ key_on (stage_of conn self.old.connections.connections) }
+        ensures connections { self.new.connections.connections ≡ with_connection (hears now) conn self.old.connections.connections }
+        ensures limits { self.new.connections.limits ≡ self.old.connections.limits }
+        ensures rest { self.new ≡ record self.old { connections = self.new.connections } }
     {
-        self.lines.heard(conn, place, now)
+        self.connections.touched(conn, place, now)
     }
 
     /// Exchanges the decoder of a connection for another. It takes no memory.
     pub(crate) fn swap_decoder(&mut self, conn: Conn, decoder: &mut Decoder)
-        requires known { knows conn self.old.lines.lines ≡ true }
-        requires reading { (decoder.old.limit ≡ self.old.lines.limits) × (decoder.old.failed ≡ None) }
-        ensures lines { self.new.lines.lines ≡ with_line (holds decoder.old.held) conn self.old.lines.lines }
-        ensures held { decoder.new.held ≡ held_on conn self.old.lines.lines }
-        ensures reading { (decoder.new.limit ≡ self.old.lines.limits) × (decoder.new.failed ≡ None) }
-        ensures limits { self.new.lines.limits ≡ self.old.lines.limits }
-        ensures rest { self.new ≡ record self.old { lines = self.new.lines } }
+        requires known { knows conn self.old.connections.connections ≡ true }
+        requires reading { (decoder.old.limit ≡ self.old.connections.limits) × (decoder.old.failed ≡ None) }
+        ensures connections { self.new.connections.connections ≡ with_connection (holds decoder.old.held) conn self.old.connections.connections }
+        ensures held { decoder.new.held ≡ held_on conn self.old.connections.connections }
+        ensures reading { (decoder.new.limit ≡ self.old.connections.limits) × (decoder.new.failed ≡ None) }
+        ensures limits { self.new.connections.limits ≡ self.old.connections.limits }
+        ensures rest { self.new ≡ record self.old { connections = self.new.connections } }
     {
-        self.lines.swap_decoder(conn, decoder);
+        self.connections.swap_decoder(conn, decoder);
     }
 
     /// A session ends, and its subscriptions (3.1.2.4). It takes no memory.

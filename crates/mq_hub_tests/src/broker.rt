@@ -6,7 +6,7 @@ use crate::rows;
 use crate::told::{Happens, Row, all_told, counted, event, listed, told};
 use bytes::Bytes;
 use mq_decode::Limits;
-use mq_end::Items;
+use mq_end::BoxedList;
 use mq_hub::{Conn, Hub, HubConfig, HubEvent, HubOver, HubRefusal, User, hub_run};
 use mq_packet::Binary;
 use mq_topic::{FilterStore, ListStore};
@@ -94,14 +94,14 @@ const TABLES: [Table; 24] = [
     ),
 ];
 
-fn one_user(alloc: Global) -> Result<Items<User>, Fail> {
+fn one_user(alloc: Global) -> Result<BoxedList<User>, Fail> {
     let user = User {
         name: Text::new(alloc, "u")?,
         password: Binary::new(Bytes::from_static(b"p")).ok_or("no password")?,
     };
     let mut users = Vec::new(alloc);
     users.push(user)?;
-    Ok(Items::from_vec(users))
+    Ok(BoxedList::from_vec(users))
 }
 
 fn config(alloc: Global, kind: Kind) -> Result<HubConfig, Fail>

@@ -1,7 +1,7 @@
 //! What happens to a broker as rows say it, and what it did as text.
 
 use bytes::Bytes;
-use mq_hub::{Account, Act, Conn, HubEvent, HubReply};
+use mq_hub::{Act, ClientLog, Conn, HubEvent, HubReply};
 use mq_packet::Message;
 use mq_topic::{ClientKey, Qos};
 use mq_wire::Text;
@@ -133,7 +133,7 @@ pub(crate) fn all_told(alloc: Global, replies: &[HubReply]) -> Result<String, Fa
 }
 
 /// How many messages were taken from each client, and placed for it.
-pub(crate) fn counted(alloc: Global, accounts: &[Account]) -> Result<String, Fail> {
+pub(crate) fn counted(alloc: Global, accounts: &[ClientLog]) -> Result<String, Fail> {
     let mut text = String::new(alloc);
     for account in accounts {
         let (taken, placed) = (account.taken.as_slice(), account.placed.as_slice());

@@ -16,7 +16,7 @@ use Rattle.mq_packet.specs.declared.packet.Packet.TheVariants as packets
 use Rattle.mq_packet.specs.declared.publish.Delivery.{Delivery}
 use Rattle.mq_packet.specs.Codes.{refusal_number, code_number}
 use Rattle.mq_packet.specs.Publication.{Publication}
-use Rattle.mq_packet.specs.Spelling.{bit}
+use Rattle.mq_packet.specs.Encoding.{bit}
 
 -- ---- bytes and texts
 

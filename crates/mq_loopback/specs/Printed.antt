@@ -12,8 +12,8 @@ use Rattle.mq_loopback.specs.declared.client.Client.{Client}
 use Rattle.mq_loopback.specs.declared.client.Role.{Role}
 use Rattle.mq_loopback.specs.declared.client.Role.TheVariants as roles
 use Rattle.mq_loopback.specs.declared.judging.Verdict.{Verdict}
-use Rattle.mq_loopback.specs.declared.stage.PlayEnd.{PlayEnd}
-use Rattle.mq_loopback.specs.declared.stage.PlayEnd.TheVariants as ends
+use Rattle.mq_loopback.specs.declared.stage.RunError.{RunError}
+use Rattle.mq_loopback.specs.declared.stage.RunError.TheVariants as ends
 
 -- a message that a client collected: the client's name, the topic, the payload
 abbrev pub message_line : List ℕ → Message → List ℕ
@@ -44,11 +44,11 @@ abbrev pub verdict_status : Verdict → ℕ
 verdict_status v = if v.is_equal && v.is_audited then 0 else 1
 
 -- why clients and broker ended before all was done, and the status then
-abbrev pub play_end_line : PlayEnd → List ℕ
+abbrev pub play_end_line : RunError → List ℕ
 play_end_line (ends.Broker end) = end_line end
 play_end_line (ends.Client halt) = halt_line halt
 
-abbrev pub play_end_status : PlayEnd → ℕ
+abbrev pub play_end_status : RunError → ℕ
 play_end_status (ends.Broker end) = end_status end
 play_end_status (ends.Client halt) = halt_status halt
 

@@ -10,7 +10,7 @@ use Rattle.mq_book.specs.Pages.{Sealed}
 use Rattle.mq_schedule.specs.Schedule.{lines_of}
 use Rattle.mq_loopback.specs.declared.client.Client.{Client}
 use Rattle.mq_loopback.specs.declared.judging.Verdict.{Verdict}
-use Rattle.mq_loopback.specs.declared.stage.PlayEnd.{PlayEnd}
+use Rattle.mq_loopback.specs.declared.stage.RunError.{RunError}
 use Rattle.mq_loopback.specs.File.{AreClients, IsBadLine}
 use Rattle.mq_loopback.specs.Judged.{IsVerdict}
 use Rattle.mq_loopback.specs.Ordered.{IsOrdered}
@@ -34,7 +34,7 @@ pub record IsTold (clients : List Client) (status : ℕ) (text : List ℕ) : Typ
 
 -- clients and broker ended before all was done
 abbrev pub IsCutOff : ℕ → List ℕ → Type 0
-IsCutOff status text = (end : PlayEnd) × (status ≡ play_end_status end) × (text ≡ play_end_line end)
+IsCutOff status text = (end : RunError) × (status ≡ play_end_status end) × (text ≡ play_end_line end)
 
 -- what comes of clients
 abbrev pub Ends : List Client → ℕ → List ℕ → Type 0

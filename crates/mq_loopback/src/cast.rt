@@ -1,20 +1,20 @@
 //! The clients of a loopback file, each in a thread of its own.
 
 use crate::client::{Client, Collector, Role};
-use crate::patience::Patient;
+use crate::patience::IdleLimited;
 use crate::playing::{client_end, collect, publish, subscribe};
 use crate::starting::Start;
-use mq_client::{Halt, Nowhere, Peer};
+use mq_client::{ClientError, NoSaver, Peer};
 use mq_packet::Message;
-use mq_serve::Crew;
-use mq_stream::{Duplex, Elapsed};
+use mq_serve::Workers;
+use mq_stream::{Elapsed, SocketStream};
 use std::alloc::{AllocError, Global};
 use std::net::TcpStream;
 use std::sync::Wait;
 use std::time::{Clock, Instant};
 
 // A client at its connection.
-type Player<'a, R> = Peer<Patient<Duplex<TcpStream>>, Elapsed<'a, R>, Nowhere>;
+type Player<'a, R> = Peer<IdleLimited<SocketStream<TcpStream>>, Elapsed<'a, R>, NoSaver>;
 
 /// What a client of the cast begins with.
 #[derive(Drop)]
@@ -67,7 +67,7 @@ impl<'a> Cast<'a> {
     }
 
     /// The first fault of a client, if any had one.
-    pub fn into_fault(self) -> Option<Halt> {
+    pub fn into_fault(self) -> Option<ClientError> {
         let Cast {
             alloc: _,
             clients: _,
@@ -82,7 +82,7 @@ impl<'a> Cast<'a> {
         rt: &R,
         player: &mut Player<'_, R>,
         collector: &Collector,
-    ) -> Result<Vec<Message>, Halt> {
+    ) -> Result<Vec<Message>, ClientError> {
         let mut messages = Vec::new(self.alloc);
         subscribe(self.alloc, player, collector, &mut messages)?;
         self.start.count(rt);
@@ -96,7 +96,7 @@ impl<'a> Cast<'a> {
         rt: &R,
         player: &mut Player<'_, R>,
         client: &Client,
-    ) -> Result<Vec<Message>, Halt> {
+    ) -> Result<Vec<Message>, ClientError> {
         match &client.role {
             Role::Collector(collector) => self.collect(rt, player, collector),
             Role::Publisher(publisher) => {
@@ -109,22 +109,22 @@ impl<'a> Cast<'a> {
     }
 
     // Does what a client does, and gives what it collected.
-    fn play<R: Wait + Clock>(&self, rt: &R, act: Act<'a>) -> Result<Vec<Message>, Halt> {
+    fn play<R: Wait + Clock>(&self, rt: &R, act: Act<'a>) -> Result<Vec<Message>, ClientError> {
         let Act { client, stream } = act;
         let Ok(start) = Instant::now(rt) else {
-            return Err(Halt::Lost);
+            return Err(ClientError::Lost);
         };
         let mut player = Peer::new(
             client_end(self.alloc, &client.name)?,
-            Patient::new(Duplex(stream)),
+            IdleLimited::new(SocketStream(stream)),
             Elapsed::since(rt, start),
-            Nowhere,
+            NoSaver,
         );
         self.play_at(rt, &mut player, client)
     }
 }
 
-impl<'a> Crew for Cast<'a> {
+impl<'a> Workers for Cast<'a> {
     type Part = Act<'a>;
 
     type Outcome = Vec<Message>;

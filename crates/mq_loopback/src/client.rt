@@ -1,6 +1,6 @@
 //! The clients of a loopback file.
 
-use mq_end::Items;
+use mq_end::BoxedList;
 use mq_packet::Payload;
 use mq_topic::{Qos, TopicFilter, TopicName};
 use mq_wire::Text;
@@ -42,5 +42,5 @@ pub struct Publisher {
     /// How often each message is handed on (4.3).
     pub qos: Qos,
     /// What the messages say, one or more.
-    pub payloads: Items<Payload>,
+    pub payloads: BoxedList<Payload>,
 }

@@ -1,38 +1,38 @@
 //! How long a client waits for bytes.
 
-use mq_stream::{Arrival, Broken, Stream};
+use mq_stream::{Broken, ReadOutcome, Stream};
 
 /// So many reads in a row that bring nothing end the stream.
 const MOST_QUIET: u32 = 600;
 
 /// A stream that fails at the 600th read in a row that brings nothing.
 #[derive(Drop)]
-pub struct Patient<S: Stream> {
+pub struct IdleLimited<S: Stream> {
     stream: S,
     quiet: u32,
 }
 
-impl<S: Stream> Patient<S> {
+impl<S: Stream> IdleLimited<S> {
     /// The stream, of which nothing was read yet.
-    pub fn new(stream: S) -> Patient<S> {
-        Patient { stream, quiet: 0 }
+    pub fn new(stream: S) -> IdleLimited<S> {
+        IdleLimited { stream, quiet: 0 }
     }
 }
 
-impl<S: Stream> Stream for Patient<S> {
+impl<S: Stream> Stream for IdleLimited<S> {
     ghost coming = { λ p. S.coming p.stream };
 
     ghost written = { λ p. S.written p.stream };
 
-    fn read(&mut self, room: &mut [u8]) -> Arrival {
+    fn read(&mut self, room: &mut [u8]) -> ReadOutcome {
         let arrival = self.stream.read(room);
-        self.quiet = if arrival == Arrival::Nothing {
+        self.quiet = if arrival == ReadOutcome::Nothing {
             self.quiet.saturating_add(1)
         } else {
             0
         };
         if self.quiet >= MOST_QUIET {
-            return Arrival::Failed;
+            return ReadOutcome::Failed;
         }
         arrival
     }

@@ -4,7 +4,7 @@ ghost use Rattle.std.specs.Prelude.{◌≡◌, ◌≤◌, true, length, OnOk};
 ghost use Rattle.mq_end.specs.End.{is_up};
 
 use crate::client::{Collector, Publisher};
-use mq_client::{Halt, Nowhere, Peer, Wish, begin};
+use mq_client::{ClientError, CollectGoal, NoSaver, Peer, begin};
 use mq_decode::Limits;
 use mq_end::{ClientConfig, ClientEnd, Happening};
 use mq_packet::{Message, Payload};
@@ -45,11 +45,11 @@ fn keep_handed(messages: &mut Vec<Message>, happenings: Vec<Happening>) -> Resul
 /// Connects with a clean session, and subscribes. What is handed on before that is granted is kept.
 pub(crate) fn subscribe<S: Stream, C: Clock>(
     alloc: Global,
-    peer: &mut Peer<S, C, Nowhere>,
+    peer: &mut Peer<S, C, NoSaver>,
     collector: &Collector,
     messages: &mut Vec<Message>,
-) -> Result<(), Halt> {
-    let wish = Wish {
+) -> Result<(), ClientError> {
+    let wish = CollectGoal {
         filter: &collector.filter,
         qos: collector.qos,
         count: collector.count,
@@ -62,10 +62,10 @@ pub(crate) fn subscribe<S: Stream, C: Clock>(
 
 // Keeps what is handed on, until there are so many messages and none waits for its release.
 fn gather<S: Stream, C: Clock>(
-    peer: &mut Peer<S, C, Nowhere>,
+    peer: &mut Peer<S, C, NoSaver>,
     count: usize,
     messages: &mut Vec<Message>,
-) -> Result<(), Halt>
+) -> Result<(), ClientError>
     ensures enough { OnOk result (count ≤ length messages.new.items) }
     ensures up { OnOk result (is_up peer.new.client.link.end.state ≡ true) }
 {
@@ -77,15 +77,15 @@ fn gather<S: Stream, C: Clock>(
         keep_handed(messages, progress.happenings.into_vec()?)?;
         peer.answer(progress.closed)?;
     }
-    Err(Halt::Lost)
+    Err(ClientError::Lost)
 }
 
 /// Keeps what is handed on, until there are as many messages as are wanted and none waits for its release; then it leaves.
 pub(crate) fn collect<S: Stream, C: Clock>(
-    peer: &mut Peer<S, C, Nowhere>,
+    peer: &mut Peer<S, C, NoSaver>,
     collector: &Collector,
     messages: &mut Vec<Message>,
-) -> Result<(), Halt>
+) -> Result<(), ClientError>
     ensures { OnOk result (collector.now.count ≤ length messages.new.items) }
 {
     gather(peer, collector.count as usize, messages)?;
@@ -104,10 +104,10 @@ fn message_of(publisher: &Publisher, payload: &Payload) -> Result<Message, Alloc
 
 // Publishes the payloads from `next` on, up to one that has to wait.
 fn publish_more<S: Stream, C: Clock>(
-    peer: &mut Peer<S, C, Nowhere>,
+    peer: &mut Peer<S, C, NoSaver>,
     publisher: &Publisher,
     next: &mut usize,
-) -> Result<(), Halt> {
+) -> Result<(), ClientError> {
     let payloads = publisher.payloads.as_slice();
     while *next < payloads.len() && peer.is_up() {
         let message = message_of(publisher, &payloads[*next])?;
@@ -121,9 +121,9 @@ fn publish_more<S: Stream, C: Clock>(
 
 // Publishes all payloads, and waits until they are acknowledged.
 fn publish_acknowledged<S: Stream, C: Clock>(
-    peer: &mut Peer<S, C, Nowhere>,
+    peer: &mut Peer<S, C, NoSaver>,
     publisher: &Publisher,
-) -> Result<(), Halt>
+) -> Result<(), ClientError>
     ensures { OnOk result (is_up peer.new.client.link.end.state ≡ true) }
 {
     let count = publisher.payloads.as_slice().len();
@@ -136,14 +136,14 @@ fn publish_acknowledged<S: Stream, C: Clock>(
             return Ok(());
         }
     }
-    Err(Halt::Lost)
+    Err(ClientError::Lost)
 }
 
 /// Connects with a clean session, publishes the payloads in order, waits until all are acknowledged, and leaves.
 pub(crate) fn publish<S: Stream, C: Clock>(
-    peer: &mut Peer<S, C, Nowhere>,
+    peer: &mut Peer<S, C, NoSaver>,
     publisher: &Publisher,
-) -> Result<(), Halt> {
+) -> Result<(), ClientError> {
     peer.open(true)?;
     publish_acknowledged(peer, publisher)?;
     peer.leave()

@@ -7,7 +7,7 @@ ghost use Rattle.mq_loopback.specs.Printed.{bad_line, collected_lines, message_l
 
 use crate::client::{Client, Role};
 use crate::judging::Verdict;
-use crate::stage::PlayEnd;
+use crate::stage::RunError;
 use mq_client::write_halt;
 use mq_line::Escaped;
 use mq_packet::Message;
@@ -115,13 +115,13 @@ pub fn write_played<W: Write>(
 }
 
 /// Writes why clients and broker ended before all was done, and answers the status.
-pub(crate) fn write_play_end<W: Write>(output: &mut W, end: PlayEnd) -> io::Result<u8>
+pub(crate) fn write_play_end<W: Write>(output: &mut W, end: RunError) -> io::Result<u8>
     ensures printed { OnOk result (Appends (W.contents output.old) (W.contents output.new) (play_end_line end)) }
     ensures status { IfOk result (λ status. status ≡ play_end_status end) }
 {
     match end {
-        PlayEnd::Broker(end) => write_end(output, end),
-        PlayEnd::Client(halt) => write_halt(output, halt),
+        RunError::Broker(end) => write_end(output, end),
+        RunError::Client(halt) => write_halt(output, halt),
     }
 }
 

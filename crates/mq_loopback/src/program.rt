@@ -9,7 +9,7 @@ use crate::judging::judge;
 use crate::ordering::all_ordered;
 use crate::printing::{write_bad_line, write_play_end, write_played, write_unread};
 use crate::reading::{ClientsFault, read_clients};
-use crate::stage::{Played, play};
+use crate::stage::{RunResult, play};
 use mq_serve::{ServeEnd, broker_config, write_end};
 use std::alloc::Global;
 use std::fs::File;
@@ -26,12 +26,12 @@ use std::time::Clock;
 pub fn tell<W: Write>(
     alloc: Global,
     clients: &[Client],
-    played: Played,
+    played: RunResult,
     output: &mut W,
 ) -> io::Result<u8>
     ensures { IfOk result (λ status. Prints (W.contents output.old) (W.contents output.new) (Ends clients.now status)) }
 {
-    let Played {
+    let RunResult {
         collected,
         journal,
         receipts,

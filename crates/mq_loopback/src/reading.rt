@@ -10,7 +10,7 @@ ghost use Rattle.mq_schedule.specs.Schedule.{lines_of, words_of};
 ghost use Rattle.mq_loopback.specs.File.{AreClients, ArePayloads, IsBadLine, IsCount, IsFresh, Joins, Says};
 
 use crate::client::{Client, Collector, Publisher, Role};
-use mq_end::Items;
+use mq_end::BoxedList;
 use mq_packet::Payload;
 use mq_schedule::{Words, first_word, number, payload, qos, topic, unescaped};
 use mq_topic::{TopicFault, TopicFilter};
@@ -109,7 +109,7 @@ fn count(word: &str) -> Option<u32>
 }
 
 // The payloads of words, one each.
-fn payloads(alloc: Global, words: Words<'_>) -> Result<Option<Items<Payload>>, AllocError>
+fn payloads(alloc: Global, words: Words<'_>) -> Result<Option<BoxedList<Payload>>, AllocError>
     ensures { IfOk result (Finds (λ payloads. ArePayloads payloads words.entry)) }
 {
     let mut words = words;
@@ -123,7 +123,7 @@ fn payloads(alloc: Global, words: Words<'_>) -> Result<Option<Items<Payload>>, A
     if payloads.is_empty() {
         return Ok(None);
     }
-    Ok(Some(Items::from_vec(payloads)))
+    Ok(Some(BoxedList::from_vec(payloads)))
 }
 
 // The collector of the words after `collect`.

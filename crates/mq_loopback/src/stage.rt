@@ -5,9 +5,9 @@ ghost use Rattle.std.specs.Prelude.{◌≡◌, ◌<◌, ◌≤◌, length, vec_l
 use crate::cast::Cast;
 use crate::client::Client;
 use mq_book::{Journal, Receipt};
-use mq_client::Halt;
+use mq_client::ClientError;
 use mq_packet::Message;
-use mq_serve::{Closed, Gate, Hall, Records, ServeEnd, Served, man_both};
+use mq_serve::{Acceptor, Closed, Records, ServeEnd, Served, Server, man_both};
 use std::alloc::{AllocError, Global};
 use std::io;
 use std::io::ErrorKind;
@@ -30,7 +30,7 @@ const LIMIT: u64 = 30;
 
 /// What is left when all clients are done.
 #[derive(Drop)]
-pub struct Played {
+pub struct RunResult {
     /// What each client collected, in the order of the clients and as it was handed on.
     pub collected: Vec<Vec<Message>>,
     /// The journal of the broker.
@@ -41,42 +41,42 @@ pub struct Played {
 
 /// Why clients and broker end before all is done.
 #[derive(Clone, Copy, Debug, PartialEq, Eq, Error)]
-pub enum PlayEnd {
+pub enum RunError {
     /// The broker ended.
     #[error("{0}")]
     Broker(ServeEnd),
     /// A client had a fault.
     #[error("{0}")]
-    Client(Halt),
+    Client(ClientError),
 }
 
-impl From<AllocError> for PlayEnd {
+impl From<AllocError> for RunError {
     ghost use Rattle.std.specs.Prelude.{◌≡◌};
     ghost use Rattle.mq_serve.specs.declared.ending.ServeEnd.TheVariants.{Memory};
-    ghost use Rattle.mq_loopback.specs.declared.stage.PlayEnd.TheVariants.{Broker};
+    ghost use Rattle.mq_loopback.specs.declared.stage.RunError.TheVariants.{Broker};
 
     ghost from_gives = { λ _ end. end ≡ Broker Memory };
 
-    fn from(_e: AllocError) -> PlayEnd {
-        PlayEnd::Broker(ServeEnd::Memory)
+    fn from(_e: AllocError) -> RunError {
+        RunError::Broker(ServeEnd::Memory)
     }
 }
 
-impl From<ServeEnd> for PlayEnd {
+impl From<ServeEnd> for RunError {
     ghost use Rattle.std.specs.Prelude.{◌≡◌};
-    ghost use Rattle.mq_loopback.specs.declared.stage.PlayEnd.TheVariants.{Broker};
+    ghost use Rattle.mq_loopback.specs.declared.stage.RunError.TheVariants.{Broker};
 
     ghost from_gives = { λ why end. end ≡ Broker why };
 
-    fn from(end: ServeEnd) -> PlayEnd {
-        PlayEnd::Broker(end)
+    fn from(end: ServeEnd) -> RunError {
+        RunError::Broker(end)
     }
 }
 
 // Where clients and broker meet: the gate of the broker, and a connection to it for each client.
 #[derive(Drop)]
 struct Stage {
-    gate: Gate,
+    gate: Acceptor,
     streams: Vec<TcpStream>,
 }
 
@@ -104,7 +104,7 @@ where
         streams.push(connect(rt, address)?)?;
     }
     Ok(Stage {
-        gate: Gate::new(listener, u32::from(count)),
+        gate: Acceptor::new(listener, u32::from(count)),
         streams,
     })
 }
@@ -125,7 +125,7 @@ fn play_by<L: Ledger + Send + Sync + 'static, R>(
     workers: u16,
     stage: Stage,
     clients: &[Client],
-) -> Result<Played, PlayEnd>
+) -> Result<RunResult, RunError>
 where
     R: Net<Listener = TcpListener, Stream = TcpStream> + Threads + Wait + Clock + Sync,
     requires name { blank.name ≡ L.name }
@@ -134,11 +134,11 @@ where
     requires some { (0 < workers) × (workers ≤ 64) }
 {
     let Ok(start) = Instant::now(rt) else {
-        return Err(PlayEnd::Broker(ServeEnd::Net));
+        return Err(RunError::Broker(ServeEnd::Net));
     };
     let Stage { gate, streams } = stage;
     let records = Records::Kept(JOURNAL);
-    let (hall, stations) = Hall::<L>::open(rt, alloc, blank, workers, gate, start, records)?;
+    let (hall, stations) = Server::<L>::open(rt, alloc, blank, workers, gate, start, records)?;
     let cast = Cast::new(alloc, clients);
     let acts = cast.acts(streams)?;
     let (served, collected) = man_both(rt, &hall, stations, &cast, acts);
@@ -147,21 +147,21 @@ where
 
 // What the clients collected, or why they did not.
 fn collected_by(
-    fault: Option<Halt>,
+    fault: Option<ClientError>,
     collected: Result<Vec<Vec<Message>>, AllocError>,
-) -> Result<Vec<Vec<Message>>, PlayEnd> {
+) -> Result<Vec<Vec<Message>>, RunError> {
     match fault {
-        Some(fault) => Err(PlayEnd::Client(fault)),
+        Some(fault) => Err(RunError::Client(fault)),
         None => Ok(collected?),
     }
 }
 
 // What is left of a broker and of clients that are done, or why there is nothing.
 fn ended<L: Ledger>(
-    hall: Hall<L>,
+    hall: Server<L>,
     served: Result<Vec<Served<L>>, AllocError>,
-    collected: Result<Vec<Vec<Message>>, PlayEnd>,
-) -> Result<Played, PlayEnd>
+    collected: Result<Vec<Vec<Message>>, RunError>,
+) -> Result<RunResult, RunError>
     requires all { IfOk served (λ s. vec_len s ≡ L.parts) }
     requires some { 0 < L.parts }
 {
@@ -172,11 +172,11 @@ fn ended<L: Ledger>(
 // What a broker leaves, and what was collected, or why nothing was.
 fn left<L: Ledger>(
     closed: Closed<L>,
-    collected: Result<Vec<Vec<Message>>, PlayEnd>,
-) -> Result<Played, PlayEnd> {
+    collected: Result<Vec<Vec<Message>>, RunError>,
+) -> Result<RunResult, RunError> {
     let Closed { mut book, receipts } = closed;
     match collected {
-        Ok(collected) => Ok(Played {
+        Ok(collected) => Ok(RunResult {
             collected,
             journal: book.checkpoint(),
             receipts,
@@ -187,7 +187,7 @@ fn left<L: Ledger>(
 
 /// Runs a broker with as many workers as there are clients, 1 to 64, beside the clients. Fails where the port can't be opened, where the
 /// broker ends, where a client has a fault, and where memory runs out.
-pub fn play<R>(rt: &R, alloc: Global, clients: &[Client]) -> Result<Played, PlayEnd>
+pub fn play<R>(rt: &R, alloc: Global, clients: &[Client]) -> Result<RunResult, RunError>
 where
     R: Net<Listener = TcpListener, Stream = TcpStream> + Threads + Wait + Clock + Sync,
     requires { (0 < length clients.now) × (length clients.now ≤ 64) }
@@ -195,7 +195,7 @@ where
     let workers = clients.len() as u16;
     let stage = match open_stage(rt, alloc, workers) {
         Ok(stage) => stage,
-        Err(error) => return Err(PlayEnd::Broker(end_of(&error))),
+        Err(error) => return Err(RunError::Broker(end_of(&error))),
     };
     let blank = Blank::new(u64::from(workers));
     play_by::<Brand, R>(rt, alloc, blank, workers, stage, clients)

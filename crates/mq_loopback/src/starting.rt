@@ -1,13 +1,13 @@
 //! When publishers start.
 
-use mq_client::Halt;
+use mq_client::ClientError;
 use std::sync::{Condvar, Mutex, Wait};
 
 // How many collectors are not subscribed yet, and the first fault of a client.
 #[derive(Drop)]
 struct Waiting {
     left: usize,
-    fault: Option<Halt>,
+    fault: Option<ClientError>,
 }
 
 impl Waiting {
@@ -22,7 +22,7 @@ impl Waiting {
     }
 
     // A client has a fault. The first one stays.
-    fn call_off(&mut self, fault: Halt) {
+    fn call_off(&mut self, fault: ClientError) {
         if self.fault.is_none() {
             self.fault = Some(fault);
         }
@@ -55,7 +55,7 @@ impl Start {
     }
 
     /// A client has a fault.
-    pub fn call_off<R: Wait>(&self, rt: &R, fault: Halt) {
+    pub fn call_off<R: Wait>(&self, rt: &R, fault: ClientError) {
         self.waiting.lock(rt).call_off(fault);
         self.changed.notify_all();
     }
@@ -69,7 +69,7 @@ impl Start {
     }
 
     /// The first fault of a client, if any had one.
-    pub fn into_fault(self) -> Option<Halt> {
+    pub fn into_fault(self) -> Option<ClientError> {
         let Start {
             waiting,
             changed: _,

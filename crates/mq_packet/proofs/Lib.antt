@@ -1,4 +1,4 @@
 pub mod Lists
 pub mod Written
-pub mod Spellings
+pub mod Encodings
 pub mod Headers

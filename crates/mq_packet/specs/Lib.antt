@@ -1,6 +1,6 @@
 pub mod Codes
 pub mod Identifier
 pub mod Publication
-pub mod Spelling
+pub mod Encoding
 pub mod Values
 pub mod Writing

@@ -4,7 +4,7 @@ use Rattle.std.specs.Io.KnownBytes.{Keeps, Appends}
 use Rattle.mq_packet.specs.declared.packet.Packet.{Packet}
 use Rattle.mq_packet.specs.declared.write.WriteError.{WriteError}
 use Rattle.mq_packet.specs.declared.write.WriteError.TheVariants.{Encode, Io}
-use Rattle.mq_packet.specs.Spelling.{Spells}
+use Rattle.mq_packet.specs.Encoding.{Encodes}
 
 -- the bytes grow by a beginning of these
 pub record AppendsFront (old new : Option (List ℕ)) (bytes : List ℕ) : Type 0 where
@@ -15,15 +15,15 @@ pub record AppendsFront (old new : Option (List ℕ)) (bytes : List ℕ) : Type 
 
 -- the bytes grow by the spelling of the packet
 pub record WritesPacket (packet : Packet) (old new : Option (List ℕ)) : Type 0 where
-  pub spelling : List ℕ
-  pub spells : Spells packet spelling
-  pub appends : Appends old new spelling
+  pub encoding : List ℕ
+  pub encodes : Encodes packet encoding
+  pub appends : Appends old new encoding
 
 -- the bytes grow by a beginning of the spelling of the packet
 pub record WritesFront (packet : Packet) (old new : Option (List ℕ)) : Type 0 where
-  pub spelling : List ℕ
-  pub spells : Spells packet spelling
-  pub appends : AppendsFront old new spelling
+  pub encoding : List ℕ
+  pub encodes : Encodes packet encoding
+  pub appends : AppendsFront old new encoding
 
 -- after an error: nothing was written where the packet was not spelled, else a beginning of it
 abbrev pub FailsToWrite : Packet → Option (List ℕ) → Option (List ℕ) → WriteError → Type 0

@@ -3,13 +3,13 @@
 ghost use Rattle.std.specs.Prelude.{◌≡◌, ℕ, ◌+◌, ◌<◌, ◌≤◌, ◌^◌, ◌++◌, ◌∷◌, ◌↔◌, List, length, take, vec_len, vec_capacity, true, IsOk, OnOk, OnErr, IfErr, IfSome, IsSome, IsErrOf};
 ghost use Rattle.mq_wire.specs.Length.{Length, length_bytes};
 ghost use Rattle.mq_packet.specs.Publication.{fits_delivery, publication};
-ghost use Rattle.mq_packet.specs.Spelling.{Spells, first_byte, fields, spelled_size};
+ghost use Rattle.mq_packet.specs.Encoding.{Encodes, first_byte, fields, encoded_size};
 
+use crate::encoded::put_bytes;
 use crate::fields::{fields_len, publish_len, put_fields, put_publish};
 use crate::message::Message;
 use crate::packet::Packet;
 use crate::publish::{Delivery, MessageRef};
-use crate::spelled::put_bytes;
 use mq_wire::{length_laws, put_varlen, varlen_len};
 use thiserror::Error;
 
@@ -61,7 +61,7 @@ fn first_byte(packet: &Packet) -> u8
 /// 268,435,455 (2.2.3).
 pub fn encoded_len(packet: &Packet) -> Option<u32>
     ensures fits { IsSome result ↔ (length (fields packet.now) < 2 ^ 28) }
-    ensures len { IfSome result (λ n. (b : List ℕ) → Spells packet.now b → length b ≡ n) }
+    ensures len { IfSome result (λ n. (b : List ℕ) → Encodes packet.now b → length b ≡ n) }
 {
     let rest = fields_len(packet)?;
     let size = varlen_len(rest)?;
@@ -103,7 +103,7 @@ fn put_header(out: &mut Vec<u8>, first: u8, rest: u32) -> Result<(), EncodeError
     ensures formed { Length rest (length_bytes rest) }
     ensures ok { OnOk result (out.new.items ≡ out.old.items ++ first ∷ length_bytes rest) }
     ensures room { OnOk result (vec_len out.new + rest ≤ vec_capacity out.new) }
-    ensures succeeds { vec_len out.old + spelled_size rest ≤ vec_capacity out.old → IsOk result }
+    ensures succeeds { vec_len out.old + encoded_size rest ≤ vec_capacity out.old → IsOk result }
     ensures memory { IfErr result (λ why. why ≡ EncodeError.Memory) }
     ensures capacity { vec_capacity out.old ≤ vec_capacity out.new }
     ensures err { OnErr result (out.new.items ≡ out.old.items) }
@@ -122,9 +122,9 @@ fn put_header(out: &mut Vec<u8>, first: u8, rest: u32) -> Result<(), EncodeError
 /// for them.
 pub fn encode_into(packet: &Packet, out: &mut Vec<u8>) -> Result<(), EncodeError>
     ensures ok { OnOk result
-        ((b : List ℕ) × Spells packet.now b × (out.new.items ≡ out.old.items ++ b)) }
+        ((b : List ℕ) × Encodes packet.now b × (out.new.items ≡ out.old.items ++ b)) }
     ensures too_large { IsErrOf result EncodeError.TooLarge ↔ (2 ^ 28 ≤ length (fields packet.now)) }
-    ensures room { vec_len out.old + spelled_size (length (fields packet.now)) ≤ vec_capacity out.old
+    ensures room { vec_len out.old + encoded_size (length (fields packet.now)) ≤ vec_capacity out.old
         → IfErr result (λ why. why ≡ EncodeError.TooLarge) }
     ensures capacity { vec_capacity out.old ≤ vec_capacity out.new }
     ensures err { OnErr result (out.new.items ≡ out.old.items) }
@@ -146,11 +146,11 @@ pub fn encode_publish_into(
 ) -> Result<(), EncodeError>
     requires { fits_delivery message.now.qos delivery ≡ true }
     ensures ok { let packet = Packet.Publish (record { message = message.now; delivery = delivery }) in OnOk result
-        ((b : List ℕ) × Spells packet b × (out.new.items ≡ out.old.items ++ b)) }
+        ((b : List ℕ) × Encodes packet b × (out.new.items ≡ out.old.items ++ b)) }
     ensures too_large { let packet = Packet.Publish (record { message = message.now; delivery = delivery }) in
         IsErrOf result EncodeError.TooLarge ↔ (2 ^ 28 ≤ length (fields packet)) }
     ensures room { let packet = Packet.Publish (record { message = message.now; delivery = delivery }) in
-        vec_len out.old + spelled_size (length (fields packet)) ≤ vec_capacity out.old
+        vec_len out.old + encoded_size (length (fields packet)) ≤ vec_capacity out.old
         → IfErr result (λ why. why ≡ EncodeError.TooLarge) }
     ensures capacity { vec_capacity out.old ≤ vec_capacity out.new }
     ensures err { OnErr result (out.new.items ≡ out.old.items) }

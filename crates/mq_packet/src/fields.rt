@@ -6,17 +6,17 @@ ghost use Rattle.mq_packet.specs.Identifier.{IsIdentifier};
 ghost use Rattle.mq_packet.specs.Publication.{fits_delivery, publication};
 ghost use Rattle.std.specs.List.{flat_map};
 ghost use Rattle.mq_wire.specs.Number.{number};
-ghost use Rattle.mq_packet.specs.Spelling.{fields, connect_protocol, connect_head, connect_fields, connect_flags, will_fields, login_fields, connack_fields, delivery_fields, password_fields, publish_fields};
+ghost use Rattle.mq_packet.specs.Encoding.{fields, connect_protocol, connect_head, connect_fields, connect_flags, will_fields, login_fields, connack_fields, delivery_fields, password_fields, publish_fields};
 ghost use Rattle.mq_wire.specs.Text.{IsText, counted};
 
 use crate::binary::Binary;
 use crate::connack::ConnAck;
 use crate::connect::{Connect, Login, Will};
+use crate::encoded::{EncodesAll, put_all, put_bytes, put_counted, put_number, size_of_all};
 use crate::id::PacketId;
 use crate::list::NonEmpty;
 use crate::packet::Packet;
 use crate::publish::{Delivery, MessageRef};
-use crate::spelled::{Spelled, put_all, put_bytes, put_counted, put_number, size_of_all};
 
 fn will_len(will: &Option<Will>) -> u32
     ensures len { result ≡ length (will_fields will.now) }
@@ -68,9 +68,9 @@ pub(crate) fn publish_len(message: MessageRef<'_>, delivery: &Option<Delivery>) 
     if len > 268_435_455 { None } else { Some(len) }
 }
 
-fn list_len<T: Spelled>(items: &NonEmpty<T>) -> Option<u32>
-    ensures fits { IsSome result ↔ (2 + length (flat_map T.spelling items.now) < 2 ^ 28) }
-    ensures len { IfSome result (λ n. n ≡ 2 + length (flat_map T.spelling items.now)) }
+fn list_len<T: EncodesAll>(items: &NonEmpty<T>) -> Option<u32>
+    ensures fits { IsSome result ↔ (2 + length (flat_map T.encoding items.now) < 2 ^ 28) }
+    ensures len { IfSome result (λ n. n ≡ 2 + length (flat_map T.encoding items.now)) }
 {
     let len = 2 + size_of_all(items.as_slice())?;
     if len > 268_435_455 { None } else { Some(len) }
@@ -240,9 +240,9 @@ fn put_id(out: &mut Vec<u8>, id: PacketId)
     put_number(out, id.get());
 }
 
-fn put_list<T: Spelled>(out: &mut Vec<u8>, id: PacketId, items: &NonEmpty<T>)
-    requires { vec_len out.old + (2 + length (flat_map T.spelling items.now)) ≤ vec_capacity out.old }
-    ensures items { out.new.items ≡ out.old.items ++ (number id ++ flat_map T.spelling items.now) }
+fn put_list<T: EncodesAll>(out: &mut Vec<u8>, id: PacketId, items: &NonEmpty<T>)
+    requires { vec_len out.old + (2 + length (flat_map T.encoding items.now)) ≤ vec_capacity out.old }
+    ensures items { out.new.items ≡ out.old.items ++ (number id ++ flat_map T.encoding items.now) }
     ensures capacity { vec_capacity out.old ≤ vec_capacity out.new }
     ensures list { IsList T.is_item id items.now }
 {

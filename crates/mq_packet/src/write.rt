@@ -2,7 +2,7 @@
 
 ghost use Rattle.std.specs.Prelude.{◌≡◌, ◌≤◌, ◌↔◌, ◌^◌, length, IfErr, OnErr, OnOk, IsErrOf};
 ghost use Rattle.std.specs.Io.KnownBytes.{Appends};
-ghost use Rattle.mq_packet.specs.Spelling.{fields};
+ghost use Rattle.mq_packet.specs.Encoding.{fields};
 ghost use Rattle.mq_packet.specs.Writing.{AppendsFront, WritesPacket, FailsToWrite};
 
 use crate::encode::{EncodeError, encode_into};

@@ -6,7 +6,7 @@ use Rattle.mq_topic.specs.declared.fault.TopicFault.{TopicFault}
 use Rattle.mq_topic.specs.declared.fault.TopicFault.TheVariants.{Memory}
 use Rattle.mq_cli.specs.declared.jobs.Collect.{Collect}
 use Rattle.mq_cli.specs.declared.jobs.Publish.{Publish}
-use Rattle.mq_client.specs.declared.collecting.Wish.{Wish}
+use Rattle.mq_client.specs.declared.collecting.CollectGoal.{CollectGoal}
 use Rattle.mq_client.specs.declared.publishing.Texts.{Texts}
 use Rattle.mq_client.specs.Programs.{IsMessagesDone, IsSessionDone, IsTextsDone}
 use Rattle.mq_programs.specs.Runs.{AreTextsOf, IsBadTopic, IsCollected, IsPublished, IsWishOf}
@@ -17,7 +17,7 @@ pub in_other_words : {E : Type 0} (r : Result ℕ E) (a b : Option (List ℕ)) (
 in_other_words (Ok status) a b P Q more p = (p.0, p.1, more status p.0 p.2)
 in_other_words (Err e) a b P Q more p = tt
 
-pub collected : {E : Type 0} (r : Result ℕ E) (a b : Option (List ℕ)) (id : List ℕ) (words : Collect) (w : Wish) → id ≡ words.id.now → IsWishOf words w
+pub collected : {E : Type 0} (r : Result ℕ E) (a b : Option (List ℕ)) (id : List ℕ) (words : Collect) (w : CollectGoal) → id ≡ words.id.now → IsWishOf words w
     → IfOk r (λ status. Prints a b (IsMessagesDone id words.clean w status)) → IfOk r (λ status. Prints a b (IsCollected words status))
 collected r a b id words w same own =
     in_other_words r a b (IsMessagesDone id words.clean w) (IsCollected words) (λ status text p. (w, own, subst (λ i. IsMessagesDone i words.clean w status text) same p))

@@ -7,7 +7,7 @@ use Rattle.mq_cli.specs.declared.jobs.Command.{Command}
 use Rattle.mq_cli.specs.declared.jobs.Command.TheVariants as commands
 use Rattle.mq_cli.specs.declared.jobs.Publish.{Publish}
 use Rattle.mq_cli.specs.Printed.{topic_line}
-use Rattle.mq_client.specs.declared.collecting.Wish.{Wish}
+use Rattle.mq_client.specs.declared.collecting.CollectGoal.{CollectGoal}
 use Rattle.mq_client.specs.declared.publishing.Texts.{Texts}
 use Rattle.mq_client.specs.Programs.{IsMessagesDone, IsSessionDone, IsTextsDone}
 
@@ -19,7 +19,7 @@ pub record AreTextsOf (words : Publish) (t : Texts) : Type 0 where
   pub texts : t.texts.now ≡ words.texts.items
 
 -- this is the filter that the words give, with the quality of service and the count
-pub record IsWishOf (words : Collect) (w : Wish) : Type 0 where
+pub record IsWishOf (words : Collect) (w : CollectGoal) : Type 0 where
   pub filter : w.filter.now ≡ words.filter.now
   pub qos : w.qos ≡ words.qos
   pub count : w.count ≡ words.count
@@ -39,7 +39,7 @@ IsPublishRun words status text = IsPublished words status text ⊎ IsBadTopic (c
 
 -- what comes of the words' filter is collected, with clean session as they say
 abbrev pub IsCollected : Collect → ℕ → List ℕ → Type 0
-IsCollected words status text = (w : Wish) × IsWishOf words w × IsMessagesDone words.id.now words.clean w status text
+IsCollected words status text = (w : CollectGoal) × IsWishOf words w × IsMessagesDone words.id.now words.clean w status text
 
 -- `collect` with these words
 abbrev pub IsCollectRun : Collect → ℕ → List ℕ → Type 0

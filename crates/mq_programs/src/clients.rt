@@ -7,7 +7,7 @@ ghost use Rattle.mq_cli.specs.Printed.{topic_line};
 ghost use Rattle.mq_programs.specs.Runs.{IsBadTopic, IsClientRun, IsCollectRun, IsCollected, IsPublishRun, IsPublished};
 
 use mq_cli::{Collect, Command, Failure, Publish};
-use mq_client::{Loopback, Texts, Wish, collect_messages, publish_session, publish_texts};
+use mq_client::{CollectGoal, Loopback, Texts, collect_messages, publish_session, publish_texts};
 use mq_topic::{TopicFault, TopicFilter, TopicName};
 use mq_wire::{Text, TextFault};
 use std::alloc::Global;
@@ -156,7 +156,7 @@ fn collect_as<R: Net + Clock + Files, W: Write>(
     ensures { IfOk result (λ status. Prints (W.contents output.old) (W.contents output.new)
         (IsCollected words.now status)) }
 {
-    let wish = Wish {
+    let wish = CollectGoal {
         filter,
         qos: words.qos,
         count: words.count,

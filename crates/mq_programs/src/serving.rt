@@ -3,7 +3,7 @@
 ghost use Rattle.std.specs.Prelude.{◌≡◌, ◌<◌, ◌≤◌, IfSome};
 
 use mq_cli::{Failure, Serve};
-use mq_serve::{Duty, serve, serve_on};
+use mq_serve::{ServeOptions, serve, serve_on};
 use std::alloc::Global;
 use std::io::Write;
 use std::net::{Net, TcpListener, TcpStream};
@@ -12,7 +12,7 @@ use std::thread::Threads;
 use std::time::Clock;
 
 // What is to be served, where the workers are 1 to 64.
-fn duty_of(words: &Serve) -> Option<Duty>
+fn duty_of(words: &Serve) -> Option<ServeOptions>
     ensures some { IfSome result (λ duty. (0 < duty.workers) × (duty.workers ≤ 64)) }
     ensures same { IfSome result (λ duty. (duty.workers ≡ words.now.workers)
         × (duty.connections ≡ words.now.connections)) }
@@ -21,7 +21,7 @@ fn duty_of(words: &Serve) -> Option<Duty>
     if workers == 0 || workers > 64 {
         return None;
     }
-    Some(Duty {
+    Some(ServeOptions {
         connections: words.connections,
         workers,
     })

@@ -7,7 +7,7 @@ use crate::fault::Fault;
 use mq_client::{Connection, Dial};
 use mq_decode::Limits;
 use mq_end::{CloseReason, Happening, ServerConfig, ServerEnd};
-use mq_stream::{Arrival, Broken, Clock, Stream};
+use mq_stream::{Broken, Clock, ReadOutcome, Stream};
 use std::alloc::Global;
 use std::cell::RefCell;
 
@@ -69,15 +69,15 @@ impl Side {
     }
 
     // Gives the bytes that wait, and then the end of a connection that is closed.
-    fn give(&mut self, room: &mut [u8]) -> Arrival
+    fn give(&mut self, room: &mut [u8]) -> ReadOutcome
         ensures { Arrives None None room.new result }
     {
         let count = put(room, self.server.output());
         self.server.take_output(count);
         match count {
-            0 if self.closed.is_some() => Arrival::End,
-            0 => Arrival::Nothing,
-            count => Arrival::Bytes(count),
+            0 if self.closed.is_some() => ReadOutcome::End,
+            0 => ReadOutcome::Nothing,
+            count => ReadOutcome::Bytes(count),
         }
     }
 }
@@ -126,10 +126,10 @@ impl<'a> Dial<Wire<'a>, Steps> for Dialer<'a> {
 pub(crate) struct Wire<'a>(&'a RefCell<Side>);
 
 impl Stream for Wire<'_> {
-    fn read(&mut self, room: &mut [u8]) -> Arrival {
+    fn read(&mut self, room: &mut [u8]) -> ReadOutcome {
         match self.0.try_borrow_mut() {
             Ok(mut side) => side.give(room),
-            Err(_) => Arrival::Failed,
+            Err(_) => ReadOutcome::Failed,
         }
     }
 

@@ -16,7 +16,7 @@ use Rattle.mq_packet.specs.declared.packet.Packet.{Packet}
 use Rattle.mq_packet.specs.declared.packet.Packet.TheVariants as packets
 use Rattle.mq_packet.specs.declared.packet.Request.{Request}
 use Rattle.mq_packet.specs.declared.publish.Delivery.{Delivery}
-use Rattle.mq_packet.specs.Spelling.{spellings}
+use Rattle.mq_packet.specs.Encoding.{encodings}
 use Rattle.mq_decode.specs.declared.fault.DecodeFault.{DecodeFault}
 use Rattle.mq_decode.specs.Limits.{Bounds}
 use Rattle.mq_flow.specs.Laws.{IsSound, IdentifierLaws}
@@ -28,7 +28,7 @@ use Rattle.mq_end.specs.declared.happening.Happening.TheVariants as happens
 use Rattle.mq_end.specs.declared.reason.CloseReason.{CloseReason}
 use Rattle.mq_end.specs.declared.reason.CloseReason.TheVariants as reasons
 use Rattle.mq_end.specs.declared.state.State.{State}
-use Rattle.mq_end.specs.declared.state.State.TheVariants.{Closed, Open, Up}
+use Rattle.mq_end.specs.declared.state.State.TheVariants.{Disconnected, Connecting, Connected}
 use Rattle.mq_end.specs.Both.{publish_gets, flow_gets, stores}
 use Rattle.mq_end.specs.End.{End, Reply, closes, comes_up, over, renewed}
 use Rattle.mq_end.specs.Laws.{SoundLaws}
@@ -42,14 +42,14 @@ use Rattle.mq_route.specs.declared.conn.Conn.{Conn}
 use Rattle.mq_route.specs.declared.event.HubEvent.{HubEvent}
 use Rattle.mq_route.specs.declared.event.HubEvent.TheVariants.{Opened, Bytes, Ended, Tick, Collect}
 use Rattle.mq_route.specs.declared.reply.HubReply.{HubReply}
-use Rattle.mq_route.specs.declared.stage.Stage.{Stage}
-use Rattle.mq_route.specs.declared.stage.Stage.TheVariants.{Fresh, UpFor, Shut}
-use Rattle.mq_route.specs.declared.stage.Terms.{Terms}
+use Rattle.mq_route.specs.declared.connection_state.ConnectionState.{ConnectionState}
+use Rattle.mq_route.specs.declared.connection_state.ConnectionState.TheVariants.{AwaitingConnect, ConnectedAs, Closed}
+use Rattle.mq_route.specs.declared.connection_state.ConnectionTerms.{ConnectionTerms}
 use Rattle.mq_route.specs.Copies.{is_hidden_name, copy_by, will_message}
-use Rattle.mq_route.specs.Hub.{HubState, HubSession, Line, new_hub, new_end, no_end, stage_of, changed, held_on, is_open, up_on, key_of, end_of, with_end, without_session, for_key, copies_of}
+use Rattle.mq_route.specs.Hub.{HubState, HubSession, HubConnection, new_hub, new_end, no_end, stage_of, changed, held_on, is_open, up_on, key_of, end_of, with_end, without_session, for_key, copies_of}
 use Rattle.mq_route.specs.Welcome.{client_of, refusal, ends_with}
-use Rattle.mq_route.specs.Work.{Work, begin, said, with_sessions, staged, shut, put_on, put_where, does, have_room, share, place, place_all, publishes_next, remove, remove_if, last_will, will_after, leaves_behind, close, subscribed, unsubscribed, retained_copies}
-use Rattle.mq_route.specs.Arrives.{Growth, granted, due, answers, answers_all, replies, greeting, terms_of, greet, new_session, greet_new, take_over, goes_on, admit, welcomes, at_first, comes_in, heard_on, arrives, takes, closes_by, broken, breaks}
+use Rattle.mq_route.specs.Work.{Work, begin, said, with_sessions, staged, shut, put_on, put_where, does, have_room, deliver, place, place_all, publishes_next, remove, remove_if, last_will, will_after, leaves_behind, close, subscribed, unsubscribed, retained_copies}
+use Rattle.mq_route.specs.Arrives.{Growth, granted, due, answers, answers_all, replies, greeting, terms_of, resume_session, new_session, start_session, take_over, goes_on, accept_connect, on_connect, on_first_packet, dispatch_packet, touched_on, arrives, takes, closes_by, broken, on_malformed}
 use Rattle.mq_route.specs.Step.{holding, Comes, Arrives, Waits, Breaks, Starves, LetsGo, Ticks, Done, InTime, Late, Later, Does, ended_open, told}
 use Rattle.mq_route.specs.Runs.{Episode, Follows}
 use Rattle.mq_route.specs.Dropped.{when_over}
@@ -72,7 +72,7 @@ Quiet other = Unit {0}
 data Tells (e : End) (r : Reply) : Type 0 where
   Quietly : Each Quiet r.happenings → Tells e r
   Hands : (m : Message) → r.happenings ≡ happens.Handed m ∷ [] → r.end.book ≡ e.book → Tells e r
-  Asks : (i : ℕ) (requests : List Request) → r.happenings ≡ happens.Subscribe i requests ∷ [] → r.end.book ≡ e.book → e.state ≡ Up → Tells e r
+  Asks : (i : ℕ) (requests : List Request) → r.happenings ≡ happens.Subscribe i requests ∷ [] → r.end.book ≡ e.book → e.state ≡ Connected → Tells e r
 
 publish_tells : (q : Qos) (d : Option Delivery) (m : Message) (e : End) → Tells e (publish_gets q d m e)
 publish_tells Q0 None m e = Hands m refl refl
@@ -92,7 +92,7 @@ flow_tells : (p : Packet) (e : End) → Tells e (flow_gets p e)
 flow_tells (packets.Publish p) e = publish_tells p.message.qos p.delivery p.message e
 flow_tells p e = Quietly tt
 
-up_tells : (p : Packet) (e : End) → e.state ≡ Up → Tells e (server_up_gets p e)
+up_tells : (p : Packet) (e : End) → e.state ≡ Connected → Tells e (server_up_gets p e)
 up_tells (packets.Subscribe i requests) e up = Asks i requests refl refl up
 up_tells (packets.Unsubscribe i filters) e up = Quietly (tt, tt)
 up_tells packets.PingReq e up = Quietly tt
@@ -114,36 +114,36 @@ gets_tells : (p : Packet) (e : End) → Tells e (server_gets p e)
 gets_tells p e = go e.state refl
   where
     go : (s : State) → e.state ≡ s → Tells e (server_gets_in s p e)
-    go Closed k = Quietly tt
-    go Open k = Quietly (open_quiet p e)
-    go Up k = up_tells p e k
+    go Disconnected k = Quietly tt
+    go Connecting k = Quietly (open_quiet p e)
+    go Connected k = up_tells p e k
 
 greeting_quiet : (c : Connect) (e : End) → Each Quiet (greeting c e).happenings
 greeting_quiet c e = connect_quiet c (opens e).end
 
 -- ---- copies that are due are so still when the end has done what it does
 
-up_put : (c : ℕ) (to : Option Conn) (ps : List Packet) (w : Work) → up_on c (put_where to ps w).hub.lines ≡ up_on c w.hub.lines
+up_put : (c : ℕ) (to : Option Conn) (ps : List Packet) (w : Work) → up_on c (put_where to ps w).hub.connections ≡ up_on c w.hub.connections
 unfolding put_on
 up_put c None ps w = refl
 up_put c (Some k) ps w =
-    up_map (changed (grown (spellings ps)) k) (names_changed (grown (spellings ps)) k (names_grown (spellings ps))) (ups_changed (grown (spellings ps)) k (ups_grown (spellings ps))) c w.hub.lines
+    up_map (changed (grown (encodings ps)) k) (names_changed (grown (encodings ps)) k (names_grown (encodings ps))) (ups_changed (grown (encodings ps)) k (ups_grown (encodings ps))) c w.hub.connections
 
-up_does : (c key : ℕ) (move : End → Reply) (w : Work) → up_on c (does key move w).hub.lines ≡ up_on c w.hub.lines
+up_does : (c key : ℕ) (move : End → Reply) (w : Work) → up_on c (does key move w).hub.connections ≡ up_on c w.hub.connections
 unfolding does
-up_does c key move w = up_put c (up_on key w.hub.lines) (move (end_of key w.hub.sessions)).out (with_sessions (with_end key (move (end_of key w.hub.sessions)).end) w)
+up_does c key move w = up_put c (up_on key w.hub.connections) (move (end_of key w.hub.sessions)).out (with_sessions (with_end key (move (end_of key w.hub.sessions)).end) w)
 
-copies_alike : (m : Message) (g h : HubState) → g.rows ≡ h.rows → ((c : ℕ) → up_on c g.lines ≡ up_on c h.lines) → copies_of m g ≡ copies_of m h
+copies_alike : (m : Message) (g h : HubState) → g.rows ≡ h.rows → ((c : ℕ) → up_on c g.connections ≡ up_on c h.connections) → copies_of m g ≡ copies_of m h
 unfolding copies_of
 copies_alike m g h rows ups =
     λ i. cond (is_hidden_name m.topic) [] (flat_map (λ f. for_key f.0 (copy_by (is_some (ups f.0 i)) m (Some f.1))) (matched m.topic (rows i)))
 
-up_is_there : (key : ℕ) (ss : List HubSession) → (end_of key ss).state ≡ Up → has key ss ≡ true
+up_is_there : (key : ℕ) (ss : List HubSession) → (end_of key ss).state ≡ Connected → has key ss ≡ true
 up_is_there key ss up = go (has key ss) refl
   where
     go : (b : Bool) → has key ss ≡ b → b ≡ true
     go true k = refl
-    go false k = absurd (let clash : Closed ≡ Up = sym (ap (λ (e : End). e.state) (no_session key ss k)) ∙ up in cc)
+    go false k = absurd (let clash : Disconnected ≡ Connected = sym (ap (λ (e : End). e.state) (no_session key ss k)) ∙ up in cc)
 
 -- ---- what acts place
 
@@ -216,7 +216,7 @@ where_did (Some k) ps w = put_did k ps w
 
 does_did : (key : ℕ) (move : End → Reply) (w : Work) → (does key move w).did ≡ w.did
 unfolding does
-does_did key move w = where_did (up_on key w.hub.lines) (move (end_of key w.hub.sessions)).out (with_sessions (with_end key (move (end_of key w.hub.sessions)).end) w)
+does_did key move w = where_did (up_on key w.hub.connections) (move (end_of key w.hub.sessions)).out (with_sessions (with_end key (move (end_of key w.hub.sessions)).end) w)
 
 same_still : (log new : List Act) → new ≡ log → Still log new
 same_still log new e c = ap (placed c) e
@@ -269,8 +269,8 @@ module _ (capacity : ℕ) (ids : IdentifierLaws) (next : NextLaws) (sound : Soun
   then_quiet : (w v x : Work) (ps : List Placing) → Goes w ps v → Goes v [] x → Goes w ps x
   then_quiet w v x ps g q = record { accepts = g.accepts; kept = q.kept; places = λ c. q.places c ∙ append-nil (placed c v.did) ∙ g.places c }
 
-  share_goes : (act : Act) (m : Message) (w : Work) → Idle act → Kept w → Room capacity (copies_of m w.hub) w.hub.sessions → Goes w (in_share act m w) (share act m w)
-  unfolding share
+  share_goes : (act : Act) (m : Message) (w : Work) → Idle act → Kept w → Room capacity (copies_of m w.hub) w.hub.sessions → Goes w (in_share act m w) (deliver act m w)
+  unfolding deliver
   share_goes act m w none h r =
       let v = retaining act m w in
       let copies = copies_of m w.hub in
@@ -360,7 +360,7 @@ module _ (capacity : ℕ) (ids : IdentifierLaws) (next : NextLaws) (sound : Soun
       let due_now : copies_of m v.hub ≡ copies = copies_alike m v.hub w.hub (does_alike key move w).1 (λ c. up_does c key move w) in
       let r = room_does copies key move w same (due_room key (happens.Handed m ∷ []) copies w h (append-nil copies) e) in
       let s = share_goes (acts.Took key m) m v (took_idle key m) hold (subst (λ (c : List (ℕ × Message)). Room capacity c v.hub.sessions) (sym due_now) r) in
-      let x = share (acts.Took key m) m v in
+      let x = deliver (acts.Took key m) m v in
       go_on v x x (in_share (acts.Took key m) m v) [] s (quiet x x (λ c. refl) s.kept)
 
   asked_goes : (k : Conn) (key i : ℕ) (rs : List Request) (move : End → Reply) (w : Work) → (move (end_of key w.hub.sessions)).end.book ≡ (end_of key w.hub.sessions).book → has key w.hub.sessions ≡ true → Kept w
@@ -418,7 +418,7 @@ module _ (capacity : ℕ) (ids : IdentifierLaws) (next : NextLaws) (sound : Soun
   remove_kept key w h = record {
     is = h.is;
     books = λ c. subst (λ (e : End). IsSound capacity e.book) (sym (end_without key c w.hub.sessions))
-        (cond_both (eqb key c) no_end (end_of c w.hub.sessions) (λ e. IsSound capacity e.book) (λ t. ids.at_first capacity) (λ t. h.books c));
+        (cond_both (eqb key c) no_end (end_of c w.hub.sessions) (λ e. IsSound capacity e.book) (λ t. ids.on_first_packet capacity) (λ t. h.books c));
     rows = rowed_without key w.hub.rows w.hub.sessions h.rows;
   }
 
@@ -426,7 +426,7 @@ module _ (capacity : ℕ) (ids : IdentifierLaws) (next : NextLaws) (sound : Soun
   remove_if_kept true key w h = remove_kept key w h
   remove_if_kept false key w h = h
 
-  over_kept : (k : Conn) (why : HubClose) (key : ℕ) (terms : Terms) (w : Work) → Kept w → Kept (when_over k why key terms w)
+  over_kept : (k : Conn) (why : HubClose) (key : ℕ) (terms : ConnectionTerms) (w : Work) → Kept w → Kept (when_over k why key terms w)
   over_kept k why key terms w h =
       let v = said (acts.Closed k why) (shut k w) in
       remove_if_kept terms.clean_session key (with_sessions (with_end key (over (end_of key w.hub.sessions))) v)
@@ -437,7 +437,7 @@ module _ (capacity : ℕ) (ids : IdentifierLaws) (next : NextLaws) (sound : Soun
   remove_if_still true key w = still_more (acts.Removed key) (removed_idle key) w.did
   remove_if_still false key w = λ c. refl
 
-  over_still : (k : Conn) (why : HubClose) (key : ℕ) (terms : Terms) (w : Work) → Still w.did (when_over k why key terms w).did
+  over_still : (k : Conn) (why : HubClose) (key : ℕ) (terms : ConnectionTerms) (w : Work) → Still w.did (when_over k why key terms w).did
   over_still k why key terms w c =
       remove_if_still terms.clean_session key (with_sessions (with_end key (over (end_of key w.hub.sessions))) (said (acts.Closed k why) (shut k w))) c
       ∙ still_more (acts.Closed k why) (closed_idle k why) w.did c
@@ -453,22 +453,22 @@ module _ (capacity : ℕ) (ids : IdentifierLaws) (next : NextLaws) (sound : Soun
       enough : Bool
       enough = have_room (copies_of (will_message will) w.hub) w.hub
 
-      go : (b : Bool) → (fits && enough) ≡ b → Goes w (cond b (in_share (acts.Will key m) m w) []) (cond b (share (acts.Will key m) m w) (said (acts.WillDropped key) w))
+      go : (b : Bool) → (fits && enough) ≡ b → Goes w (cond b (in_share (acts.Will key m) m w) []) (cond b (deliver (acts.Will key m) m w) (said (acts.WillDropped key) w))
       go true e = share_goes (acts.Will key m) m w (will_idle key m) h (room capacity (copies_of m w.hub) w.hub h (and_both fits enough e).1)
       go false e = quiet w (said (acts.WillDropped key) w) (still_more (acts.WillDropped key) (dropped_idle key) w.did) (record { is = h.is; books = h.books; rows = h.rows })
 
-  leaving_goes : (k : Conn) (why : HubClose) (fits : Bool) (s : Stage) (w : Work) → Kept w → Goes w (in_leaving k why fits s w) (leaves_behind why fits s (said (acts.Closed k why) (shut k w)))
+  leaving_goes : (k : Conn) (why : HubClose) (fits : Bool) (s : ConnectionState) (w : Work) → Kept w → Goes w (in_leaving k why fits s w) (leaves_behind why fits s (said (acts.Closed k why) (shut k w)))
   unfolding leaves_behind
-  leaving_goes k why fits Fresh w h = quiet w (said (acts.Closed k why) (shut k w)) (still_more (acts.Closed k why) (closed_idle k why) w.did) (record { is = h.is; books = h.books; rows = h.rows })
-  leaving_goes k why fits (UpFor key terms moment) w h =
+  leaving_goes k why fits AwaitingConnect w h = quiet w (said (acts.Closed k why) (shut k w)) (still_more (acts.Closed k why) (closed_idle k why) w.did) (record { is = h.is; books = h.books; rows = h.rows })
+  leaving_goes k why fits (ConnectedAs key terms last_activity) w h =
       let v = when_over k why key terms w in
       let will = will_after why terms.will in
       after_quiet w v (last_will key will fits v) (in_will key will fits v) (over_still k why key terms w) (will_goes key will fits v (over_kept k why key terms w h))
-  leaving_goes k why fits Shut w h = quiet w (said (acts.Closed k why) (shut k w)) (still_more (acts.Closed k why) (closed_idle k why) w.did) (record { is = h.is; books = h.books; rows = h.rows })
+  leaving_goes k why fits Closed w h = quiet w (said (acts.Closed k why) (shut k w)) (still_more (acts.Closed k why) (closed_idle k why) w.did) (record { is = h.is; books = h.books; rows = h.rows })
 
   close_goes : (k : Conn) (why : HubClose) (fits : Bool) (w : Work) → Kept w → Goes w (in_close k why fits w) (close k why fits w)
   unfolding close
-  close_goes k why fits w h = leaving_goes k why fits (stage_of k w.hub.lines) w h
+  close_goes k why fits w h = leaving_goes k why fits (stage_of k w.hub.connections) w h
 
   put_kept : (k : Conn) (ps : List Packet) (w : Work) → Kept w → Kept (put_on k ps w)
   put_kept k ps w h = holds_alike capacity (put_on k ps w).hub w.hub (put_alike k ps w) h
@@ -499,11 +499,11 @@ module _ (capacity : ℕ) (ids : IdentifierLaws) (next : NextLaws) (sound : Soun
 
   -- ---- CONNECT
 
-  greet_goes : (k : Conn) (c : Connect) (key : ℕ) (w : Work) → Kept w → Goes w [] (greet k c key w)
-  unfolding greet
+  greet_goes : (k : Conn) (c : Connect) (key : ℕ) (w : Work) → Kept w → Goes w [] (resume_session k c key w)
+  unfolding resume_session
   greet_goes k c key w h =
       let e = end_of key w.hub.sessions in
-      let v = staged k (UpFor key (terms_of c) w.hub.clock) w in
+      let v = staged k (ConnectedAs key (terms_of c) w.hub.clock) w in
       let x = does key (greeting c) v in
       after_quiet w x (answers_all k key (greeting c e).happenings x) [] (same_still v.did x.did (does_did key (greeting c) v))
       (quiet_all k key (greeting c e).happenings x (greeting_quiet c e)
@@ -518,7 +518,7 @@ module _ (capacity : ℕ) (ids : IdentifierLaws) (next : NextLaws) (sound : Soun
         is = h.is;
         books = λ c. subst (λ (e : End). IsSound capacity e.book) (sym (end_new s c w.hub.sessions))
             (cond_both (has c w.hub.sessions) (end_of c w.hub.sessions) (cond (eqb n c) (new_end w.hub.config) no_end) (λ e. IsSound capacity e.book) (λ t. h.books c)
-            (λ t. cond_both (eqb n c) (new_end w.hub.config) no_end (λ e. IsSound capacity e.book) (λ t. ids.at_first capacity) (λ t. ids.at_first capacity)));
+            (λ t. cond_both (eqb n c) (new_end w.hub.config) no_end (λ e. IsSound capacity e.book) (λ t. ids.on_first_packet capacity) (λ t. ids.on_first_packet capacity)));
         rows = each_weaker (λ (r : Row). Stands w.hub.sessions r.0.0) (λ (r : Row). Stands (w.hub.sessions ++ s ∷ []) r.0.0)
             (λ r there. has_new s r.0.0 w.hub.sessions ∙ cond-true (has r.0.0 w.hub.sessions) true (eqb n r.0.0) there) w.hub.rows h.rows;
       }
@@ -527,10 +527,10 @@ module _ (capacity : ℕ) (ids : IdentifierLaws) (next : NextLaws) (sound : Soun
   unfolding new_session
   new_still client w = refl
 
-  greet_new_goes : (k : Conn) (c : Connect) (client : List ℕ) (w : Work) → Kept w → Goes w [] (greet_new k c client w)
+  greet_new_goes : (k : Conn) (c : Connect) (client : List ℕ) (w : Work) → Kept w → Goes w [] (start_session k c client w)
   greet_new_goes k c client w h =
       let v = new_session client w in
-      after_quiet w v (greet_new k c client w) [] (same_still w.did v.did (new_still client w)) (greet_goes k c w.hub.next_key v (new_kept client w h))
+      after_quiet w v (start_session k c client w) [] (same_still w.did v.did (new_still client w)) (greet_goes k c w.hub.next_key v (new_kept client w h))
 
   take_over_goes : (o : Option Conn) (fits : Bool) (w : Work) → Kept w → Goes w (in_take_over o fits w) (take_over o fits w)
   take_over_goes None fits w h = quiet w w (λ c. refl) h
@@ -541,45 +541,45 @@ module _ (capacity : ℕ) (ids : IdentifierLaws) (next : NextLaws) (sound : Soun
   goes_on_goes k c client key true w h = greet_new_goes k c client w h
   goes_on_goes k c client key false w h =
       let v = remove key w in
-      cond_both c.clean_session (greet_new k c client v) (greet k c key w) (Goes w [])
-      (λ e. after_quiet w v (greet_new k c client v) [] (remove_if_still true key w) (greet_new_goes k c client v (remove_kept key w h))) (λ e. greet_goes k c key w h)
+      cond_both c.clean_session (start_session k c client v) (resume_session k c key w) (Goes w [])
+      (λ e. after_quiet w v (start_session k c client v) [] (remove_if_still true key w) (greet_new_goes k c client v (remove_kept key w h))) (λ e. greet_goes k c key w h)
 
-  admit_goes : (k : Conn) (c : Connect) (client : List ℕ) (o : Option ℕ) (fits : Bool) (w : Work) → Kept w → Goes w (in_welcome k o None fits w) (admit k c client o fits w)
+  admit_goes : (k : Conn) (c : Connect) (client : List ℕ) (o : Option ℕ) (fits : Bool) (w : Work) → Kept w → Goes w (in_welcome k o None fits w) (accept_connect k c client o fits w)
   admit_goes k c client None fits w h = greet_new_goes k c client w h
   admit_goes k c client (Some key) fits w h =
-      let old = up_on key w.hub.lines in
+      let old = up_on key w.hub.connections in
       let v = take_over old fits w in
       let t = take_over_goes old fits w h in
       then_quiet w v (goes_on k c client key (ends_with key w.hub) v) (in_take_over old fits w) t (goes_on_goes k c client key (ends_with key w.hub) v t.kept)
 
   welcomes_go : (k : Conn) (c : Connect) (code : Option RefusalCode) (fits : Bool) (w : Work) → Kept w
-      → Goes w (in_welcome k (key_of (client_of c w.hub.sessions) w.hub.sessions) code fits w) (welcomes k c code fits w)
-  unfolding welcomes
+      → Goes w (in_welcome k (key_of (client_of c w.hub.sessions) w.hub.sessions) code fits w) (on_connect k c code fits w)
+  unfolding on_connect
   welcomes_go k c (Some code) fits w h = put_close k (packets.ConnAck (connacks.Refused code) ∷ []) (Own (reasons.Refused code)) fits w h
   welcomes_go k c None fits w h = admit_goes k c (client_of c w.hub.sessions) (key_of (client_of c w.hub.sessions) w.hub.sessions) fits w h
 
-  first_goes : (k : Conn) (p : Packet) (fits : Bool) (w : Work) → Kept w → Goes w (in_first k p fits w) (at_first k p fits w)
-  unfolding at_first
+  first_goes : (k : Conn) (p : Packet) (fits : Bool) (w : Work) → Kept w → Goes w (in_first k p fits w) (on_first_packet k p fits w)
+  unfolding on_first_packet
   first_goes k (packets.Connect c) fits w h = welcomes_go k c (refusal c w.hub) fits w h
   first_goes k p fits w h = close_goes k (Own reasons.Unexpected) fits w h
 
   -- ---- any packet
 
-  packet_goes : (k : Conn) (p : Packet) (fits : Bool) (s : Stage) (w : Work) → Kept w → Goes w (in_packet k p fits s w) (comes_in k p fits s w)
-  unfolding comes_in
-  packet_goes k p fits Fresh w h = first_goes k p fits w h
-  packet_goes k p fits (UpFor key terms moment) w h = replies_go k key p (server_gets p (end_of key w.hub.sessions)).close fits w h
-  packet_goes k p fits Shut w h = quiet w w (λ c. refl) h
+  packet_goes : (k : Conn) (p : Packet) (fits : Bool) (s : ConnectionState) (w : Work) → Kept w → Goes w (in_packet k p fits s w) (dispatch_packet k p fits s w)
+  unfolding dispatch_packet
+  packet_goes k p fits AwaitingConnect w h = first_goes k p fits w h
+  packet_goes k p fits (ConnectedAs key terms last_activity) w h = replies_go k key p (server_gets p (end_of key w.hub.sessions)).close fits w h
+  packet_goes k p fits Closed w h = quiet w w (λ c. refl) h
 
   arrives_goes : (k : Conn) (p : Packet) (g : Growth) (w : Work) → Kept w → Goes w (in_takes k p g w) (arrives k p g w)
   unfolding arrives
   arrives_goes k p g w h = go g.fits
     where
-      go : (b : Bool) → Goes w (cond b (in_packet k p g.will_fits (stage_of k w.hub.lines) (heard_on k w)) (in_close k (Own reasons.Memory) g.will_fits w))
-          (cond b (comes_in k p g.will_fits (stage_of k w.hub.lines) (heard_on k w)) (close k (Own reasons.Memory) g.will_fits w))
+      go : (b : Bool) → Goes w (cond b (in_packet k p g.will_fits (stage_of k w.hub.connections) (touched_on k w)) (in_close k (Own reasons.Memory) g.will_fits w))
+          (cond b (dispatch_packet k p g.will_fits (stage_of k w.hub.connections) (touched_on k w)) (close k (Own reasons.Memory) g.will_fits w))
       go true =
-          let heard = heard_on k w in
-          let a = packet_goes k p g.will_fits (stage_of k w.hub.lines) heard (record { is = h.is; books = h.books; rows = h.rows }) in
+          let touched = touched_on k w in
+          let a = packet_goes k p g.will_fits (stage_of k w.hub.connections) touched (record { is = h.is; books = h.books; rows = h.rows }) in
           record { accepts = a.accepts; kept = a.kept; places = a.places }
       go false = close_goes k (Own reasons.Memory) g.will_fits w h
 
@@ -589,8 +589,8 @@ module _ (capacity : ℕ) (ids : IdentifierLaws) (next : NextLaws) (sound : Soun
       let a = arrives_goes k p g w h in
       record { accepts = a.accepts; kept = record { is = a.kept.is; books = a.kept.books; rows = a.kept.rows }; places = a.places }
 
-  breaks_go : (k : Conn) (fault : DecodeFault) (fits : Bool) (w : Work) → Kept w → Goes w (in_breaks k (broken k fault w).close fits (put_on k (broken k fault w).out w)) (breaks k fault fits w)
-  unfolding breaks
+  breaks_go : (k : Conn) (fault : DecodeFault) (fits : Bool) (w : Work) → Kept w → Goes w (in_breaks k (broken k fault w).close fits (put_on k (broken k fault w).out w)) (on_malformed k fault fits w)
+  unfolding on_malformed
   breaks_go k fault fits w h = go (broken k fault w).close
     where
       go : (c : Option CloseReason) → Goes w (in_breaks k c fits (put_on k (broken k fault w).out w)) (closes_by k c fits (put_on k (broken k fault w).out w))
@@ -608,7 +608,7 @@ module _ (capacity : ℕ) (ids : IdentifierLaws) (next : NextLaws) (sound : Soun
   comes_go limits k b w w2 (Starves c fits v on some) h = close_goes k (Own reasons.Memory) fits v h
   comes_go limits k b w w2 (LetsGo c v closed) h = quiet v v (λ c. refl) h
 
-  ticks_go : (now : ℕ) (xs : List Line) (w w2 : Work) (t : Ticks now xs w w2) → Kept w → Goes w (in_ticks now xs w w2 t) w2
+  ticks_go : (now : ℕ) (xs : List HubConnection) (w w2 : Work) (t : Ticks now xs w w2) → Kept w → Goes w (in_ticks now xs w w2 t) w2
   ticks_go now xs w w2 (Done v) h = quiet v v (λ c. refl) h
   ticks_go now xs w w2 (InTime x ys v v2 soon more) h = ticks_go now ys v v2 more h
   ticks_go now xs w w2 (Late x ys fits v v2 late more) h =
@@ -625,16 +625,16 @@ module _ (capacity : ℕ) (ids : IdentifierLaws) (next : NextLaws) (sound : Soun
   event_goes h (Opened k) r w d s = quiet (begin h) w (same_still [] w.did (ap (λ (w : Work). w.did) d.0)) (subst Kept (sym d.0) (record { is = s.is; books = s.books; rows = s.rows }))
   event_goes h (Bytes k piece) r w d s =
       let v = holding k [] (begin h) in
-      let b = held_on k h.lines ++ piece in
+      let b = held_on k h.connections ++ piece in
       after_quiet (begin h) v w (in_comes h.config.limits k b v w d.0) (λ c. refl) (comes_go h.config.limits k b v w d.0 (record { is = s.is; books = s.books; rows = s.rows }))
   event_goes h (Ended k) r w d s =
-      let alive = is_open (stage_of k h.lines) in
+      let alive = is_open (stage_of k h.connections) in
       let over = ended_goes k alive d.0 (begin h) s in
       subst (Goes (begin h) (cond alive (in_close k PeerEnded d.0 (begin h)) [])) (sym d.1)
       (record { accepts = over.accepts; kept = record { is = over.kept.is; books = over.kept.books; rows = over.kept.rows }; places = over.places })
   event_goes h (Tick now) r w d s =
       let v = begin (told now h) in
-      after_quiet (begin h) v w (in_ticks (max h.clock now) h.lines v w d.0) (λ c. refl) (ticks_go (max h.clock now) h.lines v w d.0 (record { is = s.is; books = s.books; rows = s.rows }))
+      after_quiet (begin h) v w (in_ticks (max h.clock now) h.connections v w d.0) (λ c. refl) (ticks_go (max h.clock now) h.connections v w d.0 (record { is = s.is; books = s.books; rows = s.rows }))
   event_goes h (Collect k) r w d s = quiet (begin h) w (same_still [] w.did (ap (λ (w : Work). w.did) d.0)) (subst Kept (sym d.0) (record { is = s.is; books = s.books; rows = s.rows }))
 
   run_kept : (es : List Episode) (h h2 : HubState) → Follows h es h2 → Holds capacity h → Holds capacity h2
@@ -650,18 +650,18 @@ told_acts h (Tick now) r w d = ap (λ (r : HubReply). r.acts) d.1
 told_acts h (Collect k) r w d = ap (λ (r : HubReply). r.acts) d.1 ∙ sym (ap (λ (w : Work). w.did) d.0)
 
 new_holds : (config : HubConfig) → IdentifierLaws → Holds config.capacity (new_hub config)
-new_holds config ids = record { is = refl; books = λ c. ids.at_first config.capacity; rows = tt }
+new_holds config ids = record { is = refl; books = λ c. ids.on_first_packet config.capacity; rows = tt }
 
 module _ (ids : IdentifierLaws) (next : NextLaws) (sound : SoundLaws) (config : HubConfig) (small : config.capacity ≤ 65535) where
-  moment : (es : List Episode) (h : HubState) → Follows (new_hub config) es h → Holds config.capacity h
-  moment es h f = run_kept config.capacity ids next sound small es (new_hub config) h f (new_holds config ids)
+  last_activity : (es : List Episode) (h : HubState) → Follows (new_hub config) es h → Holds config.capacity h
+  last_activity es h f = run_kept config.capacity ids next sound small es (new_hub config) h f (new_holds config ids)
 
   step : (before : List Episode) (h : HubState) → Follows (new_hub config) before h → (e : HubEvent) (r : HubReply) (w : Work) (d : Does h e r w) → Goes config.capacity ids next sound small (begin h) (in_step h e r w d) w
-  step before h f e r w d = event_goes config.capacity ids next sound small h e r w d (moment before h f)
+  step before h f e r w d = event_goes config.capacity ids next sound small h e r w d (last_activity before h f)
 
 pub laws : IdentifierLaws → NextLaws → SoundLaws → AcceptLaws
 laws ids next sound = record {
-  books = λ config small es h f key. (moment ids next sound config small es h f).books key;
+  books = λ config small es h f key. (last_activity ids next sound config small es h f).books key;
   accepts = λ config small before h f e r w right d. (step ids next sound config small before h f e r w d).accepts;
   placed_are = λ config small before h f e r w right d c. ap (placed c) (told_acts h e r w d) ∙ (step ids next sound config small before h f e r w d).places c;
 }

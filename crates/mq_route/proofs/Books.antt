@@ -87,11 +87,11 @@ for_one P key [] p = tt
 for_one P key (m ∷ ms) p = (p, for_one P key ms p)
 
 for_found : (P : ℕ → Type 0) (m : Message) (h : HubState) (found : List (ℕ × Qos)) → Each (λ f. P f.0) found
-    → For P (flat_map (λ f. for_key f.0 (copy_by (is_some (up_on f.0 h.lines)) m (Some f.1))) found)
+    → For P (flat_map (λ f. for_key f.0 (copy_by (is_some (up_on f.0 h.connections)) m (Some f.1))) found)
 for_found P m h [] p = tt
 for_found P m h (f ∷ found) p =
-    let ms = copy_by (is_some (up_on f.0 h.lines)) m (Some f.1) in
-    each_append (λ x. P x.0) (for_key f.0 ms) (flat_map (λ f. for_key f.0 (copy_by (is_some (up_on f.0 h.lines)) m (Some f.1))) found)
+    let ms = copy_by (is_some (up_on f.0 h.connections)) m (Some f.1) in
+    each_append (λ x. P x.0) (for_key f.0 ms) (flat_map (λ f. for_key f.0 (copy_by (is_some (up_on f.0 h.connections)) m (Some f.1))) found)
     (for_one P f.0 ms p.0) (for_found P m h found p.1)
 
 -- copies of a message are for clients with subscriptions
@@ -99,7 +99,7 @@ pub copies_stand : (P : ℕ → Type 0) (m : Message) (h : HubState) → Each (�
 unfolding copies_of
 copies_stand P m h f =
     let found = matched m.topic h.rows in
-    cond_both (is_hidden_name m.topic) [] (flat_map (λ f. for_key f.0 (copy_by (is_some (up_on f.0 h.lines)) m (Some f.1))) found) (For P)
+    cond_both (is_hidden_name m.topic) [] (flat_map (λ f. for_key f.0 (copy_by (is_some (up_on f.0 h.connections)) m (Some f.1))) found) (For P)
     (λ e. tt) (λ e. for_found P m h found (matched_stands P m.topic h.rows f))
 
 pub retained_stand : (P : ℕ → Type 0) (key : ℕ) (rs : List Request) (ms : List Message) → P key → For P (retained_copies key rs ms)
@@ -126,7 +126,7 @@ where_alike (Some k) ps w = put_alike k ps w
 
 pub does_alike : (key : ℕ) (move : End → Reply) (w : Work) → IsAlikeHub (does key move w).hub (with_sessions (with_end key (move (end_of key w.hub.sessions)).end) w).hub
 unfolding does
-does_alike key move w = where_alike (up_on key w.hub.lines) (move (end_of key w.hub.sessions)).out (with_sessions (with_end key (move (end_of key w.hub.sessions)).end) w)
+does_alike key move w = where_alike (up_on key w.hub.connections) (move (end_of key w.hub.sessions)).out (with_sessions (with_end key (move (end_of key w.hub.sessions)).end) w)
 
 pub place_alike : (key : ℕ) (m : Message) (w : Work) → IsAlikeHub (place key m w).hub (with_sessions (with_end key (publishes_next m (end_of key w.hub.sessions)).end) w).hub
 unfolding place

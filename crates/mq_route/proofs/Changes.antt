@@ -6,8 +6,8 @@ use Rattle.mq_topic.specs.Rows.{with_row, without_row}
 use Rattle.mq_packet.specs.declared.connect.Will.{Will}
 use Rattle.mq_packet.specs.declared.message.Message.{Message}
 use Rattle.mq_packet.specs.declared.packet.Packet.{Packet}
-use Rattle.mq_packet.specs.Spelling.{spellings}
-use Rattle.mq_end.specs.declared.state.State.TheVariants.{Up}
+use Rattle.mq_packet.specs.Encoding.{encodings}
+use Rattle.mq_end.specs.declared.state.State.TheVariants.{Connected}
 use Rattle.mq_end.specs.End.{End, Reply, over}
 use Rattle.mq_end.specs.Server.{server_gets}
 use Rattle.mq_route.specs.declared.conn.Conn.{Conn}
@@ -16,12 +16,12 @@ use Rattle.mq_route.specs.declared.act.Act.TheVariants as acts
 use Rattle.mq_end.specs.declared.reason.CloseReason.{CloseReason}
 use Rattle.mq_route.specs.declared.close.HubClose.{HubClose}
 use Rattle.mq_route.specs.declared.close.HubClose.TheVariants.{Own, TakenOver, PeerEnded}
-use Rattle.mq_route.specs.declared.stage.Stage.TheVariants.{UpFor, Shut}
-use Rattle.mq_route.specs.declared.stage.Terms.{Terms}
+use Rattle.mq_route.specs.declared.connection_state.ConnectionState.TheVariants.{ConnectedAs, Closed}
+use Rattle.mq_route.specs.declared.connection_state.ConnectionTerms.{ConnectionTerms}
 use Rattle.mq_route.specs.Routed.{same_conn}
 use Rattle.mq_route.specs.Copies.{kept, retained_for, will_message}
-use Rattle.mq_route.specs.Hub.{HubState, HubSession, Line, no_end, new_end, end_of, with_end, changed, with_line, without_session, is_for, for_key, knows, stage_of, up_on, copies_of}
-use Rattle.mq_route.specs.Work.{Work, said, with_lines, with_sessions, staged, shut, put_on, put_where, does, have_room, remove, remove_if, will_after}
+use Rattle.mq_route.specs.Hub.{HubState, HubSession, HubConnection, no_end, new_end, end_of, with_end, changed, with_connection, without_session, is_for, for_key, knows, stage_of, up_on, copies_of}
+use Rattle.mq_route.specs.Work.{Work, said, with_connections, with_sessions, staged, shut, put_on, put_where, does, have_room, remove, remove_if, will_after}
 use Rattle.mq_route.specs.Arrives.{new_session}
 use Rattle.mq_route.specs.Dropped.{when_over}
 use Rattle.mq_route.proofs.Lines.{Mild, Names, Ups, upper, names_changed, ups_changed, upper_map, grown, same_conn-itself}
@@ -57,12 +57,12 @@ abbrev pub unsubscribing : ℕ → List ℕ → Work → Work
 unsubscribing key f w = said (acts.Unsubscribed key f) (record w { hub = record w.hub { rows = without_row key f w.hub.rows } })
 
 -- a connection that is up is closed, and its session ends where it is to
-abbrev pub closing : Conn → HubClose → ℕ → Terms → Work → Work
+abbrev pub closing : Conn → HubClose → ℕ → ConnectionTerms → Work → Work
 closing k why key terms w = when_over k why key terms w
 
 -- a connection is up for a session, which does this
-abbrev pub rising : Conn → ℕ → Terms → ℕ → (End → Reply) → Bool → Work → Work
-rising k key terms moment move present w = said (acts.Up k key present) (does key move (staged k (UpFor key terms moment) w))
+abbrev pub rising : Conn → ℕ → ConnectionTerms → ℕ → (End → Reply) → Bool → Work → Work
+rising k key terms last_activity move present w = said (acts.Up k key present) (does key move (staged k (ConnectedAs key terms last_activity) w))
 
 -- What is kept while copies are placed and subscriptions change.
 pub record Inner (R : Debt → Work → Type 0) : Type 0 where
@@ -80,16 +80,16 @@ pub record Inner (R : Debt → Work → Type 0) : Type 0 where
 -- a client's session, its end, and the connection on which it is up
 abbrev pub Tied : Option (Conn × Bool) → Bool → End → Type 0
 Tied None there e = e.clean ≡ false
-Tied (Some u) there e = (there ≡ true) × (e.state ≡ Up) × (e.clean ≡ u.1)
+Tied (Some u) there e = (there ≡ true) × (e.state ≡ Connected) × (e.clean ≡ u.1)
 
 -- names stand once, keys that were not given have no session, and a client is up where its end is
-pub record Orderly (lines : List Line) (next : ℕ) (sessions : List HubSession) : Type 0 where
-  pub apart : Apart lines
+pub record Orderly (connections : List HubConnection) (next : ℕ) (sessions : List HubSession) : Type 0 where
+  pub apart : Apart connections
   pub keyless : (c : ℕ) → next ≤ c → has c sessions ≡ false
-  pub tied : (c : ℕ) → Tied (upper c lines) (has c sessions) (end_of c sessions)
+  pub tied : (c : ℕ) → Tied (upper c connections) (has c sessions) (end_of c sessions)
 
 abbrev pub Sound : HubState → Type 0
-Sound h = Orderly h.lines h.next_key h.sessions
+Sound h = Orderly h.connections h.next_key h.sessions
 
 -- A will that there is no memory for, or no room for its copies.
 abbrev pub IsShort : Will → Bool → Work → Type 0
@@ -97,19 +97,19 @@ IsShort m fits w = (fits && have_room (copies_of (will_message m) w.hub) w.hub) 
 
 -- What is kept where packets and connections come and go, and a connection is closed only for what may close it, and only near a work.
 pub record Outer (R : Debt → Work → Type 0) (May : HubClose → Type 0) (Near : Bool → Work → Type 0) : Type 0 where
-  pub mild : (f : Line → Line) (k : Conn) (o : Debt) (w : Work) → Mild f → R o w → R o (with_lines (with_line f k) w)
-  pub gets : (key : ℕ) (p : Packet) (w : Work) → Sound w.hub → has key w.hub.sessions ≡ true → (end_of key w.hub.sessions).state ≡ Up → GoesOn key p (end_of key w.hub.sessions) (server_gets p (end_of key w.hub.sessions))
+  pub mild : (f : HubConnection → HubConnection) (k : Conn) (o : Debt) (w : Work) → Mild f → R o w → R o (with_connections (with_connection f k) w)
+  pub gets : (key : ℕ) (p : Packet) (w : Work) → Sound w.hub → has key w.hub.sessions ≡ true → (end_of key w.hub.sessions).state ≡ Connected → GoesOn key p (end_of key w.hub.sessions) (server_gets p (end_of key w.hub.sessions))
       → R nothing w → R (owes [] (takings key (server_gets p (end_of key w.hub.sessions)).happenings) ((key, p) ∷ [])) (with_sessions (with_end key (server_gets p (end_of key w.hub.sessions)).end) w)
   pub noted : (n : List (ℕ × Packet)) (w : Work) → R (owes [] [] n) w → R nothing (record w { came = w.came ++ n })
-  pub shuts : (k : Conn) (why : HubClose) (w : Work) → May why → Sound w.hub → IsIdle (stage_of k w.hub.lines) → R nothing w → R nothing (said (acts.Closed k why) (shut k w))
-  pub closes : (k : Conn) (why : HubClose) (key : ℕ) (terms : Terms) (moment : ℕ) (w : Work) → May why → Sound w.hub → stage_of k w.hub.lines ≡ UpFor key terms moment → R nothing w → R nothing (closing k why key terms w)
-  pub drops : (k : Conn) (why : HubClose) (key : ℕ) (terms : Terms) (moment : ℕ) (fits : Bool) (w : Work) → Near fits w → stage_of k w.hub.lines ≡ UpFor key terms moment
+  pub shuts : (k : Conn) (why : HubClose) (w : Work) → May why → Sound w.hub → IsIdle (stage_of k w.hub.connections) → R nothing w → R nothing (said (acts.Closed k why) (shut k w))
+  pub closes : (k : Conn) (why : HubClose) (key : ℕ) (terms : ConnectionTerms) (last_activity : ℕ) (w : Work) → May why → Sound w.hub → stage_of k w.hub.connections ≡ ConnectedAs key terms last_activity → R nothing w → R nothing (closing k why key terms w)
+  pub drops : (k : Conn) (why : HubClose) (key : ℕ) (terms : ConnectionTerms) (last_activity : ℕ) (fits : Bool) (w : Work) → Near fits w → stage_of k w.hub.connections ≡ ConnectedAs key terms last_activity
       → (m : Will) → will_after why terms.will ≡ Some m → IsShort m fits (closing k why key terms w) → R nothing (closing k why key terms w) → R nothing (said (acts.WillDropped key) (closing k why key terms w))
-  pub removes : (key : ℕ) (w : Work) → Sound w.hub → upper key w.hub.lines ≡ None → R nothing w → R nothing (remove key w)
+  pub removes : (key : ℕ) (w : Work) → Sound w.hub → upper key w.hub.connections ≡ None → R nothing w → R nothing (remove key w)
   pub begins : (client : List ℕ) (w : Work) → Sound w.hub → R nothing w → R nothing (new_session client w)
-  pub rises : (k : Conn) (key : ℕ) (terms : Terms) (moment : ℕ) (move : End → Reply) (present : Bool) (w : Work) → Sound w.hub → knows k w.hub.lines ≡ true → IsIdle (stage_of k w.hub.lines)
-      → upper key w.hub.lines ≡ None → has key w.hub.sessions ≡ true → (move (end_of key w.hub.sessions)).end.state ≡ Up → (move (end_of key w.hub.sessions)).end.clean ≡ terms.clean_session → (move (end_of key w.hub.sessions)).end.received ≡ (end_of key w.hub.sessions).received
-      → R nothing w → R nothing (rising k key terms moment move present w)
+  pub rises : (k : Conn) (key : ℕ) (terms : ConnectionTerms) (last_activity : ℕ) (move : End → Reply) (present : Bool) (w : Work) → Sound w.hub → knows k w.hub.connections ≡ true → IsIdle (stage_of k w.hub.connections)
+      → upper key w.hub.connections ≡ None → has key w.hub.sessions ≡ true → (move (end_of key w.hub.sessions)).end.state ≡ Connected → (move (end_of key w.hub.sessions)).end.clean ≡ terms.clean_session → (move (end_of key w.hub.sessions)).end.received ≡ (end_of key w.hub.sessions).received
+      → R nothing w → R nothing (rising k key terms last_activity move present w)
 
 -- All but a session that is full may close a connection.
 pub record Ways (May : HubClose → Type 0) : Type 0 where
@@ -128,10 +128,10 @@ Anywhere fits w = Unit {0}
 -- What is near stays near where packets are put out and where connections change.
 pub record Nearby (Near : Bool → Work → Type 0) : Type 0 where
   pub put : (fits : Bool) (k : Conn) (ps : List Packet) (w : Work) → Near fits w → Near fits (put_on k ps w)
-  pub lines : (fits : Bool) (change : List Line → List Line) (w : Work) → Near fits w → Near fits (with_lines change w)
+  pub connections : (fits : Bool) (change : List HubConnection → List HubConnection) (w : Work) → Near fits w → Near fits (with_connections change w)
 
 pub anywhere : Nearby Anywhere
-anywhere = record { put = λ fits k ps w n. tt; lines = λ fits change w n. tt }
+anywhere = record { put = λ fits k ps w n. tt; connections = λ fits change w n. tt }
 
 pub freely : Ways Freely
 freely = record { own = λ reason. tt; over = tt; peer = tt }
@@ -139,13 +139,13 @@ freely = record { own = λ reason. tt; over = tt; peer = tt }
 -- ---- and that they keep it
 
 -- a connection that is closed
-abbrev pub closed_line : Line → Line
-closed_line x = record x { stage = Shut; held = [] }
+abbrev pub closed_line : HubConnection → HubConnection
+closed_line x = record x { stage = Closed; held = [] }
 
 names_shut : Names closed_line
 names_shut x = refl
 
-idle_shut : (x : Line) → IsIdle Shut
+idle_shut : (x : HubConnection) → IsIdle Closed
 idle_shut x c = refl
 
 pub names_grown : (b : List ℕ) → Names (grown b)
@@ -155,7 +155,7 @@ pub ups_grown : (b : List ℕ) → Ups (grown b)
 ups_grown b x = (λ c. refl, refl)
 
 -- a change that leaves names and on which connection a client is up
-pub mapped : (g : Line → Line) (xs : List Line) (n : ℕ) (ss : List HubSession) → Names g → Ups g → Orderly xs n ss → Orderly (map g xs) n ss
+pub mapped : (g : HubConnection → HubConnection) (xs : List HubConnection) (n : ℕ) (ss : List HubSession) → Names g → Ups g → Orderly xs n ss → Orderly (map g xs) n ss
 mapped g xs n ss h u s = record {
   apart = apart_map g h u xs s.apart;
   keyless = s.keyless;
@@ -163,7 +163,7 @@ mapped g xs n ss h u s = record {
 }
 
 -- the end of a session is another that is as tied
-ended_as : (key : ℕ) (e : End) (xs : List Line) (n : ℕ) (ss : List HubSession) → (has key ss ≡ true → Tied (upper key xs) true e) → Orderly xs n ss → Orderly xs n (with_end key e ss)
+ended_as : (key : ℕ) (e : End) (xs : List HubConnection) (n : ℕ) (ss : List HubSession) → (has key ss ≡ true → Tied (upper key xs) true e) → Orderly xs n ss → Orderly xs n (with_end key e ss)
 ended_as key e xs n ss new s = record {
   apart = s.apart;
   keyless = λ c le. has_with key e c ss ∙ s.keyless c le;
@@ -175,25 +175,25 @@ alike_tied None there e f a h t = a.1 ∙ t
 alike_tied (Some u) there e f a h t = (refl, a.0 ∙ t.1, a.1 ∙ t.2)
 
 -- a client without a session is not up
-pub not_up : (c : ℕ) (h : HubState) → Sound h → has c h.sessions ≡ false → upper c h.lines ≡ None
-not_up c h s none = go (upper c h.lines) (subst (λ (b : Bool). Tied (upper c h.lines) b (end_of c h.sessions)) none (s.tied c))
+pub not_up : (c : ℕ) (h : HubState) → Sound h → has c h.sessions ≡ false → upper c h.connections ≡ None
+not_up c h s none = go (upper c h.connections) (subst (λ (b : Bool). Tied (upper c h.connections) b (end_of c h.sessions)) none (s.tied c))
   where
     go : (o : Option (Conn × Bool)) → Tied o false (end_of c h.sessions) → o ≡ None
     go None t = refl
     go (Some u) t = absurd (let clash = t.0 in cc)
 
 -- a client that is up has a session, and its end is up
-pub is_tied : (c : ℕ) (u : Conn × Bool) (h : HubState) → Sound h → upper c h.lines ≡ Some u → Tied (Some u) (has c h.sessions) (end_of c h.sessions)
+pub is_tied : (c : ℕ) (u : Conn × Bool) (h : HubState) → Sound h → upper c h.connections ≡ Some u → Tied (Some u) (has c h.sessions) (end_of c h.sessions)
 is_tied c u h s e = subst (λ (o : Option (Conn × Bool)). Tied o (has c h.sessions) (end_of c h.sessions)) e (s.tied c)
 
 -- the end of a client that is not up
-pub is_idle : (c : ℕ) (h : HubState) → Sound h → upper c h.lines ≡ None → (end_of c h.sessions).clean ≡ false
+pub is_idle : (c : ℕ) (h : HubState) → Sound h → upper c h.connections ≡ None → (end_of c h.sessions).clean ≡ false
 is_idle c h s e = subst (λ (o : Option (Conn × Bool)). Tied o (has c h.sessions) (end_of c h.sessions)) e (s.tied c)
 
 pub sound_put : (k : Conn) (ps : List Packet) (w : Work) → Sound w.hub → Sound (put_on k ps w).hub
 unfolding put_on
 sound_put k ps w s =
-    mapped (changed (grown (spellings ps)) k) w.hub.lines w.hub.next_key w.hub.sessions (names_changed (grown (spellings ps)) k (names_grown (spellings ps))) (ups_changed (grown (spellings ps)) k (ups_grown (spellings ps))) s
+    mapped (changed (grown (encodings ps)) k) w.hub.connections w.hub.next_key w.hub.sessions (names_changed (grown (encodings ps)) k (names_grown (encodings ps))) (ups_changed (grown (encodings ps)) k (ups_grown (encodings ps))) s
 
 pub sound_put_where : (to : Option Conn) (ps : List Packet) (w : Work) → Sound w.hub → Sound (put_where to ps w).hub
 sound_put_where None ps w s = s
@@ -202,8 +202,8 @@ sound_put_where (Some k) ps w s = sound_put k ps w s
 pub sound_inner : Inner (λ o w. Sound w.hub)
 sound_inner = record {
   put = λ k ps o w s. sound_put k ps w s;
-  moves = λ key e o w alike s. ended_as key e w.hub.lines w.hub.next_key w.hub.sessions
-      (λ there. alike_tied (upper key w.hub.lines) (has key w.hub.sessions) e (end_of key w.hub.sessions) alike there (s.tied key)) s;
+  moves = λ key e o w alike s. ended_as key e w.hub.connections w.hub.next_key w.hub.sessions
+      (λ there. alike_tied (upper key w.hub.connections) (has key w.hub.sessions) e (end_of key w.hub.sessions) alike there (s.tied key)) s;
   took = λ key m t n w s. s;
   willed = λ key m w s. s;
   placed = λ key m c t n w s. s;
@@ -211,29 +211,29 @@ sound_inner = record {
   unsubscribed = λ key f o w s. s;
 }
 
-pub sound_mild : (f : Line → Line) (k : Conn) (w : Work) → Mild f → Sound w.hub → Sound (with_lines (with_line f k) w).hub
+pub sound_mild : (f : HubConnection → HubConnection) (k : Conn) (w : Work) → Mild f → Sound w.hub → Sound (with_connections (with_connection f k) w).hub
 sound_mild f k w m s =
-    mapped (changed f k) w.hub.lines w.hub.next_key w.hub.sessions (names_changed f k (λ x. (m x).0)) (ups_changed f k (λ x. ((m x).2, (m x).3))) s
+    mapped (changed f k) w.hub.connections w.hub.next_key w.hub.sessions (names_changed f k (λ x. (m x).0)) (ups_changed f k (λ x. ((m x).2, (m x).3))) s
 
 pub sound_gets : (key : ℕ) (e : End) (w : Work) → e.state ≡ (end_of key w.hub.sessions).state → e.clean ≡ (end_of key w.hub.sessions).clean → Sound w.hub → Sound (with_sessions (with_end key e) w).hub
 sound_gets key e w state clean s =
-    ended_as key e w.hub.lines w.hub.next_key w.hub.sessions (λ there. go (upper key w.hub.lines) (has key w.hub.sessions) (s.tied key)) s
+    ended_as key e w.hub.connections w.hub.next_key w.hub.sessions (λ there. go (upper key w.hub.connections) (has key w.hub.sessions) (s.tied key)) s
   where
     go : (o : Option (Conn × Bool)) (b : Bool) → Tied o b (end_of key w.hub.sessions) → Tied o true e
     go None b t = clean ∙ t
     go (Some u) b t = (refl, state ∙ t.1, clean ∙ t.2)
 
-pub sound_shuts : (k : Conn) (w : Work) → Sound w.hub → IsIdle (stage_of k w.hub.lines) → Sound (shut k w).hub
+pub sound_shuts : (k : Conn) (w : Work) → Sound w.hub → IsIdle (stage_of k w.hub.connections) → Sound (shut k w).hub
 sound_shuts k w s free = record {
-  apart = apart_closed closed_line k names_shut idle_shut w.hub.lines s.apart;
+  apart = apart_closed closed_line k names_shut idle_shut w.hub.connections s.apart;
   keyless = s.keyless;
   tied = λ c. subst (λ (o : Option (Conn × Bool)). Tied o (has c w.hub.sessions) (end_of c w.hub.sessions))
-      (sym (upper_closed closed_line k names_shut idle_shut w.hub.lines s.apart c ∙ unless_other k c w.hub.lines s.apart (free c))) (s.tied c);
+      (sym (upper_closed closed_line k names_shut idle_shut w.hub.connections s.apart c ∙ unless_other k c w.hub.connections s.apart (free c))) (s.tied c);
 }
 
 -- the connection on which a client is up, after it is closed
-pub upper_shut : (k : Conn) (c : ℕ) (w : Work) → Apart w.hub.lines → upper c (shut k w).hub.lines ≡ unless k (upper c w.hub.lines)
-upper_shut k c w a = upper_closed closed_line k names_shut idle_shut w.hub.lines a c
+pub upper_shut : (k : Conn) (c : ℕ) (w : Work) → Apart w.hub.connections → upper c (shut k w).hub.connections ≡ unless k (upper c w.hub.connections)
+upper_shut k c w a = upper_closed closed_line k names_shut idle_shut w.hub.connections a c
 
 pub unless_itself : (k : Conn) (b : Bool) → unless k (Some (k, b)) ≡ None
 unless_itself k b = cond-true (same_conn k k) None (Some (k, b)) (same_conn-itself k)
@@ -242,45 +242,45 @@ over_clean : (e : End) → (over e).clean ≡ false
 over_clean e = refl
 
 -- a session's end is over, and its connection closed
-module _ (k : Conn) (key : ℕ) (terms : Terms) (moment : ℕ) (w : Work) (s : Sound w.hub) (stage : stage_of k w.hub.lines ≡ UpFor key terms moment) where
-  pub upper_was : upper key w.hub.lines ≡ Some (k, terms.clean_session)
-  upper_was = upper_at k key terms moment w.hub.lines s.apart stage
+module _ (k : Conn) (key : ℕ) (terms : ConnectionTerms) (last_activity : ℕ) (w : Work) (s : Sound w.hub) (stage : stage_of k w.hub.connections ≡ ConnectedAs key terms last_activity) where
+  pub upper_was : upper key w.hub.connections ≡ Some (k, terms.clean_session)
+  upper_was = upper_at k key terms last_activity w.hub.connections s.apart stage
 
-  pub upper_is_none : upper key (shut k w).hub.lines ≡ None
+  pub upper_is_none : upper key (shut k w).hub.connections ≡ None
   upper_is_none = upper_shut k key w s.apart ∙ ap (unless k) upper_was ∙ unless_itself k terms.clean_session
 
-  pub upper_others : (c : ℕ) → eqb key c ≡ false → upper c (shut k w).hub.lines ≡ upper c w.hub.lines
-  upper_others c apart = upper_shut k c w s.apart ∙ unless_other k c w.hub.lines s.apart (ap (is_for c) stage ∙ apart)
+  pub upper_others : (c : ℕ) → eqb key c ≡ false → upper c (shut k w).hub.connections ≡ upper c w.hub.connections
+  upper_others c apart = upper_shut k c w s.apart ∙ unless_other k c w.hub.connections s.apart (ap (is_for c) stage ∙ apart)
 
-  sound_over : Orderly (shut k w).hub.lines w.hub.next_key (with_end key (over (end_of key w.hub.sessions)) w.hub.sessions)
+  sound_over : Orderly (shut k w).hub.connections w.hub.next_key (with_end key (over (end_of key w.hub.sessions)) w.hub.sessions)
   sound_over = record {
-    apart = apart_closed closed_line k names_shut idle_shut w.hub.lines s.apart;
+    apart = apart_closed closed_line k names_shut idle_shut w.hub.connections s.apart;
     keyless = λ c le. has_with key (over (end_of key w.hub.sessions)) c w.hub.sessions ∙ s.keyless c le;
-    tied = each_there (λ c there e. Tied (upper c (shut k w).hub.lines) there e) key (over (end_of key w.hub.sessions)) w.hub.sessions
+    tied = each_there (λ c there e. Tied (upper c (shut k w).hub.connections) there e) key (over (end_of key w.hub.sessions)) w.hub.sessions
         (is_tied key (k, terms.clean_session) w.hub s upper_was).0
         (subst (λ (o : Option (Conn × Bool)). Tied o true (over (end_of key w.hub.sessions))) (sym upper_is_none) refl)
         (λ c apart. subst (λ (o : Option (Conn × Bool)). Tied o (has c w.hub.sessions) (end_of c w.hub.sessions)) (sym (upper_others c apart)) (s.tied c));
   }
 
-without_as : (key : ℕ) (xs : List Line) (n : ℕ) (ss : List HubSession) → upper key xs ≡ None → Orderly xs n ss → Orderly xs n (without_session key ss)
+without_as : (key : ℕ) (xs : List HubConnection) (n : ℕ) (ss : List HubSession) → upper key xs ≡ None → Orderly xs n ss → Orderly xs n (without_session key ss)
 without_as key xs n ss none s = record {
   apart = s.apart;
   keyless = λ c le. has_without key c ss ∙ cond_both (eqb key c) false (has c ss) (λ b. b ≡ false) (λ e. refl) (λ e. s.keyless c le);
   tied = each_without (λ c there e. Tied (upper c xs) there e) key ss s.tied (subst (λ (o : Option (Conn × Bool)). Tied o false no_end) (sym none) refl);
 }
 
-pub sound_removes : (key : ℕ) (w : Work) → Sound w.hub → upper key w.hub.lines ≡ None → Sound (remove key w).hub
+pub sound_removes : (key : ℕ) (w : Work) → Sound w.hub → upper key w.hub.connections ≡ None → Sound (remove key w).hub
 unfolding remove
-sound_removes key w s none = without_as key w.hub.lines w.hub.next_key w.hub.sessions none s
+sound_removes key w s none = without_as key w.hub.connections w.hub.next_key w.hub.sessions none s
 
-sound_remove_if : (b : Bool) (key : ℕ) (w : Work) → Sound w.hub → upper key w.hub.lines ≡ None → Sound (remove_if b key w).hub
+sound_remove_if : (b : Bool) (key : ℕ) (w : Work) → Sound w.hub → upper key w.hub.connections ≡ None → Sound (remove_if b key w).hub
 sound_remove_if true key w s none = sound_removes key w s none
 sound_remove_if false key w s none = s
 
-pub sound_closes : (k : Conn) (why : HubClose) (key : ℕ) (terms : Terms) (moment : ℕ) (w : Work) → Sound w.hub → stage_of k w.hub.lines ≡ UpFor key terms moment → Sound (closing k why key terms w).hub
-sound_closes k why key terms moment w s stage =
+pub sound_closes : (k : Conn) (why : HubClose) (key : ℕ) (terms : ConnectionTerms) (last_activity : ℕ) (w : Work) → Sound w.hub → stage_of k w.hub.connections ≡ ConnectedAs key terms last_activity → Sound (closing k why key terms w).hub
+sound_closes k why key terms last_activity w s stage =
     sound_remove_if terms.clean_session key (with_sessions (with_end key (over (end_of key w.hub.sessions))) (said (acts.Closed k why) (shut k w)))
-    (sound_over k key terms moment w s stage) (upper_is_none k key terms moment w s stage)
+    (sound_over k key terms last_activity w s stage) (upper_is_none k key terms last_activity w s stage)
 
 pub sound_begins : (client : List ℕ) (w : Work) → Sound w.hub → Sound (new_session client w).hub
 unfolding new_session
@@ -291,26 +291,26 @@ sound_begins client w s =
     record {
       apart = s.apart;
       keyless = λ c le. has_new session c w.hub.sessions ∙ cond-false (has c w.hub.sessions) true (eqb n c) (s.keyless c (omega arith)) ∙ ne_eqb n c (λ same. omega arith);
-      tied = each_new (λ c there e. Tied (upper c w.hub.lines) there e) session w.hub.sessions (s.keyless n (le_refl n)) s.tied
+      tied = each_new (λ c there e. Tied (upper c w.hub.connections) there e) session w.hub.sessions (s.keyless n (le_refl n)) s.tied
           (subst (λ (o : Option (Conn × Bool)). Tied o true (new_end w.hub.config)) (sym none) refl);
     }
 
-pub sound_rises : (k : Conn) (key : ℕ) (terms : Terms) (moment : ℕ) (move : End → Reply) (present : Bool) (w : Work) → Sound w.hub → knows k w.hub.lines ≡ true → IsIdle (stage_of k w.hub.lines)
-    → upper key w.hub.lines ≡ None → has key w.hub.sessions ≡ true → (move (end_of key w.hub.sessions)).end.state ≡ Up → (move (end_of key w.hub.sessions)).end.clean ≡ terms.clean_session
-    → Sound (rising k key terms moment move present w).hub
+pub sound_rises : (k : Conn) (key : ℕ) (terms : ConnectionTerms) (last_activity : ℕ) (move : End → Reply) (present : Bool) (w : Work) → Sound w.hub → knows k w.hub.connections ≡ true → IsIdle (stage_of k w.hub.connections)
+    → upper key w.hub.connections ≡ None → has key w.hub.sessions ≡ true → (move (end_of key w.hub.sessions)).end.state ≡ Connected → (move (end_of key w.hub.sessions)).end.clean ≡ terms.clean_session
+    → Sound (rising k key terms last_activity move present w).hub
 unfolding does
-sound_rises k key terms moment move present w s known free none there up clean =
-    let v = staged k (UpFor key terms moment) w in
+sound_rises k key terms last_activity move present w s known free none there up clean =
+    let v = staged k (ConnectedAs key terms last_activity) w in
     let e = (move (end_of key w.hub.sessions)).end in
-    sound_put_where (up_on key v.hub.lines) (move (end_of key w.hub.sessions)).out (with_sessions (with_end key e) v)
+    sound_put_where (up_on key v.hub.connections) (move (end_of key w.hub.sessions)).out (with_sessions (with_end key e) v)
     (record {
-      apart = apart_risen k key terms moment w.hub.lines s.apart known free none;
+      apart = apart_risen k key terms last_activity w.hub.connections s.apart known free none;
       keyless = λ c le. has_with key e c w.hub.sessions ∙ s.keyless c le;
-      tied = each_there (λ c there e. Tied (upper c v.hub.lines) there e) key e w.hub.sessions there
+      tied = each_there (λ c there e. Tied (upper c v.hub.connections) there e) key e w.hub.sessions there
           (subst (λ (o : Option (Conn × Bool)). Tied o true e)
-          (sym (upper_risen k key terms moment w.hub.lines s.apart known free none key ∙ cond-true (eqb key key) (Some (k, terms.clean_session)) (upper key w.hub.lines) (eq-eqb key key refl)))
+          (sym (upper_risen k key terms last_activity w.hub.connections s.apart known free none key ∙ cond-true (eqb key key) (Some (k, terms.clean_session)) (upper key w.hub.connections) (eq-eqb key key refl)))
           (refl, up, clean))
           (λ c apart. subst (λ (o : Option (Conn × Bool)). Tied o (has c w.hub.sessions) (end_of c w.hub.sessions))
-          (sym (upper_risen k key terms moment w.hub.lines s.apart known free none c ∙ cond-false (eqb key c) (Some (k, terms.clean_session)) (upper c w.hub.lines) apart))
+          (sym (upper_risen k key terms last_activity w.hub.connections s.apart known free none c ∙ cond-false (eqb key c) (Some (k, terms.clean_session)) (upper c w.hub.connections) apart))
           (s.tied c));
     })

@@ -17,7 +17,7 @@ use Rattle.mq_end.specs.declared.happening.Happening.TheVariants as happens
 use Rattle.mq_end.specs.declared.reason.CloseReason.{CloseReason}
 use Rattle.mq_end.specs.declared.reason.CloseReason.TheVariants as reasons
 use Rattle.mq_end.specs.declared.state.State.{State}
-use Rattle.mq_end.specs.declared.state.State.TheVariants.{Up}
+use Rattle.mq_end.specs.declared.state.State.TheVariants.{Connected}
 use Rattle.mq_end.specs.End.{End, Reply, closes, renewed, comes_up}
 use Rattle.mq_end.specs.Both as both
 use Rattle.mq_end.specs.Both.{publish_gets, flow_gets, publishes_at}
@@ -113,13 +113,13 @@ module _ (key : ℕ) where
   up_goes packets.Disconnect e h = shut _ h
   up_goes p e h = flow_goes p e h
 
-  pub stays_up : (p : Packet) (e : End) → e.state ≡ Up → (server_gets p e).close ≡ None → GoesOn key p e (server_gets p e)
+  pub stays_up : (p : Packet) (e : End) → e.state ≡ Connected → (server_gets p e).close ≡ None → GoesOn key p e (server_gets p e)
   stays_up p e up = subst (λ (s : State). (server_gets_in s p e).close ≡ None → GoesOn key p e (server_gets_in s p e)) (sym up) (up_goes p e)
 
 -- ---- CONNECT is accepted
 
 pub record Greets (c : Connect) (e : End) (r : Reply) : Type 0 where
-  pub state : r.end.state ≡ Up
+  pub state : r.end.state ≡ Connected
   pub clean : r.end.clean ≡ c.clean_session
   pub received : r.end.received ≡ e.received
   pub present : Bool

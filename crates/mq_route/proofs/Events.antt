@@ -5,10 +5,10 @@ use Rattle.mq_route.specs.declared.config.HubConfig.{HubConfig}
 use Rattle.mq_route.specs.declared.close.HubClose.TheVariants.{PeerEnded}
 use Rattle.mq_route.specs.declared.event.HubEvent.TheVariants.{Opened}
 use Rattle.mq_route.specs.declared.refusal.HubRefusal.TheVariants as refusals
-use Rattle.mq_route.specs.declared.stage.Stage.{Stage}
-use Rattle.mq_route.specs.declared.stage.Stage.TheVariants.{Fresh, UpFor, Shut}
-use Rattle.mq_route.specs.Hub.{HubState, Line, new_hub, knows, stage_of, changed, without_line, is_open, end_of}
-use Rattle.mq_route.specs.Work.{Work, with_lines}
+use Rattle.mq_route.specs.declared.connection_state.ConnectionState.{ConnectionState}
+use Rattle.mq_route.specs.declared.connection_state.ConnectionState.TheVariants.{AwaitingConnect, ConnectedAs, Closed}
+use Rattle.mq_route.specs.Hub.{HubState, HubConnection, new_hub, knows, stage_of, changed, without_connection, is_open, end_of}
+use Rattle.mq_route.specs.Work.{Work, with_connections}
 use Rattle.mq_route.specs.Step.{event_refusal, opened, collected, ended_open}
 use Rattle.mq_route.proofs.Lines.{Names, Ups, names_changed, ups_changed}
 use Rattle.mq_route.proofs.Uppers.{IsIdle, apart_opened, upper_opened, apart_without, upper_without}
@@ -20,22 +20,22 @@ pub sound_new : (config : HubConfig) → Sound (new_hub config)
 sound_new config = record { apart = tt; keyless = λ c le. refl; tied = λ c. refl }
 
 -- what the refusals say
-pub not_known : (k : Conn) (h : HubState) → event_refusal (Opened k) h ≡ None → knows k h.lines ≡ false
-not_known k h e = go (knows k h.lines) e
+pub not_known : (k : Conn) (h : HubState) → event_refusal (Opened k) h ≡ None → knows k h.connections ≡ false
+not_known k h e = go (knows k h.connections) e
   where
     go : (b : Bool) → cond b (Some refusals.ConnInUse) None ≡ None → b ≡ false
     go true e = absurd cc
     go false e = refl
 
-pub sound_opened : (k : Conn) (h : HubState) → knows k h.lines ≡ false → Sound h → Sound (opened k h)
+pub sound_opened : (k : Conn) (h : HubState) → knows k h.connections ≡ false → Sound h → Sound (opened k h)
 sound_opened k h none s = record {
-  apart = apart_opened k h.lines none s.apart;
+  apart = apart_opened k h.connections none s.apart;
   keyless = s.keyless;
-  tied = λ c. subst (λ (o : Option (Conn × Bool)). Tied o (has c h.sessions) (end_of c h.sessions)) (sym (upper_opened k c h.lines)) (s.tied c);
+  tied = λ c. subst (λ (o : Option (Conn × Bool)). Tied o (has c h.sessions) (end_of c h.sessions)) (sym (upper_opened k c h.connections)) (s.tied c);
 }
 
 -- a connection of which the bytes are taken
-abbrev pub emptied : Line → Line
+abbrev pub emptied : HubConnection → HubConnection
 emptied x = record x { waiting = [] }
 
 pub emptied_names : Names emptied
@@ -45,20 +45,20 @@ pub emptied_ups : Ups emptied
 emptied_ups x = (λ c. refl, refl)
 
 pub sound_collected : (k : Conn) (h : HubState) → Sound h → Sound (collected k h)
-sound_collected k h s = mapped (changed emptied k) h.lines h.next_key h.sessions (names_changed emptied k emptied_names) (ups_changed emptied k emptied_ups) s
+sound_collected k h s = mapped (changed emptied k) h.connections h.next_key h.sessions (names_changed emptied k emptied_names) (ups_changed emptied k emptied_ups) s
 
-pub sound_without : (k : Conn) (w : Work) → IsIdle (stage_of k w.hub.lines) → Sound w.hub → Sound (with_lines (without_line k) w).hub
+pub sound_without : (k : Conn) (w : Work) → IsIdle (stage_of k w.hub.connections) → Sound w.hub → Sound (with_connections (without_connection k) w).hub
 sound_without k w free s = record {
-  apart = apart_without k w.hub.lines s.apart;
+  apart = apart_without k w.hub.connections s.apart;
   keyless = s.keyless;
-  tied = λ c. subst (λ (o : Option (Conn × Bool)). Tied o (has c w.hub.sessions) (end_of c w.hub.sessions)) (sym (upper_without k w.hub.lines s.apart free c)) (s.tied c);
+  tied = λ c. subst (λ (o : Option (Conn × Bool)). Tied o (has c w.hub.sessions) (end_of c w.hub.sessions)) (sym (upper_without k w.hub.connections s.apart free c)) (s.tied c);
 }
 
 -- a connection that is over is up for nobody
-pub ended_idle : (k : Conn) (fits : Bool) (w : Work) → IsIdle (stage_of k (ended_open k (is_open (stage_of k w.hub.lines)) fits w).hub.lines)
-ended_idle k fits w = go (stage_of k w.hub.lines) refl
+pub ended_idle : (k : Conn) (fits : Bool) (w : Work) → IsIdle (stage_of k (ended_open k (is_open (stage_of k w.hub.connections)) fits w).hub.connections)
+ended_idle k fits w = go (stage_of k w.hub.connections) refl
   where
-    go : (s : Stage) → stage_of k w.hub.lines ≡ s → IsIdle (stage_of k (ended_open k (is_open s) fits w).hub.lines)
-    go Fresh e = subst IsIdle (sym (closed_shut k PeerEnded fits w)) (λ c. refl)
-    go (UpFor key terms moment) e = subst IsIdle (sym (closed_shut k PeerEnded fits w)) (λ c. refl)
-    go Shut e = subst IsIdle (sym e) (λ c. refl)
+    go : (s : ConnectionState) → stage_of k w.hub.connections ≡ s → IsIdle (stage_of k (ended_open k (is_open s) fits w).hub.connections)
+    go AwaitingConnect e = subst IsIdle (sym (closed_shut k PeerEnded fits w)) (λ c. refl)
+    go (ConnectedAs key terms last_activity) e = subst IsIdle (sym (closed_shut k PeerEnded fits w)) (λ c. refl)
+    go Closed e = subst IsIdle (sym e) (λ c. refl)

@@ -1,14 +1,14 @@
 -- What placing copies and closing a connection leave of the connections and of the sessions.
 use Rattle.std.proofs.Common.{◌≡◌, ℕ, Bool, true, false, cond, List, [], refl, sym, subst, ◌∙◌}
-use Rattle.mq_packet.specs.Spelling.{spellings}
+use Rattle.mq_packet.specs.Encoding.{encodings}
 use Rattle.mq_end.specs.End.{over}
 use Rattle.mq_route.specs.declared.act.Act.TheVariants as acts
 use Rattle.mq_route.specs.declared.conn.Conn.{Conn}
 use Rattle.mq_route.specs.declared.close.HubClose.{HubClose}
-use Rattle.mq_route.specs.declared.stage.Stage.{Stage}
-use Rattle.mq_route.specs.declared.stage.Stage.TheVariants.{Fresh, UpFor, Shut}
+use Rattle.mq_route.specs.declared.connection_state.ConnectionState.{ConnectionState}
+use Rattle.mq_route.specs.declared.connection_state.ConnectionState.TheVariants.{AwaitingConnect, ConnectedAs, Closed}
 use Rattle.mq_route.specs.Routed.{same_conn}
-use Rattle.mq_route.specs.Hub.{Line, changed, with_line, stage_of, is_clean, end_of, with_end}
+use Rattle.mq_route.specs.Hub.{HubConnection, changed, with_connection, stage_of, is_clean, end_of, with_end}
 use Rattle.mq_route.specs.Work.{Work, said, with_sessions, put_on, shut, remove, remove_if, will_after, leaves_behind, close}
 use Rattle.mq_route.proofs.Lines.{grown, names_changed, stage_here, stage_there, stage_map, upper, upper_map, ups_changed}
 use Rattle.mq_route.proofs.Sessions.{has, has_with}
@@ -16,10 +16,10 @@ use Rattle.mq_route.proofs.Changes.{Inner, names_grown, ups_grown}
 use Rattle.mq_route.proofs.Walk.{last_will_keeps}
 
 -- something of the connections that bytes which are put out don't change
-abbrev pub Firm : {A : Type 0} → (List Line → A) → Type 0
-Firm F = (b : List ℕ) (k : Conn) (xs : List Line) → F (with_line (grown b) k xs) ≡ F xs
+abbrev pub Firm : {A : Type 0} → (List HubConnection → A) → Type 0
+Firm F = (b : List ℕ) (k : Conn) (xs : List HubConnection) → F (with_connection (grown b) k xs) ≡ F xs
 
-stage_grown : (b : List ℕ) (k : Conn) (x : Line) → (changed (grown b) k x).stage ≡ x.stage
+stage_grown : (b : List ℕ) (k : Conn) (x : HubConnection) → (changed (grown b) k x).stage ≡ x.stage
 stage_grown b k x = go (same_conn x.conn k)
   where
     go : (t : Bool) → (cond t (grown b x) x).stage ≡ x.stage
@@ -32,11 +32,11 @@ stage_firm n b k xs = stage_map (changed (grown b) k) (names_changed (grown b) k
 pub upper_firm : (c : ℕ) → Firm (upper c)
 upper_firm c b k xs = upper_map (changed (grown b) k) (names_changed (grown b) k (names_grown b)) (ups_changed (grown b) k (ups_grown b)) c xs
 
-module _ {A : Type 0} (F : List Line → A) (firm : Firm F) (v : A) where
-  pub lines_inner : Inner (λ o w. F w.hub.lines ≡ v)
+module _ {A : Type 0} (F : List HubConnection → A) (firm : Firm F) (v : A) where
+  pub lines_inner : Inner (λ o w. F w.hub.connections ≡ v)
   unfolding put_on
   lines_inner = record {
-    put = λ k ps o w h. firm (spellings ps) k w.hub.lines ∙ h;
+    put = λ k ps o w h. firm (encodings ps) k w.hub.connections ∙ h;
     moves = λ key e o w alike h. h;
     took = λ key m t n w h. h;
     willed = λ key m w h. h;
@@ -45,35 +45,35 @@ module _ {A : Type 0} (F : List Line → A) (firm : Firm F) (v : A) where
     unsubscribed = λ key f o w h. h;
   }
 
-  lines_removed : (b : Bool) (key : ℕ) (w : Work) → F w.hub.lines ≡ v → F (remove_if b key w).hub.lines ≡ v
+  lines_removed : (b : Bool) (key : ℕ) (w : Work) → F w.hub.connections ≡ v → F (remove_if b key w).hub.connections ≡ v
   unfolding remove
   lines_removed true key w h = h
   lines_removed false key w h = h
 
-  lines_left : (why : HubClose) (fits : Bool) (s : Stage) (w : Work) → F w.hub.lines ≡ v → F (leaves_behind why fits s w).hub.lines ≡ v
+  lines_left : (why : HubClose) (fits : Bool) (s : ConnectionState) (w : Work) → F w.hub.connections ≡ v → F (leaves_behind why fits s w).hub.connections ≡ v
   unfolding leaves_behind
-  lines_left why fits Fresh w h = h
-  lines_left why fits (UpFor key terms moment) w h =
+  lines_left why fits AwaitingConnect w h = h
+  lines_left why fits (ConnectedAs key terms last_activity) w h =
       let u = with_sessions (with_end key (over (end_of key w.hub.sessions))) w in
-      last_will_keeps (λ o w. F w.hub.lines ≡ v) lines_inner key (will_after why terms.will) fits (remove_if terms.clean_session key u) (λ m is short h. h) (lines_removed terms.clean_session key u h)
-  lines_left why fits Shut w h = h
+      last_will_keeps (λ o w. F w.hub.connections ≡ v) lines_inner key (will_after why terms.will) fits (remove_if terms.clean_session key u) (λ m is short h. h) (lines_removed terms.clean_session key u h)
+  lines_left why fits Closed w h = h
 
   -- what a close leaves
-  pub lines_closed : (k : Conn) (why : HubClose) (fits : Bool) (w : Work) → F (shut k w).hub.lines ≡ v → F (close k why fits w).hub.lines ≡ v
+  pub lines_closed : (k : Conn) (why : HubClose) (fits : Bool) (w : Work) → F (shut k w).hub.connections ≡ v → F (close k why fits w).hub.connections ≡ v
   unfolding close
-  lines_closed k why fits w h = lines_left why fits (stage_of k w.hub.lines) (said (acts.Closed k why) (shut k w)) h
+  lines_closed k why fits w h = lines_left why fits (stage_of k w.hub.connections) (said (acts.Closed k why) (shut k w)) h
 
 -- a connection that is closed is closed
-pub closed_shut : (k : Conn) (why : HubClose) (fits : Bool) (w : Work) → stage_of k (close k why fits w).hub.lines ≡ Shut
+pub closed_shut : (k : Conn) (why : HubClose) (fits : Bool) (w : Work) → stage_of k (close k why fits w).hub.connections ≡ Closed
 closed_shut k why fits w =
-    lines_closed (stage_of k) (stage_firm k) Shut k why fits w
-    (stage_here (λ x. record x { stage = Shut; held = [] }) (λ s. Shut) k w.hub.lines (λ x. refl) (λ x. refl) refl)
+    lines_closed (stage_of k) (stage_firm k) Closed k why fits w
+    (stage_here (λ x. record x { stage = Closed; held = [] }) (λ s. Closed) k w.hub.connections (λ x. refl) (λ x. refl) refl)
 
 -- another one is as it was
-pub closed_other : (k n : Conn) (why : HubClose) (fits : Bool) (w : Work) → same_conn k n ≡ false → stage_of n (close k why fits w).hub.lines ≡ stage_of n w.hub.lines
+pub closed_other : (k n : Conn) (why : HubClose) (fits : Bool) (w : Work) → same_conn k n ≡ false → stage_of n (close k why fits w).hub.connections ≡ stage_of n w.hub.connections
 closed_other k n why fits w apart =
-    lines_closed (stage_of n) (stage_firm n) (stage_of n w.hub.lines) k why fits w
-    (stage_there k n (λ x. record x { stage = Shut; held = [] }) w.hub.lines (λ x. refl) apart)
+    lines_closed (stage_of n) (stage_firm n) (stage_of n w.hub.connections) k why fits w
+    (stage_there k n (λ x. record x { stage = Closed; held = [] }) w.hub.connections (λ x. refl) apart)
 
 -- ---- sessions
 
@@ -90,17 +90,17 @@ has_inner c b = record {
 }
 
 module _ (c : ℕ) (b : Bool) where
-  has_left : (why : HubClose) (fits : Bool) (s : Stage) (w : Work) → is_clean s ≡ false → has c w.hub.sessions ≡ b → has c (leaves_behind why fits s w).hub.sessions ≡ b
+  has_left : (why : HubClose) (fits : Bool) (s : ConnectionState) (w : Work) → is_clean s ≡ false → has c w.hub.sessions ≡ b → has c (leaves_behind why fits s w).hub.sessions ≡ b
   unfolding leaves_behind
-  has_left why fits Fresh w clean h = h
-  has_left why fits (UpFor key terms moment) w clean h =
+  has_left why fits AwaitingConnect w clean h = h
+  has_left why fits (ConnectedAs key terms last_activity) w clean h =
       let u = with_sessions (with_end key (over (end_of key w.hub.sessions))) w in
       let kept : has c u.hub.sessions ≡ b = has_with key (over (end_of key w.hub.sessions)) c w.hub.sessions ∙ h in
       last_will_keeps (λ o w. has c w.hub.sessions ≡ b) (has_inner c b) key (will_after why terms.will) fits (remove_if terms.clean_session key u) (λ m is short h. h)
       (subst (λ (t : Bool). has c (remove_if t key u).hub.sessions ≡ b) (sym clean) kept)
-  has_left why fits Shut w clean h = h
+  has_left why fits Closed w clean h = h
 
   -- a session that doesn't end with the connection is there after it
-  pub has_closed : (k : Conn) (why : HubClose) (fits : Bool) (w : Work) → is_clean (stage_of k w.hub.lines) ≡ false → has c w.hub.sessions ≡ b → has c (close k why fits w).hub.sessions ≡ b
+  pub has_closed : (k : Conn) (why : HubClose) (fits : Bool) (w : Work) → is_clean (stage_of k w.hub.connections) ≡ false → has c w.hub.sessions ≡ b → has c (close k why fits w).hub.sessions ≡ b
   unfolding close
-  has_closed k why fits w clean h = has_left why fits (stage_of k w.hub.lines) (said (acts.Closed k why) (shut k w)) clean h
+  has_closed k why fits w clean h = has_left why fits (stage_of k w.hub.connections) (said (acts.Closed k why) (shut k w)) clean h

@@ -14,10 +14,10 @@ use Rattle.mq_route.specs.declared.conn.Conn.{Conn}
 use Rattle.mq_route.specs.declared.event.HubEvent.{HubEvent}
 use Rattle.mq_route.specs.declared.event.HubEvent.TheVariants.{Opened, Bytes, Ended, Tick, Collect}
 use Rattle.mq_route.specs.declared.reply.HubReply.{HubReply}
-use Rattle.mq_route.specs.declared.stage.Stage.TheVariants.{UpFor}
-use Rattle.mq_route.specs.declared.stage.Terms.{Terms}
+use Rattle.mq_route.specs.declared.connection_state.ConnectionState.TheVariants.{ConnectedAs}
+use Rattle.mq_route.specs.declared.connection_state.ConnectionTerms.{ConnectionTerms}
 use Rattle.mq_route.specs.Copies.{will_message}
-use Rattle.mq_route.specs.Hub.{HubState, Line, new_hub, stage_of, is_open, held_on, up_on, end_of, with_end, copies_of}
+use Rattle.mq_route.specs.Hub.{HubState, HubConnection, new_hub, stage_of, is_open, held_on, up_on, end_of, with_end, copies_of}
 use Rattle.mq_route.specs.Work.{Work, begin, said, with_sessions, staged, shut, put_on, put_where, does, have_room, remove, remove_if, will_after, close}
 use Rattle.mq_route.specs.Arrives.{new_session, takes}
 use Rattle.mq_route.specs.Step.{holding, Comes, Arrives, Waits, Breaks, Starves, LetsGo, Ticks, Done, InTime, Late, Later, Does, told}
@@ -37,16 +37,16 @@ unfolding put_on
 put_near fits w other k ps v n = n
 
 nearby : (fits : Bool) (w : Work) → Nearby (IsNear fits w)
-nearby fits w = record { put = put_near fits w; lines = λ other change v n. n }
+nearby fits w = record { put = put_near fits w; connections = λ other change v n. n }
 
 either : (fits room : Bool) → (fits && room) ≡ false → (fits ≡ false) ⊎ (room ≡ false)
 either true room e = inr e
 either false room e = inl refl
 
 -- the close of a connection that loses its will
-loses : (fits : Bool) (w : Work) (k : Conn) (why : HubClose) (key : ℕ) (terms : Terms) (moment : ℕ) (v : Work) → IsNear fits w fits v → stage_of k v.hub.lines ≡ UpFor key terms moment
+loses : (fits : Bool) (w : Work) (k : Conn) (why : HubClose) (key : ℕ) (terms : ConnectionTerms) (last_activity : ℕ) (v : Work) → IsNear fits w fits v → stage_of k v.hub.connections ≡ ConnectedAs key terms last_activity
     → (m : Will) → will_after why terms.will ≡ Some m → IsShort m fits (closing k why key terms v) → LosesWill fits w
-loses fits w k why key terms moment v near stage m has short = let after = closing k why key terms v in record {
+loses fits w k why key terms last_activity v near stage m has short = let after = closing k why key terms v in record {
   at = v;
   sessions = near.1;
   rows = near.2;
@@ -54,7 +54,7 @@ loses fits w k why key terms moment v near stage m has short = let after = closi
   why = why;
   key = key;
   terms = terms;
-  moment = moment;
+  last_activity = last_activity;
   up = stage;
   will = m;
   has = has;
@@ -67,18 +67,18 @@ more did act none = flat_map-append dropped_by did (act ∷ []) ∙ ap (λ (l : 
 
 -- nothing of what was done drops a will, or there is a reason for it
 module _ (fits : Bool) (w : Work) where
-  abbrev Few : Debt → Work → Type 0
-  Few o v = (dropped v.did ≡ []) ⊎ LosesWill fits w
+  abbrev SmallList : Debt → Work → Type 0
+  SmallList o v = (dropped v.did ≡ []) ⊎ LosesWill fits w
 
   few_more : (did : List Act) (act : Act) → dropped_by act ≡ [] → (dropped did ≡ []) ⊎ LosesWill fits w → (dropped (did ++ act ∷ []) ≡ []) ⊎ LosesWill fits w
   few_more did act none (inl e) = inl (more did act none ∙ e)
   few_more did act none (inr x) = inr x
 
-  put_few : (k : Conn) (ps : List Packet) (o : Debt) (v : Work) → Few o v → Few o (put_on k ps v)
+  put_few : (k : Conn) (ps : List Packet) (o : Debt) (v : Work) → SmallList o v → SmallList o (put_on k ps v)
   unfolding put_on
   put_few k ps o v r = r
 
-  inner : Inner Few
+  inner : Inner SmallList
   unfolding dropped_by
   inner = record {
     put = put_few;
@@ -94,46 +94,46 @@ module _ (fits : Bool) (w : Work) where
   unfolding dropped_by
   closed_few k why did r = few_more did (acts.Closed k why) refl r
 
-  removes_few : (key : ℕ) (v : Work) → Few nothing v → Few nothing (remove key v)
+  removes_few : (key : ℕ) (v : Work) → SmallList nothing v → SmallList nothing (remove key v)
   unfolding remove dropped_by
   removes_few key v r = few_more v.did (acts.Removed key) refl r
 
-  remove_if_few : (b : Bool) (key : ℕ) (v : Work) → Few nothing v → Few nothing (remove_if b key v)
+  remove_if_few : (b : Bool) (key : ℕ) (v : Work) → SmallList nothing v → SmallList nothing (remove_if b key v)
   remove_if_few true key v r = removes_few key v r
   remove_if_few false key v r = r
 
-  begins_few : (client : List ℕ) (v : Work) → Few nothing v → Few nothing (new_session client v)
+  begins_few : (client : List ℕ) (v : Work) → SmallList nothing v → SmallList nothing (new_session client v)
   unfolding new_session
   begins_few client v r = r
 
-  rises_few : (k : Conn) (key : ℕ) (terms : Terms) (moment : ℕ) (move : End → Reply) (present : Bool) (v : Work) → Few nothing v → Few nothing (rising k key terms moment move present v)
+  rises_few : (k : Conn) (key : ℕ) (terms : ConnectionTerms) (last_activity : ℕ) (move : End → Reply) (present : Bool) (v : Work) → SmallList nothing v → SmallList nothing (rising k key terms last_activity move present v)
   unfolding does dropped_by
-  rises_few k key terms moment move present v r =
-      let u = staged k (UpFor key terms moment) v in
+  rises_few k key terms last_activity move present v r =
+      let u = staged k (ConnectedAs key terms last_activity) v in
       let e = end_of key v.hub.sessions in
       let x = with_sessions (with_end key (move e).end) u in
-      let d = put_where (up_on key u.hub.lines) (move e).out x in
-      few_more d.did (acts.Up k key present) refl (put_where_keeps Few inner (up_on key u.hub.lines) (move e).out nothing x r)
+      let d = put_where (up_on key u.hub.connections) (move e).out x in
+      few_more d.did (acts.Up k key present) refl (put_where_keeps SmallList inner (up_on key u.hub.connections) (move e).out nothing x r)
 
-  outer : Outer Few Freely (IsNear fits w)
+  outer : Outer SmallList Freely (IsNear fits w)
   outer = record {
     mild = λ f k o v m r. r;
     gets = λ key p v s there up g r. r;
     noted = λ n v r. r;
     shuts = λ k why v may s free r. closed_few k why v.did r;
-    closes = λ k why key terms moment v may s e r.
+    closes = λ k why key terms last_activity v may s e r.
         remove_if_few terms.clean_session key (with_sessions (with_end key (over (end_of key v.hub.sessions))) (said (acts.Closed k why) (shut k v))) (closed_few k why v.did r);
-    drops = λ k why key terms moment other v near stage m has short r.
-        inr (loses fits w k why key terms moment v (refl, near.1, near.2) stage m has (subst (λ (b : Bool). IsShort m b (closing k why key terms v)) near.0 short));
+    drops = λ k why key terms last_activity other v near stage m has short r.
+        inr (loses fits w k why key terms last_activity v (refl, near.1, near.2) stage m has (subst (λ (b : Bool). IsShort m b (closing k why key terms v)) near.0 short));
     removes = λ key v s none r. removes_few key v r;
     begins = λ client v s r. begins_few client v r;
-    rises = λ k key terms moment move present v s known free none there up clean received r. rises_few k key terms moment move present v r;
+    rises = λ k key terms last_activity move present v s known free none there up clean received r. rises_few k key terms last_activity move present v r;
   }
 
 few_comes : (limits : Bounds) (k : Conn) (b : List ℕ) (w w2 : Work) (c : Comes limits k b w w2) → Sound w.hub → dropped w.did ≡ [] → (dropped w2.did ≡ []) ⊎ ComesLosing limits k b w w2 c
 few_comes limits k b w w2 (Arrives p first rest g v v2 on reads more) s none =
     let f = g.will_fits in
-    let t = takes_both (Few f v) Freely (IsNear f v) (inner f v) (outer f v) freely (nearby f v) k p g v (refl, refl, refl) (λ key up state short. tt) (s, inl none) in
+    let t = takes_both (SmallList f v) Freely (IsNear f v) (inner f v) (outer f v) freely (nearby f v) k p g v (refl, refl, refl) (λ key up state short. tt) (s, inl none) in
     go t.0 t.1 (λ s2 none. few_comes limits k rest (takes k p g v) v2 more s2 none)
   where
     go : Sound (takes k p g v).hub → (dropped (takes k p g v).did ≡ []) ⊎ LosesWill g.will_fits v
@@ -148,16 +148,16 @@ few_comes limits k b w w2 (Arrives p first rest g v v2 on reads more) s none =
         later (inr x) = inr (inr x)
 few_comes limits k b w w2 (Waits c v on pending) s none = inl none
 few_comes limits k b w w2 (Breaks c fault fits v on faulty) s none =
-    (breaks_both (Few fits v) Freely (IsNear fits v) (inner fits v) (outer fits v) freely (nearby fits v) k fault fits v (refl, refl, refl) (s, inl none)).1
+    (breaks_both (SmallList fits v) Freely (IsNear fits v) (inner fits v) (outer fits v) freely (nearby fits v) k fault fits v (refl, refl, refl) (s, inl none)).1
 few_comes limits k b w w2 (Starves c fits v on some) s none =
-    (close_both (Few fits v) Freely (IsNear fits v) (inner fits v) (outer fits v) freely (nearby fits v) k (Own reasons.Memory) fits v (refl, refl, refl) tt (s, inl none)).1
+    (close_both (SmallList fits v) Freely (IsNear fits v) (inner fits v) (outer fits v) freely (nearby fits v) k (Own reasons.Memory) fits v (refl, refl, refl) tt (s, inl none)).1
 few_comes limits k b w w2 (LetsGo c v closed) s none = inl none
 
-few_ticks : (now : ℕ) (xs : List Line) (w w2 : Work) (t : Ticks now xs w w2) → Sound w.hub → dropped w.did ≡ [] → (dropped w2.did ≡ []) ⊎ TicksLosing now xs w w2 t
+few_ticks : (now : ℕ) (xs : List HubConnection) (w w2 : Work) (t : Ticks now xs w w2) → Sound w.hub → dropped w.did ≡ [] → (dropped w2.did ≡ []) ⊎ TicksLosing now xs w w2 t
 few_ticks now xs w w2 (Done v) s none = inl none
 few_ticks now xs w w2 (InTime x ys v v2 soon more) s none = few_ticks now ys v v2 more s none
 few_ticks now xs w w2 (Late x ys fits v v2 late more) s none =
-    let c = close_both (Few fits v) Freely (IsNear fits v) (inner fits v) (outer fits v) freely (nearby fits v) x.conn (Own reasons.KeepAlive) fits v (refl, refl, refl) tt (s, inl none) in
+    let c = close_both (SmallList fits v) Freely (IsNear fits v) (inner fits v) (outer fits v) freely (nearby fits v) x.conn (Own reasons.KeepAlive) fits v (refl, refl, refl) tt (s, inl none) in
     go c.0 c.1 (λ s2 none. few_ticks now ys (close x.conn (Own reasons.KeepAlive) fits v) v2 more s2 none)
   where
     u : Work
@@ -177,14 +177,14 @@ few_event : (h : HubState) (e : HubEvent) (r : HubReply) (w : Work) (d : Does h 
 few_event h (Opened k) r w d s = inl (ap (λ (w : Work). dropped w.did) d.0)
 few_event h (Bytes k piece) r w d s =
     let start = holding k [] (begin h) in
-    let began = holding_both (Few true start) Freely (IsNear true start) (inner true start) (outer true start) freely (nearby true start) k [] (begin h) (s, inl refl) in
-    few_comes h.config.limits k (held_on k h.lines ++ piece) start w d.0 began.0 refl
+    let began = holding_both (SmallList true start) Freely (IsNear true start) (inner true start) (outer true start) freely (nearby true start) k [] (begin h) (s, inl refl) in
+    few_comes h.config.limits k (held_on k h.connections ++ piece) start w d.0 began.0 refl
 few_event h (Ended k) r w d s =
     let f = d.0 in
     let b = begin h in
-    let end = ended_both (Few f b) Freely (IsNear f b) (inner f b) (outer f b) freely (nearby f b) k (is_open (stage_of k h.lines)) f b (refl, refl, refl) (s, inl refl) in
+    let end = ended_both (SmallList f b) Freely (IsNear f b) (inner f b) (outer f b) freely (nearby f b) k (is_open (stage_of k h.connections)) f b (refl, refl, refl) (s, inl refl) in
     subst (λ (w : Work). (dropped w.did ≡ []) ⊎ LosesWill f b) (sym d.1) end.1
-few_event h (Tick now) r w d s = few_ticks (max h.clock now) h.lines (begin (told now h)) w d.0 s refl
+few_event h (Tick now) r w d s = few_ticks (max h.clock now) h.connections (begin (told now h)) w d.0 s refl
 few_event h (Collect k) r w d s = inl (ap (λ (w : Work). dropped w.did) d.0)
 
 pub laws : WillLaws

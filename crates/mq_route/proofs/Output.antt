@@ -3,17 +3,17 @@ use Rattle.std.proofs.Common.{◌≡◌, ℕ, Bool, true, false, not, cond, ◌|
 use Rattle.std.proofs.lemmas.Bool.{cond-true, cond-false}
 use Rattle.std.proofs.lemmas.List.Concat.{flat_map-append}
 use Rattle.mq_packet.specs.declared.packet.Packet.{Packet}
-use Rattle.mq_packet.specs.Spelling.{spelling, spellings}
+use Rattle.mq_packet.specs.Encoding.{encoding, encodings}
 use Rattle.mq_end.specs.End.{End, Reply, over}
 use Rattle.mq_route.specs.declared.act.Act.TheVariants as acts
 use Rattle.mq_route.specs.declared.conn.Conn.{Conn}
 use Rattle.mq_route.specs.declared.event.HubEvent.{HubEvent}
 use Rattle.mq_route.specs.declared.event.HubEvent.TheVariants.{Opened, Bytes, Ended, Tick, Collect}
 use Rattle.mq_route.specs.declared.reply.HubReply.{HubReply}
-use Rattle.mq_route.specs.declared.stage.Stage.TheVariants.{UpFor}
-use Rattle.mq_route.specs.declared.stage.Terms.{Terms}
+use Rattle.mq_route.specs.declared.connection_state.ConnectionState.TheVariants.{ConnectedAs}
+use Rattle.mq_route.specs.declared.connection_state.ConnectionTerms.{ConnectionTerms}
 use Rattle.mq_route.specs.Routed.{same_conn}
-use Rattle.mq_route.specs.Hub.{HubState, Line, new_hub, is_line, knows, waiting_on, stage_of, changed, with_line, without_line, is_open, held_on, up_on, end_of, with_end}
+use Rattle.mq_route.specs.Hub.{HubState, HubConnection, new_hub, is_connection, knows, waiting_on, stage_of, changed, with_connection, without_connection, is_open, held_on, up_on, end_of, with_end}
 use Rattle.mq_route.specs.Work.{Work, begin, said, with_sessions, staged, shut, put_on, does, remove, remove_if}
 use Rattle.mq_route.specs.Arrives.{new_session}
 use Rattle.mq_route.specs.Step.{Does, event_refusal, opened, ended, ended_open, collected, told, holding}
@@ -47,32 +47,32 @@ on_conn-other k n (p ∷ ps) e = cond-false (same_conn k n) (p ∷ on_conn n (ma
 module _ (n : Conn) (base : List ℕ) where
   -- what waits on the connection is what waited, and the spellings of what was put out on it
   abbrev pub Grows : Debt → Work → Type 0
-  Grows o w = (knows n w.hub.lines ≡ true) × (waiting_on n w.hub.lines ≡ base ++ spellings (on_conn n w.sent))
+  Grows o w = (knows n w.hub.connections ≡ true) × (waiting_on n w.hub.connections ≡ base ++ encodings (on_conn n w.sent))
 
   -- a change that leaves names and bytes
-  quiet : (g : Line → Line) (w : Work) → Names g → BytesStay g → (o : Debt) → Grows o w → (knows n (map g w.hub.lines) ≡ true) × (waiting_on n (map g w.hub.lines) ≡ base ++ spellings (on_conn n w.sent))
-  quiet g w h b o r = (knows_map g h n w.hub.lines ∙ r.0, waiting_map g h b n w.hub.lines ∙ r.1)
+  quiet : (g : HubConnection → HubConnection) (w : Work) → Names g → BytesStay g → (o : Debt) → Grows o w → (knows n (map g w.hub.connections) ≡ true) × (waiting_on n (map g w.hub.connections) ≡ base ++ encodings (on_conn n w.sent))
+  quiet g w h b o r = (knows_map g h n w.hub.connections ∙ r.0, waiting_map g h b n w.hub.connections ∙ r.1)
 
   put_grows : (k : Conn) (ps : List Packet) (o : Debt) (w : Work) → Grows o w → Grows o (put_on k ps w)
   unfolding put_on
-  put_grows k ps o w r = (knows_map (changed (grown (spellings ps)) k) (names_changed (grown (spellings ps)) k (names_grown (spellings ps))) n w.hub.lines ∙ r.0, go (same_conn k n) refl)
+  put_grows k ps o w r = (knows_map (changed (grown (encodings ps)) k) (names_changed (grown (encodings ps)) k (names_grown (encodings ps))) n w.hub.connections ∙ r.0, go (same_conn k n) refl)
     where
       old : List Packet
       old = on_conn n w.sent
 
       go : (b : Bool) → same_conn k n ≡ b
-          → waiting_on n (with_line (grown (spellings ps)) k w.hub.lines) ≡ base ++ spellings (on_conn n (w.sent ++ map (λ p. (k, p)) ps))
+          → waiting_on n (with_connection (grown (encodings ps)) k w.hub.connections) ≡ base ++ encodings (on_conn n (w.sent ++ map (λ p. (k, p)) ps))
       go true e =
-          ap (λ (j : Conn). waiting_on n (with_line (grown (spellings ps)) j w.hub.lines)) (one_conn k n e)
-          ∙ put_here n (spellings ps) w.hub.lines r.0
-          ∙ ap (λ (b : List ℕ). b ++ spellings ps) r.1
-          ∙ append_assoc base (spellings (on_conn n w.sent)) (spellings ps)
-          ∙ ap (λ (b : List ℕ). base ++ b) (sym (flat_map-append spelling (on_conn n w.sent) ps)
-          ∙ ap spellings (ap (λ (l : List Packet). on_conn n w.sent ++ l) (sym (on_conn-own k n ps e)) ∙ sym (on_conn-append n w.sent (map (λ p. (k, p)) ps))))
+          ap (λ (j : Conn). waiting_on n (with_connection (grown (encodings ps)) j w.hub.connections)) (one_conn k n e)
+          ∙ put_here n (encodings ps) w.hub.connections r.0
+          ∙ ap (λ (b : List ℕ). b ++ encodings ps) r.1
+          ∙ append_assoc base (encodings (on_conn n w.sent)) (encodings ps)
+          ∙ ap (λ (b : List ℕ). base ++ b) (sym (flat_map-append encoding (on_conn n w.sent) ps)
+          ∙ ap encodings (ap (λ (l : List Packet). on_conn n w.sent ++ l) (sym (on_conn-own k n ps e)) ∙ sym (on_conn-append n w.sent (map (λ p. (k, p)) ps))))
       go false e =
-          put_there k n (grown (spellings ps)) w.hub.lines (names_grown (spellings ps)) e
+          put_there k n (grown (encodings ps)) w.hub.connections (names_grown (encodings ps)) e
           ∙ r.1
-          ∙ ap (λ (l : List Packet). base ++ spellings l) (sym (on_conn-append n w.sent (map (λ p. (k, p)) ps) ∙ ap (λ (l : List Packet). on_conn n w.sent ++ l) (on_conn-other k n ps e) ∙ append-nil (on_conn n w.sent)))
+          ∙ ap (λ (l : List Packet). base ++ encodings l) (sym (on_conn-append n w.sent (map (λ p. (k, p)) ps) ∙ ap (λ (l : List Packet). on_conn n w.sent ++ l) (on_conn-other k n ps e) ∙ append-nil (on_conn n w.sent)))
 
   pub inner : Inner Grows
   inner = record {
@@ -100,13 +100,13 @@ module _ (n : Conn) (base : List ℕ) where
   unfolding new_session
   begins_grows client w r = r
 
-  rises_grows : (k : Conn) (key : ℕ) (terms : Terms) (moment : ℕ) (move : End → Reply) (w : Work) → Grows nothing w → Grows nothing (does key move (staged k (UpFor key terms moment) w))
+  rises_grows : (k : Conn) (key : ℕ) (terms : ConnectionTerms) (last_activity : ℕ) (move : End → Reply) (w : Work) → Grows nothing w → Grows nothing (does key move (staged k (ConnectedAs key terms last_activity) w))
   unfolding does
-  rises_grows k key terms moment move w r =
-      let v = staged k (UpFor key terms moment) w in
+  rises_grows k key terms last_activity move w r =
+      let v = staged k (ConnectedAs key terms last_activity) w in
       let e = end_of key w.hub.sessions in
-      put_where_keeps Grows inner (up_on key v.hub.lines) (move e).out nothing (with_sessions (with_end key (move e).end) v)
-      (quiet (changed (risen k key terms moment) k) w (names_changed (risen k key terms moment) k (λ x. refl)) (bytes_changed (risen k key terms moment) k (λ x. refl)) nothing r)
+      put_where_keeps Grows inner (up_on key v.hub.connections) (move e).out nothing (with_sessions (with_end key (move e).end) v)
+      (quiet (changed (risen k key terms last_activity) k) w (names_changed (risen k key terms last_activity) k (λ x. refl)) (bytes_changed (risen k key terms last_activity) k (λ x. refl)) nothing r)
 
   pub outer : Outer Grows Freely Anywhere
   outer = record {
@@ -114,25 +114,25 @@ module _ (n : Conn) (base : List ℕ) where
     gets = λ key p w s there up g r. r;
     noted = λ c w r. r;
     shuts = λ k why w may s free r. shut_grows k w r;
-    closes = λ k why key terms moment w may s e r. remove_if_grows terms.clean_session key (with_sessions (with_end key (over (end_of key w.hub.sessions))) (said (acts.Closed k why) (shut k w))) (shut_grows k w r);
-    drops = λ k why key terms moment fits w near stage m has short r. r;
+    closes = λ k why key terms last_activity w may s e r. remove_if_grows terms.clean_session key (with_sessions (with_end key (over (end_of key w.hub.sessions))) (said (acts.Closed k why) (shut k w))) (shut_grows k w r);
+    drops = λ k why key terms last_activity fits w near stage m has short r. r;
     removes = λ key w s none r. remove_grows key w r;
     begins = λ client w s r. begins_grows client w r;
-    rises = λ k key terms moment move present w s known free none there up clean received r. rises_grows k key terms moment move w r;
+    rises = λ k key terms last_activity move present w s known free none there up clean received r. rises_grows k key terms last_activity move w r;
   }
 
 -- the connection's bytes are taken
-emptied_here : (n : Conn) (xs : List Line) → waiting_on n (with_line emptied n xs) ≡ []
+emptied_here : (n : Conn) (xs : List HubConnection) → waiting_on n (with_connection emptied n xs) ≡ []
 emptied_here n [] = refl
-emptied_here n (x ∷ xs) = go (is_line n x) refl (emptied_here n xs)
+emptied_here n (x ∷ xs) = go (is_connection n x) refl (emptied_here n xs)
   where
-    go : (b : Bool) → is_line n x ≡ b → waiting_on n (with_line emptied n xs) ≡ [] → waiting_on n (with_line emptied n (x ∷ xs)) ≡ []
+    go : (b : Bool) → is_connection n x ≡ b → waiting_on n (with_connection emptied n xs) ≡ [] → waiting_on n (with_connection emptied n (x ∷ xs)) ≡ []
     go true e ih =
-        ap (λ (y : Line). cond (same_conn y.conn n) y.waiting (waiting_on n (with_line emptied n xs))) (cond-true (is_line n x) (record x { waiting = [] }) x e)
-        ∙ cond-true (is_line n x) [] (waiting_on n (with_line emptied n xs)) e
+        ap (λ (y : HubConnection). cond (same_conn y.conn n) y.waiting (waiting_on n (with_connection emptied n xs))) (cond-true (is_connection n x) (record x { waiting = [] }) x e)
+        ∙ cond-true (is_connection n x) [] (waiting_on n (with_connection emptied n xs)) e
     go false e ih =
-        ap (λ (y : Line). cond (same_conn y.conn n) y.waiting (waiting_on n (with_line emptied n xs))) (cond-false (is_line n x) (record x { waiting = [] }) x e)
-        ∙ cond-false (is_line n x) x.waiting (waiting_on n (with_line emptied n xs)) e
+        ap (λ (y : HubConnection). cond (same_conn y.conn n) y.waiting (waiting_on n (with_connection emptied n xs))) (cond-false (is_connection n x) (record x { waiting = [] }) x e)
+        ∙ cond-false (is_connection n x) x.waiting (waiting_on n (with_connection emptied n xs)) e
         ∙ ih
 
 -- nothing in particular
@@ -156,94 +156,94 @@ any_outer = record {
   gets = λ key p w s there up g r. tt;
   noted = λ c w r. tt;
   shuts = λ k why w may s free r. tt;
-  closes = λ k why key terms moment w may s e r. tt;
-  drops = λ k why key terms moment fits w near stage m has short r. tt;
+  closes = λ k why key terms last_activity w may s e r. tt;
+  drops = λ k why key terms last_activity fits w near stage m has short r. tt;
   removes = λ key w s none r. tt;
   begins = λ client w s r. tt;
-  rises = λ k key terms moment move present w s known free none there up clean received r. tt;
+  rises = λ k key terms last_activity move present w s known free none there up clean received r. tt;
 }
 
 -- ---- events
 
 -- what an event leaves
 abbrev Leaves : Conn → HubState → HubEvent → HubReply → Work → Type 0
-Leaves n h e r w = Sound w.hub × (knows n w.hub.lines ≡ true) × (cond (collects n e) r.output [] ++ waiting_on n w.hub.lines ≡ waiting_on n h.lines ++ spellings (on_conn n w.sent))
+Leaves n h e r w = Sound w.hub × (knows n w.hub.connections ≡ true) × (cond (collects n e) r.output [] ++ waiting_on n w.hub.connections ≡ waiting_on n h.connections ++ encodings (on_conn n w.sent))
 
-waiting_opened : (n k : Conn) (xs : List Line) → knows n xs ≡ true → waiting_on n (xs ++ newcomer k ∷ []) ≡ waiting_on n xs
+waiting_opened : (n k : Conn) (xs : List HubConnection) → knows n xs ≡ true → waiting_on n (xs ++ newcomer k ∷ []) ≡ waiting_on n xs
 waiting_opened n k [] h = absurd cc
-waiting_opened n k (x ∷ xs) h = go (is_line n x) refl (waiting_opened n k xs)
+waiting_opened n k (x ∷ xs) h = go (is_connection n x) refl (waiting_opened n k xs)
   where
-    go : (b : Bool) → is_line n x ≡ b → (knows n xs ≡ true → waiting_on n (xs ++ newcomer k ∷ []) ≡ waiting_on n xs) → waiting_on n (x ∷ (xs ++ newcomer k ∷ [])) ≡ waiting_on n (x ∷ xs)
+    go : (b : Bool) → is_connection n x ≡ b → (knows n xs ≡ true → waiting_on n (xs ++ newcomer k ∷ []) ≡ waiting_on n xs) → waiting_on n (x ∷ (xs ++ newcomer k ∷ [])) ≡ waiting_on n (x ∷ xs)
     go true e ih =
-        cond-true (is_line n x) x.waiting (waiting_on n (xs ++ newcomer k ∷ [])) e ∙ sym (cond-true (is_line n x) x.waiting (waiting_on n xs) e)
+        cond-true (is_connection n x) x.waiting (waiting_on n (xs ++ newcomer k ∷ [])) e ∙ sym (cond-true (is_connection n x) x.waiting (waiting_on n xs) e)
     go false e ih =
-        ap (λ (b : List ℕ). cond (is_line n x) x.waiting b) (ih (sym (ap (λ (t : Bool). t || knows n xs) e) ∙ h))
+        ap (λ (b : List ℕ). cond (is_connection n x) x.waiting b) (ih (sym (ap (λ (t : Bool). t || knows n xs) e) ∙ h))
 
-knows_opened : (n k : Conn) (xs : List Line) → knows n xs ≡ true → knows n (xs ++ newcomer k ∷ []) ≡ true
+knows_opened : (n k : Conn) (xs : List HubConnection) → knows n xs ≡ true → knows n (xs ++ newcomer k ∷ []) ≡ true
 knows_opened n k [] h = absurd cc
-knows_opened n k (x ∷ xs) h = go (is_line n x) (knows_opened n k xs) h
+knows_opened n k (x ∷ xs) h = go (is_connection n x) (knows_opened n k xs) h
   where
     go : (b : Bool) → (knows n xs ≡ true → knows n (xs ++ newcomer k ∷ []) ≡ true) → (b || knows n xs) ≡ true → (b || knows n (xs ++ newcomer k ∷ [])) ≡ true
     go true ih e = refl
     go false ih e = ih e
 
 -- a connection that is over takes no other along
-kept_line : (n k : Conn) → same_conn k n ≡ false → (xs : List Line) → (knows n (without_line k xs) ≡ knows n xs) × (waiting_on n (without_line k xs) ≡ waiting_on n xs)
+kept_line : (n k : Conn) → same_conn k n ≡ false → (xs : List HubConnection) → (knows n (without_connection k xs) ≡ knows n xs) × (waiting_on n (without_connection k xs) ≡ waiting_on n xs)
 kept_line n k apart [] = (refl, refl)
-kept_line n k apart (x ∷ xs) = go (is_line k x) refl (kept_line n k apart xs)
+kept_line n k apart (x ∷ xs) = go (is_connection k x) refl (kept_line n k apart xs)
   where
-    go : (b : Bool) → is_line k x ≡ b → (knows n (without_line k xs) ≡ knows n xs) × (waiting_on n (without_line k xs) ≡ waiting_on n xs)
-        → (knows n (without_line k (x ∷ xs)) ≡ knows n (x ∷ xs)) × (waiting_on n (without_line k (x ∷ xs)) ≡ waiting_on n (x ∷ xs))
+    go : (b : Bool) → is_connection k x ≡ b → (knows n (without_connection k xs) ≡ knows n xs) × (waiting_on n (without_connection k xs) ≡ waiting_on n xs)
+        → (knows n (without_connection k (x ∷ xs)) ≡ knows n (x ∷ xs)) × (waiting_on n (without_connection k (x ∷ xs)) ≡ waiting_on n (x ∷ xs))
     go true e ih =
-        let far : is_line n x ≡ false = ap (λ (j : Conn). same_conn j n) (one_conn x.conn k e) ∙ apart in
-        let gone : without_line k (x ∷ xs) ≡ without_line k xs = cond-false (not (is_line k x)) (x ∷ without_line k xs) (without_line k xs) (ap not e) in (
+        let far : is_connection n x ≡ false = ap (λ (j : Conn). same_conn j n) (one_conn x.conn k e) ∙ apart in
+        let gone : without_connection k (x ∷ xs) ≡ without_connection k xs = cond-false (not (is_connection k x)) (x ∷ without_connection k xs) (without_connection k xs) (ap not e) in (
           ap (knows n) gone ∙ ih.0 ∙ sym (ap (λ (t : Bool). t || knows n xs) far),
-          ap (waiting_on n) gone ∙ ih.1 ∙ sym (cond-false (is_line n x) x.waiting (waiting_on n xs) far),
+          ap (waiting_on n) gone ∙ ih.1 ∙ sym (cond-false (is_connection n x) x.waiting (waiting_on n xs) far),
         )
     go false e ih =
-        let stays : without_line k (x ∷ xs) ≡ x ∷ without_line k xs = cond-true (not (is_line k x)) (x ∷ without_line k xs) (without_line k xs) (ap not e) in (
-          ap (knows n) stays ∙ ap (λ (t : Bool). is_line n x || t) ih.0,
-          ap (waiting_on n) stays ∙ ap (λ (b : List ℕ). cond (is_line n x) x.waiting b) ih.1,
+        let stays : without_connection k (x ∷ xs) ≡ x ∷ without_connection k xs = cond-true (not (is_connection k x)) (x ∷ without_connection k xs) (without_connection k xs) (ap not e) in (
+          ap (knows n) stays ∙ ap (λ (t : Bool). is_connection n x || t) ih.0,
+          ap (waiting_on n) stays ∙ ap (λ (b : List ℕ). cond (is_connection n x) x.waiting b) ih.1,
         )
 
-begins_at : (n : Conn) (h : HubState) → knows n h.lines ≡ true → Grows n (waiting_on n h.lines) nothing (begin h)
-begins_at n h known = (known, sym (append-nil (waiting_on n h.lines)))
+begins_at : (n : Conn) (h : HubState) → knows n h.connections ≡ true → Grows n (waiting_on n h.connections) nothing (begin h)
+begins_at n h known = (known, sym (append-nil (waiting_on n h.connections)))
 
 -- nothing is taken, and what waits grew
-grew : (n : Conn) (h : HubState) (e : HubEvent) (r : HubReply) (w : Work) → cond (collects n e) r.output [] ≡ [] → Sound w.hub → Grows n (waiting_on n h.lines) nothing w → Leaves n h e r w
-grew n h e r w none s g = (s, g.0, ap (λ (b : List ℕ). b ++ waiting_on n w.hub.lines) none ∙ g.1)
+grew : (n : Conn) (h : HubState) (e : HubEvent) (r : HubReply) (w : Work) → cond (collects n e) r.output [] ≡ [] → Sound w.hub → Grows n (waiting_on n h.connections) nothing w → Leaves n h e r w
+grew n h e r w none s g = (s, g.0, ap (λ (b : List ℕ). b ++ waiting_on n w.hub.connections) none ∙ g.1)
 
-collected_leaves : (n k : Conn) (h : HubState) (r : HubReply) → r.output ≡ waiting_on k h.lines → Sound h → knows n h.lines ≡ true → Leaves n h (Collect k) r (begin (collected k h))
-collected_leaves n k h r out s known = (sound_collected k h s, knows_map (changed emptied k) (names_changed emptied k (λ x. refl)) n h.lines ∙ known, go (same_conn k n) refl)
+collected_leaves : (n k : Conn) (h : HubState) (r : HubReply) → r.output ≡ waiting_on k h.connections → Sound h → knows n h.connections ≡ true → Leaves n h (Collect k) r (begin (collected k h))
+collected_leaves n k h r out s known = (sound_collected k h s, knows_map (changed emptied k) (names_changed emptied k (λ x. refl)) n h.connections ∙ known, go (same_conn k n) refl)
   where
-    go : (b : Bool) → same_conn k n ≡ b → cond (same_conn k n) r.output [] ++ waiting_on n (collected k h).lines ≡ waiting_on n h.lines ++ []
+    go : (b : Bool) → same_conn k n ≡ b → cond (same_conn k n) r.output [] ++ waiting_on n (collected k h).connections ≡ waiting_on n h.connections ++ []
     go true e =
-        ap₂ (λ (a b : List ℕ). a ++ b) (cond-true (same_conn k n) r.output [] e ∙ out ∙ ap (λ (j : Conn). waiting_on j h.lines) (one_conn k n e))
-        (ap (λ (j : Conn). waiting_on n (with_line emptied j h.lines)) (one_conn k n e) ∙ emptied_here n h.lines)
+        ap₂ (λ (a b : List ℕ). a ++ b) (cond-true (same_conn k n) r.output [] e ∙ out ∙ ap (λ (j : Conn). waiting_on j h.connections) (one_conn k n e))
+        (ap (λ (j : Conn). waiting_on n (with_connection emptied j h.connections)) (one_conn k n e) ∙ emptied_here n h.connections)
     go false e =
-        ap₂ (λ (a b : List ℕ). a ++ b) (cond-false (same_conn k n) r.output [] e) (put_there k n emptied h.lines (λ x. refl) e) ∙ sym (append-nil (waiting_on n h.lines))
+        ap₂ (λ (a b : List ℕ). a ++ b) (cond-false (same_conn k n) r.output [] e) (put_there k n emptied h.connections (λ x. refl) e) ∙ sym (append-nil (waiting_on n h.connections))
 
-leaves : (n : Conn) (h : HubState) (e : HubEvent) (r : HubReply) (w : Work) → event_refusal e h ≡ None → Does h e r w → ends_it n e ≡ false → Sound h → knows n h.lines ≡ true → Leaves n h e r w
+leaves : (n : Conn) (h : HubState) (e : HubEvent) (r : HubReply) (w : Work) → event_refusal e h ≡ None → Does h e r w → ends_it n e ≡ false → Sound h → knows n h.connections ≡ true → Leaves n h e r w
 leaves n h (Opened k) r w right d stays s known =
     subst (Leaves n h (Opened k) r) (sym d.0)
     (grew n h (Opened k) r (begin (opened k h)) refl (sound_opened k h (not_known k h right) s)
-    (knows_opened n k h.lines known, waiting_opened n k h.lines known ∙ sym (append-nil (waiting_on n h.lines))))
+    (knows_opened n k h.connections known, waiting_opened n k h.connections known ∙ sym (append-nil (waiting_on n h.connections))))
 leaves n h (Bytes k piece) r w right d stays s known =
-    let base = waiting_on n h.lines in
+    let base = waiting_on n h.connections in
     let start = holding_both (Grows n base) Freely Anywhere (inner n base) (outer n base) freely anywhere k [] (begin h) (s, begins_at n h known) in
-    let end = comes_both (Grows n base) Freely Anywhere (inner n base) (outer n base) freely anywhere (λ fits w. tt) tt h.config.limits k (held_on k h.lines ++ piece) (holding k [] (begin h)) w d.0 start in
+    let end = comes_both (Grows n base) Freely Anywhere (inner n base) (outer n base) freely anywhere (λ fits w. tt) tt h.config.limits k (held_on k h.connections ++ piece) (holding k [] (begin h)) w d.0 start in
     grew n h (Bytes k piece) r w refl end.0 end.1
 leaves n h (Ended k) r w right d stays s known =
-    let base = waiting_on n h.lines in
+    let base = waiting_on n h.connections in
     let fits = d.0 in
-    let end = ended_both (Grows n base) Freely Anywhere (inner n base) (outer n base) freely anywhere k (is_open (stage_of k h.lines)) fits (begin h) tt (s, begins_at n h known) in
-    let v = ended_open k (is_open (stage_of k h.lines)) fits (begin h) in
-    let kept = kept_line n k stays v.hub.lines in
+    let end = ended_both (Grows n base) Freely Anywhere (inner n base) (outer n base) freely anywhere k (is_open (stage_of k h.connections)) fits (begin h) tt (s, begins_at n h known) in
+    let v = ended_open k (is_open (stage_of k h.connections)) fits (begin h) in
+    let kept = kept_line n k stays v.hub.connections in
     subst (Leaves n h (Ended k) r) (sym d.1)
     (grew n h (Ended k) r (ended k fits h) refl (sound_without k v (ended_idle k fits (begin h)) end.0) (kept.0 ∙ end.1.0, kept.1 ∙ end.1.1))
 leaves n h (Tick now) r w right d stays s known =
-    let base = waiting_on n h.lines in
-    let end = ticks_both (Grows n base) Freely Anywhere (inner n base) (outer n base) freely anywhere (λ fits w. tt) (max h.clock now) h.lines (begin (told now h)) w d.0 (s, begins_at n h known) in
+    let base = waiting_on n h.connections in
+    let end = ticks_both (Grows n base) Freely Anywhere (inner n base) (outer n base) freely anywhere (λ fits w. tt) (max h.clock now) h.connections (begin (told now h)) w d.0 (s, begins_at n h known) in
     grew n h (Tick now) r w refl end.0 end.1
 leaves n h (Collect k) r w right d stays s known =
     subst (Leaves n h (Collect k) r) (sym d.0) (collected_leaves n k h r (ap (λ (r : HubReply). r.output) d.1) s known)
@@ -253,30 +253,30 @@ leaves n h (Collect k) r w right d stays s known =
 -- what a run keeps of sessions and connections
 pub sound_event : (h : HubState) (e : HubEvent) (r : HubReply) (w : Work) → event_refusal e h ≡ None → Does h e r w → Sound h → Sound w.hub
 sound_event h (Opened k) r w right d s = subst (λ (w : Work). Sound w.hub) (sym d.0) (sound_opened k h (not_known k h right) s)
-sound_event h (Bytes k piece) r w right d s = (comes_both Any Freely Anywhere any_inner any_outer freely anywhere (λ fits w. tt) tt h.config.limits k (held_on k h.lines ++ piece) (holding k [] (begin h)) w d.0 (holding_both Any Freely Anywhere any_inner any_outer freely anywhere k [] (begin h) (s, tt))).0
+sound_event h (Bytes k piece) r w right d s = (comes_both Any Freely Anywhere any_inner any_outer freely anywhere (λ fits w. tt) tt h.config.limits k (held_on k h.connections ++ piece) (holding k [] (begin h)) w d.0 (holding_both Any Freely Anywhere any_inner any_outer freely anywhere k [] (begin h) (s, tt))).0
 sound_event h (Ended k) r w right d s =
-    let v = ended_open k (is_open (stage_of k h.lines)) d.0 (begin h) in
-    subst (λ (w : Work). Sound w.hub) (sym d.1) (sound_without k v (ended_idle k d.0 (begin h)) (ended_both Any Freely Anywhere any_inner any_outer freely anywhere k (is_open (stage_of k h.lines)) d.0 (begin h) tt (s, tt)).0)
-sound_event h (Tick now) r w right d s = (ticks_both Any Freely Anywhere any_inner any_outer freely anywhere (λ fits w. tt) (max h.clock now) h.lines (begin (told now h)) w d.0 (s, tt)).0
+    let v = ended_open k (is_open (stage_of k h.connections)) d.0 (begin h) in
+    subst (λ (w : Work). Sound w.hub) (sym d.1) (sound_without k v (ended_idle k d.0 (begin h)) (ended_both Any Freely Anywhere any_inner any_outer freely anywhere k (is_open (stage_of k h.connections)) d.0 (begin h) tt (s, tt)).0)
+sound_event h (Tick now) r w right d s = (ticks_both Any Freely Anywhere any_inner any_outer freely anywhere (λ fits w. tt) (max h.clock now) h.connections (begin (told now h)) w d.0 (s, tt)).0
 sound_event h (Collect k) r w right d s = subst (λ (w : Work). Sound w.hub) (sym d.0) (sound_collected k h s)
 
 pub sound_run : (es : List Episode) (h h2 : HubState) → Follows h es h2 → Sound h → Sound h2
 sound_run [] h h2 f s = subst Sound (sym f) s
 sound_run (e ∷ es) h h2 f s = sound_run es e.work.hub h2 f.2 (sound_event h e.event e.reply e.work f.0 f.1 s)
 
-written_is : (n : Conn) (es : List Episode) (h h2 : HubState) → Follows h es h2 → Stays n es → Sound h → knows n h.lines ≡ true → written n es ++ waiting_on n h2.lines ≡ waiting_on n h.lines ++ spellings (on_conn n (sent_in es))
-written_is n [] h h2 f st s known = ap (λ (h : HubState). waiting_on n h.lines) f ∙ sym (append-nil (waiting_on n h.lines))
+written_is : (n : Conn) (es : List Episode) (h h2 : HubState) → Follows h es h2 → Stays n es → Sound h → knows n h.connections ≡ true → written n es ++ waiting_on n h2.connections ≡ waiting_on n h.connections ++ encodings (on_conn n (sent_in es))
+written_is n [] h h2 f st s known = ap (λ (h : HubState). waiting_on n h.connections) f ∙ sym (append-nil (waiting_on n h.connections))
 written_is n (e ∷ es) h h2 f st s known =
     let l = leaves n h e.event e.reply e.work f.0 f.1 st.0 s known in
-    let mid = waiting_on n e.work.hub.lines in
+    let mid = waiting_on n e.work.hub.connections in
     let first = on_conn n e.work.sent in
     let later = on_conn n (sent_in es) in
-    append_assoc (written_by n e) (written n es) (waiting_on n h2.lines)
+    append_assoc (written_by n e) (written n es) (waiting_on n h2.connections)
     ∙ ap (λ (b : List ℕ). written_by n e ++ b) (written_is n es e.work.hub h2 f.2 st.1 l.0 l.1)
-    ∙ sym (append_assoc (written_by n e) mid (spellings later))
-    ∙ ap (λ (b : List ℕ). b ++ spellings later) l.2
-    ∙ append_assoc (waiting_on n h.lines) (spellings first) (spellings later)
-    ∙ ap (λ (b : List ℕ). waiting_on n h.lines ++ b) (sym (flat_map-append spelling first later) ∙ ap spellings (sym (on_conn-append n e.work.sent (sent_in es))))
+    ∙ sym (append_assoc (written_by n e) mid (encodings later))
+    ∙ ap (λ (b : List ℕ). b ++ encodings later) l.2
+    ∙ append_assoc (waiting_on n h.connections) (encodings first) (encodings later)
+    ∙ ap (λ (b : List ℕ). waiting_on n h.connections ++ b) (sym (flat_map-append encoding first later) ∙ ap encodings (sym (on_conn-append n e.work.sent (sent_in es))))
 
 pub laws : OutputLaws
 laws = record {

@@ -14,7 +14,7 @@ use Rattle.mq_topic.specs.Rows.{with_row, without_row, matched, greatest, matchi
 use Rattle.mq_topic.specs.StoreLaws.{StoreLaws}
 use Rattle.mq_packet.specs.declared.message.Message.{Message}
 use Rattle.mq_packet.specs.declared.packet.Packet.{Packet}
-use Rattle.mq_packet.specs.Spelling.{spellings}
+use Rattle.mq_packet.specs.Encoding.{encodings}
 use Rattle.mq_end.specs.End.{End, Reply, over}
 use Rattle.mq_route.specs.declared.act.Act.{Act}
 use Rattle.mq_route.specs.declared.act.Act.TheVariants as acts
@@ -23,11 +23,11 @@ use Rattle.mq_route.specs.declared.close.HubClose.{HubClose}
 use Rattle.mq_route.specs.declared.event.HubEvent.{HubEvent}
 use Rattle.mq_route.specs.declared.event.HubEvent.TheVariants.{Opened, Bytes, Ended, Tick, Collect}
 use Rattle.mq_route.specs.declared.reply.HubReply.{HubReply}
-use Rattle.mq_route.specs.declared.stage.Stage.TheVariants.{UpFor}
-use Rattle.mq_route.specs.declared.stage.Terms.{Terms}
+use Rattle.mq_route.specs.declared.connection_state.ConnectionState.TheVariants.{ConnectedAs}
+use Rattle.mq_route.specs.declared.connection_state.ConnectionTerms.{ConnectionTerms}
 use Rattle.mq_route.specs.Copies.{is_hidden_name, copy_by, kept, retained_for}
 use Rattle.mq_route.specs.Routed.{Seen, nothing_seen, unless_on, seen_after, copies_for, routes, routed_from, routed, seen, placed_by, placed}
-use Rattle.mq_route.specs.Hub.{HubState, Line, new_hub, knows, stage_of, changed, with_line, without_line, is_open, held_on, up_on, end_of, with_end, for_key, copies_of}
+use Rattle.mq_route.specs.Hub.{HubState, HubConnection, new_hub, knows, stage_of, changed, with_connection, without_connection, is_open, held_on, up_on, end_of, with_end, for_key, copies_of}
 use Rattle.mq_route.specs.Work.{Work, begin, said, with_sessions, staged, shut, put_on, put_where, does, remove, remove_if}
 use Rattle.mq_route.specs.Arrives.{new_session}
 use Rattle.mq_route.specs.Step.{Does, event_refusal, opened, ended, ended_open, collected, told, holding}
@@ -102,9 +102,9 @@ untied c d e = sym (nat_ties c d) ∙ ne_eqb c d (λ same. eqb-false d c e (sym 
 -- ---- what a message makes due
 
 -- the copies for the clients of a list
-module _ (lines : List Line) (m : Message) where
+module _ (connections : List HubConnection) (m : Message) where
   abbrev copies_for_entry : ℕ × Qos → List (ℕ × Message)
-  copies_for_entry found = for_key found.0 (copy_by (is_some (up_on found.0 lines)) m (Some found.1))
+  copies_for_entry found = for_key found.0 (copy_by (is_some (up_on found.0 connections)) m (Some found.1))
 
   -- a client above which all of a list stand has none of them
   none_below : (c : ℕ) (es : List (ℕ × Qos)) → T (below_all nat_cmp c es) → for_client c (flat_map copies_for_entry es) ≡ []
@@ -113,41 +113,41 @@ module _ (lines : List Line) (m : Message) where
       let less = first _ _ h in
       for_client-append c (copies_for_entry e) (flat_map copies_for_entry es)
       ∙ ap₂ (λ (a b : List Message). a ++ b)
-      (for_client-key c e.0 (copy_by (is_some (up_on e.0 lines)) m (Some e.1)) ∙ cond-false (eqb e.0 c) (copy_by (is_some (up_on e.0 lines)) m (Some e.1)) [] (apart_below c e.0 less))
+      (for_client-key c e.0 (copy_by (is_some (up_on e.0 connections)) m (Some e.1)) ∙ cond-false (eqb e.0 c) (copy_by (is_some (up_on e.0 connections)) m (Some e.1)) [] (apart_below c e.0 less))
       (none_below c es (second _ _ h))
 
-  one_copy : (c : ℕ) (es : List (ℕ × Qos)) → T (is_sorted nat_cmp es) → for_client c (flat_map copies_for_entry es) ≡ copy_by (is_some (up_on c lines)) m (qos_of c es)
+  one_copy : (c : ℕ) (es : List (ℕ × Qos)) → T (is_sorted nat_cmp es) → for_client c (flat_map copies_for_entry es) ≡ copy_by (is_some (up_on c connections)) m (qos_of c es)
   one_copy c [] s = refl
   one_copy c (e ∷ es) s =
       for_client-append c (copies_for_entry e) (flat_map copies_for_entry es)
-      ∙ ap (λ (l : List Message). l ++ for_client c (flat_map copies_for_entry es)) (for_client-key c e.0 (copy_by (is_some (up_on e.0 lines)) m (Some e.1)))
+      ∙ ap (λ (l : List Message). l ++ for_client c (flat_map copies_for_entry es)) (for_client-key c e.0 (copy_by (is_some (up_on e.0 connections)) m (Some e.1)))
       ∙ go (eqb e.0 c) refl (one_copy c es)
     where
-      go : (b : Bool) → eqb e.0 c ≡ b → (T (is_sorted nat_cmp es) → for_client c (flat_map copies_for_entry es) ≡ copy_by (is_some (up_on c lines)) m (qos_of c es))
-          → cond b (copy_by (is_some (up_on e.0 lines)) m (Some e.1)) [] ++ for_client c (flat_map copies_for_entry es) ≡ copy_by (is_some (up_on c lines)) m (cond (eq_by_cmp nat_cmp c e.0) (Some e.1) (qos_of c es))
+      go : (b : Bool) → eqb e.0 c ≡ b → (T (is_sorted nat_cmp es) → for_client c (flat_map copies_for_entry es) ≡ copy_by (is_some (up_on c connections)) m (qos_of c es))
+          → cond b (copy_by (is_some (up_on e.0 connections)) m (Some e.1)) [] ++ for_client c (flat_map copies_for_entry es) ≡ copy_by (is_some (up_on c connections)) m (cond (eq_by_cmp nat_cmp c e.0) (Some e.1) (qos_of c es))
       go true k ih =
           let same : e.0 ≡ c = eqb-true e.0 c k in
-          ap (λ (l : List Message). copy_by (is_some (up_on e.0 lines)) m (Some e.1) ++ l) (none_below c es (subst (λ (d : ℕ). T (below_all nat_cmp d es)) same (first _ _ s)))
-          ∙ append-nil (copy_by (is_some (up_on e.0 lines)) m (Some e.1))
-          ∙ ap (λ (d : ℕ). copy_by (is_some (up_on d lines)) m (Some e.1)) same
-          ∙ ap (copy_by (is_some (up_on c lines)) m) (sym (cond-true (eq_by_cmp nat_cmp c e.0) (Some e.1) (qos_of c es) (tied c e.0 k)))
+          ap (λ (l : List Message). copy_by (is_some (up_on e.0 connections)) m (Some e.1) ++ l) (none_below c es (subst (λ (d : ℕ). T (below_all nat_cmp d es)) same (first _ _ s)))
+          ∙ append-nil (copy_by (is_some (up_on e.0 connections)) m (Some e.1))
+          ∙ ap (λ (d : ℕ). copy_by (is_some (up_on d connections)) m (Some e.1)) same
+          ∙ ap (copy_by (is_some (up_on c connections)) m) (sym (cond-true (eq_by_cmp nat_cmp c e.0) (Some e.1) (qos_of c es) (tied c e.0 k)))
       go false k ih =
           ih (second _ _ s)
-          ∙ ap (copy_by (is_some (up_on c lines)) m) (sym (cond-false (eq_by_cmp nat_cmp c e.0) (Some e.1) (qos_of c es) (untied c e.0 k)))
+          ∙ ap (copy_by (is_some (up_on c connections)) m) (sym (cond-false (eq_by_cmp nat_cmp c e.0) (Some e.1) (qos_of c es) (untied c e.0 k)))
 
 module _ (store : StoreLaws) where
   abbrev pub view : ℕ → HubState → Seen
-  view c h = record { rows = h.rows; up = up_on c h.lines; retained = h.retained }
+  view c h = record { rows = h.rows; up = up_on c h.connections; retained = h.retained }
 
   -- the copies for a client are those that would be routed to it
   pub due_is : (h : HubState) (c : ℕ) (m : Message) → for_client c (copies_of m h) ≡ copies_for c (view c h) m
   unfolding copies_of copies_for
   due_is h c m = go (is_hidden_name m.topic)
     where
-      all : for_client c (flat_map (copies_for_entry h.lines m) (matched m.topic h.rows)) ≡ copy_by (is_some (up_on c h.lines)) m (greatest (matching_qos c m.topic h.rows))
-      all = one_copy h.lines m c (matched m.topic h.rows) (T-true (is_sorted nat_cmp (matched m.topic h.rows)) (store.matched_is m.topic h.rows).ascending) ∙ ap (copy_by (is_some (up_on c h.lines)) m) (store.greatest_qos m.topic h.rows c)
+      all : for_client c (flat_map (copies_for_entry h.connections m) (matched m.topic h.rows)) ≡ copy_by (is_some (up_on c h.connections)) m (greatest (matching_qos c m.topic h.rows))
+      all = one_copy h.connections m c (matched m.topic h.rows) (T-true (is_sorted nat_cmp (matched m.topic h.rows)) (store.matched_is m.topic h.rows).ascending) ∙ ap (copy_by (is_some (up_on c h.connections)) m) (store.greatest_qos m.topic h.rows c)
 
-      go : (b : Bool) → for_client c (cond b [] (flat_map (copies_for_entry h.lines m) (matched m.topic h.rows))) ≡ cond b [] (copy_by (is_some (up_on c h.lines)) m (greatest (matching_qos c m.topic h.rows)))
+      go : (b : Bool) → for_client c (cond b [] (flat_map (copies_for_entry h.connections m) (matched m.topic h.rows))) ≡ cond b [] (copy_by (is_some (up_on c h.connections)) m (greatest (matching_qos c m.topic h.rows)))
       go true = refl
       go false = all
 
@@ -198,15 +198,15 @@ module _ (store : StoreLaws) where
     looks l h h2 due same a = (λ c. a.0 c ∙ same c, a.1)
 
     -- the client is up on the same connection
-    lines_as : (h : HubState) (xs : List Line) → ((c : ℕ) → up_on c xs ≡ up_on c h.lines) → (c : ℕ) → view c h ≡ view c (record h { lines = xs })
+    lines_as : (h : HubState) (xs : List HubConnection) → ((c : ℕ) → up_on c xs ≡ up_on c h.connections) → (c : ℕ) → view c h ≡ view c (record h { connections = xs })
     lines_as h xs same c = ap (λ (o : Option Conn). record { rows = h.rows; up = o; retained = h.retained }) (sym (same c))
 
     put_tells : (k : Conn) (ps : List Packet) (o : Debt) (w : Work) → Tells o w → Tells o (put_on k ps w)
     unfolding put_on
     put_tells k ps o w a =
-        let b = spellings ps in
-        looks (log ++ w.did) w.hub (record w.hub { lines = with_line (grown b) k w.hub.lines }) o.copies
-        (lines_as w.hub (with_line (grown b) k w.hub.lines) (λ c. up_map (changed (grown b) k) (names_changed (grown b) k (names_grown b)) (ups_changed (grown b) k (ups_grown b)) c w.hub.lines)) a
+        let b = encodings ps in
+        looks (log ++ w.did) w.hub (record w.hub { connections = with_connection (grown b) k w.hub.connections }) o.copies
+        (lines_as w.hub (with_connection (grown b) k w.hub.connections) (λ c. up_map (changed (grown b) k) (names_changed (grown b) k (names_grown b)) (ups_changed (grown b) k (ups_grown b)) c w.hub.connections)) a
 
     took_tells : (key : ℕ) (m : Message) (w : Work) → Agrees (log ++ w.did) w.hub [] → Agrees (log ++ (w.did ++ acts.Took key m ∷ [])) (record w.hub { retained = kept m w.hub.retained }) (copies_of m w.hub)
     unfolding seen_after routes placed_by
@@ -254,9 +254,9 @@ module _ (store : StoreLaws) where
       unsubscribed = λ key f o w a. unsubscribed_tells key f o.copies w a;
     }
 
-    up_shut : (k : Conn) (c : ℕ) (w : Work) → Sound w.hub → unless_on k (up_on c w.hub.lines) ≡ up_on c (shut k w).hub.lines
+    up_shut : (k : Conn) (c : ℕ) (w : Work) → Sound w.hub → unless_on k (up_on c w.hub.connections) ≡ up_on c (shut k w).hub.connections
     up_shut k c w s =
-        ap (unless_on k) (up_is c w.hub.lines) ∙ sym (unless_is k (upper c w.hub.lines)) ∙ ap conn_in (sym (upper_shut k c w s.apart)) ∙ sym (up_is c (shut k w).hub.lines)
+        ap (unless_on k) (up_is c w.hub.connections) ∙ sym (unless_is k (upper c w.hub.connections)) ∙ ap conn_in (sym (upper_shut k c w s.apart)) ∙ sym (up_is c (shut k w).hub.connections)
 
     shut_tells : (k : Conn) (why : HubClose) (w : Work) → Sound w.hub → Agrees (log ++ w.did) w.hub [] → Agrees (log ++ (w.did ++ acts.Closed k why ∷ [])) (shut k w).hub []
     unfolding seen_after routes placed_by
@@ -281,47 +281,47 @@ module _ (store : StoreLaws) where
     unfolding put_on
     put_where_same None ps w = (refl, λ c. refl)
     put_where_same (Some k) ps w =
-        let b = spellings ps in
-        (refl, λ c. sym (lines_as w.hub (with_line (grown b) k w.hub.lines) (λ c. up_map (changed (grown b) k) (names_changed (grown b) k (names_grown b)) (ups_changed (grown b) k (ups_grown b)) c w.hub.lines) c))
+        let b = encodings ps in
+        (refl, λ c. sym (lines_as w.hub (with_connection (grown b) k w.hub.connections) (λ c. up_map (changed (grown b) k) (names_changed (grown b) k (names_grown b)) (ups_changed (grown b) k (ups_grown b)) c w.hub.connections) c))
 
-    rises_tells : (k : Conn) (key : ℕ) (terms : Terms) (moment : ℕ) (move : End → Reply) (present : Bool) (w : Work) → Sound w.hub → knows k w.hub.lines ≡ true → IsIdle (stage_of k w.hub.lines) → upper key w.hub.lines ≡ None
-        → Tells nothing w → Tells nothing (rising k key terms moment move present w)
+    rises_tells : (k : Conn) (key : ℕ) (terms : ConnectionTerms) (last_activity : ℕ) (move : End → Reply) (present : Bool) (w : Work) → Sound w.hub → knows k w.hub.connections ≡ true → IsIdle (stage_of k w.hub.connections) → upper key w.hub.connections ≡ None
+        → Tells nothing w → Tells nothing (rising k key terms last_activity move present w)
     unfolding does seen_after routes placed_by
-    rises_tells k key terms moment move present w s known free none a =
-        let v = staged k (UpFor key terms moment) w in
+    rises_tells k key terms last_activity move present w s known free none a =
+        let v = staged k (ConnectedAs key terms last_activity) w in
         let e = end_of key w.hub.sessions in
         let u = with_sessions (with_end key (move e).end) v in
-        let to = up_on key v.hub.lines in
+        let to = up_on key v.hub.connections in
         let same = put_where_same to (move e).out u in
         let d = put_where to (move e).out u in
         subst (λ (l : List Act). Agrees (log ++ (l ++ acts.Up k key present ∷ [])) d.hub []) (sym same.0)
         (says (acts.Up k key present) w d.hub [] [] a (λ c. risen_seen c ∙ sym (same.1 c)) (λ c. refl))
       where
-        risen_lines : List Line
-        risen_lines = (staged k (UpFor key terms moment) w).hub.lines
+        risen_lines : List HubConnection
+        risen_lines = (staged k (ConnectedAs key terms last_activity) w).hub.connections
 
-        seen_as : (c : ℕ) (b : Bool) → cond b (record (view c w.hub) { up = Some k }) (view c w.hub) ≡ record { rows = w.hub.rows; up = conn_in (cond b (Some (k, terms.clean_session)) (upper c w.hub.lines)); retained = w.hub.retained }
+        seen_as : (c : ℕ) (b : Bool) → cond b (record (view c w.hub) { up = Some k }) (view c w.hub) ≡ record { rows = w.hub.rows; up = conn_in (cond b (Some (k, terms.clean_session)) (upper c w.hub.connections)); retained = w.hub.retained }
         seen_as c true = refl
-        seen_as c false = ap (λ (o : Option Conn). record { rows = w.hub.rows; up = o; retained = w.hub.retained }) (up_is c w.hub.lines)
+        seen_as c false = ap (λ (o : Option Conn). record { rows = w.hub.rows; up = o; retained = w.hub.retained }) (up_is c w.hub.connections)
 
-        risen_seen : (c : ℕ) → cond (eqb key c) (record (view c w.hub) { up = Some k }) (view c w.hub) ≡ view c (staged k (UpFor key terms moment) w).hub
+        risen_seen : (c : ℕ) → cond (eqb key c) (record (view c w.hub) { up = Some k }) (view c w.hub) ≡ view c (staged k (ConnectedAs key terms last_activity) w).hub
         risen_seen c =
             seen_as c (eqb key c)
-            ∙ ap (λ (o : Option (Conn × Bool)). record { rows = w.hub.rows; up = conn_in o; retained = w.hub.retained }) (sym (upper_risen k key terms moment w.hub.lines s.apart known free none c))
-            ∙ ap (λ (o : Option Conn). record { rows = w.hub.rows; up = o; retained = w.hub.retained }) (sym (up_is c (staged k (UpFor key terms moment) w).hub.lines))
+            ∙ ap (λ (o : Option (Conn × Bool)). record { rows = w.hub.rows; up = conn_in o; retained = w.hub.retained }) (sym (upper_risen k key terms last_activity w.hub.connections s.apart known free none c))
+            ∙ ap (λ (o : Option Conn). record { rows = w.hub.rows; up = o; retained = w.hub.retained }) (sym (up_is c (staged k (ConnectedAs key terms last_activity) w).hub.connections))
 
     pub outer : Outer Tells Freely Anywhere
     outer = record {
-      mild = λ f k o w m a. looks (log ++ w.did) w.hub (record w.hub { lines = with_line f k w.hub.lines }) o.copies
-          (lines_as w.hub (with_line f k w.hub.lines) (λ c. up_map (changed f k) (names_changed f k (λ x. (m x).0)) (ups_changed f k (λ x. ((m x).2, (m x).3))) c w.hub.lines)) a;
+      mild = λ f k o w m a. looks (log ++ w.did) w.hub (record w.hub { connections = with_connection f k w.hub.connections }) o.copies
+          (lines_as w.hub (with_connection f k w.hub.connections) (λ c. up_map (changed f k) (names_changed f k (λ x. (m x).0)) (ups_changed f k (λ x. ((m x).2, (m x).3))) c w.hub.connections)) a;
       gets = λ key p w s there up g a. a;
       noted = λ n w a. a;
       shuts = λ k why w may s free a. shut_tells k why w s a;
-      closes = λ k why key terms moment w may s e a. remove_if_tells terms.clean_session key (with_sessions (with_end key (over (end_of key w.hub.sessions))) (said (acts.Closed k why) (shut k w))) (shut_tells k why w s a);
-      drops = λ k why key terms moment fits w near stage m has short a. dropped_tells key (closing k why key terms w) a;
+      closes = λ k why key terms last_activity w may s e a. remove_if_tells terms.clean_session key (with_sessions (with_end key (over (end_of key w.hub.sessions))) (said (acts.Closed k why) (shut k w))) (shut_tells k why w s a);
+      drops = λ k why key terms last_activity fits w near stage m has short a. dropped_tells key (closing k why key terms w) a;
       removes = λ key w s none a. removes_tells key w a;
       begins = λ client w s a. begins_tells client w a;
-      rises = λ k key terms moment move present w s known free none there up clean received a. rises_tells k key terms moment move present w s known free none a;
+      rises = λ k key terms last_activity move present w s known free none there up clean received a. rises_tells k key terms last_activity move present w s known free none a;
     }
 
   -- ---- events
@@ -338,27 +338,27 @@ module _ (store : StoreLaws) where
   tells_event : (log : List Act) (h : HubState) (e : HubEvent) (r : HubReply) (w : Work) → event_refusal e h ≡ None → Does h e r w → Sound h → Agrees log h [] → Agrees (log ++ r.acts) w.hub []
   tells_event log h (Opened k) r w right d s a =
       let v = begin (opened k h) in
-      let same : (c : ℕ) → up_on c (opened k h).lines ≡ up_on c h.lines = λ c. up_is c (opened k h).lines ∙ ap conn_in (upper_opened k c h.lines) ∙ sym (up_is c h.lines) in
+      let same : (c : ℕ) → up_on c (opened k h).connections ≡ up_on c h.connections = λ c. up_is c (opened k h).connections ∙ ap conn_in (upper_opened k c h.connections) ∙ sym (up_is c h.connections) in
       acted log h r w (acts_in _ _ d.1)
-      (subst (λ (w : Work). Agrees (log ++ w.did) w.hub []) (sym d.0) (looks [] (log ++ []) h (opened k h) [] (lines_as [] h (opened k h).lines same) (starts log h a)))
+      (subst (λ (w : Work). Agrees (log ++ w.did) w.hub []) (sym d.0) (looks [] (log ++ []) h (opened k h) [] (lines_as [] h (opened k h).connections same) (starts log h a)))
   tells_event log h (Bytes k piece) r w right d s a =
       let start = holding_both (Tells log) Freely Anywhere (inner log) (outer log) freely anywhere k [] (begin h) (s, starts log h a) in
-      let end = comes_both (Tells log) Freely Anywhere (inner log) (outer log) freely anywhere (λ fits w. tt) tt h.config.limits k (held_on k h.lines ++ piece) (holding k [] (begin h)) w d.0 start in
+      let end = comes_both (Tells log) Freely Anywhere (inner log) (outer log) freely anywhere (λ fits w. tt) tt h.config.limits k (held_on k h.connections ++ piece) (holding k [] (begin h)) w d.0 start in
       acted log h r w (acts_in _ _ d.1) end.1
   tells_event log h (Ended k) r w right d s a =
-      let v = ended_open k (is_open (stage_of k h.lines)) d.0 (begin h) in
-      let end = ended_both (Tells log) Freely Anywhere (inner log) (outer log) freely anywhere k (is_open (stage_of k h.lines)) d.0 (begin h) tt (s, starts log h a) in
-      let same : (c : ℕ) → up_on c (without_line k v.hub.lines) ≡ up_on c v.hub.lines =
-      (λ c. up_is c (without_line k v.hub.lines) ∙ ap conn_in (upper_without k v.hub.lines end.0.apart (ended_idle k d.0 (begin h)) c) ∙ sym (up_is c v.hub.lines)) in
+      let v = ended_open k (is_open (stage_of k h.connections)) d.0 (begin h) in
+      let end = ended_both (Tells log) Freely Anywhere (inner log) (outer log) freely anywhere k (is_open (stage_of k h.connections)) d.0 (begin h) tt (s, starts log h a) in
+      let same : (c : ℕ) → up_on c (without_connection k v.hub.connections) ≡ up_on c v.hub.connections =
+      (λ c. up_is c (without_connection k v.hub.connections) ∙ ap conn_in (upper_without k v.hub.connections end.0.apart (ended_idle k d.0 (begin h)) c) ∙ sym (up_is c v.hub.connections)) in
       acted log h r w (acts_in _ _ d.2)
-      (subst (λ (w : Work). Agrees (log ++ w.did) w.hub []) (sym d.1) (looks [] (log ++ v.did) v.hub (ended k d.0 h).hub [] (lines_as [] v.hub (without_line k v.hub.lines) same) end.1))
+      (subst (λ (w : Work). Agrees (log ++ w.did) w.hub []) (sym d.1) (looks [] (log ++ v.did) v.hub (ended k d.0 h).hub [] (lines_as [] v.hub (without_connection k v.hub.connections) same) end.1))
   tells_event log h (Tick now) r w right d s a =
-      let end = ticks_both (Tells log) Freely Anywhere (inner log) (outer log) freely anywhere (λ fits w. tt) (max h.clock now) h.lines (begin (told now h)) w d.0 (s, starts log h a) in
+      let end = ticks_both (Tells log) Freely Anywhere (inner log) (outer log) freely anywhere (λ fits w. tt) (max h.clock now) h.connections (begin (told now h)) w d.0 (s, starts log h a) in
       acted log h r w (acts_in _ _ d.1) end.1
   tells_event log h (Collect k) r w right d s a =
-      let same : (c : ℕ) → up_on c (collected k h).lines ≡ up_on c h.lines = λ c. up_map (changed emptied k) (names_changed emptied k emptied_names) (ups_changed emptied k emptied_ups) c h.lines in
+      let same : (c : ℕ) → up_on c (collected k h).connections ≡ up_on c h.connections = λ c. up_map (changed emptied k) (names_changed emptied k emptied_names) (ups_changed emptied k emptied_ups) c h.connections in
       subst (λ (l : List Act). Agrees (log ++ l) w.hub []) (sym (acts_in _ _ d.1))
-      (subst (λ (w : Work). Agrees (log ++ []) w.hub []) (sym d.0) (looks [] (log ++ []) h (collected k h) [] (lines_as [] h (collected k h).lines same) (starts log h a)))
+      (subst (λ (w : Work). Agrees (log ++ []) w.hub []) (sym d.0) (looks [] (log ++ []) h (collected k h) [] (lines_as [] h (collected k h).connections same) (starts log h a)))
 
   tells_run : (es : List Episode) (log : List Act) (h h2 : HubState) → Follows h es h2 → Sound h → Agrees log h [] → Agrees (log ++ acts_of es) h2 []
   tells_run [] log h h2 f s a = subst (λ (h : HubState). Agrees (log ++ []) h []) (sym f) (starts log h a)

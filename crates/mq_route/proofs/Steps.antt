@@ -13,21 +13,21 @@ use Rattle.mq_decode.specs.Limits.{Bounds}
 use Rattle.mq_end.specs.declared.happening.Happening.{Happening}
 use Rattle.mq_end.specs.declared.reason.CloseReason.{CloseReason}
 use Rattle.mq_end.specs.declared.reason.CloseReason.TheVariants as reasons
-use Rattle.mq_end.specs.declared.state.State.TheVariants.{Up}
+use Rattle.mq_end.specs.declared.state.State.TheVariants.{Connected}
 use Rattle.mq_end.specs.End.{End, renewed}
 use Rattle.mq_end.specs.Server.{server_gets}
 use Rattle.mq_route.specs.declared.act.Act.TheVariants as acts
 use Rattle.mq_route.specs.declared.conn.Conn.{Conn}
 use Rattle.mq_route.specs.declared.close.HubClose.{HubClose}
 use Rattle.mq_route.specs.declared.close.HubClose.TheVariants.{Own, TargetFull, TakenOver, PeerEnded}
-use Rattle.mq_route.specs.declared.stage.Stage.{Stage}
-use Rattle.mq_route.specs.declared.stage.Stage.TheVariants.{Fresh, UpFor, Shut}
-use Rattle.mq_route.specs.declared.stage.Terms.{Terms}
+use Rattle.mq_route.specs.declared.connection_state.ConnectionState.{ConnectionState}
+use Rattle.mq_route.specs.declared.connection_state.ConnectionState.TheVariants.{AwaitingConnect, ConnectedAs, Closed}
+use Rattle.mq_route.specs.declared.connection_state.ConnectionTerms.{ConnectionTerms}
 use Rattle.mq_route.specs.Routed.{same_conn}
-use Rattle.mq_route.specs.Hub.{HubState, HubSession, Line, new_end, no_end, stage_of, with_line, is_open, key_on, is_clean, is_for, up_on, end_of, with_end, key_of}
+use Rattle.mq_route.specs.Hub.{HubState, HubSession, HubConnection, new_end, no_end, stage_of, with_connection, is_open, key_on, is_clean, is_for, up_on, end_of, with_end, key_of}
 use Rattle.mq_route.specs.Welcome.{client_of, refusal, login_refusal, is_unavailable, ends_on}
-use Rattle.mq_route.specs.Work.{Work, said, with_lines, with_sessions, staged, shut, put_on, put_where, does, have_room, remove, will_after, leaves_behind, close}
-use Rattle.mq_route.specs.Arrives.{Growth, due, answers, answers_all, replies, greeting, terms_of, greet, new_session, greet_new, take_over, goes_on, admit, welcomes, at_first, comes_in, heard, heard_on, arrives, noted, takes, closes_by, broken, breaks}
+use Rattle.mq_route.specs.Work.{Work, said, with_connections, with_sessions, staged, shut, put_on, put_where, does, have_room, remove, will_after, leaves_behind, close}
+use Rattle.mq_route.specs.Arrives.{Growth, due, answers, answers_all, replies, greeting, terms_of, resume_session, new_session, start_session, take_over, goes_on, accept_connect, on_connect, on_first_packet, dispatch_packet, touched, touched_on, arrives, noted, takes, closes_by, broken, on_malformed}
 use Rattle.mq_route.specs.Step.{holding, Comes, Arrives, Waits, Breaks, Starves, LetsGo, Ticks, Done, InTime, Late, Later, ended_open}
 use Rattle.mq_route.proofs.Lines.{one_conn, upper, up_is, upper_none, conn_in, Mild, stage_here, fresh_known}
 use Rattle.mq_route.proofs.Uppers.{IsIdle, unless, upper_at, upper_stage}
@@ -39,25 +39,25 @@ use Rattle.mq_route.proofs.Frames.{stage_firm, upper_firm, lines_inner, lines_cl
 
 -- ---- connections
 
-pub heard_mild : (now : ℕ) → Mild (λ x. record x { stage = heard now x.stage })
+pub heard_mild : (now : ℕ) → Mild (λ x. record x { stage = touched now x.stage })
 heard_mild now x = (refl, refl, λ c. go c x.stage, clean x.stage)
   where
-    go : (c : ℕ) (s : Stage) → is_for c (heard now s) ≡ is_for c s
-    go c Fresh = refl
-    go c (UpFor key terms moment) = refl
-    go c Shut = refl
+    go : (c : ℕ) (s : ConnectionState) → is_for c (touched now s) ≡ is_for c s
+    go c AwaitingConnect = refl
+    go c (ConnectedAs key terms last_activity) = refl
+    go c Closed = refl
 
-    clean : (s : Stage) → is_clean (heard now s) ≡ is_clean s
-    clean Fresh = refl
-    clean (UpFor key terms moment) = refl
-    clean Shut = refl
+    clean : (s : ConnectionState) → is_clean (touched now s) ≡ is_clean s
+    clean AwaitingConnect = refl
+    clean (ConnectedAs key terms last_activity) = refl
+    clean Closed = refl
 
 pub holding_mild : (b : List ℕ) → Mild (λ x. record x { held = b })
 holding_mild b x = (refl, refl, λ c. refl, refl)
 
 -- a connection on which a packet comes is as far as it was
-stage_heard : (k : Conn) (w : Work) → stage_of k (heard_on k w).hub.lines ≡ heard w.hub.clock (stage_of k w.hub.lines)
-stage_heard k w = stage_here (λ x. record x { stage = heard w.hub.clock x.stage }) (heard w.hub.clock) k w.hub.lines (λ x. refl) (λ x. refl) refl
+stage_heard : (k : Conn) (w : Work) → stage_of k (touched_on k w).hub.connections ≡ touched w.hub.clock (stage_of k w.hub.connections)
+stage_heard k w = stage_here (λ x. record x { stage = touched w.hub.clock x.stage }) (touched w.hub.clock) k w.hub.connections (λ x. refl) (λ x. refl) refl
 
 -- ---- CONNECT
 
@@ -76,7 +76,7 @@ accepted c h none = go (eqb (length c.client_id) 0) c.clean_session none
 
 -- a packet that comes on a connection that is up, for which a session is too full, may close it
 abbrev pub Fills : (HubClose → Type 0) → Conn → Packet → Work → Type 0
-Fills May k p w = (key : ℕ) → key_on (stage_of k w.hub.lines) ≡ Some key → (end_of key w.hub.sessions).state ≡ Up
+Fills May k p w = (key : ℕ) → key_on (stage_of k w.hub.connections) ≡ Some key → (end_of key w.hub.sessions).state ≡ Connected
     → have_room (due key w.hub (server_gets p (end_of key w.hub.sessions)).happenings) w.hub ≡ false → May TargetFull
 
 module _ (R : Debt → Work → Type 0) (May : HubClose → Type 0) (Near : Bool → Work → Type 0) (inner : Inner R) (outer : Outer R May Near) (ways : Ways May) (nearby : Nearby Near) where
@@ -94,33 +94,33 @@ module _ (R : Debt → Work → Type 0) (May : HubClose → Type 0) (Near : Bool
     unsubscribed = λ key f o w h. (h.0, inner.unsubscribed key f o w h.1);
   }
 
-  mild_both : (f : Line → Line) (k : Conn) (o : Debt) (w : Work) → Mild f → Both o w → Both o (with_lines (with_line f k) w)
+  mild_both : (f : HubConnection → HubConnection) (k : Conn) (o : Debt) (w : Work) → Mild f → Both o w → Both o (with_connections (with_connection f k) w)
   mild_both f k o w m h = (sound_mild f k w m h.0, outer.mild f k o w m h.1)
 
   -- ---- a connection is closed
 
-  leaves_both : (k : Conn) (why : HubClose) (fits : Bool) (s : Stage) (w : Work) → Near fits w → May why → stage_of k w.hub.lines ≡ s → Both nothing w → Both nothing (leaves_behind why fits s (said (acts.Closed k why) (shut k w)))
+  leaves_both : (k : Conn) (why : HubClose) (fits : Bool) (s : ConnectionState) (w : Work) → Near fits w → May why → stage_of k w.hub.connections ≡ s → Both nothing w → Both nothing (leaves_behind why fits s (said (acts.Closed k why) (shut k w)))
   unfolding leaves_behind
-  leaves_both k why fits Fresh w near may e h =
-      let free : IsIdle (stage_of k w.hub.lines) = subst IsIdle (sym e) (λ c. refl) in
+  leaves_both k why fits AwaitingConnect w near may e h =
+      let free : IsIdle (stage_of k w.hub.connections) = subst IsIdle (sym e) (λ c. refl) in
       (sound_shuts k w h.0 free, outer.shuts k why w may h.0 free h.1)
-  leaves_both k why fits (UpFor key terms moment) w near may e h =
+  leaves_both k why fits (ConnectedAs key terms last_activity) w near may e h =
       last_will_keeps Both both key (will_after why terms.will) fits (closing k why key terms w)
-      (λ m has short g. (g.0, outer.drops k why key terms moment fits w near e m has short g.1))
-      (sound_closes k why key terms moment w h.0 e, outer.closes k why key terms moment w may h.0 e h.1)
-  leaves_both k why fits Shut w near may e h =
-      let free : IsIdle (stage_of k w.hub.lines) = subst IsIdle (sym e) (λ c. refl) in
+      (λ m has short g. (g.0, outer.drops k why key terms last_activity fits w near e m has short g.1))
+      (sound_closes k why key terms last_activity w h.0 e, outer.closes k why key terms last_activity w may h.0 e h.1)
+  leaves_both k why fits Closed w near may e h =
+      let free : IsIdle (stage_of k w.hub.connections) = subst IsIdle (sym e) (λ c. refl) in
       (sound_shuts k w h.0 free, outer.shuts k why w may h.0 free h.1)
 
   pub close_both : (k : Conn) (why : HubClose) (fits : Bool) (w : Work) → Near fits w → May why → Both nothing w → Both nothing (close k why fits w)
   unfolding close
-  close_both k why fits w near may h = leaves_both k why fits (stage_of k w.hub.lines) w near may refl h
+  close_both k why fits w near may h = leaves_both k why fits (stage_of k w.hub.connections) w near may refl h
 
   -- ---- a packet on a connection that is up
 
   -- what is kept after a packet, which is to be written down where it was taken in and the connection is open
   abbrev After : Option ℕ → Conn → Packet → Work → Type 0
-  After on k p v = Both (owes [] [] (noted on (is_open (stage_of k v.hub.lines)) p)) v
+  After on k p v = Both (owes [] [] (noted on (is_open (stage_of k v.hub.connections)) p)) v
 
   none_noted : (on : Option ℕ) (p : Packet) → noted on false p ≡ []
   none_noted None p = refl
@@ -129,19 +129,19 @@ module _ (R : Debt → Work → Type 0) (May : HubClose → Type 0) (Near : Bool
   after_closed : (on : Option ℕ) (k : Conn) (p : Packet) (why : HubClose) (fits : Bool) (w : Work) → Near fits w → May why → Both nothing w → After on k p (close k why fits w)
   after_closed on k p why fits w near may h =
       let v = close k why fits w in
-      let none : noted on (is_open (stage_of k v.hub.lines)) p ≡ [] = ap (λ (s : Stage). noted on (is_open s) p) (closed_shut k why fits w) ∙ none_noted on p in
+      let none : noted on (is_open (stage_of k v.hub.connections)) p ≡ [] = ap (λ (s : ConnectionState). noted on (is_open s) p) (closed_shut k why fits w) ∙ none_noted on p in
       subst (λ (n : List (ℕ × Packet)). Both (owes [] [] n) v) (sym none) (close_both k why fits w near may h)
 
-  after_open : (k : Conn) (key : ℕ) (terms : Terms) (moment : ℕ) (p : Packet) (v : Work) → stage_of k v.hub.lines ≡ UpFor key terms moment → Both (owes [] [] ((key, p) ∷ [])) v → After (Some key) k p v
-  after_open k key terms moment p v e h = subst (λ (s : Stage). Both (owes [] [] (noted (Some key) (is_open s) p)) v) (sym e) h
+  after_open : (k : Conn) (key : ℕ) (terms : ConnectionTerms) (last_activity : ℕ) (p : Packet) (v : Work) → stage_of k v.hub.connections ≡ ConnectedAs key terms last_activity → Both (owes [] [] ((key, p) ∷ [])) v → After (Some key) k p v
+  after_open k key terms last_activity p v e h = subst (λ (s : ConnectionState). Both (owes [] [] (noted (Some key) (is_open s) p)) v) (sym e) h
 
-  module _ (k : Conn) (key : ℕ) (terms : Terms) (moment : ℕ) (p : Packet) (fits : Bool) (w : Work) (near : Near fits w) (stage : stage_of k w.hub.lines ≡ UpFor key terms moment) (h : Both nothing w)
+  module _ (k : Conn) (key : ℕ) (terms : ConnectionTerms) (last_activity : ℕ) (p : Packet) (fits : Bool) (w : Work) (near : Near fits w) (stage : stage_of k w.hub.connections ≡ ConnectedAs key terms last_activity) (h : Both nothing w)
       (full : have_room (due key w.hub (server_gets p (end_of key w.hub.sessions)).happenings) w.hub ≡ false → May TargetFull) where
     abbrev e : End
     e = end_of key w.hub.sessions
 
-    up_tied : (has key w.hub.sessions ≡ true) × (e.state ≡ Up) × (e.clean ≡ terms.clean_session)
-    up_tied = is_tied key (k, terms.clean_session) w.hub h.0 (upper_at k key terms moment w.hub.lines h.0.apart stage)
+    up_tied : (has key w.hub.sessions ≡ true) × (e.state ≡ Connected) × (e.clean ≡ terms.clean_session)
+    up_tied = is_tied key (k, terms.clean_session) w.hub h.0 (upper_at k key terms last_activity w.hub.connections h.0.apart stage)
 
     after_gets : (server_gets p e).close ≡ None → After (Some key) k p (answers_all k key (server_gets p e).happenings (does key (server_gets p) w))
     unfolding does
@@ -150,13 +150,13 @@ module _ (R : Debt → Work → Type 0) (May : HubClose → Type 0) (Near : Bool
         let r = server_gets p e in
         let u = with_sessions (with_end key r.end) w in
         let o = owes [] (takings key r.happenings) ((key, p) ∷ []) in
-        let Stays : Debt → Work → Type 0 = λ o w. stage_of k w.hub.lines ≡ UpFor key terms moment in
-        let still = lines_inner (stage_of k) (stage_firm k) (UpFor key terms moment) in
-        let v = put_where (up_on key w.hub.lines) r.out u in
-        after_open k key terms moment p (answers_all k key r.happenings v)
-        (answers_all_keeps Stays still k key r.happenings ((key, p) ∷ []) v g.told (put_where_keeps Stays still (up_on key w.hub.lines) r.out o u stage))
+        let Stays : Debt → Work → Type 0 = λ o w. stage_of k w.hub.connections ≡ ConnectedAs key terms last_activity in
+        let still = lines_inner (stage_of k) (stage_firm k) (ConnectedAs key terms last_activity) in
+        let v = put_where (up_on key w.hub.connections) r.out u in
+        after_open k key terms last_activity p (answers_all k key r.happenings v)
+        (answers_all_keeps Stays still k key r.happenings ((key, p) ∷ []) v g.told (put_where_keeps Stays still (up_on key w.hub.connections) r.out o u stage))
         (answers_all_keeps Both both k key r.happenings ((key, p) ∷ []) v g.told
-        (put_where_keeps Both both (up_on key w.hub.lines) r.out o u (sound_gets key r.end w g.state g.clean h.0, outer.gets key p w h.0 up_tied.0 up_tied.1 g h.1)))
+        (put_where_keeps Both both (up_on key w.hub.connections) r.out o u (sound_gets key r.end w g.state g.clean h.0, outer.gets key p w h.0 up_tied.0 up_tied.1 g h.1)))
 
     after_replies : (c : Option CloseReason) → (server_gets p e).close ≡ c → After (Some key) k p (replies k key (server_gets p) c fits w)
     unfolding replies
@@ -167,21 +167,21 @@ module _ (R : Debt → Work → Type 0) (May : HubClose → Type 0) (Near : Bool
 
   -- ---- CONNECT
 
-  greet_both : (k : Conn) (c : Connect) (key : ℕ) (w : Work) → stage_of k w.hub.lines ≡ Fresh → (not c.clean_session && eqb (length c.client_id) 0) ≡ false → Both nothing w
-      → upper key w.hub.lines ≡ None → has key w.hub.sessions ≡ true → (c.clean_session ≡ true → (end_of key w.hub.sessions).received ≡ (renewed true (end_of key w.hub.sessions)).received) → Both nothing (greet k c key w)
-  unfolding greet answers
+  greet_both : (k : Conn) (c : Connect) (key : ℕ) (w : Work) → stage_of k w.hub.connections ≡ AwaitingConnect → (not c.clean_session && eqb (length c.client_id) 0) ≡ false → Both nothing w
+      → upper key w.hub.connections ≡ None → has key w.hub.sessions ≡ true → (c.clean_session ≡ true → (end_of key w.hub.sessions).received ≡ (renewed true (end_of key w.hub.sessions)).received) → Both nothing (resume_session k c key w)
+  unfolding resume_session answers
   greet_both k c key w fresh ok h none there new =
       let e = end_of key w.hub.sessions in
       let g = greets c e ok (is_idle key w.hub h.0 none) new in
       let now = w.hub.clock in
-      let known = fresh_known k w.hub.lines fresh in
-      let free : IsIdle (stage_of k w.hub.lines) = subst IsIdle (sym fresh) (λ c. refl) in
-      subst (λ (told : List Happening). Both nothing (answers_all k key told (does key (greeting c) (staged k (UpFor key (terms_of c) now) w)))) (sym g.told) (
+      let known = fresh_known k w.hub.connections fresh in
+      let free : IsIdle (stage_of k w.hub.connections) = subst IsIdle (sym fresh) (λ c. refl) in
+      subst (λ (told : List Happening). Both nothing (answers_all k key told (does key (greeting c) (staged k (ConnectedAs key (terms_of c) now) w)))) (sym g.told) (
         sound_rises k key (terms_of c) now (greeting c) g.present w h.0 known free none there g.state g.clean,
         outer.rises k key (terms_of c) now (greeting c) g.present w h.0 known free none there g.state g.clean g.received h.1,
       )
 
-  greet_new_both : (k : Conn) (c : Connect) (client : List ℕ) (w : Work) → stage_of k w.hub.lines ≡ Fresh → (not c.clean_session && eqb (length c.client_id) 0) ≡ false → Both nothing w → Both nothing (greet_new k c client w)
+  greet_new_both : (k : Conn) (c : Connect) (client : List ℕ) (w : Work) → stage_of k w.hub.connections ≡ AwaitingConnect → (not c.clean_session && eqb (length c.client_id) 0) ≡ false → Both nothing w → Both nothing (start_session k c client w)
   unfolding new_session
   greet_new_both k c client w fresh ok h =
       let n = w.hub.next_key in
@@ -195,12 +195,12 @@ module _ (R : Debt → Work → Type 0) (May : HubClose → Type 0) (Near : Bool
       (has_new session n w.hub.sessions ∙ cond-false (has n w.hub.sessions) true (eqb n n) none ∙ itself)
       (λ clean. subst (λ (e : End). e.received ≡ (renewed true e).received) (sym is_new) refl)
 
-  goes_on_both : (k : Conn) (c : Connect) (client : List ℕ) (key : ℕ) (ends : Bool) (w : Work) → stage_of k w.hub.lines ≡ Fresh → (not c.clean_session && eqb (length c.client_id) 0) ≡ false → Both nothing w
-      → upper key w.hub.lines ≡ None → (ends ≡ false → has key w.hub.sessions ≡ true) → Both nothing (goes_on k c client key ends w)
+  goes_on_both : (k : Conn) (c : Connect) (client : List ℕ) (key : ℕ) (ends : Bool) (w : Work) → stage_of k w.hub.connections ≡ AwaitingConnect → (not c.clean_session && eqb (length c.client_id) 0) ≡ false → Both nothing w
+      → upper key w.hub.connections ≡ None → (ends ≡ false → has key w.hub.sessions ≡ true) → Both nothing (goes_on k c client key ends w)
   unfolding goes_on remove
   goes_on_both k c client key true w fresh ok h none there = greet_new_both k c client w fresh ok h
   goes_on_both k c client key false w fresh ok h none there =
-      cond_both c.clean_session (greet_new k c client (remove key w)) (greet k c key w) (Both nothing)
+      cond_both c.clean_session (start_session k c client (remove key w)) (resume_session k c key w) (Both nothing)
       (λ clean. greet_new_both k c client (remove key w) fresh ok (sound_removes key w h.0 none, outer.removes key w h.0 none h.1))
       (λ keeps. greet_both k c key w fresh ok h none (there refl) (λ clean. absurd (true≢false (sym clean ∙ keeps))))
 
@@ -208,63 +208,63 @@ module _ (R : Debt → Work → Type 0) (May : HubClose → Type 0) (Near : Bool
   conn_up k None e = absurd cc
   conn_up k (Some u) e = let same : u.0 ≡ k = cc in (u.1, ap (λ (n : Conn). Some (n, u.1)) same)
 
-  over_both : (k : Conn) (c : Connect) (client : List ℕ) (key : ℕ) (fits : Bool) (w : Work) → Near fits w → stage_of k w.hub.lines ≡ Fresh → (not c.clean_session && eqb (length c.client_id) 0) ≡ false → Both nothing w
-      → has key w.hub.sessions ≡ true → (o : Option Conn) → up_on key w.hub.lines ≡ o → Both nothing (goes_on k c client key (ends_on o w.hub.lines) (take_over o fits w))
-  over_both k c client key fits w near fresh ok h there None e = goes_on_both k c client key false w fresh ok h (upper_none key w.hub.lines e) (λ keeps. there)
+  over_both : (k : Conn) (c : Connect) (client : List ℕ) (key : ℕ) (fits : Bool) (w : Work) → Near fits w → stage_of k w.hub.connections ≡ AwaitingConnect → (not c.clean_session && eqb (length c.client_id) 0) ≡ false → Both nothing w
+      → has key w.hub.sessions ≡ true → (o : Option Conn) → up_on key w.hub.connections ≡ o → Both nothing (goes_on k c client key (ends_on o w.hub.connections) (take_over o fits w))
+  over_both k c client key fits w near fresh ok h there None e = goes_on_both k c client key false w fresh ok h (upper_none key w.hub.connections e) (λ keeps. there)
   over_both k c client key fits w near fresh ok h there (Some old) e =
-      let u = conn_up old (upper key w.hub.lines) (sym (up_is key w.hub.lines) ∙ e) in
-      let for_key : is_for key (stage_of old w.hub.lines) ≡ true = upper_stage key (old, u.0) w.hub.lines h.0.apart u.1 in
-      let far : same_conn old k ≡ false = false_from_ne_true (same_conn old k) (λ same. true≢false (sym for_key ∙ ap (λ (n : Conn). is_for key (stage_of n w.hub.lines)) (one_conn old k same) ∙ ap (is_for key) fresh)) in
-      let none : upper key (shut old w).hub.lines ≡ None = upper_shut old key w h.0.apart ∙ ap (unless old) u.1 ∙ unless_itself old u.0 in
-      goes_on_both k c client key (is_clean (stage_of old w.hub.lines)) (close old TakenOver fits w) (closed_other old k TakenOver fits w far ∙ fresh) ok (close_both old TakenOver fits w near ways.over h)
+      let u = conn_up old (upper key w.hub.connections) (sym (up_is key w.hub.connections) ∙ e) in
+      let for_key : is_for key (stage_of old w.hub.connections) ≡ true = upper_stage key (old, u.0) w.hub.connections h.0.apart u.1 in
+      let far : same_conn old k ≡ false = false_from_ne_true (same_conn old k) (λ same. true≢false (sym for_key ∙ ap (λ (n : Conn). is_for key (stage_of n w.hub.connections)) (one_conn old k same) ∙ ap (is_for key) fresh)) in
+      let none : upper key (shut old w).hub.connections ≡ None = upper_shut old key w h.0.apart ∙ ap (unless old) u.1 ∙ unless_itself old u.0 in
+      goes_on_both k c client key (is_clean (stage_of old w.hub.connections)) (close old TakenOver fits w) (closed_other old k TakenOver fits w far ∙ fresh) ok (close_both old TakenOver fits w near ways.over h)
       (lines_closed (upper key) (upper_firm key) None old TakenOver fits w none) (λ keeps. has_closed key true old TakenOver fits w keeps there)
 
-  admit_both : (k : Conn) (c : Connect) (client : List ℕ) (fits : Bool) (w : Work) → Near fits w → stage_of k w.hub.lines ≡ Fresh → (not c.clean_session && eqb (length c.client_id) 0) ≡ false → Both nothing w
-      → (o : Option ℕ) → key_of client w.hub.sessions ≡ o → Both nothing (admit k c client o fits w)
+  admit_both : (k : Conn) (c : Connect) (client : List ℕ) (fits : Bool) (w : Work) → Near fits w → stage_of k w.hub.connections ≡ AwaitingConnect → (not c.clean_session && eqb (length c.client_id) 0) ≡ false → Both nothing w
+      → (o : Option ℕ) → key_of client w.hub.sessions ≡ o → Both nothing (accept_connect k c client o fits w)
   admit_both k c client fits w near fresh ok h None e = greet_new_both k c client w fresh ok h
-  admit_both k c client fits w near fresh ok h (Some key) e = over_both k c client key fits w near fresh ok h (key_there client key w.hub.sessions e) (up_on key w.hub.lines) refl
+  admit_both k c client fits w near fresh ok h (Some key) e = over_both k c client key fits w near fresh ok h (key_there client key w.hub.sessions e) (up_on key w.hub.connections) refl
 
-  welcomes_both : (k : Conn) (c : Connect) (fits : Bool) (w : Work) → Near fits w → stage_of k w.hub.lines ≡ Fresh → Both nothing w → (code : Option RefusalCode) → refusal c w.hub ≡ code → Both nothing (welcomes k c code fits w)
-  unfolding welcomes
+  welcomes_both : (k : Conn) (c : Connect) (fits : Bool) (w : Work) → Near fits w → stage_of k w.hub.connections ≡ AwaitingConnect → Both nothing w → (code : Option RefusalCode) → refusal c w.hub ≡ code → Both nothing (on_connect k c code fits w)
+  unfolding on_connect
   welcomes_both k c fits w near fresh h (Some code) e =
       let out = packets.ConnAck (connacks.Refused code) ∷ [] in
       close_both k (Own (reasons.Refused code)) fits (put_on k out w) (nearby.put fits k out w near) (ways.own (reasons.Refused code)) (both.put k out nothing w h)
   welcomes_both k c fits w near fresh h None e =
       admit_both k c (client_of c w.hub.sessions) fits w near fresh (accepted c w.hub e) h (key_of (client_of c w.hub.sessions) w.hub.sessions) refl
 
-  at_first_both : (k : Conn) (p : Packet) (fits : Bool) (w : Work) → Near fits w → stage_of k w.hub.lines ≡ Fresh → Both nothing w → Both nothing (at_first k p fits w)
-  unfolding at_first
+  at_first_both : (k : Conn) (p : Packet) (fits : Bool) (w : Work) → Near fits w → stage_of k w.hub.connections ≡ AwaitingConnect → Both nothing w → Both nothing (on_first_packet k p fits w)
+  unfolding on_first_packet
   at_first_both k (packets.Connect c) fits w near fresh h = welcomes_both k c fits w near fresh h (refusal c w.hub) refl
   at_first_both k p fits w near fresh h = close_both k (Own reasons.Unexpected) fits w near (ways.own reasons.Unexpected) h
 
   -- ---- any packet
 
-  comes_in_both : (now : ℕ) (k : Conn) (p : Packet) (fits : Bool) (s : Stage) (w : Work) → Near fits w → Fills May k p w → stage_of k w.hub.lines ≡ heard now s → Both nothing w → After (key_on s) k p (comes_in k p fits s w)
-  unfolding comes_in
-  comes_in_both now k p fits Fresh w near full e h = at_first_both k p fits w near e h
-  comes_in_both now k p fits (UpFor key terms moment) w near full e h =
+  comes_in_both : (now : ℕ) (k : Conn) (p : Packet) (fits : Bool) (s : ConnectionState) (w : Work) → Near fits w → Fills May k p w → stage_of k w.hub.connections ≡ touched now s → Both nothing w → After (key_on s) k p (dispatch_packet k p fits s w)
+  unfolding dispatch_packet
+  comes_in_both now k p fits AwaitingConnect w near full e h = at_first_both k p fits w near e h
+  comes_in_both now k p fits (ConnectedAs key terms last_activity) w near full e h =
       after_replies k key terms now p fits w near e h
-      (full key (ap key_on e) (is_tied key (k, terms.clean_session) w.hub h.0 (upper_at k key terms now w.hub.lines h.0.apart e)).1) (server_gets p (end_of key w.hub.sessions)).close refl
-  comes_in_both now k p fits Shut w near full e h = h
+      (full key (ap key_on e) (is_tied key (k, terms.clean_session) w.hub h.0 (upper_at k key terms now w.hub.connections h.0.apart e)).1) (server_gets p (end_of key w.hub.sessions)).close refl
+  comes_in_both now k p fits Closed w near full e h = h
 
-  arrives_both : (k : Conn) (p : Packet) (g : Growth) (w : Work) → Near g.will_fits w → Fills May k p (heard_on k w) → Both nothing w → After (key_on (stage_of k w.hub.lines)) k p (arrives k p g w)
+  arrives_both : (k : Conn) (p : Packet) (g : Growth) (w : Work) → Near g.will_fits w → Fills May k p (touched_on k w) → Both nothing w → After (key_on (stage_of k w.hub.connections)) k p (arrives k p g w)
   unfolding arrives
   arrives_both k p g w near full h =
-      let on = key_on (stage_of k w.hub.lines) in
-      cond_both g.fits (comes_in k p g.will_fits (stage_of k w.hub.lines) (heard_on k w)) (close k (Own reasons.Memory) g.will_fits w) (After on k p)
-      (λ fits. comes_in_both w.hub.clock k p g.will_fits (stage_of k w.hub.lines) (heard_on k w)
-      (nearby.lines g.will_fits (with_line (λ x. record x { stage = heard w.hub.clock x.stage }) k) w near) full (stage_heard k w) (mild_both (λ x. record x { stage = heard w.hub.clock x.stage }) k nothing w (heard_mild w.hub.clock) h))
+      let on = key_on (stage_of k w.hub.connections) in
+      cond_both g.fits (dispatch_packet k p g.will_fits (stage_of k w.hub.connections) (touched_on k w)) (close k (Own reasons.Memory) g.will_fits w) (After on k p)
+      (λ fits. comes_in_both w.hub.clock k p g.will_fits (stage_of k w.hub.connections) (touched_on k w)
+      (nearby.connections g.will_fits (with_connection (λ x. record x { stage = touched w.hub.clock x.stage }) k) w near) full (stage_heard k w) (mild_both (λ x. record x { stage = touched w.hub.clock x.stage }) k nothing w (heard_mild w.hub.clock) h))
       (λ starved. after_closed on k p (Own reasons.Memory) g.will_fits w near (ways.own reasons.Memory) h)
 
-  pub takes_both : (k : Conn) (p : Packet) (g : Growth) (w : Work) → Near g.will_fits w → Fills May k p (heard_on k w) → Both nothing w → Both nothing (takes k p g w)
+  pub takes_both : (k : Conn) (p : Packet) (g : Growth) (w : Work) → Near g.will_fits w → Fills May k p (touched_on k w) → Both nothing w → Both nothing (takes k p g w)
   unfolding takes
   takes_both k p g w near full h =
       let a = arrives_both k p g w near full h in
       let v = arrives k p g w in
-      (a.0, outer.noted (noted (key_on (stage_of k w.hub.lines)) (is_open (stage_of k v.hub.lines)) p) v a.1)
+      (a.0, outer.noted (noted (key_on (stage_of k w.hub.connections)) (is_open (stage_of k v.hub.connections)) p) v a.1)
 
-  pub breaks_both : (k : Conn) (fault : DecodeFault) (fits : Bool) (w : Work) → Near fits w → Both nothing w → Both nothing (breaks k fault fits w)
-  unfolding breaks
+  pub breaks_both : (k : Conn) (fault : DecodeFault) (fits : Bool) (w : Work) → Near fits w → Both nothing w → Both nothing (on_malformed k fault fits w)
+  unfolding on_malformed
   breaks_both k fault fits w near h = go (broken k fault w).close
     where
       go : (c : Option CloseReason) → Both nothing (closes_by k c fits (put_on k (broken k fault w).out w))
@@ -283,7 +283,7 @@ module _ (R : Debt → Work → Type 0) (May : HubClose → Type 0) (Near : Bool
   pub holding_both : (k : Conn) (b : List ℕ) (w : Work) → Both nothing w → Both nothing (holding k b w)
   holding_both k b w h = mild_both (λ x. record x { held = b }) k nothing w (holding_mild b) h
 
-  pub ticks_both : ((fits : Bool) (w : Work) → Near fits w) → (now : ℕ) (xs : List Line) (w w2 : Work) → Ticks now xs w w2 → Both nothing w → Both nothing w2
+  pub ticks_both : ((fits : Bool) (w : Work) → Near fits w) → (now : ℕ) (xs : List HubConnection) (w w2 : Work) → Ticks now xs w w2 → Both nothing w → Both nothing w2
   ticks_both near now xs w w2 (Done v) h = h
   ticks_both near now xs w w2 (InTime x ys v v2 soon more) h = ticks_both near now ys v v2 more h
   ticks_both near now xs w w2 (Late x ys fits v v2 late more) h =

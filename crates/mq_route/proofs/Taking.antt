@@ -14,8 +14,8 @@ use Rattle.mq_route.specs.declared.close.HubClose.{HubClose}
 use Rattle.mq_route.specs.declared.event.HubEvent.{HubEvent}
 use Rattle.mq_route.specs.declared.event.HubEvent.TheVariants.{Opened, Bytes, Ended, Tick, Collect}
 use Rattle.mq_route.specs.declared.reply.HubReply.{HubReply}
-use Rattle.mq_route.specs.declared.stage.Stage.TheVariants.{UpFor}
-use Rattle.mq_route.specs.declared.stage.Terms.{Terms}
+use Rattle.mq_route.specs.declared.connection_state.ConnectionState.TheVariants.{ConnectedAs}
+use Rattle.mq_route.specs.declared.connection_state.ConnectionTerms.{ConnectionTerms}
 use Rattle.mq_route.specs.Routed.{taken_by, taken}
 use Rattle.mq_route.specs.Hub.{HubState, HubSession, new_hub, new_end, no_end, stage_of, without_session, is_open, held_on, up_on, end_of, with_end}
 use Rattle.mq_route.specs.Work.{Work, begin, said, with_sessions, staged, shut, put_on, put_where, does, remove, remove_if}
@@ -222,14 +222,14 @@ module _ (log : List Act) (before : List (ℕ × Packet)) where
   shut_hands k why w r = idle_act (acts.Closed k why) ((before ++ w.came) ++ []) [] w.did w.hub (λ c. refl) r
 
   -- a connection that is up is closed
-  closes_hands : (k : Conn) (why : HubClose) (key : ℕ) (terms : Terms) (moment : ℕ) (w : Work) → Sound w.hub → stage_of k w.hub.lines ≡ UpFor key terms moment → Hands nothing w → Hands nothing (closing k why key terms w)
-  closes_hands k why key terms moment w s stage r = go terms.clean_session refl
+  closes_hands : (k : Conn) (why : HubClose) (key : ℕ) (terms : ConnectionTerms) (last_activity : ℕ) (w : Work) → Sound w.hub → stage_of k w.hub.connections ≡ ConnectedAs key terms last_activity → Hands nothing w → Hands nothing (closing k why key terms w)
+  closes_hands k why key terms last_activity w s stage r = go terms.clean_session refl
     where
       v : Hands nothing (said (acts.Closed k why) (shut k w))
       v = shut_hands k why w r
 
       clean : (end_of key w.hub.sessions).clean ≡ terms.clean_session
-      clean = (is_tied key (k, terms.clean_session) w.hub s (upper_at k key terms moment w.hub.lines s.apart stage)).2
+      clean = (is_tied key (k, terms.clean_session) w.hub s (upper_at k key terms last_activity w.hub.connections s.apart stage)).2
 
       go : (b : Bool) → terms.clean_session ≡ b → Hands nothing (remove_if b key (with_sessions (with_end key (over (end_of key w.hub.sessions))) (said (acts.Closed k why) (shut k w))))
       go true is =
@@ -251,16 +251,16 @@ module _ (log : List Act) (before : List (ℕ × Packet)) where
         λ c le. r.2 c (omega arith),
       )
 
-  rises_hands : (k : Conn) (key : ℕ) (terms : Terms) (moment : ℕ) (move : End → Reply) (present : Bool) (w : Work) → (move (end_of key w.hub.sessions)).end.received ≡ (end_of key w.hub.sessions).received → Hands nothing w
-      → Hands nothing (rising k key terms moment move present w)
+  rises_hands : (k : Conn) (key : ℕ) (terms : ConnectionTerms) (last_activity : ℕ) (move : End → Reply) (present : Bool) (w : Work) → (move (end_of key w.hub.sessions)).end.received ≡ (end_of key w.hub.sessions).received → Hands nothing w
+      → Hands nothing (rising k key terms last_activity move present w)
   unfolding does taken_by
-  rises_hands k key terms moment move present w same r =
-      let v = staged k (UpFor key terms moment) w in
+  rises_hands k key terms last_activity move present w same r =
+      let v = staged k (ConnectedAs key terms last_activity) w in
       let e = end_of key w.hub.sessions in
       let xs = (before ++ w.came) ++ [] in
       let u = with_sessions (with_end key (move e).end) v in
-      let d = put_where (up_on key v.hub.lines) (move e).out u in
-      let q = put_where_keeps Hands inner (up_on key v.hub.lines) (move e).out nothing u (ends_hands key (move e).end xs [] (log ++ w.did) v.hub same r) in
+      let d = put_where (up_on key v.hub.connections) (move e).out u in
+      let q = put_where_keeps Hands inner (up_on key v.hub.connections) (move e).out nothing u (ends_hands key (move e).end xs [] (log ++ w.did) v.hub same r) in
       idle_act (acts.Up k key present) ((before ++ d.came) ++ []) [] d.did d.hub (λ c. refl) q
 
   pub outer : Outer Hands Freely Anywhere
@@ -269,11 +269,11 @@ module _ (log : List Act) (before : List (ℕ × Packet)) where
     gets = λ key p w s there up g r. gets_hands key p w s there g r;
     noted = noted_hands;
     shuts = λ k why w may s free r. shut_hands k why w r;
-    closes = λ k why key terms moment w may s e r. closes_hands k why key terms moment w s e r;
-    drops = λ k why key terms moment fits w near stage m has short r. drops_hands key (closing k why key terms w) r;
+    closes = λ k why key terms last_activity w may s e r. closes_hands k why key terms last_activity w s e r;
+    drops = λ k why key terms last_activity fits w near stage m has short r. drops_hands key (closing k why key terms w) r;
     removes = λ key w s none r. removes_hands key w r;
     begins = begins_hands;
-    rises = λ k key terms moment move present w s known free none there up clean received r. rises_hands k key terms moment move present w received r;
+    rises = λ k key terms last_activity move present w s known free none there up clean received r. rises_hands k key terms last_activity move present w received r;
   }
 
 -- ---- events
@@ -299,13 +299,13 @@ hands_event log before h (Opened k) r w right d s a =
 hands_event log before h (Bytes k piece) r w right d s a =
     let R = Hands log before in
     let start = holding_both R Freely Anywhere (inner log before) (outer log before) freely anywhere k [] (begin h) (s, starts log before h a) in
-    let end = comes_both R Freely Anywhere (inner log before) (outer log before) freely anywhere (λ fits w. tt) tt h.config.limits k (held_on k h.lines ++ piece) (holding k [] (begin h)) w d.0 start in
+    let end = comes_both R Freely Anywhere (inner log before) (outer log before) freely anywhere (λ fits w. tt) tt h.config.limits k (held_on k h.connections ++ piece) (holding k [] (begin h)) w d.0 start in
     ends log before r w (acts_in _ _ d.1) end.1
 hands_event log before h (Ended k) r w right d s a =
-    let end = ended_both (Hands log before) Freely Anywhere (inner log before) (outer log before) freely anywhere k (is_open (stage_of k h.lines)) d.0 (begin h) tt (s, starts log before h a) in
+    let end = ended_both (Hands log before) Freely Anywhere (inner log before) (outer log before) freely anywhere k (is_open (stage_of k h.connections)) d.0 (begin h) tt (s, starts log before h a) in
     subst (λ (w : Work). r.acts ≡ w.did → Kept (log ++ r.acts) (before ++ w.came) w.hub) (sym d.1) (λ same. ends log before r (ended k d.0 h) same end.1) (acts_in _ _ d.2)
 hands_event log before h (Tick now) r w right d s a =
-    let end = ticks_both (Hands log before) Freely Anywhere (inner log before) (outer log before) freely anywhere (λ fits w. tt) (max h.clock now) h.lines (begin (told now h)) w d.0 (s, starts log before h a) in
+    let end = ticks_both (Hands log before) Freely Anywhere (inner log before) (outer log before) freely anywhere (λ fits w. tt) (max h.clock now) h.connections (begin (told now h)) w d.0 (s, starts log before h a) in
     ends log before r w (acts_in _ _ d.1) end.1
 hands_event log before h (Collect k) r w right d s a =
     subst (λ (w : Work). r.acts ≡ w.did → Kept (log ++ r.acts) (before ++ w.came) w.hub) (sym d.0) (λ same. ends log before r (begin (collected k h)) same (starts log before h a))

@@ -14,7 +14,7 @@ use Rattle.mq_route.specs.declared.conn.Conn.{Conn}
 use Rattle.mq_route.specs.declared.act.Act.TheVariants as acts
 use Rattle.mq_route.specs.Copies.{will_message, retained_for}
 use Rattle.mq_route.specs.Hub.{end_of, with_end, up_on, for_key, copies_of}
-use Rattle.mq_route.specs.Work.{Work, said, with_sessions, put_where, does, publishes_next, place, place_all, have_room, share, last_will, subscribed, unsubscribed, retained_copies}
+use Rattle.mq_route.specs.Work.{Work, said, with_sessions, put_where, does, publishes_next, place, place_all, have_room, deliver, last_will, subscribed, unsubscribed, retained_copies}
 use Rattle.mq_route.specs.Arrives.{answers, answers_all, granted}
 use Rattle.mq_route.proofs.Ends.{Alike, publishes_alike, taking, takings, NoUp, NoUps}
 use Rattle.mq_route.proofs.Changes.{owes, nothing, Debt, Inner, IsShort, retaining, subscribing, unsubscribing}
@@ -27,7 +27,7 @@ module _ (R : Debt → Work → Type 0) (inner : Inner R) where
   pub does_keeps : (key : ℕ) (move : End → Reply) (o : Debt) (w : Work) → Alike (move (end_of key w.hub.sessions)).end (end_of key w.hub.sessions) → R o w → R o (does key move w)
   unfolding does
   does_keeps key move o w alike h =
-      put_where_keeps (up_on key w.hub.lines) (move (end_of key w.hub.sessions)).out o (with_sessions (with_end key (move (end_of key w.hub.sessions)).end) w)
+      put_where_keeps (up_on key w.hub.connections) (move (end_of key w.hub.sessions)).out o (with_sessions (with_end key (move (end_of key w.hub.sessions)).end) w)
       (inner.moves key (move (end_of key w.hub.sessions)).end o w alike h)
 
   place_keeps : (key : ℕ) (m : Message) (c t : List (ℕ × Message)) (n : List (ℕ × Packet)) (w : Work) → R (owes ((key, m) ∷ c) t n) w → R (owes c t n) (place key m w)
@@ -41,12 +41,12 @@ module _ (R : Debt → Work → Type 0) (inner : Inner R) where
   place_all_keeps [] t n w h = h
   place_all_keeps (x ∷ c) t n w h = place_all_keeps c t n (place x.0 x.1 w) (place_keeps x.0 x.1 c t n w h)
 
-  took_keeps : (key : ℕ) (m : Message) (t : List (ℕ × Message)) (n : List (ℕ × Packet)) (w : Work) → R (owes [] ((key, m) ∷ t) n) w → R (owes [] t n) (share (acts.Took key m) m w)
-  unfolding share
+  took_keeps : (key : ℕ) (m : Message) (t : List (ℕ × Message)) (n : List (ℕ × Packet)) (w : Work) → R (owes [] ((key, m) ∷ t) n) w → R (owes [] t n) (deliver (acts.Took key m) m w)
+  unfolding deliver
   took_keeps key m t n w h = place_all_keeps (copies_of m w.hub) t n (retaining (acts.Took key m) m w) (inner.took key m t n w h)
 
-  willed_keeps : (key : ℕ) (m : Message) (w : Work) → R nothing w → R nothing (share (acts.Will key m) m w)
-  unfolding share
+  willed_keeps : (key : ℕ) (m : Message) (w : Work) → R nothing w → R nothing (deliver (acts.Will key m) m w)
+  unfolding deliver
   willed_keeps key m w h = place_all_keeps (copies_of m w.hub) [] [] (retaining (acts.Will key m) m w) (inner.willed key m w h)
 
   -- what a will that is dropped keeps
@@ -57,7 +57,7 @@ module _ (R : Debt → Work → Type 0) (inner : Inner R) where
   unfolding last_will
   last_will_keeps key None fits w drops h = h
   last_will_keeps key (Some will) fits w drops h =
-      cond_both (fits && have_room (copies_of (will_message will) w.hub) w.hub) (share (acts.Will key (will_message will)) (will_message will) w) (said (acts.WillDropped key) w) (R nothing)
+      cond_both (fits && have_room (copies_of (will_message will) w.hub) w.hub) (deliver (acts.Will key (will_message will)) (will_message will) w) (said (acts.WillDropped key) w) (R nothing)
       (λ e. willed_keeps key (will_message will) w h) (λ e. drops will refl e h)
 
   subscribed_keeps : (key : ℕ) (rs : List Request) (c t : List (ℕ × Message)) (n : List (ℕ × Packet)) (w : Work) → R (owes c t n) w → R (owes (c ++ retained_copies key rs w.hub.retained) t n) (subscribed key rs w)

@@ -27,14 +27,14 @@ use Rattle.mq_route.specs.declared.conn.Conn.{Conn}
 use Rattle.mq_route.specs.declared.event.HubEvent.{HubEvent}
 use Rattle.mq_route.specs.declared.event.HubEvent.TheVariants.{Opened, Bytes, Ended, Tick, Collect}
 use Rattle.mq_route.specs.declared.reply.HubReply.{HubReply}
-use Rattle.mq_route.specs.declared.stage.Stage.{Stage}
-use Rattle.mq_route.specs.declared.stage.Stage.TheVariants.{Fresh, UpFor, Shut}
+use Rattle.mq_route.specs.declared.connection_state.ConnectionState.{ConnectionState}
+use Rattle.mq_route.specs.declared.connection_state.ConnectionState.TheVariants.{AwaitingConnect, ConnectedAs, Closed}
 use Rattle.mq_route.specs.Copies.{will_message, kept}
 use Rattle.mq_route.specs.Routed.{placed}
-use Rattle.mq_route.specs.Hub.{HubState, Line, new_hub, stage_of, is_open, held_on, up_on, key_of, end_of, copies_of}
+use Rattle.mq_route.specs.Hub.{HubState, HubConnection, new_hub, stage_of, is_open, held_on, up_on, key_of, end_of, copies_of}
 use Rattle.mq_route.specs.Welcome.{client_of, refusal}
 use Rattle.mq_route.specs.Work.{Work, begin, said, put_on, does, place, have_room, will_after, close, subscribed, retained_copies}
-use Rattle.mq_route.specs.Arrives.{Growth, granted, due, answers, heard_on, takes, broken}
+use Rattle.mq_route.specs.Arrives.{Growth, granted, due, answers, touched_on, takes, broken}
 use Rattle.mq_route.specs.Step.{holding, Comes, Arrives, Waits, Breaks, Starves, LetsGo, Ticks, Done, InTime, Late, Later, Does, event_refusal, told}
 use Rattle.mq_route.specs.Runs.{Episode, Follows}
 use Rattle.mq_route.specs.Dropped.{when_over}
@@ -87,13 +87,13 @@ in_will key (Some will) fits w =
     else []
 
 -- those of the will of a connection that is closed; only one that is up has a will
-abbrev pub in_leaving : Conn → HubClose → Bool → Stage → Work → List Placing
-in_leaving k why fits (UpFor key terms moment) w = in_will key (will_after why terms.will) fits (when_over k why key terms w)
-in_leaving k why fits Fresh w = []
-in_leaving k why fits Shut w = []
+abbrev pub in_leaving : Conn → HubClose → Bool → ConnectionState → Work → List Placing
+in_leaving k why fits (ConnectedAs key terms last_activity) w = in_will key (will_after why terms.will) fits (when_over k why key terms w)
+in_leaving k why fits AwaitingConnect w = []
+in_leaving k why fits Closed w = []
 
 abbrev pub in_close : Conn → HubClose → Bool → Work → List Placing
-in_close k why fits w = in_leaving k why fits (stage_of k w.hub.lines) w
+in_close k why fits w = in_leaving k why fits (stage_of k w.hub.connections) w
 
 -- those that are due by what an end tells: of a message that is handed on (3.3.5), and the retained ones (3.3.1.3)
 abbrev pub in_answer : ℕ → Happening → Work → List Placing
@@ -125,7 +125,7 @@ in_take_over (Some old) fits w = in_close old TakenOver fits w
 abbrev pub in_welcome : Conn → Option ℕ → Option RefusalCode → Bool → Work → List Placing
 in_welcome k stands (Some code) fits w = in_close k (Own (reasons.Refused code)) fits (put_on k (packets.ConnAck (connacks.Refused code) ∷ []) w)
 in_welcome k None None fits w = []
-in_welcome k (Some key) None fits w = in_take_over (up_on key w.hub.lines) fits w
+in_welcome k (Some key) None fits w = in_take_over (up_on key w.hub.connections) fits w
 
 -- the first packet
 abbrev pub in_first : Conn → Packet → Bool → Work → List Placing
@@ -133,15 +133,15 @@ in_first k (packets.Connect c) fits w = in_welcome k (key_of (client_of c w.hub.
 in_first k p fits w = in_close k (Own reasons.Unexpected) fits w
 
 -- a packet on a connection that is so far
-abbrev pub in_packet : Conn → Packet → Bool → Stage → Work → List Placing
-in_packet k p fits Fresh w = in_first k p fits w
-in_packet k p fits (UpFor key terms moment) w = in_replies k key (server_gets p) (server_gets p (end_of key w.hub.sessions)).close fits w
-in_packet k p fits Shut w = []
+abbrev pub in_packet : Conn → Packet → Bool → ConnectionState → Work → List Placing
+in_packet k p fits AwaitingConnect w = in_first k p fits w
+in_packet k p fits (ConnectedAs key terms last_activity) w = in_replies k key (server_gets p) (server_gets p (end_of key w.hub.sessions)).close fits w
+in_packet k p fits Closed w = []
 
 -- a whole packet comes, with memory or without
 abbrev pub in_takes : Conn → Packet → Growth → Work → List Placing
 in_takes k p g w =
-    if g.fits then in_packet k p g.will_fits (stage_of k w.hub.lines) (heard_on k w) else in_close k (Own reasons.Memory) g.will_fits w
+    if g.fits then in_packet k p g.will_fits (stage_of k w.hub.connections) (touched_on k w) else in_close k (Own reasons.Memory) g.will_fits w
 
 -- bytes that are no packet come
 abbrev pub in_breaks : Conn → Option CloseReason → Bool → Work → List Placing
@@ -157,7 +157,7 @@ in_comes limits k b w w2 (Starves c fits v on some) = in_close k (Own reasons.Me
 in_comes limits k b w w2 (LetsGo c v closed) = []
 
 -- it is this moment
-abbrev pub in_ticks : (now : ℕ) (xs : List Line) (w w2 : Work) → Ticks now xs w w2 → List Placing
+abbrev pub in_ticks : (now : ℕ) (xs : List HubConnection) (w w2 : Work) → Ticks now xs w w2 → List Placing
 in_ticks now xs w w2 (Done v) = []
 in_ticks now xs w w2 (InTime x ys v v2 soon more) = in_ticks now ys v v2 more
 in_ticks now xs w w2 (Late x ys fits v v2 late more) =
@@ -167,9 +167,9 @@ in_ticks now xs w w2 (Later x ys v late) = []
 -- the copies that a step places
 abbrev pub in_step : (h : HubState) (e : HubEvent) (r : HubReply) (w : Work) → Does h e r w → List Placing
 in_step h (Opened k) r w d = []
-in_step h (Bytes k piece) r w d = in_comes h.config.limits k (held_on k h.lines ++ piece) (holding k [] (begin h)) w d.0
-in_step h (Ended k) r w d = if is_open (stage_of k h.lines) then in_close k PeerEnded d.0 (begin h) else []
-in_step h (Tick now) r w d = in_ticks (max h.clock now) h.lines (begin (told now h)) w d.0
+in_step h (Bytes k piece) r w d = in_comes h.config.limits k (held_on k h.connections ++ piece) (holding k [] (begin h)) w d.0
+in_step h (Ended k) r w d = if is_open (stage_of k h.connections) then in_close k PeerEnded d.0 (begin h) else []
+in_step h (Tick now) r w d = in_ticks (max h.clock now) h.connections (begin (told now h)) w d.0
 in_step h (Collect k) r w d = []
 
 pub record AcceptLaws : Type 0 where

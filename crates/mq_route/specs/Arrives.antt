@@ -21,12 +21,12 @@ use Rattle.mq_end.specs.State.{server_faulted}
 use Rattle.mq_route.specs.declared.conn.Conn.{Conn}
 use Rattle.mq_route.specs.declared.act.Act.TheVariants as acts
 use Rattle.mq_route.specs.declared.close.HubClose.TheVariants.{Own, TargetFull, TakenOver}
-use Rattle.mq_route.specs.declared.stage.Stage.{Stage}
-use Rattle.mq_route.specs.declared.stage.Terms.{Terms}
-use Rattle.mq_route.specs.declared.stage.Stage.TheVariants.{Fresh, UpFor, Shut}
-use Rattle.mq_route.specs.Hub.{HubState, new_end, with_line, stage_of, up_on, is_open, key_on, key_of, end_of, end_on, copies_of}
+use Rattle.mq_route.specs.declared.connection_state.ConnectionState.{ConnectionState}
+use Rattle.mq_route.specs.declared.connection_state.ConnectionTerms.{ConnectionTerms}
+use Rattle.mq_route.specs.declared.connection_state.ConnectionState.TheVariants.{AwaitingConnect, ConnectedAs, Closed}
+use Rattle.mq_route.specs.Hub.{HubState, new_end, with_connection, stage_of, up_on, is_open, key_on, key_of, end_of, end_on, copies_of}
 use Rattle.mq_route.specs.Welcome.{client_of, ends_with, refusal}
-use Rattle.mq_route.specs.Work.{Work, said, with_lines, staged, put_on, does, place_all, have_room, share, remove, close, subscribed, unsubscribed, retained_copies}
+use Rattle.mq_route.specs.Work.{Work, said, with_connections, staged, put_on, does, place_all, have_room, deliver, remove, close, subscribed, unsubscribed, retained_copies}
 
 -- Whether memory is there for a packet, and for the will that it sets free. A packet sets at most one will free: that of its
 -- connection where it closes that, or of the connection that it takes over.
@@ -54,7 +54,7 @@ unfoldable pub answers : Conn → ℕ → Happening → Work → Work
 -- the connection is up (3.2)
 answers k key (happens.Up present) w = said (acts.Up k key present) w
 -- a message is handed on: it is taken, retained and placed (3.3.1.3, 3.3.5)
-answers k key (happens.Handed m) w = share (acts.Took key m) m w
+answers k key (happens.Handed m) w = deliver (acts.Took key m) m w
 -- SUBSCRIBE: the subscriptions stand, SUBACK answers, and then the retained messages go out (3.8.4)
 answers k key (happens.Subscribe i requests) w =
     place_all (retained_copies key requests w.hub.retained) (does key (subacks i (granted requests)) (subscribed key requests w))
@@ -80,8 +80,8 @@ replies k key move None fits w =
     then answers_all k key (move (end_of key w.hub.sessions)).happenings (does key move w)
     else close k TargetFull fits w
 
-abbrev pub while_up : Conn → ℕ → Packet → Bool → Work → Work
-while_up k key p fits w = replies k key (server_gets p) (server_gets p (end_of key w.hub.sessions)).close fits w
+abbrev pub on_connected_packet : Conn → ℕ → Packet → Bool → Work → Work
+on_connected_packet k key p fits w = replies k key (server_gets p) (server_gets p (end_of key w.hub.sessions)).close fits w
 
 -- ---- CONNECT
 
@@ -90,13 +90,13 @@ abbrev pub greeting : Connect → End → Reply
 greeting c e = server_gets (packets.Connect c) (opens e).end
 
 -- what of it matters as long as the connection is up
-abbrev pub terms_of : Connect → Terms
+abbrev pub terms_of : Connect → ConnectionTerms
 terms_of c = record { clean_session = c.clean_session; keep_alive = c.keep_alive; will = c.will }
 
-unfoldable pub greet : Conn → Connect → ℕ → Work → Work
-greet k c key w =
+unfoldable pub resume_session : Conn → Connect → ℕ → Work → Work
+resume_session k c key w =
     answers_all k key (greeting c (end_of key w.hub.sessions)).happenings
-    (does key (greeting c) (staged k (UpFor key (terms_of c) w.hub.clock) w))
+    (does key (greeting c) (staged k (ConnectedAs key (terms_of c) w.hub.clock) w))
 
 -- a new session, with the next key (3.1.2.4)
 unfoldable pub new_session : List ℕ → Work → Work
@@ -107,8 +107,8 @@ new_session client w = record w {
   };
 }
 
-abbrev pub greet_new : Conn → Connect → List ℕ → Work → Work
-greet_new k c client w = greet k c w.hub.next_key (new_session client w)
+abbrev pub start_session : Conn → Connect → List ℕ → Work → Work
+start_session k c client w = resume_session k c w.hub.next_key (new_session client w)
 
 -- the connection on which the client is up is closed first (3.1.4)
 abbrev pub take_over : Option Conn → Bool → Work → Work
@@ -117,44 +117,44 @@ take_over (Some k) fits w = close k TakenOver fits w
 
 -- The session of this key goes on, unless it ended with the connection that was taken over, or clean session discards it (3.1.2.4).
 unfoldable pub goes_on : Conn → Connect → List ℕ → ℕ → Bool → Work → Work
-goes_on k c client key true w = greet_new k c client w
-goes_on k c client key false w = if c.clean_session then greet_new k c client (remove key w) else greet k c key w
+goes_on k c client key true w = start_session k c client w
+goes_on k c client key false w = if c.clean_session then start_session k c client (remove key w) else resume_session k c key w
 
-abbrev pub admit : Conn → Connect → List ℕ → Option ℕ → Bool → Work → Work
-admit k c client None fits w = greet_new k c client w
-admit k c client (Some key) fits w = goes_on k c client key (ends_with key w.hub) (take_over (up_on key w.hub.lines) fits w)
+abbrev pub accept_connect : Conn → Connect → List ℕ → Option ℕ → Bool → Work → Work
+accept_connect k c client None fits w = start_session k c client w
+accept_connect k c client (Some key) fits w = goes_on k c client key (ends_with key w.hub) (take_over (up_on key w.hub.connections) fits w)
 
 -- a CONNECT is refused, with CONNACK and a close (3.2.2.3), or accepted
-unfoldable pub welcomes : Conn → Connect → Option RefusalCode → Bool → Work → Work
-welcomes k c (Some code) fits w = close k (Own (reasons.Refused code)) fits (put_on k (packets.ConnAck (connacks.Refused code) ∷ []) w)
-welcomes k c None fits w = admit k c (client_of c w.hub.sessions) (key_of (client_of c w.hub.sessions) w.hub.sessions) fits w
+unfoldable pub on_connect : Conn → Connect → Option RefusalCode → Bool → Work → Work
+on_connect k c (Some code) fits w = close k (Own (reasons.Refused code)) fits (put_on k (packets.ConnAck (connacks.Refused code) ∷ []) w)
+on_connect k c None fits w = accept_connect k c (client_of c w.hub.sessions) (key_of (client_of c w.hub.sessions) w.hub.sessions) fits w
 
 -- the first packet has to be CONNECT (3.1)
-unfoldable pub at_first : Conn → Packet → Bool → Work → Work
-at_first k (packets.Connect c) fits w = welcomes k c (refusal c w.hub) fits w
-at_first k p fits w = close k (Own reasons.Unexpected) fits w
+unfoldable pub on_first_packet : Conn → Packet → Bool → Work → Work
+on_first_packet k (packets.Connect c) fits w = on_connect k c (refusal c w.hub) fits w
+on_first_packet k p fits w = close k (Own reasons.Unexpected) fits w
 
 -- ---- any packet
 
 -- a packet comes on a connection that is so far
-unfoldable pub comes_in : Conn → Packet → Bool → Stage → Work → Work
-comes_in k p fits Fresh w = at_first k p fits w
-comes_in k p fits (UpFor key terms moment) w = while_up k key p fits w
-comes_in k p fits Shut w = w
+unfoldable pub dispatch_packet : Conn → Packet → Bool → ConnectionState → Work → Work
+dispatch_packet k p fits AwaitingConnect w = on_first_packet k p fits w
+dispatch_packet k p fits (ConnectedAs key terms last_activity) w = on_connected_packet k key p fits w
+dispatch_packet k p fits Closed w = w
 
 -- the moment of its last whole packet is now (3.1.2.10)
-abbrev pub heard : ℕ → Stage → Stage
-heard now Fresh = Fresh
-heard now (UpFor key terms moment) = UpFor key terms now
-heard now Shut = Shut
+abbrev pub touched : ℕ → ConnectionState → ConnectionState
+touched now AwaitingConnect = AwaitingConnect
+touched now (ConnectedAs key terms last_activity) = ConnectedAs key terms now
+touched now Closed = Closed
 
-abbrev pub heard_on : Conn → Work → Work
-heard_on k w = with_lines (with_line (λ x. record x { stage = heard w.hub.clock x.stage }) k) w
+abbrev pub touched_on : Conn → Work → Work
+touched_on k w = with_connections (with_connection (λ x. record x { stage = touched w.hub.clock x.stage }) k) w
 
 -- A whole packet comes; where there is no memory for it, the connection is closed.
 unfoldable pub arrives : Conn → Packet → Growth → Work → Work
 arrives k p g w =
-    if g.fits then comes_in k p g.will_fits (stage_of k w.hub.lines) (heard_on k w)
+    if g.fits then dispatch_packet k p g.will_fits (stage_of k w.hub.connections) (touched_on k w)
     else close k (Own reasons.Memory) g.will_fits w
 
 -- it came from a client that is up, and didn't close the connection
@@ -166,7 +166,7 @@ noted None still p = []
 -- and it is written down (in the log alone) where it came from a client that is up, and didn't close the connection
 unfoldable pub takes : Conn → Packet → Growth → Work → Work
 takes k p g w = record (arrives k p g w) {
-  came = (arrives k p g w).came ++ noted (key_on (stage_of k w.hub.lines)) (is_open (stage_of k (arrives k p g w).hub.lines)) p;
+  came = (arrives k p g w).came ++ noted (key_on (stage_of k w.hub.connections)) (is_open (stage_of k (arrives k p g w).hub.connections)) p;
 }
 
 -- the connection closes where its end does
@@ -176,8 +176,8 @@ closes_by k (Some reason) fits w = close k (Own reason) fits w
 
 -- what the end that takes in what comes on a connection does with bytes that are no packet (3.1.2.2, 4.8)
 abbrev pub broken : Conn → DecodeFault → Work → Reply
-broken k fault w = server_faulted fault (end_on (stage_of k w.hub.lines) w.hub.sessions)
+broken k fault w = server_faulted fault (end_on (stage_of k w.hub.connections) w.hub.sessions)
 
 -- Bytes that are no packet come (4.8): the end says whether they are answered, and why it closes.
-unfoldable pub breaks : Conn → DecodeFault → Bool → Work → Work
-breaks k fault fits w = closes_by k (broken k fault w).close fits (put_on k (broken k fault w).out w)
+unfoldable pub on_malformed : Conn → DecodeFault → Bool → Work → Work
+on_malformed k fault fits w = closes_by k (broken k fault w).close fits (put_on k (broken k fault w).out w)

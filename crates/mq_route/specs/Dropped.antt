@@ -14,10 +14,10 @@ use Rattle.mq_route.specs.declared.conn.Conn.{Conn}
 use Rattle.mq_route.specs.declared.event.HubEvent.{HubEvent}
 use Rattle.mq_route.specs.declared.event.HubEvent.TheVariants.{Opened, Bytes, Ended, Tick, Collect}
 use Rattle.mq_route.specs.declared.reply.HubReply.{HubReply}
-use Rattle.mq_route.specs.declared.stage.Stage.TheVariants.{UpFor}
-use Rattle.mq_route.specs.declared.stage.Terms.{Terms}
+use Rattle.mq_route.specs.declared.connection_state.ConnectionState.TheVariants.{ConnectedAs}
+use Rattle.mq_route.specs.declared.connection_state.ConnectionTerms.{ConnectionTerms}
 use Rattle.mq_route.specs.Copies.{will_message}
-use Rattle.mq_route.specs.Hub.{HubState, Line, new_hub, stage_of, held_on, end_of, with_end, copies_of}
+use Rattle.mq_route.specs.Hub.{HubState, HubConnection, new_hub, stage_of, held_on, end_of, with_end, copies_of}
 use Rattle.mq_route.specs.Work.{Work, begin, said, shut, with_sessions, have_room, remove_if, will_after, close}
 use Rattle.mq_route.specs.Arrives.{takes}
 use Rattle.mq_route.specs.Step.{holding, Comes, Arrives, Waits, Breaks, Starves, LetsGo, Ticks, Done, InTime, Late, Later, Does, event_refusal, told}
@@ -39,7 +39,7 @@ abbrev pub dropped : List Act → List ℕ
 dropped log = flat_map dropped_by log
 
 -- when a connection that is up for a client is closed, and the session has ended where it is to
-abbrev pub when_over : Conn → HubClose → ℕ → Terms → Work → Work
+abbrev pub when_over : Conn → HubClose → ℕ → ConnectionTerms → Work → Work
 when_over k why key terms w =
     remove_if terms.clean_session key (with_sessions (with_end key (over (end_of key w.hub.sessions))) (said (acts.Closed k why) (shut k w)))
 
@@ -52,9 +52,9 @@ pub record LosesWill (fits : Bool) (w : Work) : Type 0 where
   pub conn : Conn
   pub why : HubClose
   pub key : ℕ
-  pub terms : Terms
-  pub moment : ℕ
-  pub up : stage_of conn at.hub.lines ≡ UpFor key terms moment
+  pub terms : ConnectionTerms
+  pub last_activity : ℕ
+  pub up : stage_of conn at.hub.connections ≡ ConnectedAs key terms last_activity
   pub will : Will
   pub has : will_after why terms.will ≡ Some will
   pub short : let after = when_over conn why key terms at in (fits ≡ false) ⊎ (have_room (copies_of (will_message will) after.hub) after.hub ≡ false)
@@ -68,7 +68,7 @@ ComesLosing limits k b w w2 (Starves c fits v on some) = LosesWill fits v
 ComesLosing limits k b w w2 (LetsGo c v closed) = ⊥
 
 -- one of the late connections does
-abbrev pub TicksLosing : (now : ℕ) (xs : List Line) (w w2 : Work) → Ticks now xs w w2 → Type 0
+abbrev pub TicksLosing : (now : ℕ) (xs : List HubConnection) (w w2 : Work) → Ticks now xs w w2 → Type 0
 TicksLosing now xs w w2 (Done v) = ⊥
 TicksLosing now xs w w2 (InTime x ys v v2 soon more) = TicksLosing now ys v v2 more
 TicksLosing now xs w w2 (Late x ys fits v v2 late more) = LosesWill fits v ⊎ TicksLosing now ys (close x.conn (Own reasons.KeepAlive) fits v) v2 more
@@ -77,9 +77,9 @@ TicksLosing now xs w w2 (Later x ys v late) = ⊥
 -- a connection that closes in the event does
 abbrev pub IsLosingEvent : (h : HubState) (e : HubEvent) (r : HubReply) (w : Work) → Does h e r w → Type 0
 IsLosingEvent h (Opened k) r w d = ⊥
-IsLosingEvent h (Bytes k piece) r w d = ComesLosing h.config.limits k (held_on k h.lines ++ piece) (holding k [] (begin h)) w d.0
+IsLosingEvent h (Bytes k piece) r w d = ComesLosing h.config.limits k (held_on k h.connections ++ piece) (holding k [] (begin h)) w d.0
 IsLosingEvent h (Ended k) r w d = LosesWill d.0 (begin h)
-IsLosingEvent h (Tick now) r w d = TicksLosing (max h.clock now) h.lines (begin (told now h)) w d.0
+IsLosingEvent h (Tick now) r w d = TicksLosing (max h.clock now) h.connections (begin (told now h)) w d.0
 IsLosingEvent h (Collect k) r w d = ⊥
 
 pub record WillLaws : Type 0 where

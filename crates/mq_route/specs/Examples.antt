@@ -121,15 +121,15 @@ pub record Examples : Type 0 where
       ≡ acts.Up (conn 1) 0 false ∷ acts.Subscribed 0 (97 ∷ 47 ∷ 43 ∷ []) Q1 ∷ acts.Subscribed 0 (97 ∷ 47 ∷ 35 ∷ []) Q2 ∷ acts.Up (conn 2) 1 false
       ∷ acts.Took 1 (msg (97 ∷ 47 ∷ 98 ∷ []) (104 ∷ 105 ∷ []) Q1 false) ∷ acts.Placed 0 (msg (97 ∷ 47 ∷ 98 ∷ []) (104 ∷ 105 ∷ []) Q1 false)
       ∷ acts.Closed (conn 2) (Own Left) ∷ acts.Removed 1 ∷ []
-  pub mixed_first : waiting_on (conn 1) mixed.hub.lines
+  pub mixed_first : waiting_on (conn 1) mixed.hub.connections
       ≡ 32 ∷ 2 ∷ 0 ∷ 0 ∷ 144 ∷ 4 ∷ 0 ∷ 1 ∷ 1 ∷ 2 ∷ 50 ∷ 9 ∷ 0 ∷ 3 ∷ 97 ∷ 47 ∷ 98 ∷ 0 ∷ 1 ∷ 104 ∷ 105 ∷ []
-  pub mixed_second : waiting_on (conn 2) mixed.hub.lines ≡ 32 ∷ 2 ∷ 0 ∷ 0 ∷ 64 ∷ 2 ∷ 0 ∷ 1 ∷ []
+  pub mixed_second : waiting_on (conn 2) mixed.hub.connections ≡ 32 ∷ 2 ∷ 0 ∷ 0 ∷ 64 ∷ 2 ∷ 0 ∷ 1 ∷ []
   pub mixed_routed : routed 0 (acts.Up (conn 1) 0 false ∷ acts.Subscribed 0 (97 ∷ 47 ∷ 43 ∷ []) Q1 ∷ acts.Subscribed 0 (97 ∷ 47 ∷ 35 ∷ []) Q2
       ∷ acts.Up (conn 2) 1 false
       ∷ acts.Took 1 (msg (97 ∷ 47 ∷ 98 ∷ []) (104 ∷ []) Q1 false) ∷ [])
       ≡ msg (97 ∷ 47 ∷ 98 ∷ []) (104 ∷ []) Q1 false ∷ []
   -- each new subscription is sent the retained message, with RETAIN; the empty one is placed, and not retained (3.3.1.3)
-  pub retained_bytes : waiting_on (conn 2) retained.hub.lines
+  pub retained_bytes : waiting_on (conn 2) retained.hub.connections
       ≡ 32 ∷ 2 ∷ 0 ∷ 0 ∷ 144 ∷ 3 ∷ 0 ∷ 1 ∷ 1 ∷ 49 ∷ 4 ∷ 0 ∷ 1 ∷ 97 ∷ 49 ∷ 144 ∷ 3 ∷ 0 ∷ 2 ∷ 1 ∷ 49 ∷ 4 ∷ 0 ∷ 1 ∷ 97 ∷ 49 ∷ 48 ∷ 3 ∷ 0 ∷ 1 ∷ 97 ∷ 144
       ∷ 3 ∷ 0 ∷ 3 ∷ 1 ∷ 176 ∷ 2 ∷ 0 ∷ 4 ∷ []
   pub retained_routed : routed 1 (acts.Took 0 (msg (97 ∷ []) (49 ∷ []) Q0 true) ∷ acts.Up (conn 2) 1 false ∷ acts.Subscribed 1 (35 ∷ []) Q1
@@ -139,7 +139,7 @@ pub record Examples : Type 0 where
   pub over_taken_acts : over_taken.did
       ≡ acts.Up (conn 1) 0 false ∷ acts.Up (conn 2) 1 false ∷ acts.Subscribed 1 (35 ∷ []) Q1 ∷ acts.Closed (conn 1) TakenOver
       ∷ acts.Will 0 (msg (119 ∷ []) (120 ∷ []) Q0 false) ∷ acts.Placed 1 (msg (119 ∷ []) (120 ∷ []) Q0 false) ∷ acts.Up (conn 3) 0 true ∷ []
-  pub over_taken_bytes : waiting_on (conn 3) over_taken.hub.lines ≡ 32 ∷ 2 ∷ 1 ∷ 0 ∷ []
+  pub over_taken_bytes : waiting_on (conn 3) over_taken.hub.connections ≡ 32 ∷ 2 ∷ 1 ∷ 0 ∷ []
   -- a session that clean session 1 replaced has no subscriptions (3.1.2.4)
   pub replaced_acts : replaced.did
       ≡ acts.Up (conn 1) 0 false ∷ acts.Subscribed 0 (35 ∷ []) Q1 ∷ acts.Closed (conn 1) PeerEnded ∷ acts.Removed 0 ∷ acts.Up (conn 2) 1 false
@@ -147,7 +147,7 @@ pub record Examples : Type 0 where
   -- who isn't a user is refused (3.2.2.3)
   pub strangers_acts : strangers.did ≡ acts.Closed (conn 1) (Own (Refused NotAuthorized))
       ∷ acts.Closed (conn 2) (Own (Refused BadUserNameOrPassword)) ∷ []
-  pub strangers_bytes : waiting_on (conn 1) strangers.hub.lines ≡ 32 ∷ 2 ∷ 0 ∷ 5 ∷ []
+  pub strangers_bytes : waiting_on (conn 1) strangers.hub.connections ≡ 32 ∷ 2 ∷ 0 ∷ 5 ∷ []
   -- a session is full: the publisher's connection is closed, its session is removed, and its will is dropped
   pub full_acts : full.did
       ≡ acts.Up (conn 1) 0 false ∷ acts.Subscribed 0 (35 ∷ []) Q2 ∷ acts.Up (conn 2) 1 false ∷ acts.Took 1 (msg (97 ∷ []) [] Q1 false)

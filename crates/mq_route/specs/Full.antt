@@ -16,7 +16,7 @@ use Rattle.mq_route.specs.declared.event.HubEvent.TheVariants.{Opened, Bytes, En
 use Rattle.mq_route.specs.declared.reply.HubReply.{HubReply}
 use Rattle.mq_route.specs.Hub.{HubState, new_hub, stage_of, held_on, key_on, end_of}
 use Rattle.mq_route.specs.Work.{Work, begin, have_room}
-use Rattle.mq_route.specs.Arrives.{due, heard_on, takes}
+use Rattle.mq_route.specs.Arrives.{due, touched_on, takes}
 use Rattle.mq_route.specs.Step.{holding, Comes, Arrives, Waits, Breaks, Starves, LetsGo, Does, event_refusal}
 use Rattle.mq_route.specs.Runs.{Episode, Follows}
 
@@ -52,13 +52,13 @@ IsRouted p = ⊥
 -- identifiers free (2.3.1).
 pub record IsTooMuch (k : Conn) (p : Packet) (w : Work) : Type 0 where
   pub key : ℕ
-  pub up : key_on (stage_of k w.hub.lines) ≡ Some key
+  pub up : key_on (stage_of k w.hub.connections) ≡ Some key
   pub routed : IsRouted p
   pub short : have_room (due key w.hub (server_gets p (end_of key w.hub.sessions)).happenings) w.hub ≡ false
 
 -- one of the packets that come is so
 abbrev pub ComesTooMuch : (limits : Bounds) (k : Conn) (b : List ℕ) (w w2 : Work) → Comes limits k b w w2 → Type 0
-ComesTooMuch limits k b w w2 (Arrives p first rest g v v2 on reads more) = IsTooMuch k p (heard_on k v) ⊎ ComesTooMuch limits k rest (takes k p g v) v2 more
+ComesTooMuch limits k b w w2 (Arrives p first rest g v v2 on reads more) = IsTooMuch k p (touched_on k v) ⊎ ComesTooMuch limits k rest (takes k p g v) v2 more
 ComesTooMuch limits k b w w2 (Waits c v on pending) = ⊥
 ComesTooMuch limits k b w w2 (Breaks c fault fits v on faulty) = ⊥
 ComesTooMuch limits k b w w2 (Starves c fits v on some) = ⊥
@@ -66,7 +66,7 @@ ComesTooMuch limits k b w w2 (LetsGo c v closed) = ⊥
 
 -- one of the packets of an event is so
 abbrev pub IsFullEvent : (h : HubState) (e : HubEvent) (r : HubReply) (w : Work) → Does h e r w → Type 0
-IsFullEvent h (Bytes k piece) r w d = ComesTooMuch h.config.limits k (held_on k h.lines ++ piece) (holding k [] (begin h)) w d.0
+IsFullEvent h (Bytes k piece) r w d = ComesTooMuch h.config.limits k (held_on k h.connections ++ piece) (holding k [] (begin h)) w d.0
 IsFullEvent h (Opened k) r w d = ⊥
 IsFullEvent h (Ended k) r w d = ⊥
 IsFullEvent h (Tick now) r w d = ⊥

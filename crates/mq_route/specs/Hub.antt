@@ -8,8 +8,8 @@ use Rattle.mq_end.specs.End.{End, blank_end}
 use Rattle.mq_end.specs.Server.{opens}
 use Rattle.mq_route.specs.declared.conn.Conn.{Conn}
 use Rattle.mq_route.specs.declared.config.HubConfig.{HubConfig}
-use Rattle.mq_route.specs.declared.stage.Stage.{Stage}
-use Rattle.mq_route.specs.declared.stage.Stage.TheVariants.{Fresh, UpFor, Shut}
+use Rattle.mq_route.specs.declared.connection_state.ConnectionState.{ConnectionState}
+use Rattle.mq_route.specs.declared.connection_state.ConnectionState.TheVariants.{AwaitingConnect, ConnectedAs, Closed}
 use Rattle.mq_route.specs.Copies.{is_hidden_name, copy_by}
 use Rattle.mq_route.specs.Routed.{same_conn}
 
@@ -21,9 +21,9 @@ pub record HubSession : Type 0 where
   pub end : End
 
 -- A connection: its name, how far it is, the bytes of the packet that isn't whole, and the bytes that wait to be written.
-pub record Line : Type 0 where
+pub record HubConnection : Type 0 where
   pub conn : Conn
-  pub stage : Stage
+  pub stage : ConnectionState
   pub held : List ℕ
   pub waiting : List ℕ
 
@@ -37,7 +37,7 @@ pub record HubState : Type 0 where
   pub rows : List Row
   pub retained : List Message
   pub sessions : List HubSession
-  pub lines : List Line
+  pub connections : List HubConnection
 
 -- the end of a new session (3.1.2.4)
 abbrev pub new_end : HubConfig → End
@@ -49,66 +49,66 @@ no_end = blank_end None
 
 -- a new broker
 abbrev pub new_hub : HubConfig → HubState
-new_hub config = record { config = config; clock = 0; next_key = 0; rows = []; retained = []; sessions = []; lines = [] }
+new_hub config = record { config = config; clock = 0; next_key = 0; rows = []; retained = []; sessions = []; connections = [] }
 
 -- ---- connections
 
-abbrev pub is_line : Conn → Line → Bool
-is_line k x = same_conn x.conn k
+abbrev pub is_connection : Conn → HubConnection → Bool
+is_connection k x = same_conn x.conn k
 
 -- a connection of this name is known: it was opened, and is not over
-abbrev pub knows : Conn → List Line → Bool
-knows k xs = list_any (is_line k) xs
+abbrev pub knows : Conn → List HubConnection → Bool
+knows k xs = list_any (is_connection k) xs
 
 -- how far a connection is; one that isn't known is closed
-abbrev pub stage_of : Conn → List Line → Stage
-stage_of k [] = Shut
-stage_of k (x ∷ xs) = if is_line k x then x.stage else stage_of k xs
+abbrev pub stage_of : Conn → List HubConnection → ConnectionState
+stage_of k [] = Closed
+stage_of k (x ∷ xs) = if is_connection k x then x.stage else stage_of k xs
 
-abbrev pub held_on : Conn → List Line → List ℕ
+abbrev pub held_on : Conn → List HubConnection → List ℕ
 held_on k [] = []
-held_on k (x ∷ xs) = if is_line k x then x.held else held_on k xs
+held_on k (x ∷ xs) = if is_connection k x then x.held else held_on k xs
 
-abbrev pub waiting_on : Conn → List Line → List ℕ
+abbrev pub waiting_on : Conn → List HubConnection → List ℕ
 waiting_on k [] = []
-waiting_on k (x ∷ xs) = if is_line k x then x.waiting else waiting_on k xs
+waiting_on k (x ∷ xs) = if is_connection k x then x.waiting else waiting_on k xs
 
-abbrev pub changed : (Line → Line) → Conn → Line → Line
-changed change k x = if is_line k x then change x else x
+abbrev pub changed : (HubConnection → HubConnection) → Conn → HubConnection → HubConnection
+changed change k x = if is_connection k x then change x else x
 
 -- the connections with that one changed
-abbrev pub with_line : (Line → Line) → Conn → List Line → List Line
-with_line change k xs = map (changed change k) xs
+abbrev pub with_connection : (HubConnection → HubConnection) → Conn → List HubConnection → List HubConnection
+with_connection change k xs = map (changed change k) xs
 
 -- and without it
-abbrev pub without_line : Conn → List Line → List Line
-without_line k xs = filter (λ x. not (is_line k x)) xs
+abbrev pub without_connection : Conn → List HubConnection → List HubConnection
+without_connection k xs = filter (λ x. not (is_connection k x)) xs
 
 -- it isn't closed
-abbrev pub is_open : Stage → Bool
-is_open Fresh = true
-is_open (UpFor key terms moment) = true
-is_open Shut = false
+abbrev pub is_open : ConnectionState → Bool
+is_open AwaitingConnect = true
+is_open (ConnectedAs key terms last_activity) = true
+is_open Closed = false
 
 -- the key of the session for which it is up
-abbrev pub key_on : Stage → Option ℕ
-key_on Fresh = None
-key_on (UpFor key terms moment) = Some key
-key_on Shut = None
+abbrev pub key_on : ConnectionState → Option ℕ
+key_on AwaitingConnect = None
+key_on (ConnectedAs key terms last_activity) = Some key
+key_on Closed = None
 
 -- its session ends with it (3.1.2.4)
-abbrev pub is_clean : Stage → Bool
-is_clean Fresh = false
-is_clean (UpFor key terms moment) = terms.clean_session
-is_clean Shut = false
+abbrev pub is_clean : ConnectionState → Bool
+is_clean AwaitingConnect = false
+is_clean (ConnectedAs key terms last_activity) = terms.clean_session
+is_clean Closed = false
 
-abbrev pub is_for : ℕ → Stage → Bool
-is_for key Fresh = false
-is_for key (UpFor other terms moment) = other == key
-is_for key Shut = false
+abbrev pub is_for : ℕ → ConnectionState → Bool
+is_for key AwaitingConnect = false
+is_for key (ConnectedAs other terms last_activity) = other == key
+is_for key Closed = false
 
 -- the connection on which a client is up
-abbrev pub up_on : ℕ → List Line → Option Conn
+abbrev pub up_on : ℕ → List HubConnection → Option Conn
 up_on key [] = None
 up_on key (x ∷ xs) = if is_for key x.stage then Some x.conn else up_on key xs
 
@@ -135,10 +135,10 @@ key_of client [] = None
 key_of client (s ∷ ss) = if bytes_eq s.client client then Some s.key else key_of client ss
 
 -- the end that takes in what comes on a connection: before CONNECT one without a session
-abbrev pub end_on : Stage → List HubSession → End
-end_on Fresh ss = (opens no_end).end
-end_on (UpFor key terms moment) ss = end_of key ss
-end_on Shut ss = no_end
+abbrev pub end_on : ConnectionState → List HubSession → End
+end_on AwaitingConnect ss = (opens no_end).end
+end_on (ConnectedAs key terms last_activity) ss = end_of key ss
+end_on Closed ss = no_end
 
 -- ---- copies
 
@@ -149,4 +149,4 @@ for_key key ms = map (λ m. (key, m)) ms
 unfoldable pub copies_of : Message → HubState → List (ℕ × Message)
 copies_of m h =
     if is_hidden_name m.topic then [] else
-    flat_map (λ found. for_key found.0 (copy_by (is_some (up_on found.0 h.lines)) m (Some found.1))) (matched m.topic h.rows)
+    flat_map (λ found. for_key found.0 (copy_by (is_some (up_on found.0 h.connections)) m (Some found.1))) (matched m.topic h.rows)

@@ -1,7 +1,7 @@
 -- What a user of a broker may rely on, over every run of it.
 use Rattle.std.specs.Prelude.{◌≡◌, ℕ, true, List, [], ◌∷◌, ◌++◌, ◌==◌, if◌then◌else◌}
 use Rattle.mq_packet.specs.declared.message.Message.{Message}
-use Rattle.mq_packet.specs.Spelling.{spellings}
+use Rattle.mq_packet.specs.Encoding.{encodings}
 use Rattle.mq_flow.specs.Receiver.{none_received}
 use Rattle.mq_route.specs.declared.conn.Conn.{Conn}
 use Rattle.mq_route.specs.declared.config.HubConfig.{HubConfig}
@@ -33,5 +33,5 @@ pub record OutputLaws : Type 0 where
   -- spellings of the packets that are put out on it
   pub written_is_put_out : (config : HubConfig) (before : List Episode) (h : HubState) (after : List Episode) (h2 : HubState)
       → Follows (new_hub config) before h → Follows h after h2
-      → (k : Conn) → Stays k after → knows k h.lines ≡ true
-      → written k after ++ waiting_on k h2.lines ≡ waiting_on k h.lines ++ spellings (on_conn k (sent_in after))
+      → (k : Conn) → Stays k after → knows k h.connections ≡ true
+      → written k after ++ waiting_on k h2.connections ≡ waiting_on k h.connections ++ encodings (on_conn k (sent_in after))

@@ -8,7 +8,7 @@ use Rattle.mq_route.specs.declared.event.HubEvent.{HubEvent}
 use Rattle.mq_route.specs.declared.event.HubEvent.TheVariants.{Opened, Bytes, Ended, Tick, Collect}
 use Rattle.mq_route.specs.declared.config.HubConfig.{HubConfig}
 use Rattle.mq_route.specs.declared.reply.HubReply.{HubReply}
-use Rattle.mq_route.specs.declared.trace.Account.{Account}
+use Rattle.mq_route.specs.declared.trace.ClientLog.{ClientLog}
 use Rattle.mq_route.specs.declared.trace.HubTrace.{HubTrace}
 use Rattle.mq_route.specs.Routed.{same_conn, placed, taken}
 use Rattle.mq_route.specs.Hub.{HubState, new_hub}
@@ -70,7 +70,7 @@ Stays k [] = Unit {0}
 Stays k (e ∷ es) = (ends_it k e.event ≡ false) × Stays k es
 
 -- the accounts of the clients from this key on, where acts placed and took these messages
-abbrev pub AreAccounts : ℕ → List Act → List Account → Type 0
+abbrev pub AreAccounts : ℕ → List Act → List ClientLog → Type 0
 AreAccounts c log [] = Unit {0}
 AreAccounts c log (a ∷ more) = (a.taken ≡ taken c log) × (a.placed ≡ placed c log) × AreAccounts (c + 1) log more
 

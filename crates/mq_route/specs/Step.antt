@@ -13,20 +13,20 @@ use Rattle.mq_route.specs.declared.event.HubEvent.TheVariants.{Opened, Bytes, En
 use Rattle.mq_route.specs.declared.reply.HubReply.{HubReply}
 use Rattle.mq_route.specs.declared.refusal.HubRefusal.{HubRefusal}
 use Rattle.mq_route.specs.declared.refusal.HubRefusal.TheVariants as refusals
-use Rattle.mq_route.specs.declared.stage.Stage.{Stage}
-use Rattle.mq_route.specs.declared.stage.Stage.TheVariants.{Fresh, UpFor, Shut}
-use Rattle.mq_route.specs.Hub.{HubState, Line, knows, stage_of, held_on, waiting_on, with_line, without_line, is_open}
-use Rattle.mq_route.specs.Work.{Work, begin, with_lines, close}
-use Rattle.mq_route.specs.Arrives.{Growth, takes, breaks}
+use Rattle.mq_route.specs.declared.connection_state.ConnectionState.{ConnectionState}
+use Rattle.mq_route.specs.declared.connection_state.ConnectionState.TheVariants.{AwaitingConnect, ConnectedAs, Closed}
+use Rattle.mq_route.specs.Hub.{HubState, HubConnection, knows, stage_of, held_on, waiting_on, with_connection, without_connection, is_open}
+use Rattle.mq_route.specs.Work.{Work, begin, with_connections, close}
+use Rattle.mq_route.specs.Arrives.{Growth, takes, on_malformed}
 
 -- ---- bytes that come
 
 abbrev pub is_open_on : Conn → Work → Bool
-is_open_on k w = is_open (stage_of k w.hub.lines)
+is_open_on k w = is_open (stage_of k w.hub.connections)
 
 -- a connection holds these bytes of a packet that isn't whole
 abbrev pub holding : Conn → List ℕ → Work → Work
-holding k b w = with_lines (with_line (λ x. record x { held = b }) k) w
+holding k b w = with_connections (with_connection (λ x. record x { held = b }) k) w
 
 -- These bytes come on a connection: the whole packets among them one after another, up to one at which it closes, and the rest.
 pub data Comes (limits : Bounds) (k : Conn) : List ℕ → Work → Work → Type 0 where
@@ -37,7 +37,7 @@ pub data Comes (limits : Bounds) (k : Conn) : List ℕ → Work → Work → Typ
   Waits : (b : List ℕ) (w : Work) → is_open_on k w ≡ true → Pending limits b → Comes limits k b w (holding k b w)
   -- they begin with what is no packet
   Breaks : (b : List ℕ) (fault : DecodeFault) (fits : Bool) (w : Work) → is_open_on k w ≡ true → Faulty limits b fault.kind fault.place
-      → Comes limits k b w (breaks k fault fits w)
+      → Comes limits k b w (on_malformed k fault fits w)
   -- there are some, and no memory for them
   Starves : (b : List ℕ) (fits : Bool) (w : Work) → is_open_on k w ≡ true → 0 < length b → Comes limits k b w (close k (Own reasons.Memory) fits w)
   -- the connection is closed, and lets them go
@@ -46,29 +46,29 @@ pub data Comes (limits : Bounds) (k : Conn) : List ℕ → Work → Work → Typ
 -- ---- time
 
 -- a connection that is up is late (3.1.2.10)
-abbrev pub is_late_on : ℕ → Stage → Bool
-is_late_on now Fresh = false
-is_late_on now (UpFor key terms moment) = is_late moment terms.keep_alive now
-is_late_on now Shut = false
+abbrev pub is_late_on : ℕ → ConnectionState → Bool
+is_late_on now AwaitingConnect = false
+is_late_on now (ConnectedAs key terms last_activity) = is_late last_activity terms.keep_alive now
+is_late_on now Closed = false
 
 -- It is this moment: the late ones among these connections are closed one after another. Where there is no memory for that, the
 -- others are left to the next time.
-pub data Ticks (now : ℕ) : List Line → Work → Work → Type 0 where
+pub data Ticks (now : ℕ) : List HubConnection → Work → Work → Type 0 where
   Done : (w : Work) → Ticks now [] w w
-  InTime : (x : Line) (xs : List Line) (w w2 : Work) → is_late_on now x.stage ≡ false → Ticks now xs w w2 → Ticks now (x ∷ xs) w w2
-  Late : (x : Line) (xs : List Line) (fits : Bool) (w w2 : Work) → is_late_on now x.stage ≡ true
+  InTime : (x : HubConnection) (xs : List HubConnection) (w w2 : Work) → is_late_on now x.stage ≡ false → Ticks now xs w w2 → Ticks now (x ∷ xs) w w2
+  Late : (x : HubConnection) (xs : List HubConnection) (fits : Bool) (w w2 : Work) → is_late_on now x.stage ≡ true
       → Ticks now xs (close x.conn (Own reasons.KeepAlive) fits w) w2 → Ticks now (x ∷ xs) w w2
-  Later : (x : Line) (xs : List Line) (w : Work) → is_late_on now x.stage ≡ true → Ticks now (x ∷ xs) w w
+  Later : (x : HubConnection) (xs : List HubConnection) (w : Work) → is_late_on now x.stage ≡ true → Ticks now (x ∷ xs) w w
 
 -- ---- events
 
 -- why an event is refused, memory aside: its connection is not known, or is already (4.2)
 abbrev pub event_refusal : HubEvent → HubState → Option HubRefusal
-event_refusal (Opened k) h = if knows k h.lines then Some refusals.ConnInUse else None
-event_refusal (Bytes k piece) h = if knows k h.lines then None else Some refusals.UnknownConn
-event_refusal (Ended k) h = if knows k h.lines then None else Some refusals.UnknownConn
+event_refusal (Opened k) h = if knows k h.connections then Some refusals.ConnInUse else None
+event_refusal (Bytes k piece) h = if knows k h.connections then None else Some refusals.UnknownConn
+event_refusal (Ended k) h = if knows k h.connections then None else Some refusals.UnknownConn
 event_refusal (Tick now) h = None
-event_refusal (Collect k) h = if knows k h.lines then None else Some refusals.UnknownConn
+event_refusal (Collect k) h = if knows k h.connections then None else Some refusals.UnknownConn
 
 -- what comes of a step: what was done, no bytes
 abbrev pub done : Bool → Work → HubReply
@@ -76,7 +76,7 @@ done alive w = record { acts = w.did; output = []; alive = alive }
 
 -- a new connection goes last
 abbrev pub opened : Conn → HubState → HubState
-opened k h = record h { lines = h.lines ++ record { conn = k; stage = Fresh; held = []; waiting = [] } ∷ [] }
+opened k h = record h { connections = h.connections ++ record { conn = k; stage = AwaitingConnect; held = []; waiting = [] } ∷ [] }
 
 abbrev pub ended_open : Conn → Bool → Bool → Work → Work
 ended_open k true fits w = close k PeerEnded fits w
@@ -84,11 +84,11 @@ ended_open k false fits w = w
 
 -- a connection that is over is closed, where it is open, and then not known any more
 abbrev pub ended : Conn → Bool → HubState → Work
-ended k fits h = with_lines (without_line k) (ended_open k (is_open (stage_of k h.lines)) fits (begin h))
+ended k fits h = with_connections (without_connection k) (ended_open k (is_open (stage_of k h.connections)) fits (begin h))
 
 -- the bytes that wait are taken
 abbrev pub collected : Conn → HubState → HubState
-collected k h = record h { lines = with_line (λ x. record x { waiting = [] }) k h.lines }
+collected k h = record h { connections = with_connection (λ x. record x { waiting = [] }) k h.connections }
 
 -- the clock is the greatest moment so far
 abbrev pub told : ℕ → HubState → HubState
@@ -98,11 +98,11 @@ told now h = record h { clock = max h.clock now }
 abbrev pub Does : HubState → HubEvent → HubReply → Work → Type 0
 Does h (Opened k) r w = (w ≡ begin (opened k h)) × (r ≡ done true w)
 Does h (Bytes k piece) r w =
-    Comes h.config.limits k (held_on k h.lines ++ piece) (holding k [] (begin h)) w × (r ≡ done (is_open_on k w) w)
+    Comes h.config.limits k (held_on k h.connections ++ piece) (holding k [] (begin h)) w × (r ≡ done (is_open_on k w) w)
 Does h (Ended k) r w = (fits : Bool) × (w ≡ ended k fits h) × (r ≡ done false w)
-Does h (Tick now) r w = Ticks (max h.clock now) h.lines (begin (told now h)) w × (r ≡ done true w)
+Does h (Tick now) r w = Ticks (max h.clock now) h.connections (begin (told now h)) w × (r ≡ done true w)
 Does h (Collect k) r w =
-    (w ≡ begin (collected k h)) × (r ≡ record { acts = []; output = waiting_on k h.lines; alive = is_open (stage_of k h.lines) })
+    (w ≡ begin (collected k h)) × (r ≡ record { acts = []; output = waiting_on k h.connections; alive = is_open (stage_of k h.connections) })
 
 -- HubStep: this reply and this broker come of an event.
 pub record HubStep (h : HubState) (e : HubEvent) (r : HubReply) (h2 : HubState) : Type 0 where

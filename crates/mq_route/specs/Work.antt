@@ -6,7 +6,7 @@ use Rattle.mq_packet.specs.declared.connect.Will.{Will}
 use Rattle.mq_packet.specs.declared.message.Message.{Message}
 use Rattle.mq_packet.specs.declared.packet.Packet.{Packet}
 use Rattle.mq_packet.specs.declared.packet.Request.{Request}
-use Rattle.mq_packet.specs.Spelling.{spellings}
+use Rattle.mq_packet.specs.Encoding.{encodings}
 use Rattle.mq_flow.specs.Next.{next_identifier}
 use Rattle.mq_flow.specs.Sender.{uses}
 use Rattle.mq_end.specs.declared.reason.CloseReason.TheVariants.{Left}
@@ -17,10 +17,10 @@ use Rattle.mq_route.specs.declared.act.Act.{Act}
 use Rattle.mq_route.specs.declared.act.Act.TheVariants as acts
 use Rattle.mq_route.specs.declared.close.HubClose.{HubClose}
 use Rattle.mq_route.specs.declared.close.HubClose.TheVariants.{Own}
-use Rattle.mq_route.specs.declared.stage.Stage.{Stage}
-use Rattle.mq_route.specs.declared.stage.Stage.TheVariants.{Fresh, UpFor, Shut}
+use Rattle.mq_route.specs.declared.connection_state.ConnectionState.{ConnectionState}
+use Rattle.mq_route.specs.declared.connection_state.ConnectionState.TheVariants.{AwaitingConnect, ConnectedAs, Closed}
 use Rattle.mq_route.specs.Copies.{will_message, kept, retained_for}
-use Rattle.mq_route.specs.Hub.{HubState, HubSession, Line, with_line, stage_of, up_on, end_of, with_end, without_session, for_key, copies_of}
+use Rattle.mq_route.specs.Hub.{HubState, HubSession, HubConnection, with_connection, stage_of, up_on, end_of, with_end, without_session, for_key, copies_of}
 
 -- hub: the broker. did: what it did so far. sent: the packets that it put out, each with its connection. came: the packets that came
 -- from clients that are up, each with the client's key, but the ones at which the connection closed.
@@ -39,26 +39,26 @@ abbrev pub said : Act → Work → Work
 said act w = record w { did = w.did ++ act ∷ [] }
 
 -- connections and sessions changed
-abbrev pub with_lines : (List Line → List Line) → Work → Work
-with_lines change w = record w { hub = record w.hub { lines = change w.hub.lines } }
+abbrev pub with_connections : (List HubConnection → List HubConnection) → Work → Work
+with_connections change w = record w { hub = record w.hub { connections = change w.hub.connections } }
 
 abbrev pub with_sessions : (List HubSession → List HubSession) → Work → Work
 with_sessions change w = record w { hub = record w.hub { sessions = change w.hub.sessions } }
 
 -- a connection is so far
-abbrev pub staged : Conn → Stage → Work → Work
-staged k stage w = with_lines (with_line (λ x. record x { stage = stage }) k) w
+abbrev pub staged : Conn → ConnectionState → Work → Work
+staged k stage w = with_connections (with_connection (λ x. record x { stage = stage }) k) w
 
 -- a connection is closed: what it holds of a packet is gone, what waits to be written stays
 abbrev pub shut : Conn → Work → Work
-shut k w = with_lines (with_line (λ x. record x { stage = Shut; held = [] }) k) w
+shut k w = with_connections (with_connection (λ x. record x { stage = Closed; held = [] }) k) w
 
 -- ---- packets that go out
 
 -- packets are put out on a connection: the bytes that wait to be written grow by their spellings
 unfoldable pub put_on : Conn → List Packet → Work → Work
 put_on k ps w = record w {
-  hub = record w.hub { lines = with_line (λ x. record x { waiting = x.waiting ++ spellings ps }) k w.hub.lines };
+  hub = record w.hub { connections = with_connection (λ x. record x { waiting = x.waiting ++ encodings ps }) k w.hub.connections };
   sent = w.sent ++ map (λ p. (k, p)) ps;
 }
 
@@ -70,7 +70,7 @@ put_where (Some k) ps w = put_on k ps w
 -- the end of a session does this, and what it puts out goes to the client
 unfoldable pub does : ℕ → (End → Reply) → Work → Work
 does key move w =
-    put_where (up_on key w.hub.lines) (move (end_of key w.hub.sessions)).out
+    put_where (up_on key w.hub.connections) (move (end_of key w.hub.sessions)).out
     (with_sessions (with_end key (move (end_of key w.hub.sessions)).end) w)
 
 -- ---- messages that are placed
@@ -98,8 +98,8 @@ have_room copies h =
     list_all (λ s. nat_le (needs s.key copies) (h.config.capacity - length (uses s.end.book))) h.sessions
 
 -- a message is retained (3.3.1.3) and placed for all that match (3.3.5), after this act that says so
-unfoldable pub share : Act → Message → Work → Work
-share act m w =
+unfoldable pub deliver : Act → Message → Work → Work
+deliver act m w =
     place_all (copies_of m w.hub) (said act (record w { hub = record w.hub { retained = kept m w.hub.retained } }))
 
 -- ---- sessions that end, and wills
@@ -115,7 +115,7 @@ unfoldable pub last_will : ℕ → Option Will → Bool → Work → Work
 last_will key None fits w = w
 last_will key (Some will) fits w =
     if fits && have_room (copies_of (will_message will) w.hub) w.hub
-    then share (acts.Will key (will_message will)) (will_message will) w
+    then deliver (acts.Will key (will_message will)) (will_message will) w
     else said (acts.WillDropped key) w
 
 -- a client that left by DISCONNECT has no will any more (3.1.2.5, 3.14.4)
@@ -130,16 +130,16 @@ remove_if false key w = w
 
 -- what a connection that is closed leaves: nothing before CONNECT; else the session's end has none, the session ends where it
 -- is to, and then the will is published
-unfoldable pub leaves_behind : HubClose → Bool → Stage → Work → Work
-leaves_behind why fits Fresh w = w
-leaves_behind why fits (UpFor key terms moment) w =
+unfoldable pub leaves_behind : HubClose → Bool → ConnectionState → Work → Work
+leaves_behind why fits AwaitingConnect w = w
+leaves_behind why fits (ConnectedAs key terms last_activity) w =
     last_will key (will_after why terms.will) fits
     (remove_if terms.clean_session key (with_sessions (with_end key (over (end_of key w.hub.sessions))) w))
-leaves_behind why fits Shut w = w
+leaves_behind why fits Closed w = w
 
 -- a connection is closed (4.8); fits says that memory is there for its will
 unfoldable pub close : Conn → HubClose → Bool → Work → Work
-close k why fits w = leaves_behind why fits (stage_of k w.hub.lines) (said (acts.Closed k why) (shut k w))
+close k why fits w = leaves_behind why fits (stage_of k w.hub.connections) (said (acts.Closed k why) (shut k w))
 
 -- ---- subscriptions
 

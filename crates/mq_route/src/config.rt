@@ -1,7 +1,7 @@
 //! What a user says of a broker.
 
 use mq_decode::Limits;
-use mq_end::Items;
+use mq_end::BoxedList;
 use mq_packet::Binary;
 use mq_wire::Text;
 
@@ -29,5 +29,5 @@ pub struct HubConfig {
     /// The most sessions.
     pub max_sessions: usize,
     /// Who may connect; `None` where anybody may (3.1.3.4).
-    pub users: Option<Items<User>>,
+    pub users: Option<BoxedList<User>>,
 }

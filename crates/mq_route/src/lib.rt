@@ -7,22 +7,22 @@ mod act;
 mod close;
 mod config;
 mod conn;
+mod connection_state;
 mod event;
 mod laws;
 mod refusal;
 mod reply;
-mod stage;
 mod trace;
 
 pub use crate::act::Act;
 pub use crate::close::HubClose;
 pub use crate::config::{HubConfig, User};
 pub use crate::conn::Conn;
+pub use crate::connection_state::{ConnectionState, ConnectionTerms};
 pub use crate::event::HubEvent;
 pub use crate::laws::{
     accept_laws, examples, full_laws, output_laws, routing_laws, taking_laws, will_laws,
 };
 pub use crate::refusal::HubRefusal;
 pub use crate::reply::HubReply;
-pub use crate::stage::{Stage, Terms};
-pub use crate::trace::{Account, HubTrace};
+pub use crate::trace::{ClientLog, HubTrace};

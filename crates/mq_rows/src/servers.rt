@@ -180,15 +180,15 @@ fn add_ready(
     let Packet::Connect(connect) = packet else {
         return Err(Wrong::Words);
     };
-    match server.ready_to_rise(connect.as_connect(), messages, more) {
+    match server.reserve_connect(connect.as_connect(), messages, more) {
         Ok(()) => told.push_str("ready")?,
         Err(_) => told.push_str("no memory")?,
     }
     Ok(())
 }
 
-// `rise MORE PACKET BYTES QOS ..`
-fn ready_to_rise(
+// `connect_end MORE PACKET BYTES QOS ..`
+fn reserve_connect(
     alloc: Global,
     server: &mut ServerEnd,
     words: &mut Words<'_>,
@@ -226,7 +226,7 @@ fn tell_of_server(
         "suback" => suback(alloc, server, words, told),
         "unsuback" => unsuback(server, words, told),
         "ready" => ready(alloc, server, words, told),
-        "rise" => ready_to_rise(alloc, server, words, told),
+        "connect_end" => reserve_connect(alloc, server, words, told),
         _ => Err(Wrong::Words),
     }
 }

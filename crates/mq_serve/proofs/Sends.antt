@@ -14,8 +14,8 @@ use Rattle.mq_book.specs.contracts.book.Book as Book
 use Rattle.mq_book.proofs.entry.Entry.TheSendSync as entries
 use Rattle.mq_hub.proofs.hub.HubOver.TheSendSync as hubs
 use Rattle.mq_book.specs.contracts.shared.SharedHub as SharedHub
-use Rattle.mq_serve.specs.contracts.gate.Gate as Gate
-use Rattle.mq_serve.specs.contracts.hall.Hall as Hall
+use Rattle.mq_serve.specs.contracts.gate.Acceptor as Acceptor
+use Rattle.mq_serve.specs.contracts.hall.Server as Server
 
 chain_keyless : (xs : List (ℕ × ℕ)) (γ : ℕ) → Keyless (chain xs γ)
 chain_keyless [] γ = (tt, tt)
@@ -43,8 +43,8 @@ book_send L g = search (sendable, crosses, count_send, hubs.the_send, tries.the_
 pub hub_field_sync : (L : RattleType) (g : Ghosts L.Denot) → IsSync (SharedHub.the_field L g).row
 hub_field_sync L g = search (sendable, crosses, book_send) depth 40
 
-pub gate_sync : IsSync (Mutex.the_row Gate.the_row)
+pub gate_sync : IsSync (Mutex.the_row Acceptor.the_row)
 gate_sync = search (sendable, crosses) depth 40
 
-pub hall_sync : (L : RattleType) (g : Ghosts L.Denot) → IsSync (Hall.the_row L g)
+pub hall_sync : (L : RattleType) (g : Ghosts L.Denot) → IsSync (Server.the_row L g)
 hall_sync L g = search (sendable, crosses, hub_field_sync, gate_sync) depth 60

@@ -1,7 +1,7 @@
 //! Calls to workers that wait at their connections, by what came of a step.
 
 use mio::Waker;
-use mq_book::Hear;
+use mq_book::StepObserver;
 use mq_route::{Act, HubReply};
 use mq_topic::ClientKey;
 use std::alloc::{AllocError, Global};
@@ -25,23 +25,23 @@ impl Seat {
 /// Calls each worker whose connection has something new to write, or is closed, by the step of another. It wakes the worker where it waits
 /// for its connection, and else lets its next wait end at once.
 #[derive(Drop)]
-pub struct Calls {
+pub struct Wakers {
     seats: Mutex<Vec<Seat>>,
     wakers: Vec<Waker>,
 }
 
-impl Calls {
+impl Wakers {
     /// The calls to the workers that these wake, by their numbers. None of them serves a connection yet.
-    pub fn new(alloc: Global, wakers: Vec<Waker>) -> Result<Calls, AllocError> {
+    pub fn new(alloc: Global, wakers: Vec<Waker>) -> Result<Wakers, AllocError> {
         let seats = vec![in alloc; Seat::EMPTY; wakers.len()]?;
-        Ok(Calls {
+        Ok(Wakers {
             seats: Mutex::new(seats),
             wakers,
         })
     }
 }
 
-impl Hear for Calls {
+impl StepObserver for Wakers {
     fn hear<R: Wait>(&self, rt: &R, worker: u16, reply: &HubReply) {
         let acts = reply.acts.as_slice();
         if acts.is_empty() {

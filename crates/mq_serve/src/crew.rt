@@ -9,7 +9,7 @@ use std::thread::Threads;
 use std::time::Clock;
 
 /// What workers do beside each other, each with a part of its own.
-pub trait Crew {
+pub trait Workers {
     /// A worker's part.
     type Part;
 
@@ -17,11 +17,11 @@ pub trait Crew {
     type Outcome;
 
     /// Does a worker's part.
-    fn man<R: Wait + Clock>(&self, rt: &R, part: Self::Part) -> Self::Outcome;
+    fn run_one<R: Wait + Clock>(&self, rt: &R, part: Self::Part) -> Self::Outcome;
 }
 
-/// Two crews beside each other, as by `man_all`: what the parts of each hand back.
-pub fn man_both<H: Crew + Sync, K: Crew + Sync, R: Threads + Wait + Clock + Sync>(
+/// Two crews beside each other, as by `run_all`: what the parts of each hand back.
+pub fn man_both<H: Workers + Sync, K: Workers + Sync, R: Threads + Wait + Clock + Sync>(
     rt: &R,
     crew: &H,
     parts: Vec<H::Part>,
@@ -41,14 +41,14 @@ where
 {
     thread::join(
         rt,
-        move || man_all(rt, crew, parts),
-        move || man_all(rt, other, others),
+        move || run_all(rt, crew, parts),
+        move || run_all(rt, other, others),
     )
 }
 
 /// Each part is done in a thread of its own, where one can be made: else parts are done one after another, and where one of them waits for
 /// another nothing goes on. What they hand back is in the order of the parts. Fails if memory runs out.
-pub fn man_all<H: Crew + Sync, R: Threads + Wait + Clock + Sync>(
+pub fn run_all<H: Workers + Sync, R: Threads + Wait + Clock + Sync>(
     rt: &R,
     crew: &H,
     parts: Vec<H::Part>,
@@ -58,5 +58,5 @@ where
     H::Outcome: Send + Drop,
     ensures { IfOk result (λ outcomes. vec_len outcomes ≡ vec_len parts) }
 {
-    thread::map_vec(rt, parts, &|part| crew.man(rt, part))
+    thread::map_vec(rt, parts, &|part| crew.run_one(rt, part))
 }

@@ -2,8 +2,8 @@
 
 ghost use Rattle.std.specs.Prelude.{◌≡◌, ◌+◌, OnSome, IfNone};
 
-use crate::watched::{Post, Watched};
-use mq_book::Door;
+use crate::watched::{PolledStream, WorkerPoll};
+use mq_book::ConnectionSource;
 use std::io::ErrorKind;
 use std::net::{TcpListener, TcpStream};
 use std::sync::{Mutex, Wait};
@@ -11,18 +11,18 @@ use std::time::Clock;
 
 /// A listener of which so many connections are taken, and no more.
 #[derive(Drop)]
-pub struct Gate {
+pub struct Acceptor {
     listener: TcpListener,
     left: u32,
     is_broken: bool,
 }
 
-impl Gate {
+impl Acceptor {
     /// None is taken yet.
-    pub fn new(listener: TcpListener, connections: u32) -> Gate
+    pub fn new(listener: TcpListener, connections: u32) -> Acceptor
         ensures { result.left ≡ connections }
     {
-        Gate {
+        Acceptor {
             listener,
             left: connections,
             is_broken: false,
@@ -69,26 +69,30 @@ fn accept(listener: &TcpListener) -> Option<TcpStream> {
 
 /// A worker's way to the gate, which it has for itself while it waits for a connection, and from there to its post.
 #[derive(Drop)]
-pub struct Entrance<'a, R: Wait + Clock> {
+pub struct WorkerAcceptor<'a, R: Wait + Clock> {
     rt: &'a R,
-    gate: &'a Mutex<Gate>,
-    post: &'a Mutex<Post>,
+    gate: &'a Mutex<Acceptor>,
+    post: &'a Mutex<WorkerPoll>,
 }
 
-impl<'a, R: Wait + Clock> Entrance<'a, R> {
+impl<'a, R: Wait + Clock> WorkerAcceptor<'a, R> {
     /// The way through this gate to this post.
-    pub fn new(rt: &'a R, gate: &'a Mutex<Gate>, post: &'a Mutex<Post>) -> Entrance<'a, R> {
-        Entrance { rt, gate, post }
+    pub fn new(
+        rt: &'a R,
+        gate: &'a Mutex<Acceptor>,
+        post: &'a Mutex<WorkerPoll>,
+    ) -> WorkerAcceptor<'a, R> {
+        WorkerAcceptor { rt, gate, post }
     }
 }
 
-impl<'a, R: Wait + Clock> Door for Entrance<'a, R> {
-    type Stream = Watched<'a, R>;
+impl<'a, R: Wait + Clock> ConnectionSource for WorkerAcceptor<'a, R> {
+    type Stream = PolledStream<'a, R>;
 
-    fn next(&mut self) -> Option<Watched<'a, R>> {
+    fn next(&mut self) -> Option<PolledStream<'a, R>> {
         for _ in 0..u64::MAX {
             let stream = self.gate.lock(self.rt).take()?;
-            if let Ok(watched) = Watched::new(self.rt, self.post, stream) {
+            if let Ok(watched) = PolledStream::new(self.rt, self.post, stream) {
                 return Some(watched);
             }
         }

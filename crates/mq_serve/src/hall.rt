@@ -5,14 +5,14 @@ ghost use Rattle.std.specs.List.{sum_by};
 ghost use Rattle.mq_serve.specs.Ends.{record_limit};
 
 use crate::broker::broker_config;
-use crate::calls::Calls;
-use crate::crew::Crew;
+use crate::calls::Wakers;
+use crate::crew::Workers;
 use crate::ending::ServeEnd;
-use crate::gate::{Entrance, Gate};
+use crate::gate::{Acceptor, WorkerAcceptor};
 use crate::staying::stay;
-use crate::watched::Post;
+use crate::watched::WorkerPoll;
 use mq_book::{
-    Book, Desk, OnFull, Receipt, Runner, Share, SharedHub, WorkEnd, gather, work_through,
+    AuditedWorker, Book, OnFull, Receipt, Share, SharedHub, WorkEnd, Worker, gather, work_through,
 };
 use mq_stream::Elapsed;
 use std::alloc::{AllocError, Global};
@@ -46,16 +46,16 @@ impl Records {
 
 /// What a worker is given: its share, and where it waits.
 #[derive(Drop)]
-pub struct Station<L: Ledger> {
+pub struct WorkerStart<L: Ledger> {
     /// Its share.
     pub share: Share<L>,
     /// Where it waits for its connections' bytes, and for calls.
-    pub post: Post,
+    pub post: WorkerPoll,
 }
 
 /// What a worker hands back.
 #[derive(Drop)]
-pub struct Served<L: Ledger> {
+pub struct WorkerResult<L: Ledger> {
     /// Its share.
     pub share: Share<L>,
     /// The receipts that it kept, in order.
@@ -66,11 +66,11 @@ pub struct Served<L: Ledger> {
 
 /// A broker that workers share, and the gate through which connections come to it.
 #[derive(Drop)]
-pub struct Hall<L: Ledger> {
+pub struct Server<L: Ledger> {
     alloc: Global,
     shared: SharedHub<L>,
-    gate: Mutex<Gate>,
-    calls: Calls,
+    gate: Mutex<Acceptor>,
+    calls: Wakers,
     start: Instant,
     records: Records,
 }
@@ -84,17 +84,17 @@ pub struct Closed<L: Ledger> {
     pub receipts: Vec<Vec<Receipt>>,
 }
 
-impl<L: Ledger> Hall<L> {
+impl<L: Ledger> Server<L> {
     /// A new broker behind this gate, and a station for each of so many workers. Its moments begin at the start.
     pub fn open<N: Net>(
         net: &N,
         alloc: Global,
         blank: Blank,
         workers: u16,
-        gate: Gate,
+        gate: Acceptor,
         start: Instant,
         records: Records,
-    ) -> Result<(Hall<L>, Vec<Station<L>>), ServeEnd>
+    ) -> Result<(Server<L>, Vec<WorkerStart<L>>), ServeEnd>
         requires name { blank.name ≡ L.name }
         requires parts { blank.parts ≡ L.parts }
         requires each { blank.parts ≡ workers }
@@ -111,7 +111,7 @@ impl<L: Ledger> Hall<L> {
             records.limit(),
         )?;
         let (stations, calls) = placed(net, alloc, shares)?;
-        let hall = Hall {
+        let hall = Server {
             alloc,
             shared,
             gate: Mutex::new(gate),
@@ -127,15 +127,15 @@ impl<L: Ledger> Hall<L> {
         &self,
         rt: &R,
         share: Share<L>,
-        post: &Mutex<Post>,
+        post: &Mutex<WorkerPoll>,
         buffer: &mut [u8],
-    ) -> Served<L> {
+    ) -> WorkerResult<L> {
         let on_full = OnFull::Checkpoint;
-        let mut runner = Runner::new(rt, &self.shared, share, on_full, &self.calls);
-        let mut door = Entrance::new(rt, &self.gate, post);
+        let mut runner = Worker::new(rt, &self.shared, share, on_full, &self.calls);
+        let mut door = WorkerAcceptor::new(rt, &self.gate, post);
         let mut clock = Elapsed::since(rt, self.start);
         let end = work_through(&mut runner, self.alloc, &mut door, &mut clock, buffer);
-        Served {
+        WorkerResult {
             share: runner.into_share(),
             receipts: Vec::new(self.alloc),
             end,
@@ -147,16 +147,16 @@ impl<L: Ledger> Hall<L> {
         &self,
         rt: &R,
         share: Share<L>,
-        post: &Mutex<Post>,
+        post: &Mutex<WorkerPoll>,
         buffer: &mut [u8],
-    ) -> Served<L> {
+    ) -> WorkerResult<L> {
         let (alloc, on_full) = (self.alloc, OnFull::Stop);
-        let mut desk = Desk::new(rt, alloc, &self.shared, share, on_full, &self.calls);
-        let mut door = Entrance::new(rt, &self.gate, post);
+        let mut desk = AuditedWorker::new(rt, alloc, &self.shared, share, on_full, &self.calls);
+        let mut door = WorkerAcceptor::new(rt, &self.gate, post);
         let mut clock = Elapsed::since(rt, self.start);
         let end = stay(&mut desk, alloc, &mut door, &mut clock, buffer);
         let (share, receipts) = desk.into_parts();
-        Served {
+        WorkerResult {
             share,
             receipts,
             end,
@@ -165,12 +165,12 @@ impl<L: Ledger> Hall<L> {
 
     /// The book, once all workers are done and all connections were taken. Its entries since the beginning, those that were let go too, are
     /// as many as the workers made steps.
-    pub fn close(self, served: Vec<Served<L>>) -> Result<Closed<L>, ServeEnd>
+    pub fn close(self, served: Vec<WorkerResult<L>>) -> Result<Closed<L>, ServeEnd>
         requires all { vec_len served ≡ L.parts }
         requires some { 0 < vec_len served }
         ensures counted { IfOk result (λ c. c.book.first + length c.book.entries ≡ sum_by (λ s. s.share.count) served.items) }
     {
-        let Hall {
+        let Server {
             alloc,
             shared,
             gate,
@@ -183,15 +183,15 @@ impl<L: Ledger> Hall<L> {
     }
 }
 
-impl<L: Ledger> Crew for Hall<L> {
-    type Part = Station<L>;
+impl<L: Ledger> Workers for Server<L> {
+    type Part = WorkerStart<L>;
 
-    type Outcome = Served<L>;
+    type Outcome = WorkerResult<L>;
 
-    fn man<R: Wait + Clock>(&self, rt: &R, part: Station<L>) -> Served<L> {
-        let Station { share, post } = part;
+    fn run_one<R: Wait + Clock>(&self, rt: &R, part: WorkerStart<L>) -> WorkerResult<L> {
+        let WorkerStart { share, post } = part;
         let Ok(mut buffer) = vec![in self.alloc; 0u8; CHUNK] else {
-            return Served {
+            return WorkerResult {
                 share,
                 receipts: Vec::new(self.alloc),
                 end: Err(WorkEnd::Memory),
@@ -210,27 +210,27 @@ fn placed<L: Ledger, N: Net>(
     net: &N,
     alloc: Global,
     shares: Vec<Share<L>>,
-) -> Result<(Vec<Station<L>>, Calls), ServeEnd>
+) -> Result<(Vec<WorkerStart<L>>, Wakers), ServeEnd>
     ensures { IfOk result (λ r. map (λ s. s.share) r.0.items ≡ shares.items) }
 {
     let mut stations = Vec::with_capacity(alloc, shares.len())?;
     let mut wakers = Vec::with_capacity(alloc, shares.len())?;
     for share in shares {
-        let Ok((post, waker)) = Post::new(net, alloc) else {
+        let Ok((post, waker)) = WorkerPoll::new(net, alloc) else {
             return Err(ServeEnd::Net);
         };
-        let Ok(()) = stations.push(Station { share, post }) else {
+        let Ok(()) = stations.push(WorkerStart { share, post }) else {
             return Err(ServeEnd::Memory);
         };
         let Ok(()) = wakers.push(waker) else {
             return Err(ServeEnd::Memory);
         };
     }
-    Ok((stations, Calls::new(alloc, wakers)?))
+    Ok((stations, Wakers::new(alloc, wakers)?))
 }
 
 // Why the first of the workers that stopped has done so.
-fn first_stop<L: Ledger>(served: &[Served<L>]) -> Option<WorkEnd> {
+fn first_stop<L: Ledger>(served: &[WorkerResult<L>]) -> Option<WorkEnd> {
     for one in served {
         if let Err(why) = one.end {
             return Some(why);
@@ -240,7 +240,7 @@ fn first_stop<L: Ledger>(served: &[Served<L>]) -> Option<WorkEnd> {
 }
 
 // Why no whole book is left: a worker stopped, or so many connections were never taken.
-fn stop_of<L: Ledger>(served: &[Served<L>], left: u32) -> Option<ServeEnd> {
+fn stop_of<L: Ledger>(served: &[WorkerResult<L>], left: u32) -> Option<ServeEnd> {
     if let Some(why) = first_stop(served) {
         return Some(ServeEnd::from(why));
     }
@@ -254,7 +254,7 @@ fn stop_of<L: Ledger>(served: &[Served<L>], left: u32) -> Option<ServeEnd> {
 fn gathered<L: Ledger>(
     alloc: Global,
     shared: SharedHub<L>,
-    served: Vec<Served<L>>,
+    served: Vec<WorkerResult<L>>,
 ) -> Result<Closed<L>, AllocError>
     requires all { vec_len served ≡ L.parts }
     requires some { 0 < vec_len served }
@@ -270,7 +270,7 @@ fn gathered<L: Ledger>(
 // The shares that the workers hand back, and their receipts.
 fn parted<L: Ledger>(
     alloc: Global,
-    served: Vec<Served<L>>,
+    served: Vec<WorkerResult<L>>,
 ) -> Result<(Vec<Share<L>>, Vec<Vec<Receipt>>), AllocError>
     ensures { IfOk result (λ r. r.0.items ≡ map (λ s. s.share) served.items) }
 {

@@ -13,12 +13,12 @@ mod staying;
 mod watched;
 
 pub use crate::broker::broker_config;
-pub use crate::calls::Calls;
-pub use crate::crew::{Crew, man_all, man_both};
+pub use crate::calls::Wakers;
+pub use crate::crew::{Workers, man_both, run_all};
 pub use crate::ending::ServeEnd;
-pub use crate::gate::{Entrance, Gate};
-pub use crate::hall::{Closed, Hall, Records, Served, Station};
+pub use crate::gate::{Acceptor, WorkerAcceptor};
+pub use crate::hall::{Closed, Records, Server, WorkerResult, WorkerStart};
 pub use crate::printing::write_end;
-pub use crate::serving::{Duty, serve, serve_on};
+pub use crate::serving::{ServeOptions, serve, serve_on};
 pub use crate::staying::stay;
-pub use crate::watched::{Post, Watched};
+pub use crate::watched::{PolledStream, WorkerPoll};

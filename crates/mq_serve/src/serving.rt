@@ -4,10 +4,10 @@ ghost use Rattle.std.specs.Prelude.{◌≡◌, ◌<◌, ◌≤◌, IfOk};
 ghost use Rattle.mq_route.specs.Hub.{HubState};
 ghost use Rattle.mq_serve.specs.Printed.{AreSessions};
 
-use crate::crew::man_all;
+use crate::crew::run_all;
 use crate::ending::ServeEnd;
-use crate::gate::Gate;
-use crate::hall::{Hall, Records};
+use crate::gate::Acceptor;
+use crate::hall::{Records, Server};
 use crate::printing::{write_end, write_served};
 use mq_wire::Text;
 use std::alloc::Global;
@@ -25,7 +25,7 @@ const JOURNAL: usize = 10_000;
 
 /// What is to be served.
 #[derive(Clone, Copy, Debug)]
-pub struct Duty {
+pub struct ServeOptions {
     /// How many connections.
     pub connections: u32,
     /// How many workers beside each other, 1 to 64.
@@ -39,7 +39,7 @@ fn serve_by<L: Ledger + Send + Sync + 'static, R>(
     alloc: Global,
     blank: Blank,
     listener: TcpListener,
-    duty: Duty,
+    duty: ServeOptions,
 ) -> Result<Vec<Text>, ServeEnd>
 where
     R: Net + Threads + Wait + Clock + Sync,
@@ -52,8 +52,8 @@ where
     let Ok(start) = Instant::now(rt) else {
         return Err(ServeEnd::Net);
     };
-    let gate = Gate::new(listener, duty.connections);
-    let (hall, stations) = Hall::<L>::open(
+    let gate = Acceptor::new(listener, duty.connections);
+    let (hall, stations) = Server::<L>::open(
         rt,
         alloc,
         blank,
@@ -62,7 +62,7 @@ where
         start,
         Records::Passing(JOURNAL),
     )?;
-    let served = match man_all(rt, &hall, stations) {
+    let served = match run_all(rt, &hall, stations) {
         Ok(served) => served,
         Err(why) => {
             drop(hall);
@@ -80,7 +80,7 @@ fn serve_all<R>(
     rt: &R,
     alloc: Global,
     listener: TcpListener,
-    duty: Duty,
+    duty: ServeOptions,
 ) -> Result<Vec<Text>, ServeEnd>
 where
     R: Net + Threads + Wait + Clock + Sync,
@@ -96,7 +96,7 @@ pub fn serve_on<R, W>(
     rt: &R,
     alloc: Global,
     listener: TcpListener,
-    duty: Duty,
+    duty: ServeOptions,
     output: &mut W,
 ) -> io::Result<u8>
 where
@@ -119,7 +119,13 @@ where
 }
 
 /// Listens at this port of 127.0.0.1, or at a free one where it is 0, and serves its connections.
-pub fn serve<R, W>(rt: &R, alloc: Global, port: u16, duty: Duty, output: &mut W) -> io::Result<u8>
+pub fn serve<R, W>(
+    rt: &R,
+    alloc: Global,
+    port: u16,
+    duty: ServeOptions,
+    output: &mut W,
+) -> io::Result<u8>
 where
     R: Net<Listener = TcpListener, Stream = TcpStream> + Threads + Wait + Clock + Sync,
     W: Write,

@@ -2,7 +2,7 @@
 
 ghost use Rattle.mq_book.specs.Works.{Worked};
 
-use mq_book::{Desk, Door, Hear, WorkEnd, work};
+use mq_book::{AuditedWorker, ConnectionSource, StepObserver, WorkEnd, work};
 use mq_route::Conn;
 use mq_stream::Clock;
 use std::alloc::Global;
@@ -11,8 +11,8 @@ use std::sync::ledger::Ledger;
 
 /// A worker serves connections one after another, until there is no next one, and says how many. It keeps the receipts of all.
 #[tactic(auto, using(crate::proofs::Working::worked_none, crate::proofs::Working::worked_then))]
-pub fn stay<'a, L: Ledger, R: Wait, H: Hear, D: Door, C: Clock>(
-    desk: &mut Desk<'a, L, R, H>,
+pub fn stay<'a, L: Ledger, R: Wait, H: StepObserver, D: ConnectionSource, C: Clock>(
+    desk: &mut AuditedWorker<'a, L, R, H>,
     alloc: Global,
     door: &mut D,
     clock: &mut C,

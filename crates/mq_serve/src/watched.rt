@@ -6,7 +6,7 @@ ghost use Rattle.mq_stream.specs.Stream.{Arrives};
 
 use mio::net::TcpStream;
 use mio::{Events, Interest, Poll, Token, Waker};
-use mq_stream::{Arrival, Broken, Stream};
+use mq_stream::{Broken, ReadOutcome, Stream};
 use std::alloc::Global;
 use std::io;
 use std::io::{ErrorKind, Read, Write};
@@ -27,19 +27,19 @@ const CALLS: Token = Token(1);
 
 /// Where a worker waits.
 #[derive(Drop)]
-pub struct Post {
+pub struct WorkerPoll {
     poll: Poll,
     events: Events,
     // A call may have come while the worker waited for something else.
     is_called: bool,
 }
 
-impl Post {
+impl WorkerPoll {
     /// A post, and what wakes the worker that waits there.
-    pub fn new<N: Net>(net: &N, alloc: Global) -> io::Result<(Post, Waker)> {
+    pub fn new<N: Net>(net: &N, alloc: Global) -> io::Result<(WorkerPoll, Waker)> {
         let poll = Poll::new(net)?;
         let waker = Waker::new(poll.registry(), CALLS)?;
-        let post = Post {
+        let post = WorkerPoll {
             poll,
             events: Events::with_capacity(alloc, 2)?,
             is_called: false,
@@ -70,19 +70,19 @@ impl Post {
 
 /// A connection at a worker's post, which no other worker uses.
 #[derive(Drop)]
-pub struct Watched<'a, R: Wait + Clock> {
+pub struct PolledStream<'a, R: Wait + Clock> {
     rt: &'a R,
-    post: &'a Mutex<Post>,
+    post: &'a Mutex<WorkerPoll>,
     stream: TcpStream,
 }
 
-impl<'a, R: Wait + Clock> Watched<'a, R> {
+impl<'a, R: Wait + Clock> PolledStream<'a, R> {
     /// The connection is watched at this post, doesn't block any more, and sends its bytes at once.
     pub fn new(
         rt: &'a R,
-        post: &'a Mutex<Post>,
+        post: &'a Mutex<WorkerPoll>,
         stream: std::net::TcpStream,
-    ) -> io::Result<Watched<'a, R>> {
+    ) -> io::Result<PolledStream<'a, R>> {
         stream.set_nodelay(true)?;
         stream.set_nonblocking(true)?;
         let mut stream = TcpStream::from_std(stream);
@@ -91,7 +91,7 @@ impl<'a, R: Wait + Clock> Watched<'a, R> {
             .poll
             .registry()
             .register(&mut stream, BYTES, interests)?;
-        Ok(Watched { rt, post, stream })
+        Ok(PolledStream { rt, post, stream })
     }
 
     // Whether a write that began at this moment has waited long enough.
@@ -103,15 +103,15 @@ impl<'a, R: Wait + Clock> Watched<'a, R> {
     }
 
     // Reads what is there.
-    fn read_now(&mut self, room: &mut [u8]) -> Arrival
+    fn read_now(&mut self, room: &mut [u8]) -> ReadOutcome
         ensures { Arrives None None room.new result }
     {
         match self.stream.read(room) {
-            Ok(0) => Arrival::End,
-            Ok(count) => Arrival::Bytes(count),
+            Ok(0) => ReadOutcome::End,
+            Ok(count) => ReadOutcome::Bytes(count),
             Err(error) => match error.kind() {
-                ErrorKind::WouldBlock | ErrorKind::Interrupted => Arrival::Nothing,
-                _ => Arrival::Failed,
+                ErrorKind::WouldBlock | ErrorKind::Interrupted => ReadOutcome::Nothing,
+                _ => ReadOutcome::Failed,
             },
         }
     }
@@ -140,11 +140,11 @@ fn is_passing(error: &io::Error) -> bool {
     matches!(error.kind(), ErrorKind::WouldBlock | ErrorKind::Interrupted)
 }
 
-impl<R: Wait + Clock> Stream for Watched<'_, R> {
+impl<R: Wait + Clock> Stream for PolledStream<'_, R> {
     /// Reads what is there, or else waits for it. None comes where its time is up, or where the worker is called.
-    fn read(&mut self, room: &mut [u8]) -> Arrival {
+    fn read(&mut self, room: &mut [u8]) -> ReadOutcome {
         match self.read_now(room) {
-            Arrival::Nothing => {}
+            ReadOutcome::Nothing => {}
             arrival => return arrival,
         }
         self.post.lock(self.rt).wait_for_bytes();

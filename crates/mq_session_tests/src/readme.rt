@@ -75,22 +75,22 @@ fn read_again(alloc: Global, bytes: &[u8]) -> Result<Packet, Fail> {
     }
 }
 
-fn add_spelling(alloc: Global, packet: &Packet, out: &mut Vec<u8>) -> Result<(), Fail> {
+fn add_encoding(alloc: Global, packet: &Packet, out: &mut Vec<u8>) -> Result<(), Fail> {
     encode_into(packet, out)?;
     write_packet(alloc, packet, out)?;
     Ok(())
 }
 
-fn spelled_twice(alloc: Global) -> Result<String, Fail> {
+fn encoded_twice(alloc: Global) -> Result<String, Fail> {
     let packet = read_again(alloc, b"\x62\x02\x00\x01")?;
     let mut out = Vec::new(alloc);
-    add_spelling(alloc, &packet, &mut out)?;
+    add_encoding(alloc, &packet, &mut out)?;
     Ok(format!(in alloc; "{:?}", out.as_slice())?)
 }
 
 fn a_packet_is_read_and_written(rt: &impl Abort, alloc: Global) -> Result<(), Fail> {
     let wanted = "[98, 2, 0, 1, 98, 2, 0, 1]";
-    expect_told(rt, spelled_twice(alloc), wanted, "")
+    expect_told(rt, encoded_twice(alloc), wanted, "")
 }
 
 // What a view of bytes is.

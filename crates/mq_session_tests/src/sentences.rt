@@ -2,7 +2,7 @@
 
 use crate::compare::{expect_text, expect_told};
 use mq_decode::{DecodeFault, FaultKind};
-use mq_end::{CloseReason, Items, PublishRefusal};
+use mq_end::{BoxedList, CloseReason, PublishRefusal};
 use mq_flow::LoadError;
 use mq_packet::RefusalCode;
 use std::alloc::Global;
@@ -120,7 +120,7 @@ fn errors_of_loading_display_as_sentences(rt: &impl Abort, alloc: Global) -> Res
 
 // The copy of two items, as they are lent and as they are given away.
 fn copied_items(alloc: Global) -> Result<String, Fail> {
-    let items = Items::from_vec(vec![in alloc; 1_u8, 2]?);
+    let items = BoxedList::from_vec(vec![in alloc; 1_u8, 2]?);
     let copy = items.clone()?;
     let lent = copy.as_slice().len();
     Ok(format!(in alloc; "{lent} {:?}", copy.into_vec())?)

@@ -5,4 +5,4 @@ mod clock;
 mod stream;
 
 pub use crate::clock::{Clock, Elapsed};
-pub use crate::stream::{Arrival, Broken, Duplex, Socket, Stream};
+pub use crate::stream::{Broken, ReadOutcome, Socket, SocketStream, Stream};

@@ -11,7 +11,7 @@ use thiserror::Error;
 
 /// What a read of a stream gives.
 #[derive(Clone, Copy, Debug, PartialEq, Eq)]
-pub enum Arrival {
+pub enum ReadOutcome {
     /// So many bytes came.
     Bytes(usize),
     /// None came within the limit.
@@ -22,16 +22,16 @@ pub enum Arrival {
     Failed,
 }
 
-impl Arrival {
+impl ReadOutcome {
     /// How many bytes came, `None` where the stream can't be read on.
     pub fn count(self) -> Option<usize>
         ensures { (old new : Option (List ℕ)) (room : List ℕ) → Arrives old new room self
             → MatchOption result (Keeps old new) (λ n. (n ≤ length room) × Consumes old new (take n room)) }
     {
         match self {
-            Arrival::Bytes(count) => Some(count),
-            Arrival::Nothing => Some(0),
-            Arrival::End | Arrival::Failed => None,
+            ReadOutcome::Bytes(count) => Some(count),
+            ReadOutcome::Nothing => Some(0),
+            ReadOutcome::End | ReadOutcome::Failed => None,
         }
     }
 }
@@ -50,7 +50,7 @@ pub trait Stream {
     ghost written: { Self → Option (List ℕ) } = { λ _. None };
 
     /// Reads some bytes, and waits for the first of them no longer than its limit.
-    fn read(&mut self, room: &mut [u8]) -> Arrival
+    fn read(&mut self, room: &mut [u8]) -> ReadOutcome
         ensures comes { Arrives (coming self.old) (coming self.new) room.new result }
         ensures written { Keeps (written self.old) (written self.new) };
 
@@ -77,7 +77,7 @@ impl<R: Read, W: Write> Stream for Socket<R, W> {
 
     ghost written = { λ s. W.contents s.writer };
 
-    fn read(&mut self, room: &mut [u8]) -> Arrival {
+    fn read(&mut self, room: &mut [u8]) -> ReadOutcome {
         read_some(&mut self.reader, room)
     }
 
@@ -90,10 +90,10 @@ impl<R: Read, W: Write> Stream for Socket<R, W> {
 /// fails with `WouldBlock` or `TimedOut`. A read that does so brings nothing, and a write that does so has failed. Nothing is known of its
 /// bytes: no contract says what a read of such a thing does to what was written to it.
 #[derive(Drop)]
-pub struct Duplex<T: Read + Write>(pub T);
+pub struct SocketStream<T: Read + Write>(pub T);
 
-impl<T: Read + Write> Stream for Duplex<T> {
-    fn read(&mut self, room: &mut [u8]) -> Arrival {
+impl<T: Read + Write> Stream for SocketStream<T> {
+    fn read(&mut self, room: &mut [u8]) -> ReadOutcome {
         read_some(&mut self.0, room)
     }
 
@@ -103,21 +103,21 @@ impl<T: Read + Write> Stream for Duplex<T> {
 }
 
 // One read, again where a signal interrupts it.
-fn read_some<R: Read>(reader: &mut R, room: &mut [u8]) -> Arrival
+fn read_some<R: Read>(reader: &mut R, room: &mut [u8]) -> ReadOutcome
     ensures { Arrives (R.remaining reader.old) (R.remaining reader.new) room.new result }
 {
     for _ in 0..u64::MAX {
         match reader.read(room) {
-            Ok(0) => return Arrival::End,
-            Ok(count) => return Arrival::Bytes(count),
+            Ok(0) => return ReadOutcome::End,
+            Ok(count) => return ReadOutcome::Bytes(count),
             Err(error) => match error.kind() {
                 ErrorKind::Interrupted => {}
-                ErrorKind::WouldBlock | ErrorKind::TimedOut => return Arrival::Nothing,
-                _ => return Arrival::Failed,
+                ErrorKind::WouldBlock | ErrorKind::TimedOut => return ReadOutcome::Nothing,
+                _ => return ReadOutcome::Failed,
             },
         }
     }
-    Arrival::Failed
+    ReadOutcome::Failed
 }
 
 // Writes the bytes, again where a signal interrupts it.

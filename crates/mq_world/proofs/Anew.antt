@@ -11,8 +11,8 @@ use Rattle.mq_packet.specs.declared.message.Message.{Message}
 use Rattle.mq_decode.specs.Limits.{Bounds}
 use Rattle.mq_wire.specs.Text.{IsText}
 use Rattle.mq_flow.specs.declared.entry.Entry.{Entry}
-use Rattle.mq_flow.specs.declared.loading.LoadError.{LoadError}
-use Rattle.mq_flow.specs.declared.loading.LoadError.TheVariants as loading
+use Rattle.mq_flow.specs.declared.load.LoadError.{LoadError}
+use Rattle.mq_flow.specs.declared.load.LoadError.TheVariants as loading
 use Rattle.mq_flow.specs.declared.saved.Saved.{Saved}
 use Rattle.mq_flow.specs.Saved.{AreWithin, IsWithinLimit}
 use Rattle.mq_flow.specs.SavedTwo.{IsSavedAs, saved_form_two}
@@ -122,7 +122,7 @@ restarted_at law limit capacity w v was_open new is after bounds e = record {
 
 pub not_restarted_at : OverBytes → (limit : Bounds) (capacity : ℕ) (w : Wired) (m : Machine) (was_open : Bool) (new : EndState) (wire : List ℕ)
     → Stands limit capacity w m → was_open ≡ is_live w.client.state.end.state → new.end ≡ over w.client.state.end → SameBounds w.client.state new
-    → new.moment ≡ w.client.state.moment → new.output ≡ [] → new.room ≡ w.client.state.room → wire ≡ []
+    → new.last_activity ≡ w.client.state.last_activity → new.output ≡ [] → new.room ≡ w.client.state.room → wire ≡ []
     → IsNotRestarted limit capacity was_open refusals.Memory w (record { client = record w.client { state = new; wire = wire }; server = w.server })
 not_restarted_at law limit capacity w m was_open new wire s is after bounds still none kept gone =
     let v : Wired = record { client = record w.client { state = new; wire = wire }; server = w.server } in

@@ -11,7 +11,7 @@ use Rattle.mq_flow.specs.Receiver.{ReceiverBook}
 use Rattle.mq_flow.specs.Laws.{IsSound}
 use Rattle.mq_flow.proofs.Books.{laws as books, times_uses}
 use Rattle.mq_end.specs.declared.state.State.{State}
-use Rattle.mq_end.specs.declared.state.State.TheVariants.{Closed, Open, Up}
+use Rattle.mq_end.specs.declared.state.State.TheVariants.{Disconnected, Connecting, Connected}
 use Rattle.mq_end.specs.declared.reason.CloseReason.{CloseReason}
 use Rattle.mq_end.specs.End.{is_up}
 use Rattle.mq_end.specs.Both.{has_identifier}
@@ -66,9 +66,9 @@ turned capacity x y b =
     record { to_y = b.to_x; to_x = b.to_y; own_x = b.own_y; own_y = b.own_x; kept_x = b.kept_y; kept_y = b.kept_x; queue_x = b.queue_y; queue_y = b.queue_x }
 
 pub plain_joined : (st : State) (q ps : List Packet) → Each IsPlain q → Each IsPlain ps → Each IsPlain (joined st q ps)
-plain_joined Closed q ps a b = a
-plain_joined Open q ps a b = each_append IsPlain q ps a b
-plain_joined Up q ps a b = each_append IsPlain q ps a b
+plain_joined Disconnected q ps a b = a
+plain_joined Connecting q ps a b = each_append IsPlain q ps a b
+plain_joined Connected q ps a b = each_append IsPlain q ps a b
 
 -- after a move of x, which puts packets out
 pub finish : (capacity : ℕ) (x y x2 : Half) (ps : List Packet) (answering : Answers) (flying : Flight)
@@ -110,11 +110,11 @@ apart capacity b s i = let d = s.distinct i in let e = times_uses i b in let f =
 pub close_keeps : (capacity : ℕ) (h y : Half) (st : State) (q rest ps : List Packet) (reason : Option CloseReason) → answers ps ≡ no_answers
     → flight ps ≡ no_flight → Each IsPlain ps → Both capacity (upon h st q) y
     → Both capacity
-    (record h { end = record h.end { book = record h.end.book { claimed = [] }; state = Closed; clean = false }; coming = [] })
+    (record h { end = record h.end { book = record h.end.book { claimed = [] }; state = Disconnected; clean = false }; coming = [] })
     (put ps y)
 close_keeps capacity h y st q rest ps reason none_answering none_flying plain b =
     finish capacity (upon h st q) y
-    (record h { end = record h.end { book = record h.end.book { claimed = [] }; state = Closed; clean = false }; coming = [] }) ps
+    (record h { end = record h.end { book = record h.end.book { claimed = [] }; state = Disconnected; clean = false }; coming = [] }) ps
     (answers y.coming) (flight y.coming)
     (same_answers y.end.state y.coming ps none_answering) (same_flight y.end.state y.coming ps none_flying)
     (second.sender_drops b.to_y.0, first.sender_drops b.to_y.1, b.to_y.2)
@@ -129,26 +129,26 @@ close_keeps capacity h y st q rest ps reason none_answering none_flying plain b 
 
 pub up_keeps : (capacity : ℕ) (h y : Half) (p : Packet) (rest before : List Packet) (alive : ℕ) → answers before ≡ no_answers
     → flight before ≡ no_flight → Each IsPlain before
-    → answers (p ∷ rest) ≡ answers rest → flight (p ∷ rest) ≡ flight rest → Both capacity (upon h Open (p ∷ rest)) y
+    → answers (p ∷ rest) ≡ answers rest → flight (p ∷ rest) ≡ flight rest → Both capacity (upon h Connecting (p ∷ rest)) y
     → Both capacity
-    (record h { end = record h.end { book = all_sent h.end.book; state = Up; known = true; clean = false; keep_alive = alive }; coming = rest })
+    (record h { end = record h.end { book = all_sent h.end.book; state = Connected; known = true; clean = false; keep_alive = alive }; coming = rest })
     (put (before ++ resent h.end.book) y)
 up_keeps capacity h y p rest before alive none_answering none_flying plain rest_answers rest_flight b =
     let book : SenderBook = h.end.book in
-    let way2 : Second Up y.end.state (held Q2 book.entries) book.released y.end.received (answers rest).pubrecs (answers rest).pubcomps
+    let way2 : Second Connected y.end.state (held Q2 book.entries) book.released y.end.received (answers rest).pubrecs (answers rest).pubcomps
     (joined y.end.state (flight y.coming).publishes_2 (held Q2 book.entries))
     (joined y.end.state (flight y.coming).pubrels book.released) h.accepted.exactly_once y.handed.exactly_once =
-    subst (λ (a : Answers). Second Up y.end.state (held Q2 book.entries) book.released y.end.received a.pubrecs a.pubcomps
+    subst (λ (a : Answers). Second Connected y.end.state (held Q2 book.entries) book.released y.end.received a.pubrecs a.pubcomps
     (joined y.end.state (flight y.coming).publishes_2 (held Q2 book.entries))
     (joined y.end.state (flight y.coming).pubrels book.released) h.accepted.exactly_once y.handed.exactly_once)
     rest_answers (second.sender_up b.to_y.0) in
-    let way1 : First Up y.end.state (held Q1 book.entries) (answers rest).pubacks
+    let way1 : First Connected y.end.state (held Q1 book.entries) (answers rest).pubacks
     (joined y.end.state (flight y.coming).publishes_1 (held Q1 book.entries)) h.accepted.at_least_once y.handed.at_least_once h.freed =
-    subst (λ (a : Answers). First Up y.end.state (held Q1 book.entries) a.pubacks
+    subst (λ (a : Answers). First Connected y.end.state (held Q1 book.entries) a.pubacks
     (joined y.end.state (flight y.coming).publishes_1 (held Q1 book.entries)) h.accepted.at_least_once y.handed.at_least_once h.freed)
     rest_answers (first.sender_up b.to_y.1) in
-    finish capacity (upon h Open (p ∷ rest)) y
-    (record h { end = record h.end { book = all_sent h.end.book; state = Up; known = true; clean = false; keep_alive = alive }; coming = rest })
+    finish capacity (upon h Connecting (p ∷ rest)) y
+    (record h { end = record h.end { book = all_sent h.end.book; state = Connected; known = true; clean = false; keep_alive = alive }; coming = rest })
     (before ++ resent h.end.book)
     (answers y.coming) (record {
       publishes_2 = joined y.end.state (flight y.coming).publishes_2 (held Q2 book.entries);
@@ -158,16 +158,16 @@ up_keeps capacity h y p rest before alive none_answering none_flying plain rest_
     })
     (same_answers y.end.state y.coming (before ++ resent book) (resent_answers before book none_answering))
     (resent_joins y.end.state y.coming before book none_flying) (
-      subst (λ (entries_now : List (ℕ × Message)). Second Up y.end.state entries_now book.released y.end.received (answers rest).pubrecs
+      subst (λ (entries_now : List (ℕ × Message)). Second Connected y.end.state entries_now book.released y.end.received (answers rest).pubrecs
           (answers rest).pubcomps (joined y.end.state (flight y.coming).publishes_2 (held Q2 book.entries))
           (joined y.end.state (flight y.coming).pubrels book.released) h.accepted.exactly_once y.handed.exactly_once) (sym
           (held_sent Q2 book.entries)) way2,
-      subst (λ (entries_now : List (ℕ × Message)). First Up y.end.state entries_now (answers rest).pubacks
+      subst (λ (entries_now : List (ℕ × Message)). First Connected y.end.state entries_now (answers rest).pubacks
           (joined y.end.state (flight y.coming).publishes_1 (held Q1 book.entries)) h.accepted.at_least_once y.handed.at_least_once h.freed) (sym
           (held_sent Q1 book.entries)) way1,
       b.to_y.2,
     )
-    (subst (λ (f : Flight). Ways y.end.state y.end.book Up h.end.received (answers y.coming) f y.accepted h.handed y.freed) rest_flight
+    (subst (λ (f : Flight). Ways y.end.state y.end.book Connected h.end.received (answers y.coming) f y.accepted h.handed y.freed) rest_flight
     (second.receiver_up b.to_x.0, first.receiver_up b.to_x.1, b.to_x.2)) (
       books.sends capacity book b.own_x.0,
       each_map IsSent (λ (e : Entry). record { id = e.id; message = e.message; sent = true }) book.entries (λ e. refl),

@@ -17,7 +17,7 @@ use Rattle.mq_flow.specs.declared.entry.Entry.{Entry}
 use Rattle.mq_flow.specs.Window.{fits_window}
 use Rattle.mq_flow.specs.Sender.{SenderBook, blank_book, no_claims, resent, publish_packet, is_awaited, without_entry}
 use Rattle.mq_end.specs.declared.state.State.{State}
-use Rattle.mq_end.specs.declared.state.State.TheVariants.{Closed, Open, Up}
+use Rattle.mq_end.specs.declared.state.State.TheVariants.{Disconnected, Connecting, Connected}
 use Rattle.mq_end.specs.declared.reason.CloseReason.TheVariants as reasons
 use Rattle.mq_end.specs.End.{End, Reply, drops, is_up, over, closes, comes_up, renewed}
 use Rattle.mq_end.specs.Both.{stores, publish_gets, flow_gets, has_identifier, publishes_at}
@@ -140,14 +140,14 @@ module _ (test : Message → Bool) where
   server_up_well p e c h = flow_well p e c h
 
   client_well : (st : State) (p : Packet) (e : End) → IsCarried test p → Holds e.book → Leaves_well (client_gets_in st p e)
-  client_well Closed p e c h = (h, tt)
-  client_well Open p e c h = client_open_well p e h
-  client_well Up p e c h = client_up_well p e c h
+  client_well Disconnected p e c h = (h, tt)
+  client_well Connecting p e c h = client_open_well p e h
+  client_well Connected p e c h = client_up_well p e c h
 
   server_well : (st : State) (p : Packet) (e : End) → IsCarried test p → Holds e.book → Leaves_well (server_gets_in st p e)
-  server_well Closed p e c h = (h, tt)
-  server_well Open p e c h = server_open_well p e h
-  server_well Up p e c h = server_up_well p e c h
+  server_well Disconnected p e c h = (h, tt)
+  server_well Connecting p e c h = server_open_well p e h
+  server_well Connected p e c h = server_up_well p e c h
 
   gets_well : (side : Side) (p : Packet) (e : End) → IsCarried test p → Holds e.book → Leaves_well (gets side p e)
   gets_well Client p e c h = client_well e.state p e c h
@@ -156,14 +156,14 @@ module _ (test : Message → Bool) where
   -- ---- moves
 
   joined_well : (st : State) (q ps : List Packet) → Each (IsCarried test) q → Each (IsCarried test) ps → Each (IsCarried test) (joined st q ps)
-  joined_well Closed q ps a b = a
-  joined_well Open q ps a b = each_append (IsCarried test) q ps a b
-  joined_well Up q ps a b = each_append (IsCarried test) q ps a b
+  joined_well Disconnected q ps a b = a
+  joined_well Connecting q ps a b = each_append (IsCarried test) q ps a b
+  joined_well Connected q ps a b = each_append (IsCarried test) q ps a b
 
   kept_well : (st : State) (q : List Packet) → Each (IsCarried test) q → Each (IsCarried test) (kept st q)
-  kept_well Closed q c = tt
-  kept_well Open q c = c
-  kept_well Up q c = c
+  kept_well Disconnected q c = tt
+  kept_well Connecting q c = c
+  kept_well Connected q c = c
 
   -- what a side holds, and what is on its way to it
   abbrev pub Well : Half → Type 0

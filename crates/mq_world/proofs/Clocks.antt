@@ -34,7 +34,7 @@ left_at law limit capacity w v new quiet free a e = record {
   out = subst (λ (u : Wired). PutsOut (leaves w.client.state.end).out w.server.wire u.server.wire) (sym e)
       (on_wire (leaves w.client.state.end).out w.client.state.output new.output w.server.wire quiet a.out);
   times = subst (λ (u : Wired). SameTimes w u) (sym e)
-      (record { client = record { clock = refl; moment = ap (λ (z : EndState). z.moment) a.state }; server = record { clock = refl; moment = refl } });
+      (record { client = record { clock = refl; last_activity = ap (λ (z : EndState). z.last_activity) a.state }; server = record { clock = refl; last_activity = refl } });
   moves = λ n t. subst (λ (u : Wired). Follows limit capacity n (By Client Leaves ∷ []) u) (sym e)
       (law.leave limit capacity w n new t free (ap (λ (z : EndState). z.end) a.state) a.out
       (ap (λ (z : EndState). z.limit) a.state, ap (λ (z : EndState). z.capacity) a.state));
@@ -98,14 +98,14 @@ pub asked_at : OverBytes → (limit : Bounds) (capacity : ℕ) (w v : Wired) (mo
 asked_at law limit capacity w v more new quiet t e =
     let old = w.client.state in
     let now = later w.client.clock more in
-    let due = is_due old.moment old.end.keep_alive now in
+    let due = is_due old.last_activity old.end.keep_alive now in
     subst (λ (u : Wired). IsTold limit capacity Client more None w u) (sym e) (record {
       clock = refl;
       closes = refl;
-      moment = ap (λ (z : EndState). z.moment) t.state;
-      other = record { clock = refl; moment = refl };
+      last_activity = ap (λ (z : EndState). z.last_activity) t.state;
+      other = record { clock = refl; last_activity = refl };
       left = refl;
-      out = on_wire (client_ticks old.moment now old.end).out old.output new.output w.server.wire quiet t.out;
+      out = on_wire (client_ticks old.last_activity now old.end).out old.output new.output w.server.wire quiet t.out;
       moves = λ n s. asks law limit capacity w n now (is_up old.end.state && due) new s (first_of_both (is_up old.end.state) due) t.out
           (ap (λ (z : EndState). z.end) t.state) (ap (λ (z : EndState). z.held) t.state)
           (ap (λ (z : EndState). z.limit) t.state, ap (λ (z : EndState). z.capacity) t.state);
@@ -155,8 +155,8 @@ drops_late law limit capacity w m now false closed new s is a =
     record { machine = m; run = refl; stands = law.alike limit capacity w (told w now closed new) m s (alike_itself w.client) b }
 
 pub told_at : OverBytes → (limit : Bounds) (capacity : ℕ) (w v : Wired) (more : ℕ) (closed : Option CloseReason) (new : EndState)
-    → closed ≡ (server_ticks w.server.state.moment (later w.server.clock more) w.server.state.end).close
-    → Acts (server_ticks w.server.state.moment (later w.server.clock more) w.server.state.end) w.server.state new
+    → closed ≡ (server_ticks w.server.state.last_activity (later w.server.clock more) w.server.state.end).close
+    → Acts (server_ticks w.server.state.last_activity (later w.server.clock more) w.server.state.end) w.server.state new
     → v ≡ record {
       client = w.client;
       server = record w.server {
@@ -171,9 +171,9 @@ told_at law limit capacity w v more closed new is a e =
     subst (λ (u : Wired). IsTold limit capacity Server more closed w u) (sym e) (record {
       clock = refl;
       closes = is;
-      moment = ap (λ (z : EndState). z.moment) a.state;
-      other = record { clock = refl; moment = refl };
+      last_activity = ap (λ (z : EndState). z.last_activity) a.state;
+      other = record { clock = refl; last_activity = refl };
       left = refl;
       out = ([], refl, sym (append-nil w.client.wire));
-      moves = λ n s. drops_late law limit capacity w n now (is_up old.end.state && is_late old.moment old.end.keep_alive now) closed new s is a;
+      moves = λ n s. drops_late law limit capacity w n now (is_up old.end.state && is_late old.last_activity old.end.keep_alive now) closed new s is a;
     })

@@ -8,13 +8,13 @@ use Rattle.mq_decode.specs.Grammar.{Stream, Pending}
 use Rattle.mq_decode.specs.Laws.{ReadsAgain}
 use Rattle.mq_flow.specs.Window.{Spans}
 use Rattle.mq_end.specs.declared.state.State.{State}
-use Rattle.mq_end.specs.declared.state.State.TheVariants.{Closed, Open, Up}
+use Rattle.mq_end.specs.declared.state.State.TheVariants.{Disconnected, Connecting, Connected}
 use Rattle.mq_end.specs.declared.happening.Happening.{Happening}
 use Rattle.mq_end.specs.declared.reason.CloseReason.{CloseReason}
 use Rattle.mq_end.specs.declared.reason.CloseReason.TheVariants as reasons
 use Rattle.mq_end.specs.End.{End, Reply, is_live, over, closes, followed, first_reason, silent, one_by_one}
 use Rattle.mq_end.specs.Laws.{ClosingLaws}
-use Rattle.mq_end.specs.State.{EndState, Spelled}
+use Rattle.mq_end.specs.State.{EndState, EncodesAll}
 use Rattle.mq_end.specs.Receiving.{Ending, Waits, Closes, Breaks, Starves, Receives, Shows}
 use Rattle.mq_world.specs.declared.side.Side.{Side}
 use Rattle.mq_world.specs.declared.side.Side.TheVariants.{Client, Server}
@@ -41,21 +41,21 @@ gets_over : ClosingLaws → (side : Side) (p : Packet) (e : End) (reason : Close
 gets_over laws Client p e reason h = laws.client p e reason h
 gets_over laws Server p e reason h = laws.server p e reason h
 
-ignores : ClosingLaws → (side : Side) (ps : List Packet) (e : End) → e.state ≡ Closed → one_by_one (gets side) ps e ≡ silent e
+ignores : ClosingLaws → (side : Side) (ps : List Packet) (e : End) → e.state ≡ Disconnected → one_by_one (gets side) ps e ≡ silent e
 ignores laws Client ps e h = laws.client_ignores ps e h
 ignores laws Server ps e h = laws.server_ignores ps e h
 
 pub closes_all : ClosingLaws → (side : Side) (ps : List Packet) (e : End) (reason : CloseReason) → (one_by_one (gets side) ps e).close ≡ Some reason
-    → (one_by_one (gets side) ps e).end.state ≡ Closed
+    → (one_by_one (gets side) ps e).end.state ≡ Disconnected
 closes_all laws side [] e reason h = absurd (some_not reason h)
 closes_all laws side (p ∷ ps) e reason h = at (gets side p e).close refl h (closes_all laws side ps (gets side p e).end reason)
   where
     at : (c : Option CloseReason) → (gets side p e).close ≡ c → first_reason c (one_by_one (gets side) ps (gets side p e).end).close ≡ Some reason
-        → ((one_by_one (gets side) ps (gets side p e).end).close ≡ Some reason → (one_by_one (gets side) ps (gets side p e).end).end.state ≡ Closed)
-        → (one_by_one (gets side) ps (gets side p e).end).end.state ≡ Closed
+        → ((one_by_one (gets side) ps (gets side p e).end).close ≡ Some reason → (one_by_one (gets side) ps (gets side p e).end).end.state ≡ Disconnected)
+        → (one_by_one (gets side) ps (gets side p e).end).end.state ≡ Disconnected
     at None is h next = next h
     at (Some first) is h next =
-        let closed : (gets side p e).end.state ≡ Closed = ap (λ (f : End). f.state) (gets_over laws side p e first is) in
+        let closed : (gets side p e).end.state ≡ Disconnected = ap (λ (f : End). f.state) (gets_over laws side p e first is) in
         ap (λ (r : Reply). r.end.state) (ignores laws side ps (gets side p e).end closed) ∙ closed
 
 -- ---- windows
@@ -71,14 +71,14 @@ fits_all limit capacity Server m r spans ps rest h =
 -- ---- the side to which bytes come
 
 kept_live : (st : State) (q : List Packet) → is_live st ≡ true → q ≡ kept st q
-kept_live Closed q live = cc
-kept_live Open q live = refl
-kept_live Up q live = refl
+kept_live Disconnected q live = cc
+kept_live Connecting q live = refl
+kept_live Connected q live = refl
 
 kept_stream : (limit : Bounds) (st : State) (q : List Packet) (b : List ℕ) → Stream limit q b → is_live st ≡ true → Stream limit (kept st q) b
 kept_stream limit st q b s live = subst (λ (x : List Packet). Stream limit x b) (kept_live st q live) s
 
-not_live : (st : State) → st ≡ Closed → is_live st ≡ true → ⊥
+not_live : (st : State) → st ≡ Disconnected → is_live st ≡ true → ⊥
 not_live st closed live = true_not (sym live ∙ ap is_live closed)
   where
     true_not : true ≡ false → ⊥
@@ -159,7 +159,7 @@ module _ (limit : Bounds) (capacity : ℕ) (side : Side) (w : Wired) (m : Machin
   Here = Came limit capacity side w m b left new happenings acknowledged closed ps front rest r
 
   -- nothing waited to be written
-  put_out : Here → Spelled r.out new.output
+  put_out : Here → EncodesAll r.out new.output
   put_out c = all_put_out r.out (near side w).state.output new.output (side_near limit capacity side w m c.stands.carries).output c.shows.out
 
   came : (c : Here) → r ≡ all → (closed ≡ None → Pending limit rest)
@@ -185,7 +185,7 @@ module _ (limit : Bounds) (capacity : ℕ) (side : Side) (w : Wired) (m : Machin
             (c.queue ∙ kept_live (half_of side m).end.state (ps ++ c.later) c.live)));
         follows = follows limit capacity side w m moves (hearing left new happenings acknowledged closed (near side w))
             (took (half_of side m) c.later all).half all.out new.output c.stands run
-            (subst (λ (r : Reply). Spelled r.out new.output) same (put_out c)) near_side;
+            (subst (λ (r : Reply). EncodesAll r.out new.output) same (put_out c)) near_side;
       }
 
   -- memory ran out
@@ -199,8 +199,8 @@ module _ (limit : Bounds) (capacity : ℕ) (side : Side) (w : Wired) (m : Machin
       (arrived limit.most capacity side ps c.later m c.queue c.live) in
       let why : closed ≡ Some reasons.Memory =
       c.shows.close ∙ (ap (λ (r : Reply). r.close) same ∙ ap (λ (o : Option CloseReason). first_reason o (Some reasons.Memory)) none) in
-      let out : Spelled all.out new.output =
-      subst (λ (ps : List Packet). Spelled ps new.output) (ap (λ (r : Reply). r.out) same ∙ append-nil all.out) (put_out c) in
+      let out : EncodesAll all.out new.output =
+      subst (λ (ps : List Packet). EncodesAll ps new.output) (ap (λ (r : Reply). r.out) same ∙ append-nil all.out) (put_out c) in
       let near_side =
       heard_side limit capacity (near side w) (half_of side m) left new happenings acknowledged closed [] last x c.bounds
       (c.shows.after ∙ ap (λ (r : Reply). r.end) same) (c.shows.told ∙ (ap (λ (r : Reply). r.happenings) same ∙ append-nil all.happenings))

@@ -10,7 +10,7 @@ use Rattle.mq_decode.specs.Laws.{ReadsAgain}
 use Rattle.mq_decode.specs.declared.fault.DecodeFault.{DecodeFault}
 use Rattle.mq_flow.specs.Window.{Spans}
 use Rattle.mq_end.specs.declared.state.State.{State}
-use Rattle.mq_end.specs.declared.state.State.TheVariants.{Closed, Open, Up}
+use Rattle.mq_end.specs.declared.state.State.TheVariants.{Disconnected, Connecting, Connected}
 use Rattle.mq_end.specs.declared.happening.Happening.{Happening}
 use Rattle.mq_end.specs.declared.reason.CloseReason.{CloseReason}
 use Rattle.mq_end.specs.declared.reason.CloseReason.TheVariants as reasons
@@ -39,17 +39,17 @@ use Rattle.mq_world.proofs.Delivering.{closes_all, deliver}
 -- ---- nothing is on its way to a side without a connection
 
 abbrev Quiet : Half → Type 0
-Quiet h = h.end.state ≡ Closed → h.coming ≡ []
+Quiet h = h.end.state ≡ Disconnected → h.coming ≡ []
 
-kept_quiet : (st : State) (q : List Packet) → st ≡ Closed → kept st q ≡ []
-kept_quiet Closed q c = refl
-kept_quiet Open q c = cc
-kept_quiet Up q c = cc
+kept_quiet : (st : State) (q : List Packet) → st ≡ Disconnected → kept st q ≡ []
+kept_quiet Disconnected q c = refl
+kept_quiet Connecting q c = cc
+kept_quiet Connected q c = cc
 
-joined_quiet : (st : State) (q ps : List Packet) → (st ≡ Closed → q ≡ []) → st ≡ Closed → joined st q ps ≡ []
-joined_quiet Closed q ps h c = h c
-joined_quiet Open q ps h c = cc
-joined_quiet Up q ps h c = cc
+joined_quiet : (st : State) (q ps : List Packet) → (st ≡ Disconnected → q ≡ []) → st ≡ Disconnected → joined st q ps ≡ []
+joined_quiet Disconnected q ps h c = h c
+joined_quiet Connecting q ps h c = cc
+joined_quiet Connected q ps h c = cc
 
 arrival_quiet : (q : List Packet) (side : Side) (h : Half) → Quiet h → Quiet (arrival q side h).half
 arrival_quiet [] side h k = k
@@ -112,26 +112,26 @@ pub lose_all : (limit : Bounds) (capacity : ℕ) (side : Side) (w : Wired) (m : 
     → is_live (near side w).state.end.state ≡ false → Stands limit capacity (facing side (record (near side w) { wire = [] }) (far side w)) (delivered side m)
 lose_all limit capacity side w m k off =
     let x = side_near limit capacity side w m k.carries in
-    let closed : (half_of side m).end.state ≡ Closed = dead (half_of side m).end.state (ap (λ (e : End). is_live e.state) (sym x.end) ∙ off) in
+    let closed : (half_of side m).end.state ≡ Disconnected = dead (half_of side m).end.state (ap (λ (e : End). is_live e.state) (sym x.end) ∙ off) in
     let none : delivered side m ≡ m =
     ap (λ (q : List Packet). arrivals (length q) side m) (queue_is side m ∙ reached_quiet limit.most capacity side m k.reached closed) in
     subst (λ (v : Machine). Stands limit capacity (facing side (record (near side w) { wire = [] }) (far side w)) v) (sym none)
     (unheard limit capacity side w m [] k off)
   where
-    dead : (st : State) → is_live st ≡ false → st ≡ Closed
-    dead Closed e = refl
-    dead Open e = cc
-    dead Up e = cc
+    dead : (st : State) → is_live st ≡ false → st ≡ Disconnected
+    dead Disconnected e = refl
+    dead Connecting e = cc
+    dead Connected e = cc
 
-faulted_closed : (side : Side) (fault : DecodeFault) (e : End) → (faulted side fault e).end.state ≡ Closed
+faulted_closed : (side : Side) (fault : DecodeFault) (e : End) → (faulted side fault e).end.state ≡ Disconnected
 faulted_closed Client fault e = refl
 faulted_closed Server fault e =
-    cond_both (not (is_up e.state) && is_level fault.kind) (level_refused e) (closes (reasons.Fault fault) e) (λ r. r.end.state ≡ Closed) (λ t. refl)
+    cond_both (not (is_up e.state) && is_level fault.kind) (level_refused e) (closes (reasons.Fault fault) e) (λ r. r.end.state ≡ Disconnected) (λ t. refl)
     (λ f. refl)
 
 -- an end that closes is closed
 ending_closed : ClosingLaws → (limit : Bounds) (side : Side) (ps : List Packet) (e : End) (rest : List ℕ) (r : Reply) (held : List ℕ)
-    (reason : CloseReason) → r.close ≡ Some reason → Ending limit (faulted side) (one_by_one (gets side) ps e) rest r held → r.end.state ≡ Closed
+    (reason : CloseReason) → r.close ≡ Some reason → Ending limit (faulted side) (one_by_one (gets side) ps e) rest r held → r.end.state ≡ Disconnected
 ending_closed laws limit side ps e rest r held reason some (Waits pending none same is_held) =
     absurd (none_some (sym none ∙ (ap (λ (r : Reply). r.close) (sym same) ∙ some)))
   where
@@ -167,12 +167,12 @@ module _ (reads : ReadsAgain) (laws : ClosingLaws) (limit : Bounds) (capacity : 
       (queue_is side m ∙ (behind.1 ∙ (ap (λ (q : List Packet). d.packets ++ q) none ∙ append-nil d.packets)))
 
   -- where it closes, nothing more comes
-  no_more_came : (reason : CloseReason) → new.end.state ≡ Closed
+  no_more_came : (reason : CloseReason) → new.end.state ≡ Disconnected
       → (d : Delivers limit capacity side m ((near side w).state.held ++ (near side w).wire) (Some reason) (next (Some reason)))
       → d.follows.machine ≡ arrivals (length d.packets) side m → delivered side m ≡ d.follows.machine
   no_more_came reason closed d is =
       let v : Machine = d.follows.machine in
-      let shut : (half_of side v).end.state ≡ Closed = ap (λ (e : End). e.state) (sym (near_end side d.follows.stands)) ∙ closed in
+      let shut : (half_of side v).end.state ≡ Disconnected = ap (λ (e : End). e.state) (sym (near_end side d.follows.stands)) ∙ closed in
       let quiet : (half_of side v).coming ≡ [] = reached_quiet limit.most capacity side v d.follows.stands.reached shut in
       ap (λ (q : List Packet). arrivals (length q) side m) (queue_is side m ∙ d.first) ∙
       (arrivals_both d.packets d.later side m ∙ (ap (arrivals (length d.later) side) (sym is) ∙ arrivals_none (length d.later) side v quiet))
@@ -203,7 +203,7 @@ module _ (reads : ReadsAgain) (laws : ClosingLaws) (limit : Bounds) (capacity : 
       subst (λ (v : Machine). Stands limit capacity (next None) v) (made None fed d ∙ sym (all_came k live d)) d.follows.stands
   came_all (Some reason) receives k live fed d =
       let shows = receives.2 in
-      let shut : new.end.state ≡ Closed =
+      let shut : new.end.state ≡ Disconnected =
       ap (λ (e : End). e.state) shows.after ∙
       ending_closed laws (near side w).state.limit side receives.1.packets (near side w).state.end receives.1.rest receives.0 new.held reason
       (sym shows.close) receives.1.ending in
@@ -236,7 +236,7 @@ handed_as x y u v a b h = record {
   each = λ p below. h.each p (subst (λ (l : Accepted). p < length l.at_least_once) a below);
 }
 
-no_bytes_left : (limit : Bounds) (capacity : ℕ) (x : WiredSide) (h : Half) → CarriesSide limit capacity x h → h.end.state ≡ Up → h.coming ≡ []
+no_bytes_left : (limit : Bounds) (capacity : ℕ) (x : WiredSide) (h : Half) → CarriesSide limit capacity x h → h.end.state ≡ Connected → h.coming ≡ []
     → x.state.held ++ x.wire ≡ []
 no_bytes_left limit capacity x h k up none = subst (λ (q : List Packet). Stream limit q (x.state.held ++ x.wire)) none (k.bytes (ap is_live up))
 

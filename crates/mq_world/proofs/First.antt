@@ -7,7 +7,7 @@ use Rattle.mq_packet.specs.declared.message.Message.{Message}
 use Rattle.mq_flow.specs.Sender.{times}
 use Rattle.mq_flow.proofs.Counting.{times_same}
 use Rattle.mq_end.specs.declared.state.State.{State}
-use Rattle.mq_end.specs.declared.state.State.TheVariants.{Closed, Open, Up}
+use Rattle.mq_end.specs.declared.state.State.TheVariants.{Disconnected, Connecting, Connected}
 use Rattle.mq_world.specs.Half.{joined, last_place}
 use Rattle.mq_world.specs.Orders.{Walk, IsAt, is_among, messages, Part}
 use Rattle.mq_world.proofs.Stages.{Stages, TakesIn, Again, New, Answered, Answer}
@@ -33,7 +33,7 @@ pub record First (x y : State) (entries : List (ℕ × Message)) (pubacks : List
   pub freed : Each (λ (p : ℕ). p < length gone) places_freed
   pub all_freed : (j : ℕ) → j < length gone → is_among j places_freed ≡ true
 
-pub at_first : First Closed Closed [] [] [] [] [] []
+pub at_first : First Disconnected Disconnected [] [] [] [] [] []
 at_first = record {
   taken = [];
   waiting = [];
@@ -72,29 +72,29 @@ staged x_now y_now pubacks_now publishes_now h e = record {
 
 pub sender_drops : {x y : State} {entries : List (ℕ × Message)} {pubacks : List ℕ} {publishes accepted : List (ℕ × Message)} {handed : List Message}
     {places_freed : List ℕ} → First x y entries pubacks publishes accepted handed places_freed
-    → First Closed y entries [] publishes accepted handed places_freed
-sender_drops {y = y} {publishes = publishes} h = staged Closed y [] publishes h (stages.sender_drops _ _ _ _ _ _ _ h.entry_stages)
+    → First Disconnected y entries [] publishes accepted handed places_freed
+sender_drops {y = y} {publishes = publishes} h = staged Disconnected y [] publishes h (stages.sender_drops _ _ _ _ _ _ _ h.entry_stages)
 
 pub receiver_drops : {x y : State} {entries : List (ℕ × Message)} {pubacks : List ℕ} {publishes accepted : List (ℕ × Message)} {handed : List Message}
-    {places_freed : List ℕ} → First x y entries pubacks publishes accepted handed places_freed → First x Closed entries pubacks [] accepted handed places_freed
-receiver_drops {x = x} {pubacks = pubacks} h = staged x Closed pubacks [] h (stages.receiver_drops _ _ _ _ _ _ _ h.entry_stages)
+    {places_freed : List ℕ} → First x y entries pubacks publishes accepted handed places_freed → First x Disconnected entries pubacks [] accepted handed places_freed
+receiver_drops {x = x} {pubacks = pubacks} h = staged x Disconnected pubacks [] h (stages.receiver_drops _ _ _ _ _ _ _ h.entry_stages)
 
 pub opened : {x y : State} {entries : List (ℕ × Message)} {pubacks : List ℕ} {publishes accepted : List (ℕ × Message)} {handed : List Message}
-    {places_freed : List ℕ} → First x y entries pubacks publishes accepted handed places_freed → First Open Open entries [] [] accepted handed places_freed
-opened h = staged Open Open [] [] h (stages.opened _ _ _ _ _ _ _ h.entry_stages)
+    {places_freed : List ℕ} → First x y entries pubacks publishes accepted handed places_freed → First Connecting Connecting entries [] [] accepted handed places_freed
+opened h = staged Connecting Connecting [] [] h (stages.opened _ _ _ _ _ _ _ h.entry_stages)
 
 pub sender_up : {y : State} {entries : List (ℕ × Message)} {pubacks : List ℕ} {publishes accepted : List (ℕ × Message)} {handed : List Message}
-    {places_freed : List ℕ} → First Open y entries pubacks publishes accepted handed places_freed
-    → First Up y entries pubacks (joined y publishes entries) accepted handed places_freed
+    {places_freed : List ℕ} → First Connecting y entries pubacks publishes accepted handed places_freed
+    → First Connected y entries pubacks (joined y publishes entries) accepted handed places_freed
 sender_up {y} {entries} {pubacks} {publishes} h =
-    staged Up y pubacks (joined y publishes entries) h
-    (subst (λ (q : List (ℕ × Message)). Stages (λ (p : ℕ × Message). p.0) Up y h.taken h.waiting pubacks (joined y publishes q)) (sym h.parts)
+    staged Connected y pubacks (joined y publishes entries) h
+    (subst (λ (q : List (ℕ × Message)). Stages (λ (p : ℕ × Message). p.0) Connected y h.taken h.waiting pubacks (joined y publishes q)) (sym h.parts)
     (stages.sender_up _ _ _ _ _ _ h.entry_stages))
 
 pub receiver_up : {x : State} {entries : List (ℕ × Message)} {pubacks : List ℕ} {publishes accepted : List (ℕ × Message)} {handed : List Message}
-    {places_freed : List ℕ} → First x Open entries pubacks publishes accepted handed places_freed
-    → First x Up entries pubacks publishes accepted handed places_freed
-receiver_up {x = x} {pubacks = pubacks} {publishes = publishes} h = staged x Up pubacks publishes h (stages.receiver_up _ _ _ _ _ _ h.entry_stages)
+    {places_freed : List ℕ} → First x Connecting entries pubacks publishes accepted handed places_freed
+    → First x Connected entries pubacks publishes accepted handed places_freed
+receiver_up {x = x} {pubacks = pubacks} {publishes = publishes} h = staged x Connected pubacks publishes h (stages.receiver_up _ _ _ _ _ _ h.entry_stages)
 
 -- ---- a message is accepted
 
@@ -130,8 +130,8 @@ stands accepted before after i m e =
     (subst (λ (q : List Message). slice_get q (length (messages before)) ≡ Some m) (sym f) (get_seam (messages before) (messages after) m))
 
 pub takes_publish : {x : State} {entries : List (ℕ × Message)} {pubacks : List ℕ} {rest accepted : List (ℕ × Message)} {handed : List Message}
-    {places_freed : List ℕ} (i : ℕ) (m : Message) → First x Up entries pubacks ((i, m) ∷ rest) accepted handed places_freed
-    → First x Up entries (joined x pubacks (i ∷ [])) rest accepted (handed ++ m ∷ []) places_freed
+    {places_freed : List ℕ} (i : ℕ) (m : Message) → First x Connected entries pubacks ((i, m) ∷ rest) accepted handed places_freed
+    → First x Connected entries (joined x pubacks (i ∷ [])) rest accepted (handed ++ m ∷ []) places_freed
 takes_publish {x} {entries} {pubacks} {rest} {accepted} {handed} {places_freed} i m h =
     elim (stages.takes_in _ _ _ _ _ _ _ h.entry_stages) [
       | Again front back split now ↦
@@ -188,11 +188,11 @@ takes_publish {x} {entries} {pubacks} {rest} {accepted} {handed} {places_freed} 
 pub data Acknowledged (y : State) (entries : List (ℕ × Message)) (i : ℕ) (rest : List ℕ) (publishes accepted : List (ℕ × Message))
     (handed : List Message) (places_freed : List ℕ) : Type 0 where
   Oldest : (a : ℕ × Message) (later : List (ℕ × Message)) → entries ≡ a ∷ later → a.0 ≡ i
-      → First Up y later rest publishes accepted handed (places_freed ++ last_place i accepted ∷ [])
+      → First Connected y later rest publishes accepted handed (places_freed ++ last_place i accepted ∷ [])
       → Acknowledged y entries i rest publishes accepted handed places_freed
 
 pub takes_puback : {y : State} {entries : List (ℕ × Message)} {rest : List ℕ} {publishes accepted : List (ℕ × Message)} {handed : List Message}
-    {places_freed : List ℕ} (i : ℕ) → ((j : ℕ) → times j (ids entries) ≤ 1) → First Up y entries (i ∷ rest) publishes accepted handed places_freed
+    {places_freed : List ℕ} (i : ℕ) → ((j : ℕ) → times j (ids entries) ≤ 1) → First Connected y entries (i ∷ rest) publishes accepted handed places_freed
     → Acknowledged y entries i rest publishes accepted handed places_freed
 takes_puback {y} {entries} {rest} {publishes} {accepted} {handed} {places_freed} i once h =
     elim (stages.answered _ _ _ _ _ _ _ h.entry_stages) [
@@ -239,10 +239,10 @@ zeroth_lost flying accepted handed h = subst (λ (q : List Message). Part q acce
 
 pub zeroth_accepts : (y : State) (flying accepted handed : List Message) (m : Message) → Zeroth flying accepted handed
     → Zeroth (joined y flying (m ∷ [])) (accepted ++ m ∷ []) handed
-zeroth_accepts Closed flying accepted handed m h = part_more (handed ++ flying) accepted m h
-zeroth_accepts Open flying accepted handed m h =
+zeroth_accepts Disconnected flying accepted handed m h = part_more (handed ++ flying) accepted m h
+zeroth_accepts Connecting flying accepted handed m h =
     subst (λ (q : List Message). Part q (accepted ++ m ∷ [])) (append_assoc handed flying (m ∷ [])) (part_both (handed ++ flying) accepted m h)
-zeroth_accepts Up flying accepted handed m h =
+zeroth_accepts Connected flying accepted handed m h =
     subst (λ (q : List Message). Part q (accepted ++ m ∷ [])) (append_assoc handed flying (m ∷ [])) (part_both (handed ++ flying) accepted m h)
 
 pub zeroth_takes : (flying accepted handed : List Message) (m : Message) → Zeroth (m ∷ flying) accepted handed → Zeroth flying accepted (handed ++ m ∷ [])

@@ -96,7 +96,7 @@ fits_settled law limit capacity w v m s t h spans =
 time_other : (side : Side) (now : ℕ) (s : EndState) → IsOther (time_closes side now s)
 time_other Client now s = tt
 time_other Server now s =
-    cond_both (is_up s.end.state && is_late s.moment s.end.keep_alive now) (closes reasons.KeepAlive s.end) (silent s.end)
+    cond_both (is_up s.end.state && is_late s.last_activity s.end.keep_alive now) (closes reasons.KeepAlive s.end) (silent s.end)
     (λ (r : Reply). IsOther r.close) (λ t. tt) (λ f. tt)
 
 pub fits_done : (limit : Bounds) (capacity : ℕ) (event : Event) (answer : Answer) (w v : Wired) (m : Machine) → Stands limit capacity w m

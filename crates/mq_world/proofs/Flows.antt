@@ -14,7 +14,7 @@ use Rattle.mq_flow.specs.Window.{fits_window}
 use Rattle.mq_flow.specs.Laws.{IsSound}
 use Rattle.mq_flow.proofs.Books.{laws as books, times_uses}
 use Rattle.mq_flow.proofs.Counting.{times_same, without_first}
-use Rattle.mq_end.specs.declared.state.State.TheVariants.{Up}
+use Rattle.mq_end.specs.declared.state.State.TheVariants.{Connected}
 use Rattle.mq_end.specs.declared.happening.Happening.TheVariants as happens
 use Rattle.mq_end.specs.declared.reason.CloseReason.TheVariants as reasons
 use Rattle.mq_end.specs.End.{Reply, closes}
@@ -32,18 +32,18 @@ use Rattle.mq_world.proofs.Both.{IsSent, IsHeld, Both, finish, upon, once_of, on
 abbrev pub Keeps : ℕ → Half → List Packet → Half → Reply → Type 0
 Keeps capacity x rest y r = Both capacity (took x rest r).half (put r.out y)
 
-closes_keeps : (capacity : ℕ) (h y : Half) (p : Packet) (rest : List Packet) → Both capacity (upon h Up (p ∷ rest)) y
-    → Keeps capacity (upon h Up (p ∷ rest)) rest y (closes reasons.Unexpected (upon h Up (p ∷ rest)).end)
-closes_keeps capacity h y p rest b = close_keeps capacity h y Up (p ∷ rest) rest [] None refl refl tt b
+closes_keeps : (capacity : ℕ) (h y : Half) (p : Packet) (rest : List Packet) → Both capacity (upon h Connected (p ∷ rest)) y
+    → Keeps capacity (upon h Connected (p ∷ rest)) rest y (closes reasons.Unexpected (upon h Connected (p ∷ rest)).end)
+closes_keeps capacity h y p rest b = close_keeps capacity h y Connected (p ∷ rest) rest [] None refl refl tt b
 
 -- ---- PUBLISH
 
 publish_0 : (capacity : ℕ) (h y : Half) (m : Message) (rest : List Packet)
-    → Both capacity (upon h Up (packets.Publish (record { message = record m { qos = Q0 }; delivery = None }) ∷ rest)) y
-    → Keeps capacity (upon h Up (packets.Publish (record { message = record m { qos = Q0 }; delivery = None }) ∷ rest)) rest y
-    (publish_gets Q0 None (record m { qos = Q0 }) (upon h Up rest).end)
+    → Both capacity (upon h Connected (packets.Publish (record { message = record m { qos = Q0 }; delivery = None }) ∷ rest)) y
+    → Keeps capacity (upon h Connected (packets.Publish (record { message = record m { qos = Q0 }; delivery = None }) ∷ rest)) rest y
+    (publish_gets Q0 None (record m { qos = Q0 }) (upon h Connected rest).end)
 publish_0 capacity h y m rest b =
-    finish capacity _ y (took (upon h Up rest) rest (publish_gets Q0 None (record m { qos = Q0 }) (upon h Up rest).end)).half [] (answers y.coming)
+    finish capacity _ y (took (upon h Connected rest) rest (publish_gets Q0 None (record m { qos = Q0 }) (upon h Connected rest).end)).half [] (answers y.coming)
     (flight y.coming) (same_answers y.end.state y.coming [] refl) (same_flight y.end.state y.coming [] refl)
     b.to_y
     (b.to_x.0, b.to_x.1, zeroth_takes _ _ _ (record m { qos = Q0 }) b.to_x.2)
@@ -54,11 +54,11 @@ publish_0 capacity h y m rest b =
     b
 
 publish_1 : (capacity : ℕ) (h y : Half) (m : Message) (d : Delivery) (rest : List Packet)
-    → Both capacity (upon h Up (packets.Publish (record { message = record m { qos = Q1 }; delivery = Some d }) ∷ rest)) y
-    → Keeps capacity (upon h Up (packets.Publish (record { message = record m { qos = Q1 }; delivery = Some d }) ∷ rest)) rest y
-    (publish_gets Q1 (Some d) (record m { qos = Q1 }) (upon h Up rest).end)
+    → Both capacity (upon h Connected (packets.Publish (record { message = record m { qos = Q1 }; delivery = Some d }) ∷ rest)) y
+    → Keeps capacity (upon h Connected (packets.Publish (record { message = record m { qos = Q1 }; delivery = Some d }) ∷ rest)) rest y
+    (publish_gets Q1 (Some d) (record m { qos = Q1 }) (upon h Connected rest).end)
 publish_1 capacity h y m d rest b =
-    finish capacity _ y (took (upon h Up rest) rest (publish_gets Q1 (Some d) (record m { qos = Q1 }) (upon h Up rest).end)).half (packets.PubAck d.id ∷ [])
+    finish capacity _ y (took (upon h Connected rest) rest (publish_gets Q1 (Some d) (record m { qos = Q1 }) (upon h Connected rest).end)).half (packets.PubAck d.id ∷ [])
     (record {
       pubrecs = (answers y.coming).pubrecs;
       pubcomps = (answers y.coming).pubcomps;
@@ -74,23 +74,23 @@ publish_1 capacity h y m d rest b =
     b
 
 publish_2 : (capacity : ℕ) (h y : Half) (m : Message) (d : Delivery) (rest : List Packet)
-    → Both capacity (upon h Up (packets.Publish (record { message = record m { qos = Q2 }; delivery = Some d }) ∷ rest)) y
-    → Keeps capacity (upon h Up (packets.Publish (record { message = record m { qos = Q2 }; delivery = Some d }) ∷ rest)) rest y
-    (stores d.id (record m { qos = Q2 }) (upon h Up rest).end)
+    → Both capacity (upon h Connected (packets.Publish (record { message = record m { qos = Q2 }; delivery = Some d }) ∷ rest)) y
+    → Keeps capacity (upon h Connected (packets.Publish (record { message = record m { qos = Q2 }; delivery = Some d }) ∷ rest)) rest y
+    (stores d.id (record m { qos = Q2 }) (upon h Connected rest).end)
 publish_2 capacity h y m d rest b = by_set (FinSet.contains h.end.received d.id) refl
   where
     by_set : (t : Bool) → FinSet.contains h.end.received d.id ≡ t
-        → Keeps capacity (upon h Up (packets.Publish (record { message = record m { qos = Q2 }; delivery = Some d }) ∷ rest)) rest y
+        → Keeps capacity (upon h Connected (packets.Publish (record { message = record m { qos = Q2 }; delivery = Some d }) ∷ rest)) rest y
         (record {
-          end = record (upon h Up rest).end { received = FinSet.insert h.end.received d.id };
+          end = record (upon h Connected rest).end { received = FinSet.insert h.end.received d.id };
           out = packets.PubRec d.id ∷ [];
           happenings = cond (not t) (happens.Handed (record m { qos = Q2 }) ∷ []) [];
           freed = [];
           close = None;
         })
     by_set true e =
-        finish capacity (upon h Up (packets.Publish (record { message = record m { qos = Q2 }; delivery = Some d }) ∷ rest)) y
-        (record h { end = record h.end { state = Up; clean = false; received = FinSet.insert h.end.received d.id }; coming = rest }) (packets.PubRec d.id ∷ [])
+        finish capacity (upon h Connected (packets.Publish (record { message = record m { qos = Q2 }; delivery = Some d }) ∷ rest)) y
+        (record h { end = record h.end { state = Connected; clean = false; received = FinSet.insert h.end.received d.id }; coming = rest }) (packets.PubRec d.id ∷ [])
         (record {
           pubrecs = joined y.end.state (answers y.coming).pubrecs (d.id ∷ []);
           pubcomps = (answers y.coming).pubcomps;
@@ -105,9 +105,9 @@ publish_2 capacity h y m d rest b = by_set (FinSet.contains h.end.received d.id)
         (tt, tt)
         b
     by_set false e =
-        finish capacity (upon h Up (packets.Publish (record { message = record m { qos = Q2 }; delivery = Some d }) ∷ rest)) y
+        finish capacity (upon h Connected (packets.Publish (record { message = record m { qos = Q2 }; delivery = Some d }) ∷ rest)) y
         (record h {
-          end = record h.end { state = Up; clean = false; received = FinSet.insert h.end.received d.id };
+          end = record h.end { state = Connected; clean = false; received = FinSet.insert h.end.received d.id };
           coming = rest;
           handed = record h.handed { exactly_once = h.handed.exactly_once ++ record m { qos = Q2 } ∷ [] };
         }) (packets.PubRec d.id ∷ [])
@@ -126,23 +126,23 @@ publish_2 capacity h y m d rest b = by_set (FinSet.contains h.end.received d.id)
         b
 
 publish_keeps : (capacity : ℕ) (h y : Half) (q : Qos) (d : Option Delivery) (m : Message) (rest : List Packet)
-    → Both capacity (upon h Up (packets.Publish (record { message = record m { qos = q }; delivery = d }) ∷ rest)) y
-    → Keeps capacity (upon h Up (packets.Publish (record { message = record m { qos = q }; delivery = d }) ∷ rest)) rest y
-    (publish_gets q d (record m { qos = q }) (upon h Up rest).end)
+    → Both capacity (upon h Connected (packets.Publish (record { message = record m { qos = q }; delivery = d }) ∷ rest)) y
+    → Keeps capacity (upon h Connected (packets.Publish (record { message = record m { qos = q }; delivery = d }) ∷ rest)) rest y
+    (publish_gets q d (record m { qos = q }) (upon h Connected rest).end)
 publish_keeps capacity h y Q0 None m rest b = publish_0 capacity h y m rest b
 publish_keeps capacity h y Q1 (Some d) m rest b = publish_1 capacity h y m d rest b
 publish_keeps capacity h y Q2 (Some d) m rest b =
-    cond_both (fits_window h.end.window d.id h.end.received) (stores d.id (record m { qos = Q2 }) (upon h Up rest).end)
-    (closes reasons.Window (upon h Up rest).end)
-    (Keeps capacity (upon h Up (packets.Publish (record { message = record m { qos = Q2 }; delivery = Some d }) ∷ rest)) rest y)
+    cond_both (fits_window h.end.window d.id h.end.received) (stores d.id (record m { qos = Q2 }) (upon h Connected rest).end)
+    (closes reasons.Window (upon h Connected rest).end)
+    (Keeps capacity (upon h Connected (packets.Publish (record { message = record m { qos = Q2 }; delivery = Some d }) ∷ rest)) rest y)
     (λ t. publish_2 capacity h y m d rest b)
-    (λ f. close_keeps capacity h y Up (packets.Publish (record { message = record m { qos = Q2 }; delivery = Some d }) ∷ rest) rest [] None refl refl tt b)
+    (λ f. close_keeps capacity h y Connected (packets.Publish (record { message = record m { qos = Q2 }; delivery = Some d }) ∷ rest) rest [] None refl refl tt b)
 publish_keeps capacity h y q d m rest b = closes_keeps capacity h y (packets.Publish (record { message = record m { qos = q }; delivery = d })) rest b
 
 -- ---- PUBACK
 
-puback_keeps : (capacity : ℕ) (h y : Half) (i : ℕ) (rest : List Packet) → Both capacity (upon h Up (packets.PubAck i ∷ rest)) y
-    → Keeps capacity (upon h Up (packets.PubAck i ∷ rest)) rest y (flow_gets (packets.PubAck i) (upon h Up rest).end)
+puback_keeps : (capacity : ℕ) (h y : Half) (i : ℕ) (rest : List Packet) → Both capacity (upon h Connected (packets.PubAck i ∷ rest)) y
+    → Keeps capacity (upon h Connected (packets.PubAck i ∷ rest)) rest y (flow_gets (packets.PubAck i) (upon h Connected rest).end)
 puback_keeps capacity h y i rest b =
     elim (first.takes_puback i (once_first capacity h.end.book b.own_x.0) b.to_y.1) [
       | first.Oldest a later split same now ↦
@@ -155,26 +155,26 @@ puback_keeps capacity h y i rest b =
           let far = apart capacity book b.own_x.0 i in
           let left_1 : held Q1 (without_entry i es) ≡ later = held_without Q1 i es ∙ (ap (without_pair i) split ∙ pair_first i a later same (omega arith)) in
           let left_2 : held Q2 (without_entry i es) ≡ held Q2 es = held_without Q2 i es ∙ pair_absent i (held Q2 es) (omega arith) in
-          let P : Bool → Type 0 = λ t. Keeps capacity (upon h Up (packets.PubAck i ∷ rest)) rest y
+          let P : Bool → Type 0 = λ t. Keeps capacity (upon h Connected (packets.PubAck i ∷ rest)) rest y
           (record {
-            end = record (upon h Up rest).end { book = record book { entries = cond t (without_entry i es) es } };
+            end = record (upon h Connected rest).end { book = record book { entries = cond t (without_entry i es) es } };
             out = [];
             happenings = [];
             freed = cond t (i ∷ []) [];
             close = None;
           }) in
           subst P (sym waits)
-          (finish capacity (upon h Up (packets.PubAck i ∷ rest)) y
+          (finish capacity (upon h Connected (packets.PubAck i ∷ rest)) y
           (record h {
-            end = record h.end { state = Up; clean = false; book = record book { entries = without_entry i es } };
+            end = record h.end { state = Connected; clean = false; book = record book { entries = without_entry i es } };
             coming = rest;
             freed = h.freed ++ last_place i h.accepted.at_least_once ∷ [];
           }) []
           (answers y.coming) (flight y.coming) (same_answers y.end.state y.coming [] refl) (same_flight y.end.state y.coming [] refl) (
-            subst (λ (entries_now : List (ℕ × Message)). Second Up y.end.state entries_now book.released y.end.received (answers rest).pubrecs
+            subst (λ (entries_now : List (ℕ × Message)). Second Connected y.end.state entries_now book.released y.end.received (answers rest).pubrecs
                 (answers rest).pubcomps (flight y.coming).publishes_2
                 (flight y.coming).pubrels h.accepted.exactly_once y.handed.exactly_once) (sym left_2) b.to_y.0,
-            subst (λ (entries_now : List (ℕ × Message)). First Up y.end.state entries_now (answers rest).pubacks
+            subst (λ (entries_now : List (ℕ × Message)). First Connected y.end.state entries_now (answers rest).pubacks
                 (flight y.coming).publishes_1 h.accepted.at_least_once y.handed.at_least_once
                 (h.freed ++ last_place i h.accepted.at_least_once ∷ [])) (sym left_1) now,
             b.to_y.2,
@@ -192,8 +192,8 @@ puback_keeps capacity h y i rest b =
 
 -- ---- PUBREC
 
-pubrec_keeps : (capacity : ℕ) (h y : Half) (i : ℕ) (rest : List Packet) → Both capacity (upon h Up (packets.PubRec i ∷ rest)) y
-    → Keeps capacity (upon h Up (packets.PubRec i ∷ rest)) rest y (flow_gets (packets.PubRec i) (upon h Up rest).end)
+pubrec_keeps : (capacity : ℕ) (h y : Half) (i : ℕ) (rest : List Packet) → Both capacity (upon h Connected (packets.PubRec i ∷ rest)) y
+    → Keeps capacity (upon h Connected (packets.PubRec i ∷ rest)) rest y (flow_gets (packets.PubRec i) (upon h Connected rest).end)
 pubrec_keeps capacity h y i rest b =
     elim (second.takes_pubrec i b.to_y.0) [
       | second.First a later split same now ↦
@@ -206,10 +206,10 @@ pubrec_keeps capacity h y i rest b =
           let far = apart capacity book b.own_x.0 i in
           let left_2 : held Q2 (without_entry i es) ≡ later = held_without Q2 i es ∙ (ap (without_pair i) split ∙ pair_first i a later same (omega arith)) in
           let left_1 : held Q1 (without_entry i es) ≡ held Q1 es = held_without Q1 i es ∙ pair_absent i (held Q1 es) (omega arith) in
-          let P : Bool → Type 0 = λ t. Keeps capacity (upon h Up (packets.PubRec i ∷ rest)) rest y
+          let P : Bool → Type 0 = λ t. Keeps capacity (upon h Connected (packets.PubRec i ∷ rest)) rest y
           (record {
             end =
-                record (upon h Up rest).end {
+                record (upon h Connected rest).end {
                   book =
                       record book {
                         entries = cond t (without_entry i es) es;
@@ -223,10 +223,10 @@ pubrec_keeps capacity h y i rest b =
             close = None;
           }) in
           subst P (sym waits)
-          (finish capacity (upon h Up (packets.PubRec i ∷ rest)) y
+          (finish capacity (upon h Connected (packets.PubRec i ∷ rest)) y
           (record h {
             end =
-                record h.end { state = Up; clean = false; book = record book { entries = without_entry i es; released = book.released ++ i ∷ [] } };
+                record h.end { state = Connected; clean = false; book = record book { entries = without_entry i es; released = book.released ++ i ∷ [] } };
             coming = rest;
           }) (packets.PubRel i ∷ [])
           (answers y.coming) (record {
@@ -236,10 +236,10 @@ pubrec_keeps capacity h y i rest b =
             messages_0 = (flight y.coming).messages_0;
           })
           (same_answers y.end.state y.coming (packets.PubRel i ∷ []) refl) (pubrel_joins y.end.state y.coming i) (
-            subst (λ (entries_now : List (ℕ × Message)). Second Up y.end.state entries_now (book.released ++ i ∷ []) y.end.received
+            subst (λ (entries_now : List (ℕ × Message)). Second Connected y.end.state entries_now (book.released ++ i ∷ []) y.end.received
                 (answers rest).pubrecs (answers rest).pubcomps (flight y.coming).publishes_2
                 (joined y.end.state (flight y.coming).pubrels (i ∷ [])) h.accepted.exactly_once y.handed.exactly_once) (sym left_2) now,
-            subst (λ (entries_now : List (ℕ × Message)). First Up y.end.state entries_now (answers rest).pubacks
+            subst (λ (entries_now : List (ℕ × Message)). First Connected y.end.state entries_now (answers rest).pubacks
                 (flight y.coming).publishes_1 h.accepted.at_least_once y.handed.at_least_once h.freed) (sym left_1) b.to_y.1,
             b.to_y.2,
           )
@@ -260,11 +260,11 @@ pubrec_keeps capacity h y i rest b =
 
 -- ---- PUBREL
 
-pubrel_keeps : (capacity : ℕ) (h y : Half) (i : ℕ) (rest : List Packet) → Both capacity (upon h Up (packets.PubRel i ∷ rest)) y
-    → Keeps capacity (upon h Up (packets.PubRel i ∷ rest)) rest y (flow_gets (packets.PubRel i) (upon h Up rest).end)
+pubrel_keeps : (capacity : ℕ) (h y : Half) (i : ℕ) (rest : List Packet) → Both capacity (upon h Connected (packets.PubRel i ∷ rest)) y
+    → Keeps capacity (upon h Connected (packets.PubRel i ∷ rest)) rest y (flow_gets (packets.PubRel i) (upon h Connected rest).end)
 pubrel_keeps capacity h y i rest b =
-    finish capacity (upon h Up (packets.PubRel i ∷ rest)) y
-    (record h { end = record h.end { state = Up; clean = false; received = FinSet.remove h.end.received i }; coming = rest }) (packets.PubComp i ∷ [])
+    finish capacity (upon h Connected (packets.PubRel i ∷ rest)) y
+    (record h { end = record h.end { state = Connected; clean = false; received = FinSet.remove h.end.received i }; coming = rest }) (packets.PubComp i ∷ [])
     (record {
       pubrecs = (answers y.coming).pubrecs;
       pubcomps = joined y.end.state (answers y.coming).pubcomps (i ∷ []);
@@ -281,8 +281,8 @@ pubrel_keeps capacity h y i rest b =
 
 -- ---- PUBCOMP
 
-pubcomp_keeps : (capacity : ℕ) (h y : Half) (i : ℕ) (rest : List Packet) → Both capacity (upon h Up (packets.PubComp i ∷ rest)) y
-    → Keeps capacity (upon h Up (packets.PubComp i ∷ rest)) rest y (flow_gets (packets.PubComp i) (upon h Up rest).end)
+pubcomp_keeps : (capacity : ℕ) (h y : Half) (i : ℕ) (rest : List Packet) → Both capacity (upon h Connected (packets.PubComp i ∷ rest)) y
+    → Keeps capacity (upon h Connected (packets.PubComp i ∷ rest)) rest y (flow_gets (packets.PubComp i) (upon h Connected rest).end)
 pubcomp_keeps capacity h y i rest b =
     elim (second.takes_pubcomp i b.to_y.0) [
       | second.Oldest later split now ↦
@@ -292,10 +292,10 @@ pubcomp_keeps capacity h y i rest b =
           let far = b.own_x.0.distinct i in
           let all = times_uses i book in
           let left : without i book.released ≡ later = ap (without i) split ∙ without_first i later (omega arith) in
-          finish capacity (upon h Up (packets.PubComp i ∷ rest)) y
-          (record h { end = record h.end { state = Up; clean = false; book = record book { released = without i book.released } }; coming = rest }) []
+          finish capacity (upon h Connected (packets.PubComp i ∷ rest)) y
+          (record h { end = record h.end { state = Connected; clean = false; book = record book { released = without i book.released } }; coming = rest }) []
           (answers y.coming) (flight y.coming) (same_answers y.end.state y.coming [] refl) (same_flight y.end.state y.coming [] refl) (
-            subst (λ (released_now : List ℕ). Second Up y.end.state (held Q2 book.entries) released_now y.end.received (answers rest).pubrecs
+            subst (λ (released_now : List ℕ). Second Connected y.end.state (held Q2 book.entries) released_now y.end.received (answers rest).pubrecs
                 (answers rest).pubcomps (flight y.coming).publishes_2 (flight y.coming).pubrels h.accepted.exactly_once y.handed.exactly_once) (sym left) now,
             b.to_y.1,
             b.to_y.2,
@@ -310,8 +310,8 @@ pubcomp_keeps capacity h y i rest b =
 
 -- ---- any packet of a flow
 
-pub flow_keeps : (capacity : ℕ) (h y : Half) (p : Packet) (rest : List Packet) → Both capacity (upon h Up (p ∷ rest)) y
-    → Keeps capacity (upon h Up (p ∷ rest)) rest y (flow_gets p (upon h Up (p ∷ rest)).end)
+pub flow_keeps : (capacity : ℕ) (h y : Half) (p : Packet) (rest : List Packet) → Both capacity (upon h Connected (p ∷ rest)) y
+    → Keeps capacity (upon h Connected (p ∷ rest)) rest y (flow_gets p (upon h Connected (p ∷ rest)).end)
 flow_keeps capacity h y (packets.Publish p) rest b = publish_keeps capacity h y p.message.qos p.delivery p.message rest b
 flow_keeps capacity h y (packets.PubAck i) rest b = puback_keeps capacity h y i rest b
 flow_keeps capacity h y (packets.PubRec i) rest b = pubrec_keeps capacity h y i rest b

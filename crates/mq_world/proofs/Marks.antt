@@ -14,7 +14,7 @@ use Rattle.mq_packet.specs.declared.packet.Packet.TheVariants as packets
 use Rattle.mq_flow.specs.Window.{fits_window}
 use Rattle.mq_flow.specs.Sender.{release, awaits_suback, awaits_unsuback, is_awaited, publish_packet}
 use Rattle.mq_end.specs.declared.state.State.{State}
-use Rattle.mq_end.specs.declared.state.State.TheVariants.{Closed, Open, Up}
+use Rattle.mq_end.specs.declared.state.State.TheVariants.{Disconnected, Connecting, Connected}
 use Rattle.mq_end.specs.declared.happening.Happening.TheVariants as happens
 use Rattle.mq_end.specs.declared.reason.CloseReason.TheVariants as reasons
 use Rattle.mq_end.specs.End.{End, Reply, is_up, tells, closes, comes_up, renewed}
@@ -62,35 +62,35 @@ flow_known (packets.PubRel i) h st = refl
 flow_known (packets.PubComp i) h st = refl
 flow_known p h st = refl
 
-client_open_known : (p : Packet) (h : Half) → IsNoConnack p → (client_open_gets p (upon h Open []).end).end.known ≡ h.end.known
+client_open_known : (p : Packet) (h : Half) → IsNoConnack p → (client_open_gets p (upon h Connecting []).end).end.known ≡ h.end.known
 client_open_known (packets.ConnAck (connacks.Refused code)) h n = refl
 client_open_known (packets.ConnAck (connacks.Accepted present)) h n = absurd n
 client_open_known p h n = refl
 
-client_up_known : (p : Packet) (h : Half) → (client_up_gets p (upon h Up []).end).end.known ≡ h.end.known
+client_up_known : (p : Packet) (h : Half) → (client_up_gets p (upon h Connected []).end).end.known ≡ h.end.known
 client_up_known (packets.SubAck i codes) h =
-    cond_both (awaits_suback i (length codes) h.end.book) (tells (happens.SubAck i codes) (record (upon h Up []).end { book = release i h.end.book }))
-    (closes reasons.Unexpected (upon h Up []).end) (λ r. r.end.known ≡ h.end.known) (λ t. refl) (λ f. refl)
+    cond_both (awaits_suback i (length codes) h.end.book) (tells (happens.SubAck i codes) (record (upon h Connected []).end { book = release i h.end.book }))
+    (closes reasons.Unexpected (upon h Connected []).end) (λ r. r.end.known ≡ h.end.known) (λ t. refl) (λ f. refl)
 client_up_known (packets.UnsubAck i) h =
-    cond_both (awaits_unsuback i h.end.book) (tells (happens.UnsubAck i) (record (upon h Up []).end { book = release i h.end.book }))
-    (closes reasons.Unexpected (upon h Up []).end) (λ r. r.end.known ≡ h.end.known) (λ t. refl) (λ f. refl)
+    cond_both (awaits_unsuback i h.end.book) (tells (happens.UnsubAck i) (record (upon h Connected []).end { book = release i h.end.book }))
+    (closes reasons.Unexpected (upon h Connected []).end) (λ r. r.end.known ≡ h.end.known) (λ t. refl) (λ f. refl)
 client_up_known packets.PingResp h = refl
-client_up_known p h = flow_known p h Up
+client_up_known p h = flow_known p h Connected
 
 client_known : (st : State) (p : Packet) (h : Half) → IsNoConnack p → (client_gets_in st p (upon h st []).end).end.known ≡ h.end.known
-client_known Closed p h n = refl
-client_known Open p h n = client_open_known p h n
-client_known Up p h n = client_up_known p h
+client_known Disconnected p h n = refl
+client_known Connecting p h n = client_open_known p h n
+client_known Connected p h n = client_up_known p h
 
 kept_no_connack : (st : State) (q : List Packet) → Each IsNoConnack q → Each IsNoConnack (kept st q)
-kept_no_connack Closed q n = tt
-kept_no_connack Open q n = n
-kept_no_connack Up q n = n
+kept_no_connack Disconnected q n = tt
+kept_no_connack Connecting q n = n
+kept_no_connack Connected q n = n
 
 joined_no_connack : (st : State) (q ps : List Packet) → Each IsNoConnack q → Each IsNoConnack ps → Each IsNoConnack (joined st q ps)
-joined_no_connack Closed q ps a b = a
-joined_no_connack Open q ps a b = each_append IsNoConnack q ps a b
-joined_no_connack Up q ps a b = each_append IsNoConnack q ps a b
+joined_no_connack Disconnected q ps a b = a
+joined_no_connack Connecting q ps a b = each_append IsNoConnack q ps a b
+joined_no_connack Connected q ps a b = each_append IsNoConnack q ps a b
 
 client_arrival : (st : State) (q : List Packet) (c s : Half) → Marks (upon c st q) s → Marks (arrival q Client (upon c st q)).half s
 client_arrival st [] c s m = m
@@ -133,31 +133,31 @@ flow_out p e = tt
 abbrev pub Tells : Half → Reply → Type 0
 Tells h r = r.end.known ≡ false → (h.end.known ≡ false) × Each IsNoConnack r.out
 
-connect_tells : (c : Connect) (h : Half) → Tells h (connect_gets c (upon h Open []).end)
+connect_tells : (c : Connect) (h : Half) → Tells h (connect_gets c (upon h Connecting []).end)
 connect_tells c h =
-    cond_both (not c.clean_session && eqb (length c.client_id) 0) (refuses IdentifierRejected (upon h Open []).end)
+    cond_both (not c.clean_session && eqb (length c.client_id) 0) (refuses IdentifierRejected (upon h Connecting []).end)
     (comes_up (packets.ConnAck (connacks.Accepted (not c.clean_session && h.end.known)) ∷ []) (not c.clean_session && h.end.known)
-    (record (renewed c.clean_session (upon h Open []).end) { keep_alive = c.keep_alive }))
+    (record (renewed c.clean_session (upon h Connecting []).end) { keep_alive = c.keep_alive }))
     (Tells h) (λ t k. (k, (tt, tt))) (λ f k. absurd (true_not k))
   where
     true_not : true ≡ false → ⊥
     true_not e = cc
 
-server_open_tells : (p : Packet) (h : Half) → Tells h (server_open_gets p (upon h Open []).end)
+server_open_tells : (p : Packet) (h : Half) → Tells h (server_open_gets p (upon h Connecting []).end)
 server_open_tells (packets.Connect c) h = connect_tells c h
 server_open_tells p h = λ k. (k, tt)
 
-server_up_tells : (p : Packet) (h : Half) → Tells h (server_up_gets p (upon h Up []).end)
+server_up_tells : (p : Packet) (h : Half) → Tells h (server_up_gets p (upon h Connected []).end)
 server_up_tells (packets.Subscribe i requests) h = λ k. (k, tt)
 server_up_tells (packets.Unsubscribe i filters) h = λ k. (k, tt)
 server_up_tells packets.PingReq h = λ k. (k, (tt, tt))
 server_up_tells packets.Disconnect h = λ k. (k, tt)
-server_up_tells p h = λ k. (sym (flow_known p h Up) ∙ k, flow_out p (upon h Up []).end)
+server_up_tells p h = λ k. (sym (flow_known p h Connected) ∙ k, flow_out p (upon h Connected []).end)
 
 server_tells : (st : State) (p : Packet) (h : Half) → Tells h (server_gets_in st p (upon h st []).end)
-server_tells Closed p h = λ k. (k, tt)
-server_tells Open p h = server_open_tells p h
-server_tells Up p h = server_up_tells p h
+server_tells Disconnected p h = λ k. (k, tt)
+server_tells Connecting p h = server_open_tells p h
+server_tells Connected p h = server_up_tells p h
 
 server_arrival : (st : State) (q : List Packet) (c s : Half) → Marks c (upon s st q)
     → Marks (put (arrival q Server (upon s st q)).out c) (arrival q Server (upon s st q)).half

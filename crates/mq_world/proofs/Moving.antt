@@ -13,7 +13,7 @@ use Rattle.mq_end.specs.Both.{publishes, publishes_at, has_identifier}
 use Rattle.mq_end.specs.Client.{connects, leaves, leave_refusal}
 use Rattle.mq_end.specs.Server.{opens}
 use Rattle.mq_end.specs.Laws.{MayHave}
-use Rattle.mq_end.specs.State.{EndState, Spelled, PutsOut}
+use Rattle.mq_end.specs.State.{EndState, EncodesAll, PutsOut}
 use Rattle.mq_world.specs.declared.side.Side.{Side}
 use Rattle.mq_world.specs.declared.side.Side.TheVariants.{Client, Server}
 use Rattle.mq_world.specs.Half.{Half, Publishes, Drops, Leaves, Pings, moved, publication, refusal, accepted_with}
@@ -21,7 +21,7 @@ use Rattle.mq_world.specs.Machine.{Machine, By, Opens, Restarts, Run, after, fir
 use Rattle.mq_world.specs.Identifiers.{half_of}
 use Rattle.mq_world.specs.Carries.{WiredSide, Wired, CarriesSide}
 use Rattle.mq_world.specs.OverBytes.{Stands, Follows, near, far, facing, written, SameBounds, made_anew, with_more, cut_off, accepting}
-use Rattle.mq_world.proofs.Wires.{spelled_within}
+use Rattle.mq_world.proofs.Wires.{encoded_within}
 use Rattle.mq_world.proofs.Standing.{reached_on, side_near, follows, follows_one, no_more_bytes, all_put_out}
 
 -- ---- publishing
@@ -55,12 +55,12 @@ pub publish : (limit : Bounds) (capacity : ℕ) (side : Side) (w : Wired) (m : M
 publish limit capacity side w m i message new k free may after out held bounds =
     let x = side_near limit capacity side w m k.carries in
     let P : End → Type 0 =
-    λ e. (refusal side limit.most capacity message e ≡ None) × MayHave (has_identifier message.qos) e i × Spelled (publishes i message e).out new.output in
+    λ e. (refusal side limit.most capacity message e ≡ None) × MayHave (has_identifier message.qos) e i × EncodesAll (publishes i message e).out new.output in
     let all = subst P x.end (free, may, all_put_out (publishes i message (near side w).state.end).out (near side w).state.output new.output x.output out) in
     at side k all x after held bounds
   where
     at : (side : Side) → Stands limit capacity w m → (refusal side limit.most capacity message (half_of side m).end ≡ None)
-        × MayHave (has_identifier message.qos) (half_of side m).end i × Spelled (publishes i message (half_of side m).end).out new.output
+        × MayHave (has_identifier message.qos) (half_of side m).end i × EncodesAll (publishes i message (half_of side m).end).out new.output
         → CarriesSide limit capacity (near side w) (half_of side m) → new.end ≡ (publishes i message (near side w).state.end).end
         → new.held ≡ (near side w).state.held → SameBounds (near side w).state new
         → Follows limit capacity m (By side (Publishes i message) ∷ [])
@@ -151,7 +151,7 @@ opened limit capacity w m c s k ce out ch cb se sh sb =
     let x = k.carries.client in
     let y = k.carries.server in
     let first : Stream limit (packets.Connect first_packet ∷ []) c.output =
-    spelled_within limit k.large (packets.Connect first_packet ∷ []) c.output (refl, tt)
+    encoded_within limit k.large (packets.Connect first_packet ∷ []) c.output (refl, tt)
     (all_put_out (packets.Connect first_packet ∷ []) [] c.output refl out) in
     record {
       machine = v;

@@ -11,7 +11,7 @@ use Rattle.mq_packet.specs.declared.packet.Packet.TheVariants as packets
 use Rattle.mq_flow.specs.declared.entry.Entry.{Entry}
 use Rattle.mq_flow.specs.Sender.{SenderBook, held, same_qos, resent, publish_packet}
 use Rattle.mq_end.specs.declared.state.State.{State}
-use Rattle.mq_end.specs.declared.state.State.TheVariants.{Closed, Open, Up}
+use Rattle.mq_end.specs.declared.state.State.TheVariants.{Disconnected, Connecting, Connected}
 use Rattle.mq_world.specs.Half.{joined}
 
 abbrev pub as_pubrec : Packet → Option ℕ
@@ -85,14 +85,14 @@ abbrev pub no_flight : Flight
 no_flight = record { publishes_2 = []; publishes_1 = []; pubrels = []; messages_0 = [] }
 
 pub keep : {A : Type 0} (f : Packet → Option A) (st : State) (q ps : List Packet) → filter_map f ps ≡ [] → filter_map f (joined st q ps) ≡ filter_map f q
-keep f Closed q ps e = refl
-keep {A} f Open q ps e = filter_map-append f q ps ∙ (ap (λ (r : List A). filter_map f q ++ r) e ∙ append-nil (filter_map f q))
-keep {A} f Up q ps e = filter_map-append f q ps ∙ (ap (λ (r : List A). filter_map f q ++ r) e ∙ append-nil (filter_map f q))
+keep f Disconnected q ps e = refl
+keep {A} f Connecting q ps e = filter_map-append f q ps ∙ (ap (λ (r : List A). filter_map f q ++ r) e ∙ append-nil (filter_map f q))
+keep {A} f Connected q ps e = filter_map-append f q ps ∙ (ap (λ (r : List A). filter_map f q ++ r) e ∙ append-nil (filter_map f q))
 
 pub grow : {A : Type 0} (f : Packet → Option A) (st : State) (q ps : List Packet) → filter_map f (joined st q ps) ≡ joined st (filter_map f q) (filter_map f ps)
-grow f Closed q ps = refl
-grow f Open q ps = filter_map-append f q ps
-grow f Up q ps = filter_map-append f q ps
+grow f Disconnected q ps = refl
+grow f Connecting q ps = filter_map-append f q ps
+grow f Connected q ps = filter_map-append f q ps
 
 pub grown : {A : Type 0} (f : Packet → Option A) (st : State) (q ps : List Packet) (xs : List A) → filter_map f ps ≡ xs
     → filter_map f (joined st q ps) ≡ joined st (filter_map f q) xs

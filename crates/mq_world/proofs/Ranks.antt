@@ -12,7 +12,7 @@ use Rattle.mq_flow.specs.declared.entry.Entry.{Entry}
 use Rattle.mq_flow.specs.Window.{Spans}
 use Rattle.mq_flow.specs.Sender.{SenderBook, is_awaited, resent, publish_packet}
 use Rattle.mq_end.specs.declared.state.State.{State}
-use Rattle.mq_end.specs.declared.state.State.TheVariants.{Closed, Open, Up}
+use Rattle.mq_end.specs.declared.state.State.TheVariants.{Disconnected, Connecting, Connected}
 use Rattle.mq_end.specs.declared.reason.CloseReason.TheVariants as reasons
 use Rattle.mq_end.specs.End.{End, Reply, closes}
 use Rattle.mq_end.specs.Both.{stores, publish_gets, flow_gets, has_identifier}
@@ -91,16 +91,16 @@ server_stays n packets.Disconnect e f lt le = absurd (omega arith)
 server_stays n p e f lt le = flow_stays n p e f lt le
 
 stays : (side : Side) (n : ℕ) (p : Packet) (e : End) → FitsIn p e.window e.received → rank p < suc n → n ≤ 3
-    → Stays n (record e { state = Up }) (gets side p (record e { state = Up }))
-stays Client n p e f lt le = client_stays n p (record e { state = Up }) f lt le
-stays Server n p e f lt le = server_stays n p (record e { state = Up }) f lt le
+    → Stays n (record e { state = Connected }) (gets side p (record e { state = Connected }))
+stays Client n p e f lt le = client_stays n p (record e { state = Connected }) f lt le
+stays Server n p e f lt le = server_stays n p (record e { state = Connected }) f lt le
 
 -- ---- one side takes in all that is in the queue toward it
 
 pub record Draining (capacity : ℕ) (n m : ℕ) (x y : Half) (old_x old_y : Accepted) : Type 0 where
   pub both : Both capacity x y
-  pub up_x : x.end.state ≡ Up
-  pub up_y : y.end.state ≡ Up
+  pub up_x : x.end.state ≡ Connected
+  pub up_y : y.end.state ≡ Connected
   pub spans_x : Spans x.end.window capacity
   pub spans_y : Spans y.end.window capacity
   pub below_x : Below n x.coming
@@ -109,9 +109,9 @@ pub record Draining (capacity : ℕ) (n m : ℕ) (x y : Half) (old_x old_y : Acc
   pub same_y : y.accepted ≡ old_y
 
 below_joined : (st : State) (m : ℕ) (q ps : List Packet) → Below m q → Below m ps → Below m (joined st q ps)
-below_joined Closed m q ps a b = a
-below_joined Open m q ps a b = each_append (λ p. rank p < m) q ps a b
-below_joined Up m q ps a b = each_append (λ p. rank p < m) q ps a b
+below_joined Disconnected m q ps a b = a
+below_joined Connecting m q ps a b = each_append (λ p. rank p < m) q ps a b
+below_joined Connected m q ps a b = each_append (λ p. rank p < m) q ps a b
 
 -- after one arrival
 abbrev pub Next : ℕ → ℕ → ℕ → Side → Half → Half → Accepted → Accepted → List Packet → Type 0
@@ -119,10 +119,10 @@ Next capacity n m side x y old_x old_y rest =
     Draining capacity (suc n) m (moved side Arrives x).half (put (moved side Arrives x).out y) old_x old_y × ((moved side Arrives x).half.coming ≡ rest)
 
 step_up : (capacity n m : ℕ) (side : Side) (h y : Half) (old_x old_y : Accepted) (p : Packet) (rest : List Packet) → n ≤ m → n ≤ 3
-    → Draining capacity (suc n) m (record h { end = record h.end { state = Up }; coming = p ∷ rest }) y old_x old_y
-    → Next capacity n m side (record h { end = record h.end { state = Up }; coming = p ∷ rest }) y old_x old_y rest
+    → Draining capacity (suc n) m (record h { end = record h.end { state = Connected }; coming = p ∷ rest }) y old_x old_y
+    → Next capacity n m side (record h { end = record h.end { state = Connected }; coming = p ∷ rest }) y old_x old_y rest
 step_up capacity n m side h y old_x old_y p rest le three d =
-    let x : Half = record h { end = record h.end { state = Up }; coming = p ∷ rest } in
+    let x : Half = record h { end = record h.end { state = Connected }; coming = p ∷ rest } in
     let r : Reply = gets side p x.end in
     let s : Stays n x.end r = stays side n p h.end (fits_arriving capacity h y p rest d.both d.spans_x) d.below_x.0 three in
     let left : kept r.end.state rest ≡ rest = ap (λ (st : State). kept st rest) s.state in (
@@ -146,7 +146,7 @@ step capacity n m side x y old_x old_y p rest le three is d =
     let P : State → List Packet → Type 0 =
     λ st q. Draining capacity (suc n) m (record x { end = record x.end { state = st }; coming = q }) y old_x old_y
     → Next capacity n m side (record x { end = record x.end { state = st }; coming = q }) y old_x old_y rest in
-    let lit : P Up x.coming = subst (λ (q : List Packet). P Up q) (sym is) (step_up capacity n m side x y old_x old_y p rest le three) in
+    let lit : P Connected x.coming = subst (λ (q : List Packet). P Connected q) (sym is) (step_up capacity n m side x y old_x old_y p rest le three) in
     subst (λ (st : State). P st x.coming) (sym d.up_x) lit d
 
 pub drained : (capacity n m : ℕ) (side : Side) (q : List Packet) (x y : Half) (old_x old_y : Accepted) → n ≤ m → n ≤ 3 → x.coming ≡ q

@@ -11,7 +11,7 @@ use Rattle.mq_flow.specs.Window.{Spans, fits_window}
 use Rattle.mq_flow.proofs.Windows.{spanned_fits}
 use Rattle.mq_flow.proofs.Counting.{times_append, times_same, times_other}
 use Rattle.mq_end.specs.declared.state.State.{State}
-use Rattle.mq_end.specs.declared.state.State.TheVariants.{Closed, Open, Up}
+use Rattle.mq_end.specs.declared.state.State.TheVariants.{Disconnected, Connecting, Connected}
 use Rattle.mq_world.specs.Half.{joined}
 use Rattle.mq_world.specs.Orders.{messages}
 use Rattle.mq_world.proofs.Stages.{Stages, TakesIn, Again, New, Answered, Answer}
@@ -46,7 +46,7 @@ pub record Second (x y : State) (entries : List (ℕ × Message)) (released : Li
 abbrev pub Once : List (ℕ × Message) → List ℕ → Type 0
 Once entries released = (i : ℕ) → times i (ids entries) + times i released ≤ 1
 
-pub at_first : (stored : FinSet.FinSet nat_cmp) → ((i : ℕ) → FinSet.contains stored i ≡ false) → Second Closed Closed [] [] stored [] [] [] [] [] []
+pub at_first : (stored : FinSet.FinSet nat_cmp) → ((i : ℕ) → FinSet.contains stored i ≡ false) → Second Disconnected Disconnected [] [] stored [] [] [] [] [] []
 at_first stored none = record {
   taken = [];
   waiting = [];
@@ -70,7 +70,7 @@ at_first stored none = record {
 pub sender_drops : {x y : State} {entries : List (ℕ × Message)} {released : List ℕ} {stored : FinSet.FinSet nat_cmp} {pubrecs pubcomps : List ℕ}
     {publishes : List (ℕ × Message)} {pubrels : List ℕ} {accepted handed : List Message}
     → Second x y entries released stored pubrecs pubcomps publishes pubrels accepted handed
-    → Second Closed y entries released stored [] [] publishes pubrels accepted handed
+    → Second Disconnected y entries released stored [] [] publishes pubrels accepted handed
 sender_drops h = record {
   taken = h.taken;
   waiting = h.waiting;
@@ -92,7 +92,7 @@ sender_drops h = record {
 pub receiver_drops : {x y : State} {entries : List (ℕ × Message)} {released : List ℕ} {stored : FinSet.FinSet nat_cmp} {pubrecs pubcomps : List ℕ}
     {publishes : List (ℕ × Message)} {pubrels : List ℕ} {accepted handed : List Message}
     → Second x y entries released stored pubrecs pubcomps publishes pubrels accepted handed
-    → Second x Closed entries released stored pubrecs pubcomps [] [] accepted handed
+    → Second x Disconnected entries released stored pubrecs pubcomps [] [] accepted handed
 receiver_drops h = record {
   taken = h.taken;
   waiting = h.waiting;
@@ -114,7 +114,7 @@ receiver_drops h = record {
 pub opened : {x y : State} {entries : List (ℕ × Message)} {released : List ℕ} {stored : FinSet.FinSet nat_cmp} {pubrecs pubcomps : List ℕ}
     {publishes : List (ℕ × Message)} {pubrels : List ℕ} {accepted handed : List Message}
     → Second x y entries released stored pubrecs pubcomps publishes pubrels accepted handed
-    → Second Open Open entries released stored [] [] [] [] accepted handed
+    → Second Connecting Connecting entries released stored [] [] [] [] accepted handed
 opened h = record {
   taken = h.taken;
   waiting = h.waiting;
@@ -135,8 +135,8 @@ opened h = record {
 
 pub sender_up : {y : State} {entries : List (ℕ × Message)} {released : List ℕ} {stored : FinSet.FinSet nat_cmp} {pubrecs pubcomps : List ℕ}
     {publishes : List (ℕ × Message)} {pubrels : List ℕ} {accepted handed : List Message}
-    → Second Open y entries released stored pubrecs pubcomps publishes pubrels accepted handed
-    → Second Up y entries released stored pubrecs pubcomps (joined y publishes entries) (joined y pubrels released) accepted handed
+    → Second Connecting y entries released stored pubrecs pubcomps publishes pubrels accepted handed
+    → Second Connected y entries released stored pubrecs pubcomps (joined y publishes entries) (joined y pubrels released) accepted handed
 sender_up {y} {entries} {released} {stored} {pubrecs} {pubcomps} {publishes} {pubrels} h = record {
   taken = h.taken;
   waiting = h.waiting;
@@ -146,10 +146,10 @@ sender_up {y} {entries} {released} {stored} {pubrecs} {pubcomps} {publishes} {pu
   parts = h.parts;
   released_parts = h.released_parts;
   entry_stages =
-      subst (λ (q : List (ℕ × Message)). Stages (λ (p : ℕ × Message). p.0) Up y h.taken h.waiting pubrecs (joined y publishes q)) (sym h.parts)
+      subst (λ (q : List (ℕ × Message)). Stages (λ (p : ℕ × Message). p.0) Connected y h.taken h.waiting pubrecs (joined y publishes q)) (sym h.parts)
       (stages.sender_up _ _ _ _ _ _ h.entry_stages);
   released_stages =
-      subst (λ (q : List ℕ). Stages (λ (i : ℕ). i) Up y h.released_taken h.released_waiting pubcomps (joined y pubrels q)) (sym h.released_parts)
+      subst (λ (q : List ℕ). Stages (λ (i : ℕ). i) Connected y h.released_taken h.released_waiting pubcomps (joined y pubrels q)) (sym h.released_parts)
       (stages.sender_up _ _ _ _ _ _ h.released_stages);
   has = h.has;
   lacks = h.lacks;
@@ -161,8 +161,8 @@ sender_up {y} {entries} {released} {stored} {pubrecs} {pubcomps} {publishes} {pu
 
 pub receiver_up : {x : State} {entries : List (ℕ × Message)} {released : List ℕ} {stored : FinSet.FinSet nat_cmp} {pubrecs pubcomps : List ℕ}
     {publishes : List (ℕ × Message)} {pubrels : List ℕ} {accepted handed : List Message}
-    → Second x Open entries released stored pubrecs pubcomps publishes pubrels accepted handed
-    → Second x Up entries released stored pubrecs pubcomps publishes pubrels accepted handed
+    → Second x Connecting entries released stored pubrecs pubcomps publishes pubrels accepted handed
+    → Second x Connected entries released stored pubrecs pubcomps publishes pubrels accepted handed
 receiver_up h = record {
   taken = h.taken;
   waiting = h.waiting;
@@ -251,14 +251,14 @@ accepts {x} {y} {entries} {released} {stored} i m publishes_now h fresh e = reco
 
 pub takes_publish : {x : State} {entries : List (ℕ × Message)} {released : List ℕ} {stored : FinSet.FinSet nat_cmp} {pubrecs pubcomps : List ℕ}
     {rest : List (ℕ × Message)} {pubrels : List ℕ} {accepted handed : List Message} (i : ℕ) (m : Message)
-    (h : Second x Up entries released stored pubrecs pubcomps ((i, m) ∷ rest) pubrels accepted handed) → Once entries released → (t : Bool)
+    (h : Second x Connected entries released stored pubrecs pubcomps ((i, m) ∷ rest) pubrels accepted handed) → Once entries released → (t : Bool)
     → FinSet.contains stored i ≡ t
-    → Second x Up entries released (FinSet.insert stored i) (joined x pubrecs (i ∷ [])) pubcomps rest pubrels accepted (cond t handed (handed ++ m ∷ []))
+    → Second x Connected entries released (FinSet.insert stored i) (joined x pubrecs (i ∷ [])) pubcomps rest pubrels accepted (cond t handed (handed ++ m ∷ []))
 takes_publish {x} {entries} {released} {stored} {pubrecs} {pubcomps} {rest} {pubrels} {accepted} {handed} i m h once t is =
     elim (stages.takes_in _ _ _ _ _ _ _ h.entry_stages) [
       | Again front back split now ↦
           let there : 1 ≤ times i (ids h.taken) = subst (λ (q : List (ℕ × Message)). 1 ≤ times i (ids q)) (sym split) (in_middle i front back (i, m) refl) in
-          subst (λ (b : Bool). Second x Up entries released (FinSet.insert stored i) (joined x pubrecs (i ∷ [])) pubcomps rest pubrels accepted
+          subst (λ (b : Bool). Second x Connected entries released (FinSet.insert stored i) (joined x pubrecs (i ∷ [])) pubcomps rest pubrels accepted
           (cond b handed (handed ++ m ∷ []))) (sym (h.has i there) ∙ is)
           (record {
             taken = h.taken;
@@ -288,7 +288,7 @@ takes_publish {x} {entries} {released} {stored} {pubrecs} {pubcomps} {rest} {pub
           let here_is : (j : ℕ) → times j (ids h.waiting) ≡ times j (i ∷ ids later) = λ j. ap (λ (q : List (ℕ × Message)). times j (ids q)) split in
           let here : 1 ≤ times i (ids h.waiting) = let a = here_is i in let b = times_same i (ids later) in omega arith in
           let counted : (j : ℕ) → times j (ids (h.taken ++ (i, m) ∷ [])) ≡ times j (ids h.taken) + times j (i ∷ []) = λ j. times_ids j h.taken ((i, m) ∷ []) in
-          subst (λ (b : Bool). Second x Up entries released (FinSet.insert stored i) (joined x pubrecs (i ∷ [])) pubcomps rest pubrels accepted
+          subst (λ (b : Bool). Second x Connected entries released (FinSet.insert stored i) (joined x pubrecs (i ∷ [])) pubcomps rest pubrels accepted
           (cond b handed (handed ++ m ∷ []))) (sym (h.lacks i here) ∙ is)
           (record {
             taken = h.taken ++ (i, m) ∷ [];
@@ -338,7 +338,7 @@ takes_publish {x} {entries} {released} {stored} {pubrecs} {pubcomps} {rest} {pub
 -- where all that the sender has out fits the window, so does what comes
 pub spanned : {x : State} {entries : List (ℕ × Message)} {released : List ℕ} {stored : FinSet.FinSet nat_cmp} {pubrecs pubcomps : List ℕ}
     {rest : List (ℕ × Message)} {pubrels : List ℕ} {accepted handed : List Message} (i : ℕ) (m : Message) (window : Option ℕ) (capacity : ℕ)
-    → Second x Up entries released stored pubrecs pubcomps ((i, m) ∷ rest) pubrels accepted handed → length (ids entries ++ released) ≤ capacity
+    → Second x Connected entries released stored pubrecs pubcomps ((i, m) ∷ rest) pubrels accepted handed → length (ids entries ++ released) ≤ capacity
     → Spans window capacity → fits_window window i stored ≡ true
 spanned {x} {entries} {released} {stored} i m window capacity h short spans =
     let k_less : (j : ℕ) → times j (ids h.taken) + times j released ≤ times j (ids entries ++ released) = λ j. let s = split_times h j in
@@ -362,10 +362,10 @@ spanned {x} {entries} {released} {stored} i m window capacity h short spans =
 -- what stands in the book after it, wherever the released identifier was
 pub forgets : {x : State} {entries : List (ℕ × Message)} {released : List ℕ} {stored : FinSet.FinSet nat_cmp} {pubrecs pubcomps : List ℕ}
     {publishes : List (ℕ × Message)} {pubrels : List ℕ} {accepted handed : List Message} (i : ℕ) (rest pubcomps_now taken_now waiting_now : List ℕ)
-    (h : Second x Up entries released stored pubrecs pubcomps publishes pubrels accepted handed) → Once entries released → 1 ≤ times i released
-    → released ≡ taken_now ++ waiting_now → Stages (λ (i : ℕ). i) x Up taken_now waiting_now pubcomps_now rest
+    (h : Second x Connected entries released stored pubrecs pubcomps publishes pubrels accepted handed) → Once entries released → 1 ≤ times i released
+    → released ≡ taken_now ++ waiting_now → Stages (λ (i : ℕ). i) x Connected taken_now waiting_now pubcomps_now rest
     → ((j : ℕ) → times j pubcomps_now ≤ times j pubcomps + times j (i ∷ []))
-    → Second x Up entries released (FinSet.remove stored i) pubrecs pubcomps_now publishes rest accepted handed
+    → Second x Connected entries released (FinSet.remove stored i) pubrecs pubcomps_now publishes rest accepted handed
 forgets {x} {entries} {released} {stored} {pubrecs} {pubcomps} i rest pubcomps_now taken_now waiting_now h once there split now few = record {
   taken = h.taken;
   waiting = h.waiting;
@@ -399,14 +399,14 @@ forgets {x} {entries} {released} {stored} {pubrecs} {pubcomps} i rest pubcomps_n
     true_not e = cc
 
 joined_few : (x : State) (pubcomps : List ℕ) (i j : ℕ) → times j (joined x pubcomps (i ∷ [])) ≤ times j pubcomps + times j (i ∷ [])
-joined_few Closed pubcomps i j = omega arith
-joined_few Open pubcomps i j = let e = times_append j pubcomps (i ∷ []) in omega arith
-joined_few Up pubcomps i j = let e = times_append j pubcomps (i ∷ []) in omega arith
+joined_few Disconnected pubcomps i j = omega arith
+joined_few Connecting pubcomps i j = let e = times_append j pubcomps (i ∷ []) in omega arith
+joined_few Connected pubcomps i j = let e = times_append j pubcomps (i ∷ []) in omega arith
 
 pub takes_pubrel : {x : State} {entries : List (ℕ × Message)} {released : List ℕ} {stored : FinSet.FinSet nat_cmp} {pubrecs pubcomps : List ℕ}
     {publishes : List (ℕ × Message)} {rest : List ℕ} {accepted handed : List Message} (i : ℕ)
-    (h : Second x Up entries released stored pubrecs pubcomps publishes (i ∷ rest) accepted handed) → Once entries released
-    → Second x Up entries released (FinSet.remove stored i) pubrecs (joined x pubcomps (i ∷ [])) publishes rest accepted handed
+    (h : Second x Connected entries released stored pubrecs pubcomps publishes (i ∷ rest) accepted handed) → Once entries released
+    → Second x Connected entries released (FinSet.remove stored i) pubrecs (joined x pubcomps (i ∷ [])) publishes rest accepted handed
 takes_pubrel {x} {entries} {released} {stored} {pubrecs} {pubcomps} {publishes} {rest} i h once =
     elim (stages.takes_in _ _ _ _ _ _ _ h.released_stages) [
       | Again front back split now ↦
@@ -432,12 +432,12 @@ takes_pubrel {x} {entries} {released} {stored} {pubrecs} {pubcomps} {publishes} 
 pub data Acknowledged (y : State) (entries : List (ℕ × Message)) (released : List ℕ) (stored : FinSet.FinSet nat_cmp) (i : ℕ) (rest pubcomps : List ℕ)
     (publishes : List (ℕ × Message)) (pubrels : List ℕ) (accepted handed : List Message) : Type 0 where
   First : (a : ℕ × Message) (later : List (ℕ × Message)) → entries ≡ a ∷ later → a.0 ≡ i
-      → Second Up y later (released ++ i ∷ []) stored rest pubcomps publishes (joined y pubrels (i ∷ [])) accepted handed
+      → Second Connected y later (released ++ i ∷ []) stored rest pubcomps publishes (joined y pubrels (i ∷ [])) accepted handed
       → Acknowledged y entries released stored i rest pubcomps publishes pubrels accepted handed
 
 pub takes_pubrec : {y : State} {entries : List (ℕ × Message)} {released : List ℕ} {stored : FinSet.FinSet nat_cmp} {rest pubcomps : List ℕ}
     {publishes : List (ℕ × Message)} {pubrels : List ℕ} {accepted handed : List Message} (i : ℕ)
-    (h : Second Up y entries released stored (i ∷ rest) pubcomps publishes pubrels accepted handed)
+    (h : Second Connected y entries released stored (i ∷ rest) pubcomps publishes pubrels accepted handed)
     → Acknowledged y entries released stored i rest pubcomps publishes pubrels accepted handed
 takes_pubrec {y} {entries} {released} {stored} {rest} {pubcomps} {publishes} {pubrels} {accepted} {handed} i h =
     elim (stages.answered _ _ _ _ _ _ _ h.entry_stages) [
@@ -471,12 +471,12 @@ takes_pubrec {y} {entries} {released} {stored} {rest} {pubcomps} {publishes} {pu
 
 pub data Completed (y : State) (entries : List (ℕ × Message)) (released : List ℕ) (stored : FinSet.FinSet nat_cmp) (pubrecs : List ℕ) (i : ℕ)
     (rest : List ℕ) (publishes : List (ℕ × Message)) (pubrels : List ℕ) (accepted handed : List Message) : Type 0 where
-  Oldest : (later : List ℕ) → released ≡ i ∷ later → Second Up y entries later stored pubrecs rest publishes pubrels accepted handed
+  Oldest : (later : List ℕ) → released ≡ i ∷ later → Second Connected y entries later stored pubrecs rest publishes pubrels accepted handed
       → Completed y entries released stored pubrecs i rest publishes pubrels accepted handed
 
 pub takes_pubcomp : {y : State} {entries : List (ℕ × Message)} {released : List ℕ} {stored : FinSet.FinSet nat_cmp} {pubrecs rest : List ℕ}
     {publishes : List (ℕ × Message)} {pubrels : List ℕ} {accepted handed : List Message} (i : ℕ)
-    (h : Second Up y entries released stored pubrecs (i ∷ rest) publishes pubrels accepted handed)
+    (h : Second Connected y entries released stored pubrecs (i ∷ rest) publishes pubrels accepted handed)
     → Completed y entries released stored pubrecs i rest publishes pubrels accepted handed
 takes_pubcomp {y} {entries} {released} {stored} {pubrecs} {rest} {publishes} {pubrels} {accepted} {handed} i h =
     elim (stages.answered _ _ _ _ _ _ _ h.released_stages) [

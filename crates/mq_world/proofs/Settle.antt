@@ -10,7 +10,7 @@ use Rattle.mq_flow.specs.declared.entry.Entry.{Entry}
 use Rattle.mq_flow.specs.Sender.{held, same_qos, resent}
 use Rattle.mq_flow.specs.Window.{Spans}
 use Rattle.mq_end.specs.declared.state.State.{State}
-use Rattle.mq_end.specs.declared.state.State.TheVariants.{Up}
+use Rattle.mq_end.specs.declared.state.State.TheVariants.{Connected}
 use Rattle.mq_end.specs.declared.reason.CloseReason.TheVariants as reasons
 use Rattle.mq_end.specs.End.{End, closes, comes_up}
 use Rattle.mq_end.specs.Both.{has_identifier}
@@ -102,7 +102,7 @@ up_client c s = record c {
           released = c.end.book.released;
           claimed = [];
         };
-    state = Up;
+    state = Connected;
     known = true;
     clean = false;
     keep_alive = 60;
@@ -119,7 +119,7 @@ up_server c s = record s {
           released = s.end.book.released;
           claimed = [];
         };
-    state = Up;
+    state = Connected;
     known = true;
     clean = false;
     keep_alive = 60;
@@ -201,13 +201,13 @@ shaken_hands capacity w spans_c spans_s well =
 
 -- ---- what is left
 
-nothing_at : {A : Type 0} (key : A → ℕ) (x y : State) (taken waiting : List A) (answering : List ℕ) (flying : List A) → x ≡ Up → y ≡ Up
+nothing_at : {A : Type 0} (key : A → ℕ) (x y : State) (taken waiting : List A) (answering : List ℕ) (flying : List A) → x ≡ Connected → y ≡ Connected
     → answering ≡ [] → flying ≡ [] → Stages key x y taken waiting answering flying → (taken ≡ []) × (waiting ≡ [])
 nothing_at key x y taken waiting answering flying up_x up_y none_answering none_flying h =
     nothing_held key taken waiting
-    (subst (λ (f : List _). Stages key Up Up taken waiting [] f) none_flying
-    (subst (λ (a : List ℕ). Stages key Up Up taken waiting a flying) none_answering
-    (subst (λ (st : State). Stages key Up st taken waiting answering flying) up_y
+    (subst (λ (f : List _). Stages key Connected Connected taken waiting [] f) none_flying
+    (subst (λ (a : List ℕ). Stages key Connected Connected taken waiting a flying) none_answering
+    (subst (λ (st : State). Stages key Connected st taken waiting answering flying) up_y
     (subst (λ (st : State). Stages key st y taken waiting answering flying) up_x h))))
 
 no_entries : (es : List Entry) → Each IsHeld es → held Q1 es ≡ [] → held Q2 es ≡ [] → es ≡ []
@@ -228,8 +228,8 @@ both_nil {A} E taken waiting e n = e ∙ (ap (λ (q : List A). q ++ waiting) n.0
 
 -- nothing that asks for an answer is on its way from x to y, and no answer from y to x
 pub record Over (x y : Half) : Type 0 where
-  pub up_x : x.end.state ≡ Up
-  pub up_y : y.end.state ≡ Up
+  pub up_x : x.end.state ≡ Connected
+  pub up_y : y.end.state ≡ Connected
   pub pubrecs : (answers x.coming).pubrecs ≡ []
   pub pubacks : (answers x.coming).pubacks ≡ []
   pub publishes_2 : (flight y.coming).publishes_2 ≡ []

@@ -8,7 +8,7 @@ use Rattle.std.proofs.lemmas.List.{map-append}
 use Rattle.mq_flow.specs.Sender.{times}
 use Rattle.mq_flow.proofs.Counting.{times_append}
 use Rattle.mq_end.specs.declared.state.State.{State}
-use Rattle.mq_end.specs.declared.state.State.TheVariants.{Closed, Open, Up}
+use Rattle.mq_end.specs.declared.state.State.TheVariants.{Disconnected, Connecting, Connected}
 use Rattle.mq_end.specs.End.{is_up, is_live}
 use Rattle.mq_world.specs.Half.{joined}
 
@@ -17,9 +17,9 @@ When true P = P
 When false P = Unit {0}
 
 abbrev pub is_open : State → Bool
-is_open Closed = false
-is_open Open = true
-is_open Up = false
+is_open Disconnected = false
+is_open Connecting = true
+is_open Connected = false
 
 pub record Stages {A : Type 0} (key : A → ℕ) (x y : State) (taken waiting : List A) (answers : List ℕ) (flying : List A) : Type 0 where
   pub answering : List A
@@ -35,7 +35,7 @@ pub record Stages {A : Type 0} (key : A → ℕ) (x y : State) (taken waiting : 
   pub low : When (not (is_up x)) (answering ≡ [])
   pub quiet : When (is_open x || not (is_live y)) ((again ≡ []) × (coming ≡ []))
 
-pub at_first : {A : Type 0} (key : A → ℕ) → Stages key Closed Closed [] [] [] []
+pub at_first : {A : Type 0} (key : A → ℕ) → Stages key Disconnected Disconnected [] [] [] []
 at_first key =
     record {
       answering = [];
@@ -53,26 +53,26 @@ at_first key =
     }
 
 still_quiet : (x y : State) (P : Type 0) → When (is_open x || not (is_live y)) P → When (not (is_live y)) P
-still_quiet Closed y P q = q
-still_quiet Open Closed P q = q
-still_quiet Open Open P q = tt
-still_quiet Open Up P q = tt
-still_quiet Up y P q = q
+still_quiet Disconnected y P q = q
+still_quiet Connecting Disconnected P q = q
+still_quiet Connecting Connecting P q = tt
+still_quiet Connecting Connected P q = tt
+still_quiet Connected y P q = q
 
 surely : (x : State) (P : Type 0) → P → When (is_open x || true) P
-surely Closed P p = p
-surely Open P p = p
-surely Up P p = p
+surely Disconnected P p = p
+surely Connecting P p = p
+surely Connected P p = p
 
 never : (x : State) (P : Type 0) → When (is_up x && false) P
-never Closed P = tt
-never Open P = tt
-never Up P = tt
+never Disconnected P = tt
+never Connecting P = tt
+never Connected P = tt
 
 -- ---- connections are lost and opened
 
 pub sender_drops : {A : Type 0} (key : A → ℕ) (x y : State) (taken waiting : List A) (answers : List ℕ) (flying : List A)
-    → Stages key x y taken waiting answers flying → Stages key Closed y taken waiting [] flying
+    → Stages key x y taken waiting answers flying → Stages key Disconnected y taken waiting [] flying
 sender_drops key x y taken waiting answers flying h = record {
   answering = [];
   silent = h.answering ++ h.silent;
@@ -89,7 +89,7 @@ sender_drops key x y taken waiting answers flying h = record {
 }
 
 pub receiver_drops : {A : Type 0} (key : A → ℕ) (x y : State) (taken waiting : List A) (answers : List ℕ) (flying : List A)
-    → Stages key x y taken waiting answers flying → Stages key x Closed taken waiting answers []
+    → Stages key x y taken waiting answers flying → Stages key x Disconnected taken waiting answers []
 receiver_drops {A} key x y taken waiting answers flying h = record {
   answering = h.answering;
   silent = h.silent ++ h.again;
@@ -106,7 +106,7 @@ receiver_drops {A} key x y taken waiting answers flying h = record {
 }
 
 pub opened : {A : Type 0} (key : A → ℕ) (x y : State) (taken waiting : List A) (answers : List ℕ) (flying : List A)
-    → Stages key x y taken waiting answers flying → Stages key Open Open taken waiting [] []
+    → Stages key x y taken waiting answers flying → Stages key Connecting Connecting taken waiting [] []
 opened key x y taken waiting answers flying h = record {
   answering = [];
   silent = h.answering ++ (h.silent ++ h.again);
@@ -125,8 +125,8 @@ opened key x y taken waiting answers flying h = record {
 -- ---- the handshake
 
 pub sender_up : {A : Type 0} (key : A → ℕ) (y : State) (taken waiting : List A) (answers : List ℕ) (flying : List A)
-    → Stages key Open y taken waiting answers flying → Stages key Up y taken waiting answers (joined y flying (taken ++ waiting))
-sender_up key Closed taken waiting answers flying h =
+    → Stages key Connecting y taken waiting answers flying → Stages key Connected y taken waiting answers (joined y flying (taken ++ waiting))
+sender_up key Disconnected taken waiting answers flying h =
     record {
       answering = h.answering;
       silent = h.silent;
@@ -141,12 +141,12 @@ sender_up key Closed taken waiting answers flying h =
       low = tt;
       quiet = h.quiet;
     }
-sender_up key Open taken waiting answers flying h =
+sender_up key Connecting taken waiting answers flying h =
     resends key taken waiting answers flying h.answering h.again h.coming h.answered h.flown h.low h.quiet.0 h.quiet.1
   where
     resends : {A : Type 0} (key : A → ℕ) (taken waiting : List A) (answers : List ℕ) (flying answering again coming : List A)
         → answers ≡ map key answering → flying ≡ again ++ coming → answering ≡ [] → again ≡ [] → coming ≡ []
-        → Stages key Up Open taken waiting answers (flying ++ (taken ++ waiting))
+        → Stages key Connected Connecting taken waiting answers (flying ++ (taken ++ waiting))
     resends {A} key taken waiting answers flying answering again coming answered flown r z t =
         record {
           answering = [];
@@ -162,12 +162,12 @@ sender_up key Open taken waiting answers flying h =
           low = tt;
           quiet = tt;
         }
-sender_up key Up taken waiting answers flying h =
+sender_up key Connected taken waiting answers flying h =
     resends key taken waiting answers flying h.answering h.again h.coming h.answered h.flown h.low h.quiet.0 h.quiet.1
   where
     resends : {A : Type 0} (key : A → ℕ) (taken waiting : List A) (answers : List ℕ) (flying answering again coming : List A)
         → answers ≡ map key answering → flying ≡ again ++ coming → answering ≡ [] → again ≡ [] → coming ≡ []
-        → Stages key Up Up taken waiting answers (flying ++ (taken ++ waiting))
+        → Stages key Connected Connected taken waiting answers (flying ++ (taken ++ waiting))
     resends {A} key taken waiting answers flying answering again coming answered flown r z t =
         record {
           answering = [];
@@ -185,7 +185,7 @@ sender_up key Up taken waiting answers flying h =
         }
 
 pub receiver_up : {A : Type 0} (key : A → ℕ) (x : State) (taken waiting : List A) (answers : List ℕ) (flying : List A)
-    → Stages key x Open taken waiting answers flying → Stages key x Up taken waiting answers flying
+    → Stages key x Connecting taken waiting answers flying → Stages key x Connected taken waiting answers flying
 receiver_up key x taken waiting answers flying h =
     record {
       answering = h.answering;
@@ -222,8 +222,8 @@ accepted_down {A} key x y taken waiting answers flying a down h = record {
 }
 
 pub accepted_up : {A : Type 0} (key : A → ℕ) (y : State) (taken waiting : List A) (answers : List ℕ) (flying : List A) (a : A)
-    → Stages key Up y taken waiting answers flying → Stages key Up y taken (waiting ++ a ∷ []) answers (joined y flying (a ∷ []))
-accepted_up {A} key Closed taken waiting answers flying a h = record {
+    → Stages key Connected y taken waiting answers flying → Stages key Connected y taken (waiting ++ a ∷ []) answers (joined y flying (a ∷ []))
+accepted_up {A} key Disconnected taken waiting answers flying a h = record {
   answering = h.answering;
   silent = h.silent;
   again = h.again;
@@ -237,7 +237,7 @@ accepted_up {A} key Closed taken waiting answers flying a h = record {
   low = tt;
   quiet = h.quiet;
 }
-accepted_up {A} key Open taken waiting answers flying a h = record {
+accepted_up {A} key Connecting taken waiting answers flying a h = record {
   answering = h.answering;
   silent = h.silent;
   again = h.again;
@@ -252,7 +252,7 @@ accepted_up {A} key Open taken waiting answers flying a h = record {
   low = tt;
   quiet = tt;
 }
-accepted_up {A} key Up taken waiting answers flying a h = record {
+accepted_up {A} key Connected taken waiting answers flying a h = record {
   answering = h.answering;
   silent = h.silent;
   again = h.again;
@@ -271,16 +271,16 @@ accepted_up {A} key Up taken waiting answers flying a h = record {
 -- ---- the receiver takes an item in, again or for the first time
 
 pub data TakesIn {A : Type 0} (key : A → ℕ) (x : State) (taken waiting : List A) (answers : List ℕ) (a : A) (rest : List A) : Type 0 where
-  Again : (front back : List A) → taken ≡ front ++ a ∷ back → Stages key x Up taken waiting (joined x answers (key a ∷ [])) rest
+  Again : (front back : List A) → taken ≡ front ++ a ∷ back → Stages key x Connected taken waiting (joined x answers (key a ∷ [])) rest
       → TakesIn key x taken waiting answers a rest
-  New : (later : List A) → waiting ≡ a ∷ later → Stages key x Up (taken ++ a ∷ []) later (joined x answers (key a ∷ [])) rest
+  New : (later : List A) → waiting ≡ a ∷ later → Stages key x Connected (taken ++ a ∷ []) later (joined x answers (key a ∷ [])) rest
       → TakesIn key x taken waiting answers a rest
 
 pub not_empty : {A : Type 0} (a : A) (xs : List A) → a ∷ xs ≡ [] → ⊥
 not_empty a xs e = cc
 
 up_takes : {A : Type 0} (key : A → ℕ) (taken waiting : List A) (answers : List ℕ) (a : A) (rest answering again coming : List A)
-    → taken ≡ answering ++ again → waiting ≡ coming → answers ≡ map key answering → a ∷ rest ≡ again ++ coming → TakesIn key Up taken waiting answers a rest
+    → taken ≡ answering ++ again → waiting ≡ coming → answers ≡ map key answering → a ∷ rest ≡ again ++ coming → TakesIn key Connected taken waiting answers a rest
 up_takes key taken waiting answers a rest answering [] [] taken_is waiting_is answered flown = absurd (not_empty a rest flown)
 up_takes {A} key taken waiting answers a rest answering [] (t ∷ coming) taken_is waiting_is answered flown =
     let same : t ∷ coming ≡ a ∷ rest = sym flown in
@@ -319,7 +319,7 @@ up_takes {A} key taken waiting answers a rest answering (z ∷ again) coming tak
     })
 
 closed_takes : {A : Type 0} (key : A → ℕ) (taken waiting : List A) (answers : List ℕ) (a : A) (rest silent again coming staying : List A)
-    → taken ≡ silent ++ again → waiting ≡ coming ++ staying → answers ≡ [] → a ∷ rest ≡ again ++ coming → TakesIn key Closed taken waiting answers a rest
+    → taken ≡ silent ++ again → waiting ≡ coming ++ staying → answers ≡ [] → a ∷ rest ≡ again ++ coming → TakesIn key Disconnected taken waiting answers a rest
 closed_takes key taken waiting answers a rest silent [] [] staying taken_is waiting_is answered flown = absurd (not_empty a rest flown)
 closed_takes {A} key taken waiting answers a rest silent [] (t ∷ coming) staying taken_is waiting_is answered flown =
     let same : t ∷ coming ≡ a ∷ rest = sym flown in
@@ -357,22 +357,22 @@ closed_takes {A} key taken waiting answers a rest silent (z ∷ again) coming st
     })
 
 pub takes_in : {A : Type 0} (key : A → ℕ) (x : State) (taken waiting : List A) (answers : List ℕ) (a : A) (rest : List A)
-    → Stages key x Up taken waiting answers (a ∷ rest) → TakesIn key x taken waiting answers a rest
-takes_in {A} key Closed taken waiting answers a rest h =
+    → Stages key x Connected taken waiting answers (a ∷ rest) → TakesIn key x taken waiting answers a rest
+takes_in {A} key Disconnected taken waiting answers a rest h =
     closed_takes key taken waiting answers a rest h.silent h.again h.coming h.staying
     (h.taken_is ∙ ap (λ (q : List A). q ++ (h.silent ++ h.again)) h.low) h.waiting_is (h.answered ∙ ap (map key) h.low) h.flown
-takes_in {A} key Open taken waiting answers a rest h = absurd (not_empty a rest (h.flown ∙ (ap (λ (q : List A). q ++ h.coming) h.quiet.0 ∙ h.quiet.1)))
-takes_in {A} key Up taken waiting answers a rest h =
+takes_in {A} key Connecting taken waiting answers a rest h = absurd (not_empty a rest (h.flown ∙ (ap (λ (q : List A). q ++ h.coming) h.quiet.0 ∙ h.quiet.1)))
+takes_in {A} key Connected taken waiting answers a rest h =
     up_takes key taken waiting answers a rest h.answering h.again h.coming (h.taken_is ∙ ap (λ (q : List A). h.answering ++ (q ++ h.again)) h.both.0)
     (h.waiting_is ∙ (ap (λ (q : List A). h.coming ++ q) h.both.1 ∙ append-nil h.coming)) h.answered h.flown
 
 -- ---- the sender takes an answer in
 
 pub data Answered {A : Type 0} (key : A → ℕ) (y : State) (taken waiting : List A) (i : ℕ) (rest : List ℕ) (flying : List A) : Type 0 where
-  Answer : (a : A) (later : List A) → taken ≡ a ∷ later → key a ≡ i → Stages key Up y later waiting rest flying → Answered key y taken waiting i rest flying
+  Answer : (a : A) (later : List A) → taken ≡ a ∷ later → key a ≡ i → Stages key Connected y later waiting rest flying → Answered key y taken waiting i rest flying
 
 pub answered : {A : Type 0} (key : A → ℕ) (y : State) (taken waiting : List A) (i : ℕ) (rest : List ℕ) (flying : List A)
-    → Stages key Up y taken waiting (i ∷ rest) flying → Answered key y taken waiting i rest flying
+    → Stages key Connected y taken waiting (i ∷ rest) flying → Answered key y taken waiting i rest flying
 answered key y taken waiting i rest flying h =
     by_first key y taken waiting i rest flying h.answering h.silent h.again h.coming h.staying h.taken_is h.waiting_is h.answered h.flown h.both h.quiet
   where
@@ -421,7 +421,7 @@ no_front [] coming e = (refl, sym e)
 no_front (z ∷ again) coming e = absurd (not_empty z (again ++ coming) (sym e))
 
 -- both sides are up, and nothing is on its way: nothing is held
-pub nothing_held : {A : Type 0} (key : A → ℕ) (taken waiting : List A) → Stages key Up Up taken waiting [] [] → (taken ≡ []) × (waiting ≡ [])
+pub nothing_held : {A : Type 0} (key : A → ℕ) (taken waiting : List A) → Stages key Connected Connected taken waiting [] [] → (taken ≡ []) × (waiting ≡ [])
 nothing_held {A} key taken waiting h =
     let r = nothing_mapped key h.answering h.answered in
     let f = no_front h.again h.coming h.flown in (

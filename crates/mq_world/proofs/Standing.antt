@@ -5,7 +5,7 @@ use Rattle.mq_packet.specs.declared.packet.Packet.{Packet}
 use Rattle.mq_decode.specs.Limits.{Bounds}
 use Rattle.mq_decode.specs.Grammar.{Stream}
 use Rattle.mq_end.specs.End.{is_live, blank_end}
-use Rattle.mq_end.specs.State.{EndState, Spelled, PutsOut}
+use Rattle.mq_end.specs.State.{EndState, EncodesAll, PutsOut}
 use Rattle.mq_world.specs.declared.side.Side.{Side}
 use Rattle.mq_world.specs.declared.side.Side.TheVariants.{Client, Server}
 use Rattle.mq_world.specs.Half.{Half, Action, May, moved, put}
@@ -55,7 +55,7 @@ both_sides limit capacity Client x y h g a b = record { client = a; server = b }
 both_sides limit capacity Server x y h g a b = record { client = b; server = a }
 
 far_fits : (limit : Bounds) (capacity : ℕ) (side : Side) (w : Wired) (m : Machine) (x : WiredSide) (h : Half) (ps : List Packet) (c : List ℕ)
-    → Stands limit capacity w m → Reached limit.most capacity (face side h (put ps (other side m))) → Spelled ps c
+    → Stands limit capacity w m → Reached limit.most capacity (face side h (put ps (other side m))) → EncodesAll ps c
     → CarriesSide limit capacity (with_more c (far side w)) (put ps (other side m))
 far_fits limit capacity Client w m x h ps c k r s =
     grown limit capacity w.server m.server ps c k.large (reached_fits limit.most capacity (face Client h (put ps m.server)) r).1 s k.carries.server
@@ -65,7 +65,7 @@ far_fits limit capacity Server w m x h ps c k r s =
 -- a side moves, and what it puts out goes on its way to the other
 pub follows : (limit : Bounds) (capacity : ℕ) (side : Side) (w : Wired) (m : Machine) (moves : List Move) (x : WiredSide) (h : Half)
     (ps : List Packet) (c : List ℕ) → Stands limit capacity w m
-    → Run limit.most capacity m moves (face side h (put ps (other side m))) → Spelled ps c → CarriesSide limit capacity x h
+    → Run limit.most capacity m moves (face side h (put ps (other side m))) → EncodesAll ps c → CarriesSide limit capacity x h
     → Follows limit capacity m moves (facing side x (with_more c (far side w)))
 follows limit capacity side w m moves x h ps c k run s near_side =
     let v : Machine = face side h (put ps (other side m)) in
@@ -90,7 +90,7 @@ one_move limit capacity Server m action may = (may, refl)
 -- the same for one move
 pub follows_one : (limit : Bounds) (capacity : ℕ) (side : Side) (w : Wired) (m : Machine) (action : Action) (x : WiredSide) (c : List ℕ)
     → Stands limit capacity w m → May limit.most capacity side action (half_of side m)
-    → Spelled (moved side action (half_of side m)).out c → CarriesSide limit capacity x (moved side action (half_of side m)).half
+    → EncodesAll (moved side action (half_of side m)).out c → CarriesSide limit capacity x (moved side action (half_of side m)).half
     → Follows limit capacity m (By side action ∷ []) (facing side x (with_more c (far side w)))
 follows_one limit capacity side w m action x c k may s near_side =
     follows limit capacity side w m (By side action ∷ []) x (moved side action (half_of side m)).half (moved side action (half_of side m)).out c k
@@ -101,8 +101,8 @@ pub no_more_bytes : (y : WiredSide) → with_more [] y ≡ y
 no_more_bytes y = λ i. record y { wire = append-nil y.wire i }
 
 -- what is put out where nothing waited
-pub all_put_out : (ps : List Packet) (old new : List ℕ) → old ≡ [] → PutsOut ps old new → Spelled ps new
-all_put_out ps old new e p = subst (Spelled ps) (sym (p.2 ∙ ap (λ (b : List ℕ). b ++ p.0) e)) p.1
+pub all_put_out : (ps : List Packet) (old new : List ℕ) → old ≡ [] → PutsOut ps old new → EncodesAll ps new
+all_put_out ps old new e p = subst (EncodesAll ps) (sym (p.2 ∙ ap (λ (b : List ℕ). b ++ p.0) e)) p.1
 
 -- ---- worlds
 

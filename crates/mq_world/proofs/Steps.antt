@@ -15,7 +15,7 @@ use Rattle.mq_flow.specs.Sender.{SenderBook, times, held, IsFree, accept, releas
 use Rattle.mq_flow.specs.Laws.{IsSound}
 use Rattle.mq_flow.proofs.Books.{laws as books, times_uses}
 use Rattle.mq_end.specs.declared.state.State.{State}
-use Rattle.mq_end.specs.declared.state.State.TheVariants.{Closed, Open, Up}
+use Rattle.mq_end.specs.declared.state.State.TheVariants.{Disconnected, Connecting, Connected}
 use Rattle.mq_end.specs.declared.happening.Happening.TheVariants as happens
 use Rattle.mq_end.specs.declared.reason.CloseReason.TheVariants as reasons
 use Rattle.mq_end.specs.declared.refusal.PublishRefusal.TheVariants as refusals
@@ -43,43 +43,43 @@ use Rattle.mq_world.proofs.Flows.{Keeps, flow_keeps}
 
 -- ---- the client takes a packet in
 
-connack_keeps : (capacity : ℕ) (h y : Half) (a : ConnAck) (rest : List Packet) → Both capacity (upon h Open (packets.ConnAck a ∷ rest)) y
-    → Keeps capacity (upon h Open (packets.ConnAck a ∷ rest)) rest y (connack_gets a (upon h Open rest).end)
+connack_keeps : (capacity : ℕ) (h y : Half) (a : ConnAck) (rest : List Packet) → Both capacity (upon h Connecting (packets.ConnAck a ∷ rest)) y
+    → Keeps capacity (upon h Connecting (packets.ConnAck a ∷ rest)) rest y (connack_gets a (upon h Connecting rest).end)
 connack_keeps capacity h y (connacks.Refused code) rest b =
-    close_keeps capacity h y Open (packets.ConnAck (connacks.Refused code) ∷ rest) rest [] None refl refl tt b
+    close_keeps capacity h y Connecting (packets.ConnAck (connacks.Refused code) ∷ rest) rest [] None refl refl tt b
 connack_keeps capacity h y (connacks.Accepted present) rest b =
-    cond_both (h.end.known && not present) (closes reasons.SessionLost (upon h Open rest).end) (comes_up [] present (upon h Open rest).end)
-    (Keeps capacity (upon h Open (packets.ConnAck (connacks.Accepted present) ∷ rest)) rest y)
-    (λ t. close_keeps capacity h y Open (packets.ConnAck (connacks.Accepted present) ∷ rest) rest [] None refl refl tt b)
+    cond_both (h.end.known && not present) (closes reasons.SessionLost (upon h Connecting rest).end) (comes_up [] present (upon h Connecting rest).end)
+    (Keeps capacity (upon h Connecting (packets.ConnAck (connacks.Accepted present) ∷ rest)) rest y)
+    (λ t. close_keeps capacity h y Connecting (packets.ConnAck (connacks.Accepted present) ∷ rest) rest [] None refl refl tt b)
     (λ f. up_keeps capacity h y (packets.ConnAck (connacks.Accepted present)) rest [] h.end.keep_alive refl refl tt refl refl b)
 
-client_open_keeps : (capacity : ℕ) (h y : Half) (p : Packet) (rest : List Packet) → Both capacity (upon h Open (p ∷ rest)) y
-    → Keeps capacity (upon h Open (p ∷ rest)) rest y (client_open_gets p (upon h Open rest).end)
+client_open_keeps : (capacity : ℕ) (h y : Half) (p : Packet) (rest : List Packet) → Both capacity (upon h Connecting (p ∷ rest)) y
+    → Keeps capacity (upon h Connecting (p ∷ rest)) rest y (client_open_gets p (upon h Connecting rest).end)
 client_open_keeps capacity h y (packets.ConnAck a) rest b = connack_keeps capacity h y a rest b
-client_open_keeps capacity h y p rest b = close_keeps capacity h y Open (p ∷ rest) rest [] None refl refl tt b
+client_open_keeps capacity h y p rest b = close_keeps capacity h y Connecting (p ∷ rest) rest [] None refl refl tt b
 
-client_up_keeps : (capacity : ℕ) (h y : Half) (p : Packet) (rest : List Packet) → Both capacity (upon h Up (p ∷ rest)) y
-    → Keeps capacity (upon h Up (p ∷ rest)) rest y (client_up_gets p (upon h Up rest).end)
+client_up_keeps : (capacity : ℕ) (h y : Half) (p : Packet) (rest : List Packet) → Both capacity (upon h Connected (p ∷ rest)) y
+    → Keeps capacity (upon h Connected (p ∷ rest)) rest y (client_up_gets p (upon h Connected rest).end)
 client_up_keeps capacity h y (packets.SubAck i codes) rest b =
     cond_both (awaits_suback i (length codes) h.end.book)
-    (tells (happens.SubAck i codes) (record (upon h Up rest).end { book = release i h.end.book }))
-    (closes reasons.Unexpected (upon h Up rest).end) (Keeps capacity (upon h Up (packets.SubAck i codes ∷ rest)) rest y)
-    (λ t. calm_keeps capacity h y Up (packets.SubAck i codes) rest [] (without_claim i h.end.book.claimed) refl refl tt refl refl
+    (tells (happens.SubAck i codes) (record (upon h Connected rest).end { book = release i h.end.book }))
+    (closes reasons.Unexpected (upon h Connected rest).end) (Keeps capacity (upon h Connected (packets.SubAck i codes ∷ rest)) rest y)
+    (λ t. calm_keeps capacity h y Connected (packets.SubAck i codes) rest [] (without_claim i h.end.book.claimed) refl refl tt refl refl
     (books.releases capacity i h.end.book b.own_x.0) b)
-    (λ f. close_keeps capacity h y Up (packets.SubAck i codes ∷ rest) rest [] None refl refl tt b)
+    (λ f. close_keeps capacity h y Connected (packets.SubAck i codes ∷ rest) rest [] None refl refl tt b)
 client_up_keeps capacity h y (packets.UnsubAck i) rest b =
-    cond_both (awaits_unsuback i h.end.book) (tells (happens.UnsubAck i) (record (upon h Up rest).end { book = release i h.end.book }))
-    (closes reasons.Unexpected (upon h Up rest).end) (Keeps capacity (upon h Up (packets.UnsubAck i ∷ rest)) rest y)
-    (λ t. calm_keeps capacity h y Up (packets.UnsubAck i) rest [] (without_claim i h.end.book.claimed) refl refl tt refl refl
+    cond_both (awaits_unsuback i h.end.book) (tells (happens.UnsubAck i) (record (upon h Connected rest).end { book = release i h.end.book }))
+    (closes reasons.Unexpected (upon h Connected rest).end) (Keeps capacity (upon h Connected (packets.UnsubAck i ∷ rest)) rest y)
+    (λ t. calm_keeps capacity h y Connected (packets.UnsubAck i) rest [] (without_claim i h.end.book.claimed) refl refl tt refl refl
     (books.releases capacity i h.end.book b.own_x.0) b)
-    (λ f. close_keeps capacity h y Up (packets.UnsubAck i ∷ rest) rest [] None refl refl tt b)
-client_up_keeps capacity h y packets.PingResp rest b = calm_keeps capacity h y Up packets.PingResp rest [] h.end.book.claimed refl refl tt refl refl b.own_x.0 b
+    (λ f. close_keeps capacity h y Connected (packets.UnsubAck i ∷ rest) rest [] None refl refl tt b)
+client_up_keeps capacity h y packets.PingResp rest b = calm_keeps capacity h y Connected packets.PingResp rest [] h.end.book.claimed refl refl tt refl refl b.own_x.0 b
 client_up_keeps capacity h y p rest b = flow_keeps capacity h y p rest b
 
 -- a closed side takes nothing in
-closed_keeps : (capacity : ℕ) (h y : Half) (q : List Packet) → Both capacity (upon h Closed q) y → Both capacity (upon h Closed []) (put [] y)
+closed_keeps : (capacity : ℕ) (h y : Half) (q : List Packet) → Both capacity (upon h Disconnected q) y → Both capacity (upon h Disconnected []) (put [] y)
 closed_keeps capacity h y q b =
-    finish capacity (upon h Closed q) y (upon h Closed []) [] (answers y.coming) (flight y.coming) (same_answers y.end.state y.coming [] refl)
+    finish capacity (upon h Disconnected q) y (upon h Disconnected []) [] (answers y.coming) (flight y.coming) (same_answers y.end.state y.coming [] refl)
     (same_flight y.end.state y.coming [] refl)
     (second.sender_drops b.to_y.0, first.sender_drops b.to_y.1, b.to_y.2)
     (second.receiver_drops b.to_x.0, first.receiver_drops b.to_x.1, zeroth_lost _ _ _ b.to_x.2)
@@ -91,42 +91,42 @@ closed_keeps capacity h y q b =
 
 client_keeps : (capacity : ℕ) (h y : Half) (st : State) (p : Packet) (rest : List Packet) → Both capacity (upon h st (p ∷ rest)) y
     → Keeps capacity (upon h st (p ∷ rest)) rest y (client_gets_in st p (upon h st rest).end)
-client_keeps capacity h y Closed p rest b = closed_keeps capacity h y (p ∷ rest) b
-client_keeps capacity h y Open p rest b = client_open_keeps capacity h y p rest b
-client_keeps capacity h y Up p rest b = client_up_keeps capacity h y p rest b
+client_keeps capacity h y Disconnected p rest b = closed_keeps capacity h y (p ∷ rest) b
+client_keeps capacity h y Connecting p rest b = client_open_keeps capacity h y p rest b
+client_keeps capacity h y Connected p rest b = client_up_keeps capacity h y p rest b
 
 -- ---- the server takes a packet in
 
-connect_keeps : (capacity : ℕ) (h y : Half) (c : Connect) (rest : List Packet) → Both capacity (upon h Open (packets.Connect c ∷ rest)) y
-    → Keeps capacity (upon h Open (packets.Connect c ∷ rest)) rest y (connect_gets c (upon h Open rest).end)
+connect_keeps : (capacity : ℕ) (h y : Half) (c : Connect) (rest : List Packet) → Both capacity (upon h Connecting (packets.Connect c ∷ rest)) y
+    → Keeps capacity (upon h Connecting (packets.Connect c ∷ rest)) rest y (connect_gets c (upon h Connecting rest).end)
 connect_keeps capacity h y c rest b =
     let P : Connect → Type 0 =
-    λ c. Both capacity (upon h Open (packets.Connect c ∷ rest)) y
-    → Keeps capacity (upon h Open (packets.Connect c ∷ rest)) rest y (connect_gets c (upon h Open rest).end) in
+    λ c. Both capacity (upon h Connecting (packets.Connect c ∷ rest)) y
+    → Keeps capacity (upon h Connecting (packets.Connect c ∷ rest)) rest y (connect_gets c (upon h Connecting rest).end) in
     subst P (sym b.queue_x.0) (λ b. up_keeps capacity h y (packets.Connect first_packet) rest
     (packets.ConnAck (connacks.Accepted h.end.known) ∷ []) 60 refl refl (tt, tt) refl refl b) b
 
-server_open_keeps : (capacity : ℕ) (h y : Half) (p : Packet) (rest : List Packet) → Both capacity (upon h Open (p ∷ rest)) y
-    → Keeps capacity (upon h Open (p ∷ rest)) rest y (server_open_gets p (upon h Open rest).end)
+server_open_keeps : (capacity : ℕ) (h y : Half) (p : Packet) (rest : List Packet) → Both capacity (upon h Connecting (p ∷ rest)) y
+    → Keeps capacity (upon h Connecting (p ∷ rest)) rest y (server_open_gets p (upon h Connecting rest).end)
 server_open_keeps capacity h y (packets.Connect c) rest b = connect_keeps capacity h y c rest b
-server_open_keeps capacity h y p rest b = close_keeps capacity h y Open (p ∷ rest) rest [] None refl refl tt b
+server_open_keeps capacity h y p rest b = close_keeps capacity h y Connecting (p ∷ rest) rest [] None refl refl tt b
 
-server_up_keeps : (capacity : ℕ) (h y : Half) (p : Packet) (rest : List Packet) → Both capacity (upon h Up (p ∷ rest)) y
-    → Keeps capacity (upon h Up (p ∷ rest)) rest y (server_up_gets p (upon h Up rest).end)
+server_up_keeps : (capacity : ℕ) (h y : Half) (p : Packet) (rest : List Packet) → Both capacity (upon h Connected (p ∷ rest)) y
+    → Keeps capacity (upon h Connected (p ∷ rest)) rest y (server_up_gets p (upon h Connected rest).end)
 server_up_keeps capacity h y (packets.Subscribe i requests) rest b =
-    calm_keeps capacity h y Up (packets.Subscribe i requests) rest [] h.end.book.claimed refl refl tt refl refl b.own_x.0 b
+    calm_keeps capacity h y Connected (packets.Subscribe i requests) rest [] h.end.book.claimed refl refl tt refl refl b.own_x.0 b
 server_up_keeps capacity h y (packets.Unsubscribe i filters) rest b =
-    calm_keeps capacity h y Up (packets.Unsubscribe i filters) rest [] h.end.book.claimed refl refl tt refl refl b.own_x.0 b
+    calm_keeps capacity h y Connected (packets.Unsubscribe i filters) rest [] h.end.book.claimed refl refl tt refl refl b.own_x.0 b
 server_up_keeps capacity h y packets.PingReq rest b =
-    calm_keeps capacity h y Up packets.PingReq rest (packets.PingResp ∷ []) h.end.book.claimed refl refl (tt, tt) refl refl b.own_x.0 b
-server_up_keeps capacity h y packets.Disconnect rest b = close_keeps capacity h y Up (packets.Disconnect ∷ rest) rest [] None refl refl tt b
+    calm_keeps capacity h y Connected packets.PingReq rest (packets.PingResp ∷ []) h.end.book.claimed refl refl (tt, tt) refl refl b.own_x.0 b
+server_up_keeps capacity h y packets.Disconnect rest b = close_keeps capacity h y Connected (packets.Disconnect ∷ rest) rest [] None refl refl tt b
 server_up_keeps capacity h y p rest b = flow_keeps capacity h y p rest b
 
 server_keeps : (capacity : ℕ) (h y : Half) (st : State) (p : Packet) (rest : List Packet) → Both capacity (upon h st (p ∷ rest)) y
     → Keeps capacity (upon h st (p ∷ rest)) rest y (server_gets_in st p (upon h st rest).end)
-server_keeps capacity h y Closed p rest b = closed_keeps capacity h y (p ∷ rest) b
-server_keeps capacity h y Open p rest b = server_open_keeps capacity h y p rest b
-server_keeps capacity h y Up p rest b = server_up_keeps capacity h y p rest b
+server_keeps capacity h y Disconnected p rest b = closed_keeps capacity h y (p ∷ rest) b
+server_keeps capacity h y Connecting p rest b = server_open_keeps capacity h y p rest b
+server_keeps capacity h y Connected p rest b = server_up_keeps capacity h y p rest b
 
 -- nothing comes, nothing goes out
 pub still_keeps : (capacity : ℕ) (x y : Half) (ps : List Packet) → answers ps ≡ no_answers → flight ps ≡ no_flight → Each IsPlain ps
@@ -185,8 +185,8 @@ unsent_own : (capacity : ℕ) (st : State) (b : SenderBook) (e : Entry) → is_u
 unsent_own capacity st b e down is_held own s =
     (s, subst (λ (t : Bool). When t (Each IsSent (b.entries ++ e ∷ []))) (sym down) tt, each_append IsHeld b.entries (e ∷ []) own.2 (is_held, tt))
 
-sent_own : (capacity : ℕ) (b : SenderBook) (e : Entry) → IsSent e → IsHeld e → OwnOf capacity Up b
-    → IsSound capacity (record b { entries = b.entries ++ e ∷ [] }) → OwnOf capacity Up (record b { entries = b.entries ++ e ∷ [] })
+sent_own : (capacity : ℕ) (b : SenderBook) (e : Entry) → IsSent e → IsHeld e → OwnOf capacity Connected b
+    → IsSound capacity (record b { entries = b.entries ++ e ∷ [] }) → OwnOf capacity Connected (record b { entries = b.entries ++ e ∷ [] })
 sent_own capacity b e is_sent is_held own s =
     (s, each_append IsSent b.entries (e ∷ []) own.1 (is_sent, tt), each_append IsHeld b.entries (e ∷ []) own.2 (is_held, tt))
 
@@ -220,15 +220,15 @@ down_1 capacity h y st q i m down s b =
     b
 
 up_1 : (capacity : ℕ) (h y : Half) (q : List Packet) (i : ℕ) (m : Message) → IsSound capacity (accept i (record m { qos = Q1 }) true h.end.book)
-    → Both capacity (upon h Up q) y
-    → Both capacity (record (upon h Up q) {
-      end = record (upon h Up q).end { book = accept i (record m { qos = Q1 }) true h.end.book; last = i };
+    → Both capacity (upon h Connected q) y
+    → Both capacity (record (upon h Connected q) {
+      end = record (upon h Connected q).end { book = accept i (record m { qos = Q1 }) true h.end.book; last = i };
       accepted = accepted_with Q1 i (record m { qos = Q1 }) h.accepted;
     }) (put (packet_1 i m ∷ []) y)
 up_1 capacity h y q i m s b =
-    finish capacity (upon h Up q) y
-    (record (upon h Up q) {
-      end = record (upon h Up q).end { book = accept i (record m { qos = Q1 }) true h.end.book; last = i };
+    finish capacity (upon h Connected q) y
+    (record (upon h Connected q) {
+      end = record (upon h Connected q).end { book = accept i (record m { qos = Q1 }) true h.end.book; last = i };
       accepted = accepted_with Q1 i (record m { qos = Q1 }) h.accepted;
     }) (packet_1 i m ∷ [])
     (answers y.coming) (record {
@@ -238,10 +238,10 @@ up_1 capacity h y q i m s b =
       messages_0 = (flight y.coming).messages_0;
     })
     (same_answers y.end.state y.coming (packet_1 i m ∷ []) refl) (first_joins y.end.state y.coming i m) (
-      subst (λ (entries_now : List (ℕ × Message)). Second Up y.end.state entries_now h.end.book.released y.end.received (answers q).pubrecs
+      subst (λ (entries_now : List (ℕ × Message)). Second Connected y.end.state entries_now h.end.book.released y.end.received (answers q).pubrecs
           (answers q).pubcomps (flight y.coming).publishes_2 (flight y.coming).pubrels h.accepted.exactly_once y.handed.exactly_once) (sym
           (held_1_other h.end.book.entries i m true)) b.to_y.0,
-      subst (λ (entries_now : List (ℕ × Message)). First Up y.end.state entries_now (answers q).pubacks
+      subst (λ (entries_now : List (ℕ × Message)). First Connected y.end.state entries_now (answers q).pubacks
           (joined y.end.state (flight y.coming).publishes_1 ((i, record m { qos = Q1 }) ∷ []))
           (h.accepted.at_least_once ++ (i, record m { qos = Q1 }) ∷ []) y.handed.at_least_once h.freed) (sym (held_1 h.end.book.entries i m true))
           (first.accepts i (record m { qos = Q1 }) (joined y.end.state (flight y.coming).publishes_1 ((i, record m { qos = Q1 }) ∷ [])) b.to_y.1
@@ -288,15 +288,15 @@ down_2 capacity h y st q i m down free s b =
     b
 
 up_2 : (capacity : ℕ) (h y : Half) (q : List Packet) (i : ℕ) (m : Message) → IsFree h.end.book i
-    → IsSound capacity (accept i (record m { qos = Q2 }) true h.end.book) → Both capacity (upon h Up q) y
-    → Both capacity (record (upon h Up q) {
-      end = record (upon h Up q).end { book = accept i (record m { qos = Q2 }) true h.end.book; last = i };
+    → IsSound capacity (accept i (record m { qos = Q2 }) true h.end.book) → Both capacity (upon h Connected q) y
+    → Both capacity (record (upon h Connected q) {
+      end = record (upon h Connected q).end { book = accept i (record m { qos = Q2 }) true h.end.book; last = i };
       accepted = accepted_with Q2 i (record m { qos = Q2 }) h.accepted;
     }) (put (packet_2 i m ∷ []) y)
 up_2 capacity h y q i m free s b =
-    finish capacity (upon h Up q) y
-    (record (upon h Up q) {
-      end = record (upon h Up q).end { book = accept i (record m { qos = Q2 }) true h.end.book; last = i };
+    finish capacity (upon h Connected q) y
+    (record (upon h Connected q) {
+      end = record (upon h Connected q).end { book = accept i (record m { qos = Q2 }) true h.end.book; last = i };
       accepted = accepted_with Q2 i (record m { qos = Q2 }) h.accepted;
     }) (packet_2 i m ∷ [])
     (answers y.coming) (record {
@@ -306,12 +306,12 @@ up_2 capacity h y q i m free s b =
       messages_0 = (flight y.coming).messages_0;
     })
     (same_answers y.end.state y.coming (packet_2 i m ∷ []) refl) (second_joins y.end.state y.coming i m) (
-      subst (λ (entries_now : List (ℕ × Message)). Second Up y.end.state entries_now h.end.book.released y.end.received (answers q).pubrecs
+      subst (λ (entries_now : List (ℕ × Message)). Second Connected y.end.state entries_now h.end.book.released y.end.received (answers q).pubrecs
           (answers q).pubcomps (joined y.end.state (flight y.coming).publishes_2 ((i, record m { qos = Q2 }) ∷ [])) (flight y.coming).pubrels
           (h.accepted.exactly_once ++ record m { qos = Q2 } ∷ []) y.handed.exactly_once) (sym (held_2 h.end.book.entries i m true))
           (second.accepts i (record m { qos = Q2 }) (joined y.end.state (flight y.coming).publishes_2 ((i, record m { qos = Q2 }) ∷ [])) b.to_y.0
           (fresh_2 h.end.book i free) (stages.accepted_up _ _ _ _ _ _ (i, record m { qos = Q2 }) b.to_y.0.entry_stages)),
-      subst (λ (entries_now : List (ℕ × Message)). First Up y.end.state entries_now (answers q).pubacks
+      subst (λ (entries_now : List (ℕ × Message)). First Connected y.end.state entries_now (answers q).pubacks
           (flight y.coming).publishes_1 h.accepted.at_least_once y.handed.at_least_once h.freed) (sym (held_2_other h.end.book.entries i m true)) b.to_y.1,
       b.to_y.2,
     )
@@ -327,18 +327,18 @@ published_keeps : (limit capacity : ℕ) (h y : Half) (st : State) (q : List Pac
     → Both capacity (upon h st q) y
     → Both capacity (publication i (record m { qos = qos }) (upon h st q)).half (put (publication i (record m { qos = qos }) (upon h st q)).out y)
 published_keeps limit capacity h y st q i Q0 m r free b = published_0 capacity h y st q i m b
-published_keeps limit capacity h y Closed q i Q1 m r free b =
-    down_1 capacity h y Closed q i m refl (sound.publish limit capacity i (record m { qos = Q1 }) (upon h Closed q).end r free b.own_x.0) b
-published_keeps limit capacity h y Open q i Q1 m r free b =
-    down_1 capacity h y Open q i m refl (sound.publish limit capacity i (record m { qos = Q1 }) (upon h Open q).end r free b.own_x.0) b
-published_keeps limit capacity h y Up q i Q1 m r free b =
-    up_1 capacity h y q i m (sound.publish limit capacity i (record m { qos = Q1 }) (upon h Up q).end r free b.own_x.0) b
-published_keeps limit capacity h y Closed q i Q2 m r free b =
-    down_2 capacity h y Closed q i m refl free (sound.publish limit capacity i (record m { qos = Q2 }) (upon h Closed q).end r free b.own_x.0) b
-published_keeps limit capacity h y Open q i Q2 m r free b =
-    down_2 capacity h y Open q i m refl free (sound.publish limit capacity i (record m { qos = Q2 }) (upon h Open q).end r free b.own_x.0) b
-published_keeps limit capacity h y Up q i Q2 m r free b =
-    up_2 capacity h y q i m free (sound.publish limit capacity i (record m { qos = Q2 }) (upon h Up q).end r free b.own_x.0) b
+published_keeps limit capacity h y Disconnected q i Q1 m r free b =
+    down_1 capacity h y Disconnected q i m refl (sound.publish limit capacity i (record m { qos = Q1 }) (upon h Disconnected q).end r free b.own_x.0) b
+published_keeps limit capacity h y Connecting q i Q1 m r free b =
+    down_1 capacity h y Connecting q i m refl (sound.publish limit capacity i (record m { qos = Q1 }) (upon h Connecting q).end r free b.own_x.0) b
+published_keeps limit capacity h y Connected q i Q1 m r free b =
+    up_1 capacity h y q i m (sound.publish limit capacity i (record m { qos = Q1 }) (upon h Connected q).end r free b.own_x.0) b
+published_keeps limit capacity h y Disconnected q i Q2 m r free b =
+    down_2 capacity h y Disconnected q i m refl free (sound.publish limit capacity i (record m { qos = Q2 }) (upon h Disconnected q).end r free b.own_x.0) b
+published_keeps limit capacity h y Connecting q i Q2 m r free b =
+    down_2 capacity h y Connecting q i m refl free (sound.publish limit capacity i (record m { qos = Q2 }) (upon h Connecting q).end r free b.own_x.0) b
+published_keeps limit capacity h y Connected q i Q2 m r free b =
+    up_2 capacity h y q i m free (sound.publish limit capacity i (record m { qos = Q2 }) (upon h Connected q).end r free b.own_x.0) b
 
 pub not_refused : (limit capacity : ℕ) (side : Side) (m : Message) (e : End) → refusal side limit capacity m e ≡ None
     → publish_refusal limit capacity m e ≡ None

@@ -167,9 +167,9 @@ one_or_none limit capacity m n false move kept run = same_machine m n run
 
 told_time : (limit capacity : ℕ) (side : Side) (now : ℕ) (state : EndState) (m n : Machine) → Run limit capacity m (time_moves side now state) n → SameLists m n
 told_time limit capacity Client now state m n run =
-    one_or_none limit capacity m n (pings state.moment now state.end) (By Client Pings) (refl, refl) run
+    one_or_none limit capacity m n (pings state.last_activity now state.end) (By Client Pings) (refl, refl) run
 told_time limit capacity Server now state m n run =
-    one_or_none limit capacity m n (is_up state.end.state && is_late state.moment state.end.keep_alive now) (By Server Drops) (refl, refl) run
+    one_or_none limit capacity m n (is_up state.end.state && is_late state.last_activity state.end.keep_alive now) (By Server Drops) (refl, refl) run
 
 told_event : OverBytes → (limit : Bounds) (capacity : ℕ) (event : Event) (answer : Answer) (w v : Wired) (m : Machine) → Stands limit capacity w m
     → Does limit capacity event answer w v → Tells limit capacity m (event ∷ []) (answer ∷ []) v

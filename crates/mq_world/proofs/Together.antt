@@ -6,7 +6,7 @@ use Rattle.mq_packet.specs.declared.message.Message.{Message}
 use Rattle.mq_packet.specs.declared.packet.Packet.{Packet}
 use Rattle.mq_flow.specs.Sender.{same_qos}
 use Rattle.mq_end.specs.declared.state.State.{State}
-use Rattle.mq_end.specs.declared.state.State.TheVariants.{Closed, Open, Up}
+use Rattle.mq_end.specs.declared.state.State.TheVariants.{Disconnected, Connecting, Connected}
 use Rattle.mq_end.specs.declared.happening.Happening.{Happening}
 use Rattle.mq_end.specs.declared.happening.Happening.TheVariants as happens
 use Rattle.mq_end.specs.End.{End, Reply, silent, followed, one_by_one}
@@ -46,16 +46,16 @@ freed_append given [] js places = refl
 freed_append given (i ∷ is) js places = freed_append given is js (places ++ last_place i given ∷ [])
 
 pub joined_nil : (st : State) (q : List Packet) → joined st q [] ≡ q
-joined_nil Closed q = refl
-joined_nil Open q = append-nil q
-joined_nil Up q = append-nil q
+joined_nil Disconnected q = refl
+joined_nil Connecting q = append-nil q
+joined_nil Connected q = append-nil q
 
 joined_both : (st : State) (q a b : List Packet) → joined st (joined st q a) b ≡ joined st q (a ++ b)
-joined_both Closed q a b = refl
-joined_both Open q a b = append_assoc q a b
-joined_both Up q a b = append_assoc q a b
+joined_both Disconnected q a b = refl
+joined_both Connecting q a b = append_assoc q a b
+joined_both Connected q a b = append_assoc q a b
 
-pub closed_silent : (side : Side) (p : Packet) (e : End) → gets side p (record e { state = Closed }) ≡ silent (record e { state = Closed })
+pub closed_silent : (side : Side) (p : Packet) (e : End) → gets side p (record e { state = Disconnected }) ≡ silent (record e { state = Disconnected })
 closed_silent Client p e = refl
 closed_silent Server p e = refl
 
@@ -86,20 +86,20 @@ first_comes : (side : Side) (p : Packet) (ps rest : List Packet) (h y : Half) (s
     → arrive_at (length (p ∷ ps)) side (record h { end = record h.end { state = st }; coming = kept st (p ∷ (ps ++ rest)) }) y
     ≡ result rest (record h { end = record h.end { state = st }; coming = kept st (p ∷ (ps ++ rest)) }) y
     (one_by_one (gets side) (p ∷ ps) (record h.end { state = st }))
-first_comes side p ps rest h y Closed next =
-    let e : End = record h.end { state = Closed } in
+first_comes side p ps rest h y Disconnected next =
+    let e : End = record h.end { state = Disconnected } in
     let x : Half = record h { end = e; coming = [] } in
     let s : Reply = one_by_one (gets side) ps e in
     let more : followed (gets side p e) (one_by_one (gets side) ps (gets side p e).end) ≡ s =
     ap (λ (r : Reply). followed r (one_by_one (gets side) ps r.end)) (closed_silent side p h.end) in
     let same : put [] y ≡ y = (λ i. record y { coming = joined_nil y.end.state y.coming i }) in
     next x (put [] y) refl ∙ (ap (λ (z : Half). result rest x z s) same ∙ ap (result rest x y) (sym more))
-first_comes side p ps rest h y Open next =
-    let x : Half = record h { end = record h.end { state = Open }; coming = p ∷ (ps ++ rest) } in
+first_comes side p ps rest h y Connecting next =
+    let x : Half = record h { end = record h.end { state = Connecting }; coming = p ∷ (ps ++ rest) } in
     let r : Reply = gets side p x.end in
     next (took x (ps ++ rest) r).half (put r.out y) refl ∙ after_both rest (ps ++ rest) x y r (one_by_one (gets side) ps r.end)
-first_comes side p ps rest h y Up next =
-    let x : Half = record h { end = record h.end { state = Up }; coming = p ∷ (ps ++ rest) } in
+first_comes side p ps rest h y Connected next =
+    let x : Half = record h { end = record h.end { state = Connected }; coming = p ∷ (ps ++ rest) } in
     let r : Reply = gets side p x.end in
     next (took x (ps ++ rest) r).half (put r.out y) refl ∙ after_both rest (ps ++ rest) x y r (one_by_one (gets side) ps r.end)
 

@@ -20,7 +20,7 @@ use Rattle.mq_flow.specs.Window.{Spans, fits_window}
 use Rattle.mq_flow.specs.Laws.{IsSound}
 use Rattle.mq_flow.proofs.Counting.{filter_le}
 use Rattle.mq_end.specs.declared.state.State.{State}
-use Rattle.mq_end.specs.declared.state.State.TheVariants.{Closed, Open, Up}
+use Rattle.mq_end.specs.declared.state.State.TheVariants.{Disconnected, Connecting, Connected}
 use Rattle.mq_end.specs.declared.happening.Happening.TheVariants as happens
 use Rattle.mq_end.specs.declared.reason.CloseReason.{CloseReason}
 use Rattle.mq_end.specs.declared.reason.CloseReason.TheVariants as reasons
@@ -110,7 +110,7 @@ few capacity b s =
 
 fits_publish : (capacity : ℕ) (h y : Half) (q : Qos) (d : Option Delivery) (m : Message) (rest : List Packet)
     → Both capacity (record h {
-      end = record h.end { state = Up };
+      end = record h.end { state = Connected };
       coming = packets.Publish (record
           { message = record m { qos = q }; delivery = d }) ∷ rest;
     }) y → Spans h.end.window capacity → FitsAs q d h.end.window h.end.received
@@ -119,7 +119,7 @@ fits_publish capacity h y Q2 (Some d) m rest b spans =
 fits_publish capacity h y q d m rest b spans = tt
 
 pub fits_arriving : (capacity : ℕ) (h y : Half) (p : Packet) (rest : List Packet)
-    → Both capacity (record h { end = record h.end { state = Up }; coming = p ∷ rest }) y → Spans h.end.window capacity → FitsIn p h.end.window h.end.received
+    → Both capacity (record h { end = record h.end { state = Connected }; coming = p ∷ rest }) y → Spans h.end.window capacity → FitsIn p h.end.window h.end.received
 fits_arriving capacity h y (packets.Publish p) rest b spans = fits_publish capacity h y p.message.qos p.delivery p.message rest b spans
 fits_arriving capacity h y p rest b spans = tt
 
@@ -183,13 +183,13 @@ server_up_other packets.PingReq e f = tt
 server_up_other packets.Disconnect e f = tt
 server_up_other p e f = flow_other p e f
 
-open_other : (side : Side) (p : Packet) (e : End) → Other (gets side p (record e { state = Open }))
-open_other Client p e = client_open_other p (record e { state = Open })
-open_other Server p e = server_open_other p (record e { state = Open })
+open_other : (side : Side) (p : Packet) (e : End) → Other (gets side p (record e { state = Connecting }))
+open_other Client p e = client_open_other p (record e { state = Connecting })
+open_other Server p e = server_open_other p (record e { state = Connecting })
 
-up_other : (side : Side) (p : Packet) (e : End) → FitsIn p e.window e.received → Other (gets side p (record e { state = Up }))
-up_other Client p e f = client_up_other p (record e { state = Up }) f
-up_other Server p e f = server_up_other p (record e { state = Up }) f
+up_other : (side : Side) (p : Packet) (e : End) → FitsIn p e.window e.received → Other (gets side p (record e { state = Connected }))
+up_other Client p e f = client_up_other p (record e { state = Connected }) f
+up_other Server p e f = server_up_other p (record e { state = Connected }) f
 
 either_other : (a b : Option CloseReason) → IsOther a → IsOther b → IsOther (first_reason a b)
 either_other None b x y = y
@@ -205,18 +205,18 @@ Later capacity side ps rest =
 first_other : (capacity : ℕ) (side : Side) (p : Packet) (ps rest : List Packet) (h y : Half) (st : State) → Later capacity side ps rest
     → Both capacity (record h { end = record h.end { state = st }; coming = kept st (p ∷ (ps ++ rest)) }) y → Spans h.end.window capacity
     → Other (one_by_one (gets side) (p ∷ ps) (record h.end { state = st }))
-first_other capacity side p ps rest h y Closed later b spans =
-    let x : Half = record h { end = record h.end { state = Closed }; coming = [] } in
+first_other capacity side p ps rest h y Disconnected later b spans =
+    let x : Half = record h { end = record h.end { state = Disconnected }; coming = [] } in
     let P : Reply → Type 0 = λ r. IsOther (first_reason r.close (one_by_one (gets side) ps r.end).close) in
     subst P (sym (closed_silent side p h.end)) (later x y b spans refl)
-first_other capacity side p ps rest h y Open later b spans =
-    let x : Half = record h { end = record h.end { state = Open }; coming = p ∷ (ps ++ rest) } in
+first_other capacity side p ps rest h y Connecting later b spans =
+    let x : Half = record h { end = record h.end { state = Connecting }; coming = p ∷ (ps ++ rest) } in
     let r : Reply = gets side p x.end in
     either_other r.close (one_by_one (gets side) ps r.end).close (open_other side p h.end)
     (later (took x (ps ++ rest) r).half (put r.out y) (moved_keeps 0 capacity side Arrives x y tt b)
     (subst (λ (o : Option ℕ). Spans o capacity) (sym (gets_window side p x.end)) spans) refl)
-first_other capacity side p ps rest h y Up later b spans =
-    let x : Half = record h { end = record h.end { state = Up }; coming = p ∷ (ps ++ rest) } in
+first_other capacity side p ps rest h y Connected later b spans =
+    let x : Half = record h { end = record h.end { state = Connected }; coming = p ∷ (ps ++ rest) } in
     let r : Reply = gets side p x.end in
     either_other r.close (one_by_one (gets side) ps r.end).close (up_other side p h.end (fits_arriving capacity h y p (ps ++ rest) b spans))
     (later (took x (ps ++ rest) r).half (put r.out y) (moved_keeps 0 capacity side Arrives x y tt b)

@@ -6,7 +6,7 @@ use Rattle.std.proofs.lemmas.List.{length-append}
 use Rattle.mq_topic.specs.declared.qos.Qos.{Qos}
 use Rattle.mq_topic.specs.declared.qos.Qos.TheVariants.{Q0, Q1, Q2}
 use Rattle.mq_packet.specs.Publication.{fits_delivery}
-use Rattle.mq_packet.specs.Spelling.{Spells, fields, publish_fields, delivery_fields}
+use Rattle.mq_packet.specs.Encoding.{Encodes, fields, publish_fields, delivery_fields}
 use Rattle.mq_packet.specs.declared.message.Message.{Message}
 use Rattle.mq_packet.specs.declared.connect.Connect.{Connect}
 use Rattle.mq_packet.specs.declared.connack.ConnAck.TheVariants as connacks
@@ -18,11 +18,11 @@ use Rattle.mq_decode.specs.Grammar.{Reads, Stream}
 use Rattle.mq_end.specs.declared.refusal.PublishRefusal.{PublishRefusal}
 use Rattle.mq_end.specs.declared.refusal.PublishRefusal.TheVariants as refusals
 use Rattle.mq_end.specs.declared.state.State.{State}
-use Rattle.mq_end.specs.declared.state.State.TheVariants.{Closed, Open, Up}
+use Rattle.mq_end.specs.declared.state.State.TheVariants.{Disconnected, Connecting, Connected}
 use Rattle.mq_end.specs.End.{End, is_up, is_live}
 use Rattle.mq_end.specs.Both.{has_identifier, publish_refusal}
 use Rattle.mq_end.specs.Sizes.{publish_size, identifier_size}
-use Rattle.mq_end.specs.State.{Spelled}
+use Rattle.mq_end.specs.State.{EncodesAll}
 use Rattle.mq_world.specs.declared.side.Side.TheVariants.{Client, Server}
 use Rattle.mq_world.specs.Half.{Half, Publishes, joined, put}
 use Rattle.mq_world.specs.Machine.{Machine, Move, By, Run, after, blank_machine, first_packet}
@@ -74,15 +74,15 @@ size_within limit packets.Disconnect large h = omega arith
 size_within limit p large h = absurd h
 
 -- what is spelled is read under all limits
-reads : (lenient : Bool) (p : Packet) (b : List ℕ) → Spells p b → Reads lenient p b
+reads : (lenient : Bool) (p : Packet) (b : List ℕ) → Encodes p b → Reads lenient p b
 reads false p b h = h
 reads true p b h = record { packet = h.packet; len = h.len; formed = (h.formed.0, h.formed.1); bytes = h.bytes }
 
-pub spelled_within : (limit : Bounds) → 64 ≤ limit.most → (ps : List Packet) (c : List ℕ) → Each (IsCarried (fits limit.most)) ps → Spelled ps c
+pub encoded_within : (limit : Bounds) → 64 ≤ limit.most → (ps : List Packet) (c : List ℕ) → Each (IsCarried (fits limit.most)) ps → EncodesAll ps c
     → Stream limit ps c
-spelled_within limit large [] c h s = s
-spelled_within limit large (p ∷ ps) c h s =
-    (s.0, s.1, (reads limit.lenient p s.0 s.2, size_within limit.most p large h.0), spelled_within limit large ps s.1 h.1 s.3, s.4)
+encoded_within limit large [] c h s = s
+encoded_within limit large (p ∷ ps) c h s =
+    (s.0, s.1, (reads limit.lenient p s.0 s.2, size_within limit.most p large h.0), encoded_within limit large ps s.1 h.1 s.3, s.4)
 
 -- ---- runs
 
@@ -127,16 +127,16 @@ each_last P [] ys h = h
 each_last P (x ∷ xs) ys h = each_last P xs ys h.1
 
 joins_stream : (limit : Bounds) (st : State) (q ps : List Packet) (b c : List ℕ) → 64 ≤ limit.most
-    → Each (IsCarried (fits limit.most)) (joined st q ps) → Spelled ps c → (is_live st ≡ true → Stream limit q b) → is_live st ≡ true
+    → Each (IsCarried (fits limit.most)) (joined st q ps) → EncodesAll ps c → (is_live st ≡ true → Stream limit q b) → is_live st ≡ true
     → Stream limit (joined st q ps) (b ++ c)
-joins_stream limit Closed q ps b c large h s old live = cc
-joins_stream limit Open q ps b c large h s old live =
-    stream_joins limit q ps b c (old live) (spelled_within limit large ps c (each_last (IsCarried (fits limit.most)) q ps h) s)
-joins_stream limit Up q ps b c large h s old live =
-    stream_joins limit q ps b c (old live) (spelled_within limit large ps c (each_last (IsCarried (fits limit.most)) q ps h) s)
+joins_stream limit Disconnected q ps b c large h s old live = cc
+joins_stream limit Connecting q ps b c large h s old live =
+    stream_joins limit q ps b c (old live) (encoded_within limit large ps c (each_last (IsCarried (fits limit.most)) q ps h) s)
+joins_stream limit Connected q ps b c large h s old live =
+    stream_joins limit q ps b c (old live) (encoded_within limit large ps c (each_last (IsCarried (fits limit.most)) q ps h) s)
 
 pub grown : (limit : Bounds) (capacity : ℕ) (y : WiredSide) (h : Half) (ps : List Packet) (c : List ℕ) → 64 ≤ limit.most
-    → Each (IsCarried (fits limit.most)) (put ps h).coming → Spelled ps c → CarriesSide limit capacity y h
+    → Each (IsCarried (fits limit.most)) (put ps h).coming → EncodesAll ps c → CarriesSide limit capacity y h
     → CarriesSide limit capacity (record y { wire = y.wire ++ c }) (put ps h)
 grown limit capacity y h ps c large fit s k = record {
   end = k.end;

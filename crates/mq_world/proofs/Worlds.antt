@@ -64,7 +64,7 @@ written_same s e z = λ i. record s { output = sym e i; room = record s.room { b
 
 -- no time goes by for a side that only gets bytes on their way to it
 no_time : (x : WiredSide) → SameTime x x
-no_time x = record { clock = refl; moment = refl }
+no_time x = record { clock = refl; last_activity = refl }
 
 same_times : (side : Side) (w : Wired) (x y : WiredSide) → SameTime (near side w) x → SameTime (far side w) y → SameTimes w (facing side x y)
 same_times Client w x y a b = record { client = a; server = b }
@@ -79,7 +79,7 @@ heard_written now b closed old new h = record { waits = h.waits; closes = h.clos
 
 -- what an end puts out goes on the wire behind what is there, where nothing waited to be written
 pub on_wire : (ps : List Packet) (old new wire : List ℕ) → old ≡ [] → PutsOut ps old new → PutsOut ps wire (wire ++ new)
-on_wire ps old new wire quiet (b, spelled, e) = (b, spelled, ap (λ (z : List ℕ). wire ++ z) (e ∙ ap (λ (z : List ℕ). z ++ b) quiet))
+on_wire ps old new wire quiet (b, encoded, e) = (b, encoded, ap (λ (z : List ℕ). wire ++ z) (e ∙ ap (λ (z : List ℕ). z ++ b) quiet))
 
 may_have : (b : Bool) (e : End) (i : ℕ) → (b ≡ true → IsFirstFree e.last e.book i) → MayHave b e i
 may_have true e i h = (h refl).free
@@ -108,7 +108,7 @@ accepted_at law limit capacity side w v m message answer new s free a e =
           (on_wire (publishes a.id message (near side w).state.end).out (near side w).state.output new.output (far side w).wire x.output a.out));
       times = subst (λ (u : Wired). SameTimes w u) (sym (e a.id a.answered))
           (same_times side w (accepting a.id message new (near side w)) (with_more new.output (far side w))
-          (record { clock = refl; moment = ap (λ (z : EndState). z.moment) a.state }) (record { clock = refl; moment = refl }));
+          (record { clock = refl; last_activity = ap (λ (z : EndState). z.last_activity) a.state }) (record { clock = refl; last_activity = refl }));
       moves = λ n t. subst (λ (u : Wired). Follows limit capacity n (By side (Publishes a.id message) ∷ []) u) (sym (e a.id a.answered))
           (law.publish limit capacity side w n a.id message new t bounded (may_have (has_identifier message.qos) (near side w).state.end a.id a.first)
           (ap (λ (z : EndState). z.end) a.state) a.out (ap (λ (z : EndState). z.held) a.state)
@@ -284,14 +284,14 @@ on_err (Ok a) P e h = absurd (true_false e)
 
 pub lost_at : OverBytes → (limit : Bounds) (capacity : ℕ) (side : Side) (w v : Wired) (was_open : Bool) (new : EndState)
     → was_open ≡ is_live (near side w).state.end.state
-    → new.end ≡ over (near side w).state.end → SameBounds (near side w).state new → new.moment ≡ (near side w).state.moment
+    → new.end ≡ over (near side w).state.end → SameBounds (near side w).state new → new.last_activity ≡ (near side w).state.last_activity
     → v ≡ facing side (cut_off new (near side w)) (far side w) → IsLost limit capacity side was_open w v
 lost_at law limit capacity side w v was_open new is after bounds still e = record {
   said = is;
   wire = ap (λ (z : Wired). (near side z).wire) e ∙ ap (λ (z : WiredSide). z.wire) (near_facing side (cut_off new (near side w)) (far side w));
   other = ap (λ (z : Wired). far side z) e ∙ far_facing side (cut_off new (near side w)) (far side w);
   times = subst (λ (u : Wired). SameTimes w u) (sym e)
-      (same_times side w (cut_off new (near side w)) (far side w) (record { clock = refl; moment = still }) (no_time (far side w)));
+      (same_times side w (cut_off new (near side w)) (far side w) (record { clock = refl; last_activity = still }) (no_time (far side w)));
   moves = λ n t. subst (λ (u : Wired). Follows limit capacity n (By side Drops ∷ []) u) (sym e) (law.drop limit capacity side w n new t after bounds);
 }
 
@@ -302,7 +302,7 @@ pub opened_at : OverBytes → (limit : Bounds) (capacity : ℕ) (w v : Wired) (o
     → o.client_dropped ≡ is_live w.client.state.end.state → o.server_dropped ≡ is_live w.server.state.end.state → o.refused ≡ false
     → c.end ≡ (connects first_packet w.client.state.end).end → PutsOut (packets.Connect first_packet ∷ []) [] c.output → c.held ≡ []
     → SameBounds w.client.state c
-    → s.end ≡ (opens w.server.state.end).end → s.held ≡ [] → SameBounds w.server.state s → c.moment ≡ w.client.clock → s.moment ≡ w.server.clock
+    → s.end ≡ (opens w.server.state.end).end → s.held ≡ [] → SameBounds w.server.state s → c.last_activity ≡ w.client.clock → s.last_activity ≡ w.server.clock
     → v ≡ record { client = cut_off c w.client; server = with_more c.output (cut_off s w.server) } → IsOpened limit capacity o w v
 opened_at law limit capacity w v o c s cd sd fine ce co ch cb se sh sb cm sm e = record {
   client_dropped = cd;
@@ -316,7 +316,7 @@ opened_at law limit capacity w v o c s cd sd fine ce co ch cb se sh sb cm sm e =
 pub refused_open : OverBytes → (limit : Bounds) (capacity : ℕ) (w v : Wired) (o : Opening) (c s : EndState)
     → o.client_dropped ≡ is_live w.client.state.end.state → o.server_dropped ≡ is_live w.server.state.end.state → o.refused ≡ true
     → c.end ≡ over w.client.state.end → SameBounds w.client.state c → s.end ≡ over w.server.state.end → SameBounds w.server.state s
-    → c.moment ≡ w.client.state.moment → s.moment ≡ w.server.state.moment
+    → c.last_activity ≡ w.client.state.last_activity → s.last_activity ≡ w.server.state.last_activity
     → v ≡ record { client = cut_off c w.client; server = cut_off s w.server } → IsOpened limit capacity o w v
 refused_open law limit capacity w v o c s cd sd failed ce cb se sb cm sm e = record {
   client_dropped = cd;
@@ -326,7 +326,7 @@ refused_open law limit capacity w v o c s cd sd failed ce cb se sb cm sm e = rec
   opens = λ said. absurd (true_not o.refused failed said);
   refused = λ _. (
     ap (λ (u : Wired). u.server.wire) e,
-    subst (λ (u : Wired). SameTimes w u) (sym e) (record { client = record { clock = refl; moment = cm }; server = record { clock = refl; moment = sm } }),
+    subst (λ (u : Wired). SameTimes w u) (sym e) (record { client = record { clock = refl; last_activity = cm }; server = record { clock = refl; last_activity = sm } }),
     λ n t. subst (λ (u : Wired). Follows limit capacity n (By Client Drops ∷ By Server Drops ∷ []) u) (sym e)
         (law.drop_both limit capacity w n c s t ce cb se sb),
   );

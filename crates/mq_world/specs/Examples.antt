@@ -2,7 +2,7 @@
 use Rattle.std.specs.Prelude.{◌≡◌, true, false, Some, None, List, [], ◌∷◌}
 use Rattle.mq_topic.specs.declared.qos.Qos.TheVariants.{Q1, Q2}
 use Rattle.mq_packet.specs.declared.message.Message.{Message}
-use Rattle.mq_end.specs.declared.state.State.TheVariants.{Up}
+use Rattle.mq_end.specs.declared.state.State.TheVariants.{Connected}
 use Rattle.mq_end.specs.declared.refusal.PublishRefusal.TheVariants.{NoSession}
 use Rattle.mq_world.specs.declared.side.Side.TheVariants.{Client, Server}
 use Rattle.mq_world.specs.Half.{Publishes, Arrives, Drops, refusal}
@@ -52,7 +52,7 @@ pub record Examples : Type 0 where
   pub dropped_inside_runs : Run 100 4 (blank_machine None) dropped_inside (after_all (blank_machine None) dropped_inside)
   pub dropped_inside_server : (after_all (blank_machine None) dropped_inside).server.end.known ≡ true
   pub dropped_inside_client : (after_all (blank_machine None) dropped_inside).client.end.known ≡ false
-  pub dropped_inside_after : (settled (after_all (blank_machine None) dropped_inside)).client.end.state ≡ Up
+  pub dropped_inside_after : (settled (after_all (blank_machine None) dropped_inside)).client.end.state ≡ Connected
   -- a server's message is refused before a session stands, and accepted after
   pub refused_before : refusal Server 100 4 word_2 (blank_machine None).server.end ≡ Some NoSession
   pub accepted_after : Run 100 4 (blank_machine None) (Opens ∷ By Server Arrives ∷ By Server (Publishes 1 word_2) ∷ [])

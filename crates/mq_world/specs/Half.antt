@@ -7,7 +7,7 @@ use Rattle.mq_packet.specs.declared.packet.Packet.{Packet}
 use Rattle.mq_packet.specs.declared.packet.Packet.TheVariants as packets
 use Rattle.mq_flow.specs.Sender.{same_qos}
 use Rattle.mq_end.specs.declared.state.State.{State}
-use Rattle.mq_end.specs.declared.state.State.TheVariants.{Closed, Open, Up}
+use Rattle.mq_end.specs.declared.state.State.TheVariants.{Disconnected, Connecting, Connected}
 use Rattle.mq_end.specs.declared.happening.Happening.{Happening}
 use Rattle.mq_end.specs.declared.happening.Happening.TheVariants as happens
 use Rattle.mq_end.specs.declared.refusal.PublishRefusal.{PublishRefusal}
@@ -57,15 +57,15 @@ blank_half window = record { end = blank_end window; coming = []; accepted = non
 
 -- what joins the queue toward a side: packets toward a closed one are lost (4.2)
 abbrev pub joined : {A : Type 0} → State → List A → List A → List A
-joined Closed queue ps = queue
-joined Open queue ps = queue ++ ps
-joined Up queue ps = queue ++ ps
+joined Disconnected queue ps = queue
+joined Connecting queue ps = queue ++ ps
+joined Connected queue ps = queue ++ ps
 
 -- an end that closes leaves nothing in the queue toward it (4.2)
 abbrev pub kept : State → List Packet → List Packet
-kept Closed queue = []
-kept Open queue = queue
-kept Up queue = queue
+kept Disconnected queue = []
+kept Connecting queue = queue
+kept Connected queue = queue
 
 -- packets are put into the queue toward a side
 abbrev pub put : List Packet → Half → Half

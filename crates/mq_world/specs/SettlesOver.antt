@@ -4,7 +4,7 @@ use Rattle.mq_decode.specs.Limits.{Bounds}
 use Rattle.mq_end.specs.declared.happening.Happening.{Happening}
 use Rattle.mq_end.specs.declared.reason.CloseReason.{CloseReason}
 use Rattle.mq_end.specs.declared.reason.CloseReason.TheVariants as reasons
-use Rattle.mq_end.specs.declared.state.State.TheVariants.{Up}
+use Rattle.mq_end.specs.declared.state.State.TheVariants.{Connected}
 use Rattle.mq_end.specs.End.{is_live}
 use Rattle.mq_end.specs.State.{EndState}
 use Rattle.mq_world.specs.declared.side.Side.{Side}
@@ -25,8 +25,8 @@ pub record SettledFrom (w v : Wired) : Type 0 where
   pub client_same : v.client.accepted ≡ w.client.accepted
   pub server_same : v.server.accepted ≡ w.server.accepted
   -- both sides are up, and no bytes are on their way
-  pub client_up : v.client.state.end.state ≡ Up
-  pub server_up : v.server.state.end.state ≡ Up
+  pub client_up : v.client.state.end.state ≡ Connected
+  pub server_up : v.server.state.end.state ≡ Connected
   pub client_bytes : v.client.state.held ++ v.client.wire ≡ []
   pub server_bytes : v.server.state.held ++ v.server.wire ≡ []
 

@@ -2,7 +2,7 @@
 use Rattle.std.specs.Prelude.{ℕ, zero, suc, ◌≡◌, ◌<◌, Option, List, [], length}
 use Rattle.mq_packet.specs.declared.packet.Packet.{Packet}
 use Rattle.mq_flow.specs.Window.{Spans}
-use Rattle.mq_end.specs.declared.state.State.TheVariants.{Up}
+use Rattle.mq_end.specs.declared.state.State.TheVariants.{Connected}
 use Rattle.mq_world.specs.declared.side.Side.{Side}
 use Rattle.mq_world.specs.declared.side.Side.TheVariants.{Client, Server}
 use Rattle.mq_world.specs.Half.{Half, Arrives}
@@ -53,8 +53,8 @@ pub record Settles (w : Machine) : Type 0 where
   pub client_same : (settled w).client.accepted ≡ w.client.accepted
   pub server_same : (settled w).server.accepted ≡ w.server.accepted
   -- both sides are up, and nothing is on its way
-  pub client_up : (settled w).client.end.state ≡ Up
-  pub server_up : (settled w).server.end.state ≡ Up
+  pub client_up : (settled w).client.end.state ≡ Connected
+  pub server_up : (settled w).server.end.state ≡ Connected
   pub client_queue : (settled w).client.coming ≡ []
   pub server_queue : (settled w).server.coming ≡ []
   -- for the messages two exchanges are enough, the third is for the released identifiers

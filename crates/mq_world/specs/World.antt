@@ -156,7 +156,7 @@ pub record IsNotLeft (why : PublishRefusal) (old new : Wired) : Type 0 where
 pub record IsTold (limit : Bounds) (capacity : ℕ) (side : Side) (more : ℕ) (closed : Option CloseReason) (old new : Wired) : Type 0 where
   pub clock : (near side new).clock ≡ later (near side old).clock more
   pub closes : closed ≡ time_closes side (later (near side old).clock more) (near side old).state
-  pub moment : (near side new).state.moment ≡ time_moment side (later (near side old).clock more) (near side old).state
+  pub last_activity : (near side new).state.last_activity ≡ time_moment side (later (near side old).clock more) (near side old).state
   pub other : SameTime (far side old) (far side new)
   pub left : (near side new).wire ≡ left_on closed (near side old).wire
   pub out : PutsOut (time_out side (later (near side old).clock more) (near side old).state) (far side old).wire (far side new).wire
@@ -166,7 +166,7 @@ pub record IsTold (limit : Bounds) (capacity : ℕ) (side : Side) (more : ℕ) (
 pub record IsNotTold (side : Side) (more : ℕ) (why : PublishRefusal) (old new : Wired) : Type 0 where
   pub client : side ≡ Client
   pub reason : why ≡ refusals.Memory
-  pub due : pings old.client.state.moment (later old.client.clock more) old.client.state.end ≡ true
+  pub due : pings old.client.state.last_activity (later old.client.clock more) old.client.state.end ≡ true
   pub world : new ≡ record old { client = record old.client { clock = later old.client.clock more } }
 
 -- What comes of an event, by the event and its answer.

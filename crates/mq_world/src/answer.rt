@@ -3,7 +3,7 @@
 ghost use Rattle.std.specs.Prelude.{◌≡◌};
 
 use crate::side::Side;
-use mq_end::{CloseReason, Items, Progress, PublishRefusal};
+use mq_end::{BoxedList, CloseReason, Progress, PublishRefusal};
 use mq_packet::PacketId;
 use std::alloc::AllocError;
 
@@ -13,7 +13,7 @@ pub struct Delivery {
     /// The side to which the bytes came.
     pub side: Side,
     /// The bytes that came.
-    pub bytes: Items<u8>,
+    pub bytes: BoxedList<u8>,
     /// Whether there were bytes, but no connection that could take them in.
     pub lost: bool,
     /// What the side did with the bytes.
@@ -37,7 +37,7 @@ pub struct Settling {
     /// What the opening did.
     pub opening: Opening,
     /// What came of the bytes delivered, in order: to the server, to the client, and so on.
-    pub deliveries: Items<Delivery>,
+    pub deliveries: BoxedList<Delivery>,
     /// Whether neither side has anything of its own that waits for the other.
     pub idle: bool,
 }

@@ -8,9 +8,9 @@ mod account;
 mod answer;
 mod event;
 mod laws;
-mod making;
 mod pair;
-mod restarting;
+mod random;
+mod restart;
 mod side;
 mod trace;
 mod world;
@@ -22,7 +22,7 @@ pub use crate::laws::{
     arrivals_at_once, carried, event_by_event, examples, headline, identifiers, over_bytes, runs,
     sessions, settles_over_bytes, settling,
 };
-pub use crate::making::made_up;
+pub use crate::random::made_up;
 pub use crate::side::Side;
 pub use crate::trace::Trace;
 pub use crate::world::World;

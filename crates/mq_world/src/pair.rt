@@ -14,10 +14,10 @@ ghost use Rattle.mq_world.specs.World.{Does, IsDelivered, IsOpened, IsSettled, I
 use crate::answer::{Answer, Delivery, Opening, Settling};
 use crate::event::Event;
 use crate::laws::{over_bytes, settles_over_bytes};
-use crate::restarting::{Terms, client_config, made_anew};
+use crate::restart::{Terms, client_config, made_anew};
 use crate::side::Side;
 use crate::trace::Trace;
-use mq_end::{ByteQueue, ClientEnd, CloseReason, Items, PublishRefusal, ServerEnd, State};
+use mq_end::{BoxedList, ByteQueue, ClientEnd, CloseReason, PublishRefusal, ServerEnd, State};
 use mq_packet::Message;
 use std::alloc::{AllocError, Global};
 
@@ -340,7 +340,7 @@ impl Pair {
         }
         Ok(Settling {
             opening,
-            deliveries: Items::from_vec(deliveries),
+            deliveries: BoxedList::from_vec(deliveries),
             idle: self.is_idle(),
         })
     }
@@ -366,8 +366,8 @@ fn is_live(state: State) -> bool
     ensures { result ≡ is_live state }
 {
     match state {
-        State::Closed => false,
-        State::Open | State::Up => true,
+        State::Disconnected => false,
+        State::Connecting | State::Connected => true,
     }
 }
 
@@ -388,7 +388,11 @@ fn cut_off(wire: &mut ByteQueue, closed: Option<CloseReason>)
 }
 
 // Takes the oldest `count` bytes from a wire, or all if they are fewer. Fails if memory runs out, and then nothing changes.
-fn take_first(alloc: Global, wire: &mut ByteQueue, count: usize) -> Result<Items<u8>, AllocError>
+fn take_first(
+    alloc: Global,
+    wire: &mut ByteQueue,
+    count: usize,
+) -> Result<BoxedList<u8>, AllocError>
     ensures bytes { IfOk result (λ bytes. bytes ≡ take count wire.old) }
     ensures left { OnOk result (wire.new ≡ drop count wire.old) }
     ensures err { OnErr result (wire.new ≡ wire.old) }
@@ -397,7 +401,7 @@ fn take_first(alloc: Global, wire: &mut ByteQueue, count: usize) -> Result<Items
     let mut bytes = Vec::new(alloc);
     bytes.extend_from_slice(&wire.as_slice()[..count])?;
     wire.take(count);
-    Ok(Items::from_vec(bytes))
+    Ok(BoxedList::from_vec(bytes))
 }
 
 // Puts bytes on a wire, behind all others. They are moved if the wire is empty, else copied. Fails if memory runs out, and then

@@ -15,7 +15,7 @@ use crate::answer::Answer;
 use crate::event::Event;
 use crate::laws::over_bytes;
 use crate::pair::Pair;
-use crate::restarting::{Terms, client_config};
+use crate::restart::{Terms, client_config};
 use crate::side::Side;
 use crate::trace::Trace;
 use mq_decode::Limits;

@@ -58,7 +58,7 @@ impl AtClient {
 
     /// Whether its connection is to begin.
     pub(crate) fn begins(&self) -> bool {
-        self.end.state() != State::Up
+        self.end.state() != State::Connected
     }
 
     /// What its user put out goes.
@@ -103,7 +103,7 @@ impl AtClient {
         if let Some(why) = self.act(alloc, number)? {
             self.ledger.refused(why);
         }
-        if self.end.state() == State::Closed {
+        if self.end.state() == State::Disconnected {
             self.end.connect(self.now, number % 16 == 15)?;
             self.ledger.begin();
         }
@@ -147,7 +147,7 @@ impl AtServer {
 
     /// Whether its connection is to begin.
     pub(crate) fn begins(&self) -> bool {
-        self.end.state() != State::Up
+        self.end.state() != State::Connected
     }
 
     /// It is later.
@@ -170,7 +170,7 @@ impl AtServer {
             }
             _ => {}
         }
-        if self.end.state() == State::Closed {
+        if self.end.state() == State::Disconnected {
             self.end.opened(self.now);
             self.ledger.begin();
         }

@@ -53,7 +53,7 @@ impl Before {
     /// An end in this state, with this session.
     pub(crate) fn new(state: State, session: Option<&Session>) -> Before {
         let again = match session {
-            Some(session) if state == State::Open => bytes_again(&session.sender),
+            Some(session) if state == State::Connecting => bytes_again(&session.sender),
             _ => 0,
         };
         Before { state, again }
@@ -162,10 +162,10 @@ impl Ledger {
         let up = self.tell(progress.happenings.as_slice());
         let again = if up { before.again } else { 0 };
         self.pass(came as u64, again, went);
-        if before.state == State::Open && !up {
+        if before.state == State::Connecting && !up {
             self.expect(went <= self.refusal);
         }
-        if before.state == State::Closed {
+        if before.state == State::Disconnected {
             self.expect(went == 0);
         }
         if let Some(why) = progress.closed {

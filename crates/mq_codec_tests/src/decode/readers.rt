@@ -1,7 +1,7 @@
 //! Packets that are read from readers.
 
 use crate::decode::rows::PACKETS;
-use crate::decode::{bytes_of, limits, spelled};
+use crate::decode::{bytes_of, encoded, limits};
 use mq_decode::{DecodeFault, FaultKind, ReadError, read_packet};
 use mq_packet::{Packet, encode_into};
 use std::alloc::Global;
@@ -58,7 +58,7 @@ fn stream(alloc: Global) -> Result<Vec<u8>, Fail> {
 }
 
 // Whether a packet is spelled as these bytes.
-fn is_spelled(alloc: Global, packet: &Packet, bytes: &[u8]) -> Result<bool, Fail> {
+fn is_encoded(alloc: Global, packet: &Packet, bytes: &[u8]) -> Result<bool, Fail> {
     let mut out = Vec::new(alloc);
     encode_into(packet, &mut out)?;
     Ok(out.as_slice() == bytes)
@@ -69,7 +69,7 @@ fn reads(alloc: Global, reader: &mut Slow<'_>, bytes: &[u8]) -> Result<bool, Fai
     let least = limits(64)?;
     let left = reader.bytes.len().checked_sub(bytes.len());
     match read_packet(alloc, reader, least) {
-        Ok(Some(packet)) if Some(reader.bytes.len()) == left => is_spelled(alloc, &packet, bytes),
+        Ok(Some(packet)) if Some(reader.bytes.len()) == left => is_encoded(alloc, &packet, bytes),
         Ok(_) => Ok(false),
         Err(_) => Err("no packet".into()),
     }
@@ -215,8 +215,8 @@ fn read_up_to_error(
 
 // Whether these bytes begin as the packets are written.
 fn begin_with(alloc: Global, bytes: &[u8], packets: &[Packet]) -> Result<bool, Fail> {
-    let spelled = spelled(alloc, packets)?;
-    Ok(bytes.starts_with(spelled.as_slice()))
+    let encoded = encoded(alloc, packets)?;
+    Ok(bytes.starts_with(encoded.as_slice()))
 }
 
 // How a reader that fails after so many calls fails, and how many packets were whole before; nothing where they are others.

@@ -19,7 +19,7 @@ unwrap-size-requires c =
     let before : length here.front ≡ c.loop-packet.size = c.loop-packet.invariant here.front ((here.one ++ here.more) ++ c.requires.0) here.stream parts in
     let left : c.split_at.result.1.now ≡ here.one ++ (here.more ++ c.requires.0) =
     c.split_at.ensures.back ∙ (behind c.args.bytes.now here.front ((here.one ++ here.more) ++ c.requires.0) c.loop-packet.size parts before ∙ append_assoc here.one here.more c.requires.0) in
-    let told = c.packet_len.ensures.packet c._packet-item.result here.one (here.more ++ c.requires.0) here.spells left in
+    let told = c.packet_len.ensures.packet c._packet-item.result here.one (here.more ++ c.requires.0) here.encodes left in
     rw told refl
 
 pub overflow_add-size : goal.overflow_add-size
@@ -30,7 +30,7 @@ overflow_add-size c =
     let before : length here.front ≡ c.loop-packet.size = c.loop-packet.invariant here.front ((here.one ++ here.more) ++ c.requires.0) here.stream parts in
     let left : c.split_at.result.1.now ≡ here.one ++ (here.more ++ c.requires.0) =
     c.split_at.ensures.back ∙ (behind c.args.bytes.now here.front ((here.one ++ here.more) ++ c.requires.0) c.loop-packet.size parts before ∙ append_assoc here.one here.more c.requires.0) in
-    let told = c.packet_len.ensures.packet c._packet-item.result here.one (here.more ++ c.requires.0) here.spells left in
+    let told = c.packet_len.ensures.packet c._packet-item.result here.one (here.more ++ c.requires.0) here.encodes left in
     let one : length here.one ≡ c.unwrap-size.result = some_is _ _ _ told c.unwrap-size.ensures in
     omega (arith, ap length parts, length-append here.front ((here.one ++ here.more) ++ c.requires.0), length-append (here.one ++ here.more) c.requires.0, length-append here.one here.more)
 
@@ -40,6 +40,6 @@ loop-packet-preserved c = λ front rest h e.
     let parts : c.args.bytes.now ≡ last.front ++ (last.one ++ rest) = e ∙ (ap (λ (t : List ℕ). t ++ rest) last.parts ∙ append_assoc last.front last.one rest) in
     let before : length last.front ≡ c.loop-packet.size = c.loop-packet.invariant last.front (last.one ++ rest) last.stream parts in
     let left : c.split_at.result.1.now ≡ last.one ++ rest = c.split_at.ensures.back ∙ behind c.args.bytes.now last.front (last.one ++ rest) c.loop-packet.size parts before in
-    let told = c.packet_len.ensures.packet c._packet-item.result last.one rest last.spells left in
+    let told = c.packet_len.ensures.packet c._packet-item.result last.one rest last.encodes left in
     let one : length last.one ≡ c.unwrap-size.result = some_is _ _ _ told c.unwrap-size.ensures in
     omega (arith, ap length last.parts, length-append last.front last.one)

@@ -1,6 +1,6 @@
 use Rattle.std.proofs.Common.{◌∷◌, ◌++◌, ◌+◌, ◌∙◌, ap, drop, take, arith}
 use Rattle.mq_client.specs.Collecting.{grants}
-use Rattle.mq_client.proofs.Gathered.{parted}
+use Rattle.mq_client.proofs.SmallListBuilder.{parted}
 use Rattle.mq_client.proofs.collecting.answer_in.Goals as goal
 
 pub returns-in-SubAck : goal.returns-in-SubAck

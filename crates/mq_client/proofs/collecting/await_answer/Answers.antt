@@ -1,6 +1,6 @@
 use Rattle.std.proofs.Common.{[], refl}
 use Rattle.std.proofs.lemmas.Result.{err_from_is_err_and}
-use Rattle.mq_client.specs.declared.halt.Halt.TheVariants.{NotSubscribed}
+use Rattle.mq_client.specs.declared.halt.ClientError.TheVariants.{NotSubscribed}
 use Rattle.mq_client.proofs.Collected.{keeps_as, keeps_then, keeps_went}
 use Rattle.mq_client.proofs.Courses.{went_none}
 use Rattle.mq_client.proofs.collecting.await_answer.Goals as goal

@@ -2,7 +2,7 @@ use Rattle.std.proofs.Common.{sym, ◌∙◌, ap, subst, option_to_list, ◌-◌
 use Rattle.std.specs.Io.KnownBytes.{Appends}
 use Rattle.mq_client.specs.Collecting.{handed}
 use Rattle.mq_client.specs.Printed.{told_line}
-use Rattle.mq_client.proofs.Gathered.{gathered_lost, gathered_more, gathering_more, gathering_none}
+use Rattle.mq_client.proofs.SmallListBuilder.{gathered_lost, gathered_more, gathering_more, gathering_none}
 use Rattle.mq_client.proofs.collecting.gather.Goals as goal
 
 pub loop-init : goal.loop-init

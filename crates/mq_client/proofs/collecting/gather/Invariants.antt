@@ -1,4 +1,4 @@
-use Rattle.mq_client.proofs.Gathered.{Gathering}
+use Rattle.mq_client.proofs.SmallListBuilder.{Gathering}
 use Rattle.mq_client.proofs.collecting.gather.Given as goal
 
 abbrev pub invariant-loop : goal.invariant-loop

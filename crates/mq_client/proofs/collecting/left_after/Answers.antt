@@ -1,7 +1,7 @@
 use Rattle.std.proofs.Common.{◌-◌, length, flat_map, ap, ◌∙◌, arith}
 use Rattle.std.proofs.lemmas.List.{take_all}
 use Rattle.mq_client.specs.Collecting.{handed}
-use Rattle.mq_client.proofs.Gathered.{left_next}
+use Rattle.mq_client.proofs.SmallListBuilder.{left_next}
 use Rattle.mq_client.proofs.collecting.left_after.Goals as goal
 
 pub loop-happening-preserved : goal.loop-happening-preserved

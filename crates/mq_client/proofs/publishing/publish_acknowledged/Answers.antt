@@ -1,6 +1,6 @@
 use Rattle.std.proofs.Common.{refl, sym}
 use Rattle.std.proofs.lemmas.Result.{err_from_is_err_and}
-use Rattle.mq_client.specs.declared.halt.Halt.TheVariants.{Lost}
+use Rattle.mq_client.specs.declared.halt.ClientError.TheVariants.{Lost}
 use Rattle.mq_client.proofs.Published.{all_asked, first_halts, first_none, first_more, first_stops, first_told}
 use Rattle.mq_client.proofs.publishing.publish_acknowledged.Goals as goal
 

@@ -1,5 +1,5 @@
 use Rattle.std.proofs.Common.{◌<◌, length, arith}
-use Rattle.mq_packet.specs.Spelling.{code_fields}
+use Rattle.mq_packet.specs.Encoding.{code_fields}
 use Rattle.mq_packet.specs.Values.{Always}
 use Rattle.mq_decode.specs.Lists.{suback_code_at}
 use Rattle.mq_decode.proofs.ListLaws.{suback_code_laws}

@@ -1,5 +1,5 @@
 use Rattle.std.proofs.Common.{◌<◌, length, arith}
-use Rattle.mq_packet.specs.Spelling.{request_fields}
+use Rattle.mq_packet.specs.Encoding.{request_fields}
 use Rattle.mq_packet.specs.Values.{IsRequest}
 use Rattle.mq_decode.specs.Lists.{request_at}
 use Rattle.mq_decode.proofs.ListLaws.{request_laws}

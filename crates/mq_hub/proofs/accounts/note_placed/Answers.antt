@@ -1,7 +1,7 @@
 use Rattle.std.proofs.Common.{◌∙◌, ◌<◌, ◌++◌, ◌∷◌, [], ℕ, List, length, get_or, slice_set, sym, ap, arith}
 use Rattle.mq_packet.specs.declared.message.Message.{Message}
 use Rattle.mq_route.specs.declared.act.Act.TheVariants.{Placed}
-use Rattle.mq_route.specs.declared.trace.Account.{Account}
+use Rattle.mq_route.specs.declared.trace.ClientLog.{ClientLog}
 use Rattle.mq_hub.proofs.Filing.{found, past, placed_other, placed_own}
 use Rattle.mq_hub.proofs.Heard.{on_ok}
 use Rattle.mq_hub.proofs.accounts.note_placed.Goals as goal
@@ -16,13 +16,13 @@ pub returns : goal.returns
 returns c =
     let p = c.args.key in
     let m = c.args.message.now in
-    let list : List Account = c.args.accounts.now in
+    let list : List ClientLog = c.args.accounts.now in
     let at : ℕ = c.get-at.result in
-    let d : Account = c.index-accounts-at.result in
+    let d : ClientLog = c.index-accounts-at.result in
     let here : p < length list = omega (arith, c.if-at-accounts.false, c.get-at.ensures) in
     on_ok c.append.result
     (λ is. ap (λ (ms : List Message). slice_set list at (record { taken = (get_or list at d).taken; placed = ms })) is
     ∙ ap (λ (n : ℕ). slice_set list n (record (get_or list n d) { placed = (get_or list n d).placed ++ m ∷ [] })) c.get-at.ensures
-    ∙ ap (λ (a : Account). slice_set list p a) (sym (placed_own p m (get_or list p d)))
+    ∙ ap (λ (a : ClientLog). slice_set list p a) (sym (placed_own p m (get_or list p d)))
     ∙ sym (found (Placed p m) p (placed_other p m) 0 p d list (omega arith) here))
     c.append.ensures

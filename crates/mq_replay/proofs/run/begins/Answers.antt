@@ -9,7 +9,7 @@ pub returns : goal.returns
 returns c =
     let l = c.args.limits in
     let n = c.args.capacity in
-    let e : EndState = record { end = blank_end c.args.window; capacity = n; limit = l; held = []; output = []; moment = 0; room = no_room } in (
+    let e : EndState = record { end = blank_end c.args.window; capacity = n; limit = l; held = []; output = []; last_activity = 0; room = no_room } in (
       record { client = blank_side e; server = blank_side e },
       record { stands = c.over_bytes.ensures.blank l n c.args.window e e c.max_packet-least.ensures.least refl refl refl refl refl refl; client_clock = refl; server_clock = refl; to_client = refl; to_server = refl },
     )

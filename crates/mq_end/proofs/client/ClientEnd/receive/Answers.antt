@@ -12,9 +12,9 @@ returns-clause-open c =
     subst (λ (l : EndState). is_live l.end.state ≡ true → ClientReceives c.args.piece.now l c.receive.new.self c.receive.result.happenings c.receive.result.acknowledged c.receive.result.closed) (ap (λ (s : ClientState). s.link) c.self.view_is)
     c.receive.ensures.open
 
-pub returns-clause-moment : goal.returns-clause-moment
-returns-clause-moment c =
-    subst (λ (l : EndState). c.receive.new.self.moment ≡ l.moment) (ap (λ (s : ClientState). s.link) c.self.view_is) (kept_moment _ c.receive.new.self c.receive.ensures.heard c.receive.ensures.closed)
+pub returns-clause-last_activity : goal.returns-clause-last_activity
+returns-clause-last_activity c =
+    subst (λ (l : EndState). c.receive.new.self.last_activity ≡ l.last_activity) (ap (λ (s : ClientState). s.link) c.self.view_is) (kept_moment _ c.receive.new.self c.receive.ensures.heard c.receive.ensures.closed)
 
 pub returns-clause-window : goal.returns-clause-window
 returns-clause-window c = subst (λ (l : EndState). KeepsWindow l.end c.receive.new.self.end) (ap (λ (s : ClientState). s.link) c.self.view_is) c.receive.ensures.window

@@ -6,8 +6,8 @@ use Rattle.mq_end.specs.State.{EndState}
 use Rattle.mq_end.proofs.Rises.{opened_rise}
 use Rattle.mq_end.proofs.server.ServerEnd.opened.Goals as goal
 
-pub returns-clause-rise : goal.returns-clause-rise
-returns-clause-rise c =
+pub returns-clause-connect_end : goal.returns-clause-connect_end
+returns-clause-connect_end c =
     let link = c.self.inside.link in
     let made = c.open_connection in
     subst (λ (l : EndState). (connect : Connect) (ms : List Message) (more : ℕ) → HasRise connect ms more l → HasRise connect ms more made.new.self) c.self.view_is

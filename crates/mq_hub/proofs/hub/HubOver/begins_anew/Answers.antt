@@ -7,4 +7,4 @@ pub returns-else-connect : goal.returns-else-connect
 returns-else-connect g c =
     let h = c.self.inside in
     c.is_clean.ensures ∙ ap is_clean (stage_there c.args.other h.config h.clock h.next_key h.tables c.args.self.now c.self.view_is)
-    ∙ ap (λ (b : Bool). b || is_clean (stage_of c.args.other c.args.self.now.lines)) (sym c.if-connect.false)
+    ∙ ap (λ (b : Bool). b || is_clean (stage_of c.args.other c.args.self.now.connections)) (sym c.if-connect.false)

@@ -7,7 +7,7 @@ use Rattle.mq_hub.proofs.hub.HubOver.begun_seat.Goals as goal
 
 pub returns : goal.returns
 returns g c =
-    let rose = c.in_ok-rise_with_room.ensures.ok in
+    let rose = c.in_ok-connect_with_room.ensures.ok in
     let e : EndState = roomed rose.0 c.blank-end.result in
     let end = rose.1 ∙ ap (λ (h : HubState). risen c.args.connect h.clock e) c.self.view_is in
     if_ok c.new.result (λ seat is. record {

@@ -1,5 +1,5 @@
 use Rattle.std.proofs.Common.{◌≡◌, ◌∙◌, None, sym, ap}
-use Rattle.mq_route.specs.Hub.{HubState, key_on, stage_of, with_line}
+use Rattle.mq_route.specs.Hub.{HubState, key_on, stage_of, with_connection}
 use Rattle.mq_hub.specs.Seen.{HubTables, hub_of}
 use Rattle.mq_hub.proofs.Changing.{stage_seen}
 use Rattle.mq_hub.proofs.Shutting.{closed, goes_closed, hub_closed, kept_closed}
@@ -12,10 +12,10 @@ invariant_of-self g c =
     let u : HubTables = c.shut.new.self in
     let k = c.args.conn in
     let rest = c.shut.ensures.rest in
-    let idle : key_on (stage_of k t.lines.lines) ≡ None =
-    ap key_on (sym (stage_seen k t.sessions.tenants t.lines.lines)) ∙ ap (λ (s : HubState). key_on (stage_of k s.lines)) c.self.view_is ∙ c.requires.idle in
+    let idle : key_on (stage_of k t.connections.connections) ≡ None =
+    ap key_on (sym (stage_seen k t.sessions.tenants t.connections.connections)) ∙ ap (λ (s : HubState). key_on (stage_of k s.connections)) c.self.view_is ∙ c.requires.idle in
     kept_closed k h.config h.next_key t u c.self.invariant idle (ap (λ (v : HubTables). v.rows) rest) (ap (λ (v : HubTables). v.retained.messages) rest)
-    (ap (λ (v : HubTables). v.sessions.tenants) rest) c.shut.ensures.lines c.shut.ensures.limits
+    (ap (λ (v : HubTables). v.sessions.tenants) rest) c.shut.ensures.connections c.shut.ensures.limits
 
 pub returns-clause-goes : goal.returns-clause-goes
 returns-clause-goes g c =
@@ -24,10 +24,10 @@ returns-clause-goes g c =
     let u : HubTables = c.shut.new.self in
     let k = c.args.conn in
     let rest = c.shut.ensures.rest in
-    let idle : key_on (stage_of k t.lines.lines) ≡ None =
-    ap key_on (sym (stage_seen k t.sessions.tenants t.lines.lines)) ∙ ap (λ (s : HubState). key_on (stage_of k s.lines)) c.self.view_is ∙ c.requires.idle in
+    let idle : key_on (stage_of k t.connections.connections) ≡ None =
+    ap key_on (sym (stage_seen k t.sessions.tenants t.connections.connections)) ∙ ap (λ (s : HubState). key_on (stage_of k s.connections)) c.self.view_is ∙ c.requires.idle in
     λ fits. goes_closed k c.args.why fits c.args.self.now (hub_of h.config h.clock h.next_key u) c.args.doings.now.acts c.say.new.self.acts c.requires.idle
     (hub_closed k h.config h.next_key t u c.self.invariant idle (ap (λ (v : HubTables). v.rows) rest) (ap (λ (v : HubTables). v.retained.messages) rest)
-    (ap (λ (v : HubTables). v.sessions.tenants) rest) c.shut.ensures.lines h.clock
-    ∙ ap (λ (s : HubState). record s { lines = with_line closed k s.lines }) c.self.view_is)
+    (ap (λ (v : HubTables). v.sessions.tenants) rest) c.shut.ensures.connections h.clock
+    ∙ ap (λ (s : HubState). record s { connections = with_connection closed k s.connections }) c.self.view_is)
     c.say.ensures.acts

@@ -10,7 +10,7 @@ use Rattle.mq_hub.proofs.hub.HubOver.collect.Goals as goal
 pub collect_up-requires : goal.collect_up-requires
 collect_up-requires g c =
     let h = c.self.inside in
-    housed_at h.config.limits.most c.args.conn c.in-Some.key h.tables.sessions.tenants h.tables.lines.lines c.self.invariant.housed (sym c.in-Some.ensures)
+    housed_at h.config.limits.most c.args.conn c.in-Some.key h.tables.sessions.tenants h.tables.connections.connections c.self.invariant.housed (sym c.in-Some.ensures)
 
 pub invariant_of-self : goal.invariant_of-self
 invariant_of-self g c =
@@ -22,7 +22,7 @@ pub returns-in-Some-clause-bytes : goal.returns-in-Some-clause-bytes
 returns-in-Some-clause-bytes g c =
     let h = c.self.inside in
     let a = c.collect_up.ensures.collects in
-    if_ok_by c.collect_up.result (λ b is. is ∙ ap (λ (v : HubState). waiting_on c.args.conn v.lines) c.self.view_is)
+    if_ok_by c.collect_up.result (λ b is. is ∙ ap (λ (v : HubState). waiting_on c.args.conn v.connections) c.self.view_is)
     (up_bytes h.config h.next_key c.in-Some.key a.tenant a.end h.tables c.collect_up.new.self a.there c.self.invariant c.collect_up.ensures.rest a.after h.clock c.args.conn (sym c.in-Some.ensures)
     c.collect_up.result a.collects)
 
@@ -45,7 +45,7 @@ returns-in-Some-clause-err g c =
 pub collect_own-requires : goal.collect_own-requires
 collect_own-requires g c =
     let h = c.self.inside in
-    sym (knows_seen c.args.conn h.tables.sessions.tenants h.tables.lines.lines) ∙ ap (λ (v : HubState). knows c.args.conn v.lines) c.self.view_is ∙ c.requires
+    sym (knows_seen c.args.conn h.tables.sessions.tenants h.tables.connections.connections) ∙ ap (λ (v : HubState). knows c.args.conn v.connections) c.self.view_is ∙ c.requires
 
 pub invariant_of-self-in-None : goal.invariant_of-self-in-None
 invariant_of-self-in-None g c =
@@ -57,7 +57,7 @@ pub returns-in-None-clause-bytes : goal.returns-in-None-clause-bytes
 returns-in-None-clause-bytes g c =
     let h = c.self.inside in
     let e = c.collect_own.ensures in
-    if_ok_by c.collect_own.result (λ b is. is ∙ ap (λ (v : HubState). waiting_on c.args.conn v.lines) c.self.view_is)
+    if_ok_by c.collect_own.result (λ b is. is ∙ ap (λ (v : HubState). waiting_on c.args.conn v.connections) c.self.view_is)
     (own_bytes_as h.config h.next_key c.args.conn h.tables c.collect_own.new.self c.self.invariant e.rest h.clock (sym c.in-None.ensures) c.collect_own.result e.bytes)
 
 pub returns-in-None-clause-taken : goal.returns-in-None-clause-taken

@@ -6,5 +6,5 @@ use Rattle.mq_hub.proofs.hub.HubOver.is_open_near.Goals as goal
 pub returns : goal.returns
 returns g c =
     c.is_open_near.ensures
-    ∙ ap is_open (sym (stage_seen c.args.conn c.self.inside.tables.sessions.tenants c.self.inside.tables.lines.lines))
-    ∙ ap (λ (h : HubState). is_open (stage_of c.args.conn h.lines)) c.self.view_is
+    ∙ ap is_open (sym (stage_seen c.args.conn c.self.inside.tables.sessions.tenants c.self.inside.tables.connections.connections))
+    ∙ ap (λ (h : HubState). is_open (stage_of c.args.conn h.connections)) c.self.view_is

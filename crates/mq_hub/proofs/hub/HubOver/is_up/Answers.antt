@@ -9,5 +9,5 @@ pub returns : goal.returns
 returns g c =
     let t : HubTables = c.self.inside.tables in
     c.is_up.ensures
-    ∙ ap is_some (sym (up_seen c.args.key t.sessions.tenants t.lines.lines))
-    ∙ ap (λ (h : HubState). is_some (up_on c.args.key h.lines)) c.self.view_is
+    ∙ ap is_some (sym (up_seen c.args.key t.sessions.tenants t.connections.connections))
+    ∙ ap (λ (h : HubState). is_some (up_on c.args.key h.connections)) c.self.view_is

@@ -10,8 +10,8 @@ use Rattle.mq_hub.proofs.hub.HubOver.key.Goals as goal
 pub returns-clause-key : goal.returns-clause-key
 returns-clause-key g c =
     let t : HubTables = c.self.inside.tables in
-    c.key.ensures ∙ ap key_on (sym (stage_seen c.args.conn t.sessions.tenants t.lines.lines))
-    ∙ ap (λ (h : HubState). key_on (stage_of c.args.conn h.lines)) c.self.view_is
+    c.key.ensures ∙ ap key_on (sym (stage_seen c.args.conn t.sessions.tenants t.connections.connections))
+    ∙ ap (λ (h : HubState). key_on (stage_of c.args.conn h.connections)) c.self.view_is
 
 pub returns-clause-up : goal.returns-clause-up
 returns-clause-up g c =

@@ -6,6 +6,6 @@ use Rattle.mq_hub.proofs.hub.HubOver.knows.Goals as goal
 pub returns : goal.returns
 returns g c =
     c.knows.ensures
-    ∙ (λ i. knows c.args.conn (c.self-inside.view_is i).tables.lines.lines)
-    ∙ sym (knows_seen c.args.conn c.self.inside.tables.sessions.tenants c.self.inside.tables.lines.lines)
-    ∙ ap (λ (h : HubState). knows c.args.conn h.lines) c.self.view_is
+    ∙ (λ i. knows c.args.conn (c.self-inside.view_is i).tables.connections.connections)
+    ∙ sym (knows_seen c.args.conn c.self.inside.tables.sessions.tenants c.self.inside.tables.connections.connections)
+    ∙ ap (λ (h : HubState). knows c.args.conn h.connections) c.self.view_is

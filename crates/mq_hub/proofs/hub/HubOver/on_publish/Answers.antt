@@ -5,11 +5,11 @@ use Rattle.mq_packet.specs.Publication.{Publication}
 use Rattle.mq_end.specs.Sizes.{publish_size}
 use Rattle.mq_route.specs.declared.act.Act.TheVariants as acts
 use Rattle.mq_route.specs.declared.close.HubClose.TheVariants.{TargetFull}
-use Rattle.mq_route.specs.Arrives.{while_up}
+use Rattle.mq_route.specs.Arrives.{on_connected_packet}
 use Rattle.mq_route.specs.Hub.{HubState, copies_of, end_of}
-use Rattle.mq_route.specs.Work.{close, have_room, share}
-use Rattle.mq_hub.specs.declared.reception.Reception.TheVariants.{Handed}
-use Rattle.mq_hub.specs.Does.{GoesBy}
+use Rattle.mq_route.specs.Work.{close, have_room, deliver}
+use Rattle.mq_hub.specs.declared.publish.reception.Reception.TheVariants.{Handed}
+use Rattle.mq_hub.specs.Does.{Refines}
 use Rattle.mq_hub.specs.Receiving.{IsReceived}
 use Rattle.mq_hub.specs.Retained.{IsKeptOf, RetainedTable}
 use Rattle.mq_hub.specs.Seen.{HubTables, hub_of}
@@ -19,8 +19,8 @@ use Rattle.mq_hub.proofs.Passing.{can_hand, copies_handed, handed_as, handed_goe
 use Rattle.mq_hub.proofs.ShareKeeps.{enough_seen, goes_as, has_sessions, hub_alike, kept_alike}
 use Rattle.mq_hub.proofs.hub.HubOver.on_publish.Goals as goal
 
-pub prepare-requires-clause-due : goal.prepare-requires-clause-due
-prepare-requires-clause-due g c =
+pub reserve_delivery-requires-clause-due : goal.reserve_delivery-requires-clause-due
+reserve_delivery-requires-clause-due g c =
     let h = c.self.inside in
     c.in_ok-sharing.ensures.due h.config h.next_key c.self.invariant
     (subst (λ (m : Message). publish_size m ≤ h.config.limits.most) (sym c.into_message-message.ensures)
@@ -30,18 +30,18 @@ pub take_publish-requires-clause-can : goal.take_publish-requires-clause-can
 take_publish-requires-clause-can g c =
     let h = c.self.inside in
     let on = on_seen h.config h.clock h.next_key h.tables c.args.self.now c.args.key c.self.view_is c.requires.up in
-    can_hand h.config h.clock h.next_key c.args.key h.tables c.prepare.new.self c.self.invariant c.prepare.ensures.alike on.conn on.is (publish_of c.into_message-message.result c.delivery-delivery.result)
+    can_hand h.config h.clock h.next_key c.args.key h.tables c.reserve_delivery.new.self c.self.invariant c.reserve_delivery.ensures.alike on.conn on.is (publish_of c.into_message-message.result c.delivery-delivery.result)
 
 pub take_publish-requires-clause-stays : goal.take_publish-requires-clause-stays
 take_publish-requires-clause-stays g c =
     let h = c.self.inside in
     let on = on_seen h.config h.clock h.next_key h.tables c.args.self.now c.args.key c.self.view_is c.requires.up in
-    stays_ready h.config h.clock h.next_key c.args.key h.tables c.prepare.new.self c.self.invariant c.prepare.ensures.alike on.conn on.is (publish_of c.into_message-message.result c.delivery-delivery.result)
+    stays_ready h.config h.clock h.next_key c.args.key h.tables c.reserve_delivery.new.self c.self.invariant c.reserve_delivery.ensures.alike on.conn on.is (publish_of c.into_message-message.result c.delivery-delivery.result)
     (handed_as c.args.publish (publish_of c.into_message-message.result c.delivery-delivery.result) c.args.self.now (hub_of h.config h.clock h.next_key h.tables) c.args.key (same_publish c.args.publish c.into_message-message.result c.delivery-delivery.result c.into_message-message.ensures c.delivery-delivery.ensures.value) c.self.view_is c.requires.handed)
 
-pub share-requires-clause-ready : goal.share-requires-clause-ready
-share-requires-clause-ready g c =
-    let was = c.in_ok-prepare.ensures.ready (ap Ok c.if-not-branch.false) in
+pub deliver-requires-clause-ready : goal.deliver-requires-clause-ready
+deliver-requires-clause-ready g c =
+    let was = c.in_ok-reserve_delivery.ensures.ready (ap Ok c.if-not-branch.false) in
     let a = c.in_ok-take_publish.ensures.ok in
     record {
       retained = subst (λ (r : RetainedTable). 0 < r.room) (sym a.retained) was.retained;
@@ -52,22 +52,22 @@ share-requires-clause-ready g c =
 pub invariant_of-self : goal.invariant_of-self
 invariant_of-self g c =
     let h = c.self.inside in
-    kept_alike h.config h.next_key h.tables c.prepare.new.self c.prepare.ensures.alike c.self.invariant
+    kept_alike h.config h.next_key h.tables c.reserve_delivery.new.self c.reserve_delivery.ensures.alike c.self.invariant
 
-pub returns-in_err-prepare-clause-err : goal.returns-in_err-prepare-clause-err
-returns-in_err-prepare-clause-err g c =
+pub returns-in_err-reserve_delivery-clause-err : goal.returns-in_err-reserve_delivery-clause-err
+returns-in_err-reserve_delivery-clause-err g c =
     let h = c.self.inside in
-    err_any c.from_residual-in_err-prepare.result (hub_alike h.config h.clock h.next_key h.tables c.prepare.new.self c.prepare.ensures.alike ∙ c.self.view_is)
+    err_any c.from_residual-in_err-reserve_delivery.result (hub_alike h.config h.clock h.next_key h.tables c.reserve_delivery.new.self c.reserve_delivery.ensures.alike ∙ c.self.view_is)
 
 pub invariant_of-self-then-not-branch : goal.invariant_of-self-then-not-branch
 invariant_of-self-then-not-branch g c =
     let h = c.self.inside in
-    kept_alike h.config h.next_key h.tables c.prepare.new.self c.prepare.ensures.alike c.self.invariant
+    kept_alike h.config h.next_key h.tables c.reserve_delivery.new.self c.reserve_delivery.ensures.alike c.self.invariant
 
 pub returns-then-not-branch-clause-full : goal.returns-then-not-branch-clause-full
 returns-then-not-branch-clause-full g c = λ full.
     let h = c.self.inside in
-    hub_alike h.config h.clock h.next_key h.tables c.prepare.new.self c.prepare.ensures.alike ∙ c.self.view_is
+    hub_alike h.config h.clock h.next_key h.tables c.reserve_delivery.new.self c.reserve_delivery.ensures.alike ∙ c.self.view_is
 
 pub returns-then-not-branch-clause-closed : goal.returns-then-not-branch-clause-closed
 returns-then-not-branch-clause-closed g c = λ full conn fits new says goes.
@@ -80,18 +80,18 @@ returns-then-not-branch-clause-closed g c = λ full conn fits new says goes.
     let handed = subst (λ (s : HubState). IsReceived Handed m (end_of key s.sessions)) (sym c.self.view_is) c.requires.handed in
     let room : false ≡ have_room (copies_of m.message old) old =
     enough_seen false m.message c.in_ok-sharing.sharing.copies.items old old
-    (sym c.if-not-branch.true ∙ c.in_ok-prepare.ensures.enough old (has_sessions h.config h.clock h.next_key t c.self.invariant))
+    (sym c.if-not-branch.true ∙ c.in_ok-reserve_delivery.ensures.enough old (has_sessions h.config h.clock h.next_key t c.self.invariant))
     (subst (λ (n : Message). c.in_ok-sharing.sharing.copies.items ≡ copies_of n old) c.into_message-message.ensures (c.in_ok-sharing.ensures.copies h.config h.clock h.next_key)) refl in
-    subst (λ (s : HubState). GoesBy (while_up conn key (packets.Publish m) fits) s c.args.doings.now.acts new says) c.self.view_is
-    (unhanded_goes h.config h.clock h.next_key key t c.prepare.new.self c.self.invariant c.prepare.ensures.alike on.conn on.is m handed
+    subst (λ (s : HubState). Refines (on_connected_packet conn key (packets.Publish m) fits) s c.args.doings.now.acts new says) c.self.view_is
+    (unhanded_goes h.config h.clock h.next_key key t c.reserve_delivery.new.self c.self.invariant c.reserve_delivery.ensures.alike on.conn on.is m handed
     conn fits new c.args.doings.now.acts says (sym room)
-    (subst (λ (s : HubState). GoesBy (close conn TargetFull fits) s c.args.doings.now.acts new says) (sym c.self.view_is) goes))
+    (subst (λ (s : HubState). Refines (close conn TargetFull fits) s c.args.doings.now.acts new says) (sym c.self.view_is) goes))
 
 pub invariant_of-self-in_err-take_publish : goal.invariant_of-self-in_err-take_publish
 invariant_of-self-in_err-take_publish g c =
     let h = c.self.inside in
     let on = on_seen h.config h.clock h.next_key h.tables c.args.self.now c.args.key c.self.view_is c.requires.up in
-    kept_unhanded h.config h.clock h.next_key c.args.key h.tables c.prepare.new.self c.self.invariant c.prepare.ensures.alike on.conn on.is c.args.publish
+    kept_unhanded h.config h.clock h.next_key c.args.key h.tables c.reserve_delivery.new.self c.self.invariant c.reserve_delivery.ensures.alike on.conn on.is c.args.publish
     c.take_publish.new.self c.in_err-take_publish.ensures.err
 
 pub returns-in_err-take_publish-clause-err : goal.returns-in_err-take_publish-clause-err
@@ -99,7 +99,7 @@ returns-in_err-take_publish-clause-err g c =
     let h = c.self.inside in
     let on = on_seen h.config h.clock h.next_key h.tables c.args.self.now c.args.key c.self.view_is c.requires.up in
     err_any c.from_residual-in_err-take_publish.result
-    (same_unhanded h.config h.clock h.next_key c.args.key h.tables c.prepare.new.self c.self.invariant c.prepare.ensures.alike on.conn on.is c.args.publish
+    (same_unhanded h.config h.clock h.next_key c.args.key h.tables c.reserve_delivery.new.self c.self.invariant c.reserve_delivery.ensures.alike on.conn on.is c.args.publish
     c.take_publish.new.self c.in_err-take_publish.ensures.err ∙ c.self.view_is)
 
 pub invariant_of-self-2 : goal.invariant_of-self-2
@@ -109,20 +109,20 @@ invariant_of-self-2 g c =
     let m = c.args.publish in
     let on = on_seen h.config h.clock h.next_key h.tables c.args.self.now key c.self.view_is c.requires.up in
     let handed = subst (λ (s : HubState). IsReceived Handed m (end_of key s.sessions)) (sym c.self.view_is) c.requires.handed in
-    c.share.ensures.keeps m.message h.config h.next_key (subst (λ (n : Message). IsKeptOf n c.in_ok-sharing.sharing.kept) c.into_message-message.ensures c.in_ok-sharing.ensures.kept)
-    (kept_handed h.config h.clock h.next_key key h.tables c.prepare.new.self c.self.invariant c.prepare.ensures.alike on.conn on.is m handed
-    c.take_publish.new.self (taken_as (publish_of c.into_message-message.result c.delivery-delivery.result) m c.args.key h.clock c.prepare.new.self c.take_publish.new.self (same_publish c.args.publish c.into_message-message.result c.delivery-delivery.result c.into_message-message.ensures c.delivery-delivery.ensures.value) c.in_ok-take_publish.ensures.ok))
+    c.deliver.ensures.keeps m.message h.config h.next_key (subst (λ (n : Message). IsKeptOf n c.in_ok-sharing.sharing.kept) c.into_message-message.ensures c.in_ok-sharing.ensures.kept)
+    (kept_handed h.config h.clock h.next_key key h.tables c.reserve_delivery.new.self c.self.invariant c.reserve_delivery.ensures.alike on.conn on.is m handed
+    c.take_publish.new.self (taken_as (publish_of c.into_message-message.result c.delivery-delivery.result) m c.args.key h.clock c.reserve_delivery.new.self c.take_publish.new.self (same_publish c.args.publish c.into_message-message.result c.delivery-delivery.result c.into_message-message.ensures c.delivery-delivery.ensures.value) c.in_ok-take_publish.ensures.ok))
     (subst (λ (s : HubState). publish_size m.message ≤ s.config.limits.most) (sym c.self.view_is) c.requires.within)
 
 pub returns-clause-takes : goal.returns-clause-takes
 returns-clause-takes g c = λ done conn fits.
     let h = c.self.inside in
     let t : HubTables = h.tables in
-    let p : HubTables = c.prepare.new.self in
+    let p : HubTables = c.reserve_delivery.new.self in
     let u : HubTables = c.take_publish.new.self in
     let old : HubState = hub_of h.config h.clock h.next_key t in
     let here : HubState = hub_of h.config h.clock h.next_key u in
-    let after : HubState = hub_of h.config h.clock h.next_key c.share.new.self in
+    let after : HubState = hub_of h.config h.clock h.next_key c.deliver.new.self in
     let key = c.args.key in
     let m = c.args.publish in
     let s = c.in_ok-sharing.sharing in
@@ -131,16 +131,16 @@ returns-clause-takes g c = λ done conn fits.
     let a = taken_as (publish_of c.into_message-message.result c.delivery-delivery.result) m key h.clock p u (same_publish c.args.publish c.into_message-message.result c.delivery-delivery.result c.into_message-message.ensures c.delivery-delivery.ensures.value) c.in_ok-take_publish.ensures.ok in
     let drawn = subst (λ (n : Message). s.copies.items ≡ copies_of n old) c.into_message-message.ensures (c.in_ok-sharing.ensures.copies h.config h.clock h.next_key) in
     let due : copies_of m.message here ≡ s.copies.items =
-    copies_handed h.config h.clock h.next_key key t p c.self.invariant c.prepare.ensures.alike on.conn on.is m handed u a ∙ sym drawn in
+    copies_handed h.config h.clock h.next_key key t p c.self.invariant c.reserve_delivery.ensures.alike on.conn on.is m handed u a ∙ sym drawn in
     let room : true ≡ have_room (copies_of m.message old) old =
     enough_seen true m.message s.copies.items old old
-    (sym c.if-not-branch.false ∙ c.in_ok-prepare.ensures.enough old (has_sessions h.config h.clock h.next_key t c.self.invariant)) drawn refl in
-    let shared : GoesBy (share (acts.Took key m.message) m.message) here c.args.doings.now.acts after c.share.new.doings.acts =
-    subst (λ (n : Message). GoesBy (share (acts.Took key n) m.message) here c.args.doings.now.acts after c.share.new.doings.acts) (ap (λ (x : Publication). x.message) (same_publish c.args.publish c.into_message-message.result c.delivery-delivery.result c.into_message-message.ensures c.delivery-delivery.ensures.value))
-    (goes_as (acts.Took key c.into_message-message.result) m.message m.message here here after c.prepare.new.doings.acts c.args.doings.now.acts
-    c.share.new.doings.acts refl refl c.prepare.ensures.acts
-    (c.share.ensures.goes m.message h.config h.clock h.next_key (subst (λ (n : Message). IsKeptOf n c.in_ok-sharing.sharing.kept) c.into_message-message.ensures c.in_ok-sharing.ensures.kept)
-    (kept_handed h.config h.clock h.next_key key t p c.self.invariant c.prepare.ensures.alike on.conn on.is m handed u a) due)) in
-    subst (λ (b : HubState). GoesBy (while_up conn key (packets.Publish m) fits) b c.args.doings.now.acts after c.share.new.doings.acts) c.self.view_is
-    (handed_goes h.config h.clock h.next_key key t p c.self.invariant c.prepare.ensures.alike on.conn on.is m handed u a
-    conn fits after c.args.doings.now.acts c.share.new.doings.acts (sym room) shared)
+    (sym c.if-not-branch.false ∙ c.in_ok-reserve_delivery.ensures.enough old (has_sessions h.config h.clock h.next_key t c.self.invariant)) drawn refl in
+    let shared : Refines (deliver (acts.Took key m.message) m.message) here c.args.doings.now.acts after c.deliver.new.doings.acts =
+    subst (λ (n : Message). Refines (deliver (acts.Took key n) m.message) here c.args.doings.now.acts after c.deliver.new.doings.acts) (ap (λ (x : Publication). x.message) (same_publish c.args.publish c.into_message-message.result c.delivery-delivery.result c.into_message-message.ensures c.delivery-delivery.ensures.value))
+    (goes_as (acts.Took key c.into_message-message.result) m.message m.message here here after c.reserve_delivery.new.doings.acts c.args.doings.now.acts
+    c.deliver.new.doings.acts refl refl c.reserve_delivery.ensures.acts
+    (c.deliver.ensures.goes m.message h.config h.clock h.next_key (subst (λ (n : Message). IsKeptOf n c.in_ok-sharing.sharing.kept) c.into_message-message.ensures c.in_ok-sharing.ensures.kept)
+    (kept_handed h.config h.clock h.next_key key t p c.self.invariant c.reserve_delivery.ensures.alike on.conn on.is m handed u a) due)) in
+    subst (λ (b : HubState). Refines (on_connected_packet conn key (packets.Publish m) fits) b c.args.doings.now.acts after c.deliver.new.doings.acts) c.self.view_is
+    (handed_goes h.config h.clock h.next_key key t p c.self.invariant c.reserve_delivery.ensures.alike on.conn on.is m handed u a
+    conn fits after c.args.doings.now.acts c.deliver.new.doings.acts (sym room) shared)

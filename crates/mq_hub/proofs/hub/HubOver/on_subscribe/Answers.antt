@@ -4,10 +4,10 @@ use Rattle.mq_end.specs.Sizes.{subscribe_size}
 use Rattle.mq_end.specs.declared.happening.Happening.TheVariants as happens
 use Rattle.mq_route.specs.declared.act.Act.{Act}
 use Rattle.mq_route.specs.declared.close.HubClose.TheVariants.{TargetFull}
-use Rattle.mq_route.specs.Arrives.{answers, while_up}
+use Rattle.mq_route.specs.Arrives.{answers, on_connected_packet}
 use Rattle.mq_route.specs.Hub.{HubState}
 use Rattle.mq_route.specs.Work.{close, have_room, retained_copies}
-use Rattle.mq_hub.specs.Does.{GoesBy}
+use Rattle.mq_hub.specs.Does.{Refines}
 use Rattle.mq_hub.specs.Placing.{HasSessions, placed_acts}
 use Rattle.mq_hub.specs.Seen.{HubTables, hub_of}
 use Rattle.mq_hub.specs.Subscribing.{subscribed_acts}
@@ -52,9 +52,9 @@ returns-clause-goes g c = λ done conn.
     let h = c.self.inside in
     let u : HubTables = c.subscribe.new.self in
     let on = on_seen h.config h.clock h.next_key h.tables c.args.self.now c.args.key c.self.view_is c.requires.up in
-    subst (λ (s : HubState). GoesBy (answers conn c.args.key (happens.Subscribe c.args.id c.args.requests)) s c.args.doings.now.acts
+    subst (λ (s : HubState). Refines (answers conn c.args.key (happens.Subscribe c.args.id c.args.requests)) s c.args.doings.now.acts
     (hub_of h.config h.clock h.next_key u) c.subscribe.new.doings.acts) c.self.view_is
-    (subst (λ (did : List Act). GoesBy (answers conn c.args.key (happens.Subscribe c.args.id c.args.requests)) (hub_of h.config h.clock h.next_key h.tables) c.args.doings.now.acts
+    (subst (λ (did : List Act). Refines (answers conn c.args.key (happens.Subscribe c.args.id c.args.requests)) (hub_of h.config h.clock h.next_key h.tables) c.args.doings.now.acts
     (hub_of h.config h.clock h.next_key u) did) (sym (c.subscribe.ensures.acts done))
     (subscribed_goes h.config h.next_key c.args.key h.tables u c.self.invariant on.conn on.is c.args.id c.args.requests (c.subscribe.ensures.done done) h.clock c.args.doings.now.acts conn))
 
@@ -68,8 +68,8 @@ returns-clause-takes g c = λ done conn fits.
     let on = on_seen h.config h.clock h.next_key h.tables c.args.self.now key c.self.view_is c.requires.up in
     let says = (c.args.doings.now.acts ++ subscribed_acts key c.args.requests) ++ placed_acts (retained_copies key c.args.requests h.tables.retained.messages) in
     let enough = ok_at (λ enough. (b : HubState) → HasSessions h.tables.sessions.tenants b → have_room (retained_copies key c.args.requests h.tables.retained.messages) b ≡ enough) c.subscribe.result done c.subscribe.ensures.enough old (has_sessions h.config h.clock h.next_key h.tables c.self.invariant) in
-    subst (λ (s : HubState). GoesBy (while_up conn key p fits) s c.args.doings.now.acts (hub_of h.config h.clock h.next_key u) c.subscribe.new.doings.acts) c.self.view_is
-    (subst (λ (did : List Act). GoesBy (while_up conn key p fits) old c.args.doings.now.acts (hub_of h.config h.clock h.next_key u) did) (sym (c.subscribe.ensures.acts done))
+    subst (λ (s : HubState). Refines (on_connected_packet conn key p fits) s c.args.doings.now.acts (hub_of h.config h.clock h.next_key u) c.subscribe.new.doings.acts) c.self.view_is
+    (subst (λ (did : List Act). Refines (on_connected_packet conn key p fits) old c.args.doings.now.acts (hub_of h.config h.clock h.next_key u) did) (sym (c.subscribe.ensures.acts done))
     (asked_goes h.config h.clock h.next_key key h.tables c.self.invariant on.conn on.is p (happens.Subscribe c.args.id c.args.requests) (λ e. refl) conn fits
     (hub_of h.config h.clock h.next_key u) c.args.doings.now.acts says enough
     (subscribed_goes h.config h.next_key key h.tables u c.self.invariant on.conn on.is c.args.id c.args.requests (c.subscribe.ensures.done done) h.clock c.args.doings.now.acts conn)))
@@ -83,10 +83,10 @@ returns-clause-closed g c = λ full conn fits new says goes.
     let on = on_seen h.config h.clock h.next_key h.tables c.args.self.now key c.self.view_is c.requires.up in
     let enough = ok_at (λ enough. (b : HubState) → HasSessions h.tables.sessions.tenants b → have_room (retained_copies key c.args.requests h.tables.retained.messages) b ≡ enough)
     c.subscribe.result full c.subscribe.ensures.enough old (has_sessions h.config h.clock h.next_key h.tables c.self.invariant) in
-    subst (λ (s : HubState). GoesBy (while_up conn key p fits) s c.args.doings.now.acts new says) c.self.view_is
+    subst (λ (s : HubState). Refines (on_connected_packet conn key p fits) s c.args.doings.now.acts new says) c.self.view_is
     (unasked_goes h.config h.clock h.next_key key h.tables c.self.invariant on.conn on.is p (happens.Subscribe c.args.id c.args.requests) (λ e. refl) conn fits
     new c.args.doings.now.acts says enough
-    (subst (λ (s : HubState). GoesBy (close conn TargetFull fits) s c.args.doings.now.acts new says) (sym c.self.view_is) goes))
+    (subst (λ (s : HubState). Refines (close conn TargetFull fits) s c.args.doings.now.acts new says) (sym c.self.view_is) goes))
 
 pub returns-clause-full : goal.returns-clause-full
 returns-clause-full g c = λ full.

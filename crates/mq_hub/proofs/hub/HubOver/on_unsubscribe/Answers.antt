@@ -3,9 +3,9 @@ use Rattle.mq_packet.specs.declared.packet.Packet.TheVariants as packets
 use Rattle.mq_end.specs.Sizes.{unsuback_size}
 use Rattle.mq_end.specs.declared.happening.Happening.TheVariants as happens
 use Rattle.mq_route.specs.declared.act.Act.{Act}
-use Rattle.mq_route.specs.Arrives.{answers, while_up}
+use Rattle.mq_route.specs.Arrives.{answers, on_connected_packet}
 use Rattle.mq_route.specs.Hub.{HubState}
-use Rattle.mq_hub.specs.Does.{GoesBy}
+use Rattle.mq_hub.specs.Does.{Refines}
 use Rattle.mq_hub.specs.Seen.{HubTables, hub_of}
 use Rattle.mq_hub.specs.Subscribing.{unsubscribed_acts}
 use Rattle.mq_hub.proofs.Asking.{asked_goes}
@@ -36,9 +36,9 @@ returns-clause-goes g c =
     let u : HubTables = c.unsubscribe.new.self in
     let on = on_seen h.config h.clock h.next_key h.tables c.args.self.now c.args.key c.self.view_is c.requires.up in
     ok_both c.unsubscribe.result c.unsubscribe.ensures.ok c.unsubscribe.ensures.acts
-    (λ a says conn. subst (λ (s : HubState). GoesBy (answers conn c.args.key (happens.Unsubscribe c.args.id c.args.filters)) s c.args.doings.now.acts
+    (λ a says conn. subst (λ (s : HubState). Refines (answers conn c.args.key (happens.Unsubscribe c.args.id c.args.filters)) s c.args.doings.now.acts
     (hub_of h.config h.clock h.next_key u) c.unsubscribe.new.doings.acts) c.self.view_is
-    (subst (λ (did : List Act). GoesBy (answers conn c.args.key (happens.Unsubscribe c.args.id c.args.filters)) (hub_of h.config h.clock h.next_key h.tables) c.args.doings.now.acts
+    (subst (λ (did : List Act). Refines (answers conn c.args.key (happens.Unsubscribe c.args.id c.args.filters)) (hub_of h.config h.clock h.next_key h.tables) c.args.doings.now.acts
     (hub_of h.config h.clock h.next_key u) did) (sym says)
     (unsubscribed_goes h.config h.next_key c.args.key h.tables u c.self.invariant on.conn on.is c.args.id c.args.filters a h.clock conn c.args.doings.now.acts)))
 
@@ -51,9 +51,9 @@ returns-clause-takes g c =
     let says = c.args.doings.now.acts ++ unsubscribed_acts key c.args.filters in
     let on = on_seen h.config h.clock h.next_key h.tables c.args.self.now key c.self.view_is c.requires.up in
     ok_both c.unsubscribe.result c.unsubscribe.ensures.ok c.unsubscribe.ensures.acts
-    (λ a said conn fits. subst (λ (s : HubState). GoesBy (while_up conn key p fits) s c.args.doings.now.acts
+    (λ a said conn fits. subst (λ (s : HubState). Refines (on_connected_packet conn key p fits) s c.args.doings.now.acts
     (hub_of h.config h.clock h.next_key u) c.unsubscribe.new.doings.acts) c.self.view_is
-    (subst (λ (did : List Act). GoesBy (while_up conn key p fits) (hub_of h.config h.clock h.next_key h.tables) c.args.doings.now.acts
+    (subst (λ (did : List Act). Refines (on_connected_packet conn key p fits) (hub_of h.config h.clock h.next_key h.tables) c.args.doings.now.acts
     (hub_of h.config h.clock h.next_key u) did) (sym said)
     (asked_goes h.config h.clock h.next_key key h.tables c.self.invariant on.conn on.is p (happens.Unsubscribe c.args.id c.args.filters) (λ e. refl) conn fits
     (hub_of h.config h.clock h.next_key u) c.args.doings.now.acts says (room_none (hub_of h.config h.clock h.next_key h.tables))

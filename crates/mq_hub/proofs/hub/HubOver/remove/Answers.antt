@@ -13,10 +13,10 @@ invariant_of-self g c =
     let u : HubTables = c.remove.new.self in
     let key = c.args.key in
     let rest = c.remove.ensures.rest in
-    let none : up_on key t.lines.lines ≡ None =
-    sym (up_seen key t.sessions.tenants t.lines.lines) ∙ ap (λ (s : HubState). up_on key s.lines) c.self.view_is ∙ c.requires.away in
+    let none : up_on key t.connections.connections ≡ None =
+    sym (up_seen key t.sessions.tenants t.connections.connections) ∙ ap (λ (s : HubState). up_on key s.connections) c.self.view_is ∙ c.requires.away in
     kept_removed key h.config h.next_key t u c.self.invariant none c.remove.ensures.rows (ap (λ (v : HubTables). v.retained.messages) rest) c.remove.ensures.tenants
-    (ap (λ (v : HubTables). v.lines.lines) rest) (ap (λ (v : HubTables). v.lines.limits) rest)
+    (ap (λ (v : HubTables). v.connections.connections) rest) (ap (λ (v : HubTables). v.connections.limits) rest)
 
 pub returns-clause-goes : goal.returns-clause-goes
 returns-clause-goes g c =
@@ -25,10 +25,10 @@ returns-clause-goes g c =
     let u : HubTables = c.remove.new.self in
     let key = c.args.key in
     let rest = c.remove.ensures.rest in
-    let none : up_on key t.lines.lines ≡ None =
-    sym (up_seen key t.sessions.tenants t.lines.lines) ∙ ap (λ (s : HubState). up_on key s.lines) c.self.view_is ∙ c.requires.away in
+    let none : up_on key t.connections.connections ≡ None =
+    sym (up_seen key t.sessions.tenants t.connections.connections) ∙ ap (λ (s : HubState). up_on key s.connections) c.self.view_is ∙ c.requires.away in
     goes_removed key c.args.self.now (hub_of h.config h.clock h.next_key u) c.args.doings.now.acts c.say.new.self.acts
     (hub_removed key h.config h.next_key t u c.self.invariant none c.remove.ensures.rows (ap (λ (v : HubTables). v.retained.messages) rest) c.remove.ensures.tenants
-    (ap (λ (v : HubTables). v.lines.lines) rest) h.clock
+    (ap (λ (v : HubTables). v.connections.connections) rest) h.clock
     ∙ ap (λ (s : HubState). record s { rows = without_client key s.rows; sessions = without_session key s.sessions }) c.self.view_is)
     c.say.ensures.acts

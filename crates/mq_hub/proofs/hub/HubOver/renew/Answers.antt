@@ -2,14 +2,14 @@ use Rattle.std.proofs.Common.{◌≡◌, ◌∙◌, ◌<◌, ◌^◌, ◌+◌, �
 use Rattle.mq_topic.specs.Rows.{without_client}
 use Rattle.mq_route.specs.declared.act.Act.{Act}
 use Rattle.mq_route.specs.declared.act.Act.TheVariants as acts
-use Rattle.mq_route.specs.declared.stage.Stage.TheVariants.{Fresh, UpFor}
-use Rattle.mq_route.specs.declared.stage.Terms.{Terms}
-use Rattle.mq_route.specs.Arrives.{greet_new}
-use Rattle.mq_route.specs.Hub.{HubState, Line, key_of, stage_of, up_on, with_line, without_session}
+use Rattle.mq_route.specs.declared.connection_state.ConnectionState.TheVariants.{AwaitingConnect, ConnectedAs}
+use Rattle.mq_route.specs.declared.connection_state.ConnectionTerms.{ConnectionTerms}
+use Rattle.mq_route.specs.Arrives.{start_session}
+use Rattle.mq_route.specs.Hub.{HubState, HubConnection, key_of, stage_of, up_on, with_connection, without_session}
 use Rattle.mq_route.specs.Work.{remove}
-use Rattle.mq_hub.specs.declared.session.Tenant.{Tenant}
-use Rattle.mq_hub.specs.Does.{GoesBy}
-use Rattle.mq_hub.specs.Keeps.{HubKeeps, IsWillWithin}
+use Rattle.mq_hub.specs.declared.sessions.session.BrokerSession.{BrokerSession}
+use Rattle.mq_hub.specs.Does.{Refines}
+use Rattle.mq_hub.specs.Keeps.{HubInvariant, IsWillWithin}
 use Rattle.mq_hub.specs.Rising.{IsBegun}
 use Rattle.mq_hub.specs.Seen.{HubTables, hub_of}
 use Rattle.mq_hub.specs.Sessions.{sessions_of, AreBelow}
@@ -25,8 +25,8 @@ pub begin-requires-clause-stage : goal.begin-requires-clause-stage
 begin-requires-clause-stage g c =
     let t : HubTables = c.self.inside.tables in
     let k = c.args.conn in
-    ap (λ (a : HubTables). stage_of k a.lines.lines) c.remove.ensures.rest ∙ ap (λ (xs : List Line). stage_of k xs) c.reserve_session.ensures.lines
-    ∙ sym (stage_seen k t.sessions.tenants t.lines.lines) ∙ ap (λ (s : HubState). stage_of k s.lines) c.self.view_is ∙ c.requires.fresh
+    ap (λ (a : HubTables). stage_of k a.connections.connections) c.remove.ensures.rest ∙ ap (λ (xs : List HubConnection). stage_of k xs) c.reserve_session.ensures.connections
+    ∙ sym (stage_seen k t.sessions.tenants t.connections.connections) ∙ ap (λ (s : HubState). stage_of k s.connections) c.self.view_is ∙ c.requires.fresh
 
 pub begin-requires-clause-away : goal.begin-requires-clause-away
 begin-requires-clause-away g c =
@@ -39,19 +39,19 @@ begin-requires-clause-away g c =
     let ready = c.reserve_session.ensures.rest in
     let rows = ap (λ (a : HubTables). a.rows) ready in
     let retained = ap (λ (a : HubTables). a.retained.messages) ready in
-    let kept : HubKeeps h.config h.next_key r =
-    kept_by h.config h.next_key t r c.self.invariant rows retained c.reserve_session.ensures.tenants c.reserve_session.ensures.lines c.reserve_session.ensures.limits in
-    let none : up_on key r.lines.lines ≡ None =
-    ap (λ (xs : List Line). up_on key xs) c.reserve_session.ensures.lines
-    ∙ sym (up_seen key t.sessions.tenants t.lines.lines) ∙ ap (λ (s : HubState). up_on key s.lines) c.self.view_is ∙ c.requires.away in
+    let kept : HubInvariant h.config h.next_key r =
+    kept_by h.config h.next_key t r c.self.invariant rows retained c.reserve_session.ensures.tenants c.reserve_session.ensures.connections c.reserve_session.ensures.limits in
+    let none : up_on key r.connections.connections ≡ None =
+    ap (λ (xs : List HubConnection). up_on key xs) c.reserve_session.ensures.connections
+    ∙ sym (up_seen key t.sessions.tenants t.connections.connections) ∙ ap (λ (s : HubState). up_on key s.connections) c.self.view_is ∙ c.requires.away in
     let gone = c.remove.ensures.rest in
-    let left : HubKeeps h.config h.next_key v =
+    let left : HubInvariant h.config h.next_key v =
     kept_removed key h.config h.next_key r v kept none c.remove.ensures.rows (ap (λ (a : HubTables). a.retained.messages) gone) c.remove.ensures.tenants
-    (ap (λ (a : HubTables). a.lines.lines) gone) (ap (λ (a : HubTables). a.lines.limits) gone) in
-    let own : Tenant = c.in_ok-beginning.beginning.seat in
+    (ap (λ (a : HubTables). a.connections.connections) gone) (ap (λ (a : HubTables). a.connections.limits) gone) in
+    let own : BrokerSession = c.in_ok-beginning.beginning.seat in
     let begun = subst (λ (s : HubState). IsBegun c.args.connect c.args.client s own) (sym c.self.view_is) c.in_ok-beginning.ensures.seat in
-    ap (λ (s : Tenant). up_on s.key v.lines.lines) begun.after
-    ∙ none_up h.next_key h.config.limits.most v.sessions.tenants v.lines.lines left.below left.housed
+    ap (λ (s : BrokerSession). up_on s.key v.connections.connections) begun.after
+    ∙ none_up h.next_key h.config.limits.most v.sessions.tenants v.connections.connections left.below left.housed
 
 pub begin-requires-clause-key : goal.begin-requires-clause-key
 begin-requires-clause-key g c =
@@ -64,25 +64,25 @@ begin-requires-clause-key g c =
     let ready = c.reserve_session.ensures.rest in
     let rows = ap (λ (a : HubTables). a.rows) ready in
     let retained = ap (λ (a : HubTables). a.retained.messages) ready in
-    let kept : HubKeeps h.config h.next_key r =
-    kept_by h.config h.next_key t r c.self.invariant rows retained c.reserve_session.ensures.tenants c.reserve_session.ensures.lines c.reserve_session.ensures.limits in
-    let none : up_on key r.lines.lines ≡ None =
-    ap (λ (xs : List Line). up_on key xs) c.reserve_session.ensures.lines
-    ∙ sym (up_seen key t.sessions.tenants t.lines.lines) ∙ ap (λ (s : HubState). up_on key s.lines) c.self.view_is ∙ c.requires.away in
+    let kept : HubInvariant h.config h.next_key r =
+    kept_by h.config h.next_key t r c.self.invariant rows retained c.reserve_session.ensures.tenants c.reserve_session.ensures.connections c.reserve_session.ensures.limits in
+    let none : up_on key r.connections.connections ≡ None =
+    ap (λ (xs : List HubConnection). up_on key xs) c.reserve_session.ensures.connections
+    ∙ sym (up_seen key t.sessions.tenants t.connections.connections) ∙ ap (λ (s : HubState). up_on key s.connections) c.self.view_is ∙ c.requires.away in
     let gone = c.remove.ensures.rest in
-    let left : HubKeeps h.config h.next_key v =
+    let left : HubInvariant h.config h.next_key v =
     kept_removed key h.config h.next_key r v kept none c.remove.ensures.rows (ap (λ (a : HubTables). a.retained.messages) gone) c.remove.ensures.tenants
-    (ap (λ (a : HubTables). a.lines.lines) gone) (ap (λ (a : HubTables). a.lines.limits) gone) in
-    let own : Tenant = c.in_ok-beginning.beginning.seat in
+    (ap (λ (a : HubTables). a.connections.connections) gone) (ap (λ (a : HubTables). a.connections.limits) gone) in
+    let own : BrokerSession = c.in_ok-beginning.beginning.seat in
     let begun = subst (λ (s : HubState). IsBegun c.args.connect c.args.client s own) (sym c.self.view_is) c.in_ok-beginning.ensures.seat in
-    subst (λ (n : ℕ). AreBelow n v.sessions.tenants) (sym (ap (λ (s : Tenant). s.key) begun.after)) left.below
+    subst (λ (n : ℕ). AreBelow n v.sessions.tenants) (sym (ap (λ (s : BrokerSession). s.key) begun.after)) left.below
 
 pub begin-requires-clause-client : goal.begin-requires-clause-client
 begin-requires-clause-client g c =
     let v : HubTables = c.remove.new.self in
-    ap (λ (s : Tenant). key_of s.client (sessions_of v.sessions.tenants)) c.in_ok-beginning.ensures.seat.after
+    ap (λ (s : BrokerSession). key_of s.client (sessions_of v.sessions.tenants)) c.in_ok-beginning.ensures.seat.after
     ∙ c.remove.ensures.client c.args.client
-    (ap (λ (ts : List Tenant). key_of c.args.client (sessions_of ts)) c.reserve_session.ensures.tenants
+    (ap (λ (ts : List BrokerSession). key_of c.args.client (sessions_of ts)) c.reserve_session.ensures.tenants
     ∙ ap (λ (s : HubState). key_of c.args.client s.sessions) c.self.view_is ∙ c.requires.stands)
 
 pub invariant_of-self-2 : goal.invariant_of-self-2
@@ -96,26 +96,26 @@ invariant_of-self-2 g c =
     let ready = c.reserve_session.ensures.rest in
     let rows = ap (λ (a : HubTables). a.rows) ready in
     let retained = ap (λ (a : HubTables). a.retained.messages) ready in
-    let kept : HubKeeps h.config h.next_key r =
-    kept_by h.config h.next_key t r c.self.invariant rows retained c.reserve_session.ensures.tenants c.reserve_session.ensures.lines c.reserve_session.ensures.limits in
-    let none : up_on key r.lines.lines ≡ None =
-    ap (λ (xs : List Line). up_on key xs) c.reserve_session.ensures.lines
-    ∙ sym (up_seen key t.sessions.tenants t.lines.lines) ∙ ap (λ (s : HubState). up_on key s.lines) c.self.view_is ∙ c.requires.away in
+    let kept : HubInvariant h.config h.next_key r =
+    kept_by h.config h.next_key t r c.self.invariant rows retained c.reserve_session.ensures.tenants c.reserve_session.ensures.connections c.reserve_session.ensures.limits in
+    let none : up_on key r.connections.connections ≡ None =
+    ap (λ (xs : List HubConnection). up_on key xs) c.reserve_session.ensures.connections
+    ∙ sym (up_seen key t.sessions.tenants t.connections.connections) ∙ ap (λ (s : HubState). up_on key s.connections) c.self.view_is ∙ c.requires.away in
     let gone = c.remove.ensures.rest in
-    let left : HubKeeps h.config h.next_key v =
+    let left : HubInvariant h.config h.next_key v =
     kept_removed key h.config h.next_key r v kept none c.remove.ensures.rows (ap (λ (a : HubTables). a.retained.messages) gone) c.remove.ensures.tenants
-    (ap (λ (a : HubTables). a.lines.lines) gone) (ap (λ (a : HubTables). a.lines.limits) gone) in
-    let at : stage_of k v.lines.lines ≡ Fresh =
-    ap (λ (a : HubTables). stage_of k a.lines.lines) gone ∙ ap (λ (xs : List Line). stage_of k xs) c.reserve_session.ensures.lines
-    ∙ sym (stage_seen k t.sessions.tenants t.lines.lines) ∙ ap (λ (s : HubState). stage_of k s.lines) c.self.view_is ∙ c.requires.fresh in
-    let own : Tenant = c.in_ok-beginning.beginning.seat in
+    (ap (λ (a : HubTables). a.connections.connections) gone) (ap (λ (a : HubTables). a.connections.limits) gone) in
+    let at : stage_of k v.connections.connections ≡ AwaitingConnect =
+    ap (λ (a : HubTables). stage_of k a.connections.connections) gone ∙ ap (λ (xs : List HubConnection). stage_of k xs) c.reserve_session.ensures.connections
+    ∙ sym (stage_seen k t.sessions.tenants t.connections.connections) ∙ ap (λ (s : HubState). stage_of k s.connections) c.self.view_is ∙ c.requires.fresh in
+    let own : BrokerSession = c.in_ok-beginning.beginning.seat in
     let begun = subst (λ (s : HubState). IsBegun c.args.connect c.args.client s own) (sym c.self.view_is) c.in_ok-beginning.ensures.seat in
     let u : HubTables = c.begin.new.self in
     let after = c.begin.ensures.rest in
-    let lines = c.begin.ensures.lines
-    ∙ ap₂ (λ (n : ℕ) (m : Terms). with_line (λ x. record x { stage = UpFor n m h.clock }) k v.lines.lines) (ap (λ (s : Tenant). s.key) begun.after) c.in_ok-beginning.ensures.terms in
+    let connections = c.begin.ensures.connections
+    ∙ ap₂ (λ (n : ℕ) (m : ConnectionTerms). with_connection (λ x. record x { stage = ConnectedAs n m h.clock }) k v.connections.connections) (ap (λ (s : BrokerSession). s.key) begun.after) c.in_ok-beginning.ensures.terms in
     keeps_begun k c.args.connect c.args.client c.requires.named h.config h.clock h.next_key v u left at own begun.end begun.after begun.fresh
-    (ap (λ (a : HubTables). a.rows) after) (ap (λ (a : HubTables). a.retained.messages) after) c.begin.ensures.tenants lines
+    (ap (λ (a : HubTables). a.rows) after) (ap (λ (a : HubTables). a.retained.messages) after) c.begin.ensures.tenants connections
     (subst (λ (s : HubState). IsWillWithin s.config.limits.most c.args.connect.will) (sym c.self.view_is) c.requires.will) c.begin.ensures.limits
     (subst (λ (s : HubState). s.next_key < 2 ^ 32) (sym c.self.view_is) c.requires.next) begun.capacity begun.limit
 
@@ -130,40 +130,40 @@ returns-clause-goes g c =
     let ready = c.reserve_session.ensures.rest in
     let rows = ap (λ (a : HubTables). a.rows) ready in
     let retained = ap (λ (a : HubTables). a.retained.messages) ready in
-    let kept : HubKeeps h.config h.next_key r =
-    kept_by h.config h.next_key t r c.self.invariant rows retained c.reserve_session.ensures.tenants c.reserve_session.ensures.lines c.reserve_session.ensures.limits in
-    let none : up_on key r.lines.lines ≡ None =
-    ap (λ (xs : List Line). up_on key xs) c.reserve_session.ensures.lines
-    ∙ sym (up_seen key t.sessions.tenants t.lines.lines) ∙ ap (λ (s : HubState). up_on key s.lines) c.self.view_is ∙ c.requires.away in
+    let kept : HubInvariant h.config h.next_key r =
+    kept_by h.config h.next_key t r c.self.invariant rows retained c.reserve_session.ensures.tenants c.reserve_session.ensures.connections c.reserve_session.ensures.limits in
+    let none : up_on key r.connections.connections ≡ None =
+    ap (λ (xs : List HubConnection). up_on key xs) c.reserve_session.ensures.connections
+    ∙ sym (up_seen key t.sessions.tenants t.connections.connections) ∙ ap (λ (s : HubState). up_on key s.connections) c.self.view_is ∙ c.requires.away in
     let gone = c.remove.ensures.rest in
-    let left : HubKeeps h.config h.next_key v =
+    let left : HubInvariant h.config h.next_key v =
     kept_removed key h.config h.next_key r v kept none c.remove.ensures.rows (ap (λ (a : HubTables). a.retained.messages) gone) c.remove.ensures.tenants
-    (ap (λ (a : HubTables). a.lines.lines) gone) (ap (λ (a : HubTables). a.lines.limits) gone) in
-    let at : stage_of k v.lines.lines ≡ Fresh =
-    ap (λ (a : HubTables). stage_of k a.lines.lines) gone ∙ ap (λ (xs : List Line). stage_of k xs) c.reserve_session.ensures.lines
-    ∙ sym (stage_seen k t.sessions.tenants t.lines.lines) ∙ ap (λ (s : HubState). stage_of k s.lines) c.self.view_is ∙ c.requires.fresh in
-    let own : Tenant = c.in_ok-beginning.beginning.seat in
+    (ap (λ (a : HubTables). a.connections.connections) gone) (ap (λ (a : HubTables). a.connections.limits) gone) in
+    let at : stage_of k v.connections.connections ≡ AwaitingConnect =
+    ap (λ (a : HubTables). stage_of k a.connections.connections) gone ∙ ap (λ (xs : List HubConnection). stage_of k xs) c.reserve_session.ensures.connections
+    ∙ sym (stage_seen k t.sessions.tenants t.connections.connections) ∙ ap (λ (s : HubState). stage_of k s.connections) c.self.view_is ∙ c.requires.fresh in
+    let own : BrokerSession = c.in_ok-beginning.beginning.seat in
     let begun = subst (λ (s : HubState). IsBegun c.args.connect c.args.client s own) (sym c.self.view_is) c.in_ok-beginning.ensures.seat in
     let u : HubTables = c.begin.new.self in
     let after = c.begin.ensures.rest in
-    let lines = c.begin.ensures.lines
-    ∙ ap₂ (λ (n : ℕ) (m : Terms). with_line (λ x. record x { stage = UpFor n m h.clock }) k v.lines.lines) (ap (λ (s : Tenant). s.key) begun.after) c.in_ok-beginning.ensures.terms in
+    let connections = c.begin.ensures.connections
+    ∙ ap₂ (λ (n : ℕ) (m : ConnectionTerms). with_connection (λ x. record x { stage = ConnectedAs n m h.clock }) k v.connections.connections) (ap (λ (s : BrokerSession). s.key) begun.after) c.in_ok-beginning.ensures.terms in
     let did = c.args.doings.now.acts in
     let middle = c.say.new.self.acts in
     let a : HubState = c.args.self.now in
     let b : HubState = hub_of h.config h.clock h.next_key v in
     let d : HubState = hub_of h.config h.clock (h.next_key + 1) u in
-    let first : GoesBy (remove key) a did b middle =
+    let first : Refines (remove key) a did b middle =
     goes_removed key a b did middle
     (hub_removed key h.config h.next_key r v kept none c.remove.ensures.rows (ap (λ (s : HubTables). s.retained.messages) gone) c.remove.ensures.tenants
-    (ap (λ (s : HubTables). s.lines.lines) gone) h.clock
+    (ap (λ (s : HubTables). s.connections.connections) gone) h.clock
     ∙ ap (λ (s : HubState). record s { rows = without_client key s.rows; sessions = without_session key s.sessions })
-    (hub_same h.config h.clock h.next_key t r rows retained c.reserve_session.ensures.tenants c.reserve_session.ensures.lines ∙ c.self.view_is))
+    (hub_same h.config h.clock h.next_key t r rows retained c.reserve_session.ensures.tenants c.reserve_session.ensures.connections ∙ c.self.view_is))
     c.say.ensures.acts in
-    let second : GoesBy (greet_new k c.args.connect c.args.client) b middle d (middle ++ acts.Up k h.next_key false ∷ []) =
+    let second : Refines (start_session k c.args.connect c.args.client) b middle d (middle ++ acts.Up k h.next_key false ∷ []) =
     goes_begun k c.args.connect c.args.client c.requires.named h.config h.clock h.next_key v u left at own begun.end begun.after begun.fresh
-    (ap (λ (a : HubTables). a.rows) after) (ap (λ (a : HubTables). a.retained.messages) after) c.begin.ensures.tenants lines middle in
+    (ap (λ (a : HubTables). a.rows) after) (ap (λ (a : HubTables). a.retained.messages) after) c.begin.ensures.tenants connections middle in
     let next = ap (λ (s : HubState). s.next_key) c.self.view_is ∙ sym c.next_key-next.ensures in
-    subst (λ (says : List Act). GoesBy (λ w. greet_new k c.args.connect c.args.client (remove key w)) a did d says)
+    subst (λ (says : List Act). Refines (λ w. start_session k c.args.connect c.args.client (remove key w)) a did d says)
     (ap (λ (n : ℕ). middle ++ acts.Up k n false ∷ []) next ∙ sym c.say-2.ensures.acts)
-    (goes_then (remove key) (greet_new k c.args.connect c.args.client) a b d did middle (middle ++ acts.Up k h.next_key false ∷ []) first second)
+    (goes_then (remove key) (start_session k c.args.connect c.args.client) a b d did middle (middle ++ acts.Up k h.next_key false ∷ []) first second)

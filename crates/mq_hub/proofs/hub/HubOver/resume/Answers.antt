@@ -4,8 +4,8 @@ use Rattle.mq_hub.proofs.Admitting.{goes_renewed, goes_resumed, stands_by}
 use Rattle.mq_hub.proofs.Fronting.{ok_by}
 use Rattle.mq_hub.proofs.hub.HubOver.resume.Goals as goal
 
-pub greet-requires-clause-stands : goal.greet-requires-clause-stands
-greet-requires-clause-stands g c = stands_by c.args.client c.args.key c.args.self.now.sessions c.requires.stands
+pub resume_session-requires-clause-stands : goal.resume_session-requires-clause-stands
+resume_session-requires-clause-stands g c = stands_by c.args.client c.args.key c.args.self.now.sessions c.requires.stands
 
 pub returns-then-as_connect-clause-goes : goal.returns-then-as_connect-clause-goes
 returns-then-as_connect-clause-goes g c =
@@ -17,6 +17,6 @@ returns-then-as_connect-clause-goes g c =
 pub returns-else-as_connect-clause-goes : goal.returns-else-as_connect-clause-goes
 returns-else-as_connect-clause-goes g c =
     let going = sym (ap (λ (x : Connect). x.clean_session) c.as_connect.ensures) ∙ c.if-as_connect.false in
-    ok_by c.greet.result
-    (λ q fits. goes_resumed c.args.conn c.args.connect fits c.args.self.now c.greet.new.self c.args.doings.now.acts c.greet.new.doings.acts c.args.client c.args.key c.requires.away going q)
-    c.greet.ensures.goes
+    ok_by c.resume_session.result
+    (λ q fits. goes_resumed c.args.conn c.args.connect fits c.args.self.now c.resume_session.new.self c.args.doings.now.acts c.resume_session.new.doings.acts c.args.client c.args.key c.requires.away going q)
+    c.resume_session.ensures.goes

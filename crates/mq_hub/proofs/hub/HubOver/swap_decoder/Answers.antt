@@ -9,7 +9,7 @@ use Rattle.mq_hub.proofs.hub.HubOver.swap_decoder.Goals as goal
 pub swap_decoder-requires-clause-known : goal.swap_decoder-requires-clause-known
 swap_decoder-requires-clause-known g c =
     let t : HubTables = c.self.inside.tables in
-    sym (knows_seen c.args.conn t.sessions.tenants t.lines.lines) ∙ ap (λ (h : HubState). knows c.args.conn h.lines) c.self.view_is ∙ c.requires.known
+    sym (knows_seen c.args.conn t.sessions.tenants t.connections.connections) ∙ ap (λ (h : HubState). knows c.args.conn h.connections) c.self.view_is ∙ c.requires.known
 
 pub invariant_of-self : goal.invariant_of-self
 invariant_of-self g c =
@@ -21,7 +21,7 @@ invariant_of-self g c =
     let rest = c.swap_decoder.ensures.rest in
     kept_alike (changed (holds b) k) (stays_on k (holds b) (holds_stays b)) h.config h.next_key t u (ap (λ (v : HubTables). v.rows) rest)
     (ap (λ (v : HubTables). v.retained.messages) rest) (ap (λ (v : HubTables). v.sessions.tenants) rest)
-    c.swap_decoder.ensures.lines c.self.invariant c.swap_decoder.ensures.limits
+    c.swap_decoder.ensures.connections c.self.invariant c.swap_decoder.ensures.limits
 
 pub returns-clause-hub : goal.returns-clause-hub
 returns-clause-hub g c =
@@ -33,11 +33,11 @@ returns-clause-hub g c =
     let rest = c.swap_decoder.ensures.rest in
     hub_alike (changed (holds b) k) (stays_on k (holds b) (holds_stays b)) h.config h.next_key t u (ap (λ (v : HubTables). v.rows) rest)
     (ap (λ (v : HubTables). v.retained.messages) rest) (ap (λ (v : HubTables). v.sessions.tenants) rest)
-    c.swap_decoder.ensures.lines h.clock
+    c.swap_decoder.ensures.connections h.clock
     ∙ ap (with_held k b) c.self.view_is
 
 pub returns-clause-held : goal.returns-clause-held
 returns-clause-held g c =
     let t : HubTables = c.self.inside.tables in
-    c.swap_decoder.ensures.held ∙ sym (held_seen c.args.conn t.sessions.tenants t.lines.lines)
-    ∙ ap (λ (h : HubState). held_on c.args.conn h.lines) c.self.view_is
+    c.swap_decoder.ensures.held ∙ sym (held_seen c.args.conn t.sessions.tenants t.connections.connections)
+    ∙ ap (λ (h : HubState). held_on c.args.conn h.connections) c.self.view_is

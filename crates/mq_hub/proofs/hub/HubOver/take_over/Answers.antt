@@ -9,24 +9,24 @@ use Rattle.mq_hub.proofs.hub.HubOver.take_over.Goals as goal
 pub returns-then-begins_anew-clause-goes : goal.returns-then-begins_anew-clause-goes
 returns-then-begins_anew-clause-goes g c =
     let other = c.in-Some.other in
-    let anew = ap (λ (x : Connect). x.clean_session || is_clean (stage_of other c.args.self.now.lines)) (sym c.as_connect.ensures) ∙ sym c.begins_anew.ensures
+    let anew = ap (λ (x : Connect). x.clean_session || is_clean (stage_of other c.args.self.now.connections)) (sym c.as_connect.ensures) ∙ sym c.begins_anew.ensures
     ∙ c.if-begins_anew.true in
-    ok_by c.begin_over.result
+    ok_by c.take_over_and_replace.result
     (λ goes. (
       goes.0,
-      goes_admitted c.args.conn c.args.connect c.args.client c.args.key other goes.0 c.args.self.now (sym c.up_on.ensures.conn ∙ c.in-Some.is) c.begin_over.new.self
-          c.args.doings.now.acts c.begin_over.new.doings.acts anew goes.1,
-    )) c.begin_over.ensures.goes
+      goes_admitted c.args.conn c.args.connect c.args.client c.args.key other goes.0 c.args.self.now (sym c.up_on.ensures.conn ∙ c.in-Some.is) c.take_over_and_replace.new.self
+          c.args.doings.now.acts c.take_over_and_replace.new.doings.acts anew goes.1,
+    )) c.take_over_and_replace.ensures.goes
 
 pub returns-else-begins_anew-clause-goes : goal.returns-else-begins_anew-clause-goes
 returns-else-begins_anew-clause-goes g c =
     let other = c.in-Some.other in
-    let still = or_parts c.args.connect.clean_session (is_clean (stage_of other c.args.self.now.lines))
-    (ap (λ (x : Connect). x.clean_session || is_clean (stage_of other c.args.self.now.lines)) (sym c.as_connect.ensures) ∙ sym c.begins_anew.ensures
+    let still = or_parts c.args.connect.clean_session (is_clean (stage_of other c.args.self.now.connections))
+    (ap (λ (x : Connect). x.clean_session || is_clean (stage_of other c.args.self.now.connections)) (sym c.as_connect.ensures) ∙ sym c.begins_anew.ensures
     ∙ c.if-begins_anew.false) in
-    ok_by c.greet_over.result
+    ok_by c.take_over_and_resume.result
     (λ goes. (
       goes.0,
-      goes_on_admitted c.args.conn c.args.connect c.args.client c.args.key other goes.0 c.args.self.now (sym c.up_on.ensures.conn ∙ c.in-Some.is) c.greet_over.new.self
-          c.args.doings.now.acts c.greet_over.new.doings.acts still.1 still.0 goes.1,
-    )) c.greet_over.ensures.goes
+      goes_on_admitted c.args.conn c.args.connect c.args.client c.args.key other goes.0 c.args.self.now (sym c.up_on.ensures.conn ∙ c.in-Some.is) c.take_over_and_resume.new.self
+          c.args.doings.now.acts c.take_over_and_resume.new.doings.acts still.1 still.0 goes.1,
+    )) c.take_over_and_resume.ensures.goes

@@ -7,13 +7,13 @@ use Rattle.mq_hub.proofs.Staying.{goes_shut}
 use Rattle.mq_hub.proofs.hub.HubOver.take_publish.Goals as goal
 
 pub reception-requires : goal.reception-requires
-reception-requires g c = up_by c.args.conn c.args.key c.args.self.now.lines c.requires.up
+reception-requires g c = up_by c.args.conn c.args.key c.args.self.now.connections c.requires.up
 
 pub take_handed-requires-clause-up : goal.take_handed-requires-clause-up
-take_handed-requires-clause-up g c = up_by c.args.conn c.args.key c.args.self.now.lines c.requires.up
+take_handed-requires-clause-up g c = up_by c.args.conn c.args.key c.args.self.now.connections c.requires.up
 
 pub take_silent-requires-clause-up : goal.take_silent-requires-clause-up
-take_silent-requires-clause-up g c = up_by c.args.conn c.args.key c.args.self.now.lines c.requires.up
+take_silent-requires-clause-up g c = up_by c.args.conn c.args.key c.args.self.now.connections c.requires.up
 
 pub returns-in-Unfit-clause-goes : goal.returns-in-Unfit-clause-goes
 returns-in-Unfit-clause-goes g c = (

@@ -2,7 +2,7 @@ use Rattle.std.proofs.Common.{◌≡◌, ◌∙◌, None, sym, subst}
 use Rattle.mq_end.specs.Server.{server_gets}
 use Rattle.mq_route.specs.Hub.{HubState, end_of}
 use Rattle.mq_route.specs.Work.{does}
-use Rattle.mq_hub.specs.Does.{GoesBy}
+use Rattle.mq_hub.specs.Does.{Refines}
 use Rattle.mq_hub.specs.Seen.{HubTables, hub_of}
 use Rattle.mq_hub.proofs.Rerooming.{hub_alike, kept_alike}
 use Rattle.mq_hub.proofs.Granting.{can_take, either, err_so, ok_both, on_seen}
@@ -34,7 +34,7 @@ returns-clause-goes g c =
     let on = on_seen h.config h.clock h.next_key h.tables c.args.self.now key c.self.view_is c.requires.up in
     ok_both c.take.result c.take.ensures.ok c.take.ensures.ok
     (λ a same conn fits said. silent_goes conn key p fits c.args.self.now (hub_of h.config h.clock h.next_key u) said said c.requires.stays c.requires.silent
-    (subst (λ (s : HubState). GoesBy (does key (server_gets p)) s said (hub_of h.config h.clock h.next_key u) said) c.self.view_is
+    (subst (λ (s : HubState). Refines (does key (server_gets p)) s said (hub_of h.config h.clock h.next_key u) said) c.self.view_is
     (taken_goes h.config h.next_key key h.tables u c.self.invariant on.conn on.is h.clock p a h.clock said)))
 
 pub returns-clause-err : goal.returns-clause-err

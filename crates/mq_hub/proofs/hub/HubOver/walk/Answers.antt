@@ -23,8 +23,8 @@ loop-conn-preserved g c =
 
 pub swap_decoder-requires-clause-known : goal.swap_decoder-requires-clause-known
 swap_decoder-requires-clause-known g c =
-    ap (λ (h : HubState). knows c.args.conn h.lines) c.in-Waits.ensures.next.1
-    ∙ open_known c.args.conn c.loop-conn.self.lines (sym c.is_open_near.ensures ∙ c.loop-conn-test.true)
+    ap (λ (h : HubState). knows c.args.conn h.connections) c.in-Waits.ensures.next.1
+    ∙ open_known c.args.conn c.loop-conn.self.connections (sym c.is_open_near.ensures ∙ c.loop-conn-test.true)
 
 pub returns-in-Waits : goal.returns-in-Waits
 returns-in-Waits g c =

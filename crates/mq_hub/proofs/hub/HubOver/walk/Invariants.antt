@@ -8,7 +8,7 @@ invariant-loop-conn g l = record {
   within : l.used ≤ length l.piece;
   reading : (l.decoder.limit ≡ l.fn.self.config.limits) × (l.decoder.failed ≡ None);
   config : l.self.config ≡ l.fn.self.config;
-  room : is_open (stage_of l.conn l.self.lines) ≡ true → 3 ≤ l.doings.room;
+  room : is_open (stage_of l.conn l.self.connections) ≡ true → 3 ≤ l.doings.room;
   leads : LeadsOn l.fn.self.config.limits l.conn (l.fn.decoder.held ++ l.piece) l.fn.self l.fn.doings.acts
       (l.decoder.held ++ drop l.used l.piece) l.self l.doings.acts;
 }

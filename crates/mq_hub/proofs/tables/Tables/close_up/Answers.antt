@@ -1,6 +1,6 @@
 use Rattle.std.proofs.Common.{◌∙◌, ap}
 use Rattle.mq_route.specs.Hub.{up_on}
-use Rattle.mq_hub.specs.Lines.{LineTable}
+use Rattle.mq_hub.specs.Connections.{LineTable}
 use Rattle.mq_hub.proofs.Proceeding.{hubs_after, proceeds_closed, will_after_close}
 use Rattle.mq_hub.proofs.tables.Tables.close_up.Goals as goal
 
@@ -20,7 +20,7 @@ returns-clause-proceeds g c =
     c.last_will.ensures.spares
 
 pub returns-clause-away : goal.returns-clause-away
-returns-clause-away g c = ap (λ (l : LineTable). up_on c.args.key l.lines) c.last_will.ensures.spares.lines ∙ c.leave-will.ensures.away
+returns-clause-away g c = ap (λ (l : LineTable). up_on c.args.key l.connections) c.last_will.ensures.spares.connections ∙ c.leave-will.ensures.away
 
 pub returns-clause-clients : goal.returns-clause-clients
 returns-clause-clients g c = λ lasts n. c.last_will.ensures.spares.clients n ∙ c.leave-will.ensures.clients lasts n

@@ -1,10 +1,10 @@
 use Rattle.std.proofs.Common.{◌∙◌, sym, ap}
 use Rattle.mq_route.specs.Hub.{is_clean, stage_of}
 use Rattle.mq_hub.specs.Seen.{HubTables}
-use Rattle.mq_hub.proofs.Connections.{unknown_shut}
+use Rattle.mq_hub.proofs.ConnectionTable.{unknown_shut}
 use Rattle.mq_hub.proofs.tables.Tables.is_clean.Goals as goal
 
-pub returns-in-Some-Fresh-3 : goal.returns-in-Some-Fresh-3
-returns-in-Some-Fresh-3 g c =
-    ap is_clean (sym (unknown_shut c.args.conn c.self.inside.lines.lines (sym c.in-Some-Fresh.ensures.known)))
-    ∙ ap (λ (t : HubTables). is_clean (stage_of c.args.conn t.lines.lines)) c.self.view_is
+pub returns-in-Some-AwaitingConnect-3 : goal.returns-in-Some-AwaitingConnect-3
+returns-in-Some-AwaitingConnect-3 g c =
+    ap is_clean (sym (unknown_shut c.args.conn c.self.inside.connections.connections (sym c.in-Some-AwaitingConnect.ensures.known)))
+    ∙ ap (λ (t : HubTables). is_clean (stage_of c.args.conn t.connections.connections)) c.self.view_is

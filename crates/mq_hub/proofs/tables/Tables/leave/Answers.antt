@@ -5,10 +5,10 @@ use Rattle.mq_hub.proofs.tables.Tables.leave.Goals as goal
 
 pub returns-then-is_clean-clause-proceeds : goal.returns-then-is_clean-clause-proceeds
 returns-then-is_clean-clause-proceeds g c =
-    subst (λ (b : Bool). Proceeds (λ fits. parts c.args.conn c.args.why c.args.key b) c.args.self.now c.args.doings.now.acts c.leave_for_good.new.self
-    c.leave_for_good.new.doings.acts) (sym c.if-is_clean.true ∙ c.is_clean.ensures) c.leave_for_good.ensures.proceeds
+    subst (λ (b : Bool). Proceeds (λ fits. parts c.args.conn c.args.why c.args.key b) c.args.self.now c.args.doings.now.acts c.end_session.new.self
+    c.end_session.new.doings.acts) (sym c.if-is_clean.true ∙ c.is_clean.ensures) c.end_session.ensures.proceeds
 
 pub returns-else-is_clean-clause-proceeds : goal.returns-else-is_clean-clause-proceeds
 returns-else-is_clean-clause-proceeds g c =
-    subst (λ (b : Bool). Proceeds (λ fits. parts c.args.conn c.args.why c.args.key b) c.args.self.now c.args.doings.now.acts c.leave_for_now.new.self
-    c.leave_for_now.new.doings.acts) (sym c.if-is_clean.false ∙ c.is_clean.ensures) c.leave_for_now.ensures.proceeds
+    subst (λ (b : Bool). Proceeds (λ fits. parts c.args.conn c.args.why c.args.key b) c.args.self.now c.args.doings.now.acts c.disconnect_session.new.self
+    c.disconnect_session.new.doings.acts) (sym c.if-is_clean.false ∙ c.is_clean.ensures) c.disconnect_session.ensures.proceeds

@@ -1,7 +1,7 @@
 use Rattle.std.proofs.Common.{◌∙◌, sym, ap, subst}
 use Rattle.mq_end.specs.End.{End, is_up}
 use Rattle.mq_route.specs.Hub.{end_of}
-use Rattle.mq_hub.specs.declared.session.Tenant.{Tenant}
+use Rattle.mq_hub.specs.declared.sessions.session.BrokerSession.{BrokerSession}
 use Rattle.mq_hub.specs.Receiving.{CanReceive, IsReceived}
 use Rattle.mq_hub.specs.Seen.{HubTables}
 use Rattle.mq_hub.specs.Sessions.{sessions_of}
@@ -14,19 +14,19 @@ pub reception_at-requires-clause-up : goal.reception_at-requires-clause-up
 reception_at-requires-clause-up g c =
     let can = subst (λ (v : HubTables). CanReceive c.args.key c.args.window v.sessions.tenants) (sym c.self.view_is) c.requires in
     let is = some_same (sym can.there ∙ sym c.in-Some.ensures) in
-    ap (λ (t : Tenant). is_up t.end.end.state) (sym is) ∙ can.up
+    ap (λ (t : BrokerSession). is_up t.end.end.state) (sym is) ∙ can.up
 
 pub reception_at-requires-clause-known : goal.reception_at-requires-clause-known
 reception_at-requires-clause-known g c =
     let can = subst (λ (v : HubTables). CanReceive c.args.key c.args.window v.sessions.tenants) (sym c.self.view_is) c.requires in
     let is = some_same (sym can.there ∙ sym c.in-Some.ensures) in
-    ap (λ (t : Tenant). t.end.end.known) (sym is) ∙ can.known
+    ap (λ (t : BrokerSession). t.end.end.known) (sym is) ∙ can.known
 
 pub reception_at-requires-clause-window : goal.reception_at-requires-clause-window
 reception_at-requires-clause-window g c =
     let can = subst (λ (v : HubTables). CanReceive c.args.key c.args.window v.sessions.tenants) (sym c.self.view_is) c.requires in
     let is = some_same (sym can.there ∙ sym c.in-Some.ensures) in
-    ap (λ (t : Tenant). t.end.end.window) (sym is) ∙ can.window
+    ap (λ (t : BrokerSession). t.end.end.window) (sym is) ∙ can.window
 
 pub returns-in-Some : goal.returns-in-Some
 returns-in-Some g c =

@@ -3,11 +3,11 @@ use Rattle.std.specs.declared.alloc.AllocError.{AllocError}
 use Rattle.mq_packet.specs.declared.message.Message.{Message}
 use Rattle.mq_packet.specs.declared.packet.Request.{Request}
 use Rattle.mq_packet.specs.declared.packet.SubAckCode.{SubAckCode}
-use Rattle.mq_end.specs.declared.outcome.Outcome.{Outcome}
+use Rattle.mq_end.specs.declared.packet_outcome.PacketOutcome.{PacketOutcome}
 use Rattle.mq_route.specs.Arrives.{granted}
 use Rattle.mq_route.specs.Hub.{for_key}
 use Rattle.mq_route.specs.Work.{retained_copies}
-use Rattle.mq_hub.specs.declared.call.Call.TheVariants.{Grants}
+use Rattle.mq_hub.specs.declared.sessions.call.Call.TheVariants.{Grants}
 use Rattle.mq_hub.specs.Calls.{CanServe, ServesAt}
 use Rattle.mq_hub.specs.Placing.{AreSameButRoom, HasSessions, IsFor, IsReadyAt}
 use Rattle.mq_hub.specs.Seen.{HubTables}
@@ -94,18 +94,18 @@ returns-clause-done g c = λ done.
         rows = g.S.FilterStore.rows c.set_rows.new.store;
         retained = c.self.inside.retained;
         sessions = c.serve.new.self;
-        lines = c.self.inside.lines;
+        connections = c.self.inside.connections;
       };
       answers = record {
         ready = ready;
         same = subst (λ (v : HubTables). AreSameButRoom v.sessions.tenants ready) c.self.view_is c.make_room_for.ensures.same;
         outcome = ok.0;
-        serves = subst (λ (r : Result Outcome AllocError). ServesAt key (Grants c.args.id (granted c.args.requests)) r ready c.serve.new.self.tenants) ok.1
+        serves = subst (λ (r : Result PacketOutcome AllocError). ServesAt key (Grants c.args.id (granted c.args.requests)) r ready c.serve.new.self.tenants) ok.1
             (subst (λ (cs : List SubAckCode). ServesAt key (Grants c.args.id cs) c.serve.result ready c.serve.new.self.tenants) codes c.serve.ensures.serves);
         rows = c.in_ok-set_rows.ensures.ok ∙ ap (λ (rs : List Request). with_rows key rs (g.S.FilterStore.rows c.self.inside.store)) sliced-5
             ∙ ap (λ (v : HubTables). with_rows key c.args.requests v.rows) c.self.view_is;
         retained = ap (λ (v : HubTables). v.retained) c.self.view_is;
-        lines = ap (λ (v : HubTables). v.lines) c.self.view_is;
+        connections = ap (λ (v : HubTables). v.connections) c.self.view_is;
       };
       messages = c.in_ok-messages.messages.items;
       due = c.in_ok-messages.ensures key ∙ ap (λ (rs : List Request). retained_copies key rs c.self.inside.retained.messages) sliced
@@ -114,5 +114,5 @@ returns-clause-done g c = λ done.
       tenants = c.place_for.ensures.tenants;
       rows = refl;
       retained = refl;
-      lines = refl;
+      connections = refl;
     }

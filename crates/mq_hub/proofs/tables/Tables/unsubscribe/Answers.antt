@@ -1,7 +1,7 @@
 use Rattle.std.proofs.Common.{◌∙◌, ℕ, [], List, Result, refl, sym, ap, subst, arith}
 use Rattle.std.specs.declared.alloc.AllocError.{AllocError}
-use Rattle.mq_end.specs.declared.outcome.Outcome.{Outcome}
-use Rattle.mq_hub.specs.declared.call.Call.TheVariants.{Drops}
+use Rattle.mq_end.specs.declared.packet_outcome.PacketOutcome.{PacketOutcome}
+use Rattle.mq_hub.specs.declared.sessions.call.Call.TheVariants.{Drops}
 use Rattle.mq_hub.specs.Calls.{CanServe, ServesAt}
 use Rattle.mq_hub.specs.Placing.{AreSameButRoom}
 use Rattle.mq_hub.specs.Seen.{HubTables}
@@ -24,9 +24,9 @@ returns-clause-ok g c =
       ready = ready;
       same = subst (λ (v : HubTables). AreSameButRoom v.sessions.tenants ready) c.self.view_is c.make_bytes.ensures.same;
       outcome = ok.0;
-      serves = subst (λ (r : Result Outcome AllocError). ServesAt key (Drops c.args.id) r ready c.serve.new.self.tenants) ok.1 c.serve.ensures.serves;
+      serves = subst (λ (r : Result PacketOutcome AllocError). ServesAt key (Drops c.args.id) r ready c.serve.new.self.tenants) ok.1 c.serve.ensures.serves;
       rows = c.remove_rows.ensures.rows ∙ ap (λ (fs : List (List ℕ)). without_rows key fs (g.S.FilterStore.rows c.self.inside.store)) c.into_vec-filters.ensures
           ∙ ap (λ (v : HubTables). without_rows key c.args.filters v.rows) c.self.view_is;
       retained = ap (λ (v : HubTables). v.retained) c.self.view_is;
-      lines = ap (λ (v : HubTables). v.lines) c.self.view_is;
+      connections = ap (λ (v : HubTables). v.connections) c.self.view_is;
     }

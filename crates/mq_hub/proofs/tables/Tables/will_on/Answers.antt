@@ -3,15 +3,15 @@ use Rattle.mq_route.specs.declared.close.HubClose.TheVariants.{TakenOver}
 use Rattle.mq_route.specs.Hub.{stage_of}
 use Rattle.mq_hub.specs.Leaving.{will_left}
 use Rattle.mq_hub.specs.Seen.{HubTables}
-use Rattle.mq_hub.proofs.Connections.{unknown_shut}
+use Rattle.mq_hub.proofs.ConnectionTable.{unknown_shut}
 use Rattle.mq_hub.proofs.tables.Tables.will_on.Goals as goal
 
 pub returns-in-Some : goal.returns-in-Some
 returns-in-Some g c =
-    c.will_of.ensures ∙ ap (will_left TakenOver) c.in-Some.ensures.stage ∙ ap (λ (t : HubTables). will_left TakenOver (stage_of c.args.conn t.lines.lines))
+    c.will_of.ensures ∙ ap (will_left TakenOver) c.in-Some.ensures.stage ∙ ap (λ (t : HubTables). will_left TakenOver (stage_of c.args.conn t.connections.connections))
     c.self.view_is
 
 pub returns-in-None : goal.returns-in-None
 returns-in-None g c =
-    ap (will_left TakenOver) (sym (unknown_shut c.args.conn c.self.inside.lines.lines (sym c.in-None.ensures.known)))
-    ∙ ap (λ (t : HubTables). will_left TakenOver (stage_of c.args.conn t.lines.lines)) c.self.view_is
+    ap (will_left TakenOver) (sym (unknown_shut c.args.conn c.self.inside.connections.connections (sym c.in-None.ensures.known)))
+    ∙ ap (λ (t : HubTables). will_left TakenOver (stage_of c.args.conn t.connections.connections)) c.self.view_is

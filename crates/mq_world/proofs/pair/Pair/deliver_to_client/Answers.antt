@@ -34,7 +34,7 @@ returns-clause-delivered c = λ limit capacity m s.
     (c.is_lost-lost.ensures ∙ (λ i. not ((c.is_live-live.ensures ∙ ap is_live c.state.ensures) i) && nat_lt 0 (length (c.as_slice-2.ensures i))))
     c.receive-progress.ensures.open
     (λ off. ap (λ (z : ClientState). z.link) (c.receive-progress.ensures.closed off)) c.receive-progress.ensures.nothing
-    (λ on. record { clock = refl; moment = c.receive-progress.ensures.moment }) (c.receive-progress.ensures.limit, c.receive-progress.ensures.capacity)
+    (λ on. record { clock = refl; last_activity = c.receive-progress.ensures.last_activity }) (c.receive-progress.ensures.limit, c.receive-progress.ensures.capacity)
     (ap (λ (z : ClientState). z.link) c.take_all_output-output.ensures.left) refl
     (c.cut_off.ensures ∙ ap (left_on c.receive-progress.result.closed) c.in_ok-bytes.ensures.left)
     c.in_ok-tell.ensures.accepted c.in_ok-tell.ensures.handed c.in_ok-tell.ensures.freed

@@ -21,7 +21,7 @@ returns-in-Client-clause-does c = λ limit capacity m s.
     (ap (λ (r : Room). r.bytes) c.dropped.ensures.room ∙ s.carries.client.reserved) c.clear.ensures) in
     let lost = lost_at c.over_bytes.ensures limit capacity Client w v c.is_live-was_open.result new
     (c.is_live-was_open.ensures ∙ ap is_live c.state.ensures) c.dropped.ensures.end
-    (c.dropped.ensures.limit, c.dropped.ensures.capacity) c.dropped.ensures.moment e in
+    (c.dropped.ensures.limit, c.dropped.ensures.capacity) c.dropped.ensures.last_activity e in
     (sym c.in-Client.is, subst (λ (side : Side). IsLost limit capacity side c.is_live-was_open.result w v) (sym c.in-Client.is) lost)
 
 pub returns-in-Server-clause-does : goal.returns-in-Server-clause-does
@@ -35,5 +35,5 @@ returns-in-Server-clause-does c = λ limit capacity m s.
     (ap (λ (r : Room). r.bytes) c.dropped-in-Server.ensures.room ∙ s.carries.server.reserved) c.clear-in-Server.ensures) in
     let lost = lost_at c.over_bytes.ensures limit capacity Server w v c.is_live-was_open-in-Server.result new
     (c.is_live-was_open-in-Server.ensures ∙ ap is_live c.state-in-Server.ensures) c.dropped-in-Server.ensures.end
-    (c.dropped-in-Server.ensures.limit, c.dropped-in-Server.ensures.capacity) c.dropped-in-Server.ensures.moment e in
+    (c.dropped-in-Server.ensures.limit, c.dropped-in-Server.ensures.capacity) c.dropped-in-Server.ensures.last_activity e in
     (sym c.in-Server.is, subst (λ (side : Side). IsLost limit capacity side c.is_live-was_open-in-Server.result w v) (sym c.in-Server.is) lost)

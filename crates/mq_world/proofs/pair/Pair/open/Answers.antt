@@ -35,7 +35,7 @@ returns-then-is_err-clause-opened c = λ limit capacity m s.
     (c.dropped.ensures.end ∙ ap (λ (z : ClientState). over z.link.end) same)
     (c.dropped.ensures.limit ∙ ap (λ (z : ClientState). z.link.limit) same, c.dropped.ensures.capacity ∙ ap (λ (z : ClientState). z.link.capacity) same)
     c.dropped-then-is_err.ensures.end (c.dropped-then-is_err.ensures.limit, c.dropped-then-is_err.ensures.capacity)
-    (c.dropped.ensures.moment ∙ ap (λ (z : ClientState). z.link.moment) same) c.dropped-then-is_err.ensures.moment (λ i. record { client = x i; server = y i })
+    (c.dropped.ensures.last_activity ∙ ap (λ (z : ClientState). z.link.last_activity) same) c.dropped-then-is_err.ensures.last_activity (λ i. record { client = x i; server = y i })
 
 pub returns-clause-opened : goal.returns-clause-opened
 returns-clause-opened c = λ limit capacity m s.
@@ -53,13 +53,13 @@ returns-clause-opened c = λ limit capacity m s.
     let ce = on_ok c.connect.result (a.end ≡ (connects first old.end).end) c.if-is_err.ensures.value c.connect.ensures.end in
     let co = on_ok c.connect.result (PutsOut (packets.Connect first ∷ []) [] a.output) c.if-is_err.ensures.value c.connect.ensures.output in
     let ch = on_ok c.connect.result (a.held ≡ []) c.if-is_err.ensures.value c.connect.ensures.held in
-    let cm = on_ok c.connect.result (a.moment ≡ w.client.clock) c.if-is_err.ensures.value c.connect.ensures.moment in
+    let cm = on_ok c.connect.result (a.last_activity ≡ w.client.clock) c.if-is_err.ensures.value c.connect.ensures.last_activity in
     opened_at c.over_bytes.ensures limit capacity w v o a b (c.is_live-client_dropped.ensures ∙ ap is_live c.state.ensures)
     (c.is_live-server_dropped.ensures ∙ ap is_live c.state-2.ensures) refl
     (ce ∙ ap (λ (z : Connect). (connects z old.end).end) c.requires.config)
     (subst (λ (z : Connect). PutsOut (packets.Connect z ∷ []) [] a.output) c.requires.config co) ch
     (c.connect.ensures.limit, c.connect.ensures.capacity) c.opened.ensures.end c.opened.ensures.held
-    (c.opened.ensures.limit, c.opened.ensures.capacity) cm c.opened.ensures.moment
+    (c.opened.ensures.limit, c.opened.ensures.capacity) cm c.opened.ensures.last_activity
     (λ i. record {
       client = record w.client { state = ap (λ (z : ClientState). z.link) c.take_all_output.ensures.left i; wire = c.clear.ensures i };
       server = record w.server {

@@ -16,13 +16,13 @@ pub returns-in_default-clause-does : goal.returns-in_default-clause-does
 returns-in_default-clause-does c = λ limit capacity m s.
     not_restarted_at c.over_bytes.ensures limit capacity (wired_of c.args.self.now) m c.is_live-was_open.result c.dropped.new.self.link
     c.clear.new.self s (c.is_live-was_open.ensures ∙ ap is_live c.state.ensures) c.dropped.ensures.end
-    (c.dropped.ensures.limit, c.dropped.ensures.capacity) c.dropped.ensures.moment c.dropped.ensures.output c.dropped.ensures.room c.clear.ensures
+    (c.dropped.ensures.limit, c.dropped.ensures.capacity) c.dropped.ensures.last_activity c.dropped.ensures.output c.dropped.ensures.room c.clear.ensures
 
 pub returns-in_default-made_anew-clause-does : goal.returns-in_default-made_anew-clause-does
 returns-in_default-made_anew-clause-does c = λ limit capacity m s.
     not_restarted_at c.over_bytes.ensures limit capacity (wired_of c.args.self.now) m c.is_live-was_open.result c.dropped.new.self.link
     c.clear.new.self s (c.is_live-was_open.ensures ∙ ap is_live c.state.ensures) c.dropped.ensures.end
-    (c.dropped.ensures.limit, c.dropped.ensures.capacity) c.dropped.ensures.moment c.dropped.ensures.output c.dropped.ensures.room c.clear.ensures
+    (c.dropped.ensures.limit, c.dropped.ensures.capacity) c.dropped.ensures.last_activity c.dropped.ensures.output c.dropped.ensures.room c.clear.ensures
 
 pub made_anew-requires-clause-saves : goal.made_anew-requires-clause-saves
 made_anew-requires-clause-saves c =

@@ -16,7 +16,7 @@ returns-in_default-clause-does c = λ limit capacity m s.
     let w : Wired = wired_of c.args.self.now in
     let end = ap (λ (z : ClientState). z.link) c.in_default.ensures.err in
     let old : EndState = c.args.self.now.client.link in
-    let due = subst (λ (n : ℕ). pings old.moment n old.end ≡ true) c.saturating_add-self.ensures c.in_default.ensures.memory in (
+    let due = subst (λ (n : ℕ). pings old.last_activity n old.end ≡ true) c.saturating_add-self.ensures c.in_default.ensures.memory in (
       refl,
       record {
         client = refl;

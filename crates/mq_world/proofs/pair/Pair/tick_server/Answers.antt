@@ -16,7 +16,7 @@ returns-clause-does c = λ limit capacity m s.
     let v : Wired = record { client = w.client; server = record w.server { state = new; clock = c.saturating_add-self.result; wire = c.cut_off.new.wire } } in (
       refl,
       told_at c.over_bytes.ensures limit capacity w v c.args.more c.tick-closed.result new
-          (c.tick-closed.ensures.closed ∙ ap (λ (n : ℕ). (server_ticks old.moment n old.end).close) now)
-          (subst (λ (n : ℕ). Acts (server_ticks old.moment n old.end) old new) now c.tick-closed.ensures.state)
+          (c.tick-closed.ensures.closed ∙ ap (λ (n : ℕ). (server_ticks old.last_activity n old.end).close) now)
+          (subst (λ (n : ℕ). Acts (server_ticks old.last_activity n old.end) old new) now c.tick-closed.ensures.state)
           (λ i. record { client = w.client; server = record w.server { state = new; clock = now i; wire = c.cut_off.ensures i } }),
     )

@@ -1,0 +1,19 @@
+use Rattle.std.proofs.Common.{Some, inl, inr, refl, ap}
+use Rattle.mq_decode.specs.Views.{packet_of}
+use Rattle.mq_end.specs.declared.reason.CloseReason.TheVariants as reasons
+use Rattle.mq_end.specs.End.{closes}
+use Rattle.mq_end.specs.Receiving.{gets_as}
+use Rattle.mq_end.proofs.Along.{closes_stays}
+use Rattle.mq_end.proofs.endpoint.Endpoint.take_lent_or_close.Goals as goal
+
+pub returns-in-Ok : goal.returns-in-Ok
+returns-in-Ok c = (gets_as c.args.role (packet_of c.args.view.now) c.args.self.now.end, inl refl, c.in-Ok.ensures.closed, c.in-Ok.ensures.ok)
+
+pub returns-in-Err : goal.returns-in-Err
+returns-in-Err c =
+    let old = c.args.self.now in (
+      closes reasons.Memory old.end,
+      inr refl,
+      ap Some c.close.ensures.reason,
+      closes_stays reasons.Memory old c.take_lent.new.self c.close.new.self c.args.told.now c.take_lent.new.told c.in-Err.ensures.err c.close.ensures.state,
+    )

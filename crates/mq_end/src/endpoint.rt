@@ -1,0 +1,192 @@
+//! What both ends have: a session, how far the connection is, and the connection's bytes.
+
+ghost use Rattle.std.specs.Prelude.{◌≡◌, ◌+◌, ◌<◌, ◌≤◌, ◌^◌, ◌++◌, ◌∷◌, [], List, ℕ, length, true, false, IsOk, OnOk, OnErr};
+ghost use Rattle.mq_packet.specs.Encoding.{Encodes, fields};
+ghost use Rattle.mq_flow.specs.Sender.{blank_book, all_sent};
+ghost use Rattle.mq_flow.specs.Receiver.{none_received};
+ghost use Rattle.mq_end.specs.End.{End, blank_end, over, renewed};
+ghost use Rattle.mq_end.specs.Ready.{whole_size};
+ghost use Rattle.mq_end.specs.Server.{opens};
+ghost use Rattle.mq_end.specs.State.{no_bytes, no_room};
+ghost use Rattle.mq_end.specs.declared.state.State.TheVariants as states;
+
+use crate::output::Output;
+use crate::queue::ByteQueue;
+use crate::reason::CloseReason;
+use crate::state::State;
+use mq_decode::{Decoder, Limits};
+use mq_flow::Session;
+use mq_packet::Packet;
+use std::alloc::{AllocError, Global};
+use std::marker::Model;
+use std::mem;
+
+/// An end of a connection, which both ends are made of.
+#[derive(Debug, Drop)]
+pub(crate) struct Endpoint {
+    pub(crate) alloc: Global,
+    pub(crate) session: Session,
+    pub(crate) known: bool,
+    pub(crate) state: State,
+    pub(crate) clean: bool,
+    pub(crate) keep_alive: u16,
+    pub(crate) window: Option<u16>,
+    pub(crate) limits: Limits,
+    pub(crate) last_activity: u64,
+    pub(crate) decoder: Decoder,
+    pub(crate) output: Output,
+}
+
+impl Model for Endpoint {
+    ghost use Rattle.std.specs.Prelude.{◌≡◌, ◌<◌, None};
+    ghost use Rattle.std.specs.Coded.{codes, coded_ℕ};
+    ghost use Rattle.std.specs.FinSet as set;
+    ghost use Rattle.std.specs.Ordering.{nat_cmp};
+    ghost use Rattle.mq_end.specs.State.{EndState};
+
+    ghost Value = { EndState };
+
+    ghost coded = { Prim.hlevel (codes, set.code {R = nat_cmp} coded_ℕ) };
+
+    ghost view = { λ l. record {
+      end = record {
+        book = l.session.sender.book;
+        received = l.session.receiver;
+        last = l.session.sender.last;
+        state = l.state;
+        known = l.known;
+        clean = l.clean;
+        keep_alive = l.keep_alive;
+        window = l.window;
+      };
+      capacity = l.session.sender.capacity;
+      limit = l.limits;
+      held = l.decoder.held;
+      output = l.output.bytes;
+      last_activity = l.last_activity;
+      room = record { messages = l.session.sender.room; bytes = l.output.room };
+    } };
+
+    ghost invariant = { λ l. (l.decoder.limit ≡ l.limits) × (l.decoder.failed ≡ None) };
+}
+
+impl Endpoint {
+    /// An end without a session and without a connection.
+    pub(crate) fn new(alloc: Global, limits: Limits, capacity: u16, window: Option<u16>) -> Endpoint
+        requires { 0 < capacity }
+        ensures { result ≡ record { end = blank_end window; capacity = capacity; limit = limits; held = []; output = []; last_activity = 0; room = no_room } }
+    {
+        Endpoint::with_session(alloc, limits, window, Session::new(alloc, capacity), false)
+    }
+
+    /// The session is discarded (3.1.2.4): it is as new, but for its room, and not known.
+    fn forget(&mut self)
+        ensures { self.new ≡ record self.old { end = record self.old.end { book = blank_book; received = none_received; last = 0; known = false } } }
+    {
+        self.session.discard();
+        self.known = false;
+    }
+
+    /// The connection is over (3.1.2.4). What waits to be written stays.
+    pub(crate) fn end_connection(&mut self)
+        ensures { self.new ≡ record self.old { end = over self.old.end; held = [] } }
+    {
+        if self.clean {
+            self.forget();
+        } else {
+            self.session.sender.free_claims();
+        }
+        self.state = State::Disconnected;
+        self.clean = false;
+        self.decoder.reset();
+    }
+
+    /// The end closes its connection (4.8).
+    pub(crate) fn close(&mut self, reason: CloseReason) -> CloseReason
+        ensures reason { result ≡ reason }
+        ensures state { self.new ≡ record self.old { end = over self.old.end; held = [] } }
+    {
+        self.end_connection();
+        reason
+    }
+
+    /// A connection begins, with clean session or not (3.1.2.4).
+    pub(crate) fn renew(&mut self, clean: bool)
+        ensures { self.new ≡ record self.old { end = renewed clean self.old.end } }
+    {
+        if clean {
+            self.forget();
+        }
+        self.clean = clean;
+    }
+
+    /// The end is up, and all that it holds is sent (4.4).
+    pub(crate) fn connect_end(&mut self)
+        ensures { self.new ≡ record self.old { end = record self.old.end { state = states.Connected; known = true; book = all_sent self.old.end.book } } }
+    {
+        self.session.sender.mark_sent();
+        self.known = true;
+        self.state = State::Connected;
+    }
+
+    /// The connection is lost, and what waits to be written is gone (4.2).
+    pub(crate) fn drop_connection(&mut self)
+        ensures { self.new ≡ record self.old { end = over self.old.end; held = []; output = [] } }
+    {
+        self.end_connection();
+        self.output.clear();
+    }
+
+    /// A connection is opened, at this moment; one that is open is lost first (4.2).
+    pub(crate) fn open_connection(&mut self, now: u64)
+        ensures { self.new ≡ record self.old { end = (opens self.old.end).end; held = []; output = []; last_activity = now } }
+    {
+        self.drop_connection();
+        self.state = State::Connecting;
+        self.last_activity = now;
+    }
+
+    /// A client's connection begins, with this clean session and keep-alive, at this moment; one that is open is over
+    /// first.
+    pub(crate) fn begin(&mut self, clean: bool, keep_alive: u16, now: u64)
+        ensures { self.new ≡ record self.old {
+          end = record (renewed clean (over self.old.end)) { state = states.Connecting; keep_alive = keep_alive };
+          held = [];
+          last_activity = now;
+        } }
+    {
+        self.end_connection();
+        self.renew(clean);
+        self.state = State::Connecting;
+        self.keep_alive = keep_alive;
+        self.last_activity = now;
+    }
+
+    /// All bytes that wait to be written, which it gives away.
+    pub(crate) fn take_all_output(&mut self) -> ByteQueue
+        ensures bytes { result ≡ self.old.output }
+        ensures left { self.new ≡ record self.old { output = []; room = no_bytes self.old.room } }
+    {
+        let output = mem::replace(&mut self.output, Output::new(self.alloc));
+        ByteQueue { output }
+    }
+
+    /// Exchanges the bytes that wait to be written for others, behind which there is no room.
+    pub(crate) fn swap_output(&mut self, other: &mut ByteQueue)
+        ensures end { self.new ≡ record self.old { output = other.old; room = no_bytes self.old.room } }
+        ensures other { other.new ≡ self.old.output }
+    {
+        mem::swap(&mut self.output, &mut other.output);
+        self.output.forget_room();
+    }
+
+    /// A packet is put out. Fails if memory runs out, which it doesn't within the room, and then nothing changes.
+    pub(crate) fn write(&mut self, packet: &Packet) -> Result<(), AllocError>
+        ensures ok { OnOk result ((b : List ℕ) × Encodes packet.now b × (self.new ≡ record self.old { output = self.old.output ++ b })) }
+        ensures within { length (fields packet.now) < 2 ^ 28
+            → length self.old.output + whole_size (length (fields packet.now)) ≤ self.old.room.bytes → IsOk result }
+        ensures err { OnErr result (self.new ≡ self.old) }
+    {
+        self.output.append_packet(packet)
+    }
+}

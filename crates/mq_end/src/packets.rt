@@ -1,0 +1,156 @@
+//! Packets that come to an end, one after another (4.6).
+
+ghost use Rattle.std.specs.Prelude.{◌≡◌, ◌⊎◌, true, false, IsOk, IfOk, OnOk, OnErr};
+ghost use Rattle.mq_end.specs.declared.reason.CloseReason.TheVariants as reasons;
+ghost use Rattle.mq_end.specs.declared.state.State.TheVariants as states;
+ghost use Rattle.mq_end.specs.End.{Reply, closes, is_up};
+ghost use Rattle.mq_end.specs.Client.{client_gets, client_up_gets};
+ghost use Rattle.mq_end.specs.Server.{server_gets, server_up_gets};
+ghost use Rattle.mq_end.specs.Ready.{AreEncodable, FitsRoom, is_exactly_once};
+ghost use Rattle.mq_end.specs.Receiving.{Gives, Makes, Stays, gets_as};
+
+use crate::endpoint::Endpoint;
+use crate::happening::Happening;
+use crate::packet_outcome::PacketOutcome;
+use crate::progress_builder::ProgressBuilder;
+use crate::reason::CloseReason;
+use crate::role::Role;
+use crate::state::State;
+use mq_packet::{NonEmpty, Packet, PacketId, SubAckCode};
+use std::alloc::AllocError;
+
+impl Endpoint {
+    /// SUBACK comes to the client (3.9).
+    fn take_suback(&mut self, id: PacketId, codes: NonEmpty<SubAckCode>) -> PacketOutcome
+        ensures { Gives (client_up_gets (Packet.SubAck id codes) self.old.end) result self.old self.new }
+    {
+        let count = codes.as_slice().len();
+        if !self.session.sender.awaits_suback(id, count) {
+            return PacketOutcome::closes(self.close(CloseReason::Unexpected));
+        }
+        self.session.sender.release_id(id);
+        PacketOutcome::tells(Happening::SubAck { id, codes })
+    }
+
+    /// UNSUBACK comes to the client (3.11).
+    fn take_unsuback(&mut self, id: PacketId) -> PacketOutcome
+        ensures { Gives (client_up_gets (Packet.UnsubAck id) self.old.end) result self.old self.new }
+    {
+        if !self.session.sender.awaits_unsuback(id) {
+            return PacketOutcome::closes(self.close(CloseReason::Unexpected));
+        }
+        self.session.sender.release_id(id);
+        PacketOutcome::tells(Happening::UnsubAck(id))
+    }
+
+    /// A packet comes to a client that is up.
+    fn take_up_client(&mut self, packet: Packet) -> Result<PacketOutcome, AllocError>
+        ensures ok { IfOk result (λ outcome. Gives (client_up_gets packet self.old.end) outcome self.old self.new) }
+        ensures err { OnErr result (self.new ≡ self.old) }
+    {
+        match packet {
+            Packet::SubAck { id, codes } => Ok(self.take_suback(id, codes)),
+            Packet::UnsubAck(id) => Ok(self.take_unsuback(id)),
+            Packet::PingResp => Ok(PacketOutcome::tells(Happening::Pong)),
+            packet => self.take_flow(packet),
+        }
+    }
+
+    /// A packet comes to a server that is up.
+    fn take_up_server(&mut self, packet: Packet) -> Result<PacketOutcome, AllocError>
+        ensures ok { IfOk result (λ outcome. Gives (server_up_gets packet self.old.end) outcome self.old self.new) }
+        ensures within { is_exactly_once packet ≡ false → FitsRoom (server_up_gets packet self.old.end).out self.old → IsOk result }
+        ensures err { OnErr result (self.new ≡ self.old) }
+    {
+        match packet {
+            Packet::Subscribe { id, requests } => {
+                Ok(PacketOutcome::tells(Happening::Subscribe { id, requests }))
+            }
+            Packet::Unsubscribe { id, filters } => {
+                Ok(PacketOutcome::tells(Happening::Unsubscribe { id, filters }))
+            }
+            Packet::PingReq => {
+                self.write(&Packet::PingResp)?;
+                Ok(PacketOutcome::nothing())
+            }
+            Packet::Disconnect => Ok(PacketOutcome::closes(self.close(CloseReason::Left))),
+            packet => self.take_flow(packet),
+        }
+    }
+
+    /// A packet comes to a client.
+    fn take_client(&mut self, packet: Packet) -> Result<PacketOutcome, AllocError>
+        ensures ok { IfOk result (λ outcome. Gives (client_gets packet self.old.end) outcome self.old self.new) }
+        ensures err { OnErr result (self.new ≡ self.old) }
+    {
+        match self.state {
+            State::Disconnected => Ok(PacketOutcome::nothing()),
+            State::Connecting => self.open_client(packet),
+            State::Connected => self.take_up_client(packet),
+        }
+    }
+
+    /// A packet comes to a server. Fails if memory runs out, which it does within the room only where an identifier is stored,
+    /// and then nothing changes.
+    #[inline(always)]
+    pub(crate) fn take_server(&mut self, packet: Packet) -> Result<PacketOutcome, AllocError>
+        ensures ok { IfOk result (λ outcome. Gives (server_gets packet self.old.end) outcome self.old self.new) }
+        ensures up { is_up self.old.end.state ≡ true → is_exactly_once packet ≡ false
+            → FitsRoom (server_gets packet self.old.end).out self.old → IsOk result }
+        ensures rises { self.old.end.state ≡ states.Connecting → AreEncodable (server_gets packet self.old.end).out
+            → FitsRoom (server_gets packet self.old.end).out self.old → IsOk result }
+        ensures err { OnErr result (self.new ≡ self.old) }
+    {
+        match self.state {
+            State::Disconnected => Ok(PacketOutcome::nothing()),
+            State::Connecting => self.open_server(packet),
+            State::Connected => self.take_up_server(packet),
+        }
+    }
+
+    /// A packet comes to the end. Fails if memory runs out, and then nothing changes.
+    fn take_one(&mut self, role: Role, packet: Packet) -> Result<PacketOutcome, AllocError>
+        ensures ok { IfOk result (λ outcome. Gives (gets_as role packet self.old.end) outcome self.old self.new) }
+        ensures err { OnErr result (self.new ≡ self.old) }
+    {
+        match role {
+            Role::Client => self.take_client(packet),
+            Role::Server => self.take_server(packet),
+        }
+    }
+
+    /// A packet comes to the end, and what comes of it is told. Answers why it closed, where it did. Fails if memory runs out,
+    /// and then nothing changes.
+    #[tactic(auto, using(crate::proofs::Outcomes::told_behind))]
+    pub(crate) fn take(
+        &mut self,
+        role: Role,
+        packet: Packet,
+        told: &mut ProgressBuilder,
+    ) -> Result<Option<CloseReason>, AllocError>
+        ensures closed { IfOk result (λ closed. closed ≡ (gets_as role packet self.old.end).close) }
+        ensures ok { OnOk result (Makes (gets_as role packet self.old.end) self.old self.new told.old told.new) }
+        ensures err { OnErr result (Stays self.old self.new told.old told.new) }
+    {
+        told.reserve()?;
+        let outcome = self.take_one(role, packet)?;
+        Ok(told.add(outcome))
+    }
+
+    /// A packet comes to the end, and what comes of it is told; where memory runs out the end closes. Answers why it closed, where it
+    /// did.
+    pub(crate) fn take_or_close(
+        &mut self,
+        role: Role,
+        packet: Packet,
+        told: &mut ProgressBuilder,
+    ) -> Option<CloseReason>
+        ensures { (r : Reply) × ((r ≡ gets_as role packet self.old.end) ⊎ (r ≡ closes reasons.Memory self.old.end))
+            × (result ≡ r.close) × Makes r self.old self.new told.old told.new }
+    {
+        match self.take(role, packet, told) {
+            Ok(closed) => closed,
+            Err(_) => Some(self.close(CloseReason::Memory)),
+        }
+    }
+}

@@ -1,0 +1,132 @@
+//! Messages that an end's user publishes (3.3, 4.3).
+
+ghost use Rattle.std.specs.Prelude.{◌≡◌, ◌+◌, ◌<◌, ◌≤◌, ◌^◌, ℕ, List, [], ◌∷◌, length, true, false, nat_lt, IsOk, IfOk, IfErr, IfSome, IfNone, OnOk, OnErr, Err, None, Some};
+ghost use Rattle.mq_topic.specs.declared.qos.Qos.TheVariants.{Q0};
+ghost use Rattle.mq_flow.specs.Sender.{is_full};
+ghost use Rattle.mq_end.specs.Both.{publish_refusal, has_identifier, publishes};
+ghost use Rattle.mq_end.specs.Sizes.{publish_size};
+ghost use Rattle.mq_end.specs.State.{PutsOut};
+ghost use Rattle.mq_end.specs.Publishing.{Accepts};
+ghost use Rattle.mq_end.specs.Ready.{HasRoom, size_at_once, whole_size};
+
+use crate::endpoint::Endpoint;
+use crate::refusal::PublishRefusal;
+use crate::state::State;
+use mq_packet::{Delivery, Message, PacketId};
+use mq_topic::Qos;
+use std::alloc::AllocError;
+
+/// The remaining length of the PUBLISH of a message, in bytes (2.2.3, 3.3).
+pub(crate) fn publish_size(message: &Message) -> usize
+    ensures { result ≡ publish_size message.now }
+{
+    let identifier = if message.qos == Qos::Q0 { 0 } else { 2 };
+    let topic = message.topic.as_str().len();
+    let payload = message.payload.as_slice().len();
+    (2 + topic) + (identifier + payload)
+}
+
+impl Endpoint {
+    /// Why a message is refused, memory aside.
+    pub(crate) fn publish_refusal(&self, message: &Message) -> Option<PublishRefusal>
+        ensures refused { result ≡ publish_refusal self.now.limit.most self.now.capacity message.now self.now.end }
+        ensures most { result ≡ None → self.now.limit.most < 2 ^ 28 }
+    {
+        let kept = message.qos != Qos::Q0;
+        if !kept && self.state != State::Connected {
+            return Some(PublishRefusal::NotConnected);
+        }
+        if publish_size(message) > self.limits.max_packet() as usize {
+            return Some(PublishRefusal::TooLarge);
+        }
+        if kept && self.session.sender.left() == 0 {
+            return Some(PublishRefusal::Full);
+        }
+        None
+    }
+
+    /// Puts out the first PUBLISH of a message, where the end is up.
+    fn send(&mut self, id: PacketId, message: &Message) -> Result<(), AllocError>
+        requires { message.now.qos ≡ Q0 → ⊥ }
+        ensures ok { OnOk result (PutsOut (publishes id message.now self.old.end).out self.old.output self.new.output) }
+        ensures state { self.new ≡ record self.old { output = self.new.output } }
+        ensures within { publish_size message.now < 2 ^ 28
+            → length self.old.output + size_at_once self.old.end.state (message.now ∷ []) ≤ self.old.room.bytes → IsOk result }
+        ensures err { OnErr result (self.new ≡ self.old) }
+    {
+        if self.state != State::Connected {
+            return Ok(());
+        }
+        let delivery = Delivery { id, dup: false };
+        self.output.append_publish(message, Some(delivery))
+    }
+
+    /// Accepts a message of quality of service 1 or 2 (4.3.2, 4.3.3).
+    fn keep(&mut self, message: Message) -> Result<PacketId, AllocError>
+        requires kept { message.qos ≡ Q0 → ⊥ }
+        requires room { is_full self.old.capacity self.old.end.book ≡ false }
+        ensures ok { IfOk result (λ id. Accepts (Some id) message self.old self.new) }
+        ensures within { publish_size message < 2 ^ 28 → HasRoom (message ∷ []) 0 self.old → IsOk result }
+        ensures err { OnErr result (self.new ≡ self.old) }
+    {
+        let id = self.session.sender.next_id().unwrap();
+        let is_up = self.state == State::Connected;
+        let before = self.output.len();
+        self.send(id, &message)?;
+        match self.session.sender.accept_as(id, message, is_up) {
+            Ok(()) => Ok(id),
+            Err(error) => {
+                self.output.truncate(before);
+                Err(error)
+            }
+        }
+    }
+
+    /// Puts out a message of quality of service 0 (4.3.1).
+    fn send_once(&mut self, message: &Message) -> Result<(), AllocError>
+        requires { message.now.qos ≡ Q0 }
+        ensures ok { OnOk result (Accepts None message.now self.old self.new) }
+        ensures within { publish_size message.now < 2 ^ 28
+            → length self.old.output + whole_size (publish_size message.now) ≤ self.old.room.bytes → IsOk result }
+        ensures err { OnErr result (self.new ≡ self.old) }
+    {
+        self.output.append_publish(message, None)
+    }
+
+    /// Publishes a message that is not refused, and answers its identifier, where it has one.
+    fn accept(&mut self, message: Message) -> Result<Option<PacketId>, AllocError>
+        requires accepted { publish_refusal self.old.limit.most self.old.capacity message self.old.end ≡ None }
+        requires most { self.old.limit.most < 2 ^ 28 }
+        ensures ok { IfOk result (λ answer. Accepts answer message self.old self.new) }
+        ensures within { HasRoom (message ∷ []) 0 self.old → IsOk result }
+        ensures err { OnErr result (self.new ≡ self.old) }
+    {
+        if message.qos == Qos::Q0 {
+            self.send_once(&message)?;
+            return Ok(None);
+        }
+        let id = self.keep(message)?;
+        Ok(Some(id))
+    }
+
+    /// Publishes a message, and answers its identifier, where it has one (2.3.1).
+    pub(crate) fn publish(&mut self, message: Message) -> Result<Option<PacketId>, PublishRefusal>
+        ensures refused { IfSome (publish_refusal self.old.limit.most self.old.capacity message self.old.end)
+            (λ why. result ≡ Err why) }
+        ensures memory { IfNone (publish_refusal self.old.limit.most self.old.capacity message self.old.end)
+            (IfErr result (λ why. why ≡ PublishRefusal.Memory)) }
+        ensures ok { IfOk result (λ answer. Accepts answer message self.old self.new) }
+        ensures kept { publish_refusal self.old.limit.most self.old.capacity message self.old.end ≡ None
+            → (rest : List Message) (more : ℕ) → HasRoom (message ∷ rest) more self.old
+            → IsOk result × HasRoom rest more self.new }
+        ensures err { OnErr result (self.new ≡ self.old) }
+    {
+        if let Some(why) = self.publish_refusal(&message) {
+            return Err(why);
+        }
+        match self.accept(message) {
+            Ok(answer) => Ok(answer),
+            Err(_) => Err(PublishRefusal::Memory),
+        }
+    }
+}

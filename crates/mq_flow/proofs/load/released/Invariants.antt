@@ -1,0 +1,13 @@
+use Rattle.std.proofs.Common.{◌≡◌, ◌+◌, ◌-◌, ◌≤◌, length}
+use Rattle.mq_flow.specs.Sender.{uses}
+use Rattle.mq_flow.specs.Loading.{released_at}
+use Rattle.mq_flow.proofs.load.released.Given as goal
+
+abbrev pub invariant-loop : goal.invariant-loop
+invariant-loop l = record {
+  told : released_at (l.count - l.counter) l.sender.book l.rest ≡ released_at l.count l.fn.sender.book l.bytes;
+  used : length (uses l.sender.book) ≡ length (uses l.fn.sender.book) + l.counter;
+  within : l.counter ≤ l.count;
+  capacity : l.sender.capacity ≡ l.fn.sender.capacity;
+  reserved : l.sender.room ≤ l.fn.sender.room;
+}

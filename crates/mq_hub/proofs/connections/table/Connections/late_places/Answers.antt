@@ -1,0 +1,10 @@
+use Rattle.std.proofs.Common.{eqb}
+use Rattle.std.specs.HashMap.{get, hash_map_len}
+use Rattle.mq_hub.specs.Connections.{service}
+use Rattle.mq_hub.proofs.ConnectionTable.{kept_anew}
+use Rattle.mq_hub.proofs.connections.table.Connections.late_places.Goals as goal
+
+pub invariant_of-self : goal.invariant_of-self
+invariant_of-self c =
+    kept_anew (service c.self.inside.limits c.self.inside.alarms) c.find_late.new.alarms c.self.inside.by_conn.entries (get eqb c.self.inside.ups) (hash_map_len c.self.inside.ups)
+    c.find_late.ensures.awaited c.self.invariant

@@ -1,0 +1,11 @@
+use Rattle.std.specs.List.{AllByRecursion}
+use Rattle.indexmap.specs.IndexMap.{values}
+use Rattle.mq_hub.specs.declared.connections.connection.Connection.{Connection}
+use Rattle.mq_hub.specs.Alarms.{AlarmTable, IsAwaited, RingsWith}
+use Rattle.mq_hub.proofs.connections.table.watch_anew.Given as goal
+
+-- where those to come are awaited, all are
+abbrev pub invariant-loop-boxed : goal.invariant-loop-boxed
+invariant-loop-boxed l =
+    (a : AlarmTable) → RingsWith l.alarms a → AllByRecursion (λ (c : Connection). IsAwaited a c.conn c.stage) l.boxed-iterator
+    → AllByRecursion (λ (c : Connection). IsAwaited a c.conn c.stage) (values l.by_conn)

@@ -1,6 +1,0 @@
-use Rattle.std.proofs.Common.{◌≡◌, ◌++◌, drop}
-use Rattle.mq_hub.specs.Placing.{placed_acts}
-use Rattle.mq_hub.proofs.placing.push_placed.Given as goal
-
-abbrev pub invariant-loop-due : goal.invariant-loop-due
-invariant-loop-due l = l.acts.items ++ placed_acts (drop l.due-index l.copies) ≡ l.initial.acts.items ++ placed_acts l.copies

@@ -1,0 +1,29 @@
+use Rattle.std.proofs.Common.{◌≡◌, ◌∙◌, ◌∷◌, List, sym, ap, subst}
+use Rattle.mq_packet.specs.declared.message.Message.{Message}
+use Rattle.mq_route.specs.Hub.{for_key}
+use Rattle.mq_hub.specs.Placing.{IsReadyAt, placed_all}
+use Rattle.mq_hub.proofs.Publishing.{only_first}
+use Rattle.mq_hub.proofs.publish.enqueue.publish_for.Goals as goal
+
+pub publish-requires : goal.publish-requires
+publish-requires c =
+    let at = c.loop-message in
+    let m = c.in-Some.message in
+    let ms = c.next.new.self.rest.items in
+    let steps : at.message-iterator.rest.items ≡ m ∷ ms = c.in-Some.ensures.steps.0 in
+    let ready = subst (λ (xs : List Message). IsReadyAt c.args.key xs 0 at.sessions.tenants) steps at.invariant.ready in
+    record { tenant = ready.tenant; there = ready.there; ready = only_first m ms 0 ready.tenant.end ready.ready }
+
+pub loop-message-preserved : goal.loop-message-preserved
+loop-message-preserved c =
+    let at = c.loop-message in
+    let m = c.in-Some.message in
+    let ms = c.next.new.self.rest.items in
+    let key = c.args.key in
+    let steps : at.message-iterator.rest.items ≡ m ∷ ms = c.in-Some.ensures.steps.0 in
+    let ready = subst (λ (xs : List Message). IsReadyAt key xs 0 at.sessions.tenants) steps at.invariant.ready in
+    record {
+      ready = c.publish.ensures.left ms 0 ready;
+      tenants = ap (placed_all (for_key key ms)) c.publish.ensures.tenants ∙ ap (λ (xs : List Message). placed_all (for_key key xs) at.sessions.tenants) (sym steps) ∙ at.invariant.tenants;
+      room = c.publish.ensures.room ∙ at.invariant.room;
+    }

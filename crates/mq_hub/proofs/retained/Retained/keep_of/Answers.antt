@@ -1,7 +1,0 @@
-use Rattle.std.proofs.Common.{subst}
-use Rattle.mq_hub.specs.Retained.{IsKeptOf}
-use Rattle.mq_hub.proofs.Retaining.{kept_nothing}
-use Rattle.mq_hub.proofs.retained.Retained.keep_of.Goals as goal
-
-pub returns-in-None-clause-messages : goal.returns-in-None-clause-messages
-returns-in-None-clause-messages c = λ m is. kept_nothing m c.args.self.now.messages (subst (IsKeptOf m) c.in-None.is is)

@@ -1,8 +1,0 @@
-use Rattle.std.proofs.Common.{◌∙◌, subst}
-use Rattle.mq_hub.specs.declared.session.Tenant.{Tenant}
-use Rattle.mq_hub.specs.Calls.{Serves}
-use Rattle.mq_hub.proofs.session.Seat.serve.Goals as goal
-
-pub returns-clause-end : goal.returns-clause-end
-returns-clause-end c =
-    subst (λ (t : Tenant). Serves c.args.call c.serve.result t.end c.serve.new.end) (c.deref_mut-tenant.ensures.value ∙ c.self.view_is) c.serve.ensures

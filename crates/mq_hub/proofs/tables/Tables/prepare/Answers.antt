@@ -1,8 +1,0 @@
-use Rattle.std.proofs.Common.{subst}
-use Rattle.mq_hub.specs.Placing.{AreStillReady}
-use Rattle.mq_hub.specs.Seen.{HubTables}
-use Rattle.mq_hub.proofs.tables.Tables.prepare.Goals as goal
-
-pub returns-clause-still : goal.returns-clause-still
-returns-clause-still g c =
-    subst (λ (v : HubTables). AreStillReady v.sessions.tenants c.make_room.new.sessions.tenants) c.self.view_is c.make_room.ensures.still

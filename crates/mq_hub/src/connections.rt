@@ -1,0 +1,7 @@
+//! connections.
+
+pub(crate) mod connection;
+pub(crate) mod on_end;
+pub(crate) mod on_open;
+pub(crate) mod output;
+pub(crate) mod table;

@@ -1,0 +1,26 @@
+//! A connection is opened at a broker (4.2).
+
+ghost use Rattle.std.specs.Prelude.{◌≡◌, false, IfOk, IfErr, OnErr};
+ghost use Rattle.mq_route.specs.Hub.{knows};
+ghost use Rattle.mq_route.specs.Step.{HubStep};
+
+use crate::acts::ActLog;
+use crate::hub::HubOver;
+use mq_route::{Conn, HubEvent, HubRefusal, HubReply};
+use mq_topic::FilterStore;
+
+impl<S: FilterStore> HubOver<S> {
+    /// A connection is opened, whose name isn't known (4.2): its CONNECT is waited for. Fails if memory runs out, and then nothing
+    /// changes.
+    pub(crate) fn on_open(&mut self, conn: Conn) -> Result<HubReply, HubRefusal>
+        requires { knows conn self.old.connections ≡ false }
+        ensures step { IfOk result (λ reply. HubStep self.old (HubEvent.Opened conn) reply self.new) }
+        ensures memory { IfErr result (λ why. why ≡ HubRefusal.Memory) }
+        ensures err { OnErr result (self.new ≡ self.old) }
+    {
+        match self.tables.open(self.alloc, conn) {
+            Ok(()) => Ok(ActLog::new(self.alloc).into_reply(true)),
+            Err(_) => Err(HubRefusal::Memory),
+        }
+    }
+}

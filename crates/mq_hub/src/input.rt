@@ -1,0 +1,8 @@
+//! input.
+
+pub(crate) mod decoder;
+pub(crate) mod dispatch;
+pub(crate) mod next_packet;
+pub(crate) mod on_bytes;
+pub(crate) mod on_packet;
+pub(crate) mod requests;

@@ -1,0 +1,51 @@
+//! A packet comes to a broker from a client that is up (3.3 to 3.14).
+
+ghost use Rattle.std.specs.Prelude.{◌≡◌, ℕ, List, [], Bool, true, None, is_some, OnOk, OnErr};
+ghost use Rattle.mq_end.specs.Server.{server_gets};
+ghost use Rattle.mq_route.specs.declared.act.Act.{Act};
+ghost use Rattle.mq_route.specs.declared.conn.Conn.{Conn};
+ghost use Rattle.mq_route.specs.Arrives.{on_connected_packet};
+ghost use Rattle.mq_route.specs.Hub.{end_of, up_on};
+ghost use Rattle.mq_hub.specs.Answers.{AreAlike, Answers};
+ghost use Rattle.mq_hub.specs.Calls.{CanServe};
+ghost use Rattle.mq_hub.specs.Does.{Refines};
+
+use crate::hub::HubOver;
+use crate::sessions::call::Call;
+use crate::tables::Tables;
+use mq_packet::Packet;
+use mq_topic::{ClientKey, FilterStore};
+use std::alloc::AllocError;
+
+impl<S: FilterStore> Tables<S> {
+    /// The end of a session that is up takes a packet in. Out of memory, nothing changes.
+    pub(crate) fn take(
+        &mut self,
+        key: ClientKey,
+        now: u64,
+        packet: Packet,
+    ) -> Result<(), AllocError>
+        requires { CanServe key (Call.Takes now packet) self.old.sessions.tenants }
+        ensures ok { OnOk result (Answers key (Call.Takes now packet) self.old.rows self.old self.new) }
+        ensures err { OnErr result (AreAlike self.old self.new) }
+    {
+        let _ = self.sessions.serve(key, Call::Takes(now, packet))?;
+        Ok(())
+    }
+}
+
+impl<S: FilterStore> HubOver<S> {
+    /// The end of a client that is up takes a packet in that tells nothing and doesn't close it: an acknowledgement, PINGREQ, or a
+    /// PUBLISH that came before (3.4 to 3.7, 3.12, 4.3.3). Out of memory, nothing changes.
+    pub(crate) fn take_silent(&mut self, key: ClientKey, packet: Packet) -> Result<(), AllocError>
+        requires up { is_some (up_on key self.old.connections) ≡ true }
+        requires stays { (server_gets packet (end_of key self.old.sessions)).close ≡ None }
+        requires silent { (server_gets packet (end_of key self.old.sessions)).happenings ≡ [] }
+        ensures goes { OnOk result ((conn : Conn) (fits : Bool) (said : List Act)
+            → Refines (on_connected_packet conn key packet fits) self.old said self.new said) }
+        ensures err { OnErr result (self.new ≡ self.old) }
+    {
+        let now = self.clock;
+        self.tables.take(key, now, packet)
+    }
+}

@@ -1,0 +1,9 @@
+//! publish.
+
+pub(crate) mod acceptance;
+pub(crate) mod delivery;
+pub(crate) mod enqueue;
+pub(crate) mod on_publish;
+pub(crate) mod reception;
+pub(crate) mod recipients;
+pub(crate) mod reserve;

@@ -1,0 +1,69 @@
+//! What a broker has the end of a session do.
+
+ghost use Rattle.std.specs.Prelude.{◌≡◌, true, Ok, OnOk, OnErr, IsErr};
+ghost use Rattle.mq_end.specs.End.{is_up};
+ghost use Rattle.mq_packet.specs.Publication.{fits_delivery};
+ghost use Rattle.mq_end.specs.Receiving.{no_outcome, told_of};
+ghost use Rattle.mq_hub.specs.Calls.{IsAllowed, Serves, publish_call};
+
+use mq_end::{PacketOutcome, PublishOutcome, PublishRefusal, ServerEnd, size_laws};
+use mq_packet::{Delivery, Message, NonEmpty, Packet, PacketId, SubAckCode, encoding_laws};
+use std::alloc::AllocError;
+
+/// What a broker has the end of a session do.
+#[derive(Drop)]
+pub(crate) enum Call {
+    /// A whole packet came from the client, at this moment: the end takes it in (3.1 to 3.14).
+    Takes(u64, Packet),
+    /// It answers a SUBSCRIBE by SUBACK, with this identifier and these codes (3.9).
+    Grants(PacketId, NonEmpty<SubAckCode>),
+    /// It answers an UNSUBSCRIBE by UNSUBACK, with this identifier (3.11).
+    Drops(PacketId),
+}
+
+// What comes of an answer that was put out, or for which memory ran out: it tells nothing.
+fn answered(answer: Result<(), PublishRefusal>) -> Result<PacketOutcome, AllocError>
+    ensures ok { OnOk answer (result ≡ Ok no_outcome) }
+    ensures err { OnErr answer (IsErr result) }
+{
+    match answer {
+        Ok(()) => Ok(PacketOutcome {
+            happening: None,
+            acknowledged: None,
+            closed: None,
+        }),
+        Err(_) => Err(AllocError),
+    }
+}
+
+/// An end that is up does what it is to do. Out of memory, nothing changes.
+#[inline(always)]
+pub(crate) fn serve(end: &mut ServerEnd, call: Call) -> Result<PacketOutcome, AllocError>
+    requires up { is_up end.old.end.state ≡ true }
+    requires allowed { IsAllowed call end.old }
+    ensures { Serves call result end.old end.new }
+{
+    size_laws();
+    encoding_laws();
+    match call {
+        Call::Takes(now, packet) => end.take_packet(now, packet),
+        Call::Grants(id, codes) => answered(end.suback(id, codes)),
+        Call::Drops(id) => answered(end.unsuback(id)),
+    }
+}
+
+/// An end that is up takes the PUBLISH of a message in (3.3), which stays with the broker. Out of memory, nothing changes.
+#[inline(always)]
+pub(crate) fn take_publish(
+    end: &mut ServerEnd,
+    now: u64,
+    message: &Message,
+    delivery: Option<Delivery>,
+) -> Result<PublishOutcome, AllocError>
+    requires up { is_up end.old.end.state ≡ true }
+    requires fits { fits_delivery message.now.qos delivery ≡ true }
+    ensures { Serves (publish_call now message.now delivery) (told_of message.now result) end.old end.new }
+{
+    encoding_laws();
+    end.take_publish(now, message, delivery)
+}

@@ -1,0 +1,4 @@
+//! will.
+
+pub(crate) mod delivery;
+pub(crate) mod last_will;

@@ -1,0 +1,167 @@
+-- How control packets are spelled (chapter 3).
+use Rattle.std.specs.Prelude.{◌≡◌, ℕ, ◌+◌, ◌*◌, ◌^◌, ◌<◌, Bool, true, false, List, [], ◌∷◌, ◌++◌, length, Option, Some, None, codes}
+use Rattle.std.specs.List.{flat_map}
+use Rattle.mq_wire.specs.Length.{Length, length_bytes}
+use Rattle.mq_wire.specs.Number.{number}
+use Rattle.mq_wire.specs.Text.{counted}
+use Rattle.mq_topic.specs.Qos.{qos_number}
+use Rattle.mq_packet.specs.declared.connack.ConnAck.{ConnAck}
+use Rattle.mq_packet.specs.declared.connack.ConnAck.TheVariants.{Accepted, Refused}
+use Rattle.mq_packet.specs.declared.connect.Connect.{Connect}
+use Rattle.mq_packet.specs.declared.connect.Will.{Will}
+use Rattle.mq_packet.specs.declared.connect.Login.{Login}
+use Rattle.mq_packet.specs.declared.packet.Request.{Request}
+use Rattle.mq_packet.specs.declared.packet.SubAckCode.{SubAckCode}
+use Rattle.mq_packet.specs.declared.packet.Packet.{Packet}
+use Rattle.mq_packet.specs.declared.packet.Packet.TheVariants as packets
+use Rattle.mq_packet.specs.declared.publish.Delivery.{Delivery}
+use Rattle.mq_packet.specs.Codes.{refusal_number, code_number}
+use Rattle.mq_packet.specs.Publication.{Publication}
+use Rattle.mq_packet.specs.Values.{IsPacket}
+
+abbrev pub bit : Bool → ℕ
+bit false = 0
+bit true = 1
+
+-- ---- CONNECT (3.1)
+
+-- the name and the level of the protocol (3.1.2.1, 3.1.2.2)
+abbrev pub protocol : List ℕ
+protocol = 0 ∷ 4 ∷ 77 ∷ 81 ∷ 84 ∷ 84 ∷ 4 ∷ []
+
+-- the flags (3.1.2.3): bit 7 user name, 6 password, 5 will retain, 4 and 3 will quality of service, 2 will, 1 clean
+-- session, 0 always 0
+abbrev pub will_flags : Option Will → ℕ
+will_flags None = 0
+will_flags (Some w) = 4 + 8 * qos_number w.qos + 32 * bit w.retain
+
+abbrev pub password_flag : Option (List ℕ) → ℕ
+password_flag None = 0
+password_flag (Some p) = 64
+
+abbrev pub login_flags : Option Login → ℕ
+login_flags None = 0
+login_flags (Some l) = 128 + password_flag l.password
+
+abbrev pub connect_flags : Connect → ℕ
+connect_flags c = 2 * bit c.clean_session + will_flags c.will + login_flags c.login
+
+abbrev pub will_fields : Option Will → List ℕ
+will_fields None = []
+will_fields (Some w) = counted w.topic ++ counted w.message
+
+abbrev pub password_fields : Option (List ℕ) → List ℕ
+password_fields None = []
+password_fields (Some p) = counted p
+
+abbrev pub login_fields : Option Login → List ℕ
+login_fields None = []
+login_fields (Some l) = counted l.name ++ password_fields l.password
+
+-- the protocol, the flags and the keep-alive (3.1.2.10)
+abbrev pub connect_protocol : Connect → List ℕ
+connect_protocol c = protocol ++ (connect_flags c ∷ number c.keep_alive)
+
+-- and the client identifier (3.1.3.1): what each CONNECT has
+abbrev pub connect_head : Connect → List ℕ
+connect_head c = connect_protocol c ++ counted c.client_id
+
+abbrev pub connect_fields : Connect → List ℕ
+connect_fields c = connect_head c ++ (will_fields c.will ++ login_fields c.login)
+
+-- ---- CONNACK (3.2): Session Present, and the code
+
+abbrev pub connack_fields : ConnAck → List ℕ
+connack_fields (Accepted present) = bit present ∷ 0 ∷ []
+connack_fields (Refused code) = 0 ∷ refusal_number code ∷ []
+
+-- ---- PUBLISH (3.3)
+
+abbrev pub dup_bit : Option Delivery → ℕ
+dup_bit None = 0
+dup_bit (Some d) = bit d.dup
+
+abbrev pub delivery_fields : Option Delivery → List ℕ
+delivery_fields None = []
+delivery_fields (Some d) = number d.id
+
+abbrev pub publish_fields : Publication → List ℕ
+publish_fields p = counted p.message.topic ++ (delivery_fields p.delivery ++ p.message.payload)
+
+-- ---- the items of lists (3.8.3, 3.9.3, 3.10.3)
+
+abbrev pub request_fields : Request → List ℕ
+request_fields r = counted r.filter ++ qos_number r.qos ∷ []
+
+abbrev pub code_fields : SubAckCode → List ℕ
+code_fields c = code_number c ∷ []
+
+-- ---- all packets
+
+-- the type in the upper four bits, and the flags in the lower ones (2.2.1, 2.2.2)
+abbrev pub first_byte : Packet → ℕ
+first_byte (packets.Connect c) = 0x10
+first_byte (packets.ConnAck c) = 0x20
+first_byte (packets.Publish p) = 0x30 + 8 * dup_bit p.delivery + 2 * qos_number p.message.qos + bit p.message.retain
+first_byte (packets.PubAck id) = 0x40
+first_byte (packets.PubRec id) = 0x50
+first_byte (packets.PubRel id) = 0x62
+first_byte (packets.PubComp id) = 0x70
+first_byte (packets.Subscribe id requests) = 0x82
+first_byte (packets.SubAck id codes) = 0x90
+first_byte (packets.Unsubscribe id filters) = 0xa2
+first_byte (packets.UnsubAck id) = 0xb0
+first_byte packets.PingReq = 0xc0
+first_byte packets.PingResp = 0xd0
+first_byte packets.Disconnect = 0xe0
+
+-- the fields, one after another
+abbrev pub fields : Packet → List ℕ
+fields (packets.Connect c) = connect_fields c
+fields (packets.ConnAck c) = connack_fields c
+fields (packets.Publish p) = publish_fields p
+fields (packets.PubAck id) = number id
+fields (packets.PubRec id) = number id
+fields (packets.PubRel id) = number id
+fields (packets.PubComp id) = number id
+fields (packets.Subscribe id requests) = number id ++ flat_map request_fields requests
+fields (packets.SubAck id codes) = number id ++ flat_map code_fields codes
+fields (packets.Unsubscribe id filters) = number id ++ flat_map counted filters
+fields (packets.UnsubAck id) = number id
+fields packets.PingReq = []
+fields packets.PingResp = []
+fields packets.Disconnect = []
+
+-- b spells p: the first byte, the remaining length, and the fields
+pub record Encodes (p : Packet) (b : List ℕ) : Type 0 where
+  pub packet : IsPacket p
+  pub len : List ℕ
+  pub formed : Length (length (fields p)) len
+  pub bytes : b ≡ first_byte p ∷ len ++ fields p
+
+-- the bytes of a packet: its one spelling
+unfoldable pub encoding : Packet → List ℕ
+encoding p = first_byte p ∷ length_bytes (length (fields p)) ++ fields p
+
+-- how many bytes a packet takes in all whose fields take so many (2.2)
+abbrev pub encoded_size : ℕ → ℕ
+encoded_size n = 1 + (length (length_bytes n) + n)
+
+-- the bytes of packets, one after another
+abbrev pub encodings : List Packet → List ℕ
+encodings ps = flat_map encoding ps
+
+-- bytes that spell packets, one after another
+abbrev pub EncodesAll : List Packet → List ℕ → Type 0
+EncodesAll [] b = b ≡ []
+EncodesAll (p ∷ ps) b = (first : List ℕ) × (rest : List ℕ) × Encodes p first × EncodesAll ps rest × (b ≡ first ++ rest)
+
+-- What a user of spellings may rely on.
+pub record EncodingLaws : Type 0 where
+  -- a packet has one spelling, unless its remaining length is none
+  pub exists : (p : Packet) → IsPacket p → length (fields p) < 2 ^ 28 → Encodes p (encoding p)
+  pub one : (p : Packet) (b : List ℕ) → Encodes p b → b ≡ encoding p
+  -- of this many bytes
+  pub size : (p : Packet) (b : List ℕ) → Encodes p b → length b ≡ encoded_size (length (fields p))
+  -- and so have packets one after another
+  pub all : (ps : List Packet) (b : List ℕ) → EncodesAll ps b → b ≡ encodings ps

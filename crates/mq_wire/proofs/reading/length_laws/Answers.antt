@@ -1,5 +1,0 @@
-use Rattle.mq_wire.proofs.Lengths.{laws}
-use Rattle.mq_wire.proofs.reading.length_laws.Goals as goal
-
-pub returns : goal.returns
-returns c = laws
