@@ -1,4 +1,4 @@
--- A packet, and packets one after another, have one spelling each.
+-- A packet, and a list of packets, has exactly one encoding.
 use Rattle.std.proofs.Common.{◌≡◌, ℕ, ◌<◌, ◌^◌, List, [], ◌∷◌, ◌++◌, length, refl, ap, ◌∙◌, arith}
 use Rattle.std.proofs.lemmas.List.{length-append}
 use Rattle.mq_wire.specs.Reading.{LengthLaws}

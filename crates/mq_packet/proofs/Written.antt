@@ -1,9 +1,9 @@
--- What a loop has written so far.
+-- The bytes that a loop has written so far.
 use Rattle.std.proofs.Common.{◌≡◌, ℕ, List, ◌++◌, Option, take, drop, sym, ap, ◌∙◌, append_assoc, take-append-drop}
 use Rattle.std.proofs.KnownBytes.{Appends-trans, Appends-kept}
 use Rattle.std.specs.Io.KnownBytes.{Keeps, Appends}
 
--- all but the rest were appended
+-- All bytes but the rest were appended.
 pub record Written (old new : Option (List ℕ)) (all rest : List ℕ) : Type 0 where
   pub front : List ℕ
   pub parts : all ≡ front ++ rest

@@ -1,4 +1,4 @@
--- Codes of CONNACK (3.2.2.3) and SUBACK (3.9.3) as numbers.
+-- The return codes of CONNACK (3.2.2.3) and SUBACK (3.9.3).
 use Rattle.std.specs.Prelude.{ℕ, Option, Some, None, ◌==◌, if◌then◌else◌}
 use Rattle.mq_topic.specs.declared.qos.Qos.TheVariants.{Q0, Q1, Q2}
 use Rattle.mq_topic.specs.Qos.{qos_number}

@@ -1,4 +1,4 @@
--- How control packets are spelled (chapter 3).
+-- The encoding of control packets (chapter 3).
 use Rattle.std.specs.Prelude.{◌≡◌, ℕ, ◌+◌, ◌*◌, ◌^◌, ◌<◌, Bool, true, false, List, [], ◌∷◌, ◌++◌, length, Option, Some, None, codes}
 use Rattle.std.specs.List.{flat_map}
 use Rattle.mq_wire.specs.Length.{Length, length_bytes}
@@ -25,12 +25,12 @@ bit true = 1
 
 -- ---- CONNECT (3.1)
 
--- the name and the level of the protocol (3.1.2.1, 3.1.2.2)
+-- Protocol name and level (3.1.2.1, 3.1.2.2).
 abbrev pub protocol : List ℕ
 protocol = 0 ∷ 4 ∷ 77 ∷ 81 ∷ 84 ∷ 84 ∷ 4 ∷ []
 
--- the flags (3.1.2.3): bit 7 user name, 6 password, 5 will retain, 4 and 3 will quality of service, 2 will, 1 clean
--- session, 0 always 0
+-- The flags (3.1.2.3): bit 7 user name, 6 password, 5 will retain, 4 and 3 will QoS, 2 will, 1
+-- clean session, 0 reserved and 0.
 abbrev pub will_flags : Option Will → ℕ
 will_flags None = 0
 will_flags (Some w) = 4 + 8 * qos_number w.qos + 32 * bit w.retain
@@ -58,11 +58,11 @@ abbrev pub login_fields : Option Login → List ℕ
 login_fields None = []
 login_fields (Some l) = counted l.name ++ password_fields l.password
 
--- the protocol, the flags and the keep-alive (3.1.2.10)
+-- Protocol name and level, flags and keep-alive (3.1.2.10).
 abbrev pub connect_protocol : Connect → List ℕ
 connect_protocol c = protocol ++ (connect_flags c ∷ number c.keep_alive)
 
--- and the client identifier (3.1.3.1): what each CONNECT has
+-- These with the client identifier (3.1.3.1): the fields of every CONNECT.
 abbrev pub connect_head : Connect → List ℕ
 connect_head c = connect_protocol c ++ counted c.client_id
 
@@ -98,7 +98,7 @@ code_fields c = code_number c ∷ []
 
 -- ---- all packets
 
--- the type in the upper four bits, and the flags in the lower ones (2.2.1, 2.2.2)
+-- The packet type in the upper four bits, the flags in the lower four (2.2.1, 2.2.2).
 abbrev pub first_byte : Packet → ℕ
 first_byte (packets.Connect c) = 0x10
 first_byte (packets.ConnAck c) = 0x20
@@ -115,7 +115,7 @@ first_byte packets.PingReq = 0xc0
 first_byte packets.PingResp = 0xd0
 first_byte packets.Disconnect = 0xe0
 
--- the fields, one after another
+-- The fields behind the fixed header.
 abbrev pub fields : Packet → List ℕ
 fields (packets.Connect c) = connect_fields c
 fields (packets.ConnAck c) = connack_fields c
@@ -132,36 +132,36 @@ fields packets.PingReq = []
 fields packets.PingResp = []
 fields packets.Disconnect = []
 
--- b spells p: the first byte, the remaining length, and the fields
+-- `b` is the encoding of `p`: the first byte, the remaining length and the fields.
 pub record Encodes (p : Packet) (b : List ℕ) : Type 0 where
   pub packet : IsPacket p
   pub len : List ℕ
   pub formed : Length (length (fields p)) len
   pub bytes : b ≡ first_byte p ∷ len ++ fields p
 
--- the bytes of a packet: its one spelling
+-- The encoding of a packet.
 unfoldable pub encoding : Packet → List ℕ
 encoding p = first_byte p ∷ length_bytes (length (fields p)) ++ fields p
 
--- how many bytes a packet takes in all whose fields take so many (2.2)
+-- The size of a packet whose fields have this size (2.2).
 abbrev pub encoded_size : ℕ → ℕ
 encoded_size n = 1 + (length (length_bytes n) + n)
 
--- the bytes of packets, one after another
+-- The encodings of packets, concatenated.
 abbrev pub encodings : List Packet → List ℕ
 encodings ps = flat_map encoding ps
 
--- bytes that spell packets, one after another
+-- `b` is the encodings of packets, concatenated.
 abbrev pub EncodesAll : List Packet → List ℕ → Type 0
 EncodesAll [] b = b ≡ []
 EncodesAll (p ∷ ps) b = (first : List ℕ) × (rest : List ℕ) × Encodes p first × EncodesAll ps rest × (b ≡ first ++ rest)
 
--- What a user of spellings may rely on.
+-- The laws of encodings.
 pub record EncodingLaws : Type 0 where
-  -- a packet has one spelling, unless its remaining length is none
+  -- A packet has exactly one encoding, unless its remaining length would exceed 268,435,455.
   pub exists : (p : Packet) → IsPacket p → length (fields p) < 2 ^ 28 → Encodes p (encoding p)
   pub one : (p : Packet) (b : List ℕ) → Encodes p b → b ≡ encoding p
-  -- of this many bytes
+  -- Its size.
   pub size : (p : Packet) (b : List ℕ) → Encodes p b → length b ≡ encoded_size (length (fields p))
-  -- and so have packets one after another
+  -- Likewise for several packets.
   pub all : (ps : List Packet) (b : List ℕ) → EncodesAll ps b → b ≡ encodings ps

@@ -1,4 +1,4 @@
--- What a PUBLISH carries (3.3).
+-- The contents of a PUBLISH (3.3).
 use Rattle.std.specs.Prelude.{Bool, true, false, Option, Some, None}
 use Rattle.mq_topic.specs.declared.qos.Qos.{Qos}
 use Rattle.mq_topic.specs.declared.qos.Qos.TheVariants.{Q0, Q1, Q2}
@@ -6,19 +6,19 @@ use Rattle.mq_packet.specs.declared.message.Message.{Message}
 use Rattle.mq_packet.specs.declared.publish.Delivery.{Delivery}
 use Rattle.mq_packet.specs.declared.publish.MessageRef.{MessageRef}
 
--- a message, and where its quality of service is over 0 the packet identifier and DUP
+-- A message, and for QoS 1 and 2 the packet identifier and DUP.
 pub record Publication : Type 0 where
   pub message : Message
   pub delivery : Option Delivery
 
--- that of a message which lies elsewhere
+-- The same for a borrowed message.
 abbrev pub publication : MessageRef → Option Delivery → Publication
 publication m delivery = record {
   message = record { topic = m.topic.now; payload = m.payload.now; qos = m.qos; retain = m.retain };
   delivery = delivery;
 }
 
--- there is a delivery exactly where the quality of service is over 0 (2.3.1, 3.3.2.2)
+-- A delivery exists exactly if the QoS is 1 or 2 (2.3.1, 3.3.2.2).
 abbrev pub fits_delivery : Qos → Option Delivery → Bool
 fits_delivery Q0 None = true
 fits_delivery Q0 (Some d) = false

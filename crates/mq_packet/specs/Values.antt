@@ -1,4 +1,4 @@
--- Which values are control packets (chapter 3): each field is of its kind.
+-- The values that are control packets (chapter 3).
 use Rattle.std.specs.Prelude.{◌≡◌, ℕ, ◌<◌, ◌^◌, true, List, length, IfSome}
 use Rattle.std.specs.List.{AllByRecursion}
 use Rattle.mq_wire.specs.Text.{IsText}
@@ -13,22 +13,22 @@ use Rattle.mq_packet.specs.declared.packet.Packet.TheVariants as packets
 use Rattle.mq_packet.specs.Identifier.{IsIdentifier}
 use Rattle.mq_packet.specs.Publication.{Publication, fits_delivery}
 
--- bytes that stand behind a count of two bytes
+-- Bytes with a two-byte length.
 abbrev pub IsBinary : List ℕ → Type 0
 IsBinary b = length b < 65536
 
--- a message (3.3): a topic name, and a payload that a packet may have room for
+-- A message (3.3): a topic name, and a payload that fits into a packet.
 pub record IsMessage (m : Message) : Type 0 where
   pub topic : IsTopicName m.topic
   pub payload : length m.payload < 2 ^ 28
 
--- PUBLISH (3.3): an identifier exactly where the quality of service is over 0
+-- PUBLISH (3.3): an identifier exactly if the QoS is 1 or 2.
 pub record IsPublication (p : Publication) : Type 0 where
   pub message : IsMessage p.message
   pub fits : fits_delivery p.message.qos p.delivery ≡ true
   pub identifier : IfSome p.delivery (λ d. IsIdentifier d.id)
 
--- the parts of CONNECT (3.1.3)
+-- The parts of CONNECT (3.1.3).
 pub record IsWill (w : Will) : Type 0 where
   pub topic : IsTopicName w.topic
   pub message : IsBinary w.message
@@ -43,11 +43,11 @@ pub record IsConnect (c : Connect) : Type 0 where
   pub will : IfSome c.will IsWill
   pub login : IfSome c.login IsLogin
 
--- an item of SUBSCRIBE (3.8.3)
+-- An item of SUBSCRIBE (3.8.3).
 abbrev pub IsRequest : Request → Type 0
 IsRequest r = IsTopicFilter r.filter
 
--- an identifier, and a list of at least one item, each of its kind (3.8, 3.9, 3.10)
+-- An identifier and a list of at least one item (3.8, 3.9, 3.10).
 pub record IsList {A : Type 0} (IsItem : A → Type 0) (id : ℕ) (items : List A) : Type 0 where
   pub identifier : IsIdentifier id
   pub item : 0 < length items

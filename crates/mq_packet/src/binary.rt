@@ -6,8 +6,7 @@ use bytes::Bytes;
 use std::alloc::AllocError;
 use std::marker::Model;
 
-/// A binary field: at most 65,535 bytes, which stand behind a count of two bytes. A clone shares the
-/// bytes. Contracts see it as the bytes.
+/// A binary field of at most 65,535 bytes (1.5.3). Clones share the bytes.
 #[derive(Debug, Drop)]
 pub struct Binary {
     bytes: Bytes,
@@ -24,7 +23,7 @@ impl Model for Binary {
 }
 
 impl Binary {
-    /// The field of these bytes, `None` where they are over 65,535.
+    /// Wraps `bytes`. Returns `None` if there are more than 65,535.
     pub fn new(bytes: Bytes) -> Option<Binary>
         ensures fits { IsSome result ↔ (length bytes < 65536) }
         ensures value { IfSome result (λ b. b ≡ bytes) }
@@ -43,7 +42,7 @@ impl Binary {
         self.bytes.as_slice()
     }
 
-    /// The bytes as they are shared: a clone or a part of them copies none.
+    /// The shared bytes. Cloning or slicing them copies nothing.
     pub fn as_bytes(&self) -> &Bytes
         ensures value { result.now ≡ self.now }
         ensures short { length self.now < 65536 }
@@ -51,7 +50,7 @@ impl Binary {
         &self.bytes
     }
 
-    /// The shared bytes, which it gives away.
+    /// Consumes the field and returns the shared bytes.
     pub fn into_bytes(self) -> Bytes
         ensures { result ≡ self }
     {
@@ -63,15 +62,14 @@ impl Binary {
 impl Clone for Binary {
     ghost is_clone = { λ binary copy. copy ≡ binary };
 
-    /// Another owner of the same bytes; none is copied.
+    /// Returns another owner of the same bytes.
     fn clone(&self) -> Result<Binary, AllocError> {
         let bytes = self.bytes.clone()?;
         Ok(Binary { bytes })
     }
 }
 
-/// The payload of a message: at most 268,435,455 bytes (2.2.3). A clone shares the bytes. Contracts
-/// see it as the bytes.
+/// The payload of a message: at most 268,435,455 bytes (2.2.3). Clones share the bytes.
 #[derive(Debug, Drop)]
 pub struct Payload {
     bytes: Bytes,
@@ -88,7 +86,7 @@ impl Model for Payload {
 }
 
 impl Payload {
-    /// The payload of these bytes, `None` where they are over 268,435,455.
+    /// Wraps `bytes`. Returns `None` if there are more than 268,435,455.
     pub fn new(bytes: Bytes) -> Option<Payload>
         ensures fits { IsSome result ↔ (length bytes < 2 ^ 28) }
         ensures value { IfSome result (λ p. p ≡ bytes) }
@@ -107,7 +105,7 @@ impl Payload {
         self.bytes.as_slice()
     }
 
-    /// The bytes as they are shared: a clone or a part of them copies none.
+    /// The shared bytes. Cloning or slicing them copies nothing.
     pub fn as_bytes(&self) -> &Bytes
         ensures value { result.now ≡ self.now }
         ensures short { length self.now < 2 ^ 28 }
@@ -115,7 +113,7 @@ impl Payload {
         &self.bytes
     }
 
-    /// The shared bytes, which it gives away.
+    /// Consumes the payload and returns the shared bytes.
     pub fn into_bytes(self) -> Bytes
         ensures { result ≡ self }
     {
@@ -127,7 +125,7 @@ impl Payload {
 impl Clone for Payload {
     ghost is_clone = { λ payload copy. copy ≡ payload };
 
-    /// Another owner of the same bytes; none is copied.
+    /// Returns another owner of the same bytes.
     fn clone(&self) -> Result<Payload, AllocError> {
         let bytes = self.bytes.clone()?;
         Ok(Payload { bytes })

@@ -3,12 +3,12 @@
 ghost use Rattle.std.specs.Prelude.{◌≡◌};
 ghost use Rattle.mq_packet.specs.Codes.{refusal_number, refusal_from};
 
-/// CONNACK (3.2): the answer to CONNECT.
+/// CONNACK (3.2): the server's response to CONNECT.
 #[derive(Clone, Copy, Debug, PartialEq, Eq)]
 pub enum ConnAck {
-    /// The connection is accepted. Session Present (3.2.2.2): a session was there before.
+    /// The connection is accepted.
     Accepted {
-        /// A session was there before.
+        /// Session Present (3.2.2.2): the server had stored a session for this client.
         session_present: bool,
     },
     /// The connection is refused.
@@ -31,7 +31,7 @@ pub enum RefusalCode {
 }
 
 impl RefusalCode {
-    /// The number that stands for it in packets, 1 to 5.
+    /// The return code, 1 to 5.
     pub fn number(self) -> u8
         ensures { result ≡ refusal_number self }
     {
@@ -44,7 +44,7 @@ impl RefusalCode {
         }
     }
 
-    /// The refusal that a number stands for, `None` for 0 and for numbers over 5.
+    /// The refusal with this return code, or `None` for 0 and for numbers over 5.
     pub fn from_number(number: u8) -> Option<RefusalCode>
         ensures { result ≡ refusal_from number }
     {

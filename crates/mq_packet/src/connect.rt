@@ -12,33 +12,34 @@ use std::marker::Model;
 /// CONNECT (3.1): the first packet of a client.
 #[derive(Debug, Drop)]
 pub struct Connect {
-    /// The client identifier (3.1.3.1), any text.
+    /// The client identifier (3.1.3.1), which may be empty.
     pub client_id: Text,
-    /// Clean session (3.1.2.4): the session before is discarded, and this one ends with the connection.
+    /// Clean session (3.1.2.4): discards the previous session; the new one ends with the
+    /// connection.
     pub clean_session: bool,
-    /// Keep-alive in seconds (3.1.2.10), 0 for none.
+    /// Keep-alive in seconds (3.1.2.10); 0 turns it off.
     pub keep_alive: u16,
-    /// The message that is published when the connection ends without a DISCONNECT (3.1.2.5).
+    /// The message to publish if the connection ends without a DISCONNECT (3.1.2.5).
     pub will: Option<Will>,
-    /// Who the client says that it is (3.1.3.4, 3.1.3.5).
+    /// User name and password (3.1.3.4, 3.1.3.5).
     pub login: Option<Login>,
 }
 
 /// The will of a CONNECT (3.1.2.5 to 3.1.2.7, 3.1.3.2, 3.1.3.3).
 #[derive(Debug, Drop)]
 pub struct Will {
-    /// What it is published to.
+    /// The topic to publish it to.
     pub topic: TopicName,
-    /// What it says.
+    /// The payload.
     pub message: Binary,
-    /// How often it is handed on.
+    /// The quality of service to publish it with.
     pub qos: Qos,
-    /// RETAIN of the message.
+    /// Whether the server retains it.
     pub retain: bool,
 }
 
 impl Will {
-    /// The message that it publishes (3.1.2.5). It shares the bytes; none is copied.
+    /// Returns the message to publish (3.1.2.5), which shares the payload.
     pub fn message(&self) -> Result<Message, AllocError>
         ensures { IfOk result (λ m. m ≡ record {
           topic = self.now.topic;
@@ -59,16 +60,16 @@ impl Will {
     }
 }
 
-/// A user name, and a password where there is one (3.1.3.4, 3.1.3.5).
+/// A user name with an optional password (3.1.3.4, 3.1.3.5).
 #[derive(Debug, Drop)]
 pub struct Login {
     /// The user name.
     pub name: Text,
-    /// The password, any bytes.
+    /// The password, arbitrary bytes.
     pub password: Option<Binary>,
 }
 
-/// A CONNECT behind a box, so that a packet is small. Contracts see the CONNECT.
+/// A CONNECT in a box, which keeps [`Packet`](crate::Packet) small.
 #[derive(Debug, Drop)]
 pub struct BoxedConnect {
     connect: Box<Connect>,
@@ -83,7 +84,7 @@ impl Model for BoxedConnect {
 }
 
 impl BoxedConnect {
-    /// Puts a CONNECT behind a box.
+    /// Moves a CONNECT into a box.
     pub fn new(alloc: Global, connect: Connect) -> Result<BoxedConnect, AllocError>
         ensures { IfOk result (λ b. b ≡ connect) }
     {
@@ -98,7 +99,7 @@ impl BoxedConnect {
         &self.connect
     }
 
-    /// The CONNECT, which it gives away.
+    /// Consumes the box and returns the CONNECT.
     pub fn into_connect(self) -> Connect
         ensures { result ≡ self }
     {
@@ -110,7 +111,7 @@ impl BoxedConnect {
 impl Clone for BoxedConnect {
     ghost is_clone = { λ boxed copy. copy ≡ boxed };
 
-    /// Another owner of the same bytes, behind a box of its own.
+    /// Returns another owner of the same bytes, in a new box.
     fn clone(&self) -> Result<BoxedConnect, AllocError> {
         let connect = self.connect.clone()?;
         Ok(BoxedConnect { connect })
@@ -120,7 +121,7 @@ impl Clone for BoxedConnect {
 impl Clone for Connect {
     ghost is_clone = { λ connect copy. copy ≡ connect };
 
-    /// Another owner of the same bytes; none is copied.
+    /// Returns another owner of the same bytes.
     fn clone(&self) -> Result<Connect, AllocError> {
         Ok(Connect {
             client_id: self.client_id.clone()?,
@@ -135,7 +136,7 @@ impl Clone for Connect {
 impl Clone for Will {
     ghost is_clone = { λ will copy. copy ≡ will };
 
-    /// Another owner of the same bytes; none is copied.
+    /// Returns another owner of the same bytes.
     fn clone(&self) -> Result<Will, AllocError> {
         Ok(Will {
             topic: self.topic.clone()?,
@@ -149,7 +150,7 @@ impl Clone for Will {
 impl Clone for Login {
     ghost is_clone = { λ login copy. copy ≡ login };
 
-    /// Another owner of the same bytes; none is copied.
+    /// Returns another owner of the same bytes.
     fn clone(&self) -> Result<Login, AllocError> {
         Ok(Login {
             name: self.name.clone()?,

@@ -1,4 +1,4 @@
-//! Writing packets (chapter 3).
+//! Encoding of packets (chapter 3).
 
 ghost use Rattle.std.specs.Prelude.{◌≡◌, ℕ, ◌+◌, ◌<◌, ◌≤◌, ◌^◌, ◌++◌, ◌∷◌, ◌↔◌, List, length, take, vec_len, vec_capacity, true, IsOk, OnOk, OnErr, IfErr, IfSome, IsSome, IsErrOf};
 ghost use Rattle.mq_wire.specs.Length.{Length, length_bytes};
@@ -13,18 +13,17 @@ use crate::publish::{Delivery, MessageRef};
 use mq_wire::{length_laws, put_varlen, varlen_len};
 use thiserror::Error;
 
-/// Why a packet was not written.
+/// Why a packet was not encoded.
 #[derive(Clone, Copy, Debug, PartialEq, Eq, Error)]
 pub enum EncodeError {
-    /// Its remaining length would be over 268,435,455 (2.2.3).
+    /// Its remaining length would exceed 268,435,455 (2.2.3).
     #[error("the packet is too large")]
     TooLarge,
-    /// Memory ran out.
+    /// An allocation failed.
     #[error("out of memory")]
     Memory,
 }
 
-// The first byte of a PUBLISH (3.3.1).
 fn publish_byte(message: MessageRef<'_>, delivery: &Option<Delivery>) -> u8
     ensures { result ≡ first_byte (Packet.Publish (publication message.entry delivery.now)) }
 {
@@ -35,7 +34,7 @@ fn publish_byte(message: MessageRef<'_>, delivery: &Option<Delivery>) -> u8
     0x30 + 8 * u8::from(dup) + 2 * message.qos.number() + u8::from(message.retain)
 }
 
-// The first byte (2.2.1, 2.2.2).
+// The packet type and the flags (2.2.1, 2.2.2).
 fn first_byte(packet: &Packet) -> u8
     ensures { result ≡ first_byte packet.now }
 {
@@ -57,7 +56,7 @@ fn first_byte(packet: &Packet) -> u8
     }
 }
 
-/// How many bytes the packet takes in all, `None` where its remaining length would be over
+/// Returns the size of the encoded packet in bytes, or `None` if its remaining length would exceed
 /// 268,435,455 (2.2.3).
 pub fn encoded_len(packet: &Packet) -> Option<u32>
     ensures fits { IsSome result ↔ (length (fields packet.now) < 2 ^ 28) }
@@ -68,7 +67,7 @@ pub fn encoded_len(packet: &Packet) -> Option<u32>
     Some(1 + size as u32 + rest)
 }
 
-// The remaining length in bytes, and how many they are (2.2.3).
+// The encoded remaining length and its number of bytes (2.2.3).
 fn length_of(rest: u32) -> ([u8; 4], usize)
     requires { rest < 2 ^ 28 }
     ensures formed { Length rest (length_bytes rest) }
@@ -81,7 +80,7 @@ fn length_of(rest: u32) -> ([u8; 4], usize)
     (bytes, size)
 }
 
-// Appends a remaining length, for which there is room (2.2.3).
+// Appends a remaining length. The vector must have room for it.
 #[tactic(auto, using(crate::proofs::Headers::one_byte))]
 fn put_length(out: &mut Vec<u8>, rest: u32)
     requires most { rest < 2 ^ 28 }
@@ -97,7 +96,7 @@ fn put_length(out: &mut Vec<u8>, rest: u32)
     put_bytes(out, &bytes[..size]);
 }
 
-// Makes room for a packet whose fields take so many bytes, and appends its first byte and the remaining length.
+// Reserves room for the whole packet, and appends its first byte and its remaining length.
 fn put_header(out: &mut Vec<u8>, first: u8, rest: u32) -> Result<(), EncodeError>
     requires { rest < 2 ^ 28 }
     ensures formed { Length rest (length_bytes rest) }
@@ -118,8 +117,9 @@ fn put_header(out: &mut Vec<u8>, first: u8, rest: u32) -> Result<(), EncodeError
     Ok(())
 }
 
-/// Appends the bytes of a packet (chapter 3). After an `Err` the vector is unchanged. Memory doesn't run out where the vector has room
-/// for them.
+/// Appends the encoding of a packet (chapter 3). On `Err`, `out` is unchanged. Does not allocate if
+/// `out` has enough spare capacity. Errors: `TooLarge` if the remaining length would exceed
+/// 268,435,455, `Memory` if the allocation fails.
 pub fn encode_into(packet: &Packet, out: &mut Vec<u8>) -> Result<(), EncodeError>
     ensures ok { OnOk result
         ((b : List ℕ) × Encodes packet.now b × (out.new.items ≡ out.old.items ++ b)) }
@@ -137,8 +137,9 @@ pub fn encode_into(packet: &Packet, out: &mut Vec<u8>) -> Result<(), EncodeError
     Ok(())
 }
 
-/// Appends the bytes of the PUBLISH of a message (3.3), which stays where it is, with its delivery exactly where the quality of
-/// service is over 0. After an `Err` the vector is unchanged. Memory doesn't run out where the vector has room for them.
+/// Appends the encoding of a PUBLISH (3.3) of a borrowed message. `delivery` must be given exactly
+/// for QoS 1 and 2. On `Err`, `out` is unchanged. Does not allocate if `out` has enough spare
+/// capacity.
 pub fn encode_publish_into(
     message: &Message,
     delivery: Option<Delivery>,

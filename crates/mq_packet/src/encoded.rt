@@ -1,4 +1,4 @@
-//! The items of lists as they are spelled.
+//! Encoding of list items.
 
 ghost use Rattle.std.specs.Prelude.{◌≡◌, ◌+◌, ◌<◌, ◌≤◌, ◌^◌, ◌++◌, List, ℕ, length, vec_len, vec_capacity, IfSome, IsSome, ◌↔◌};
 ghost use Rattle.std.specs.List.{flat_map, AllByRecursion};
@@ -12,18 +12,18 @@ use crate::packet::{Request, SubAckCode};
 use byteorder::{BigEndian, ByteOrder};
 use mq_topic::TopicFilter;
 
-/// What stands in a list of a packet.
-pub(crate) trait EncodesAll {
+/// An item of a list in a packet.
+pub(crate) trait ListItem {
     ghost encoding: { Self → List ℕ };
 
     ghost is_item: { Self → Type 0 };
 
-    /// How many bytes it takes.
+    /// Its size in bytes.
     fn size(&self) -> u32
         ensures size { result ≡ length (encoding self.now) }
         ensures small { result < 65_540 };
 
-    /// Appends its bytes, for which there is room.
+    /// Appends its bytes. The vector must have room for them.
     fn put(&self, out: &mut Vec<u8>)
         requires { vec_len out.old + length (encoding self.now) ≤ vec_capacity out.old }
         ensures items { out.new.items ≡ out.old.items ++ encoding self.now }
@@ -31,7 +31,7 @@ pub(crate) trait EncodesAll {
         ensures item { is_item self.now };
 }
 
-/// Appends bytes, for which there is room.
+/// Appends bytes. The vector must have room for them.
 pub(crate) fn put_bytes(out: &mut Vec<u8>, bytes: &[u8])
     requires { vec_len out.old + length bytes.now ≤ vec_capacity out.old }
     ensures items { out.new.items ≡ out.old.items ++ bytes.now }
@@ -40,7 +40,7 @@ pub(crate) fn put_bytes(out: &mut Vec<u8>, bytes: &[u8])
     let _ = out.extend_from_slice(bytes);
 }
 
-/// Appends a number in two bytes (1.5.2), for which there is room.
+/// Appends a number in two bytes (1.5.2). The vector must have room for them.
 pub(crate) fn put_number(out: &mut Vec<u8>, n: u16)
     requires { vec_len out.old + 2 ≤ vec_capacity out.old }
     ensures items { out.new.items ≡ out.old.items ++ number n }
@@ -51,7 +51,7 @@ pub(crate) fn put_number(out: &mut Vec<u8>, n: u16)
     put_bytes(out, &bytes);
 }
 
-/// Appends a count of two bytes, and the bytes, for which there is room.
+/// Appends a length in two bytes and the bytes. The vector must have room for them.
 pub(crate) fn put_counted(out: &mut Vec<u8>, bytes: &[u8])
     requires short { length bytes.now < 65_536 }
     requires room { vec_len out.old + length (counted bytes.now) ≤ vec_capacity out.old }
@@ -62,7 +62,7 @@ pub(crate) fn put_counted(out: &mut Vec<u8>, bytes: &[u8])
     put_bytes(out, bytes);
 }
 
-impl EncodesAll for TopicFilter {
+impl ListItem for TopicFilter {
     ghost encoding = { counted };
 
     ghost is_item = { IsTopicFilter };
@@ -76,7 +76,7 @@ impl EncodesAll for TopicFilter {
     }
 }
 
-impl EncodesAll for Request {
+impl ListItem for Request {
     ghost encoding = { request_fields };
 
     ghost is_item = { IsRequest };
@@ -91,7 +91,7 @@ impl EncodesAll for Request {
     }
 }
 
-impl EncodesAll for SubAckCode {
+impl ListItem for SubAckCode {
     ghost encoding = { code_fields };
 
     ghost is_item = { Always };
@@ -105,8 +105,8 @@ impl EncodesAll for SubAckCode {
     }
 }
 
-/// How many bytes items take, `None` where they are over 268,435,455.
-pub(crate) fn size_of_all<T: EncodesAll>(items: &[T]) -> Option<u32>
+/// Returns the size of all items, or `None` if it exceeds 268,435,455.
+pub(crate) fn size_of_all<T: ListItem>(items: &[T]) -> Option<u32>
     ensures fits { IsSome result ↔ (length (flat_map T.encoding items.now) < 2 ^ 28) }
     ensures size { IfSome result (λ n. n ≡ length (flat_map T.encoding items.now)) }
 {
@@ -120,8 +120,8 @@ pub(crate) fn size_of_all<T: EncodesAll>(items: &[T]) -> Option<u32>
     Some(size)
 }
 
-/// Appends the bytes of items, one after another, for which there is room.
-pub(crate) fn put_all<T: EncodesAll>(out: &mut Vec<u8>, items: &[T])
+/// Appends all items in order. The vector must have room for them.
+pub(crate) fn put_all<T: ListItem>(out: &mut Vec<u8>, items: &[T])
     requires { vec_len out.old + length (flat_map T.encoding items.now) ≤ vec_capacity out.old }
     ensures items { out.new.items ≡ out.old.items ++ flat_map T.encoding items.now }
     ensures capacity { vec_capacity out.old ≤ vec_capacity out.new }

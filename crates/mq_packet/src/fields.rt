@@ -1,4 +1,4 @@
-//! The fields of packets, one after another (chapter 3).
+//! Size and encoding of the fields behind the fixed header (chapter 3).
 
 ghost use Rattle.std.specs.Prelude.{◌≡◌, ℕ, ◌+◌, ◌<◌, ◌≤◌, ◌^◌, ◌++◌, ◌↔◌, length, vec_len, vec_capacity, true, IfSome, IsSome};
 ghost use Rattle.mq_packet.specs.Values.{IsPacket, IsBinary, IsConnect, IsPublication, IsWill, IsLogin, IsList};
@@ -12,7 +12,7 @@ ghost use Rattle.mq_wire.specs.Text.{IsText, counted};
 use crate::binary::Binary;
 use crate::connack::ConnAck;
 use crate::connect::{Connect, Login, Will};
-use crate::encoded::{EncodesAll, put_all, put_bytes, put_counted, put_number, size_of_all};
+use crate::encoded::{ListItem, put_all, put_bytes, put_counted, put_number, size_of_all};
 use crate::id::PacketId;
 use crate::list::NonEmpty;
 use crate::packet::Packet;
@@ -54,7 +54,7 @@ fn connect_len(connect: &Connect) -> u32
     12 + id + will_len(&connect.will) + login_len(&connect.login)
 }
 
-/// How many bytes the fields of a PUBLISH take, `None` where they are over 268,435,455 (2.2.3, 3.3).
+/// Returns the size of the fields of a PUBLISH, or `None` if it exceeds 268,435,455 (2.2.3, 3.3).
 pub(crate) fn publish_len(message: MessageRef<'_>, delivery: &Option<Delivery>) -> Option<u32>
     ensures fits { IsSome result ↔ (length (publish_fields (publication message.entry delivery.now)) < 2 ^ 28) }
     ensures len { IfSome result (λ n. n ≡ length (publish_fields (publication message.entry delivery.now))) }
@@ -68,7 +68,7 @@ pub(crate) fn publish_len(message: MessageRef<'_>, delivery: &Option<Delivery>) 
     if len > 268_435_455 { None } else { Some(len) }
 }
 
-fn list_len<T: EncodesAll>(items: &NonEmpty<T>) -> Option<u32>
+fn list_len<T: ListItem>(items: &NonEmpty<T>) -> Option<u32>
     ensures fits { IsSome result ↔ (2 + length (flat_map T.encoding items.now) < 2 ^ 28) }
     ensures len { IfSome result (λ n. n ≡ 2 + length (flat_map T.encoding items.now)) }
 {
@@ -76,7 +76,7 @@ fn list_len<T: EncodesAll>(items: &NonEmpty<T>) -> Option<u32>
     if len > 268_435_455 { None } else { Some(len) }
 }
 
-/// How many bytes the fields take, `None` where they are over 268,435,455 (2.2.3).
+/// Returns the size of the fields, or `None` if it exceeds 268,435,455 (2.2.3).
 pub(crate) fn fields_len(packet: &Packet) -> Option<u32>
     ensures fits { IsSome result ↔ (length (fields packet.now) < 2 ^ 28) }
     ensures len { IfSome result (λ n. n ≡ length (fields packet.now)) }
@@ -159,7 +159,7 @@ fn connect_flags(connect: &Connect) -> u8
     2 * u8::from(connect.clean_session) + will + login
 }
 
-// The protocol, the flags and the keep-alive (3.1.2).
+// Protocol name, level, flags and keep-alive (3.1.2).
 fn put_protocol(out: &mut Vec<u8>, connect: &Connect)
     requires { vec_len out.old + 10 ≤ vec_capacity out.old }
     ensures items { out.new.items ≡ out.old.items ++ connect_protocol connect.now }
@@ -171,7 +171,7 @@ fn put_protocol(out: &mut Vec<u8>, connect: &Connect)
     put_number(out, connect.keep_alive);
 }
 
-// The fields that each CONNECT has (3.1.2, 3.1.3.1).
+// The fields of every CONNECT (3.1.2, 3.1.3.1).
 fn put_connect_head(out: &mut Vec<u8>, connect: &Connect)
     requires { vec_len out.old + length (connect_head connect.now) ≤ vec_capacity out.old }
     ensures items { out.new.items ≡ out.old.items ++ connect_head connect.now }
@@ -193,7 +193,7 @@ fn put_connect(out: &mut Vec<u8>, connect: &Connect)
     put_login(out, &connect.login);
 }
 
-// The packet identifier of a PUBLISH, where it has one (3.3.2.2).
+// The packet identifier of a PUBLISH with QoS 1 or 2 (3.3.2.2).
 fn put_delivery(out: &mut Vec<u8>, delivery: &Option<Delivery>)
     requires { vec_len out.old + length (delivery_fields delivery.now) ≤ vec_capacity out.old }
     ensures items { out.new.items ≡ out.old.items ++ delivery_fields delivery.now }
@@ -205,7 +205,7 @@ fn put_delivery(out: &mut Vec<u8>, delivery: &Option<Delivery>)
     }
 }
 
-/// Appends the fields of a PUBLISH (3.3), for which there is room.
+/// Appends the fields of a PUBLISH (3.3). The vector must have room for them.
 pub(crate) fn put_publish(out: &mut Vec<u8>, message: MessageRef<'_>, delivery: &Option<Delivery>)
     requires fits { fits_delivery message.qos delivery.now ≡ true }
     requires room { vec_len out.old + length (publish_fields (publication message delivery.now)) ≤ vec_capacity out.old }
@@ -240,7 +240,7 @@ fn put_id(out: &mut Vec<u8>, id: PacketId)
     put_number(out, id.get());
 }
 
-fn put_list<T: EncodesAll>(out: &mut Vec<u8>, id: PacketId, items: &NonEmpty<T>)
+fn put_list<T: ListItem>(out: &mut Vec<u8>, id: PacketId, items: &NonEmpty<T>)
     requires { vec_len out.old + (2 + length (flat_map T.encoding items.now)) ≤ vec_capacity out.old }
     ensures items { out.new.items ≡ out.old.items ++ (number id ++ flat_map T.encoding items.now) }
     ensures capacity { vec_capacity out.old ≤ vec_capacity out.new }
@@ -250,7 +250,7 @@ fn put_list<T: EncodesAll>(out: &mut Vec<u8>, id: PacketId, items: &NonEmpty<T>)
     put_all(out, items.as_slice());
 }
 
-/// Appends the fields of a packet, for which there is room.
+/// Appends the fields of a packet. The vector must have room for them.
 pub(crate) fn put_fields(out: &mut Vec<u8>, packet: &Packet)
     requires { vec_len out.old + length (fields packet.now) ≤ vec_capacity out.old }
     ensures items { out.new.items ≡ out.old.items ++ fields packet.now }

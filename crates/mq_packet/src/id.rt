@@ -4,7 +4,7 @@ ghost use Rattle.std.specs.Prelude.{◌≡◌, ◌<◌, ◌↔◌, ◌^◌, IsSo
 
 use std::marker::Model;
 
-/// A packet identifier (2.3.1): 1 to 65,535. Contracts see it as the number.
+/// A packet identifier (2.3.1): 1 to 65,535.
 #[derive(Clone, Copy, Debug, PartialEq, Eq, PartialOrd, Ord, Hash)]
 pub struct PacketId {
     number: u16,
@@ -26,7 +26,7 @@ impl Model for PacketId {
 impl PacketId {
     ghost use Rattle.mq_packet.specs.Identifier.{IsIdentifier};
 
-    /// The identifier of this number, `None` for 0.
+    /// The identifier with this number, or `None` for 0.
     pub fn new(number: u16) -> Option<PacketId>
         ensures some { IsSome result ↔ (0 < number) }
         ensures value { IfSome result (λ id. id ≡ number) }

@@ -1,11 +1,11 @@
-//! Laws of spellings.
+//! The laws of encodings.
 
 ghost use Rattle.mq_packet.specs.Encoding.{EncodingLaws};
 
 use mq_wire::length_laws;
 
-/// The laws of spellings: each packet has one, unless its remaining length is over 268,435,455 (2.2.3),
-/// and so have packets one after another.
+/// The laws of encodings: each packet, and each list of packets, has exactly one encoding, unless a
+/// remaining length would exceed 268,435,455 (2.2.3).
 pub fn encoding_laws()
     ensures { EncodingLaws }
 {

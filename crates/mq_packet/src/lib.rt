@@ -1,6 +1,8 @@
-//! The fourteen control packets of MQTT 3.1.1 as values (chapter 3), and how they are written.
+//! The fourteen control packets of MQTT 3.1.1 as values (chapter 3), and their encoding.
 //!
-//! A value that is not well formed cannot be made: the parts keep their own rules.
+//! Only well-formed values can be constructed. A call that can fail for lack of memory says so in
+//! its return type; other calls never allocate. On `Err` the receiver is unchanged unless stated
+//! otherwise.
 #![tactic(auto)]
 
 mod binary;

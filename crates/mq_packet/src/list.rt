@@ -1,4 +1,4 @@
-//! Lists that hold at least one item.
+//! Lists with at least one item.
 
 ghost use Rattle.std.specs.Prelude.{◌≡◌, ◌<◌, length};
 ghost use Rattle.std.specs.List.{AllZip};
@@ -6,8 +6,7 @@ ghost use Rattle.std.specs.List.{AllZip};
 use std::alloc::AllocError;
 use std::marker::Model;
 
-/// A list of at least one item, as SUBSCRIBE, SUBACK and UNSUBSCRIBE carry it (3.8.3, 3.9.3, 3.10.3).
-/// Contracts see it as the list of its items.
+/// A list of at least one item, as in SUBSCRIBE, SUBACK and UNSUBSCRIBE (3.8.3, 3.9.3, 3.10.3).
 #[derive(Debug, Drop)]
 pub struct NonEmpty<T> {
     items: Vec<T>,
@@ -24,7 +23,7 @@ impl<T> Model for NonEmpty<T> {
 }
 
 impl<T> NonEmpty<T> {
-    /// The list of these items, of which there is at least one. It takes no memory.
+    /// Wraps a vector, which must not be empty.
     pub fn from_vec(items: Vec<T>) -> NonEmpty<T>
         requires { 0 < length items.items }
         ensures { result ≡ items.items }
@@ -32,7 +31,7 @@ impl<T> NonEmpty<T> {
         NonEmpty { items }
     }
 
-    /// The items. It takes no memory.
+    /// Consumes the list and returns the vector.
     pub fn into_vec(self) -> Vec<T>
         ensures { result.items ≡ self }
     {
@@ -52,7 +51,7 @@ impl<T> NonEmpty<T> {
 impl<T: Clone> Clone for NonEmpty<T> {
     ghost is_clone = { λ list copy. AllZip T.is_clone list copy };
 
-    /// A list of clones of the items.
+    /// Clones each item.
     fn clone(&self) -> Result<NonEmpty<T>, AllocError> {
         let items = self.items.clone()?;
         Ok(NonEmpty { items })

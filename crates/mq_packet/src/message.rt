@@ -7,21 +7,21 @@ use crate::publish::MessageRef;
 use mq_topic::{Qos, TopicName};
 use std::alloc::AllocError;
 
-/// An application message, as it is published (3.3). A clone shares its bytes.
+/// An application message to publish (3.3). Clones share its bytes.
 #[derive(Debug, Drop)]
 pub struct Message {
-    /// What it is published to.
+    /// The topic to publish it to.
     pub topic: TopicName,
-    /// What it says.
+    /// The payload.
     pub payload: Payload,
-    /// How often it is handed on.
+    /// The quality of service to deliver it with.
     pub qos: Qos,
-    /// RETAIN: the server keeps it for later subscribers.
+    /// RETAIN: the server stores it for future subscribers.
     pub retain: bool,
 }
 
 impl Message {
-    /// The message, as it lies there.
+    /// Borrows the parts.
     pub fn as_parts(&self) -> MessageRef<'_>
         ensures topic { result.topic.now ≡ self.now.topic }
         ensures payload { result.payload.now ≡ self.now.payload }
@@ -40,7 +40,7 @@ impl Message {
 impl Clone for Message {
     ghost is_clone = { λ message copy. copy ≡ message };
 
-    /// Another owner of the same bytes; none is copied.
+    /// Returns another owner of the same bytes.
     fn clone(&self) -> Result<Message, AllocError> {
         Ok(Message {
             topic: self.topic.clone()?,

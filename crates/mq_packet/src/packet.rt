@@ -12,77 +12,77 @@ use mq_topic::{Qos, TopicFilter};
 use std::alloc::AllocError;
 use std::mem::size_of;
 
-// A list of packets moves each of them.
+// A list of packets moves each of them, so a packet must stay small.
 const _: () = prove!(size_of::<Packet>() <= 96);
 
 /// A control packet (chapter 3).
 #[derive(Debug, Drop)]
 pub enum Packet {
-    /// A client asks for a connection (3.1).
+    /// The client requests a connection (3.1).
     Connect(BoxedConnect),
-    /// The server's answer (3.2).
+    /// The server's response to CONNECT (3.2).
     ConnAck(ConnAck),
-    /// A message (3.3).
+    /// An application message (3.3).
     Publish(Publish),
-    /// A message of quality of service 1 has come (3.4).
+    /// Acknowledges a PUBLISH with QoS 1 (3.4).
     PubAck(PacketId),
-    /// A message of quality of service 2 has come (3.5).
+    /// Acknowledges a PUBLISH with QoS 2 (3.5).
     PubRec(PacketId),
-    /// Its identifier may be forgotten (3.6).
+    /// Releases a message with QoS 2 (3.6).
     PubRel(PacketId),
-    /// It is forgotten (3.7).
+    /// Completes the exchange of a message with QoS 2 (3.7).
     PubComp(PacketId),
-    /// A client subscribes (3.8).
+    /// The client requests subscriptions (3.8).
     Subscribe {
         /// The packet identifier.
         id: PacketId,
-        /// What it asks for, at least one item.
+        /// The requested subscriptions.
         requests: NonEmpty<Request>,
     },
-    /// The server's answer, a code for each request (3.9).
+    /// The server's response to SUBSCRIBE, one code for each request (3.9).
     SubAck {
         /// The packet identifier.
         id: PacketId,
-        /// The codes, at least one.
+        /// The codes, in the order of the requests.
         codes: NonEmpty<SubAckCode>,
     },
-    /// A client gives subscriptions up (3.10).
+    /// The client cancels subscriptions (3.10).
     Unsubscribe {
         /// The packet identifier.
         id: PacketId,
-        /// The filters, at least one.
+        /// The topic filters.
         filters: NonEmpty<TopicFilter>,
     },
-    /// The server's answer (3.11).
+    /// The server's response to UNSUBSCRIBE (3.11).
     UnsubAck(PacketId),
-    /// A client asks whether the server is there (3.12).
+    /// The client checks that the server is alive (3.12).
     PingReq,
-    /// It is (3.13).
+    /// The server's response to PINGREQ (3.13).
     PingResp,
-    /// A client leaves (3.14).
+    /// The client is about to close the connection (3.14).
     Disconnect,
 }
 
-/// An item of SUBSCRIBE (3.8.3): a filter, and the greatest quality of service that is asked for.
+/// A requested subscription (3.8.3).
 #[derive(Debug, Drop)]
 pub struct Request {
-    /// Which topic names.
+    /// The topic filter.
     pub filter: TopicFilter,
-    /// The greatest quality of service asked for.
+    /// The maximum quality of service of delivered messages.
     pub qos: Qos,
 }
 
 /// A code of SUBACK (3.9.3).
 #[derive(Clone, Copy, Debug, PartialEq, Eq)]
 pub enum SubAckCode {
-    /// The subscription stands, with this quality of service.
+    /// The subscription is accepted, with this maximum quality of service.
     Granted(Qos),
-    /// It was refused.
+    /// The subscription is refused.
     Failure,
 }
 
 impl SubAckCode {
-    /// The number that stands for it in packets: 0, 1, 2 or 128.
+    /// The return code: 0, 1, 2 or 128.
     pub fn number(self) -> u8
         ensures { result ≡ code_number self }
     {
@@ -92,7 +92,7 @@ impl SubAckCode {
         }
     }
 
-    /// The code that a number stands for, `None` for any but 0, 1, 2 and 128.
+    /// The code with this number, or `None` for any number but 0, 1, 2 and 128.
     pub fn from_number(number: u8) -> Option<SubAckCode>
         ensures { result ≡ code_from number }
     {
@@ -109,7 +109,7 @@ impl SubAckCode {
 impl Clone for Request {
     ghost is_clone = { λ request copy. copy ≡ request };
 
-    /// Another owner of the same bytes; none is copied.
+    /// Returns another owner of the same bytes.
     fn clone(&self) -> Result<Request, AllocError> {
         Ok(Request {
             filter: self.filter.clone()?,
@@ -121,7 +121,7 @@ impl Clone for Request {
 impl Clone for Packet {
     ghost is_clone = { λ packet copy. copy ≡ packet };
 
-    /// A packet whose texts, binary fields and payload are the same bytes; of these none is copied.
+    /// Returns a packet that shares texts, binary fields and payload with this one.
     fn clone(&self) -> Result<Packet, AllocError> {
         Ok(match self {
             Packet::Connect(connect) => Packet::Connect(connect.clone()?),

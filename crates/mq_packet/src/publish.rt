@@ -10,20 +10,19 @@ use mq_topic::{Qos, TopicName};
 use std::alloc::AllocError;
 use std::marker::Model;
 
-/// What a PUBLISH of quality of service 1 or 2 has beside its message (3.3.1.1, 3.3.2.2).
+/// The fields that only a PUBLISH with QoS 1 or 2 has (3.3.1.1, 3.3.2.2).
 #[derive(Clone, Copy, Debug, PartialEq, Eq)]
 pub struct Delivery {
     /// The packet identifier.
     pub id: PacketId,
-    /// DUP: the packet may have been sent before.
+    /// DUP: this may be a retransmission.
     pub dup: bool,
 }
 
-/// PUBLISH (3.3): a message, and its delivery exactly where the quality of service is over 0.
-/// Contracts see both.
+/// PUBLISH (3.3): a message, and a delivery exactly if its QoS is 1 or 2.
 #[derive(Debug, Drop)]
 pub struct Publish {
-    // The parts of the message stand by themselves, so that a packet is small.
+    // The parts of the message, one by one: that keeps a packet small.
     topic: TopicName,
     payload: Payload,
     qos: Qos,
@@ -45,21 +44,21 @@ impl Model for Publish {
     ghost invariant = { λ p. fits_delivery p.qos p.delivery ≡ true };
 }
 
-/// The message of a PUBLISH, as it lies there.
+/// A borrowed message.
 #[derive(Clone, Copy, Debug)]
 pub struct MessageRef<'a> {
-    /// What it is published to.
+    /// The topic to publish it to.
     pub topic: &'a TopicName,
-    /// What it says.
+    /// The payload.
     pub payload: &'a Payload,
-    /// How often it is handed on.
+    /// The quality of service to deliver it with.
     pub qos: Qos,
-    /// RETAIN: the server keeps it for later subscribers.
+    /// RETAIN: the server stores it for future subscribers.
     pub retain: bool,
 }
 
 impl Publish {
-    /// The PUBLISH of a message, with its delivery exactly where the quality of service is over 0.
+    /// A PUBLISH of `message`. `delivery` must be given exactly for QoS 1 and 2.
     pub fn new(message: Message, delivery: Option<Delivery>) -> Publish
         requires { fits_delivery message.qos delivery ≡ true }
         ensures message { result.message ≡ message }
@@ -96,7 +95,7 @@ impl Publish {
         }
     }
 
-    /// The packet identifier and DUP, `None` exactly with quality of service 0.
+    /// The packet identifier and DUP, or `None` for QoS 0.
     pub fn delivery(&self) -> Option<Delivery>
         ensures value { result ≡ self.now.delivery }
         ensures fits { fits_delivery self.now.message.qos self.now.delivery ≡ true }
@@ -104,7 +103,7 @@ impl Publish {
         self.delivery
     }
 
-    /// The same where it lies.
+    /// Borrows the delivery.
     pub(crate) fn delivery_ref(&self) -> &Option<Delivery>
         ensures value { result.now ≡ self.now.delivery }
         ensures fits { fits_delivery self.now.message.qos self.now.delivery ≡ true }
@@ -112,7 +111,7 @@ impl Publish {
         &self.delivery
     }
 
-    /// The message, which it gives away.
+    /// Consumes the PUBLISH and returns its message.
     pub fn into_message(self) -> Message
         ensures { result ≡ self.message }
     {
@@ -135,7 +134,7 @@ impl Publish {
 impl Clone for Publish {
     ghost is_clone = { λ publish copy. copy ≡ publish };
 
-    /// Another owner of the same bytes; none is copied.
+    /// Returns another owner of the same bytes.
     fn clone(&self) -> Result<Publish, AllocError> {
         Ok(Publish {
             topic: self.topic.clone()?,

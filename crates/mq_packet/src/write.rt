@@ -1,4 +1,4 @@
-//! Packets into a writer.
+//! Writing packets to a `Write`.
 
 ghost use Rattle.std.specs.Prelude.{◌≡◌, ◌≤◌, ◌↔◌, ◌^◌, length, IfErr, OnErr, OnOk, IsErrOf};
 ghost use Rattle.std.specs.Io.KnownBytes.{Appends};
@@ -12,19 +12,18 @@ use std::io;
 use std::io::{ErrorKind, Write};
 use thiserror::Error;
 
-/// Why a packet did not reach a writer.
+/// Why a packet was not written.
 #[derive(Debug, Drop, Error)]
 pub enum WriteError {
-    /// It was not spelled; nothing was written.
+    /// It could not be encoded. Nothing was written.
     #[error("{0}")]
     Encode(EncodeError),
-    /// The writer failed; a beginning of the packet was written, of some bytes or none.
+    /// The writer failed after it took some or none of the bytes.
     #[error("{0}")]
     Io(io::Error),
 }
 
-// Writes the bytes, trying again where a signal interrupts it. After an error a beginning of them is
-// written.
+// Retries interrupted writes. On `Err`, the writer has taken some or none of the bytes.
 fn write_bytes<W: Write>(bytes: &[u8], writer: &mut W) -> io::Result<()>
     ensures ok { OnOk result (Appends (W.contents writer.old) (W.contents writer.new) bytes.now) }
     ensures err { OnErr result
@@ -45,7 +44,7 @@ fn write_bytes<W: Write>(bytes: &[u8], writer: &mut W) -> io::Result<()>
     Err(io::Error::from(ErrorKind::Interrupted))
 }
 
-/// Writes the bytes of a packet (chapter 3). The writer is not flushed.
+/// Encodes a packet (chapter 3) and writes it. Does not flush the writer.
 pub fn write_packet<W: Write>(
     alloc: Global,
     packet: &Packet,

@@ -1,4 +1,4 @@
--- Remaining lengths: how many bytes a number takes, and the laws of reading.
+-- Remaining lengths: the size of an encoding, and the laws of reading.
 use Rattle.std.proofs.Common.{◌≡◌, ℕ, suc, Bool, true, false, ◌+◌, ◌-◌, ◌*◌, ◌/◌, ◌%◌, ◌^◌, ◌<◌, ◌≤◌, List, [], ◌∷◌, ◌++◌, length, take, refl, sym, ap, subst, ◌∙◌, append_assoc, arith, inl, inr}
 use Rattle.std.proofs.lemmas.Bool.{cases_lt, cases_eq, lt-ltb, le-ltb, ne_eqb}
 use Rattle.std.proofs.lemmas.List.{take_at, length-append}
@@ -42,7 +42,7 @@ size_four n (a ∷ b ∷ c ∷ []) le h = omega arith
 size_four n (a ∷ b ∷ c ∷ d ∷ []) le h = refl
 size_four n (a ∷ b ∷ c ∷ d ∷ e ∷ bs) le h = absurd (omega arith)
 
--- ---- what is read as a length is loosely one
+-- ---- a length that a lenient reader reads
 
 loose_of : (lenient : Bool) (n : ℕ) (b : List ℕ) → LengthUnder lenient n b → LooseLength n b
 loose_of false n b h = (h.0, h.1)
@@ -87,7 +87,7 @@ pub form_four : (n a b c d : ℕ) → 128 ≤ a → a < 256 → 128 ≤ b → b 
 form_four n a b c d a_on a_byte b_on b_byte c_on c_byte d_last d_some e =
     ((a_on, a_byte, (b - 128) + 128 * (c - 128) + 16384 * d, omega arith, (b_on, b_byte, (c - 128) + 128 * d, omega arith, (c_on, c_byte, d, omega arith, (d_last, refl)))), omega arith, d_some)
 
--- with a last byte that may be 0
+-- An encoding of two bytes whose last byte may be 0.
 loose_two : (n a b : ℕ) → 128 ≤ a → a < 256 → b < 128 → n ≡ (a - 128) + 128 * b → LooseLength n (a ∷ b ∷ [])
 loose_two n a b a_on a_byte b_last e = ((a_on, a_byte, b, omega arith, (b_last, refl)), omega arith)
 
@@ -100,7 +100,6 @@ loose_four : (n a b c d : ℕ) → 128 ≤ a → a < 256 → 128 ≤ b → b < 2
 loose_four n a b c d a_on a_byte b_on b_byte c_on c_byte d_last e =
     ((a_on, a_byte, (b - 128) + 128 * (c - 128) + 16384 * d, omega arith, (b_on, b_byte, (c - 128) + 128 * d, omega arith, (c_on, c_byte, d, omega arith, (d_last, refl)))), omega arith)
 
--- its bytes
 exists : (n : ℕ) → n < 2 ^ 28 → Length n (length_bytes n)
 unfolding length_bytes
 exists n lt =
@@ -148,7 +147,7 @@ one n (a ∷ b ∷ c ∷ d ∷ []) h =
     rw (le-ltb n 128 over1, le-ltb n 16384 over2, le-ltb n 2097152 over, low, mid, next, high) refl
 one n (a ∷ b ∷ c ∷ d ∷ e ∷ bs) h = absurd (omega arith)
 
--- ---- what is a length is read
+-- ---- an encoding is read back
 
 strict_again : (n : ℕ) (b rest : List ℕ) → Length n b → read_length false (b ++ rest) ≡ Whole n (length b)
 unfolding read_length
@@ -256,7 +255,7 @@ data Front (lenient : Bool) (b : List ℕ) : Type 0 where
   IsLong : IsTooLong b → Front lenient b
   IsWide : (size : ℕ) → lenient ≡ false → IsOverlong b size → Front lenient b
 
--- a last byte of 0 behind others
+-- A last byte of 0 after others.
 zero_last : (lenient : Bool) (n : ℕ) (digits rest : List ℕ) → Continue digits → 0 < length digits → length digits ≤ 3 → LooseLength n (digits ++ 0 ∷ []) → Front lenient (digits ++ 0 ∷ rest)
 zero_last false n digits rest on some three loose =
     IsWide (length digits + 1) refl (record { digits = digits; rest = rest; parts = refl; following = on; some = some; three = three; counted = refl })
@@ -308,7 +307,7 @@ front_cases lenient (a ∷ rest) bytes =
       | inr le ↦ front_two lenient a rest (le, bytes 0, tt) (λ i. bytes (suc i))
     ]
 
--- ---- what is read as a length is one
+-- ---- a length that is read is an encoding
 
 whole_is : {n m i j : ℕ} → Whole n i ≡ Whole m j → (n ≡ m) × (i ≡ j)
 whole_is e = (cc, cc)
@@ -316,7 +315,7 @@ whole_is e = (cc, cc)
 wide_is : {i j : ℕ} → Overlong i ≡ Overlong j → i ≡ j
 wide_is e = cc
 
--- what an overlong one is read as
+-- An overlong encoding is read as one.
 wide_again : (lenient : Bool) (b : List ℕ) (size : ℕ) → lenient ≡ false → IsOverlong b size → read_length lenient b ≡ Overlong size
 wide_again lenient b size strict h = rw strict (overlong_again b size h)
 

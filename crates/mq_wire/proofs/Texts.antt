@@ -1,4 +1,4 @@
--- Texts: the laws of reading.
+-- The laws of reading texts.
 use Rattle.std.proofs.Common.{◌≡◌, ℕ, zero, suc, ◌+◌, ◌-◌, ◌*◌, ◌/◌, ◌%◌, ◌<◌, ◌≤◌, Bool, true, false, true≢false, cond, ltb, ◌||◌, ◌==◌, List, [], ◌∷◌, ◌++◌, length, take, drop, slice_range, get_or, Result, Ok, Err, refl, sym, ap, subst, ◌∙◌, add-zero, arith, inl, inr}
 use Rattle.std.specs.List.{list_any}
 use Rattle.std.specs.Str.{IsUtf8, IsAscii, is_utf8}
@@ -25,7 +25,7 @@ is_text t utf8 no_nul short = record { utf8 = is_utf8-from_IsUtf8 t utf8; no_nul
 
 -- ---- characters of ASCII
 
--- the first byte and the others, where none is special
+-- The first byte and the others, if none is special.
 record Plain (b : ℕ) (t : List ℕ) : Type 0 where
   some : (b == 0) ≡ false
   ascii : b < 128
@@ -54,7 +54,7 @@ plain_nul : (t : List ℕ) → list_any is_special t ≡ false → has_nul t ≡
 plain_nul [] none = refl
 plain_nul (b ∷ t) none = rw ((plain_parts b t none).some) (plain_nul t (plain_parts b t none).others)
 
--- what has no special byte is UTF-8 without U+0000
+-- Bytes of which none is special are UTF-8 without U+0000.
 pub plain_utf8 : (t : List ℕ) → list_any is_special t ≡ false → IsUtf8 t
 plain_utf8 t none = IsUtf8-from_ascii t (plain_ascii t none)
 
@@ -75,7 +75,7 @@ number_in-number n rest = omega arith
 number_in-lt : (bytes : List ℕ) (at : ℕ) → AreBytes bytes → number_in bytes at < 65536
 number_in-lt bytes at fits = omega (arith, fits at, fits (at + 1))
 
--- two bytes are the number that stands in them
+-- Two bytes are the encoding of the number that is read from them.
 number_of_two : (bytes : List ℕ) → AreBytes bytes → 2 ≤ length bytes → bytes ≡ number (number_in bytes 0) ++ drop 2 bytes
 number_of_two [] fits two = absurd (omega arith)
 number_of_two (a ∷ []) fits two = absurd (omega arith)
@@ -87,7 +87,7 @@ number_of_two (a ∷ b ∷ rest) fits two =
 AreBytes-drop : (n : ℕ) (bytes : List ℕ) → AreBytes bytes → AreBytes (drop n bytes)
 AreBytes-drop n bytes h i = rw get_or-drop (h (n + i))
 
--- ---- what is a text is read
+-- ---- an encoded text is read back
 
 again : (front t rest : List ℕ) → IsText t → read_text (front ++ (counted t ++ rest)) (length front) ≡ Ok (t, length front + 2 + length t)
 unfolding read_text checked_text
@@ -102,7 +102,7 @@ again front t rest h =
     let t_is : text_bytes bytes (length front) ≡ t = rw (n_is, behind) (take_at t rest (length t) refl) in
     rw (one, two, t_is, h.utf8, h.no_nul, n_is) refl
 
--- ---- what is read is a text
+-- ---- a text that is read is encoded
 
 guards : (c1 c2 : Bool) (r : Result (List ℕ) FieldFault) (place : ℕ) (y : List ℕ × ℕ) → cond c1 (Err Past) (cond c2 (Err Past) (with_place place r)) ≡ Ok y
     → (c1 ≡ false) × (c2 ≡ false) × (t : List ℕ) × (r ≡ Ok t) × ((t, place) ≡ y)
@@ -116,7 +116,7 @@ checked true false t u e = (refl, refl, cc)
 checked true true t u e = absurd cc
 checked false nul t u e = absurd cc
 
--- the text with the place after it
+-- The text with the index after it.
 abbrev placed : List ℕ → ℕ → List ℕ × ℕ
 placed t end = (t, end)
 
@@ -151,7 +151,7 @@ laws = record { again = again; found = found }
 pub number_laws : NumberLaws
 number_laws = record { again = number_in-number; found = number_of_two; below = number_in-lt }
 
--- what is a text is all of its bytes
+-- A checked text is all of its bytes.
 pub checked_is : (t u : List ℕ) → Ok u ≡ checked_text t → u ≡ t
 unfolding checked_text
 checked_is t u e = go (is_utf8 t) (has_nul t) e
@@ -161,7 +161,7 @@ checked_is t u e = go (is_utf8 t) (has_nul t) e
     go true false e = cc
     go false b e = absurd cc
 
--- where the bytes of a text stand
+-- The range of the bytes of a text.
 pub stands_is : (xs text : List ℕ) (a n m : ℕ) → text ≡ take n (take m (drop a xs)) → n ≤ m → slice_range xs a (a + n) ≡ text
 stands_is xs text a n m e le =
     let same : a + n - a ≡ n = omega arith in

@@ -1,6 +1,6 @@
 -- Bytes.
 use Rattle.std.specs.Prelude.{ℕ, ◌<◌, List, slice_index}
 
--- each item is a byte
+-- Each item is a byte.
 abbrev pub AreBytes : List ℕ → Type 0
 AreBytes b = (i : ℕ) → slice_index b i < 256

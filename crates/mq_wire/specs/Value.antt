@@ -1,7 +1,7 @@
--- What bytes of seven bits stand for.
+-- The value of digits in base 128.
 use Rattle.std.specs.Prelude.{ℕ, ◌+◌, ◌*◌, ◌%◌, List, [], ◌∷◌}
 
--- up to three bytes, least first, and then the last one
+-- Up to three digits, least significant first, followed by the last one.
 abbrev pub value_of : List ℕ → ℕ → ℕ
 value_of [] last = last
 value_of (a ∷ []) last = a % 128 + 128 * last

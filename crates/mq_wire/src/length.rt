@@ -1,6 +1,6 @@
-//! The remaining length (2.2.3): one to four bytes of seven bits each, least first, where bit 7 says
-//! that another byte follows. A length with more bytes than it needs is refused, but by a lenient
-//! reader.
+//! The remaining length (2.2.3): one to four bytes that carry seven bits each, least significant
+//! first. Bit 7 of a byte says that another byte follows. An encoding with more bytes than
+//! necessary is refused, except by a lenient reader.
 
 ghost use Rattle.std.specs.Prelude.{◌≡◌, ℕ, ◌+◌, ◌<◌, ◌≤◌, ◌^◌, ◌↔◌, true, false, List, [], ◌∷◌, ◌++◌, length, take, drop, IsSome, IfSome, IfNone};
 ghost use Rattle.mq_wire.specs.Length.{Length};
@@ -8,29 +8,28 @@ ghost use Rattle.mq_wire.specs.Value.{value_of};
 
 use std::marker::Model;
 
-/// What is wrong with a remaining length.
+/// Why bytes are not a remaining length.
 #[derive(Clone, Copy, Debug, PartialEq, Eq)]
 pub enum VarFault {
-    /// The fourth byte says that a fifth follows.
+    /// The fourth byte announces a fifth.
     TooLong,
-    /// The last byte is 0 and not the only one, so that fewer bytes would do. A lenient reader takes
-    /// it.
+    /// The last byte is 0 and is not the only one, so fewer bytes would do. A lenient reader
+    /// accepts it.
     Overlong,
 }
 
-/// What a byte makes of the bytes of a remaining length before it.
+/// The result of [`VarlenReader::push`].
 #[derive(Clone, Copy, Debug, PartialEq, Eq)]
 pub enum VarStep {
     /// Another byte follows.
     More,
-    /// The length is whole.
+    /// The length is complete.
     Done(u32),
-    /// No length begins so.
+    /// No remaining length begins with these bytes.
     Bad(VarFault),
 }
 
-/// Reads a remaining length byte by byte (2.2.3). Contracts see the bytes that came, and whether it is
-/// lenient.
+/// Reads a remaining length byte by byte (2.2.3).
 #[derive(Debug, Drop)]
 pub struct VarlenReader {
     bytes: [u8; 4],
@@ -52,7 +51,7 @@ impl Model for VarlenReader {
 impl VarlenReader {
     ghost use Rattle.mq_wire.specs.Steps.{Continue, IsStep};
 
-    /// A reader that no byte has come to.
+    /// A reader that has received no byte.
     pub fn new() -> VarlenReader
         ensures bytes { result.bytes ≡ [] }
         ensures lenient { result.lenient ≡ false }
@@ -60,8 +59,8 @@ impl VarlenReader {
         VarlenReader::of(false)
     }
 
-    /// A reader that no byte has come to, and that takes a length with more bytes than it needs: it
-    /// never answers `Overlong`.
+    /// A reader that has received no byte and accepts encodings with more bytes than necessary. It
+    /// never reports `Overlong`.
     pub fn lenient() -> VarlenReader
         ensures bytes { result.bytes ≡ [] }
         ensures lenient { result.lenient ≡ true }
@@ -80,8 +79,8 @@ impl VarlenReader {
         }
     }
 
-    /// Takes the next byte, and says what the bytes so far are. It is not to be called again once it
-    /// has answered `Done` or `Bad`.
+    /// Takes the next byte and reports the state of the bytes so far. Must not be called again
+    /// after `Done` or `Bad`.
     pub fn push(&mut self, byte: u8) -> VarStep
         requires short { length self.old.bytes < 4 }
         requires open { Continue self.old.bytes }
@@ -105,7 +104,6 @@ impl VarlenReader {
     }
 }
 
-// The number whose bytes are these, of seven bits each and least first, and then the last one.
 fn number_of(before: &[u8], last: u8) -> u32
     ensures { result ≡ value_of before.now last }
 {
@@ -123,8 +121,8 @@ fn number_of(before: &[u8], last: u8) -> u32
     }
 }
 
-/// How many bytes the remaining length `n` takes (2.2.3), or `None` where it is over 268,435,455 and
-/// no packet can have it.
+/// Returns the number of bytes that encode the remaining length `n` (2.2.3), or `None` if `n` is
+/// over 268,435,455, the largest remaining length.
 pub fn varlen_len(n: u32) -> Option<usize>
     ensures fits { IsSome result ↔ (n < 2 ^ 28) }
     ensures size { IfSome result (λ k. (b : List ℕ) → Length n b → length b ≡ k) }
@@ -139,8 +137,9 @@ pub fn varlen_len(n: u32) -> Option<usize>
     }
 }
 
-/// Writes the remaining length `n` to the front of `out` (2.2.3) and returns how many bytes it takes. Those
-/// behind them stay. Returns `None` where `n` is over 268,435,455, and then `out` is unchanged.
+/// Writes the remaining length `n` to the front of `out` (2.2.3) and returns the number of bytes
+/// written. The bytes behind them are unchanged. Returns `None` if `n` is over 268,435,455; then
+/// `out` is unchanged.
 pub fn put_varlen(n: u32, out: &mut [u8; 4]) -> Option<usize>
     ensures fits { IsSome result ↔ (n < 2 ^ 28) }
     ensures size { IfSome result (λ k. k ≤ 4) }

@@ -1,22 +1,21 @@
-//! A remaining length that stands at the front of bytes (2.2.3).
+//! Reads a remaining length at the front of a buffer (2.2.3).
 
 ghost use Rattle.std.specs.Prelude.{◌≡◌, true, false};
 ghost use Rattle.mq_wire.specs.Reading.{IsSmall, LengthLaws, last_byte, read_length};
 
-/// What stands at the front of bytes, read as a remaining length.
+/// The result of reading a remaining length at the front of a buffer.
 #[derive(Clone, Copy, Debug, PartialEq, Eq)]
 pub enum LengthReading {
-    /// The length of so many bytes.
+    /// The length, and the number of bytes that encode it.
     Whole(u32, usize),
-    /// Fewer bytes than a whole length: each says that another follows.
+    /// The buffer ends inside the length: each of its bytes announces another.
     Unfinished,
-    /// The fourth byte says that a fifth follows.
+    /// The fourth byte announces a fifth.
     TooLong,
-    /// A last byte is 0 and not the only one. It is the byte of this count.
+    /// The last byte is 0 and is not the only one. Counts the bytes up to and including it.
     Overlong(usize),
 }
 
-// A last byte that is not alone: 0 is one byte too many, but for a lenient reader.
 fn last_byte(lenient: bool, byte: u8, number: u32, size: usize) -> LengthReading
     ensures { result ≡ last_byte lenient byte number size }
 {
@@ -26,7 +25,6 @@ fn last_byte(lenient: bool, byte: u8, number: u32, size: usize) -> LengthReading
     LengthReading::Whole(number, size)
 }
 
-// What stands at the front.
 #[tactic(auto, unfolding(crate::specs::Reading::read_length))]
 fn read_length(lenient: bool, bytes: &[u8]) -> LengthReading
     ensures read { result ≡ read_length lenient bytes.now }
@@ -57,7 +55,7 @@ fn read_length(lenient: bool, bytes: &[u8]) -> LengthReading
     }
 }
 
-/// Reads the remaining length at the front of `bytes`; what follows it does not matter (2.2.3).
+/// Reads the remaining length at the front of `bytes` (2.2.3). Ignores the bytes that follow it.
 pub fn length_at(bytes: &[u8]) -> LengthReading
     ensures read { result ≡ read_length false bytes.now }
     ensures small { IsSmall result }
@@ -65,8 +63,8 @@ pub fn length_at(bytes: &[u8]) -> LengthReading
     read_length(false, bytes)
 }
 
-/// Reads the remaining length at the front of `bytes`, which may have more bytes than it needs: it is
-/// never `Overlong`.
+/// Like [`length_at`], but accepts encodings with more bytes than necessary. Never returns
+/// `Overlong`.
 pub fn loose_length_at(bytes: &[u8]) -> LengthReading
     ensures read { result ≡ read_length true bytes.now }
     ensures small { IsSmall result }
@@ -74,8 +72,8 @@ pub fn loose_length_at(bytes: &[u8]) -> LengthReading
     read_length(true, bytes)
 }
 
-/// The laws of remaining lengths: which numbers have one, and which bytes it is, that what is one is
-/// read, and that what is read is one.
+/// The laws of remaining lengths: each number up to 268,435,455 has exactly one encoding, encodings
+/// are read back, and what is read is an encoding.
 pub fn length_laws()
     ensures { LengthLaws }
 {}

@@ -1,5 +1,7 @@
-//! What every MQTT packet is built of: the remaining length of one to four bytes (2.2.3), two-byte
-//! numbers with the high byte first (1.5.2), and texts, a count and that many bytes of UTF-8 (1.5.3).
+//! The data representations of MQTT: the remaining length of one to four bytes (2.2.3), two-byte
+//! integers in big-endian order (1.5.2), and UTF-8 strings with a two-byte length (1.5.3). A call
+//! that can fail for lack of memory says so in its return type; other calls never allocate. On
+//! `Err` the receiver is unchanged unless stated otherwise.
 #![tactic(auto)]
 
 mod length;

@@ -1,4 +1,4 @@
-//! Two-byte numbers, the high byte first (1.5.2).
+//! Two-byte integers in big-endian order (1.5.2).
 
 ghost use Rattle.std.specs.Prelude.{◌≡◌, ◌+◌, ◌≤◌, ◌++◌, [], ◌∷◌, length, OnOk, OnErr};
 ghost use Rattle.mq_wire.specs.Number.{NumberLaws, number, number_in};
@@ -6,7 +6,7 @@ ghost use Rattle.mq_wire.specs.Number.{NumberLaws, number, number_in};
 use byteorder::{BigEndian, ByteOrder};
 use std::alloc::AllocError;
 
-/// The number that begins at place `at`.
+/// Reads the number at index `at`.
 pub fn number_at(bytes: &[u8], at: usize) -> u16
     requires { at + 2 ≤ length bytes.now }
     ensures { result ≡ number_in bytes.now at }
@@ -24,7 +24,7 @@ pub fn put_number(out: &mut Vec<u8>, n: u16) -> Result<(), AllocError>
     out.extend_from_slice(&bytes)
 }
 
-/// The laws of numbers: what is written is read, and what is read is written so.
+/// The laws of numbers: writing and reading are inverse to each other.
 pub fn number_laws()
     ensures { NumberLaws }
 {}

@@ -1,5 +1,5 @@
-//! Texts (1.5.3): UTF-8 of at most 65,535 bytes, without surrogates and without U+0000. In a packet
-//! a count of two bytes stands before the bytes.
+//! UTF-8 encoded strings (1.5.3): at most 65,535 bytes, without surrogates and without U+0000. A
+//! packet stores the number of bytes in two bytes before them.
 
 ghost use Rattle.std.specs.Prelude.{◌≡◌, ◌+◌, ◌<◌, ◌↔◌, ◌≤◌, true, length, slice_range, IfOk, IfErr, IsErrOf};
 ghost use Rattle.std.specs.List.{list_any};
@@ -12,35 +12,35 @@ use std::alloc::{AllocError, Global};
 use std::marker::Model;
 use thiserror::Error;
 
-/// Why a `&str` is no text of MQTT.
+/// Why a `&str` is not a valid MQTT string.
 #[derive(Clone, Copy, Debug, PartialEq, Eq, Error)]
 pub enum TextFault {
-    /// It has over 65,535 bytes.
+    /// It is longer than 65,535 bytes.
     #[error("the text has over 65,535 bytes")]
     TooLong,
-    /// It has the character U+0000.
+    /// It contains the character U+0000.
     #[error("the text has the character U+0000")]
     Nul,
-    /// Memory ran out.
+    /// An allocation failed.
     #[error("out of memory")]
     Memory,
 }
 
-/// What is wrong with a text that stands in bytes.
+/// Why the bytes of a field are not a valid MQTT string.
 #[derive(Clone, Copy, Debug, PartialEq, Eq, Error)]
 pub enum FieldFault {
-    /// The count or the bytes go past the end.
+    /// The length or the string extends past the end of the buffer.
     #[error("the text goes past the end")]
     Past,
     /// The bytes are not UTF-8.
     #[error("the text is not UTF-8")]
     NotUtf8,
-    /// The text has the character U+0000.
+    /// The string contains the character U+0000.
     #[error("the text has the character U+0000")]
     Nul,
 }
 
-/// A text (1.5.3). A clone shares its bytes. Contracts see it as its bytes.
+/// An owned MQTT string (1.5.3). Clones share its bytes.
 #[derive(Debug, Drop)]
 pub struct Text {
     text: ByteStr,
@@ -58,7 +58,8 @@ impl Model for Text {
 }
 
 impl Text {
-    /// The text of a `&str`. It is refused where it has over 65,535 bytes or the character U+0000.
+    /// Copies a `&str`. Errors: `TooLong` if it has more than 65,535 bytes, `Nul` if it contains
+    /// U+0000, `Memory` if the allocation fails.
     pub fn new(alloc: Global, text: &str) -> Result<Text, TextFault>
         ensures value { IfOk result (λ t. t ≡ text.now) }
         ensures too_long { IsErrOf result TextFault.TooLong ↔ (65535 < length text.now) }
@@ -77,7 +78,7 @@ impl Text {
         }
     }
 
-    /// The text as a `&str`.
+    /// Returns the string slice.
     pub fn as_str(&self) -> &str
         ensures value { result.now ≡ self.now }
         ensures text { IsText self.now }
@@ -85,7 +86,7 @@ impl Text {
         self.text.as_str()
     }
 
-    /// The text as it may be passed on without memory.
+    /// Borrows the text.
     pub fn as_ref(&self) -> TextRef<'_>
         ensures { result ≡ self.now }
     {
@@ -98,14 +99,14 @@ impl Text {
 impl Clone for Text {
     ghost is_clone = { λ text copy. copy ≡ text };
 
-    /// Another owner of the same bytes; none is copied.
+    /// Returns another owner of the same bytes.
     fn clone(&self) -> Result<Text, AllocError> {
         let text = self.text.clone()?;
         Ok(Text { text })
     }
 }
 
-/// A text that lies elsewhere (1.5.3). Contracts see it as its bytes.
+/// A borrowed MQTT string (1.5.3).
 #[derive(Debug, Drop)]
 pub struct TextRef<'a> {
     text: &'a str,
@@ -123,7 +124,7 @@ impl<'a> Model for TextRef<'a> {
 }
 
 impl<'a> TextRef<'a> {
-    /// The text as a `&str`.
+    /// Returns the string slice.
     pub fn as_str(&self) -> &'a str
         ensures value { result.now ≡ self.now }
         ensures text { IsText self.now }
@@ -131,7 +132,7 @@ impl<'a> TextRef<'a> {
         self.text
     }
 
-    /// A text of its own, with the same bytes.
+    /// Copies the text.
     pub fn to_text(&self, alloc: Global) -> Result<Text, AllocError>
         ensures { IfOk result (λ t. t ≡ self.now) }
     {
@@ -139,7 +140,7 @@ impl<'a> TextRef<'a> {
         Ok(Text { text })
     }
 
-    /// The text of these bytes, which are its own. None is copied.
+    /// Returns an owned text that shares `bytes`, which must equal this text.
     pub fn shared(&self, bytes: Bytes) -> Text
         requires { bytes ≡ self.now }
         ensures { result ≡ self.now }
@@ -151,7 +152,7 @@ impl<'a> TextRef<'a> {
     }
 }
 
-// Whether a byte is none of a character of ASCII but U+0000. All are read before the answer, so that many are tested at once.
+// Reads every byte before it returns, so that the compiler can test many at once.
 #[tactic(auto, using(std::proofs::lemmas::List::Folds::list_any_more))]
 fn has_special(bytes: &[u8]) -> bool
     ensures { result ≡ list_any is_special bytes.now }
@@ -163,13 +164,12 @@ fn has_special(bytes: &[u8]) -> bool
     special
 }
 
-// The text that these bytes are.
 fn checked_text(bytes: &[u8]) -> Result<TextRef<'_>, FieldFault>
     requires { length bytes.now < 65536 }
     ensures { result ≡ checked_text bytes.now }
 {
     if !has_special(bytes) {
-        // SAFETY: what is ASCII is UTF-8.
+        // SAFETY: ASCII is UTF-8.
         let text = unsafe { str::from_utf8_unchecked(bytes) };
         return Ok(TextRef { text });
     }
@@ -182,8 +182,8 @@ fn checked_text(bytes: &[u8]) -> Result<TextRef<'_>, FieldFault>
     Ok(TextRef { text })
 }
 
-/// The text whose count begins at place `at`, and the place after it (1.5.3). The faults are tested
-/// in the order `Past`, `NotUtf8`, `Nul`.
+/// Reads the text whose length is at index `at`, and returns it with the index after it (1.5.3).
+/// Errors, in the order in which they are tested: `Past`, `NotUtf8`, `Nul`.
 #[tactic(auto, unfolding(crate::specs::TextReading::read_text))]
 pub fn text_at(bytes: &[u8], at: usize) -> Result<(TextRef<'_>, usize), FieldFault>
     ensures reads { result ≡ read_text bytes.now at }
@@ -204,7 +204,7 @@ pub fn text_at(bytes: &[u8], at: usize) -> Result<(TextRef<'_>, usize), FieldFau
     }
 }
 
-/// The laws of texts: what is a text is read, and what is read is one.
+/// The laws of texts: each encoded text is read back, and what is read is a text.
 pub fn text_laws()
     ensures { TextLaws }
 {}

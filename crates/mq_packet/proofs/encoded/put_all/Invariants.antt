@@ -4,7 +4,7 @@ use Rattle.mq_packet.proofs.encoded.put_all.Given as goal
 
 abbrev pub invariant-loop-item : goal.invariant-loop-item
 invariant-loop-item g l = record {
-  items : l.out.items ≡ l.fn.out.items ++ flat_map g.T.EncodesAll.encoding (take l.item-index l.items);
+  items : l.out.items ≡ l.fn.out.items ++ flat_map g.T.ListItem.encoding (take l.item-index l.items);
   capacity : vec_capacity l.fn.out ≤ vec_capacity l.out;
-  each : AllByRecursion g.T.EncodesAll.is_item (take l.item-index l.items);
+  each : AllByRecursion g.T.ListItem.is_item (take l.item-index l.items);
 }
