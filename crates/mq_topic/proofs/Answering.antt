@@ -1,4 +1,4 @@
--- What a name finds, from the clients that the walk noted.
+-- The result of a look-up, from the clients that the walk added.
 use Rattle.std.proofs.Common.{◌≡◌, ◌⊎◌, inl, inr, ℕ, Bool, true, false, ◌&&◌, cond, T, eqb, IsTrue, List, [], ◌∷◌, map, filter, Option, Some, None, refl, sym, ap, subst, ◌∙◌, eqb-true}
 use Rattle.std.specs.FinMap.{is_sorted}
 use Rattle.std.specs.FinMap.Entries.{below_all}

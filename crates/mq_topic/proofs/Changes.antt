@@ -1,4 +1,4 @@
--- What a trie stands for after each change of it.
+-- The rows that a trie represents after each change.
 use Rattle.std.proofs.Common.{◌≡◌, ◌⊎◌, inl, inr, ℕ, ◌<◌, Bool, true, false, cond, List, [], ◌∷◌, ◌++◌, length, Option, Some, None, IsSome, refl, sym, ap, subst, ◌∙◌, arith, append_assoc}
 use Rattle.std.specs.List.{join_with_byte}
 use Rattle.std.specs.Ordering.{is_eq}
@@ -92,7 +92,7 @@ same_step a b l m =
     ]
 
 module _ (at : Option NodeId) (level : List ℕ) (k : NodeId) (old new : Tree) (linked : IsLinked old) (place : IsPlace old at) (none : old.child at level ≡ None) (g : Grown at level k old new) where
-  -- a child that was there is there
+  -- An old child still exists.
   child_up : (a : Option NodeId) (l : List ℕ) (j : NodeId) → old.child a l ≡ Some j → new.child a l ≡ Some j
   child_up a l j e = g.others a l (λ same. let clash : None ≡ Some j = sym none ∙ (λ i. old.child (sym same.0 i) (sym same.1 i)) ∙ e in cc) ∙ e
 
@@ -100,7 +100,7 @@ module _ (at : Option NodeId) (level : List ℕ) (k : NodeId) (old new : Tree) (
   leads_up a b [] h = h
   leads_up a b (l ∷ p) h = (h.0, child_up a l h.0 h.1, leads_up (Some h.0) b p h.2)
 
-  -- a child that is there now was there, or is the new one
+  -- A child that exists now existed before, or is the new one.
   child_down : (a : Option NodeId) (l : List ℕ) (j : NodeId) → new.child a l ≡ Some j → (same : (a ≡ at) × (l ≡ level) → ⊥) → old.child a l ≡ Some j
   child_down a l j e differs = sym (g.others a l differs) ∙ e
 
@@ -221,7 +221,7 @@ module _ (at : Option NodeId) (level : List ℕ) (k : NodeId) (old new : Tree) (
         (w.0, leads_kept here None (Some j) (levels w.0) w.1 (not_client j c q held), w.2);
   }
 
-  -- the levels that lead to the node, but for its own
+  -- The levels that lead to the node, without its own.
   cut_front : (row : RowMap) → IsTrieUpTo (Some k) row old → (front : List (List ℕ)) × Leads old None front at × (old.child at level ≡ Some k)
   cut_front row h =
       elim (last old None k h.leads.0 h.leads.1) [

@@ -151,7 +151,7 @@ ascending es h = true-T _ (sorted_rows es (T-true _ h.clients) h.filters)
 pub by_qos : (es : List (ℕ × Own)) → AreClientRows es → (rows : List Row) → IsAscending rows → ((c : ℕ) (f : List ℕ) → own_qos c f es ≡ row_qos c f rows) → rows_of es ≡ rows
 by_qos es h rows s same = store_facts.one_list (rows_of es) rows (ascending es h) s (λ c f. rows_qos c f es (T-true _ h.clients) ∙ same c f)
 
--- ---- what changes
+-- ---- Changes
 
 inner : Option Own → List ℕ → Option Qos
 inner o g = option_map_or (λ (own : Own). lookup (is_filter g) own.entries) o None
@@ -279,7 +279,7 @@ inserted_rows c old new own h e ordered sorted = record {
   filters = rw e (filters_insert old c own h.filters (filters_ascend own.entries sorted));
 }
 
--- what a client's own map has is what the maps have
+-- A client's own map agrees with the map of all clients.
 pub own_is : (c : ℕ) (f : List ℕ) (q : Option Qos) (old : List (ℕ × Own)) (own : Own) (look : List ℕ → Option Qos) → Some own ≡ lookup (is_client c) old
     → ((g : List ℕ) → look g ≡ cond (is_filter f g) q (lookup (is_filter g) own.entries))
     → (g : List ℕ) → look g ≡ cond (is_filter f g) q (option_map_or (λ (x : Own). lookup (is_filter g) x.entries) (lookup (is_client c) old) None)

@@ -1,4 +1,4 @@
--- How many nodes a trie has: each stands for the first levels of some row's filter.
+-- The number of nodes of a trie: each node represents the first levels of some filter.
 use Rattle.std.proofs.Common.{◌≡◌, ◌⊎◌, inl, inr, ℕ, zero, suc, ◌+◌, ◌≤◌, List, [], ◌∷◌, ◌++◌, length, get_or, map, Option, Some, None, IsSome, is_some, count_by, sum_by, refl, sym, ap, subst, ◌∙◌, arith, zero-add, length-append, Bool, true, false, cond}
 use Rattle.std.proofs.lemmas.List.Sums.{sum_by-cons}
 use Rattle.slab.specs.Slab.{slab_len}

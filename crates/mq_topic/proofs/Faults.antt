@@ -1,4 +1,4 @@
--- A text has no fault exactly where it is a topic name, or a topic filter.
+-- A text has no fault exactly if it is a topic name (or topic filter).
 use Rattle.std.proofs.Common.{◌≡◌, ℕ, Bool, true, false, not, cond, eqb, ltb, List, length, Option, Some, None, refl, arith}
 use Rattle.std.specs.List.{list_any}
 use Rattle.std.specs.Option.{option_or, is_none}

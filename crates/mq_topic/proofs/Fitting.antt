@@ -43,7 +43,7 @@ fits-other l n ls ns e d = rw (e, d) refl
 pub fits-next : (l n : List ℕ) (ls ns : List (List ℕ)) → is_hash_alone (l ∷ ls) ≡ false → fits_level l n ≡ true → fits (l ∷ ls) (n ∷ ns) ≡ fits ls ns
 fits-next l n ls ns e d = rw (e, d) refl
 
--- what `is_none` answers
+-- The result of `is_none`.
 pub is_none-answer : (o : Option (Bor (List ℕ))) (r : Bool) → is_some o ≡ not r → r ≡ is_none o
 is_none-answer None true e = refl
 is_none-answer None false e = absurd cc

@@ -1,4 +1,4 @@
--- What is found, client by client.
+-- The clients found, one by one.
 use Rattle.std.proofs.Common.{◌≡◌, ◌⊎◌, inl, inr, ℕ, zero, suc, ◌+◌, ◌<◌, ◌≤◌, Bool, true, false, ◌&&◌, cond, T, List, [], ◌∷◌, ◌++◌, length, get_or, take, Option, Some, None, is_some, ◌↔◌, add-one, refl, sym, ap, subst, ◌∙◌, arith}
 use Rattle.std.specs.FinMap.{is_sorted}
 use Rattle.std.specs.FinMap.Entries.{below_all}
@@ -299,7 +299,7 @@ entry_found c q (e ∷ es) s (inr h) =
     ap (λ b. cond b (Some e.1) (lookup (is_client c) es)) (is_client-other c e.0 (λ same. entry_above e.0 c q es (first (below_all nat_cmp e.0 es) (is_sorted nat_cmp es) s) h (sym same)))
     ∙ entry_found c q es (second (below_all nat_cmp e.0 es) (is_sorted nat_cmp es) s) h
 
--- what is found of the clients, and those that are left
+-- The clients found so far, and the remaining ones.
 pub record IsGathered (at : ℕ → Option Qos) (begun found rest : Entries) : Type 0 where
   pub kept : (c : ℕ) (q : Qos) → Covers begun c q → Covers found c q
   pub finds : (c : ℕ) (q : Qos) → at c ≡ Some q → Covers found c q ⊎ HasEntry c q rest

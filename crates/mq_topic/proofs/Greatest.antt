@@ -39,7 +39,7 @@ greater-turn Q1 Q2 Q0 = refl
 greater-turn Q1 Q2 Q1 = refl
 greater-turn Q1 Q2 Q2 = refl
 
--- the greater of two, where there are any
+-- The greater of two optional ones.
 abbrev pub joined : Option Qos → Option Qos → Option Qos
 joined None g = g
 joined (Some p) None = Some p
@@ -132,7 +132,7 @@ module _ (name : List ℕ) where
   UpToRows found [] = Unit {0}
   UpToRows found (r ∷ rows) = UpTo r.0.0 found × UpToRows found rows
 
-  -- what is found of the rows so far, and the rows that are left
+  -- The result for the rows so far, and the remaining rows.
   pub record Walked (all : List Row) (found : List (ℕ × Qos)) (left : List Row) : Type 0 where
     pub sorted : T (is_sorted nat_cmp found)
     pub ascending : T (is_sorted key_cmp left)

@@ -1,4 +1,4 @@
--- What is found in a node: its children, and its clients.
+-- Look-ups in a node: its children and its clients.
 use Rattle.std.proofs.Common.{◌≡◌, ℕ, Bool, true, false, cond, List, [], ◌∷◌, length, Option, Some, None, IsSome, is_some, IsTrue, ◌↔◌}
 use Rattle.std.proofs.Common.{refl, sym, ap, ◌∙◌, arith}
 use Rattle.std.specs.Arc.{arc_str_bytes}
@@ -13,9 +13,10 @@ use Rattle.mq_topic.specs.declared.qos.Qos.{Qos}
 use Rattle.mq_topic.proofs.Nodes.{bytes_differ, is_client, is_client-itself}
 use Rattle.mq_topic.proofs.Standard.{same_bytes}
 
--- ---- the child that lies in the node
+-- ---- The node's own child
 
--- where it is the one at a level, or there is none, no child lies there at another level
+-- If it is the child at one level, or there is none, the node itself stores no child at another
+-- level.
 pub other_own : (first : Option Child) (level l : List ℕ) → is_own level first ≡ true → (l ≡ level → ⊥) → own_child l first ≡ None
 other_own None level l own ne = refl
 other_own (Some c) level l own ne =

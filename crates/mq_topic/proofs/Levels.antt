@@ -6,7 +6,7 @@ use Rattle.std.proofs.lemmas.Bool.{ne_eqb}
 use Rattle.std.proofs.lemmas.List.Splits.{slice_split_first, length-slice_split}
 use Rattle.mq_topic.specs.Topic.{is_slash, levels, level_fault, levels_fault}
 
--- where no element passes, the list is the one part
+-- If no element passes, the list has one part.
 one_part-cons : (b : Bool) (p : ℕ → Bool) (x : ℕ) (xs : List ℕ) → (position_or_len p xs ≡ length xs → slice_split p xs ≡ xs ∷ [])
     → cond (not b) (1 + position_or_len p xs) 0 ≡ length (x ∷ xs) → cond b ([] ∷ slice_split p xs) (onto_first x (slice_split p xs)) ≡ (x ∷ xs) ∷ []
 one_part-cons true p x xs tail e = absurd (omega arith)

@@ -1,4 +1,4 @@
--- What a map finds by numbers of levels, and by their texts.
+-- Look-ups in a map by hash and by text.
 use Rattle.std.proofs.Common.{◌≡◌, ◌==◌, ℕ, Bool, true, false, cond, List, [], ◌∷◌, length, Option, Some, None, IsSome}
 use Rattle.std.proofs.Common.{Result, Ok, Err, OnOk, OnErr, Global, IsTrue, ◌↔◌, refl, sym, ap, subst, ◌∙◌, eqb-true, eq-eqb}
 use Rattle.std.specs.Arc.{arc_str_bytes}
@@ -27,7 +27,7 @@ has_text l k = is_eq (slice_cmp nat_cmp l (string_bytes k))
 text_is : (l m : List ℕ) → is_eq (slice_cmp nat_cmp l m) ≡ true → l ≡ m
 text_is l m e = same_bytes l m (sym (is_eq-slice_cmp l m) ∙ e)
 
--- what is found at another level than the one that changes
+-- Look-ups at another level than the one that changes.
 pub other_text : {Z X : Type 0} (level l : List ℕ) (old new : List (String Z × X)) → KeepsOthers (eq_by_cmp string_cmp) (has_text level) old new
     → (l ≡ level → ⊥) → lookup (has_text l) new ≡ lookup (has_text l) old
 unfolding KeepsOthers
@@ -72,7 +72,7 @@ put_numbered (Ok x) n child old new are number done changed unchanged =
     still_numbered n (Some child) old new are (eq-eqb _ _ number) (changed done)
 put_numbered (Err x) n child old new are number done changed unchanged = subst AreNumbered (sym unchanged) are
 
--- what is found at another level than the one whose child changes
+-- Look-ups at another level than that of the changed child.
 pub other_numbered : (n : ℕ) (level l : List ℕ) (child : Option Child) (old new : List (ℕ × Child)) → ChangedAt n child old new
     → is_own level (at_number n old) ≡ true → own_child l child ≡ None → (l ≡ level → ⊥)
     → own_child l (at_number (level_number l) new) ≡ own_child l (at_number (level_number l) old)

@@ -1,4 +1,4 @@
--- What can be asked of the nodes after one of them was changed.
+-- Queries of the nodes after one of them changed.
 use Rattle.std.proofs.Common.{◌≡◌, inl, inr, ℕ, Bool, true, false, List, Option, Some, None, IsSome, refl, sym, ap, subst, ◌∙◌}
 use Rattle.std.specs.Arc.{arc_str_bytes}
 use Rattle.std.specs.Bool.{MatchBool}
@@ -45,7 +45,7 @@ module _ (old new : Trie) (k : NodeId) (n m : Node) (was : node_of old k ≡ Som
   other_node : (j : NodeId) → (j ≡ k → ⊥) → node_of new j ≡ node_of old j
   other_node j ne = u.others j.0 (λ e. ne (λ i. record { 0 = e i }))
 
-  -- what is read of the node as before is read of each node as before
+  -- A query of the changed node that is unchanged is unchanged for every node.
   read : {A : Type 0} (f : Option Node → A) → f (Some m) ≡ f (Some n) → (j : NodeId) → f (node_of new j) ≡ f (node_of old j)
   read f e j =
       elim (same_number j k) [
@@ -144,7 +144,7 @@ module _ (old mid : Trie) (k : NodeId) (n : Node) (top : mid.top ≡ old.top) (a
   beside : (j : NodeId) → (j ≡ k → ⊥) → node_of mid j ≡ node_of old j
   beside j ne = u.others j.0 (λ e. ne (λ i. record { 0 = e i }))
 
-  -- what is read of the node as of none
+  -- A query of the new node is that of no node.
   read_new : {A : Type 0} (f : Option Node → A) → f (Some n) ≡ f None → (j : NodeId) → f (node_of mid j) ≡ f (node_of old j)
   read_new f e j =
       elim (same_number j k) [

@@ -20,7 +20,7 @@ up_to_at c [] n d h l = absurd (omega arith)
 up_to_at c (e ∷ found) zero d h l = h.0
 up_to_at c (e ∷ found) (suc n) d h l = up_to_at c found n d h.1 (omega arith)
 
--- what stands at a place is one entry
+-- An index has one entry.
 pub entry_once : (found : List (ℕ × Qos)) (n : ℕ) (d e : ℕ × Qos) → n < length found → d ≡ get_or found n d → e ≡ get_or found n e → d ≡ e
 entry_once [] n d e l p q = absurd (omega arith)
 entry_once (f ∷ found) zero d e l p q = p ∙ sym q

@@ -1,4 +1,4 @@
--- What follows where a call answers a value, or an error.
+-- Consequences of a call that returns `Ok` or `Err`.
 use Rattle.std.proofs.Common.{◌≡◌, Bool, true, false, Result, Ok, Err}
 use Rattle.std.specs.Bool.{MatchBool}
 use Rattle.std.specs.Result.{IfOk, OnOk}

@@ -1,4 +1,4 @@
--- Where the levels lead in a trie.
+-- Paths of levels in a trie.
 use Rattle.std.proofs.Common.{◌≡◌, ◌⊎◌, inl, inr, ℕ, List, [], ◌∷◌, ◌++◌, length, Option, Some, None, IsSome, MatchOption, ◌↔◌, refl, sym, ap, subst, ◌∙◌, arith, length-append, eqb, eqb-true, false-eqb, Bool, true, false}
 use Rattle.mq_topic.specs.Tree.{IsLinked, IsPlace, Leads, Tree}
 use Rattle.mq_topic.specs.declared.trie_nodes.NodeId.{NodeId}
@@ -14,7 +14,7 @@ same_number-by a b false e = inr (λ same. false-eqb a.0 b.0 (sym e) (ap (λ (x 
 pub same_number : (a b : NodeId) → (a ≡ b) ⊎ (a ≡ b → ⊥)
 same_number a b = same_number-by a b (eqb a.0 b.0) refl
 
--- what a node's link says
+-- The link of a node.
 abbrev pub Link : Type 0
 Link = Option NodeId × List ℕ
 
@@ -112,7 +112,7 @@ module _ (t : Tree) where
         let e : turned p [] ≡ turned q [] = above_once to (turned p []) (turned q []) (above None to p [] h refl) (above None to q [] g refl) in
         sym (turned_twice p) ∙ ap (λ (x : List (List ℕ)). turned x []) e ∙ turned_twice q
 
--- where children stay, levels lead as before
+-- If children stay, paths stay.
 pub leads_same : (old new : Tree) → ((a : Option NodeId) (l : List ℕ) → new.child a l ≡ old.child a l) → (a b : Option NodeId) (p : List (List ℕ)) → Leads old a p b → Leads new a p b
 leads_same old new same a b [] h = h
 leads_same old new same a b (l ∷ p) h = (h.0, same a l ∙ h.1, leads_same old new same (Some h.0) b p h.2)

@@ -49,7 +49,7 @@ less Greater h = absurd h
 lt-less : (r : Ordering) → is_lt r ≡ true → r ≡ Less
 lt-less r e = less r (T-true (is_lt r) e)
 
--- the first elements that pass are as many as stand before the place
+-- The number of first elements that pass is the index of the first that doesn't.
 pub prefix_len-point : {X : Type 0} (p : X → Bool) (xs : List X) (i : ℕ) → i ≤ length xs
     → ((k : ℕ) (d : X) → k < i → p (get_or xs k d) ≡ true) → ((k : ℕ) (d : X) → i ≤ k → k < length xs → p (get_or xs k d) ≡ false) → i ≡ prefix_len p xs
 prefix_len-point p [] i le passes fails = omega arith
@@ -92,7 +92,7 @@ module _ {K X : Type 0} (R : K → K → Ordering) (o : IsTotalOrder R) (k : K) 
   partitioned (e ∷ es) h (suc i) zero d a b up = absurd (omega arith)
   partitioned (e ∷ es) h (suc i) (suc j) d a b up = partitioned es (second _ _ h) i j d (omega arith) (omega arith) up
 
-  -- ---- where the key is looked up
+  -- ---- Looking up a key
 
   under_all : (x : K) (es : List (K × X)) → R k x ≡ Less → T (below_all R x es) → T (below_all R k es)
   under_all x [] a h = tt
@@ -142,7 +142,7 @@ index_before-suc a b = rw (ltb-suc a b (ltb a b) refl) (index_before-by a b (ltb
 index_before-zero : (a : ℕ) → index_before a 0 ≡ 0
 index_before-zero a = rw (le-ltb a 0 (omega arith)) refl
 
--- ---- what is set
+-- ---- Setting a row
 
 module _ {K X : Type 0} (R : K → K → Ordering) (o : IsTotalOrder R) (k : K) (v : X) (eq : K → K → Bool) (ties : (x : K) → eq k x ≡ is_eq (R k x)) where
   -- the entry is pushed, or its value written, and then it is moved to a place

@@ -1,4 +1,4 @@
--- A filter's levels fit a name's exactly where the tests say so.
+-- The functions agree with the relation of the standard.
 use Rattle.std.proofs.Common.{◌≡◌, ◌↔◌, ◌⊎◌, inl, inr, ℕ, Bool, true, false, not, ◌&&◌, ◌||◌, IsTrue, eqb, List, [], ◌∷◌, refl, sym, ap, subst, ◌∙◌, eqb-true, eq-eqb}
 use Rattle.std.specs.Str.{bytes_eq}
 use Rattle.std.proofs.lemmas.Bool.{and_parts}
@@ -62,7 +62,7 @@ test-from_Fits _ _ (AnyLevel n ls ns h) = level_fits (43 ∷ []) n ls ns refl (t
 test-from_Fits _ _ (SameLevel l ls ns h) =
     level_fits l l ls ns (or-right (is_plus_level l) (bytes_eq l l) (bytes_eq-itself l)) (test-from_Fits ls ns h)
 
--- ---- what hides a name
+-- ---- Names that begin with `$`
 
 wildcard-first : (t : List ℕ) → begins is_wildcard t ≡ true → BeginsWith t 43 ⊎ BeginsWith t 35
 wildcard-first [] e = absurd cc
@@ -103,7 +103,7 @@ matching filter name = (
   λ m. rw (test-from_Fits (levels filter) (levels name) m.fits, not_hidden filter name _ _ refl refl m.shown) refl,
 )
 
--- what an answer says that is the test's
+-- The meaning of a result that equals the function's.
 pub standard : (r : Bool) (filter name : List ℕ) → r ≡ is_match filter name → IsTrue r ↔ Match filter name
 standard r filter name e = (
   λ h. (matching filter name).0 (sym e ∙ h),

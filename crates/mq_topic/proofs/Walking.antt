@@ -113,14 +113,14 @@ module _ (t : Tree) (c : ℕ) (q : Qos) where
         | inr b ↦ inr (inr b)
       ]
 
--- what is found of the whole, and what is left to be found below the nodes
+-- The clients found so far, and those still to be found below the nodes.
 pub record IsWalked (t : Tree) (All : ℕ → Qos → Type 0) (first found : Entries) (nodes : List (Option NodeId)) (name : List (List ℕ)) : Type 0 where
   pub kept : (c : ℕ) (q : Qos) → Covers first c q → Covers found c q
   pub finds : (c : ℕ) (q : Qos) → All c q → Covers found c q ⊎ Among (λ at. Finds t at name c q) nodes
   pub sound : (c : ℕ) (q : Qos) → qos_of c found ≡ Some q → (qos_of c first ≡ Some q) ⊎ All c q
   pub left : (c : ℕ) (q : Qos) → Among (λ at. Finds t at name c q) nodes → All c q
 
--- nothing is found yet of what is below the nodes
+-- At first, nothing below the nodes is found.
 pub walk_starts : (t : Tree) (first : Entries) (nodes : List (Option NodeId)) (name : List (List ℕ)) → IsWalked t (λ c q. Among (λ at. Finds t at name c q) nodes) first first nodes name
 walk_starts t first nodes name = record {
   kept = λ c q h. h;
@@ -130,7 +130,7 @@ walk_starts t first nodes name = record {
 }
 
 module _ (t : Tree) (All : ℕ → Qos → Type 0) (first found later : Entries) (nodes : List (Option NodeId)) where
-  -- what is found below the nodes after that is found of the whole
+  -- The clients found below the next nodes are part of the whole.
   pub walk_rest : (name : List (List ℕ)) (last : Entries) → IsWalked t All first found nodes name → Gathers (λ c q. Among (λ at. Finds t at name c q) nodes) found last → Gathers All first last
   walk_rest name last w g = record {
     kept = λ c q x. g.kept c q (w.kept c q x);
@@ -177,7 +177,7 @@ module _ (t : Tree) (All : ℕ → Qos → Type 0) (first found later : Entries)
         w.left c q (among_map (Steps t n one.0) (λ at. Finds t at (n ∷ ns) c q) (λ at s. step_finds t c q at one.0 n ns s one.2) nodes ((step one.0).0 one.1));
   }
 
-  -- where no node is reached, all is found
+  -- If no node is reached, everything is found.
   pub walk_stops : (name : List (List ℕ)) → nodes ≡ [] → IsWalked t All first found nodes name → Gathers All first found
   walk_stops name none w = record {
     kept = w.kept;

@@ -1,4 +1,4 @@
--- Numbers of levels.
+-- Hashes of levels.
 use Rattle.std.specs.Prelude.{◌≡◌, ◌==◌, ℕ, true, List}
 use Rattle.std.specs.Arc.{arc_str_bytes}
 use Rattle.std.specs.Hash.FoldHasher as folding
@@ -6,10 +6,10 @@ use Rattle.std.specs.Map.{lookup}
 use Rattle.std.specs.Option.{option_map_or}
 use Rattle.mq_topic.specs.declared.level_map.Child.{Child}
 
--- the number of a level
+-- The hash of a level.
 unfoldable pub level_number : List ℕ → ℕ
 level_number l = folding.finish (folding.write folding.initial l)
 
--- each child is at its level's number
+-- Each child is stored under the hash of its level.
 abbrev pub AreNumbered : List (ℕ × Child) → Type 0
 AreNumbered es = (n : ℕ) → option_map_or (λ (c : Child). level_number (arc_str_bytes c.level) == n) (lookup (λ m. n == m) es) true ≡ true

@@ -1,4 +1,4 @@
--- The quality of service as a number (4.3).
+-- Quality of service as a number (4.3).
 use Rattle.std.specs.Prelude.{ℕ, Option, Some, None, ◌==◌, if◌then◌else◌}
 use Rattle.mq_topic.specs.declared.qos.Qos.{Qos}
 use Rattle.mq_topic.specs.declared.qos.Qos.TheVariants.{Q0, Q1, Q2}
@@ -11,7 +11,7 @@ qos_number Q2 = 2
 abbrev pub qos_from : ℕ → Option Qos
 qos_from n = if n == 0 then Some Q0 else (if n == 1 then Some Q1 else (if n == 2 then Some Q2 else None))
 
--- the greater of two
+-- The greater of two.
 abbrev pub greater : Qos → Qos → Qos
 greater Q0 q = q
 greater Q1 Q0 = Q1

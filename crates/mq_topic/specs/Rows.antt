@@ -1,5 +1,5 @@
--- The rows of a store of subscriptions: a map from a client and a filter to a QoS, as the list of its
--- rows in ascending order.
+-- The rows of a store of subscriptions: a map from client and filter to QoS, as the ordered list of
+-- its rows.
 use Rattle.std.specs.Prelude.{◌≡◌, ℕ, ◌≤◌, Bool, not, ◌&&◌, List, [], ◌∷◌, map, filter, Option, Some, None, ◌==◌, IsTrue, if◌then◌else◌}
 use Rattle.std.specs.Cmp.Lexicographic.{slice_cmp}
 use Rattle.std.specs.FinMap.{find, is_sorted, put}
@@ -9,43 +9,43 @@ use Rattle.mq_topic.specs.Matching.{is_match}
 use Rattle.mq_topic.specs.Qos.{greater}
 use Rattle.mq_topic.specs.declared.qos.Qos.{Qos}
 
--- a client and a filter
+-- A client and a filter.
 abbrev pub Key : Type 0
 Key = ℕ × List ℕ
 
--- what a client subscribes to, and the QoS that it asks for at most
+-- A key with the maximum QoS that the client asked for.
 abbrev pub Row : Type 0
 Row = Key × Qos
 
--- keys ascend by the client, and for one client by the filter's bytes
+-- Keys are ordered by client, then by the bytes of the filter.
 abbrev pub key_cmp : Key → Key → Ordering
 key_cmp = then_cmp (on (λ k. k.0) nat_cmp) (on (λ k. k.1) (slice_cmp nat_cmp))
 
 abbrev pub is_key : ℕ → List ℕ → Key → Bool
 is_key client filter = eq_by_cmp key_cmp (client, filter)
 
--- each row's key is below those of the rows after it
+-- Each row comes before the rows behind it.
 abbrev pub IsAscending : List Row → Type 0
 IsAscending rows = IsTrue (is_sorted key_cmp rows)
 
--- the QoS of the row of a client and a filter
+-- The QoS of a client and a filter.
 abbrev pub row_qos : ℕ → List ℕ → List Row → Option Qos
 row_qos client filter rows = find key_cmp (client, filter) rows
 
--- the rows with one set: in its place, or with the new QoS where it stands
+-- The rows with one row set: inserted in order, or with the new QoS if it exists.
 abbrev pub with_row : ℕ → List ℕ → Qos → List Row → List Row
 with_row client filter qos rows = put key_cmp (client, filter) qos rows
 
--- the rows without one, and without those of a client
+-- The rows without one row, and without the rows of a client.
 abbrev pub without_row : ℕ → List ℕ → List Row → List Row
 without_row client topic_filter rows = filter (λ r. not (is_key client topic_filter r.0)) rows
 
 abbrev pub without_client : ℕ → List Row → List Row
 without_client client rows = filter (λ r. not (r.0.0 == client)) rows
 
--- ---- what a message finds
+-- ---- The rows that match a name
 
--- the greater of one and another that there may be; the greatest of several
+-- The greater of a QoS and an optional one; the greatest of several.
 abbrev pub greater_of : Qos → Option Qos → Qos
 greater_of q None = q
 greater_of q (Some p) = greater p q
@@ -54,29 +54,29 @@ abbrev pub greatest : List Qos → Option Qos
 greatest [] = None
 greatest (q ∷ qs) = Some (greater_of q (greatest qs))
 
--- the QoS of each row of a client whose filter matches the name
+-- The QoS of each row of a client whose filter matches the name.
 abbrev pub matching_qos : ℕ → List ℕ → List Row → List Qos
 matching_qos client name rows = map (λ r. r.1) (filter (λ r. (r.0.0 == client) && is_match r.0.1 name) rows)
 
--- the QoS beside a client
+-- The QoS of a client in a list.
 abbrev pub qos_of : ℕ → List (ℕ × Qos) → Option Qos
 qos_of client found = find nat_cmp client found
 
--- each client of a row that matches the name, once, with the greatest QoS of those rows
+-- Each client with a matching row, once, with the greatest QoS of its matching rows (3.3.5).
 pub record IsMatched (name : List ℕ) (rows : List Row) (found : List (ℕ × Qos)) : Type 0 where
-  -- the clients ascend, so each stands once
+  -- The clients are ordered, so each occurs once.
   pub ascending : IsTrue (is_sorted nat_cmp found)
-  -- a client has the greatest QoS of its rows that match, and none where none matches
+  -- A client has the greatest QoS of its matching rows, and no entry if none matches.
   pub greatest : (client : ℕ) → qos_of client found ≡ greatest (matching_qos client name rows)
 
--- the list of them, row by row; there is no other
+-- The only such list, computed row by row.
 abbrev pub matched : List ℕ → List Row → List (ℕ × Qos)
 matched name [] = []
 matched name (r ∷ rows) =
     let found = matched name rows in
     if is_match r.0.1 name then put nat_cmp r.0.0 (greater_of r.1 (qos_of r.0.0 found)) found else found
 
--- no entry is of a client above this one
+-- No entry belongs to a client above this one.
 abbrev pub UpTo : ℕ → List (ℕ × Qos) → Type 0
 UpTo client [] = Unit {0}
 UpTo client (e ∷ found) = (e.0 ≤ client) × UpTo client found

@@ -6,7 +6,7 @@ use Rattle.mq_wire.specs.Text.{IsText}
 use Rattle.mq_topic.specs.declared.fault.TopicFault.{TopicFault}
 use Rattle.mq_topic.specs.declared.fault.TopicFault.TheVariants.{Plus, Hash}
 
--- the bytes of `+`, `#` and `/`
+-- The bytes of `+`, `#` and `/`.
 abbrev pub is_plus : ℕ → Bool
 is_plus b = b == 43
 
@@ -19,7 +19,7 @@ is_slash b = b == 47
 abbrev pub is_wildcard : ℕ → Bool
 is_wildcard b = is_plus b || is_hash b
 
--- the text has at least one character, and none of `+` and `#`
+-- The text has at least one character, and neither `+` nor `#`.
 abbrev pub is_topic_name : List ℕ → Bool
 is_topic_name t = not (length t == 0) && not (list_any is_wildcard t)
 
@@ -27,28 +27,29 @@ pub record IsTopicName (t : List ℕ) : Type 0 where
   pub text : IsText t
   pub name : is_topic_name t ≡ true
 
--- the levels of a text, which `/` parts; empty ones count
+-- The levels of a text, separated by `/`; they may be empty.
 abbrev pub levels : List ℕ → List (List ℕ)
 levels t = slice_split is_slash t
 
--- a level has `+` and other characters beside it
+-- A level contains `+` and other characters.
 abbrev pub is_bad_plus : List ℕ → Bool
 is_bad_plus l = list_any is_plus l && not (length l == 1)
 
--- a level has `#`, and other characters beside it or levels after it
+-- A level contains `#`, and other characters, or it is not the last.
 abbrev pub is_bad_hash : Bool → List ℕ → Bool
 is_bad_hash is_last l = list_any is_hash l && not (is_last && length l == 1)
 
--- what is wrong with a level
+-- The fault of a level.
 abbrev pub level_fault : Bool → List ℕ → Option TopicFault
 level_fault is_last l = if is_bad_plus l then Some Plus else (if is_bad_hash is_last l then Some Hash else None)
 
--- what is wrong with the first bad one of the levels
+-- The fault of the first invalid level.
 abbrev pub levels_fault : List (List ℕ) → Option TopicFault
 levels_fault [] = None
 levels_fault (l ∷ ls) = option_or (level_fault (length ls == 0) l) (levels_fault ls)
 
--- the text has at least one character, each `+` is alone in its level, and each `#` alone in the last
+-- The text has at least one character, each `+` is alone in its level, and `#` only alone in the
+-- last level.
 abbrev pub is_topic_filter : List ℕ → Bool
 is_topic_filter t = not (length t == 0) && is_none (levels_fault (levels t))
 

@@ -1,4 +1,4 @@
--- What can be asked of the nodes of a trie.
+-- The view of the nodes of a trie.
 use Rattle.std.specs.Prelude.{ℕ, List, Option, Some, None}
 use Rattle.std.specs.Arc.{arc_str_bytes}
 use Rattle.std.specs.Option.{option_map, option_map_or}

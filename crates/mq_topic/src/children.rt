@@ -10,8 +10,8 @@ use crate::trie_nodes::NodeId;
 use std::alloc::{AllocError, Global};
 use std::sync::ArcStr;
 
-/// The children of a node, by their levels. One of them lies in the node itself, since most nodes have
-/// no other, and the others lie in a map.
+/// The children of a node, by level. The node stores the first child itself, since most nodes have
+/// only one; a map stores the others.
 #[derive(Drop)]
 pub(crate) struct Children {
     first: Option<Child>,
@@ -19,7 +19,7 @@ pub(crate) struct Children {
 }
 
 impl Children {
-    /// No children, which take no memory.
+    /// No children.
     pub(crate) fn new() -> Children
         ensures { (l : List ℕ) → child_in l result ≡ None }
     {
@@ -44,7 +44,7 @@ impl Children {
         }
     }
 
-    // Whether the child that lies in the node is the one at a level, or there is none.
+    // Whether the node itself stores the child at `level`, or has no child.
     fn is_own(&self, level: &str) -> bool
         ensures { result ≡ is_own level.now self.now.first }
     {
@@ -54,7 +54,7 @@ impl Children {
         }
     }
 
-    /// Notes the child at a level. The children stay where memory runs out.
+    /// Sets the child at a level.
     pub(crate) fn put(
         &mut self,
         alloc: Global,
@@ -71,7 +71,7 @@ impl Children {
         self.put_beside(alloc, level, child)
     }
 
-    // Notes the child at a level in the map, which is made if there is none.
+    // Sets the child at a level in the map, and creates the map if necessary.
     fn put_beside(&mut self, alloc: Global, level: ArcStr, child: NodeId) -> Result<(), AllocError>
         ensures first { self.new.first ≡ self.old.first }
         ensures same { OnOk result (child_beside (arc_str_bytes level) self.new ≡ Some child) }
@@ -89,7 +89,7 @@ impl Children {
         }
     }
 
-    // Forgets the child that lies in the node, if it is the one at a level.
+    // Removes the child that the node itself stores, if it is the one at `level`.
     fn take_own(&mut self, level: &str)
         ensures same { own_child level.now self.new.first ≡ None }
         ensures others { (l : List ℕ) → (l ≡ level.now → ⊥) → own_child l self.new.first ≡ own_child l self.old.first }
@@ -100,7 +100,7 @@ impl Children {
         }
     }
 
-    // Forgets the child at a level that lies in the map.
+    // Removes the child at `level` from the map.
     fn take_beside(&mut self, level: &str)
         ensures first { self.new.first ≡ self.old.first }
         ensures same { child_beside level.now self.new ≡ None }
@@ -111,7 +111,7 @@ impl Children {
         }
     }
 
-    /// Forgets the child at a level. It takes no memory.
+    /// Removes the child at a level.
     pub(crate) fn take(&mut self, level: &str)
         ensures { ChildIn level.now None self.old self.new }
     {

@@ -1,11 +1,10 @@
-//! The keys by which clients are told apart.
+//! Keys of clients.
 
 ghost use Rattle.std.specs.Prelude.{◌≡◌};
 
 use std::marker::Model;
 
-/// The number of a client, by which a store of subscriptions tells it from others. Contracts see it as
-/// the number.
+/// The number that identifies a client in a store of subscriptions.
 #[derive(Clone, Copy, Debug, PartialEq, Eq, PartialOrd, Ord, Hash)]
 pub struct ClientKey {
     number: u32,
@@ -22,7 +21,7 @@ impl Model for ClientKey {
 }
 
 impl ClientKey {
-    /// The key of this number.
+    /// The key with this number.
     pub fn new(number: u32) -> ClientKey
         ensures { result ≡ number }
     {

@@ -1,4 +1,4 @@
-//! The rows of a store, findable by their client.
+//! The rows of a store, indexed by client.
 
 ghost use Rattle.std.specs.Prelude.{◌≡◌, [], ℕ, List, None, MatchOption, OnOk, OnErr};
 ghost use Rattle.std.specs.FinMap.{find};
@@ -16,8 +16,7 @@ use std::marker::Model;
 /// The rows of one client.
 pub(crate) type OwnRows = BTreeMap<TopicFilter, Qos>;
 
-/// The rows of a store, client by client. Contracts see them as the list of the rows in ascending
-/// order.
+/// The rows of a store, indexed by client. Contracts see the list of the rows in ascending order.
 #[derive(Drop)]
 pub(crate) struct ClientRows {
     alloc: Global,
@@ -37,7 +36,7 @@ impl Model for ClientRows {
 }
 
 impl ClientRows {
-    /// No rows, which take no memory.
+    /// No rows.
     pub(crate) fn new(alloc: Global) -> ClientRows
         ensures { result ≡ [] }
     {
@@ -47,7 +46,7 @@ impl ClientRows {
         }
     }
 
-    /// Sets the row of a client and a filter.
+    /// Sets the QoS of a client and a filter.
     pub(crate) fn set(
         &mut self,
         client: ClientKey,
@@ -68,7 +67,7 @@ impl ClientRows {
         Ok(())
     }
 
-    /// The QoS of the row of a client and a filter.
+    /// Returns the QoS of a client and a filter.
     pub(crate) fn get(&self, client: ClientKey, filter: &TopicFilter) -> Option<Qos>
         ensures value { result ≡ row_qos client filter.now self.now }
         ensures ascending { IsAscending self.now }
@@ -79,7 +78,7 @@ impl ClientRows {
         }
     }
 
-    /// Takes the row of a client and a filter away.
+    /// Removes the row of a client and a filter.
     pub(crate) fn remove(&mut self, client: ClientKey, filter: &TopicFilter)
         ensures { self.new ≡ without_row client filter.now self.old }
     {
@@ -92,7 +91,7 @@ impl ClientRows {
         }
     }
 
-    /// Takes all rows of a client away, and gives them.
+    /// Removes all rows of a client and returns them.
     pub(crate) fn take_client(&mut self, client: ClientKey) -> Option<OwnRows>
         ensures rest { self.new ≡ without_client client self.old }
         ensures own { MatchOption result ((f : List ℕ) → row_qos client f self.old ≡ None)

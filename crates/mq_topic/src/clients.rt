@@ -1,4 +1,4 @@
-//! The clients at a node of a trie.
+//! The clients at a node of the trie.
 
 ghost use Rattle.std.specs.Prelude.{◌≡◌, ℕ, None, Some, IsSome, IfOk, OnOk, OnErr, if◌then◌else◌};
 ghost use Rattle.std.specs.Bool.{MatchBool};
@@ -11,19 +11,20 @@ use crate::qos::Qos;
 use std::alloc::{AllocError, Global};
 use std::collections::BTreeMap;
 
-/// Clients, each with the QoS of its row. A single one lies in the node itself.
+/// Clients with their QoS. A single client needs no allocation.
 #[derive(Drop)]
 pub(crate) enum Clients {
     /// No client.
     Nobody,
     /// One client.
     One(ClientKey, Qos),
-    /// Several clients, or fewer after some were taken away.
+    /// A map of clients, which may have become small again.
     Several(BTreeMap<ClientKey, Qos>),
 }
 
 impl Clients {
-    /// Sets the QoS of a client. The clients stay where memory runs out, which it does not where the client is there.
+    /// Sets the QoS of a client. Never fails if the client is stored already. On `Err` the clients
+    /// are unchanged.
     pub(crate) fn set(
         &mut self,
         alloc: Global,
@@ -55,7 +56,7 @@ impl Clients {
         }
     }
 
-    /// Takes a client away. It takes no memory.
+    /// Removes a client.
     pub(crate) fn take(&mut self, client: ClientKey)
         ensures { ClientIn client None self.old self.new }
     {
@@ -84,7 +85,6 @@ impl Clients {
     }
 }
 
-// Two clients.
 fn both(
     alloc: Global,
     first: ClientKey,

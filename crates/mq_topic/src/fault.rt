@@ -1,4 +1,4 @@
-//! Why a text is no topic name, or no topic filter.
+//! Why a text is not a topic name or topic filter.
 
 ghost use Rattle.std.specs.Prelude.{◌≡◌};
 ghost use Rattle.mq_topic.specs.Fault.{text_fault, topic_code};
@@ -6,19 +6,19 @@ ghost use Rattle.mq_topic.specs.Laws.{TopicLaws};
 
 use thiserror::Error;
 
-/// Why a text is no topic name, or no topic filter (4.7). It displays as a sentence.
+/// Why a text is not a topic name or topic filter (4.7).
 #[derive(Clone, Copy, Debug, PartialEq, Eq, Error)]
 pub enum TopicFault {
     /// It is empty.
     #[error("the text is empty")]
     Empty,
-    /// It has the character U+0000.
+    /// It contains the character U+0000.
     #[error("the text has the character U+0000")]
     Nul,
-    /// It has over 65,535 bytes.
+    /// It is longer than 65,535 bytes.
     #[error("the text has over 65,535 bytes")]
     TooLong,
-    /// A name has `+` or `#`.
+    /// A topic name contains `+` or `#`.
     #[error("a topic name has a wildcard")]
     Wildcard,
     /// A `+` is not alone in its level.
@@ -27,13 +27,13 @@ pub enum TopicFault {
     /// A `#` is not alone in its level, or its level is not the last.
     #[error("a # is not alone in the last level")]
     Hash,
-    /// Memory ran out.
+    /// An allocation failed.
     #[error("out of memory")]
     Memory,
 }
 
 impl TopicFault {
-    /// The code that stands for it in what is printed, `N1` to `N7`.
+    /// The code of the fault, `N1` to `N7`.
     pub fn code(self) -> &'static str
         ensures { result.now ≡ topic_code self }
     {
@@ -49,7 +49,7 @@ impl TopicFault {
     }
 }
 
-/// What keeps a text from being a topic name, and from being a topic filter.
+/// The faults that topic names and topic filters share.
 pub(crate) fn text_fault(text: &str) -> Option<TopicFault>
     ensures { result ≡ text_fault text.now }
 {
@@ -65,9 +65,8 @@ pub(crate) fn text_fault(text: &str) -> Option<TopicFault>
     None
 }
 
-/// The laws of names and filters: a text has no fault exactly where it is one, the levels of a
-/// filter are those that may stand in one, and the test of a filter against a name says what the
-/// standard does.
+/// The laws of names and filters: a text has no fault exactly if it is valid, and `matches` agrees
+/// with the standard's relation of levels.
 pub fn topic_laws()
     ensures { TopicLaws }
 {}

@@ -1,4 +1,4 @@
-//! Topic filters (4.7): what a client subscribes to.
+//! Topic filters (4.7).
 
 ghost use Rattle.std.specs.Prelude.{◌≡◌, true, nat_eq, refl, Some, IfOk, IfErr, IfSome, IfNone, IsErrOf};
 ghost use Rattle.std.specs.Cmp.{partial_equiv_from_equiv};
@@ -18,8 +18,8 @@ use std::cmp::Ordering;
 use std::hash::{Hash, Hasher};
 use std::marker::Model;
 
-/// A topic filter (4.7): a text of at least one character, where each `+` is alone in its level, and
-/// each `#` alone in the last one. A clone shares its bytes. Contracts see it as its bytes.
+/// A topic filter (4.7): at least one character, each `+` alone in its level, and `#` only alone in
+/// the last level. Clones share its bytes.
 #[derive(Debug, Drop)]
 pub struct TopicFilter {
     text: Text,
@@ -36,15 +36,14 @@ impl Model for TopicFilter {
     ghost invariant = { λ f. IsTopicFilter f.text };
 }
 
-/// Whether a text is a topic filter (4.7): it has at least one character, each `+` is alone in its
-/// level, and each `#` alone in the last.
+/// Returns whether a text is a topic filter (4.7): at least one character, each `+` alone in its
+/// level, and `#` only alone in the last level.
 pub fn is_topic_filter(text: &str) -> bool
     ensures { result ≡ is_topic_filter text.now }
 {
     !text.is_empty() && levels_fault(text).is_none()
 }
 
-// What keeps a text from being a topic filter.
 fn filter_fault(text: &str) -> Option<TopicFault>
     ensures { result ≡ filter_fault text.now }
 {
@@ -52,8 +51,8 @@ fn filter_fault(text: &str) -> Option<TopicFault>
 }
 
 impl TopicFilter {
-    /// The topic filter that a `&str` is, or its first fault: `Empty`, `Nul`, `TooLong`, and then level
-    /// by level from the left `Plus`, `Hash`.
+    /// Copies a `&str`. Returns the first fault otherwise: `Empty`, `Nul`, `TooLong`, and then
+    /// level by level `Plus` or `Hash`. `Memory` if the allocation fails.
     pub fn parse(alloc: Global, text: &str) -> Result<TopicFilter, TopicFault>
         ensures value { IfOk result (λ filter. filter ≡ text.now) }
         ensures refused { IfSome (filter_fault text.now) (λ fault. IsErrOf result fault) }
@@ -69,7 +68,7 @@ impl TopicFilter {
         }
     }
 
-    /// The topic filter that a text is.
+    /// Wraps a text, which must be a topic filter.
     pub fn from_text(text: Text) -> TopicFilter
         requires { is_topic_filter text ≡ true }
         ensures { result ≡ text }
@@ -78,7 +77,7 @@ impl TopicFilter {
         TopicFilter { text }
     }
 
-    /// The topic filter as a `&str`.
+    /// Returns the string slice.
     pub fn as_str(&self) -> &str
         ensures value { result.now ≡ self.now }
         ensures filter { IsTopicFilter self.now }
@@ -90,7 +89,7 @@ impl TopicFilter {
 impl Clone for TopicFilter {
     ghost is_clone = { λ filter copy. copy ≡ filter };
 
-    /// Another owner of the same bytes; none is copied.
+    /// Returns another owner of the same bytes.
     fn clone(&self) -> Result<TopicFilter, AllocError> {
         let text = self.text.clone()?;
         Ok(TopicFilter { text })
@@ -130,7 +129,7 @@ impl Ord for TopicFilter {
 
     ghost matches_eq = { texts_ties };
 
-    /// Filters ascend by their bytes.
+    /// Filters are ordered by their bytes.
     fn cmp(&self, other: &TopicFilter) -> Ordering {
         self.as_str().cmp(other.as_str())
     }

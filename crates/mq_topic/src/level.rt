@@ -1,11 +1,10 @@
-//! The levels of a topic filter, which `/` parts (4.7.1).
+//! The levels of a topic filter, separated by `/` (4.7.1).
 
 ghost use Rattle.std.specs.Prelude.{◌≡◌};
 ghost use Rattle.mq_topic.specs.Topic.{level_fault, levels, levels_fault};
 
 use crate::fault::TopicFault;
 
-// What is wrong with a level.
 fn level_fault(level: &str, is_last: bool) -> Option<TopicFault>
     ensures { result ≡ level_fault is_last level.now }
 {
@@ -19,7 +18,7 @@ fn level_fault(level: &str, is_last: bool) -> Option<TopicFault>
     None
 }
 
-/// What is wrong with the first bad one of a filter's levels.
+/// The fault of the first invalid level of a filter.
 pub(crate) fn levels_fault(filter: &str) -> Option<TopicFault>
     ensures { result ≡ levels_fault (levels filter.now) }
 {

@@ -1,4 +1,4 @@
-//! A map of children by their levels, in which a level's text stands only once.
+//! A map of children by level.
 
 ghost use Rattle.std.specs.Prelude.{◌≡◌};
 ghost use Rattle.mq_topic.specs.LevelNumber.{AreNumbered, level_number};
@@ -9,14 +9,14 @@ use std::collections::{BTreeMap, HashMap};
 use std::hash::{FoldHasher, Hasher};
 use std::sync::ArcStr;
 
-/// A child, and its level.
+/// A child and the text of its level.
 #[derive(Drop)]
 pub(crate) struct Child {
     pub(crate) level: ArcStr,
     pub(crate) id: NodeId,
 }
 
-/// A number of a level, which few levels share.
+/// A hash of a level.
 pub(crate) fn level_number(level: &str) -> u64
     ensures { result ≡ level_number level.now }
 {
@@ -25,9 +25,9 @@ pub(crate) fn level_number(level: &str) -> u64
     hasher.finish()
 }
 
-/// Children by their levels. A child is found by its level's number, and is the one if its level's text
-/// is the same. Children whose number another one has are found by their texts, in the texts' order, so
-/// that levels which are chosen to have one number are not asked one after another.
+/// Children by level. The hash of the level finds a child, whose text is then compared. Children
+/// whose hash collides are found by binary search over their texts, so levels that are chosen to
+/// collide do not make look-ups linear.
 #[derive(Drop)]
 pub(crate) struct LevelMap {
     numbered: HashMap<u64, Child>,
@@ -41,7 +41,7 @@ impl LevelMap {
     ghost use Rattle.std.specs.Bool.{MatchBool};
     ghost use Rattle.mq_topic.specs.NodeView.{child_numbered, is_own, mapped_child, own_child};
 
-    /// No children, which take no memory.
+    /// No children.
     pub(crate) fn new(alloc: Global) -> LevelMap
         ensures { (l : List ℕ) → mapped_child l result ≡ None }
     {
@@ -63,7 +63,7 @@ impl LevelMap {
         self.collided.get(level).copied()
     }
 
-    // Whether the child at a level's number is the one at the level, or there is none.
+    // Whether the child with this hash is the one at `level`, or does not exist.
     fn is_own(&self, number: u64, level: &str) -> bool
         ensures { result ≡ is_own level.now (child_numbered number self.now) }
     {
@@ -73,7 +73,7 @@ impl LevelMap {
         }
     }
 
-    /// Notes the child at a level. The children stay where memory runs out.
+    /// Sets the child at a level.
     pub(crate) fn put(
         &mut self,
         alloc: Global,
@@ -94,7 +94,7 @@ impl LevelMap {
         Ok(())
     }
 
-    // Forgets the child at a level's number, if it is the one at the level.
+    // Removes the child with this hash, if it is the one at `level`.
     fn take_own(&mut self, level: &str)
         ensures same { own_child level.now (child_numbered (level_number level.now) self.new) ≡ None }
         ensures others { (l : List ℕ) → (l ≡ level.now → ⊥)
@@ -107,7 +107,7 @@ impl LevelMap {
         }
     }
 
-    /// Forgets the child at a level. It takes no memory.
+    /// Removes the child at a level.
     pub(crate) fn take(&mut self, level: &str)
         ensures same { mapped_child level.now self.new ≡ None }
         ensures others { (l : List ℕ) → (l ≡ level.now → ⊥) → mapped_child l self.new ≡ mapped_child l self.old }

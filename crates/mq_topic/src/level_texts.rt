@@ -1,4 +1,4 @@
-//! The texts of levels, shared by the nodes that have them.
+//! Interned texts of levels.
 
 ghost use Rattle.std.specs.Prelude.{◌≡◌, IfOk};
 ghost use Rattle.std.specs.Arc.{arc_str_bytes};
@@ -8,14 +8,14 @@ use std::alloc::{AllocError, Global};
 use std::collections::HashMap;
 use std::sync::ArcStr;
 
-// The most texts that are kept to be shared.
+// The maximum number of interned texts.
 const MOST: usize = 4_096;
 
-// The most bytes of a text that is kept to be shared.
+// The maximum length of an interned text, in bytes.
 const LONGEST: usize = 64;
 
-/// Texts of levels, by their levels' numbers. Filters have mostly the same few levels, so that one text
-/// serves many nodes: it takes no memory again, and it lies in the cache when a name is looked up.
+/// Interned texts of levels, by level number. Many filters consist of the same few levels, so their
+/// nodes share texts, which then stay in the processor's cache.
 #[derive(Drop)]
 pub(crate) struct LevelTexts {
     alloc: Global,
@@ -23,7 +23,7 @@ pub(crate) struct LevelTexts {
 }
 
 impl LevelTexts {
-    /// No texts, which take no memory.
+    /// No texts.
     pub(crate) fn new(alloc: Global) -> LevelTexts {
         LevelTexts {
             alloc,
@@ -31,7 +31,7 @@ impl LevelTexts {
         }
     }
 
-    /// The text of a level, that of an earlier one if it is still kept.
+    /// Returns the text of a level, the interned one if it exists.
     pub(crate) fn share(&mut self, level: &str) -> Result<ArcStr, AllocError>
         ensures { IfOk result (λ text. arc_str_bytes text ≡ level.now) }
     {
@@ -48,8 +48,8 @@ impl LevelTexts {
         Ok(text)
     }
 
-    // Keeps a text to be shared, in place of another one that has its number. Where there are too many
-    // the others go.
+    // Interns a text in place of another with the same number. Removes all others if there are too
+    // many.
     fn keep(&mut self, number: u64, text: ArcStr) -> Result<(), AllocError> {
         if self.texts.len() >= MOST {
             self.texts.clear();

@@ -1,4 +1,4 @@
-//! The plain store of subscriptions.
+//! A plain store of subscriptions.
 
 ghost use Rattle.std.specs.Prelude.{◌≡◌, ◌≤◌, [], List, None, IfOk, OnOk, OnErr, is_some, not, ◌==◌, IsTrue, All};
 ghost use Rattle.std.specs.FinMap.{is_sorted, put};
@@ -17,14 +17,14 @@ use indexmap::IndexMap;
 use std::alloc::{AllocError, Global};
 use std::marker::Model;
 
-// A row's client and filter.
+// A client and its filter.
 type Key = (ClientKey, TopicFilter);
 
 // Rows in ascending order.
 type Rows = IndexMap<Key, Qos>;
 
-/// The plain store of subscriptions: a list of its rows in ascending order. `get` looks a row up by
-/// halving; `matching` asks every row. Contracts see it as the list of its rows.
+/// A plain store of subscriptions: a sorted list of rows. `get` uses binary search; `matching`
+/// tests every row. Contracts see the list of its rows.
 #[derive(Drop)]
 pub struct ListStore {
     alloc: Global,
@@ -42,21 +42,21 @@ impl Model for ListStore {
     ghost invariant = { λ s. IsAscending s.rows.entries };
 }
 
-// Whether a row's key is below that of a client and a filter.
+// Whether a row comes before that of a client and a filter.
 fn is_below(key: &Key, client: ClientKey, filter: &TopicFilter) -> bool
     ensures { result ≡ is_lt (key_cmp key.now (client, filter.now)) }
 {
     key.0.cmp(&client).then(key.1.cmp(filter)).is_lt()
 }
 
-// Whether a row's key is that of a client and a filter.
+// Whether a row is that of a client and a filter.
 fn is_key(key: &Key, client: ClientKey, filter: &TopicFilter) -> bool
     ensures { result ≡ is_key client filter.now key.now }
 {
     client.cmp(&key.0).then(filter.cmp(&key.1)).is_eq()
 }
 
-// How many rows are below the row of a client and a filter.
+// The number of rows before that of a client and a filter.
 fn place(rows: &Rows, client: ClientKey, filter: &TopicFilter) -> usize
     requires { IsAscending rows.now.entries }
     ensures value { result ≡ prefix_len (λ r. is_lt (key_cmp r.0 (client, filter.now))) rows.now.entries }
@@ -69,7 +69,6 @@ fn place(rows: &Rows, client: ClientKey, filter: &TopicFilter) -> usize
     )
 }
 
-// Sets a row.
 fn set_row(
     rows: &mut Rows,
     client: ClientKey,
@@ -86,7 +85,6 @@ fn set_row(
     Ok(())
 }
 
-// The QoS of a row.
 fn qos_at(rows: &Rows, client: ClientKey, filter: &TopicFilter) -> Option<Qos>
     requires { IsAscending rows.now.entries }
     ensures { result ≡ row_qos client filter.now rows.now.entries }
@@ -97,7 +95,6 @@ fn qos_at(rows: &Rows, client: ClientKey, filter: &TopicFilter) -> Option<Qos>
     }
 }
 
-// Takes a row away.
 fn drop_row(rows: &mut Rows, client: ClientKey, filter: &TopicFilter)
     ensures { rows.new.entries ≡ without_row client filter.now rows.old.entries }
 {
@@ -108,7 +105,6 @@ fn drop_row(rows: &mut Rows, client: ClientKey, filter: &TopicFilter)
     );
 }
 
-// Takes the rows of a client away.
 fn drop_client(rows: &mut Rows, client: ClientKey)
     ensures { rows.new.entries ≡ without_client client rows.old.entries }
 {
@@ -119,7 +115,8 @@ fn drop_client(rows: &mut Rows, client: ClientKey)
     );
 }
 
-// Notes that a row of a client matches: its entry is the last one, or there is none.
+// Adds a matching row. The rows come in the order of their clients, so the client's entry is the
+// last one if it exists.
 fn note(found: &mut Vec<(ClientKey, Qos)>, client: ClientKey, qos: Qos) -> Result<(), AllocError>
     requires sorted { IsTrue (is_sorted nat_cmp found.old.items) }
     requires up_to { UpTo client found.old.items }
@@ -136,7 +133,6 @@ fn note(found: &mut Vec<(ClientKey, Qos)>, client: ClientKey, qos: Qos) -> Resul
     Ok(())
 }
 
-// What the rows give for a name.
 fn matched(
     alloc: Global,
     rows: &Rows,
@@ -156,7 +152,7 @@ fn matched(
 }
 
 impl ListStore {
-    /// A store without rows, which takes no memory until one is set.
+    /// A store without rows. Allocates when the first row is set.
     pub fn new(alloc: Global) -> ListStore
         ensures { result ≡ [] }
     {

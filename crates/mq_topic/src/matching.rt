@@ -1,4 +1,4 @@
-//! When a topic filter matches a topic name (4.7).
+//! Matching of topic filters and topic names (4.7).
 
 ghost use Rattle.std.specs.Prelude.{◌≡◌, ◌∷◌, ◌<◌, ◌↔◌, IfSome, IsTrue, length};
 ghost use Rattle.mq_topic.specs.Match.{Match};
@@ -9,7 +9,7 @@ use crate::filter::TopicFilter;
 use crate::name::TopicName;
 use memchr::memchr;
 
-/// The first level of a text, and the text after it, which a last level has not.
+/// The first level of a text, and the text behind it unless it is the last level.
 pub(crate) fn first_level(text: &str) -> (&str, Option<&str>)
     ensures levels { levels text.now ≡ result.0.now ∷ levels_left result.1 }
     ensures shorter { IfSome result.1 (λ after. length after.now < length text.now) }
@@ -20,14 +20,14 @@ pub(crate) fn first_level(text: &str) -> (&str, Option<&str>)
     }
 }
 
-// Whether a level of a filter and the text after it are `#` alone.
+// Whether the rest of a filter is `#` alone.
 fn is_hash_alone(level: &str, after: Option<&str>) -> bool
     ensures { result ≡ is_hash_alone (level.now ∷ levels_left after.entry) }
 {
     level == "#" && after.is_none()
 }
 
-// Whether a level of a filter stands for a level of a name.
+// Whether a level of a filter matches a level of a name.
 fn fits_level(level: &str, name_level: &str) -> bool
     ensures { result ≡ fits_level level.now name_level.now }
 {
@@ -58,7 +58,7 @@ fn levels_fit(filter: &str, name: &str) -> bool
     name_left.is_none()
 }
 
-// Whether a filter begins with a wildcard, and a name with `$` (4.7.2).
+// Whether a filter that begins with a wildcard meets a name that begins with `$` (4.7.2).
 fn is_hidden(filter: &str, name: &str) -> bool
     ensures { result ≡ is_hidden filter.now name.now }
 {
@@ -73,9 +73,9 @@ fn is_match(filter: &str, name: &str) -> bool
     levels_fit(filter, name) && !is_hidden(filter, name)
 }
 
-/// Whether a topic filter matches a topic name (4.7): `+` stands for one level, an empty one too, and
-/// `#` for all levels that are left, none too; a filter that begins with one of them matches no name
-/// that begins with `$`. It takes no memory.
+/// Returns whether a topic filter matches a topic name (4.7): `+` matches exactly one level, which
+/// may be empty, and `#` any number of levels, also none. A filter that begins with a wildcard
+/// matches no name that begins with `$`.
 pub fn matches(filter: &TopicFilter, name: &TopicName) -> bool
     ensures value { result ≡ is_match filter.now name.now }
     ensures standard { IsTrue result ↔ Match filter.now name.now }

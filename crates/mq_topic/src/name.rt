@@ -1,4 +1,4 @@
-//! Topic names (4.7): what a message is published to.
+//! Topic names (4.7).
 
 ghost use Rattle.std.specs.Prelude.{◌≡◌, true, IfOk, IfErr, IfSome, IfNone, IsErrOf};
 ghost use Rattle.std.specs.List.{list_any};
@@ -10,8 +10,7 @@ use mq_wire::Text;
 use std::alloc::{AllocError, Global};
 use std::marker::Model;
 
-/// A topic name (4.7): a text of at least one character, without `+` and `#`. A clone shares its
-/// bytes. Contracts see it as its bytes.
+/// A topic name (4.7): at least one character, and neither `+` nor `#`. Clones share its bytes.
 #[derive(Debug, Drop)]
 pub struct TopicName {
     text: Text,
@@ -28,15 +27,15 @@ impl Model for TopicName {
     ghost invariant = { λ n. IsTopicName n.text };
 }
 
-/// Whether a text of MQTT (1.5.3) is a topic name (4.7): it has at least one character, and none of `+`
-/// and `#`. That it has at most 65,535 bytes and no U+0000 is not tested: `Text` has that.
+/// Returns whether an MQTT string (1.5.3) is a topic name (4.7): at least one character, and
+/// neither `+` nor `#`. Does not test for U+0000 and the length, which `Text` guarantees.
 pub fn is_topic_name(text: &str) -> bool
     ensures { result ≡ is_topic_name text.now }
 {
     !text.is_empty() && !has_wildcard(text)
 }
 
-// Whether a text has `+` or `#`. All bytes are read before the answer, so that many are tested at once.
+// Reads every byte before it returns, so that the compiler can test many at once.
 #[tactic(auto, using(std::proofs::lemmas::List::Folds::list_any_more))]
 fn has_wildcard(text: &str) -> bool
     ensures { result ≡ list_any is_wildcard text.now }
@@ -48,7 +47,6 @@ fn has_wildcard(text: &str) -> bool
     found
 }
 
-// What keeps a text from being a topic name.
 fn name_fault(text: &str) -> Option<TopicFault>
     ensures { result ≡ name_fault text.now }
 {
@@ -59,7 +57,8 @@ fn name_fault(text: &str) -> Option<TopicFault>
 }
 
 impl TopicName {
-    /// The topic name that a `&str` is, or its first fault: `Empty`, `Nul`, `TooLong`, `Wildcard`.
+    /// Copies a `&str`. Returns the first fault otherwise: `Empty`, `Nul`, `TooLong`, `Wildcard`.
+    /// `Memory` if the allocation fails.
     pub fn parse(alloc: Global, text: &str) -> Result<TopicName, TopicFault>
         ensures value { IfOk result (λ name. name ≡ text.now) }
         ensures refused { IfSome (name_fault text.now) (λ fault. IsErrOf result fault) }
@@ -75,7 +74,7 @@ impl TopicName {
         }
     }
 
-    /// The topic name that a text is.
+    /// Wraps a text, which must be a topic name.
     pub fn from_text(text: Text) -> TopicName
         requires { is_topic_name text ≡ true }
         ensures { result ≡ text }
@@ -84,7 +83,7 @@ impl TopicName {
         TopicName { text }
     }
 
-    /// The topic name as a `&str`.
+    /// Returns the string slice.
     pub fn as_str(&self) -> &str
         ensures value { result.now ≡ self.now }
         ensures name { IsTopicName self.now }
@@ -96,7 +95,7 @@ impl TopicName {
 impl Clone for TopicName {
     ghost is_clone = { λ name copy. copy ≡ name };
 
-    /// Another owner of the same bytes; none is copied.
+    /// Returns another owner of the same bytes.
     fn clone(&self) -> Result<TopicName, AllocError> {
         let text = self.text.clone()?;
         Ok(TopicName { text })

@@ -1,4 +1,4 @@
-//! Topic names compare, are ordered and hash as their bytes.
+//! Topic names compare, order and hash like their bytes.
 
 ghost use Rattle.std.specs.Prelude.{◌≡◌, nat_eq, refl, Some};
 ghost use Rattle.std.specs.Ordering.{nat_cmp};

@@ -1,11 +1,11 @@
-//! The quality of service (4.3).
+//! Quality of service (4.3).
 
 ghost use Rattle.std.specs.Prelude.{◌≡◌};
 ghost use Rattle.std.specs.Ordering.{nat_cmp};
 ghost use Rattle.mq_topic.specs.Qos.{greater, qos_number, qos_from};
 ghost use Rattle.mq_topic.specs.declared.qos.Qos as declared;
 
-/// How often a message is handed on (4.3): at most once, at least once, exactly once.
+/// Quality of service (4.3): how often a message is delivered.
 #[derive(Clone, Copy, Debug, PartialEq, Eq, PartialOrd, Ord, Hash)]
 pub enum Qos {
     /// At most once.
@@ -17,7 +17,7 @@ pub enum Qos {
 }
 
 impl Qos {
-    /// The number that stands for it in packets.
+    /// The number in packets.
     pub fn number(self) -> u8
         ensures { result ≡ qos_number self }
     {
@@ -39,7 +39,7 @@ impl Qos {
         }
     }
 
-    /// The quality of service that a number stands for, `None` for a number over 2.
+    /// The quality of service with this number, or `None` for a number over 2.
     pub fn from_number(number: u8) -> Option<Qos>
         ensures { result ≡ qos_from number }
     {
@@ -52,7 +52,7 @@ impl Qos {
     }
 }
 
-/// The law of the order of qualities of service: they ascend by their numbers.
+/// The law of the order: it is the order of the numbers.
 pub fn qos_order_law()
     ensures { (a b : declared.Qos) → ⟦<Qos as Ord>⟧.cmp a b ≡ nat_cmp (qos_number a) (qos_number b) }
 {}

@@ -21,8 +21,8 @@ use std::sync::ArcStr;
 #[derive(Clone, Copy)]
 pub(crate) struct NodeId(usize);
 
-// A node: the place where the filters that begin with the same levels go on. What is read on the way
-// along a name stands first. Its level's text is shared with what its parent finds it by.
+// A node represents the filters that begin with the same levels. Fields that a look-up reads come
+// first. The text of its level is shared with the parent's entry.
 #[derive(Drop)]
 pub(crate) struct Node {
     children: Children,
@@ -31,8 +31,8 @@ pub(crate) struct Node {
     level: ArcStr,
 }
 
-/// The nodes: below the root, which `None` stands for, each filter's levels lead to the node that has
-/// the filter's clients.
+/// The nodes. The levels of a filter lead from the root, which `None` represents, to the node that
+/// stores the filter's clients.
 #[derive(Drop)]
 pub(crate) struct Trie {
     alloc: Global,
@@ -115,7 +115,7 @@ impl Trie {
         }
     }
 
-    /// Makes a child of a node at a level that has none. The trie stays where memory runs out.
+    /// Creates a child at a level that has none. On `Err` the trie is unchanged.
     pub(crate) fn grow(&mut self, at: Option<NodeId>, level: &str) -> Result<NodeId, AllocError>
         requires { IsPlace (tree self.old) at }
         ensures grown { IfOk result (λ k. Grown at level.now k (tree self.old) (tree self.new)) }
@@ -167,7 +167,7 @@ impl Trie {
         }
     }
 
-    /// Sets the QoS of a client at a node. It takes no memory where the client is there.
+    /// Sets the QoS of a client at a node. Never fails if the client is stored there already.
     pub(crate) fn set_client(
         &mut self,
         id: NodeId,

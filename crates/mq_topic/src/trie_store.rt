@@ -21,9 +21,10 @@ use std::alloc::{AllocError, Global};
 use std::collections::BTreeMap;
 use std::marker::Model;
 
-/// The store of subscriptions for many filters: a trie of levels. `set`, `get` and `remove` cost what
-/// the filter's levels do, `remove_client` what the client's rows do, and `matching` what the levels
-/// of the name and the clients found do. Contracts see it as the list of its rows.
+/// A store of subscriptions for many filters: a trie of levels. The cost of `set`, `get` and
+/// `remove` depends on the number of levels of the filter, that of `remove_client` on the client's
+/// rows, and that of `matching` on the levels of the name and the clients found. Contracts see the
+/// list of its rows.
 #[derive(Drop)]
 pub struct TrieStore {
     alloc: Global,

@@ -20,7 +20,7 @@ use crate::trie_nodes::{NodeId, Trie};
 use std::alloc::{AllocError, Global};
 use std::collections::BTreeMap;
 
-// The clients that are found so far.
+// The clients found so far.
 type Found = BTreeMap<ClientKey, Qos>;
 
 /// The node to which the levels of a filter lead.
@@ -68,7 +68,7 @@ fn enter(trie: &mut Trie, at: Option<NodeId>, level: &str) -> Result<NodeId, All
     }
 }
 
-/// The node to which the levels of a filter lead, with the nodes on the way made where there are none.
+/// Returns the node to which the levels of a filter lead, and creates missing nodes.
 pub(crate) fn open(trie: &mut Trie, filter: &str) -> Result<Option<NodeId>, AllocError>
     requires { IsLinked (tree trie.old) }
     ensures leads { IfOk result (λ at. Leads (tree trie.new) None (levels filter.now) at × IsPlace (tree trie.new) at) }
@@ -152,7 +152,7 @@ fn gather_ends(trie: &Trie, nodes: &[Option<NodeId>], found: &mut Found) -> Resu
     Ok(())
 }
 
-// Notes the clients below the nodes at `#`, which stands for all levels that are left.
+// Adds the clients of the `#` children of the nodes: `#` matches all remaining levels.
 #[inline(always)]
 fn gather_rests(trie: &Trie, nodes: &[Option<NodeId>], found: &mut Found) -> Result<(), AllocError>
     ensures { OnOk result (Gathers (λ c q. Among (λ at. IsAt (tree trie.now) (child_of trie.now at (35 ∷ [])) c q) nodes.now)
@@ -193,7 +193,7 @@ fn step(
     Ok(next)
 }
 
-// Notes what the levels that are left of a name find below the nodes.
+// Adds the clients that the remaining levels of a name find below the nodes.
 fn walk_on(
     alloc: Global,
     trie: &Trie,
@@ -206,7 +206,7 @@ fn walk_on(
     let mut nodes = from;
     let mut left = name;
     'levels: while let Some(text) = left {
-        // Where no node is reached, no level that is left reaches one.
+        // If no node is reached, no further level reaches one.
         if nodes.is_empty() {
             return Ok(());
         }
@@ -219,7 +219,8 @@ fn walk_on(
     gather_ends(trie, &nodes, found)
 }
 
-// Notes what the levels that are left of a name find below a node. A list of nodes takes memory only where a level reaches some.
+// Adds the clients that the remaining levels of a name find below a node. Allocates a list of nodes
+// only if a level reaches some.
 #[inline(always)]
 fn walk(
     alloc: Global,

@@ -10,7 +10,7 @@ use Rattle.mq_topic.specs.Topic.{is_slash, levels}
 use Rattle.mq_topic.proofs.Levels.{one_part}
 use Rattle.mq_topic.proofs.matching.first_level.Goals as goal
 
--- the first slash stands there
+-- The index of the first slash.
 first_slash : (text : List ℕ) (end : ℕ) → IsFirstByte (is_byte 47) text (Some end) → position_or_len is_slash text ≡ end
 first_slash text end found = position_or_len_is is_slash text end 0 (omega (arith, found.0.high)) (λ k l. false_from_ne_true _ (found.0.before k (omega arith) l)) (λ _. found.1)
 

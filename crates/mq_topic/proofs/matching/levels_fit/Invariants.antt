@@ -3,7 +3,7 @@ use Rattle.mq_topic.specs.Topic.{levels}
 use Rattle.mq_topic.specs.Matching.{fits, levels_left}
 use Rattle.mq_topic.proofs.matching.levels_fit.Given as goal
 
--- what is left fits exactly where all fits
+-- The remaining levels match exactly if all do.
 abbrev pub invariant-levels : goal.invariant-levels
 invariant-levels l = fits (levels_left l.filter_left) (levels_left l.name_left) ≡ fits (levels l.fn.filter) (levels l.fn.name)
 

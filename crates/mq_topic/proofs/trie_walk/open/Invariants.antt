@@ -6,7 +6,7 @@ use Rattle.mq_topic.specs.TrieView.{tree}
 use Rattle.mq_topic.specs.declared.trie_nodes.NodeId.{NodeId}
 use Rattle.mq_topic.proofs.trie_walk.open.Given as goal
 
--- the levels that are done lead to the place, and all that led anywhere still do
+-- The levels so far lead to the place, and all older paths still exist.
 abbrev pub invariant-levels : goal.invariant-levels
 invariant-levels l = record {
   linked : IsLinked (tree l.trie);

@@ -6,7 +6,7 @@ use Rattle.mq_topic.specs.TrieView.{tree}
 use Rattle.mq_topic.specs.declared.trie_nodes.NodeId.{NodeId}
 use Rattle.mq_topic.proofs.trie_walk.reach.Given as goal
 
--- the levels that are left lead on to where all lead
+-- The remaining levels lead to the same place as all levels.
 abbrev pub invariant-levels : goal.invariant-levels
 invariant-levels l = (to : Option NodeId) → Leads (tree l.trie) None (levels l.fn.filter) to ↔ Leads (tree l.trie) l.at (levels_left l.left) to
 

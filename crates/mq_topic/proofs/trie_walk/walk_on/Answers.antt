@@ -12,7 +12,7 @@ use Rattle.mq_topic.proofs.Outcomes.{when_ok}
 use Rattle.mq_topic.proofs.Walking.{IsWalked, walk_ends, walk_level, walk_starts, walk_stops}
 use Rattle.mq_topic.proofs.trie_walk.walk_on.Goals as goal
 
--- what the levels of a name find below one of the places
+-- The clients that the levels of a name find below one of the places.
 abbrev pub below : Tree → List (Option NodeId) → List (List ℕ) → ℕ → Qos → Type 0
 below t from name c q = Among (λ at. Finds t at name c q) from
 
