@@ -23,7 +23,7 @@ less_is x y e = elim (ltb x y) as (λ b. ltb x y ≡ b → cond b Less (cond (eq
   | false ↦ λ _ h. elim (eqb x y) as (λ b. cond b Equal Greater ≡ Less → x < y) [ true ↦ λ q. absurd cc | false ↦ λ q. absurd cc ] h
 ] refl e
 
--- what holds of each number that stands in a list holds of all
+-- A property of each number in a list holds for all.
 each_of : (P : ℕ → Type 0) (ks : List ℕ) → ((i : ℕ) → list_any (eq_by_cmp nat_cmp i) ks ≡ true → P i) → AllByRecursion P ks
 each_of P [] h = tt
 each_of P (k ∷ ks) h =
@@ -91,7 +91,7 @@ ascending_keys ks r = sifted (λ i. contains (from_list ks) i) 65535 1 ks refl (
 
 -- ---- the ascending list of a set
 
--- what stands among them is in their range
+-- Each of them is in their range.
 pub risen : (lo : ℕ) (ks : List ℕ) (q : ℕ) → Rising lo ks → list_any (λ k. eqb k q) ks ≡ true → (lo ≤ q) × (q < 65536)
 risen lo [] q r e = absurd cc
 risen lo (k ∷ ks) q r e = elim (or_cases (eqb k q) (list_any (λ k. eqb k q) ks) e) [

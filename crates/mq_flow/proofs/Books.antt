@@ -215,7 +215,7 @@ sound_sent capacity b s =
 
 -- ---- a book that is not full has an identifier to give
 
--- one of the first n numbers does not stand in a list, or the list is as long
+-- One of the first `n` numbers is not in a list, or the list has at least `n` items.
 spare : (n : ℕ) (xs : List ℕ) → ((i : ℕ) × (0 < i) × (i ≤ n) × (times i xs ≡ 0)) ⊎ (n ≤ length xs)
 spare zero xs = inr (omega arith)
 spare (suc n) xs =
@@ -262,7 +262,7 @@ laws = record {
   sends = sound_sent;
 }
 
--- ---- strays, and what is taken out
+-- ---- Stray acknowledgements, and removals
 
 puback_stray : (i : ℕ) (b : SenderBook) → is_awaited Q1 i b.entries ≡ false → on_puback i b ≡ b
 puback_stray i b h = let P : Bool → Type 0 = λ t. record b { entries = cond t (without_entry i b.entries) b.entries } ≡ b in subst P (sym h) refl

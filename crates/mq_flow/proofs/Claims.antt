@@ -31,7 +31,7 @@ claimed_more ks ns cs c put used q =
           put q ∙ ap (λ t. cond t true (list_any (eqb q) ks)) (ne_eqb c.id q ne) ∙ used q ∙ ap (ltb 0) same
     ]
 
--- what is left without the item of a number
+-- The list without the item of a number.
 times_out : {A : Type 0} (f : A → ℕ) (i q : ℕ) (xs : List A) (n : ℕ) → n < length xs → HoldsAt (λ x. f x ≡ i) xs n → times q (map f xs) ≡ times q (map f (remove xs n)) + times q (i ∷ [])
 times_out f i q [] n l h = absurd (omega arith)
 times_out f i q (x ∷ xs) zero l h = let e : times q (f x ∷ map f xs) ≡ times q (i ∷ map f xs) = ap (λ (y : ℕ). times q (y ∷ map f xs)) (h x) in omega arith

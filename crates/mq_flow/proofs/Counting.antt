@@ -1,4 +1,4 @@
--- How often an identifier stands in a list.
+-- The number of occurrences of an identifier in a list.
 use Rattle.std.proofs.Common.{◌≡◌, ℕ, ◌+◌, ◌≤◌, Bool, true, false, cond, not, ◌&&◌, ◌||◌, eqb, List, [], ◌∷◌, ◌++◌, map, length, filter, refl, sym, ap, subst, ◌∙◌, arith, inl, inr}
 use Rattle.std.proofs.lemmas.Bool.{cases_eq, ne_eqb, cond_both}
 use Rattle.std.proofs.lemmas.Bool.Decides.{nat_tests}
@@ -87,7 +87,7 @@ without_fewer i (x ∷ xs) z =
           subst P (sym (ne_eqb x i n)) (omega arith)
     ]
 
--- ---- a filter on what a function gives
+-- ---- A filter on the results of a function
 
 pub map_filter : {A B : Type 0} (f : A → B) (p : B → Bool) (xs : List A) → map f (filter (λ x. p (f x)) xs) ≡ filter p (map f xs)
 map_filter f p [] = refl
@@ -102,7 +102,7 @@ ids_without i es = map_filter (λ (e : Entry). e.id) (λ j. not (eqb j i)) es
 pub claims_without : (i : ℕ) (cs : List Claimed) → map (λ c. c.id) (without_claim i cs) ≡ without i (map (λ c. c.id) cs)
 claims_without i cs = map_filter (λ (c : Claimed). c.id) (λ j. not (eqb j i)) cs
 
--- ---- what is awaited is there
+-- ---- Pending messages are in the table
 
 pub awaited_there : (q : Qos) (i : ℕ) (es : List Entry) → is_awaited q i es ≡ true → 1 ≤ times i (map (λ e. e.id) es)
 awaited_there q i [] h = absurd (true_false (sym h))

@@ -1,4 +1,5 @@
--- The laws of entries and released identifiers in the saved form: what is read is spelled so, and what is spelled so is read.
+-- The laws of entries and released identifiers in the saved form: writing and reading are inverse
+-- to each other.
 use Rattle.std.proofs.Common.{◌≡◌, ℕ, zero, suc, ◌+◌, ◌≤◌, List, [], ◌∷◌, ◌++◌, length, map, Ok, refl, sym, ap, subst, ◌∙◌, append_assoc, arith}
 use Rattle.std.specs.List.{flat_map, AllByRecursion}
 use Rattle.std.proofs.lemmas.List.{append-nil, map-append}
@@ -22,7 +23,7 @@ use Rattle.mq_flow.proofs.Fields.{bind_ok, ok_is, Takes, takes, Takes-then, free
 
 -- ---- a message
 
--- what reading a message gives
+-- The result of reading a message.
 record MessageTaken (limit : ℕ) (f : Flags) (bytes : List ℕ) (m : Message) (rest : List ℕ) : Type 0 where
   pub takes : Takes bytes (counted m.topic ++ saved_payload m.payload) rest
   pub qos : m.qos ≡ f.qos
@@ -47,7 +48,7 @@ message_again limit f m rest q r topic within = rw (topic_again m.topic (saved_p
 
 -- ---- an entry
 
--- what reading an entry gives
+-- The result of reading an entry.
 pub record EntryTaken (limit : ℕ) (b : SenderBook) (bytes : List ℕ) (e : Entry) (rest : List ℕ) : Type 0 where
   pub takes : Takes bytes (saved_entry e) rest
   pub free : IsFree b e.id
@@ -128,7 +129,7 @@ entries_found limit (suc n) b bytes x h e =
       longer = omega (arith, others.longer);
     }
 
--- an identifier that stands among those added to a sound book was free before
+-- An identifier that was added to a sound book was free before.
 free_before : (c i : ℕ) (b : SenderBook) (after : SenderBook) (more : ℕ) → IsSound c after → times i (uses after) ≡ times i (uses b) + (1 + more) → IsFree b i
 free_before c i b after more s t =
     let d = s.distinct i in (s.identifiers i (omega arith), omega arith)

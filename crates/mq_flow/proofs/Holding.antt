@@ -1,4 +1,4 @@
--- What is found under an identifier in a table, and what this says of the book.
+-- Look-ups in the table, and their meaning for the book.
 use Rattle.std.proofs.Common.{◌≡◌, ℕ, ◌+◌, ◌≤◌, ◌∙◌, Bool, true, false, cond, ◌&&◌, ◌||◌, eqb, ltb, List, [], ◌∷◌, ◌++◌, map, Option, Some, None, refl, sym, ap, subst, arith, inl, inr}
 use Rattle.std.specs.List.{list_any}
 use Rattle.std.specs.Option.{is_some, option_copied}
@@ -15,7 +15,7 @@ use Rattle.mq_flow.specs.Held.{messages, releases, id_in, AreUnder, gone_out}
 use Rattle.mq_flow.proofs.Counting.{times_same, times_other, without_absent, awaited_there, eqb_self}
 use Rattle.mq_flow.proofs.Queues.{others_same, others_other, others_absent, any_times}
 
--- ---- how often an identifier stands in it
+-- ---- Occurrences of an identifier in the table
 
 pub times_keys : (ps : List (ℕ × Held)) → AreUnder ps → (i : ℕ) → times i (map (λ e. e.id) (messages ps)) + times i (releases ps) ≡ times i (keys_of ps)
 times_keys [] u i = refl
@@ -28,9 +28,9 @@ times_keys ((k, Released r) ∷ ps) u i =
     let x = ap (λ (j : ℕ). times i (j ∷ releases ps)) u.0 in
     omega arith
 
--- ---- what is found under an identifier
+-- ---- Look-ups
 
--- what a reference to it shows
+-- The value behind a reference.
 pub copied_some : (o : Option (Bor Held)) → is_some (option_copied o) ≡ is_some o
 copied_some (Some h) = refl
 copied_some None = refl
@@ -58,7 +58,7 @@ found_keys i ((k, h) ∷ ps) = elim (cases_eq i k) [
   | inr n ↦ ap is_some (lookup_there i k h ps n) ∙ found_keys i ps ∙ ap (ltb 0) (sym (times_other i k (keys_of ps) (λ e. n (sym e))))
 ]
 
--- a number that does not stand in a table with another before it
+-- A number that does not occur in a table behind another.
 once_rest : (k : ℕ) (h : Held) (ps : List (ℕ × Held)) → ((j : ℕ) → times j (keys_of ((k, h) ∷ ps)) ≤ 1) → (j : ℕ) → times j (keys_of ps) ≤ 1
 once_rest k h ps once j = let o = once j in omega arith
 
@@ -68,7 +68,7 @@ alone i k h ps e once =
     let o = once i in
     omega arith
 
--- what is not in the table is no message and is not released
+-- An identifier that is not in the table is no message and is not released.
 no_message : (i : ℕ) (ps : List (ℕ × Held)) → AreUnder ps → times i (keys_of ps) ≡ 0 → times i (map (λ e. e.id) (messages ps)) ≡ 0
 no_message i ps u z = let t = times_keys ps u i in omega arith
 
@@ -82,7 +82,7 @@ never false n = refl
 not_awaited : (q : Qos) (i : ℕ) (es : List Entry) → times i (map (λ e. e.id) es) ≡ 0 → is_awaited q i es ≡ false
 not_awaited q i es z = never (is_awaited q i es) (λ t. let h = awaited_there q i es t in absurd (omega arith))
 
--- ---- what is found, as the book has it
+-- ---- Look-ups in the book
 
 -- a message that is awaited
 abbrev pub awaited_in : Qos → Option Held → Bool
@@ -159,7 +159,7 @@ released_found i ((k, Released r) ∷ ps) u once = elim (cases_eq i k) [
       ∙ sym (ap released_in (lookup_there i k (Released r) ps n))
 ]
 
--- ---- what is taken out under an identifier
+-- ---- Removals
 
 pub messages_removed : (i : ℕ) (ps : List (ℕ × Held)) → AreUnder ps → ((j : ℕ) → times j (keys_of ps) ≤ 1) → messages (remove_entry (eqb i) ps) ≡ without_entry i (messages ps)
 messages_removed i [] u once = refl
@@ -191,7 +191,7 @@ releases_removed i ((k, Released r) ∷ ps) u once = elim (cases_eq i k) [
       ∙ sym (others_other (λ (j : ℕ). j) i r (releases ps) (λ t. n (sym t ∙ u.0)))
 ]
 
--- ---- each still stands under its identifier
+-- ---- Each entry is still under its identifier
 
 pub under_removed : (i : ℕ) (ps : List (ℕ × Held)) → AreUnder ps → AreUnder (remove_entry (eqb i) ps)
 under_removed i [] u = tt

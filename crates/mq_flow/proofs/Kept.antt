@@ -1,4 +1,4 @@
--- What a sender keeps true at each of its moves, and its book after them.
+-- The sender's invariant at each move, and its book after it.
 use Rattle.std.proofs.Common.{◌≡◌, ℕ, ◌+◌, ◌<◌, ◌≤◌, ◌∙◌, Bool, true, false, not, cond, ◌||◌, eqb, ltb, List, [], ◌∷◌, ◌++◌, map, length, remove, Option, Some, None, refl, sym, ap, arith, append-nil}
 use Rattle.std.specs.List.{list_any, HoldsAt}
 use Rattle.std.specs.Option.{is_some}
@@ -37,9 +37,9 @@ puback_is i b h = ap (λ t. record b { entries = cond t (without_entry i b.entri
 pubrec_is : (i : ℕ) (b : SenderBook) → is_awaited Q2 i b.entries ≡ true → on_pubrec i b ≡ record b { entries = without_entry i b.entries; released = b.released ++ i ∷ [] }
 pubrec_is i b h = ap (λ t. record b { entries = cond t (without_entry i b.entries) b.entries; released = cond t (b.released ++ i ∷ []) b.released }) h
 
--- ---- what a table and the claims say of the book
+-- ---- The table, the requests and the book
 
--- each identifier stands in the table at most once
+-- Each identifier occurs in the table at most once.
 pub once_keys : (capacity : ℕ) (ps : List (ℕ × Held)) (cs : List Claimed) → AreUnder ps → IsSound capacity (book_of ps cs) → (i : ℕ) → times i (keys_of ps) ≤ 1
 once_keys capacity ps cs u s i = let d = s.distinct i in let t = times_uses i (book_of ps cs) in let k = times_keys ps u i in omega arith
 
@@ -57,11 +57,11 @@ free_absent i ps cs u z = let t = uses_keys ps cs u i in nothing (lookup (eqb i)
     nothing (Some h) e = absurd cc
     nothing None e = refl
 
--- what is awaited is there
+-- A pending message is in the table.
 pub awaited_kept : (q : Qos) (i : ℕ) (ps : List (ℕ × Held)) → AreUnder ps → is_awaited q i (messages ps) ≡ true → is_some (lookup (eqb i) ps) ≡ true
 awaited_kept q i ps u h = let a = awaited_there q i (messages ps) h in let t = times_keys ps u i in found_keys i ps ∙ lt-ltb 0 (times i (keys_of ps)) (omega arith)
 
--- what is awaited is not released
+-- A pending message is not released.
 awaited_unreleased : (q : Qos) (capacity i : ℕ) (ps : List (ℕ × Held)) (cs : List Claimed) → IsSound capacity (book_of ps cs) → is_awaited q i (messages ps) ≡ true → without i (releases ps) ≡ releases ps
 awaited_unreleased q capacity i ps cs s h =
     let a = awaited_there q i (messages ps) h in
@@ -69,7 +69,7 @@ awaited_unreleased q capacity i ps cs s h =
     let d = s.distinct i in
     without_absent i (releases ps) (omega arith)
 
--- what is released is no message
+-- A released identifier is no message.
 released_acknowledged : (capacity i : ℕ) (ps : List (ℕ × Held)) (cs : List Claimed) → IsSound capacity (book_of ps cs) → list_any (λ j. eqb j i) (releases ps) ≡ true → without_entry i (messages ps) ≡ messages ps
 released_acknowledged capacity i ps cs s h =
     let r : ltb 0 (times i (releases ps)) ≡ true = sym (any_times (λ (j : ℕ). j) i (releases ps) ∙ ap (λ (l : List ℕ). ltb 0 (times i l)) (map-id (releases ps))) ∙ h in
@@ -167,7 +167,7 @@ keeps_pubrec s i k = keeps_same s (on_pubrec i s.book) k (laws.pubrec s.capacity
 pub keeps_pubcomp : (s : Sending) (i : ℕ) → Keeps s → Keeps (record s { book = on_pubcomp i s.book })
 keeps_pubcomp s i k = keeps_same s (on_pubcomp i s.book) k (laws.pubcomp s.capacity i s.book k.sound) k.acknowledged
 
--- ---- what is left without a claim at a place
+-- ---- The remaining requests
 
 pub claim_out : (s : Sending) (i at : ℕ) → Keeps s → at < length s.book.claimed → HoldsAt (λ c. c.id ≡ i) s.book.claimed at → remove s.book.claimed at ≡ without_claim i s.book.claimed
 claim_out s i at k l h = remove_is (λ (c : Claimed). c.id) i s.book.claimed at l h (once_claimed s.capacity i s.book k.sound)

@@ -28,7 +28,7 @@ all_kept limit (e ∷ es) h topics within =
         contra : true ≡ false → ⊥
         contra h = absurd cc
 
--- what a sender keeps true, for its saved form
+-- The sender's invariant, for its saved form.
 pub sender_within : (limit : ℕ) (s : Sending) → Keeps s → s.last ≤ 65535 → HaveTopics s.book.entries → AreWithin limit s.book.entries → IsSenderWithin limit s
 sender_within limit s k last topics within = record {
   sound = k.sound;
@@ -38,6 +38,6 @@ sender_within limit s k last topics within = record {
   entries = all_kept limit s.book.entries k.acknowledged topics within;
 }
 
--- what a receiver stores are identifiers
+-- A receiver stores valid identifiers.
 pub all_identifiers : (r : ReceiverBook) (keys : List ℕ) → r ≡ from_list keys → AreIdentifiers keys → (i : ℕ) → contains r i ≡ true → IsIdentifier i
 all_identifiers r keys is each i there = each i (sym (ap (λ (s : ReceiverBook). contains s i) is ∙ contains-from_list nat_cmp_total keys i) ∙ there)

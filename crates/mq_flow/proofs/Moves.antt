@@ -1,4 +1,4 @@
--- What is done to a sender's table is a move of its book, and keeps what a sender keeps true.
+-- A change of the sender's table is a move of its book and keeps the sender's invariant.
 use Rattle.std.proofs.Common.{◌≡◌, ℕ, ◌∙◌, Bool, true, false, eqb, List, [], ◌∷◌, ◌++◌, refl, sym, ap, subst}
 use Rattle.std.specs.List.{list_any}
 use Rattle.std.specs.Map.{remove_entry}
@@ -19,7 +19,7 @@ use Rattle.mq_flow.proofs.Restoring.{keeps_released}
 abbrev pub sending_of : List (ℕ × Held) → List Claimed → ℕ → ℕ → ℕ → Sending
 sending_of ps cs capacity last room = record { book = book_of ps cs; capacity = capacity; last = last; room = room }
 
--- its book is this one, and it keeps what is to be kept
+-- The book after the move, and the invariant.
 pub record Moved (ts : List (ℕ × Held)) (cs : List Claimed) (capacity last : ℕ) (b : SenderBook) : Type 0 where
   pub after : book_of ts cs ≡ b
   pub keeps : (room : ℕ) → Keeps (sending_of ts cs capacity last room)

@@ -7,7 +7,7 @@ use Rattle.mq_flow.specs.Sender.{SenderBook, IsFirstFree, uses, times, steps}
 use Rattle.mq_flow.specs.Next.{following, free_after, next_identifier, NextLaws}
 use Rattle.mq_flow.proofs.Books.{laws as books}
 
--- an identifier that stands nowhere is none of them, and one that stands somewhere is
+-- An identifier that occurs nowhere is none of them; one that occurs is one of them.
 unused : (i : ℕ) (js : List ℕ) → times i js ≡ 0 → list_any (λ j. j == i) js ≡ false
 unused i [] none = refl
 unused i (j ∷ js) none = go (j == i) refl none (unused i js)
@@ -42,7 +42,7 @@ is_one i = elim (cases_lt i 65535) [
   | inr le ↦ (let e = follows_round i le in (omega arith, omega arith))
 ]
 
--- what is one step from an identifier, and what is one more than from the next
+-- One step from an identifier.
 record Onward (cur j : ℕ) : Type 0 where
   at_most : steps cur j ≤ steps (following cur) j + 1
   exact : (following cur ≡ j → ⊥) → steps cur j ≡ steps (following cur) j + 1
@@ -70,13 +70,13 @@ onward cur j is = elim (cases_lt cur 65535) [
   ])
 ]
 
--- what is found where a free one is near enough: a free one, and no free one is nearer
+-- The result of a search within reach: a free identifier, and no nearer one is free.
 record Found (cur : ℕ) (used : List ℕ) (k : ℕ) : Type 0 where
   is : IsIdentifier k
   free : times k used ≡ 0
   least : (j : ℕ) → IsIdentifier j → times j used ≡ 0 → steps cur k ≤ steps cur j
 
--- the next one, where it is free
+-- The next one, if it is free.
 found_here : (cur : ℕ) (used : List ℕ) → times (following cur) used ≡ 0 → Found cur used (following cur)
 found_here cur used free = record {
   is = is_one cur;
@@ -84,7 +84,7 @@ found_here cur used free = record {
   least = λ j js none. let one = (onward cur (following cur) (is_one cur)).next refl in let some = (onward cur j js).some in omega arith;
 }
 
--- one that is found from the next one on, where the next one is in use
+-- A result from the next one on, if the next one is in use.
 found_there : (cur : ℕ) (used : List ℕ) (k : ℕ) → (times (following cur) used ≡ 0 → ⊥) → Found (following cur) used k → Found cur used k
 found_there cur used k taken rest = record {
   is = rest.is;
@@ -114,7 +114,7 @@ near_enough last i is = elim (cases_lt last i) [
   | inr le ↦ (let s = steps_round last i le in let most = is.1 in omega arith)
 ]
 
--- an identifier is told by its steps
+-- The number of steps determines an identifier.
 told : (last i j : ℕ) → IsIdentifier i → IsIdentifier j → steps last i ≡ steps last j → i ≡ j
 told last i j a b e =
     let a0 = a.0 in

@@ -16,7 +16,7 @@ held_le q es =
     let k : length (held q es) ≡ length (filter (λ (e : Entry). same_qos q e.message.qos) es) = length-map (filter (λ (e : Entry). same_qos q e.message.qos) es) (λ (e : Entry). (e.id, e.message)) in
     omega arith
 
--- ---- an item of a number i is taken out, where at most one has it
+-- ---- Removing an item with a number that at most one has
 
 -- some item has the number
 pub there_at : {A : Type 0} (f : A → ℕ) (i : ℕ) (xs : List A) (n : ℕ) → n < length xs → ((d : A) → f (get_or xs n d) ≡ i) → 1 ≤ times i (map f xs)
@@ -68,7 +68,7 @@ any_times f i (x ∷ xs) =
       | inr n ↦ ap (λ b. b || list_any (λ x. eqb (f x) i) xs) (ne_eqb (f x) i n) ∙ any_times f i xs ∙ ap (ltb 0) (sym (times_other i (f x) (map f xs) n))
     ]
 
--- what does not pass in a list, does not in what is left of it, nor in more such
+-- A test that fails for a list fails for the remaining list and for the items added.
 none_both : (a b c : Bool) → (b ≡ false → c ≡ false) → (a || b) ≡ false → (a || c) ≡ false
 none_both true b c k n = n
 none_both false b c k n = k n

@@ -14,7 +14,7 @@ use Rattle.mq_flow.specs.Receiver.{ReceiverBook, on_publish}
 use Rattle.mq_flow.proofs.Counting.{times_append}
 use Rattle.mq_flow.proofs.Books.{times_uses, length_uses, gives_sound}
 
--- what is no UTF-8 is no topic name
+-- Bytes that are not UTF-8 are not a topic name.
 pub not_topic : (t : List ℕ) → (IsUtf8 t → ⊥) → is_topic t ≡ false
 not_topic t not = and_left (is_utf8 t) (is_none (name_fault t)) (false_from_ne_true (is_utf8 t) (λ e. not (IsUtf8-from_is_utf8 t e)))
 

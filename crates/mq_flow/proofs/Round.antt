@@ -6,7 +6,8 @@ use Rattle.mq_flow.specs.Sender.{uses, times, IsFree, IsFirstFree, is_full, step
 use Rattle.mq_flow.specs.Sending.{Sending}
 use Rattle.mq_flow.proofs.Books.{laws}
 
--- so many identifiers after the last one given are in use, and number is the last of them
+-- The first `counter` identifiers after the one assigned last are in use, and `number` is the last
+-- of them.
 pub record Passed (s : Sending) (counter number : ℕ) : Type 0 where
   pub last : s.last ≤ 65535
   pub capacity : s.capacity ≤ 65535
@@ -35,7 +36,7 @@ steps_most last j l i =
       | inr h ↦ let e = steps_round last j h in omega arith
     ]
 
--- an identifier is told by its steps
+-- The number of steps determines an identifier.
 pub steps_tell : (last i j : ℕ) → last ≤ 65535 → IsIdentifier i → IsIdentifier j → steps last i ≡ steps last j → i ≡ j
 steps_tell last i j l a b e =
     let a0 = a.0 in
@@ -125,7 +126,7 @@ passed_more s counter number id lt p id_is in_use =
           ];
     }
 
--- the first that is not in use
+-- The first identifier that is not in use.
 pub first_free : (s : Sending) (counter number id : ℕ) → counter < 65535 → Passed s counter number → id ≡ after number → false ≡ ltb 0 (times id (uses s.book)) → IsFirstFree s.last s.book id
 first_free s counter number id lt p id_is in_use =
     let further = subst (λ (i : ℕ). IsIdentifier i × (s.last + (counter + 1) ≤ 65535 → i ≡ s.last + (counter + 1)) × (65535 < s.last + (counter + 1) → i + 65535 ≡ s.last + (counter + 1)) × (steps s.last i ≡ counter + 1)) (sym id_is) (one_further s counter number lt p) in

@@ -1,4 +1,4 @@
--- The laws of the saved form of a session: what is read is spelled so, and what is spelled so is read.
+-- The laws of the saved form of a session: writing and reading are inverse to each other.
 use Rattle.std.proofs.Common.{◌≡◌, ℕ, zero, suc, ◌+◌, ◌-◌, ◌<◌, ◌≤◌, Bool, true, false, ◌||◌, eqb, List, [], ◌∷◌, ◌++◌, length, filter, Ok, refl, sym, ap, subst, ◌∙◌, append_assoc, arith}
 use Rattle.std.specs.List.{flat_map, list_any, range_with_len, AllByRecursion}
 use Rattle.std.specs.Ordering.{nat_cmp}
@@ -108,7 +108,7 @@ receiver_again r rest each =
 
 -- ---- a sender
 
--- what reading a sender gives
+-- The result of reading a sender.
 pub record SenderTaken (limit : ℕ) (bytes : List ℕ) (s : Sending) (rest : List ℕ) : Type 0 where
   pub takes : Takes bytes (saved_sender s) rest
   pub unclaimed : s.book.claimed ≡ []
@@ -123,7 +123,7 @@ pub record SenderTaken (limit : ℕ) (bytes : List ℕ) (s : Sending) (rest : Li
 abbrev made_book : List Entry → List ℕ → SenderBook
 made_book es ids = more_released (more_entries blank_book es) ids
 
--- what reading the released identifiers gives
+-- The result of reading the released identifiers.
 record ReleasedPart (room : ℕ) (b : SenderBook) (bytes : List ℕ) (after : SenderBook) (rest : List ℕ) : Type 0 where
   pub ids : List ℕ
   pub book : after ≡ more_released b ids
@@ -145,7 +145,7 @@ released_part room b bytes x h e =
           sound = λ c s fits. taken.sound c s (omega arith);
         }
 
--- what reading a book gives
+-- The result of reading a book.
 record BookPart (limit : ℕ) (capacity : ℕ) (bytes : List ℕ) (b : SenderBook) (rest : List ℕ) : Type 0 where
   pub entries : List Entry
   pub ids : List ℕ

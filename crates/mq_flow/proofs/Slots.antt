@@ -1,4 +1,5 @@
--- The places of a table, some of which are empty: where an identifier's pair is, as pairs come, go and move up.
+-- The slots of a table: where the entry of an identifier is, as entries are added, removed and
+-- moved together.
 use Rattle.std.proofs.Common.{◌≡◌, ℕ, zero, suc, ◌+◌, ◌-◌, ◌<◌, ◌≤◌, ◌∙◌, Bool, true, false, cond, eqb, ltb, List, [], ◌∷◌, ◌++◌, map, filter, length, take, drop, get_or, add-one, append_assoc, append-nil, Option, Some, None, IsSome, refl, sym, ap, subst, arith, inl, inr}
 use Rattle.std.specs.Option.{is_some, option_map}
 use Rattle.std.specs.Map.{keys_of, lookup, remove_entry}
@@ -140,7 +141,7 @@ unfound i ps e = elim (cases_eq (times i (keys_of ps)) 0) [
 pub remove_absent : (i : ℕ) (ps : List (ℕ × Held)) → times i (keys_of ps) ≡ 0 → remove_entry (eqb i) ps ≡ ps
 remove_absent i ps z = ap (remove_entry (eqb i)) (sym (append-nil ps)) ∙ remove_past i ps [] z ∙ append-nil ps
 
--- ---- what is found in its place
+-- ---- The entry in a slot
 
 module _ (i : ℕ) (front : List (Option Held)) (h : Held) (back : List (Option Held)) (id : id_in h ≡ i)
     (once : times i (keys_of (pairs_in (front ++ Some h ∷ back))) ≤ 1) where
@@ -180,13 +181,13 @@ module _ (i : ℕ) (front : List (Option Held)) (h : Held) (back : List (Option 
         ∙ sym (ap (λ (b : Bool). cond b None (place_from 0 j (front ++ Some h ∷ back))) (ne_eqb i j n))
   ]
 
--- ---- what a table keeps true
+-- ---- The invariant of a table
 
 -- nothing is in no places
 pub none_placed : IsPlaced [] (λ i. None) 0
 none_placed = record { at = λ i. refl; once = λ i. omega arith; many = refl }
 
--- the same, where look-ups and the count are the same
+-- Likewise if look-ups and the count are the same.
 pub same_placed : (xs : List (Option Held)) (f g : ℕ → Option ℕ) (n m : ℕ) → IsPlaced xs f n → ((i : ℕ) → g i ≡ f i) → m ≡ n → IsPlaced xs g m
 same_placed xs f g n m p s e = record { at = λ i. s i ∙ p.at i; once = p.once; many = e ∙ p.many }
 
@@ -223,7 +224,7 @@ put_placed xs f g n m h p z s e = record {
   many = let l = p.many in let a = ap length (pairs_append xs (Some h ∷ [])) in let b = length-append (pairs_in xs) (pairs_in (Some h ∷ [])) in omega arith;
 }
 
--- where an identifier's pair is, and what a look-up finds there
+-- The slot of an identifier, and its entry.
 pub record Holds (xs : List (Option Held)) (i k : ℕ) : Type 0 where
   pub held : Held
   pub id : id_in held ≡ i
@@ -231,7 +232,7 @@ pub record Holds (xs : List (Option Held)) (i k : ℕ) : Type 0 where
   pub here : (d : Option Held) → get_or xs k d ≡ Some held
   pub found : lookup (eqb i) (pairs_in xs) ≡ Some held
 
--- what is there, split at its place
+-- The slots, split at the slot of an identifier.
 record Split (xs : List (Option Held)) (i k : ℕ) : Type 0 where
   front : List (Option Held)
   held : Held
@@ -268,7 +269,7 @@ holds xs f n i k p e =
       found = ap (λ (l : List (Option Held)). lookup (eqb i) (pairs_in l)) s.is ∙ found_held i s.front s.held s.back s.id s.once;
     }
 
--- nothing is found where there is no place
+-- Without a slot nothing is found.
 from_none : (at i : ℕ) (xs : List (Option Held)) → place_from at i xs ≡ None → times i (keys_of (pairs_in xs)) ≡ 0
 from_none at i [] e = refl
 from_none at i (x ∷ xs) e = go (place_from (at + 1) i xs) refl (λ w. from_none (at + 1) i xs w)
@@ -382,7 +383,7 @@ no_place xs f n i p z = p.at i ∙ from_absent 0 i xs z
 pub free_place : (xs : List (Option Held)) (f : ℕ → Option ℕ) (n i : ℕ) → IsPlaced xs f n → lookup (eqb i) (pairs_in xs) ≡ None → f i ≡ None
 free_place xs f n i p e = no_place xs f n i p (unfound i (pairs_in xs) e)
 
--- what is found nowhere
+-- An identifier that has no slot.
 pub never_found : (xs : List (Option Held)) (f : ℕ → Option ℕ) (n i : ℕ) → IsPlaced xs f n → f i ≡ None → lookup (eqb i) (pairs_in xs) ≡ None
 never_found xs f n i p e = not_found i (pairs_in xs) (holds_none xs f n i p e)
 
@@ -479,7 +480,7 @@ length_full [] = refl
 length_full (None ∷ xs) = length_full xs
 length_full (Some h ∷ xs) = let e = length_full xs in omega arith
 
--- places that are not empty are as many as pairs at most
+-- There are at most as many entries as slots that are not empty.
 pub pairs_few : (xs : List (Option Held)) → length (pairs_in xs) ≤ length xs
 pairs_few [] = omega arith
 pairs_few (None ∷ xs) = let e = pairs_few xs in omega arith

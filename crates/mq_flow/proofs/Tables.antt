@@ -6,7 +6,7 @@ use Rattle.mq_flow.specs.declared.table.Held.{Held}
 use Rattle.mq_flow.specs.declared.table.Held.TheVariants.{Waiting, Released}
 use Rattle.mq_flow.specs.Held.{messages, releases}
 
--- ---- an iterator that is seen as what is left
+-- ---- An iterator, viewed as the remaining items
 
 module _ {A X : Type 0} (shows : A → X) where
   pub shown_in_order : ShowsInOrder shows

@@ -1,4 +1,4 @@
--- The laws of the saved form as a whole, and what loading gives.
+-- The laws of the whole saved form, and the result of loading.
 use Rattle.std.proofs.Common.{◌≡◌, ℕ, Bool, true, false, cond, ◌&&◌, eqb, List, [], ◌∷◌, ◌++◌, length, drop, Result, Ok, Err, IfOk, MatchResult, refl, sym, ap, subst, ◌∙◌}
 use Rattle.std.proofs.lemmas.Bool.{and_parts, eqb-true}
 use Rattle.std.proofs.lemmas.List.{append-nil}
@@ -16,7 +16,7 @@ use Rattle.mq_flow.specs.SavedLaws.{SavedLaws}
 use Rattle.mq_flow.proofs.Fields.{bind_ok, ok_is, AreBytes-rest, Takes}
 use Rattle.mq_flow.proofs.SessionForms.{SenderTaken, sender_found, sender_again, receiver_found, receiver_again}
 
--- ---- what follows the version
+-- ---- The rest behind the version
 
 end_found : (bytes : List ℕ) (u : Unit {0}) → end_at bytes ≡ Ok u → bytes ≡ []
 end_found [] u e = refl

@@ -1,4 +1,4 @@
--- The laws of the saved form, version 2, and what loading gives.
+-- The laws of the saved form, version 2, and the result of loading.
 use Rattle.std.proofs.Common.{◌≡◌, ℕ, suc, ◌+◌, ◌/◌, ◌%◌, arith, Bool, true, false, cond, ◌&&◌, eqb, List, [], ◌∷◌, ◌++◌, length, drop, Option, Some, None, Result, Ok, Err, IfOk, MatchResult, refl, sym, ap, subst, ◌∙◌}
 use Rattle.std.proofs.lemmas.Bool.{and_parts, eqb-true}
 use Rattle.std.proofs.Math.Seq.{drop-append_seam}
@@ -41,7 +41,7 @@ text_again texts t rest is =
     let behind : drop (2 + length t) (counted t ++ rest) ≡ rest = drop_two (length t) (length t / 256) (length t % 256) (t ++ rest) ∙ drop-append_seam t rest in
     ap (text_of (counted t ++ rest)) read ∙ ap (λ (b : List ℕ). Ok (t, b)) behind
 
--- ---- what follows the version
+-- ---- The rest behind the version
 
 first_found : (bytes : List ℕ) (v : value.Saved) → AreBytes bytes → first_at 268435455 bytes ≡ Ok v → IsSavedAs v (signature ++ bytes) × IsSession v.session
 unfolding first_at

@@ -1,4 +1,4 @@
--- How many identifiers are stored, and what that says of a window.
+-- The number of stored identifiers, and the receive window.
 use Rattle.std.proofs.Common.{◌≡◌, ℕ, ◌+◌, ◌-◌, ◌<◌, ◌≤◌, max, ◌⊎◌, Bool, true, false, cond, ◌||◌, ltb, Option, Some, None, List, [], ◌∷◌, length, refl, sym, ap, subst, ◌∙◌, arith, inl, inr}
 use Rattle.std.proofs.lemmas.Bool.{ltb-true, lt-ltb, cases_eq, false_from_ne_true}
 use Rattle.std.specs.FinSet.{FinSet, empty, insert, remove, contains, len, from_list, same_set, nat_cmp-IsAntisymmetric, contains-empty, contains-from_list, len-empty, len-insert, len-remove}
@@ -10,7 +10,7 @@ use Rattle.mq_flow.proofs.Counting.{times_same, times_other}
 use Rattle.mq_flow.proofs.Members.{insert_same, insert_other, remove_same, remove_other}
 use Rattle.mq_flow.proofs.Ascending.{Rising, not_below, among}
 
--- a set of ascending numbers has as many as they are
+-- A set of ascending numbers has as many members as there are numbers.
 pub len_keys : (lo : ℕ) (ks : List ℕ) → Rising lo ks → len (from_list {R = nat_cmp} ks) ≡ length ks
 len_keys lo [] r = len-empty nat_cmp
 len_keys lo (k ∷ ks) r =
@@ -21,7 +21,7 @@ len_keys lo (k ∷ ks) r =
     let one : len (insert set k) ≡ len set + 1 = subst (λ (b : Bool). len (insert set k) ≡ cond b (len set) (len set + 1)) absent more in
     omega arith
 
--- a set whose numbers stand in a list has at most as many as stand there
+-- A set whose members occur in a list has at most as many members as the list.
 pub len_among : (xs : List ℕ) (s : FinSet nat_cmp) → ((j : ℕ) → contains s j ≡ true → 1 ≤ times j xs) → len s ≤ length xs
 len_among [] s only =
     let none : s ≡ empty = same_set nat_cmp_total nat_cmp-IsAntisymmetric s empty (λ q. false_from_ne_true (contains s q) (λ e. let h = only q e in omega arith) ∙ sym (contains-empty nat_cmp q)) in
@@ -45,7 +45,7 @@ len_among (x ∷ xs) s only =
     fewer true e le = omega arith
     fewer false e le = omega arith
 
--- ---- what stays within a window
+-- ---- Staying within a window
 
 pub same_within : (window : Option ℕ) (s : FinSet nat_cmp) → IsWithin window s s
 same_within None s = tt
@@ -75,9 +75,10 @@ stored_within (Some window) i s fits = by_set (contains s i) (len-insert nat_cmp
     by_set true e fits = omega arith
     by_set false e fits = let lt : len s < window = ltb-true (len s) window fits in omega arith
 
--- ---- what always fits
+-- ---- Messages that always fit
 
--- where the numbers stored are among those of a list, which is no longer than the window, each of the list fits
+-- If the stored numbers are among those of a list that is no longer than the window, each number of
+-- the list fits.
 pub spanned_fits : (window : Option ℕ) (capacity i : ℕ) (xs : List ℕ) (s : FinSet nat_cmp) → Spans window capacity → length xs ≤ capacity → ((j : ℕ) → contains s j ≡ true → 1 ≤ times j xs) → 1 ≤ times i xs → fits_window window i s ≡ true
 spanned_fits None capacity i xs s spans short only here = refl
 spanned_fits (Some window) capacity i xs s spans short only here = by_set (contains s i) refl

@@ -1,4 +1,5 @@
--- What a sender keeps under the identifiers of messages, so that each is found at once (2.3.1, 4.3.2, 4.3.3).
+-- The sender's table, which finds the entry of an identifier in constant time (2.3.1, 4.3.2,
+-- 4.3.3).
 use Rattle.std.specs.Prelude.{ℕ, ◌+◌, ◌≤◌, ◌≡◌, Bool, true, false, if◌then◌else◌, List, [], ◌∷◌, length, nat_eq, Option, Some, None}
 use Rattle.std.specs.List.{flat_map, AllByRecursion}
 use Rattle.std.specs.Map.{keys_of}
@@ -8,12 +9,12 @@ use Rattle.mq_flow.specs.declared.entry.Entry.{Entry}
 use Rattle.mq_flow.specs.declared.table.Held.{Held}
 use Rattle.mq_flow.specs.declared.table.Held.TheVariants.{Waiting, Released}
 
--- the message, where it is not acknowledged
+-- The message, unless it is acknowledged.
 abbrev pub message_in : Held → List Entry
 message_in (Waiting e) = e ∷ []
 message_in (Released i) = []
 
--- the identifier, where it is released
+-- The identifier, if it is released.
 abbrev pub release_in : Held → List ℕ
 release_in (Waiting e) = []
 release_in (Released i) = i ∷ []
@@ -30,12 +31,12 @@ releases = flat_map (λ p. release_in p.1)
 abbrev pub book_of : List (ℕ × Held) → List Claimed → SenderBook
 book_of ps cs = record { entries = messages ps; released = releases ps; claimed = cs }
 
--- the identifier of what is kept
+-- The identifier of an entry.
 abbrev pub id_in : Held → ℕ
 id_in (Waiting e) = e.id
 id_in (Released i) = i
 
--- each stands under its identifier
+-- Each entry is stored under its identifier.
 abbrev pub AreUnder : List (ℕ × Held) → Type 0
 AreUnder = AllByRecursion (λ p. id_in p.1 ≡ p.0)
 
@@ -46,7 +47,7 @@ gone_out (Released i) = Released i
 
 -- ---- places, some of which are empty
 
--- What a table keeps, in its order; and how many more it can keep without more memory.
+-- The entries of a table in order, and the number of entries that it can add without allocation.
 pub record Kept : Type 0 where
   pub pairs : List (ℕ × Held)
   pub spare : ℕ
@@ -70,12 +71,12 @@ abbrev pub later : Option ℕ → Option ℕ → Option ℕ
 later (Some i) o = Some i
 later None o = o
 
--- where an identifier's pair is, where the places are numbered from this number on
+-- The slot of an identifier; slots are numbered from `at`.
 abbrev pub place_from : ℕ → ℕ → List (Option Held) → Option ℕ
 place_from at i [] = None
 place_from at i (x ∷ xs) = later (place_from (at + 1) i xs) (if is_under i x then Some at else None)
 
--- Each identifier is in one place at most, a look-up says in which, and so many places are not empty.
+-- Each identifier is in at most one slot, a look-up returns it, and `count` slots are not empty.
 pub record IsPlaced (xs : List (Option Held)) (place : ℕ → Option ℕ) (count : ℕ) : Type 0 where
   pub at : (i : ℕ) → place i ≡ place_from 0 i xs
   pub once : (i : ℕ) → times i (keys_of (pairs_in xs)) ≤ 1

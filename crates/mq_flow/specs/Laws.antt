@@ -1,4 +1,4 @@
--- What a sender's book keeps, whatever moves it makes.
+-- The laws of the sender's book, after any list of moves.
 use Rattle.std.specs.Prelude.{ℕ, ◌+◌, ◌≤◌, ◌≡◌, ◌↔◌, Bool, true, false, length, [], ◌∷◌}
 use Rattle.mq_topic.specs.declared.qos.Qos.TheVariants.{Q1, Q2}
 use Rattle.mq_packet.specs.Identifier.{IsIdentifier}
@@ -7,13 +7,14 @@ use Rattle.mq_flow.specs.declared.claim.Claim.{Claim}
 use Rattle.mq_flow.specs.Receiver.{ReceiverBook, none_received, is_new, on_publish, on_pubrel}
 use Rattle.mq_flow.specs.Sender.{SenderBook, blank_book, uses, times, IsFree, is_full, is_awaited, accept, on_puback, on_pubrec, on_pubcomp, all_sent, claim, release, no_claims, pubrec_answer, publish_packet, send, sent_packets}
 
--- The identifiers in use are from 1 to 65,535, each is in use once, and they are at most so many (2.3.1).
+-- Identifiers in use are 1 to 65,535, each is used once, and there are at most `capacity` (2.3.1).
 pub record IsSound (capacity : ℕ) (b : SenderBook) : Type 0 where
   pub identifiers : (i : ℕ) → 1 ≤ times i (uses b) → IsIdentifier i
   pub distinct : (i : ℕ) → times i (uses b) ≤ 1
   pub within : length (uses b) ≤ capacity
 
--- What holds after an identifier was given: it is one, it was not in use, now it is, and there was room (2.3.1).
+-- After an identifier was assigned: it is valid, it was free, it is in use, and there was room
+-- (2.3.1).
 pub record IsGiven (capacity : ℕ) (old new : SenderBook) (i : ℕ) : Type 0 where
   pub identifier : IsIdentifier i
   pub fresh : times i (uses old) ≡ 0
@@ -36,7 +37,8 @@ pub record IdentifierLaws : Type 0 where
   pub drops : (capacity : ℕ) (b : SenderBook) → IsSound capacity b → IsSound capacity (no_claims b)
   pub sends : (capacity : ℕ) (b : SenderBook) → IsSound capacity b → IsSound capacity (all_sent b)
 
--- An acknowledgement takes out of the book what waits for it, and a stray one changes nothing (4.3.2, 4.3.3).
+-- An acknowledgement removes from the book what it acknowledges; a stray one changes nothing
+-- (4.3.2, 4.3.3).
 pub record StrayLaws : Type 0 where
   pub puback_stray : (i : ℕ) (b : SenderBook) → is_awaited Q1 i b.entries ≡ false → on_puback i b ≡ b
   pub pubrec_stray : (i : ℕ) (b : SenderBook) → is_awaited Q2 i b.entries ≡ false → (on_pubrec i b ≡ b) × (pubrec_answer i b ≡ [])
@@ -53,7 +55,7 @@ pub record ReceiverLaws : Type 0 where
   pub others_stored : (i j : ℕ) (r : ReceiverBook) → (j ≡ i → ⊥) → is_new j (on_publish i r) ≡ is_new j r
   pub others_forgotten : (i j : ℕ) (r : ReceiverBook) → (j ≡ i → ⊥) → is_new j (on_pubrel i r) ≡ is_new j r
 
--- To accept and then to send is to accept where the sender is connected (4.3.2, 4.3.3).
+-- Accepting and then sending is accepting while connected (4.3.2, 4.3.3).
 pub record SendingLaws : Type 0 where
   pub both : (i : ℕ) (m : Message) (b : SenderBook) → IsFree b i → send i (accept i m false b) ≡ accept i m true b
   pub packet : (i : ℕ) (m : Message) (b : SenderBook) → IsFree b i → sent_packets i (accept i m false b) ≡ publish_packet i false m ∷ []

@@ -1,5 +1,6 @@
--- Reading the saved form of a session (3.1.2.4, 4.1). Each reads a field from the front of the bytes, and gives its value and the bytes
--- after it; or else how many bytes there are from the bad field on, to the end.
+-- Reading the saved form of a session (3.1.2.4, 4.1). Each reads a field from the front of the
+-- bytes, and gives its value and the bytes after it; or else how many bytes there are from the bad
+-- field on, to the end.
 use Rattle.std.specs.Prelude.{◌≡◌, ℕ, zero, suc, ◌+◌, ◌-◌, ◌*◌, ◌<◌, slice_index, Bool, true, false, ◌&&◌, ◌||◌, if◌then◌else◌, List, [], ◌∷◌, ◌++◌, length, take, drop, ◌==◌, nat_le, nat_lt, nat_eq, Result, Ok, Err}
 use Rattle.std.specs.List.{starts_with}
 use Rattle.std.specs.Option.{is_none}
@@ -21,7 +22,7 @@ use Rattle.mq_flow.specs.Sending.{Sending}
 use Rattle.mq_flow.specs.Receiver.{ReceiverBook, none_received, on_publish}
 use Rattle.mq_flow.specs.Saved.{signature}
 
--- one field after another, up to the first that is bad
+-- Reads one field after another, up to the first invalid one.
 infixl 10 ◌>>=◌
 abbrev pub ◌>>=◌ : {A B : Type 0} → Result A ℕ → (A → Result B ℕ) → Result B ℕ
 (Ok x) >>= f = f x
@@ -45,7 +46,7 @@ count_at bytes = if nat_lt (length bytes) 4 then bad_at bytes else (number_at by
 unfoldable pub capacity_at : List ℕ → Result (ℕ × List ℕ) ℕ
 capacity_at bytes = number_at bytes >>= λ n. if n.0 == 0 then bad_at bytes else Ok n
 
--- how many there are, where there is room for so many
+-- A number of items for which there is room.
 unfoldable pub number_within : ℕ → List ℕ → Result (ℕ × List ℕ) ℕ
 number_within room bytes = number_at bytes >>= λ n. if nat_lt room n.0 then bad_at bytes else Ok n
 
@@ -76,11 +77,12 @@ unfoldable pub topic_at : List ℕ → Result (List ℕ × List ℕ) ℕ
 topic_at bytes = number_at bytes >>= λ n.
     if nat_lt (length n.1) n.0 then bad_at bytes else (if is_topic (take n.0 n.1) then Ok (take n.0 n.1, drop n.0 n.1) else bad_at bytes)
 
--- the PUBLISH with a topic name of so many bytes and a payload of so many has a remaining length over a limit (2.2.3, 3.3)
+-- The PUBLISH with a topic name and a payload of these sizes has a remaining length over the limit
+-- (2.2.3, 3.3).
 abbrev pub is_over_limit : (limit : ℕ) → ℕ → ℕ → Bool
 is_over_limit limit topic payload = nat_lt limit (2 + topic + 2 + payload)
 
--- a payload behind a count of four bytes; where it is bad, its place is after the count
+-- A payload behind a length of four bytes; if it is invalid, its place is behind the length.
 unfoldable pub payload_at : (limit : ℕ) → ℕ → List ℕ → Result (List ℕ × List ℕ) ℕ
 payload_at limit topic bytes = count_at bytes >>= λ n. if is_over_limit limit topic n.0 || nat_lt (length n.1) n.0 then bad_at n.1 else Ok (take n.0 n.1, drop n.0 n.1)
 
@@ -97,7 +99,7 @@ entry_at limit b bytes = free_at b bytes >>= λ id. flags_at id.1 >>= λ flags. 
 unfoldable pub with_entry_at : (limit : ℕ) → SenderBook → List ℕ → Result (SenderBook × List ℕ) ℕ
 with_entry_at limit b bytes = entry_at limit b bytes >>= λ e. Ok (accept e.0.id e.0.message e.0.sent b, e.1)
 
--- the book with so many entries more
+-- The book with `count` more entries.
 abbrev pub entries_at : (limit : ℕ) → ℕ → SenderBook → List ℕ → Result (SenderBook × List ℕ) ℕ
 entries_at limit zero b bytes = Ok (b, bytes)
 entries_at limit (suc more) b bytes = with_entry_at limit b bytes >>= λ e. entries_at limit more e.0 e.1
@@ -109,7 +111,7 @@ with_released i b = record b { released = b.released ++ i ∷ [] }
 unfoldable pub with_released_at : SenderBook → List ℕ → Result (SenderBook × List ℕ) ℕ
 with_released_at b bytes = free_at b bytes >>= λ id. Ok (with_released id.0 b, id.1)
 
--- the book with so many released identifiers more
+-- The book with `count` more released identifiers.
 abbrev pub released_at : ℕ → SenderBook → List ℕ → Result (SenderBook × List ℕ) ℕ
 released_at zero b bytes = Ok (b, bytes)
 released_at (suc more) b bytes = with_released_at b bytes >>= λ r. released_at more r.0 r.1
@@ -122,7 +124,7 @@ released_within room b bytes = number_within room bytes >>= λ m. released_at m.
 abbrev pub book_at : (limit : ℕ) → ℕ → List ℕ → Result (SenderBook × List ℕ) ℕ
 book_at limit capacity bytes = number_within capacity bytes >>= λ n. entries_at limit n.0 blank_book n.1 >>= λ entries. released_within (capacity - n.0) entries.0 entries.1
 
--- what a sender keeps: the capacity, the identifier given last, its book
+-- The sender's state: the capacity, the identifier assigned last, the book.
 unfoldable pub sender_at : (limit : ℕ) → List ℕ → Result (Sending × List ℕ) ℕ
 sender_at limit bytes = capacity_at bytes >>= λ capacity. number_at capacity.1 >>= λ last. book_at limit capacity.0 last.1 >>= λ book.
     Ok (record { book = book.0; capacity = capacity.0; last = last.0; room = 0 }, book.1)
@@ -131,7 +133,7 @@ sender_at limit bytes = capacity_at bytes >>= λ capacity. number_at capacity.1 
 unfoldable pub next_at : ℕ → List ℕ → Result (ℕ × List ℕ) ℕ
 next_at last bytes = number_at bytes >>= λ id. if nat_le id.0 last then bad_at bytes else Ok id
 
--- the set with so many identifiers more, each after the one before it
+-- The set with `count` more identifiers in ascending order.
 abbrev pub received_at : ℕ → ℕ → ReceiverBook → List ℕ → Result (ReceiverBook × List ℕ) ℕ
 received_at zero last r bytes = Ok (r, bytes)
 received_at (suc more) last r bytes = next_at last bytes >>= λ id. received_at more id.0 (on_publish id.0 r) id.1
@@ -145,7 +147,7 @@ abbrev pub end_at : List ℕ → Result (Unit {0}) ℕ
 end_at [] = Ok tt
 end_at (b ∷ bytes) = bad_at (b ∷ bytes)
 
--- what follows the version
+-- The rest behind the version.
 unfoldable pub session_at : (limit : ℕ) → List ℕ → Result Session ℕ
 session_at limit bytes = sender_at limit bytes >>= λ sender. receiver_at sender.1 >>= λ receiver. end_at receiver.1 >>= λ end. Ok (record { sender = sender.0; receiver = receiver.0 })
 
@@ -160,11 +162,11 @@ abbrev pub placed : {A : Type 0} → ℕ → Result A ℕ → Result A LoadError
 placed total (Ok x) = Ok x
 placed total (Err left) = Err (errors.Malformed (total - left))
 
--- the session of which these bytes are the saved form, or what is wrong with them
+-- The session in a saved form, or the reason why the bytes are none.
 unfoldable pub read_session : List ℕ → Result Session LoadError
 read_session bytes = if has_version bytes then placed (length bytes) (session_at 268435455 (drop 4 bytes)) else Err errors.Version
 
--- ---- what a function returned is what is read
+-- ---- The results of functions
 
 -- seen by view
 abbrev pub Same : {X Y : Type 0} → (X → Y) → Result X BadField → Result Y ℕ → Type 0

@@ -7,7 +7,7 @@ use Rattle.mq_flow.specs.Sender.{SenderBook, IsFirstFree, is_full, uses}
 abbrev pub following : ℕ → ℕ
 following i = if nat_lt i 65535 then i + 1 else 1
 
--- the first one that is not in use, of so many and one more after this one
+-- The first identifier that is not in use among the next `count + 1`.
 abbrev pub free_after : ℕ → ℕ → List ℕ → ℕ
 free_after zero i used = following i
 free_after (suc more) i used = if list_any (λ j. j == following i) used then free_after more (following i) used else following i
@@ -16,7 +16,8 @@ free_after (suc more) i used = if list_any (λ j. j == following i) used then fr
 unfoldable pub next_identifier : ℕ → SenderBook → ℕ
 next_identifier last b = free_after 65535 last (uses b)
 
--- The next identifier is the first free one, wherever the book is not full, and there is no other first free one.
+-- The next identifier is the first free one, wherever the book is not full, and there is no other
+-- first free one.
 pub record NextLaws : Type 0 where
   pub first : (capacity last : ℕ) (b : SenderBook) → capacity ≤ 65535 → is_full capacity b ≡ false → IsFirstFree last b (next_identifier last b)
   pub only : (last i : ℕ) (b : SenderBook) → IsFirstFree last b i → i ≡ next_identifier last b

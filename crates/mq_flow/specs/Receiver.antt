@@ -1,5 +1,5 @@
--- What a receiver writes down, and its moves (4.3.3): the identifiers whose message of quality of service 2 was
--- handed on and that are not released. It hands a message on when its PUBLISH comes (method B).
+-- The receiver's book and its moves (4.3.3): the identifiers of QoS 2 messages that were delivered
+-- and are not released. A message is delivered when its PUBLISH arrives (method B).
 use Rattle.std.specs.Prelude.{◌≡◌, ℕ, Bool, true, not, List}
 use Rattle.std.specs.List.{list_any}
 use Rattle.std.specs.FinSet as FinSet
@@ -14,15 +14,15 @@ ReceiverBook = FinSet.FinSet nat_cmp
 abbrev pub none_received : ReceiverBook
 none_received = FinSet.empty
 
--- a PUBLISH of quality of service 2 with this identifier is a new message, which is handed on (4.3.3)
+-- A QoS 2 PUBLISH with this identifier is a new message, to be delivered (4.3.3).
 abbrev pub is_new : ℕ → ReceiverBook → Bool
 is_new i r = not (FinSet.contains r i)
 
--- PUBLISH of quality of service 2: its identifier is stored; the answer is PUBREC (4.3.3)
+-- PUBLISH with QoS 2: its identifier is stored, and PUBREC responds (4.3.3).
 abbrev pub on_publish : ℕ → ReceiverBook → ReceiverBook
 on_publish i r = FinSet.insert r i
 
--- PUBREL: the identifier is forgotten; the answer is PUBCOMP, whether it was stored or not (4.3.3)
+-- PUBREL: the identifier is forgotten, and PUBCOMP responds, also if it was not stored (4.3.3).
 abbrev pub on_pubrel : ℕ → ReceiverBook → ReceiverBook
 on_pubrel i r = FinSet.remove r i
 

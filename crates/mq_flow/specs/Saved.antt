@@ -1,5 +1,6 @@
--- The saved form of a session, version 1. A session is the state that is kept while there is no connection (3.1.2.4, 4.1): the
--- messages that are not acknowledged, the identifiers that are released, and those that are received and not released.
+-- The saved form of a session, version 1. A session is the state that is kept while there is no
+-- connection (3.1.2.4, 4.1): the messages that are not acknowledged, the identifiers that are
+-- released, and those that are received and not released.
 use Rattle.std.specs.Prelude.{◌≡◌, ℕ, ◌+◌, ◌/◌, ◌%◌, ◌<◌, ◌≤◌, true, List, [], ◌∷◌, ◌++◌, length}
 use Rattle.std.specs.List.{flat_map, range_with_len, filter, AllByRecursion}
 use Rattle.std.specs.FinSet as set
@@ -38,11 +39,11 @@ saved_flags e = qos_number e.message.qos ∷ bit e.sent ∷ bit e.message.retain
 abbrev pub saved_entry : Entry → List ℕ
 saved_entry e = number e.id ++ (saved_flags e ++ (counted e.message.topic ++ saved_payload e.message.payload))
 
--- so many identifiers, and they
+-- The number of identifiers, followed by the identifiers.
 abbrev pub saved_ids : List ℕ → List ℕ
 saved_ids ids = number (length ids) ++ flat_map number ids
 
--- what a sender keeps, in order, without the identifiers of SUBSCRIBE and UNSUBSCRIBE
+-- The sender's state in order, without the identifiers of SUBSCRIBE and UNSUBSCRIBE.
 abbrev pub saved_sender : Sending → List ℕ
 saved_sender s = number s.capacity ++ (number s.last ++ (number (length s.book.entries) ++ (flat_map saved_entry s.book.entries ++ saved_ids s.book.released)))
 
@@ -71,14 +72,14 @@ pub record Saved (s : Session) (b : List ℕ) : Type 0 where
 abbrev pub IsWithinLimit : ℕ → Message → Type 0
 IsWithinLimit limit m = 2 + length m.topic + 2 + length m.payload ≤ limit
 
--- what a message that is kept must be: of quality of service 1 or 2 (4.3.1), with a topic name (4.7), and within the limit
+-- A stored message has QoS 1 or 2 (4.3.1), a topic name (4.7), and fits the limit.
 pub record IsKept (limit : ℕ) (e : Entry) : Type 0 where
   pub acknowledged : e.message.qos ≡ Q0 → ⊥
   pub topic : IsTopicName e.message.topic
   pub within : IsWithinLimit limit e.message
 
--- What a session keeps true, and each PUBLISH of it is within the limit: its identifiers in use are sound, 1 to 65,535 may be in
--- use, and those that were received are identifiers (2.3.1).
+-- The invariant of a session whose PUBLISH packets fit the limit: its identifiers in use are sound,
+-- its capacity is 1 to 65,535, and the received identifiers are valid (2.3.1).
 pub record IsSessionWithin (limit : ℕ) (s : Session) : Type 0 where
   pub sound : IsSound s.sender.capacity s.sender.book
   pub able : 0 < s.sender.capacity
@@ -95,7 +96,7 @@ AreWithin limit es = AllByRecursion (λ e. IsWithinLimit limit e.message) es
 abbrev pub HaveTopics : List Entry → Type 0
 HaveTopics es = AllByRecursion (λ e. IsTopicName e.message.topic) es
 
--- what of this its sender keeps true
+-- The sender's part of this invariant.
 pub record IsSenderWithin (limit : ℕ) (s : Sending) : Type 0 where
   pub sound : IsSound s.capacity s.book
   pub able : 0 < s.capacity

@@ -1,5 +1,5 @@
--- The saved form of a client's session, version 2: whose it is, and whether it is established, stand before what version 1 has
--- (3.1.2.4, 3.1.3.1, 4.1).
+-- The saved form of a client's session, version 2: the client identifier and whether the session is
+-- established, followed by the contents of version 1 (3.1.2.4, 3.1.3.1, 4.1).
 use Rattle.std.specs.Prelude.{◌≡◌, ℕ, Bool, true, false, ◌&&◌, not, if◌then◌else◌, List, [], ◌∷◌, ◌++◌, length, drop, nat_eq, Option, Some, None, MatchOption, Result, Ok, Err}
 use Rattle.std.specs.List.{starts_with}
 use Rattle.mq_wire.specs.Text.{IsText, counted}
@@ -13,28 +13,31 @@ use Rattle.mq_flow.specs.declared.session.Session.{Session}
 use Rattle.mq_flow.specs.Saved.{saved_sender, saved_receiver, Saved}
 use Rattle.mq_flow.specs.Loading.{◌>>=◌, bad_at, flag_at, session_at, has_version, placed}
 
--- ---- what is spelled
+-- ---- Writing
 
 -- `MQS`, and the version
 abbrev pub signature_two : List ℕ
 signature_two = 0x4d ∷ 0x51 ∷ 0x53 ∷ 2 ∷ []
 
--- the client's identifier (3.1.3.1), whether a CONNACK that accepts was read for the session, and the session
+-- the client's identifier (3.1.3.1), whether a CONNACK that accepts was read for the session, and
+-- the session
 abbrev pub saved_form_two : List ℕ → Bool → Session → List ℕ
 saved_form_two client established s = signature_two ++ (counted client ++ (bit established ∷ (saved_sender s.sender ++ saved_receiver s.receiver)))
 
--- the identifier is a text, nothing is claimed, no room is reserved, and b is the saved form, version 2
+-- the identifier is a text, nothing is claimed, no room is reserved, and b is the saved form,
+-- version 2
 pub record SavedTwo (client : List ℕ) (established : Bool) (s : Session) (b : List ℕ) : Type 0 where
   pub text : IsText client
   pub unclaimed : s.sender.book.claimed ≡ []
   pub unreserved : s.sender.room ≡ 0
   pub form : b ≡ saved_form_two client established s
 
--- b is a saved form: version 2 where it names a client; version 1, which doesn't say that the session is established, where it names none
+-- `b` is a saved form: version 2 if it names a client; otherwise version 1, which doesn't say that
+-- the session is established.
 abbrev pub IsSavedAs : value.Saved → List ℕ → Type 0
 IsSavedAs v b = MatchOption v.client ((v.established ≡ false) × Saved v.session b) (λ client. SavedTwo client v.established v.session b)
 
--- ---- what is read
+-- ---- Reading
 
 -- a text at the front, and the bytes after it
 abbrev pub text_of : List ℕ → Result (List ℕ × ℕ) FieldFault → Result (List ℕ × List ℕ) ℕ
@@ -45,11 +48,11 @@ text_of bytes (Err fault) = bad_at bytes
 unfoldable pub text_at : List ℕ → Result (List ℕ × List ℕ) ℕ
 text_at bytes = text_of bytes (read_text bytes 0)
 
--- what follows version 1
+-- The rest of version 1.
 unfoldable pub first_at : (limit : ℕ) → List ℕ → Result value.Saved ℕ
 first_at limit bytes = session_at limit bytes >>= λ session. Ok (record { client = None; established = false; session = session })
 
--- what follows version 2
+-- The rest of version 2.
 unfoldable pub second_at : (limit : ℕ) → List ℕ → Result value.Saved ℕ
 second_at limit bytes = text_at bytes >>= λ client. flag_at client.1 >>= λ established. session_at limit established.1 >>= λ session.
     Ok (record { client = Some client.0; established = established.0; session = session })
@@ -58,7 +61,7 @@ second_at limit bytes = text_at bytes >>= λ client. flag_at client.1 >>= λ est
 abbrev pub has_version_two : List ℕ → Bool
 has_version_two bytes = starts_with nat_eq bytes signature_two
 
--- the session of which these bytes are the saved form, of either version, or what is wrong with them
+-- The session in a saved form of either version, or the reason why the bytes are none.
 unfoldable pub read_saved : List ℕ → Result value.Saved LoadError
 read_saved bytes =
     if has_version bytes then placed (length bytes) (first_at 268435455 (drop 4 bytes)) else

@@ -1,4 +1,4 @@
--- What a sender writes down, and its moves (2.3.1, 4.3.2, 4.3.3, 4.4).
+-- The sender's book and its moves (2.3.1, 4.3.2, 4.3.3, 4.4).
 use Rattle.std.specs.Prelude.{ℕ, ◌+◌, ◌-◌, ◌≤◌, ◌≡◌, Bool, true, false, not, ◌&&◌, if◌then◌else◌, List, [], ◌∷◌, ◌++◌, map, length, ◌==◌, nat_le, nat_lt, filter, Some}
 use Rattle.std.specs.List.{list_any}
 use Rattle.mq_topic.specs.declared.qos.Qos.{Qos}
@@ -15,9 +15,9 @@ use Rattle.mq_flow.specs.declared.claim.Claimed.{Claimed}
 use Rattle.mq_flow.specs.declared.reaction.Reaction.{Reaction}
 use Rattle.mq_flow.specs.declared.reaction.Reaction.TheVariants.{Freed, Release, Stray}
 
--- The sender's book: the messages that it accepted and that are not acknowledged, in order of acceptance; the
--- identifiers of those that a PUBREC acknowledged, in the order of the PUBRECs, until their PUBCOMP (4.3.3);
--- and the identifiers in use by SUBSCRIBE and UNSUBSCRIBE (2.3.1).
+-- The sender's book: the messages that it accepted and that are not acknowledged, in order of
+-- acceptance; the identifiers of those that a PUBREC acknowledged, in the order of the PUBRECs,
+-- until their PUBCOMP (4.3.3); and the identifiers in use by SUBSCRIBE and UNSUBSCRIBE (2.3.1).
 pub record SenderBook : Type 0 where
   pub entries : List Entry
   pub released : List ℕ
@@ -31,7 +31,7 @@ blank_book = record { entries = []; released = []; claimed = [] }
 abbrev pub uses : SenderBook → List ℕ
 uses b = map (λ e. e.id) b.entries ++ (b.released ++ map (λ c. c.id) b.claimed)
 
--- how often an identifier stands in a list
+-- How often an identifier occurs in a list.
 abbrev pub times : ℕ → List ℕ → ℕ
 times i [] = 0
 times i (j ∷ js) = (if j == i then 1 else 0) + times i js
@@ -40,11 +40,13 @@ times i (j ∷ js) = (if j == i then 1 else 0) + times i js
 abbrev pub IsFree : SenderBook → ℕ → Type 0
 IsFree b i = IsIdentifier i × (times i (uses b) ≡ 0)
 
--- how many steps it takes from one identifier to the next ones, counted round from 65,535 to 1; 0 stands before 1 (2.3.1)
+-- The number of steps from one identifier to another, going round from 65,535 to 1. 0 comes before
+-- 1 (2.3.1).
 abbrev pub steps : ℕ → ℕ → ℕ
 steps last i = if nat_lt last i then i - last else (65535 - last) + i
 
--- the first identifier that is free after the one that was given last, 0 where none was, counted round (2.3.1)
+-- The first free identifier after the one assigned last, going round; 0 if none was assigned
+-- (2.3.1).
 pub record IsFirstFree (last : ℕ) (b : SenderBook) (i : ℕ) : Type 0 where
   pub free : IsFree b i
   pub first : (j : ℕ) → IsFree b j → steps last i ≤ steps last j
@@ -59,11 +61,13 @@ is_full capacity b = nat_le capacity (length (uses b))
 abbrev pub same_qos : Qos → Qos → Bool
 same_qos q r = qos_number q == qos_number r
 
--- a message of this quality of service went out with this identifier, and waits for its acknowledgement (4.3.2, 4.3.3)
+-- a message of this quality of service went out with this identifier, and waits for its
+-- acknowledgement (4.3.2, 4.3.3)
 abbrev pub is_awaited : Qos → ℕ → List Entry → Bool
 is_awaited q i es = list_any (λ e. same_qos q e.message.qos && (e.id == i && e.sent)) es
 
--- the messages of a quality of service that are held, with their identifiers, in order of acceptance (4.3.2, 4.3.3)
+-- the messages of a quality of service that are held, with their identifiers, in order of
+-- acceptance (4.3.2, 4.3.3)
 abbrev pub held : Qos → List Entry → List (ℕ × Message)
 held q es = map (λ e. (e.id, e.message)) (filter (λ e. same_qos q e.message.qos) es)
 
@@ -81,44 +85,45 @@ without_claim i cs = filter (λ c. not (c.id == i)) cs
 
 -- ---- its moves
 
--- A message is accepted, with an identifier: it goes last. Where the sender is connected its PUBLISH goes out at
--- once, and so it is sent (4.3.2, 4.3.3); else it is sent later.
+-- A message is accepted under an identifier, behind all others. If the sender is connected, its
+-- PUBLISH is sent at once; otherwise later (4.3.2, 4.3.3).
 abbrev pub accept : ℕ → Message → Bool → SenderBook → SenderBook
 accept i m sent b = record b { entries = b.entries ++ record { id = i; message = m; sent = sent } ∷ [] }
 
--- a PUBLISH with this identifier, and with DUP where it may have been sent before (3.3.1.1, 3.3.2.2)
+-- A PUBLISH with this identifier, and with DUP if it may have been sent before (3.3.1.1, 3.3.2.2).
 abbrev pub publish_packet : ℕ → Bool → Message → Packet
 publish_packet i dup m = packets.Publish (record { message = m; delivery = Some (record { id = i; dup = dup }) })
 
--- A message that was not sent is sent: its PUBLISH goes out, without DUP (3.3.1.1).
+-- A message that was not sent yet is sent: a PUBLISH without DUP (3.3.1.1).
 abbrev pub send : ℕ → SenderBook → SenderBook
 send i b = record b { entries = map (λ e. record { id = e.id; message = e.message; sent = if e.id == i then true else e.sent }) b.entries }
 
--- and this PUBLISH goes out
+-- The PUBLISH that is sent.
 abbrev pub sent_packets : ℕ → SenderBook → List Packet
 sent_packets i b = map (λ e. publish_packet e.id false e.message) (filter (λ e. e.id == i && not e.sent) b.entries)
 
--- PUBACK: a message of quality of service 1 is acknowledged, its identifier is free (4.3.2). Nothing else changes.
+-- PUBACK: a message of quality of service 1 is acknowledged, its identifier is free (4.3.2).
+-- Nothing else changes.
 abbrev pub on_puback : ℕ → SenderBook → SenderBook
 on_puback i b = record b { entries = if is_awaited Q1 i b.entries then without_entry i b.entries else b.entries }
 
--- what it does to the book (4.3.2)
+-- The reaction to a PUBACK (4.3.2).
 abbrev pub puback_reaction : ℕ → SenderBook → Reaction
 puback_reaction i b = if is_awaited Q1 i b.entries then Freed else Stray
 
--- PUBREC: a message of quality of service 2 is acknowledged; its identifier stays in use until PUBCOMP (4.3.3).
--- Nothing else changes.
+-- PUBREC: a message of quality of service 2 is acknowledged; its identifier stays in use until
+-- PUBCOMP (4.3.3). Nothing else changes.
 abbrev pub on_pubrec : ℕ → SenderBook → SenderBook
 on_pubrec i b = record b {
   entries = if is_awaited Q2 i b.entries then without_entry i b.entries else b.entries;
   released = if is_awaited Q2 i b.entries then b.released ++ i ∷ [] else b.released;
 }
 
--- and then a PUBREL answers it (4.3.3)
+-- The PUBREL that answers a PUBREC (4.3.3).
 abbrev pub pubrec_answer : ℕ → SenderBook → List Packet
 pubrec_answer i b = if is_awaited Q2 i b.entries then packets.PubRel i ∷ [] else []
 
--- what it does to the book (4.3.3)
+-- The reaction to a PUBREC (4.3.3).
 abbrev pub pubrec_reaction : ℕ → SenderBook → Reaction
 pubrec_reaction i b = if is_awaited Q2 i b.entries then Release i else Stray
 
@@ -126,12 +131,13 @@ pubrec_reaction i b = if is_awaited Q2 i b.entries then Release i else Stray
 abbrev pub on_pubcomp : ℕ → SenderBook → SenderBook
 on_pubcomp i b = record b { released = without i b.released }
 
--- what it does to the book (4.3.3)
+-- The reaction to a PUBCOMP (4.3.3).
 abbrev pub pubcomp_reaction : ℕ → SenderBook → Reaction
 pubcomp_reaction i b = if list_any (λ j. j == i) b.released then Freed else Stray
 
--- The re-sending (4.4), when the sender comes up: a PUBREL for each released identifier, in the order of the PUBRECs,
--- then a PUBLISH for each message, in the order of acceptance, with DUP where it was sent before.
+-- Retransmission after a reconnect (4.4): a PUBREL for each released identifier in the order of the
+-- PUBRECs, then a PUBLISH for each message in the order of acceptance, with DUP if it was sent
+-- before.
 abbrev pub resent : SenderBook → List Packet
 resent b = map packets.PubRel b.released ++ map (λ e. publish_packet e.id e.sent e.message) b.entries
 
@@ -141,7 +147,7 @@ all_sent b = record b { entries = map (λ e. record { id = e.id; message = e.mes
 
 -- ---- SUBSCRIBE and UNSUBSCRIBE
 
--- an identifier is in use by a packet of this kind with so many filters (2.3.1, 3.8.4, 3.10.4)
+-- An identifier is used by a SUBSCRIBE or UNSUBSCRIBE with `count` filters (2.3.1, 3.8.4, 3.10.4).
 abbrev pub claim : ℕ → Claim → ℕ → SenderBook → SenderBook
 claim i kind count b = record b { claimed = b.claimed ++ record { id = i; kind = kind; count = count } ∷ [] }
 
@@ -158,10 +164,10 @@ abbrev pub is_subscribe : Claim → Bool
 is_subscribe Subscribe = true
 is_subscribe Unsubscribe = false
 
--- a SUBSCRIBE of this identifier waits for so many codes (3.8.4)
+-- A SUBSCRIBE with this identifier and `count` filters is pending (3.8.4).
 abbrev pub awaits_suback : ℕ → ℕ → SenderBook → Bool
 awaits_suback i count b = list_any (λ c. is_subscribe c.kind && (c.id == i && c.count == count)) b.claimed
 
--- an UNSUBSCRIBE of this identifier waits for its answer (3.10.4)
+-- An UNSUBSCRIBE with this identifier is pending (3.10.4).
 abbrev pub awaits_unsuback : ℕ → SenderBook → Bool
 awaits_unsuback i b = list_any (λ c. not (is_subscribe c.kind) && c.id == i) b.claimed

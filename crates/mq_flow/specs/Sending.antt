@@ -1,4 +1,4 @@
--- A sender: its book, and what says which identifier it gives next.
+-- A sender: its book, and the identifier assigned last.
 use Rattle.std.specs.Prelude.{ℕ, ◌<◌, ◌≤◌, ◌≡◌, false, List, map, nat_eq, nat_lt}
 use Rattle.std.specs.List.{list_any}
 use Rattle.mq_topic.specs.declared.qos.Qos.TheVariants.{Q0}
@@ -6,16 +6,17 @@ use Rattle.mq_flow.specs.Sender.{SenderBook, times, same_qos}
 use Rattle.mq_flow.specs.Laws.{IsSound}
 use Rattle.mq_flow.specs.declared.claim.Claimed.{Claimed}
 
--- A sender's book; the most identifiers that may be in use; the identifier that was given last, 0 where none was (2.3.1);
--- and how many messages it can accept without more memory, as reserved.
+-- The sender's book, its capacity (the maximum number of identifiers in use), the identifier
+-- assigned last (0 if none was) (2.3.1), and the number of messages that it can accept without
+-- allocation.
 pub record Sending : Type 0 where
   pub book : SenderBook
   pub capacity : ℕ
   pub last : ℕ
   pub room : ℕ
 
--- What a sender keeps true: its identifiers in use are sound (2.3.1), 1 to 65,535 may be in use, and no message has quality
--- of service 0 (4.3.1).
+-- The invariant of a sender: its identifiers in use are sound (2.3.1), its capacity is 1 to 65,535,
+-- and no message has QoS 0 (4.3.1).
 pub record Keeps (s : Sending) : Type 0 where
   pub sound : IsSound s.capacity s.book
   pub able : 0 < s.capacity

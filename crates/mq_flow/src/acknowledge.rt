@@ -1,4 +1,4 @@
-//! What acknowledgements do to a sender (4.3.2, 4.3.3).
+//! Acknowledgements at the sender (4.3.2, 4.3.3).
 
 ghost use Rattle.std.specs.Prelude.{◌≡◌};
 ghost use Rattle.mq_flow.specs.Sender.{on_puback, on_pubrec, on_pubcomp, puback_reaction, pubrec_reaction, pubcomp_reaction};
@@ -10,8 +10,9 @@ use mq_packet::PacketId;
 use mq_topic::Qos;
 
 impl Sender {
-    /// Takes a PUBACK: the message of quality of service 1 that went out with this identifier is acknowledged, and the
-    /// identifier is free (4.3.2). If there is none, nothing changes. Takes no memory.
+    /// Takes a PUBACK: the message of quality of service 1 that went out with this identifier is
+    /// acknowledged, and the identifier is free (4.3.2). If there is none, nothing changes. Takes
+    /// no memory.
     pub fn on_puback(&mut self, id: PacketId) -> Reaction
         ensures book { self.new.book ≡ on_puback id self.old.book }
         ensures result { result ≡ puback_reaction id self.old.book }
@@ -26,8 +27,9 @@ impl Sender {
         Reaction::Freed
     }
 
-    /// Takes a PUBREC: the message of quality of service 2 that went out with this identifier is acknowledged, and a PUBREL is
-    /// to answer; the identifier stays in use (4.3.3). If there is none, nothing changes. Takes no memory.
+    /// Processes a PUBREC: the QoS 2 message sent with this identifier is acknowledged, and a
+    /// PUBREL must be sent; the identifier stays in use (4.3.3). Without such a message nothing
+    /// changes.
     pub fn on_pubrec(&mut self, id: PacketId) -> Reaction
         ensures book { self.new.book ≡ on_pubrec id self.old.book }
         ensures result { result ≡ pubrec_reaction id self.old.book }
@@ -42,7 +44,8 @@ impl Sender {
         Reaction::Release(id)
     }
 
-    /// Takes a PUBCOMP: the released identifier is free (4.3.3). If it isn't released, nothing changes. Takes no memory.
+    /// Takes a PUBCOMP: the released identifier is free (4.3.3). If it isn't released, nothing
+    /// changes. Takes no memory.
     pub fn on_pubcomp(&mut self, id: PacketId) -> Reaction
         ensures book { self.new.book ≡ on_pubcomp id self.old.book }
         ensures result { result ≡ pubcomp_reaction id self.old.book }

@@ -2,12 +2,12 @@
 
 use mq_packet::PacketId;
 
-/// Which packet an identifier is in use for, beside those of messages (2.3.1).
+/// The packet that uses an identifier, apart from messages (2.3.1).
 #[derive(Clone, Copy, Debug, PartialEq, Eq)]
 pub enum Claim {
-    /// A SUBSCRIBE that waits for its SUBACK (3.8.4).
+    /// A SUBSCRIBE whose SUBACK is pending (3.8.4).
     Subscribe,
-    /// An UNSUBSCRIBE that waits for its UNSUBACK (3.10.4).
+    /// An UNSUBSCRIBE whose UNSUBACK is pending (3.10.4).
     Unsubscribe,
 }
 
@@ -16,7 +16,7 @@ pub enum Claim {
 pub struct Claimed {
     /// The identifier.
     pub id: PacketId,
-    /// What for.
+    /// The packet that uses it.
     pub kind: Claim,
     /// How many filters the packet has: a SUBACK has as many codes (3.8.4).
     pub count: usize,

@@ -1,4 +1,4 @@
-//! What a sender keeps of a message.
+//! A message in the sender's state.
 
 use mq_packet::{Message, PacketId};
 

@@ -1,4 +1,4 @@
-//! Going through what a sender keeps.
+//! Iterators over the sender's state.
 
 ghost use Rattle.std.specs.Prelude.{◌≡◌, [], ◌∷◌, length, MatchOption};
 ghost use Rattle.std.specs.Iterator.{at_most};
@@ -10,8 +10,8 @@ use crate::table::Held;
 use mq_packet::PacketId;
 use std::marker::Model;
 
-/// An iterator over the messages that a sender accepted and that are not acknowledged, in order of acceptance (4.3.2,
-/// 4.3.3).
+/// An iterator over the messages that a sender accepted and that are not acknowledged, in order of
+/// acceptance (4.3.2, 4.3.3).
 #[derive(Drop)]
 pub struct Entries<'a> {
     pub(crate) slots: &'a [Option<Held>],

@@ -1,6 +1,8 @@
-//! What a sender and a receiver of messages write down (4.3, 4.4), and the laws of their books.
+//! The state of message delivery in both directions (4.3, 4.4), its saved form, and the laws of
+//! both.
 //!
-//! The definitions are in `specs/`: the sender's book and its moves, the receiver's book and its moves.
+//! The definitions are in `specs/`: the sender's book and its moves, the receiver's book and its
+//! moves.
 #![tactic(auto)]
 
 mod acknowledge;

@@ -1,5 +1,5 @@
-//! Reading the saved form of a session (4.1). Each reader takes a field from the front of the bytes, and gives the value
-//! and the bytes after it.
+//! Reading the saved form of a session (4.1). Each reader takes a field from the front of the
+//! bytes, and gives the value and the bytes after it.
 
 ghost use Rattle.std.specs.Prelude.{◌≡◌, ℕ, if◌then◌else◌, ◌↔◌, ◌+◌, ◌≤◌, ◌<◌, ◌^◌, length, true, false, Err, IfOk, OnOk, OnErr, IsErrOf, MatchResult};
 ghost use Rattle.mq_topic.specs.declared.qos.Qos.TheVariants.{Q0};
@@ -31,7 +31,7 @@ pub enum LoadError {
     /// They are not the saved form of a session.
     #[error("the saved session is malformed at byte {place}")]
     Malformed {
-        /// Where the first field that is bad begins, counted from the first byte.
+        /// The index of the first byte of the first invalid field.
         place: usize,
     },
     /// Memory ran out.
@@ -104,9 +104,10 @@ pub(crate) struct Flags {
 }
 
 impl Session {
-    /// Reads the session of which these bytes are the saved form (4.1). Fails if they don't begin with `MQS` and version 1, if
-    /// a field is bad, with the place of the first one, or if memory runs out. The identifiers in use by SUBSCRIBE and
-    /// UNSUBSCRIBE are not saved, so none is in use.
+    /// Reads the saved form of a session, version 1 (4.1). Errors: `Version` if the bytes don't
+    /// begin with `MQS` and this version, `Malformed` with the place of the first invalid field,
+    /// `Memory` if an allocation fails. Identifiers of SUBSCRIBE and UNSUBSCRIBE are not saved, so
+    /// none is in use.
     pub fn load(alloc: Global, bytes: &[u8]) -> Result<Session, LoadError>
         ensures loads { IfOk result (λ s. Saved s bytes.now × IsSession s) }
         ensures session { (s : Session) → IsSession s → Saved s bytes.now → MatchResult result (λ t. t ≡ s) (λ e. e ≡ LoadError.Memory) }
@@ -117,7 +118,6 @@ impl Session {
     }
 }
 
-// Reads a session, or finds what is wrong with the bytes.
 #[tactic(auto, unfolding(crate::specs::Loading::read_session))]
 fn read(alloc: Global, bytes: &[u8]) -> Result<Session, LoadError>
     ensures version { IsErrOf result LoadError.Version ↔ (has_version bytes.now ≡ false) }
@@ -135,7 +135,7 @@ fn read(alloc: Global, bytes: &[u8]) -> Result<Session, LoadError>
     }
 }
 
-// Reads what follows the version.
+// Reads the rest behind the version.
 #[tactic(auto, unfolding(crate::specs::Loading::session_at))]
 pub(crate) fn session(alloc: Global, bytes: &[u8]) -> Result<Session, Unread>
     ensures { Gives (λ s. s) result (session_at 268435455 bytes.now) }
@@ -146,7 +146,7 @@ pub(crate) fn session(alloc: Global, bytes: &[u8]) -> Result<Session, Unread>
     Ok(Session { sender, receiver })
 }
 
-// Reads what a sender keeps.
+// Reads the sender's state.
 #[tactic(auto, unfolding(crate::specs::Loading::sender_at))]
 fn sender(alloc: Global, bytes: &[u8]) -> Result<(Sender, &[u8]), Unread>
     ensures { Gives (λ x. (x.0, x.1.now)) result (sender_at 268435455 bytes.now) }

@@ -1,4 +1,4 @@
-//! Counting what a sender keeps, and looking through its claims.
+//! Counting entries, and searching the identifiers of requests.
 
 ghost use Rattle.std.specs.Prelude.{◌≡◌, ◌<◌, ◌==◌, ◌&&◌, not, length, is_some, IfSome, HoldsAt};
 ghost use Rattle.std.specs.List.{list_any};
@@ -23,7 +23,7 @@ pub(crate) fn count_of(entries: Entries<'_>, qos: Qos) -> usize
     count
 }
 
-/// Returns where the claim of an identifier stands.
+/// Returns the index of the request with an identifier.
 pub(crate) fn claim_at(claims: &[Claimed], id: PacketId) -> Option<usize>
     ensures there { is_some result ≡ list_any (λ c. c.id == id) claims.now }
     ensures place { IfSome result (λ at. at < length claims.now) }
@@ -51,7 +51,7 @@ pub(crate) fn has_subscribe(claims: &[Claimed], id: PacketId, count: usize) -> b
     false
 }
 
-/// Returns whether an UNSUBSCRIBE of this identifier waits for its answer.
+/// Returns whether an UNSUBSCRIBE with this identifier is pending.
 pub(crate) fn has_unsubscribe(claims: &[Claimed], id: PacketId) -> bool
     ensures { result ≡ list_any (λ c. not (is_subscribe c.kind) && c.id == id) claims.now }
 {

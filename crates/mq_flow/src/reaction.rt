@@ -1,4 +1,4 @@
-//! What an acknowledgement does to a sender's book, and why a message is refused by a sender or by a receiver.
+//! The effect of an acknowledgement on the sender, and why a message is refused.
 
 ghost use Rattle.std.specs.Prelude.{◌≡◌};
 ghost use Rattle.mq_flow.specs.Codes.{sender_code};
@@ -6,12 +6,12 @@ ghost use Rattle.mq_flow.specs.Codes.{sender_code};
 use mq_packet::PacketId;
 use thiserror::Error;
 
-/// What an acknowledgement does to a sender's book (4.3.2, 4.3.3).
+/// The effect of an acknowledgement on the sender (4.3.2, 4.3.3).
 #[derive(Clone, Copy, Debug, PartialEq, Eq)]
 pub enum Reaction {
     /// The identifier is free.
     Freed,
-    /// The message is acknowledged, and a PUBREL of this identifier goes out.
+    /// The message is acknowledged. A PUBREL with this identifier must be sent.
     Release(PacketId),
     /// Nothing waits for it, and nothing changes.
     Stray,

@@ -1,4 +1,4 @@
-//! What a receiver of messages keeps (4.3.3).
+//! The receiver's state (4.3.3).
 
 ghost use Rattle.std.specs.Prelude.{◌≡◌, ◌↔◌, true, false, IsTrue, IsErrOf, IfOk, OnOk, OnErr, Some, None, if◌then◌else◌};
 ghost use Rattle.mq_topic.specs.declared.qos.Qos.TheVariants.{Q0, Q1, Q2};
@@ -14,8 +14,8 @@ use std::alloc::{AllocError, Global};
 use std::collections::BTreeSet;
 use std::marker::Model;
 
-/// A receiver: the identifiers of the messages of quality of service 2 that were handed on and that are not
-/// released (4.3.3, method B).
+/// The receiver's state: the identifiers of QoS 2 messages that were delivered and are not released
+/// yet (4.3.3, method B).
 #[derive(Debug, Drop)]
 pub struct Receiver {
     pub(crate) stored: BTreeSet<u16>,
@@ -46,7 +46,8 @@ impl Receiver {
         }
     }
 
-    /// Returns whether an identifier is stored: its message was handed on, and its PUBREL has not come (4.3.3).
+    /// Returns whether an identifier is stored: its message was delivered, and its PUBREL has not
+    /// arrived (4.3.3).
     pub fn is_stored(&self, id: PacketId) -> bool
         ensures { result ≡ set.contains self.now id }
     {
@@ -60,8 +61,9 @@ impl Receiver {
         self.stored.len()
     }
 
-    /// Returns whether a PUBLISH of quality of service 2 with this identifier fits a window: its identifier is stored, or fewer
-    /// are stored than the window has; `None` is no window. Takes no memory.
+    /// Returns whether a PUBLISH of quality of service 2 with this identifier fits a window: its
+    /// identifier is stored, or fewer are stored than the window has; `None` is no window. Takes no
+    /// memory.
     pub fn fits(&self, id: PacketId, window: Option<u16>) -> bool
         ensures { result ≡ fits_window window id self.now }
     {
@@ -71,8 +73,8 @@ impl Receiver {
         }
     }
 
-    /// Stores an identifier (4.3.3). Returns whether it is new, so that its message is to be handed on. Fails if memory runs
-    /// out, and then nothing changes.
+    /// Stores an identifier (4.3.3). Returns whether it is new; then its message must be delivered.
+    /// On `Err` nothing changes.
     pub fn store(&mut self, id: PacketId) -> Result<bool, AllocError>
         ensures new { IfOk result (λ b. b ≡ is_new id self.old) }
         ensures book { OnOk result (self.new ≡ on_publish id self.old) }
@@ -81,10 +83,11 @@ impl Receiver {
         Ok(self.stored.insert(id.get())?)
     }
 
-    /// Takes a PUBLISH of quality of service 1 or 2, and returns the message, if it is handed on, and the packet that answers
-    /// (4.3.2, 4.3.3). With quality of service 1 the message is always handed on, and PUBACK answers; with 2 it is handed on
-    /// exactly if its identifier is new, and PUBREC answers. Fails if one of quality of service 2 doesn't fit the window, or if
-    /// memory runs out, and then nothing changes.
+    /// Processes a PUBLISH with QoS 1 or 2. Returns the message if it must be delivered, and the
+    /// packet to respond with (4.3.2, 4.3.3). A QoS 1 message is always delivered and answered with
+    /// PUBACK. A QoS 2 message is delivered exactly if its identifier is new, and answered with
+    /// PUBREC. Errors: `Window` if a QoS 2 message exceeds the receive window, `Memory` if an
+    /// allocation fails; then nothing changes.
     pub fn on_publish(
         &mut self,
         id: PacketId,
@@ -114,8 +117,8 @@ impl Receiver {
         Ok((handed, Packet::PubRec(id)))
     }
 
-    /// Takes a PUBREL: forgets the identifier and returns the PUBCOMP that answers, whether it was stored or not (4.3.3). Takes
-    /// no memory.
+    /// Processes a PUBREL: forgets the identifier. Returns the PUBCOMP to respond with, also if the
+    /// identifier was not stored (4.3.3).
     pub fn on_pubrel(&mut self, id: PacketId) -> Packet
         ensures answer { result ≡ packets.PubComp id }
         ensures book { self.new ≡ on_pubrel id self.old }

@@ -1,4 +1,4 @@
-//! What a sender sends again when it comes up (4.4).
+//! Retransmission after a reconnect (4.4).
 
 ghost use Rattle.std.specs.Prelude.{◌≡◌, ◌++◌, false, length, take, map, OnOk, OnErr};
 ghost use Rattle.std.specs.List.{list_any};
@@ -12,9 +12,9 @@ use mq_packet::{Delivery, Packet, Publish};
 use std::alloc::AllocError;
 
 impl Sender {
-    /// Appends what is sent again: a PUBREL for each released identifier, in the order of the PUBRECs, then a PUBLISH for each
-    /// message, in the order of acceptance, with DUP if it was sent before (4.4, 3.3.1.1). Fails if memory runs out, and then
-    /// nothing changes.
+    /// Appends the packets to retransmit: a PUBREL for each released identifier in the order of the
+    /// PUBRECs, then a PUBLISH for each message in the order of acceptance, with DUP if it was sent
+    /// before (4.4, 3.3.1.1). On `Err` nothing changes.
     pub fn resent(&self, out: &mut Vec<Packet>) -> Result<(), AllocError>
         ensures ok { OnOk result (out.new.items ≡ out.old.items ++ resent self.now.book) }
         ensures err { OnErr result (out.new.items ≡ out.old.items) }
@@ -27,7 +27,7 @@ impl Sender {
         put
     }
 
-    /// Appends what is sent again, or only a beginning of it if memory runs out.
+    /// Appends the packets to retransmit, or some of them if an allocation fails.
     fn put_resent(&self, out: &mut Vec<Packet>) -> Result<(), AllocError>
         ensures ok { OnOk result (out.new.items ≡ out.old.items ++ resent self.now.book) }
         ensures err { OnErr result (take (length out.old.items) out.new.items ≡ out.old.items) }
@@ -46,7 +46,7 @@ impl Sender {
         self.table.mark_all();
     }
 
-    /// Sends again: appends what is sent again and marks each message as sent (4.4). Fails if memory runs out, and then nothing
+    /// Appends the packets to retransmit and marks each message as sent (4.4). On `Err` nothing
     /// changes.
     pub fn resend(&mut self, out: &mut Vec<Packet>) -> Result<(), AllocError>
         ensures out { OnOk result (out.new.items ≡ out.old.items ++ resent self.old.book) }

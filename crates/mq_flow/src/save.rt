@@ -27,8 +27,9 @@ use std::collections::BTreeSet;
 pub(crate) const SIGNATURE: [u8; 4] = [0x4d, 0x51, 0x53, 1];
 
 impl Session {
-    /// Appends the saved form of the session (4.1), version 1: what it sends and receives, and is not through with. The
-    /// identifiers in use by SUBSCRIBE and UNSUBSCRIBE are not saved. Fails if memory runs out, and then nothing changes.
+    /// Appends the saved form of the session, version 1 (4.1): its unfinished messages in both
+    /// directions, without the identifiers of SUBSCRIBE and UNSUBSCRIBE. On `Err`, `out` is
+    /// unchanged.
     pub fn save(&self, out: &mut Vec<u8>) -> Result<(), AllocError>
         ensures ok { OnOk result (out.new.items ≡ out.old.items ++ saved_form (without_claims self.now)) }
         ensures session { OnOk result (AreWithin 268435455 self.now.sender.book.entries → IsSession (without_claims self.now)) }
@@ -43,7 +44,7 @@ impl Session {
     }
 }
 
-// Appends the saved form, or only a beginning of it if memory runs out.
+// Appends the saved form, or a prefix of it if an allocation fails.
 fn put_session(out: &mut Vec<u8>, session: &Session) -> Result<(), AllocError>
     ensures ok { OnOk result (out.new.items ≡ out.old.items ++ saved_form session.now) }
     ensures session { OnOk result (AreWithin 268435455 session.now.sender.book.entries → IsSession (without_claims session.now)) }
@@ -53,7 +54,7 @@ fn put_session(out: &mut Vec<u8>, session: &Session) -> Result<(), AllocError>
     put_state(out, session)
 }
 
-// Appends what is saved of a session behind the version, or only a beginning of it if memory runs out.
+// Appends the saved form behind the version, or a prefix of it if an allocation fails.
 pub(crate) fn put_state(out: &mut Vec<u8>, session: &Session) -> Result<(), AllocError>
     ensures ok { OnOk result (out.new.items ≡ out.old.items ++ (saved_sender session.now.sender ++ saved_receiver session.now.receiver)) }
     ensures session { OnOk result (AreWithin 268435455 session.now.sender.book.entries → IsSession (without_claims session.now)) }
@@ -64,7 +65,7 @@ pub(crate) fn put_state(out: &mut Vec<u8>, session: &Session) -> Result<(), Allo
 }
 
 impl Sender {
-    // Appends what is saved of a sender.
+    // Appends the sender's state.
     fn put(&self, out: &mut Vec<u8>) -> Result<(), AllocError>
         ensures ok { OnOk result (out.new.items ≡ out.old.items ++ saved_sender self.now) }
         ensures sender { OnOk result (AreWithin 268435455 self.now.book.entries → IsSenderWithin 268435455 self.now) }
@@ -78,7 +79,7 @@ impl Sender {
 }
 
 impl Receiver {
-    // Appends what is saved of a receiver.
+    // Appends the receiver's state.
     fn put(&self, out: &mut Vec<u8>) -> Result<(), AllocError>
         ensures ok { OnOk result (out.new.items ≡ out.old.items ++ saved_receiver self.now) }
         ensures received { (i : ℕ) → set.contains self.now i ≡ true → IsIdentifier i }
@@ -139,7 +140,7 @@ fn put_entry(out: &mut Vec<u8>, entry: &Entry) -> Result<(), AllocError>
     put_message(out, &entry.message)
 }
 
-// Appends what is said of an entry before its message.
+// Appends the fields of an entry before its message.
 fn put_head(out: &mut Vec<u8>, entry: &Entry) -> Result<(), AllocError>
     ensures ok { OnOk result (out.new.items ≡ out.old.items ++ (number entry.now.id ++ saved_flags entry.now)) }
     ensures err { OnErr result (take (length out.old.items) out.new.items ≡ out.old.items) }

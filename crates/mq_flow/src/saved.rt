@@ -27,8 +27,9 @@ pub struct Saved {
 }
 
 impl Saved {
-    /// Reads the session of which these bytes are the saved form, of version 1 or 2 (4.1). Fails with `Version` if they begin
-    /// with neither version, `Malformed` at the first field that is bad, and `Memory` if memory runs out.
+    /// Reads the saved form of a session, version 1 or 2 (4.1). Errors: `Version` if the bytes
+    /// begin with neither, `Malformed` with the place of the first invalid field, `Memory` if an
+    /// allocation fails.
     pub fn load(alloc: Global, bytes: &[u8]) -> Result<Saved, LoadError>
         ensures loads { IfOk result (λ v. IsSavedAs v bytes.now × IsSession v.session) }
         ensures saved { (v : Saved) → IsSession v.session → IsSavedAs v bytes.now → MatchResult result (λ t. t ≡ v) (λ e. e ≡ LoadError.Memory) }
@@ -41,8 +42,9 @@ impl Saved {
 }
 
 impl Session {
-    /// Appends the saved form of the session of a client (4.1), version 2: the client's identifier, whether a CONNACK that
-    /// accepts was read for the session, and what version 1 has. Fails if memory runs out, and then `out` is unchanged.
+    /// Appends the saved form, version 2, of a client's session (4.1): the client identifier,
+    /// whether a CONNACK accepted the session, and the contents of version 1. On `Err`, `out` is
+    /// unchanged.
     pub fn save_with_client(
         &self,
         client: &Text,
@@ -62,7 +64,7 @@ impl Session {
     }
 }
 
-// Appends the saved form, version 2, or only a beginning of it if memory runs out.
+// Appends the saved form, version 2, or a prefix of it if an allocation fails.
 fn put_saved(
     out: &mut Vec<u8>,
     client: &Text,
@@ -79,7 +81,6 @@ fn put_saved(
     put_state(out, session)
 }
 
-// Reads what was saved, or finds what is wrong with the bytes.
 #[tactic(auto, unfolding(crate::specs::SavedTwo::read_saved))]
 fn read(alloc: Global, bytes: &[u8]) -> Result<Saved, LoadError>
     ensures version { IsErrOf result LoadError.Version ↔ ((has_version bytes.now ≡ false) × (has_version_two bytes.now ≡ false)) }
@@ -94,7 +95,7 @@ fn read(alloc: Global, bytes: &[u8]) -> Result<Saved, LoadError>
     Err(LoadError::Version)
 }
 
-// Gives what was read behind the version, with the place of a bad field counted from the first of all bytes.
+// Counts the place of an invalid field from the first byte of the whole form.
 fn placed(bytes: &[u8], read: Result<Saved, Unread>) -> Result<Saved, LoadError>
     ensures reads { (told : Result value.Saved ℕ) → Gives (λ s. s) read told → Loads result (placed (length bytes.now) told) }
     ensures version { IsErrOf result LoadError.Version → ⊥ }
@@ -108,7 +109,7 @@ fn placed(bytes: &[u8], read: Result<Saved, Unread>) -> Result<Saved, LoadError>
     }
 }
 
-// Reads what follows version 1.
+// Reads the rest of version 1.
 #[tactic(auto, unfolding(crate::specs::SavedTwo::first_at))]
 fn first(alloc: Global, bytes: &[u8]) -> Result<Saved, Unread>
     ensures { Gives (λ s. s) result (first_at 268435455 bytes.now) }
@@ -121,7 +122,7 @@ fn first(alloc: Global, bytes: &[u8]) -> Result<Saved, Unread>
     })
 }
 
-// Reads what follows version 2.
+// Reads the rest of version 2.
 #[tactic(auto, unfolding(crate::specs::SavedTwo::second_at))]
 fn second(alloc: Global, bytes: &[u8]) -> Result<Saved, Unread>
     ensures { Gives (λ s. s) result (second_at 268435455 bytes.now) }

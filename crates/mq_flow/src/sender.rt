@@ -1,4 +1,4 @@
-//! What a sender of messages keeps (2.3.1, 4.3.2, 4.3.3, 4.4).
+//! The sender's state (2.3.1, 4.3.2, 4.3.3, 4.4).
 
 ghost use Rattle.std.specs.Prelude.{ℕ, ◌≡◌, ◌↔◌, ◌<◌, ◌≤◌, ◌+◌, ◌-◌, ◌==◌, ◌&&◌, if◌then◌else◌, true, false, nat_lt, length, [], IsSome, IfSome, IsTrue, IsOk, IfOk, IfErr, OnOk, OnErr, IsErrOf};
 ghost use Rattle.std.specs.List.{list_any};
@@ -21,8 +21,9 @@ use std::alloc::{AllocError, Global};
 use std::collections::HashSet;
 use std::marker::Model;
 
-/// A sender: the messages that it accepted and that are not acknowledged, the identifiers that are released,
-/// those in use by SUBSCRIBE and UNSUBSCRIBE, and which identifier it gives next (2.3.1, 4.3.2, 4.3.3).
+/// A sender: the messages that it accepted and that are not acknowledged, the identifiers that are
+/// released, those in use by SUBSCRIBE and UNSUBSCRIBE, and which identifier it gives next (2.3.1,
+/// 4.3.2, 4.3.3).
 #[derive(Debug, Drop)]
 pub struct Sender {
     /// The messages and the released identifiers.
@@ -50,8 +51,8 @@ impl Model for Sender {
 }
 
 impl Sender {
-    /// Makes a sender that has no message and gave no identifier, and in which at most `capacity` identifiers may be in use
-    /// (2.3.1). Takes no memory.
+    /// Makes a sender that has no message and gave no identifier, and in which at most `capacity`
+    /// identifiers may be in use (2.3.1). Takes no memory.
     pub fn new(alloc: Global, capacity: u16) -> Sender
         requires { 0 < capacity }
         ensures book { result.book ≡ blank_book }
@@ -103,8 +104,9 @@ impl Sender {
         self.capacity as usize - used
     }
 
-    /// Returns the identifier that the next packet gets: the first free one after the one that was given last, counted round,
-    /// or `None` if as many are in use as there is room for (2.3.1). Takes no memory.
+    /// Returns the identifier that the next packet gets: the first free one after the one that was
+    /// given last, counted round, or `None` if as many are in use as there is room for (2.3.1).
+    /// Takes no memory.
     pub fn next_id(&self) -> Option<PacketId>
         ensures some { IsSome result ↔ (is_full self.now.capacity self.now.book ≡ false) }
         ensures first { IfSome result (IsFirstFree self.now.last self.now.book) }
@@ -130,7 +132,7 @@ impl Sender {
         self.table.get(id).is_some() || self.claimed_ids.contains(&id.get())
     }
 
-    /// Makes room for that many messages, which can then be accepted without more memory. Fails if memory runs out, and then
+    /// Reserves room for `count` messages, which can then be accepted without allocation. On `Err`
     /// nothing changes.
     pub fn reserve(&mut self, count: usize) -> Result<(), AllocError>
         ensures ok { OnOk result (count ≤ self.new.room) }
@@ -143,9 +145,9 @@ impl Sender {
         Ok(())
     }
 
-    /// Accepts a message with an identifier that is free, while there is room; `sent` says that its PUBLISH goes out at once
-    /// (4.3.2, 4.3.3). All the memory that its acknowledgements need is taken here. Fails if memory runs out, which it doesn't
-    /// if room is reserved, and then nothing changes.
+    /// Accepts a message under a free identifier. Must not be called when the capacity is in use.
+    /// `sent` says that its PUBLISH is sent at once (4.3.2, 4.3.3). Reserves the memory that its
+    /// acknowledgements need. Does not fail if room was reserved; on `Err` nothing changes.
     pub fn accept_as(
         &mut self,
         id: PacketId,
@@ -169,9 +171,9 @@ impl Sender {
         Ok(())
     }
 
-    /// Accepts a message of quality of service 1 or 2, to be sent later, with the next identifier (2.3.1, 4.3.2, 4.3.3). Fails
-    /// if as many identifiers are in use as there is room for, or if memory runs out, which it doesn't if room is reserved;
-    /// then nothing changes.
+    /// Accepts a message with QoS 1 or 2 under the next free identifier, to be sent later (2.3.1,
+    /// 4.3.2, 4.3.3). Errors: `Full` if the capacity is in use; `Memory` if an allocation fails,
+    /// which can't happen if room was reserved. On `Err` nothing changes.
     #[tactic(auto, using(crate::proofs::Next::is_next))]
     pub fn accept(&mut self, message: Message) -> Result<PacketId, Refusal>
         requires kept { message.qos ≡ Q0 → ⊥ }
@@ -193,8 +195,8 @@ impl Sender {
         }
     }
 
-    /// Puts an identifier that is free in use by a SUBSCRIBE or an UNSUBSCRIBE with that many filters, while there is room
-    /// (2.3.1). Fails if memory runs out, and then nothing changes.
+    /// Assigns a free identifier to a SUBSCRIBE or UNSUBSCRIBE with `count` filters (2.3.1). Must
+    /// not be called when the capacity is in use. On `Err` nothing changes.
     pub fn claim_as(&mut self, id: PacketId, kind: Claim, count: usize) -> Result<(), AllocError>
         requires free { IsFree self.old.book id }
         requires room { is_full self.old.capacity self.old.book ≡ false }
@@ -211,8 +213,8 @@ impl Sender {
         Ok(())
     }
 
-    /// Frees an identifier that is in use by a SUBSCRIBE or an UNSUBSCRIBE; nothing changes if it isn't (2.3.1). Takes no
-    /// memory.
+    /// Frees an identifier that is in use by a SUBSCRIBE or an UNSUBSCRIBE; nothing changes if it
+    /// isn't (2.3.1). Takes no memory.
     pub fn release_id(&mut self, id: PacketId)
         ensures book { self.new.book ≡ release id self.old.book }
         ensures capacity { self.new.capacity ≡ self.old.capacity }
@@ -225,7 +227,8 @@ impl Sender {
         }
     }
 
-    /// Frees all identifiers that are in use by SUBSCRIBE and UNSUBSCRIBE: a connection is over. Takes no memory.
+    /// Frees all identifiers that are in use by SUBSCRIBE and UNSUBSCRIBE: a connection is over.
+    /// Takes no memory.
     pub fn free_claims(&mut self)
         ensures book { self.new.book ≡ no_claims self.old.book }
         ensures capacity { self.new.capacity ≡ self.old.capacity }
@@ -236,8 +239,7 @@ impl Sender {
         self.claimed.clear();
     }
 
-    /// Discards all that was sent and is not through (3.1.2.4): it is as new, except for its room, which stays. Takes no
-    /// memory.
+    /// Discards all unfinished messages (3.1.2.4). Reserved room stays.
     pub(crate) fn discard(&mut self)
         ensures { self.new ≡ record self.old { book = blank_book; last = 0 } }
     {
@@ -246,7 +248,8 @@ impl Sender {
         self.last = 0;
     }
 
-    /// Returns the identifiers that are in use by SUBSCRIBE and UNSUBSCRIBE, in the order of the claims (2.3.1).
+    /// Returns the identifiers that are in use by SUBSCRIBE and UNSUBSCRIBE, in the order of the
+    /// claims (2.3.1).
     pub fn pending(&self) -> &[Claimed]
         ensures { result.now ≡ self.now.book.claimed }
     {
@@ -285,14 +288,16 @@ impl Sender {
         self.table.len() == 0
     }
 
-    /// Returns whether a message of quality of service 1 went out with this identifier and waits for PUBACK (4.3.2).
+    /// Returns whether a message of quality of service 1 went out with this identifier and waits
+    /// for PUBACK (4.3.2).
     pub fn awaits_puback(&self, id: PacketId) -> bool
         ensures { result ≡ is_awaited Q1 id self.now.book.entries }
     {
         self.awaits(Qos::Q1, id)
     }
 
-    /// Returns whether a message of quality of service 2 went out with this identifier and waits for PUBREC (4.3.3).
+    /// Returns whether a message of quality of service 2 went out with this identifier and waits
+    /// for PUBREC (4.3.3).
     pub fn awaits_pubrec(&self, id: PacketId) -> bool
         ensures { result ≡ is_awaited Q2 id self.now.book.entries }
     {
@@ -328,7 +333,7 @@ impl Sender {
         has_subscribe(&self.claimed, id, count)
     }
 
-    /// Returns whether an UNSUBSCRIBE of this identifier waits for its answer (3.10.4).
+    /// Returns whether an UNSUBSCRIBE with this identifier is pending (3.10.4).
     pub fn awaits_unsuback(&self, id: PacketId) -> bool
         ensures { result ≡ awaits_unsuback id self.now.book }
     {

@@ -12,18 +12,18 @@ use crate::sender::Sender;
 use mq_packet::PacketId;
 use std::alloc::Global;
 
-/// A session (3.1.2.4): what an end sends and receives, and is not through with (4.1).
+/// The state of a session (3.1.2.4, 4.1): unfinished messages in both directions.
 #[derive(Debug, Drop)]
 pub struct Session {
-    /// What it sends.
+    /// Messages sent by this end.
     pub sender: Sender,
-    /// What it receives.
+    /// Messages received by this end.
     pub receiver: Receiver,
 }
 
 impl Session {
-    /// Makes a session in which nothing was sent or received, and in which at most `capacity` identifiers may be in use
-    /// (2.3.1). Takes no memory.
+    /// Makes a session in which nothing was sent or received, and in which at most `capacity`
+    /// identifiers may be in use (2.3.1). Takes no memory.
     pub fn new(alloc: Global, capacity: u16) -> Session
         requires { 0 < capacity }
         ensures book { result.sender.book ≡ blank_book }
@@ -38,8 +38,8 @@ impl Session {
         }
     }
 
-    /// Puts the next identifier in use by a SUBSCRIBE or an UNSUBSCRIBE with that many filters (2.3.1). Fails if as many
-    /// identifiers are in use as there is room for, or if memory runs out, and then nothing changes.
+    /// Assigns the next identifier to a SUBSCRIBE or UNSUBSCRIBE with `count` filters (2.3.1).
+    /// Errors: `Full` if the capacity is in use, `Memory` if an allocation fails.
     #[tactic(auto, using(crate::proofs::Next::is_next))]
     pub fn claim_id(&mut self, kind: Claim, count: usize) -> Result<PacketId, Refusal>
         ensures full { IsErrOf result Refusal.Full ↔ (is_full self.old.sender.capacity self.old.sender.book ≡ true) }
@@ -60,8 +60,8 @@ impl Session {
         }
     }
 
-    /// Frees an identifier that is in use by a SUBSCRIBE or an UNSUBSCRIBE; nothing changes if it isn't (2.3.1). Takes no
-    /// memory.
+    /// Frees an identifier that is in use by a SUBSCRIBE or an UNSUBSCRIBE; nothing changes if it
+    /// isn't (2.3.1). Takes no memory.
     pub fn release_id(&mut self, id: PacketId)
         ensures book { self.new.sender.book ≡ release id self.old.sender.book }
         ensures capacity { self.new.sender.capacity ≡ self.old.sender.capacity }
@@ -72,8 +72,8 @@ impl Session {
         self.sender.release_id(id);
     }
 
-    /// Discards the session (3.1.2.4): nothing was sent or received. Its capacity stays, and the room that is reserved. Takes
-    /// no memory.
+    /// Discards the session (3.1.2.4): nothing was sent or received. Its capacity stays, and the
+    /// room that is reserved. Takes no memory.
     pub fn discard(&mut self)
         ensures sender { self.new.sender ≡ record self.old.sender { book = blank_book; last = 0 } }
         ensures received { self.new.receiver ≡ none_received }
@@ -82,7 +82,8 @@ impl Session {
         self.receiver.discard();
     }
 
-    /// Returns the identifiers that are in use by SUBSCRIBE and UNSUBSCRIBE, in the order of the claims (2.3.1).
+    /// Returns the identifiers that are in use by SUBSCRIBE and UNSUBSCRIBE, in the order of the
+    /// claims (2.3.1).
     pub fn pending(&self) -> &[Claimed]
         ensures { result.now ≡ self.now.sender.book.claimed }
     {

@@ -17,12 +17,12 @@ use std::alloc::{AllocError, Global};
 use std::collections::HashMap;
 use std::marker::Model;
 
-/// What is kept under the identifier of a message.
+/// An entry of the table.
 #[derive(Debug, Drop)]
 pub(crate) enum Held {
     /// The message, which is not acknowledged (4.3.2, 4.3.3).
     Waiting(Entry),
-    /// The identifier, where the message is acknowledged and its PUBCOMP is awaited (4.3.3).
+    /// A released identifier: its message is acknowledged and its PUBCOMP is pending (4.3.3).
     Released(PacketId),
 }
 
@@ -38,11 +38,11 @@ impl Held {
     }
 }
 
-/// What is kept under identifiers, the oldest first. To look one up, to add one and to take one out is no walk: what is
-/// taken out leaves an empty place, and once all places are used those that are not empty move up.
+/// Entries by identifier, the oldest first. Look-up, insertion and removal take constant time: a
+/// removal leaves an empty slot, and when the slots are used up the others move together.
 #[derive(Debug, Drop)]
 pub(crate) struct Table {
-    /// What is kept, the oldest first, and empty places between.
+    /// The entries, the oldest first, with empty slots between them.
     pub(crate) slots: Vec<Option<Held>>,
     /// The place in which each identifier is.
     pub(crate) places: HashMap<u16, usize>,
@@ -105,7 +105,7 @@ impl Table {
         (self.slots.capacity().saturating_sub(1) - used).min(spare)
     }
 
-    /// Returns what is kept under an identifier.
+    /// Returns the entry of an identifier.
     pub(crate) fn get(&self, id: PacketId) -> Option<&Held>
         ensures { option_copied result ≡ lookup (nat_eq id) self.now.pairs }
     {
@@ -135,7 +135,7 @@ impl Table {
         }
     }
 
-    /// Makes room for that many more. Fails if memory runs out, and then nothing that is kept changes.
+    /// Reserves room for `count` more entries. On `Err` no entry changes.
     pub(crate) fn reserve(&mut self, count: usize) -> Result<(), AllocError>
         ensures ok { OnOk result (count ≤ self.new.spare) }
         ensures pairs { self.new.pairs ≡ self.old.pairs }
@@ -162,14 +162,14 @@ impl Table {
         self.slots.reserve_exact(more)
     }
 
-    /// Returns whether so many places are used that the others would soon have to move up again.
+    /// Returns whether so few slots are free that moving the others together would soon be
+    /// necessary again.
     fn is_crowded(&self) -> bool {
         let used = self.places.len();
         self.slots.capacity() < (used + used / 8).saturating_add(2)
     }
 
-    /// Adds something under a new identifier, behind all others. Fails if memory runs out, and then nothing that is kept
-    /// changes.
+    /// Adds an entry with a new identifier at the end. On `Err` no entry changes.
     pub(crate) fn add(&mut self, held: Held) -> Result<(), AllocError>
         requires { lookup (nat_eq (id_in held)) self.old.pairs ≡ None }
         ensures ok { OnOk result (self.new.pairs ≡ self.old.pairs ++ (id_in held, held) ∷ []) }
@@ -187,7 +187,7 @@ impl Table {
         Ok(())
     }
 
-    /// Replaces what is kept under an identifier, and moves it behind all others. Takes no memory.
+    /// Replaces the entry of an identifier and moves it to the end.
     pub(crate) fn turn(&mut self, held: Held)
         requires { IsSome (lookup (nat_eq (id_in held)) self.old.pairs) }
         ensures pairs { self.new.pairs ≡ remove_entry (nat_eq (id_in held)) self.old.pairs ++ (id_in held, held) ∷ [] }
@@ -196,7 +196,7 @@ impl Table {
         turn_last(&mut self.slots, &mut self.places, held);
     }
 
-    /// Removes what is kept under an identifier. Takes no memory.
+    /// Removes the entry of an identifier.
     pub(crate) fn take(&mut self, id: PacketId)
         ensures pairs { self.new.pairs ≡ remove_entry (nat_eq id) self.old.pairs }
         ensures spare { self.old.spare ≤ self.new.spare }
@@ -222,7 +222,7 @@ impl Table {
     }
 }
 
-/// Returns what is kept in a place.
+/// Returns the entry in a slot.
 fn held_at(slots: &[Option<Held>], at: usize) -> Option<&Held>
     requires { at < length slots.now }
     ensures { option_copied result ≡ slice_index_or slots.now at None }
@@ -230,7 +230,7 @@ fn held_at(slots: &[Option<Held>], at: usize) -> Option<&Held>
     slots[at].as_ref()
 }
 
-/// Replaces what is kept under an identifier, and moves it behind all others.
+/// Replaces the entry of an identifier and moves it to the end.
 fn turn_last(slots: &mut Vec<Option<Held>>, places: &mut HashMap<u16, usize>, held: Held)
     requires placed { IsPlaced slots.old.items (get nat_eq places.old) (hash_map_len places.old) }
     requires there { IsSome (lookup (nat_eq (id_in held)) (pairs_in slots.old.items)) }
@@ -247,7 +247,7 @@ fn turn_last(slots: &mut Vec<Option<Held>>, places: &mut HashMap<u16, usize>, he
     }
 }
 
-/// Records that an identifier is in another place, and returns where it was.
+/// Records the new slot of an identifier and returns the old one.
 fn move_place(places: &mut HashMap<u16, usize>, id: PacketId, to: usize) -> Option<usize>
     ensures old { result ≡ get nat_eq places.old id }
     ensures moved { IfSome result (λ _. (i : ℕ) → get nat_eq places.new i ≡ (if nat_eq id i then Some to else get nat_eq places.old i)) }
@@ -260,7 +260,7 @@ fn move_place(places: &mut HashMap<u16, usize>, id: PacketId, to: usize) -> Opti
     Some(at)
 }
 
-/// Removes what is kept under an identifier.
+/// Removes the entry of an identifier.
 fn take_out(slots: &mut Vec<Option<Held>>, places: &mut HashMap<u16, usize>, id: PacketId)
     requires { IsPlaced slots.old.items (get nat_eq places.old) (hash_map_len places.old) }
     ensures placed { IsPlaced slots.new.items (get nat_eq places.new) (hash_map_len places.new) }

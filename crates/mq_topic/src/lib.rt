@@ -1,5 +1,5 @@
-//! Topic names and topic filters (4.7), which filters match a name, stores of subscriptions, and the
-//! quality of service (4.3).
+//! Topic names and topic filters (4.7), which filters match a name, stores of subscriptions, and
+//! the quality of service (4.3).
 #![tactic(auto)]
 
 mod children;
