@@ -31,7 +31,7 @@ closes_made reason old new t s = record {
     same : new.output ≡ old.output
     same = ap (λ (x : EndState). x.output) s
 
--- where memory ran out before
+-- If an allocation failed before.
 pub closes_stays : (reason : CloseReason) (old mid new : EndState) (t u : ProgressBuilder) → Stays old mid t u → new ≡ record mid { end = over mid.end; held = [] } → Makes (closes reason old.end) old new t u
 closes_stays reason old mid new t u stays s =
     let m = closes_made reason old new t (s ∙ ap (λ (x : EndState). record x { end = over x.end; held = [] }) stays.state) in
@@ -77,7 +77,7 @@ closes_as gets old mid t u ps p a =
 pub along_more : (gets : Packet → End → Reply) (old mid new : EndState) (t u v : ProgressBuilder) (ps : List Packet) (p : Packet) → Along gets old mid t u ps → None ≡ (gets p mid.end).close → Makes (gets p mid.end) mid new u v → Along gets old new t v (ps ++ p ∷ [])
 along_more gets old mid new t u v ps p a none k = record { going = closes_as gets old mid t u ps p a ∙ sym none; makes = joined gets old mid new t u v ps p a k }
 
--- what came of all
+-- The effect of all.
 abbrev pub TakenAs : (Packet → End → Reply) → List Packet → EndState → EndState → ProgressBuilder → ProgressBuilder → Option CloseReason → Type 0
 TakenAs gets items old new t v closed = (r : Reply) × Taken gets items old.end r × (closed ≡ r.close) × Makes r old new t v
 

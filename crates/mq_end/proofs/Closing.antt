@@ -26,7 +26,7 @@ use Rattle.mq_end.specs.Server.{connect_gets, refuses, server_open_gets, server_
 use Rattle.mq_end.specs.KeepAlive.{is_late, server_ticks}
 use Rattle.mq_end.specs.Laws.{ClosingLaws}
 
--- where the reply closes, the end is over
+-- If the reply closes, the connection of the end is over.
 abbrev pub EndsOver : End → Reply → Type 0
 EndsOver e r = (reason : CloseReason) → r.close ≡ Some reason → r.end ≡ over e
 

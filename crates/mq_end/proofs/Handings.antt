@@ -1,4 +1,4 @@
--- What comes of the PUBLISH of a message that stays with the caller.
+-- The result of a PUBLISH whose message stays with the caller.
 use Rattle.std.proofs.Common.{◌≡◌, Option, Result, Ok, Err, IfOk, OnErr, sym, subst}
 use Rattle.mq_topic.specs.declared.qos.Qos.{Qos}
 use Rattle.mq_packet.specs.declared.message.Message.{Message}
@@ -17,7 +17,7 @@ by_delivery qos q delivery d r old new is_qos is_delivery gives =
     subst (λ (k : Qos). IfOk r (λ handing. (m : Message) → Gives (publish_gets k delivery m old.end) (outcome_of handing m) old new)) (sym is_qos)
     (subst (λ (e : Option Delivery). IfOk r (λ handing. (m : Message) → Gives (publish_gets q e m old.end) (outcome_of handing m) old new)) (sym is_delivery) gives)
 
--- where memory may run out
+-- If an allocation may fail.
 pub ok_told : {E : Type 0} (m : Message) (P : PacketOutcome → Type 0) (r : Result PublishOutcome E) → IfOk r (λ handing. P (outcome_of handing m)) → IfOk (told_of m r) P
 ok_told m P (Ok handing) x = x
 ok_told m P (Err e) x = x

@@ -1,4 +1,4 @@
--- What an end does with the bytes that come to it.
+-- The reaction of an end to received bytes.
 use Rattle.std.proofs.Common.{◌≡◌, inl, inr, ℕ, ◌==◌, Bool, true, false, cond, not, List, [], ◌∷◌, ◌++◌, length, Option, Some, None, refl, sym, ap, subst, ◌∙◌, ◌&&◌, append_assoc}
 use Rattle.std.proofs.Math.Dec.{eqb-suc-zero}
 use Rattle.mq_packet.specs.declared.packet.Packet.{Packet}
@@ -55,9 +55,9 @@ hears_from role now piece old mid new h t u r closed receives m later heard clos
     out_is : new.output ≡ mid.output
     out_is = ap (λ (s : EndState). s.output) later
 
--- ---- the moment of an end
+-- ---- The time of last activity
 
--- an end that closes keeps its moment
+-- An end that closes keeps its time.
 heard_shut : (role : Role) (now : ℕ) (b : List ℕ) (reason : CloseReason) (old new : EndState) → new.last_activity ≡ old.last_activity → HeardAs role now b (Some reason) old new
 heard_shut Client now b reason old new same = same
 heard_shut Server now b reason old new same = record { waits = λ p. same; closes = λ s. same; hears = λ none. cc }
@@ -72,7 +72,7 @@ pending_none limit (p ∷ ps) b front rest h parts pending =
 none_pending : (limit : Bounds) (b front rest : List ℕ) → front ≡ [] → b ≡ front ++ rest → Pending limit rest → Pending limit b
 none_pending limit b front rest none parts pending = subst (λ (t : List ℕ). Pending limit t) (sym (parts ∙ ap (λ (t : List ℕ). t ++ rest) none)) pending
 
--- the server's moment, by whether a whole packet came
+-- The server's time, depending on whether a complete packet arrived.
 server_heard : (now : ℕ) (ps : List Packet) (b rest : List ℕ) (old new : EndState) → Reading old.limit b ps rest None → new.last_activity ≡ cond (not (length ps == 0)) now old.last_activity → HearsAt now b None old new
 server_heard now [] b rest old new reading last_activity =
     let pending = none_pending old.limit b reading.front rest reading.stream reading.parts reading.ends in
@@ -90,7 +90,7 @@ heard_open : (role : Role) (now : ℕ) (ps : List Packet) (b rest : List ℕ) (o
 heard_open Client now ps b rest old new reading last_activity = last_activity
 heard_open Server now ps b rest old new reading last_activity = server_heard now ps b rest old new reading last_activity
 
--- an end keeps its moment, whether it has a connection or not
+-- An end keeps its time, with or without a connection.
 kept_by : (live : Bool) (old new : EndState) → (live ≡ true → new.last_activity ≡ old.last_activity) → (live ≡ false → new ≡ old) → new.last_activity ≡ old.last_activity
 kept_by true old new at_live at_shut = at_live refl
 kept_by false old new at_live at_shut = ap (λ (s : EndState). s.last_activity) (at_shut refl)
@@ -98,7 +98,7 @@ kept_by false old new at_live at_shut = ap (λ (s : EndState). s.last_activity) 
 pub kept_moment : (old new : EndState) → (is_live old.end.state ≡ true → new.last_activity ≡ old.last_activity) → (is_live old.end.state ≡ false → new ≡ old) → new.last_activity ≡ old.last_activity
 kept_moment old new at_live at_shut = kept_by (is_live old.end.state) old new at_live at_shut
 
--- ---- what comes of the bytes
+-- ---- The reaction to the bytes
 
 pub hears_shut : (role : Role) (now : ℕ) (piece : List ℕ) (old new : EndState) (h : List ℕ) (t u : ProgressBuilder) (r : Reply) (ps : List Packet) (front rest : List ℕ) (reason : CloseReason)
     → ReadsAgain → Stream old.limit ps front → old.held ++ piece ≡ front ++ rest → Taken (gets_as role) ps old.end r → Makes r (with_held old h) new t u → Some reason ≡ r.close → Hears role now piece old new t u (Some reason)
@@ -107,7 +107,7 @@ hears_shut role now piece old new h t u r ps front rest reason again stream part
     (received_shut old.limit (gets_as role) (faulted_as role) ps (old.held ++ piece) front rest old.end r reason new.held again stream parts taken (sym shut) (held_none old new h t u r reason m (sym shut)))
     m refl (heard_shut role now (old.held ++ piece) reason old new (moment_is old new h t u r m)) shut
 
--- mid: before the moment of the packets is kept
+-- mid: the end before the time is recorded.
 pub hears_all : (role : Role) (now : ℕ) (piece : List ℕ) (old mid new : EndState) (h : List ℕ) (t u : ProgressBuilder) (r : Reply) (ps : List Packet)
     → Reading old.limit (old.held ++ piece) ps h None → Taken (gets_as role) ps old.end r → Makes r (with_held old h) mid t u → None ≡ r.close
     → new ≡ record mid { last_activity = heard_as role (not (length ps == 0)) now mid.last_activity } → Hears role now piece old new t u None
@@ -168,7 +168,7 @@ hears_fault role now piece old mid new h t u v r x ps rest fault reason reading 
         subst (λ (y : Reply). Receives old.limit (gets_as role) (faulted_as role) (old.held ++ piece) old.end (followed r y) []) (sym e)
         (received_fault_starved old.limit (gets_as role) (faulted_as role) ps (old.held ++ piece) rest fault old.end r reading taken (sym none))
 
--- ---- what the user sees of it
+-- ---- The effect that the user sees
 
 shown : (role : Role) (now : ℕ) (piece : List ℕ) (old new : EndState) (t u : ProgressBuilder) (closed : Option CloseReason) (hs : List Happening) (acked : List ℕ) (shut : Option CloseReason) → (h : Hears role now piece old new t u closed)
     → t.happenings.items ≡ [] → t.acknowledged.items ≡ [] → hs ≡ u.happenings.items → acked ≡ u.acknowledged.items → shut ≡ closed → Shows h.reply old new hs acked shut

@@ -1,4 +1,4 @@
--- A whole packet comes to an end.
+-- A complete packet arrives at an end.
 use Rattle.std.proofs.Common.{◌≡◌, ℕ, ◌⊎◌, ◌++◌, Bool, true, false, not, is_some, Option, Some, None, List, [], refl, sym, ap, subst, ◌∙◌}
 use Rattle.mq_packet.specs.declared.packet.Packet.{Packet}
 use Rattle.mq_end.specs.declared.happening.Happening.{Happening}
@@ -14,7 +14,7 @@ use Rattle.mq_end.specs.State.{EndState, PutsOut}
 use Rattle.mq_end.specs.Receiving.{Gives, Makes, TakesAs, TakesPacket, gets_as, heard_as, heard_one, heard_one_as, held_after}
 use Rattle.mq_end.proofs.Walking.{Came}
 
--- what a reply that was made shows
+-- The visible effect of a reply that was made.
 pub takes_one : (role : Role) (now : ℕ) (p : Packet) (old mid new : EndState) (told after : ProgressBuilder) (r : Reply) (happenings : List Happening) (acknowledged : List ℕ) (closed : Option CloseReason)
     → (r ≡ gets_as role p old.end) ⊎ (r ≡ closes reasons.Memory old.end) → Makes r old mid told after → new ≡ record mid { last_activity = heard_one_as role r.close now old.last_activity }
     → told.happenings.items ≡ [] → told.acknowledged.items ≡ [] → happenings ≡ after.happenings.items → acknowledged ≡ after.acknowledged.items → closed ≡ r.close
@@ -37,7 +37,7 @@ takes_one role now p old mid new told after r happenings acknowledged closed doe
           ∙ ap (λ (b : List ℕ). record old { end = r.end; output = b; held = held_after r.close old.held; last_activity = heard_one_as role r.close now old.last_activity }) out_same;
     }
 
--- where the end closes it keeps its moment
+-- If the end closes, it keeps its time.
 kept_moment : (role : Role) (closed : Option CloseReason) (now last : ℕ) (reason : CloseReason) → closed ≡ Some reason → heard_one_as role closed now last ≡ last
 kept_moment Client closed now last reason is = refl
 kept_moment Server closed now last reason is = ap (λ (c : Option CloseReason). heard_one c now last) is

@@ -1,4 +1,4 @@
--- Packets that are put out one after another, from the front of a list of them.
+-- Packets that are sent one after another, from the front of a list.
 use Rattle.std.proofs.Common.{◌≡◌, ℕ, Bool, true, false, ◌||◌, List, [], ◌∷◌, ◌++◌, Result, Ok, Err, refl, sym, ap, subst, ◌∙◌, append_assoc}
 use Rattle.std.specs.Result.{OnOk}
 use Rattle.std.specs.List.{list_any}
@@ -9,7 +9,8 @@ use Rattle.mq_end.specs.State.{EncodesAll, PutsOut}
 use Rattle.mq_end.specs.Waiting.{Waiting}
 use Rattle.mq_end.proofs.Replies.{puts_then}
 
--- what is put out behind the bytes of now for those that are left makes it all, behind those of old
+-- The output for the remaining packets behind the present bytes is the output for all behind the
+-- old ones.
 pub record Onward (left all : List Packet) (old now : List ℕ) : Type 0 where
   pub whole : (b : List ℕ) → EncodesAll left b → PutsOut all old (now ++ b)
 
@@ -43,7 +44,7 @@ grown_more p old now new g k = grown_twice old now new g (k.0, k.2)
 pub put_grown : (ps : List Packet) (old new : List ℕ) → PutsOut ps old new → (rest : List ℕ) × (new ≡ old ++ rest)
 put_grown ps old new p = (p.0, p.2)
 
--- these are put out, and then those
+-- The first packets are sent, then the others.
 pub both_put : {T E : Type 0} (r : Result T E) (ps qs all : List Packet) (a b c : List ℕ) → ps ++ qs ≡ all → PutsOut ps a b → OnOk r (PutsOut qs b c) → OnOk r (PutsOut all a c)
 both_put (Ok x) ps qs all a b c e h k = subst (λ (t : List Packet). PutsOut t a c) e (puts_then ps qs a b c h k)
 both_put (Err x) ps qs all a b c e h k = tt
@@ -52,6 +53,6 @@ second : (a b : Bool) → (a || b) ≡ false → b ≡ false
 second false b h = h
 second true b h = absurd cc
 
--- what no item of a list is, no item behind its first is
+-- A property that no item of a list has, no item behind its first has.
 pub none_left : {A : Type 0} (test : A → Bool) (x : A) (xs all : List A) → all ≡ x ∷ xs → list_any test all ≡ false → list_any test xs ≡ false
 none_left test x xs all e h = second (test x) (list_any test xs) (ap (list_any test) (sym e) ∙ h)

@@ -1,4 +1,4 @@
--- The first packet of a connection, by what an end reads of it.
+-- The first packet of a connection, by the fields that an end reads.
 use Rattle.std.proofs.Common.{◌≡◌, Bool, true, false, cond, Option, Some, None, refl, ap}
 use Rattle.mq_packet.specs.declared.connack.ConnAck.{ConnAck}
 use Rattle.mq_packet.specs.declared.packet.Packet.{Packet}

@@ -1,4 +1,4 @@
--- What comes of one packet, as an outcome tells it.
+-- The result of one packet as an outcome.
 use Rattle.std.proofs.Common.{◌≡◌, ℕ, List, [], ◌++◌, Some, None, option_to_list, refl, sym, ap, subst, ◌∙◌}
 use Rattle.mq_end.specs.declared.packet_outcome.PacketOutcome.{PacketOutcome}
 use Rattle.mq_end.specs.declared.reason.CloseReason.{CloseReason}
@@ -28,11 +28,11 @@ closes_acts reason old new s = record {
     same : new.output ≡ old.output
     same = ap (λ (x : EndState). x.output) s
 
--- where nothing changed before
+-- If nothing changed before.
 pub closes_kept : (reason : CloseReason) (old mid new : EndState) → mid ≡ old → new ≡ record mid { end = over mid.end; held = [] } → Acts (closes reason old.end) old new
 closes_kept reason old mid new same s = closes_acts reason old new (s ∙ ap (λ (x : EndState). record x { end = over x.end; held = [] }) same)
 
--- that alone is told
+-- The only result.
 abbrev pub closed_with : CloseReason → PacketOutcome
 closed_with reason = record { happening = None; acknowledged = None; closed = Some reason }
 
@@ -51,7 +51,7 @@ closes_gives reason o old new is s =
 pub silent_gives : (o : PacketOutcome) (s : EndState) → o ≡ no_outcome → Gives (silent s.end) o s s
 silent_gives o s is = quiet (silent s.end) o s s (record { out = puts_nothing s.output; state = refl }) is refl refl refl
 
--- what is told of it behind what was told before
+-- Its event comes behind the earlier ones.
 pub told_behind : (r : Reply) (o : PacketOutcome) (old new : EndState) (t u v : ProgressBuilder) → Gives r o old new → u.happenings.items ≡ t.happenings.items → u.acknowledged.items ≡ t.acknowledged.items
     → v.happenings.items ≡ u.happenings.items ++ option_to_list o.happening → v.acknowledged.items ≡ u.acknowledged.items ++ option_to_list o.acknowledged → Makes r old new t v
 told_behind r o old new t u v g same_h same_a more_h more_a = record {

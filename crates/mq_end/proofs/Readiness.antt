@@ -1,4 +1,4 @@
--- What an end that is ready for messages stays ready for.
+-- An end that is ready for messages stays ready.
 use Rattle.std.proofs.Common.{◌≡◌, ℕ, ◌+◌, ◌-◌, ◌≤◌, Bool, true, false, not, ◌&&◌, ◌||◌, cond, ltb, leb, eqb, List, [], ◌∷◌, ◌++◌, map, length, filter, Option, Some, None, refl, ap, ◌∙◌, arith}
 use Rattle.std.specs.List.{list_any}
 use Rattle.std.proofs.lemmas.Bool.{ltb-false, le-ltb, lt-leb}
@@ -70,7 +70,7 @@ like_ready limit capacity ms e f known state a b c room =
     (ap (λ (k : Bool). list_any (λ m. not k) ms) known ∙ a) (ap (λ (s : State). list_any (λ m. not (has_identifier m.qos) && not (is_up s)) ms) state ∙ b) c
     (le-ltb (capacity - length (uses f.book)) (length (filter (λ m. has_identifier m.qos) ms)) room)
 
--- an end in which no more identifiers are in use
+-- An end in which no more identifiers are in use than before.
 pub fewer_ready : (limit capacity : ℕ) (ms : List Message) (e f : End) → f.known ≡ e.known → f.state ≡ e.state → length (uses f.book) ≤ length (uses e.book) → ready_refusal limit capacity ms e ≡ None → ready_refusal limit capacity ms f ≡ None
 fewer_ready limit capacity ms e f known state few h =
     let t = tests limit capacity ms e h in
@@ -152,7 +152,7 @@ filter_fewer p (x ∷ xs) = by (p x) (filter_fewer p xs)
     by true h = omega arith
     by false h = omega arith
 
--- what is awaited is taken out
+-- A pending message is removed.
 awaited_out : (q : Qos) (i : ℕ) (es : List Entry) → is_awaited q i es ≡ true → length (without_entry i es) + 1 ≤ length es
 awaited_out q i [] h = absurd cc
 awaited_out q i (e ∷ es) h = by (same_qos q e.message.qos) (eqb e.id i) e.sent (λ k. awaited_out q i es k) h
@@ -196,7 +196,7 @@ pubcomp_uses i b =
 
 -- ---- any packet that does not close the end
 
--- what is kept of an end that is ready
+-- The invariant of an end that is ready.
 record Keeps (e f : End) : Type 0 where
   known : f.known ≡ e.known
   state : f.state ≡ e.state

@@ -1,4 +1,4 @@
--- Bytes that come to an end: whole packets, and a rest.
+-- Received bytes: complete packets, and a rest.
 use Rattle.std.proofs.Common.{◌≡◌, ℕ, ◌<◌, ◌+◌, List, [], ◌∷◌, ◌++◌, length, Option, Some, None, refl, sym, ap, subst, ◌∙◌, append_assoc, arith}
 use Rattle.std.proofs.lemmas.List.{length-append}
 use Rattle.mq_packet.specs.declared.packet.Packet.{Packet}
@@ -27,7 +27,7 @@ split limit (p ∷ ps) qs b h =
     let s = split limit ps qs h.1 h.3 in
     record { front = h.0 ++ s.front; rest = s.rest; first = (h.0, s.front, h.2, s.first, refl); second = s.second; parts = h.4 ∙ ap (λ (t : List ℕ). h.0 ++ t) s.parts ∙ sym (append_assoc h.0 s.front s.rest) }
 
--- a fault stands in a byte
+-- A fault belongs to a byte.
 pub faulty_some : (limit : Bounds) (b : List ℕ) (k : FaultKind) (place : ℕ) → Faulty limit b k place → 0 < length b
 faulty_some limit b k place (AtFirst h) = subst (λ (t : List ℕ). 0 < length t) (sym h.bytes) (omega arith)
 faulty_some limit b k place (AtLength h) = subst (λ (t : List ℕ). 0 < length t) (sym h.bytes) (omega arith)
@@ -48,14 +48,14 @@ stream_some limit p ps b more again h =
     let e : length (b ++ more) ≡ (length h.0 + length h.1) + length more = length-append b more ∙ ap (λ (n : ℕ). n + length more) (ap length h.4 ∙ length-append h.0 h.1) in
     omega arith
 
--- ---- what was taken in
+-- ---- Packets that were processed
 
 not_both : (a : Option CloseReason) (reason : CloseReason) → a ≡ None → a ≡ Some reason → ⊥
 not_both a reason h k =
     let e : None ≡ Some reason = sym h ∙ k in
     cc
 
--- where the end did not close, all packets were taken in
+-- If the end did not close, all packets were processed.
 pub record TakenAll (gets : Packet → End → Reply) (ps : List Packet) (e : End) (r : Reply) : Type 0 where
   pub going : (one_by_one gets ps e).close ≡ None
   pub all : r ≡ one_by_one gets ps e
@@ -66,7 +66,7 @@ taken_all gets ps e r (Closed first rest reason parts shut all) none = absurd (n
 taken_all gets ps e r (Starved first rest p parts going all) none =
     absurd (not_both r.close reasons.Memory none (ap (λ (s : Reply). s.close) all ∙ ap (λ (c : Option CloseReason). first_reason c (Some reasons.Memory)) going))
 
--- where it closed among the packets of a stream
+-- It closed among the packets of a stream.
 pub received_shut : (limit : Bounds) (gets : Packet → End → Reply) (faulted : DecodeFault → End → Reply) (ps : List Packet) (b front rest : List ℕ) (e : End) (r : Reply) (reason : CloseReason) (held : List ℕ)
     → ReadsAgain → Stream limit ps front → b ≡ front ++ rest → Taken gets ps e r → r.close ≡ Some reason → held ≡ [] → Receives limit gets faulted b e r held
 received_shut limit gets faulted ps b front rest e r reason held again stream parts (TakesAll going all) shut none =
@@ -92,21 +92,21 @@ received_shut limit gets faulted ps b front rest e r reason held again stream pa
       ending = Starves (stream_some limit p last s.rest rest again s.second) going all none;
     }
 
--- where all came, and less than a packet is held
+-- All packets were processed, and less than a packet is held.
 pub received_all : (limit : Bounds) (gets : Packet → End → Reply) (faulted : DecodeFault → End → Reply) (ps : List Packet) (b rest : List ℕ) (e : End) (r : Reply) (held : List ℕ)
     → Reading limit b ps rest None → Taken gets ps e r → r.close ≡ None → held ≡ rest → Receives limit gets faulted b e r held
 received_all limit gets faulted ps b rest e r held reading taken none same =
     let t = taken_all gets ps e r taken none in
     record { packets = ps; front = reading.front; rest = rest; stream = reading.stream; parts = reading.parts; ending = Waits reading.ends t.going t.all same }
 
--- where a fault follows them
+-- A fault follows them.
 pub received_fault : (limit : Bounds) (gets : Packet → End → Reply) (faulted : DecodeFault → End → Reply) (ps : List Packet) (b rest : List ℕ) (fault : DecodeFault) (e : End) (r : Reply)
     → Reading limit b ps rest (Some fault) → Taken gets ps e r → r.close ≡ None → Receives limit gets faulted b e (followed r (faulted fault r.end)) []
 received_fault limit gets faulted ps b rest fault e r reading taken none =
     let t = taken_all gets ps e r taken none in
     record { packets = ps; front = reading.front; rest = rest; stream = reading.stream; parts = reading.parts; ending = Breaks fault reading.ends t.going (ap (λ (s : Reply). followed s (faulted fault s.end)) t.all) refl }
 
--- where a fault follows them, and memory runs out for its answer
+-- A fault follows them, and an allocation for its response failed.
 pub received_fault_starved : (limit : Bounds) (gets : Packet → End → Reply) (faulted : DecodeFault → End → Reply) (ps : List Packet) (b rest : List ℕ) (fault : DecodeFault) (e : End) (r : Reply)
     → Reading limit b ps rest (Some fault) → Taken gets ps e r → r.close ≡ None → Receives limit gets faulted b e (followed r (closes reasons.Memory r.end)) []
 received_fault_starved limit gets faulted ps b rest fault e r reading taken none =
@@ -120,7 +120,7 @@ received_fault_starved limit gets faulted ps b rest fault e r reading taken none
       ending = Starves (faulty_some limit rest fault.kind fault.place reading.ends) t.going (ap (λ (s : Reply). followed s (closes reasons.Memory s.end)) t.all) refl;
     }
 
--- where memory ran out for a packet behind them
+-- An allocation failed for a packet behind them.
 pub received_starved : (limit : Bounds) (gets : Packet → End → Reply) (faulted : DecodeFault → End → Reply) (ps : List Packet) (b : List ℕ) (e : End) (r : Reply)
     → Begins limit b ps → Taken gets ps e r → r.close ≡ None → Receives limit gets faulted b e (followed r (closes reasons.Memory r.end)) []
 received_starved limit gets faulted ps b e r begins taken none =

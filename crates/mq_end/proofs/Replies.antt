@@ -1,4 +1,4 @@
--- Packets that come to an end one after another, and what it puts out for them.
+-- Packets that arrive one after another, and the packets that an end sends for them.
 use Rattle.std.proofs.Common.{◌≡◌, ℕ, List, [], ◌∷◌, ◌++◌, Option, Some, None, refl, sym, ap, subst, ◌∙◌, append_assoc}
 use Rattle.std.proofs.lemmas.List.{append-nil}
 use Rattle.mq_packet.specs.declared.packet.Packet.{Packet}
@@ -9,7 +9,7 @@ use Rattle.mq_end.specs.End.{End, Reply, silent, first_reason, followed, one_by_
 use Rattle.mq_end.specs.State.{EndState, EncodesAll, PutsOut}
 use Rattle.mq_end.specs.Receiving.{Acts, Makes, held_after}
 
--- ---- what is put out
+-- ---- Output
 
 pub encoded_join : (ps qs : List Packet) (b c : List ℕ) → EncodesAll ps b → EncodesAll qs c → EncodesAll (ps ++ qs) (b ++ c)
 encoded_join [] qs b c h k = subst (EncodesAll qs) (sym (ap (λ (t : List ℕ). t ++ c) h)) k

@@ -1,4 +1,4 @@
--- Room to come up by a CONNECT, and what is put out then.
+-- Room to connect by a CONNECT, and the output that follows.
 use Rattle.std.proofs.Common.{◌≡◌, ℕ, ◌+◌, ◌*◌, ◌<◌, ◌≤◌, ◌^◌, Bool, true, false, not, ◌&&◌, ◌||◌, eqb, cond, List, [], ◌∷◌, ◌++◌, map, length, filter, Option, Some, None, IfSome, Result, Ok, Err, IsOk, IfOk, OnErr, refl, sym, ap, subst, ◌∙◌, arith}
 use Rattle.std.specs.List.{list_any}
 use Rattle.std.specs.Option.{SomeIff}
@@ -31,7 +31,7 @@ use Rattle.mq_end.proofs.Handings.{err_told, ok_told}
 use Rattle.mq_end.proofs.Measures.{laws}
 use Rattle.mq_end.proofs.Rooms.{at_most_all, keeps_room, published, put_within, sizes_joined, up_is_live}
 
--- ---- what answers a CONNECT
+-- ---- The response to a CONNECT
 
 -- by whether it is refused, whether clean session is 1, whether a session is known, and its book
 abbrev out_of : Bool → Bool → Bool → SenderBook → List Packet
@@ -54,7 +54,7 @@ claims_aside true clean known b = refl
 claims_aside false true known b = refl
 claims_aside false false known b = refl
 
--- a connection that is opened changes nothing of it, where no session of clean session 1 ends
+-- Opening a connection changes nothing of it, if no session of clean session 1 ends.
 opened_out : (c : Connect) (f : End) → f.clean ≡ false → (connect_gets c (opens f).end).out ≡ (connect_gets c f).out
 opened_out c f h =
     connect_puts c (opens f).end
@@ -89,7 +89,7 @@ encodable_out : (refused clean known : Bool) (b : SenderBook) → AreEncodable (
 encodable_out true clean known b h = (small (connacks.Refused IdentifierRejected), tt)
 encodable_out false clean known b h = (small (connacks.Accepted (not clean && known)), h)
 
--- what is sent again, where neither this CONNECT nor the one before has clean session 1
+-- Retransmissions, if neither this CONNECT nor the previous one has clean session 1.
 begun : (clean before : Bool) (b : SenderBook) → resent (cond clean blank_book (cond before blank_book (no_claims b))) ≡ cond (clean || before) [] (resent b)
 begun true before b = refl
 begun false true b = refl
@@ -119,7 +119,7 @@ rise_kept c ms more old new room out h = record {
   encodable = subst AreEncodable (sym out) h.encodable;
 }
 
--- where a connection is opened, and where one is lost
+-- Opening and losing a connection.
 pub opened_rise : (c : Connect) (ms : List Message) (more : ℕ) (old new : EndState) → new.end ≡ (opens old.end).end → new.room ≡ old.room → HasRise c ms more old → HasRise c ms more new
 opened_rise c ms more old new is room h = rise_kept c ms more old new room (ap (λ (e : End). (server_gets (packets.Connect c) (opens e).end).out) is ∙ twice_out c old.end) h
 
@@ -163,7 +163,7 @@ risen_room now c o ms more old new t w h = record {
     room : new.room ≡ old.room
     room = ap (λ (s : EndState). s.room) t.state
 
--- ---- what is sent again
+-- ---- Retransmissions
 
 encodable_joined : (ps qs : List Packet) → AreEncodable ps → AreEncodable qs → AreEncodable (ps ++ qs)
 encodable_joined [] qs h k = k
@@ -183,14 +183,14 @@ resent_size b =
     let first = releases_size b.released in
     omega arith
 
--- by what its parts are counted by
+-- The sizes of its parts.
 pub resent_by : (b : SenderBook) (es : List Entry) (count size : ℕ) → es ≡ b.entries → count ≡ length b.released → size ≡ packets_size (published es) → count * 7 + size ≡ packets_size (resent b)
 resent_by b es count size is counted sized =
     let whole = resent_size b in
     let same = ap (λ (es : List Entry). packets_size (published es)) is in
     omega arith
 
--- what a sum that a machine can count is
+-- The value of a sum that fits into `usize`.
 pub sum_is : (o : Option ℕ) (P : Type 0) (v w : ℕ) → SomeIff o P v → v ≡ w → IfSome o (λ x. x ≡ w)
 sum_is (Some x) P v w h e = h.1 ∙ e
 sum_is None P v w h e = tt
@@ -228,7 +228,7 @@ packet_room (Ok o) now p old new ms more takes stays up h =
 packet_room (Err x) now p old new ms more takes stays up h =
     subst (λ (s : EndState). HasRoom ms more s) (sym stays) (record { messages = h.messages; bytes = let had = h.bytes in omega arith })
 
--- where the message stays with the caller
+-- If the message stays with the caller.
 pub publish_room : {E : Type 0} (r : Result PublishOutcome E) (now : ℕ) (m : Message) (p : Packet) (old new : EndState) (ms : List Message) (more : ℕ)
     → (is_live old.end.state ≡ true → IfOk r (λ h. TakesPacket now p (outcome_of h m) old new)) → OnErr r (new ≡ old) → is_up old.end.state ≡ true
     → HasRoom ms (packets_size (server_gets p old.end).out + more) old → HasRoom ms more new

@@ -1,4 +1,4 @@
--- The room of an end, and what is put out within it.
+-- The room of an end, and output within it.
 use Rattle.std.proofs.Common.{◌≡◌, ◌⊎◌, inl, inr, ◌≤◌, ◌+◌, ◌-◌, ℕ, Bool, true, false, not, ◌&&◌, ◌||◌, eqb, cond, List, [], ◌∷◌, ◌++◌, map, length, filter, Option, Some, None, refl, sym, ap, subst, ◌∙◌, arith}
 use Rattle.std.specs.List.{list_any}
 use Rattle.std.proofs.Math.Dec.{eqb-suc-zero}
@@ -98,7 +98,7 @@ at_most_all Disconnected ms = omega arith
 at_most_all Connecting ms = omega arith
 at_most_all Connected ms = omega arith
 
--- the room behind packets that are put out
+-- The room behind sent packets.
 pub keeps_room : (ps : List Packet) (ms : List Message) (more : ℕ) (old new : EndState) → PutsOut ps old.output new.output → new.room ≡ old.room → size_at_once new.end.state ms ≤ size_at_once old.end.state ms
     → HasRoom ms (packets_size ps + more) old → HasRoom ms more new
 keeps_room ps ms more old new out same less h = record {
@@ -184,7 +184,7 @@ up_is_live Disconnected h = absurd cc
 up_is_live Connecting h = absurd cc
 up_is_live Connected h = refl
 
--- the room for the others, where the answer has room too
+-- The room for the others, if the response has room too.
 pub taken_room : (now : ℕ) (p : Packet) (old new : EndState) (happenings : List Happening) (acknowledged : List ℕ) (closed : Option CloseReason) (ms : List Message) (more : ℕ) → TakesOne now p old new happenings acknowledged closed → is_up old.end.state ≡ true
     → HasRoom ms (packets_size (server_gets p old.end).out + more) old → HasRoom ms more new
 taken_room now p old new happenings acknowledged closed ms more t up h = by t.does

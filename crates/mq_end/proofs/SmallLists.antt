@@ -17,12 +17,12 @@ pub room_behind : (alone : Bool) (n more capacity : ℕ) → alone ≡ false →
 room_behind false n more capacity is some fits = room_at (n == 0) n more capacity some fits
 room_behind true n more capacity is some fits = absurd (true≢false is)
 
--- none stands alone where there is room
+-- No single item is stored if there is room.
 pub is_alone : (alone : Bool) (n capacity : ℕ) → 0 < room_of alone n capacity → alone ≡ false
 is_alone false n capacity h = refl
 is_alone true n capacity h = absurd (omega arith)
 
--- and where several stand there is room behind them
+-- If several items are stored, there is room behind them.
 pub is_behind : (alone : Bool) (n capacity : ℕ) → 0 < room_of alone n capacity → (n == 0) ≡ false → n < capacity
 is_behind false n capacity h some = omega (arith, subst (λ (b : Bool). 0 < cond b 1 (capacity - n)) some h)
 is_behind true n capacity h some = absurd (omega arith)

@@ -99,14 +99,14 @@ server_in_sound capacity Connected p e s = server_up_sound capacity p e s
 
 -- ---- calls
 
--- what is not refused stands within the size, and has room
+-- A message that is not refused fits the size limit, and there is room.
 pub last_of : (a b c : Bool) (x y z : PublishRefusal) → cond a (Some x) (cond b (Some y) (cond c (Some z) None)) ≡ None → (a ≡ false) × (b ≡ false) × (c ≡ false)
 last_of true b c x y z h = cc
 last_of false true c x y z h = cc
 last_of false false true x y z h = cc
 last_of false false false x y z h = (refl, refl, refl)
 
--- what a message that is not refused meets
+-- The conditions that a message meets if it is not refused.
 pub allowed : (limit capacity : ℕ) (m : Message) (e : End) → publish_refusal limit capacity m e ≡ None → (not (has_identifier m.qos) && not (is_up e.state) ≡ false) × (ltb limit (publish_size m) ≡ false) × (has_identifier m.qos && is_full capacity e.book ≡ false)
 allowed limit capacity m e h =
     last_of (not (has_identifier m.qos) && not (is_up e.state)) (ltb limit (publish_size m)) (has_identifier m.qos && is_full capacity e.book) refusals.NotConnected refusals.TooLarge refusals.Full h

@@ -1,4 +1,4 @@
--- Bytes that come to an end, walked packet by packet.
+-- Received bytes, packet by packet.
 use Rattle.std.proofs.Common.{◌≡◌, ◌⊎◌, inl, inr, ℕ, ◌<◌, ◌≤◌, ◌==◌, Bool, true, false, not, List, [], ◌∷◌, ◌++◌, length, take, drop, Option, Some, None, refl, sym, ap, subst, ◌∙◌, append_assoc}
 use Rattle.std.proofs.Math.Dec.{eqb-suc-zero}
 use Rattle.std.proofs.lemmas.List.{append-nil, take-append-drop}
@@ -21,7 +21,7 @@ use Rattle.mq_end.proofs.Hearing.{break_made, hears_shut, hears_all, hears_starv
 
 -- ---- packets along the bytes
 
--- what an end holds while it walks is not what it held before
+-- The held bytes change while an end processes packets.
 along_held : (gets : Packet → End → Reply) (old now : EndState) (k h : List ℕ) (t u : ProgressBuilder) (ps : List Packet) → Along gets (with_held old k) now t u ps → Along gets (with_held old h) (with_held now h) t u ps
 along_held gets old now k h t u ps a =
     let r = one_by_one gets ps old.end in
@@ -35,7 +35,7 @@ along_held gets old now k h t u ps a =
       };
     }
 
--- it holds what it held when the walk began
+-- It holds the bytes that it held at the start.
 held_along : (gets : Packet → End → Reply) (old now : EndState) (h : List ℕ) (t u : ProgressBuilder) (ps : List Packet) → Along gets (with_held old h) now t u ps → now.held ≡ h
 held_along gets old now h t u ps a = ap (λ (s : EndState). s.held) a.makes.state ∙ ap (λ (c : Option CloseReason). held_after c h) a.going
 
@@ -58,7 +58,7 @@ pub record Walked (role : Role) (piece : List ℕ) (old now : EndState) (told af
 pub walked_none : (role : Role) (piece : List ℕ) (old : EndState) (told : ProgressBuilder) → Walked role piece old old told told false (drop 0 piece)
 walked_none role piece old told = record { packets = []; front = []; stream = refl; parts = refl; along = along_none (gets_as role) old told; some = refl }
 
--- Another packet was taken out, and didn't come to the end yet.
+-- Another packet was removed, and not processed yet.
 pub record Next (role : Role) (piece : List ℕ) (old mid : EndState) (told after : ProgressBuilder) (p : Packet) (rest : List ℕ) : Type 0 where
   pub packets : List Packet
   pub front : List ℕ
@@ -90,7 +90,7 @@ next_of role piece old now mid told after came p n rest w reads state none =
 abbrev pub Came : Role → Packet → EndState → EndState → ProgressBuilder → ProgressBuilder → Option CloseReason → Type 0
 Came role p mid new u v closed = (r : Reply) × ((r ≡ gets_as role p mid.end) ⊎ (r ≡ closes reasons.Memory mid.end)) × (closed ≡ r.close) × Makes r mid new u v
 
--- the next packet of what is held and a piece, and what came of it
+-- The next packet of the held bytes and a piece, and its effect.
 pub came_next : (role : Role) (piece : List ℕ) (n : ℕ) (closed : Option CloseReason) (old mid new : EndState) (t u : ProgressBuilder) (p : Packet)
     → n ≤ length piece → ReadsWithin old.limit p (old.held ++ take n piece) → mid ≡ record old { held = mid.held } → mid.held ≡ [] → Came role p mid new t u closed → TakesNext role piece n closed old new t u
 came_next role piece n closed old mid new t u p within reads state none came =
@@ -98,7 +98,7 @@ came_next role piece n closed old mid new t u p within reads state none came =
     let x = subst (λ (s : EndState). Came role p s new t u closed) same came in
     record { within = within; packet = p; reads = reads; reply = x.0; does = x.1; close = x.2; makes = x.3 }
 
--- nothing is held behind it where the end goes on
+-- If the end continues, nothing is held behind it.
 pub next_held : (role : Role) (piece : List ℕ) (n : ℕ) (old new : EndState) (t u : ProgressBuilder) → TakesNext role piece n None old new t u → new.held ≡ []
 next_held role piece n old new t u x = ap (λ (s : EndState). s.held) x.makes.state ∙ ap (λ (c : Option CloseReason). held_after c []) (sym x.close)
 

@@ -1,4 +1,4 @@
--- Each packet that comes leaves the receiving window as it is, and what is stored within it.
+-- Each packet leaves the receive window unchanged, and the stored identifiers within it.
 use Rattle.std.proofs.Common.{Bool, true, false, not, ◌&&◌, eqb, Option, Some, None, List, [], ◌∷◌, ℕ, length, refl, sym, subst, ◌∙◌}
 use Rattle.std.proofs.lemmas.Bool.{cond_both}
 use Rattle.mq_topic.specs.declared.qos.Qos.{Qos}

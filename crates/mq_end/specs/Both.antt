@@ -1,4 +1,4 @@
--- What both ends do alike: messages and their acknowledgements (4.3), and publishing.
+-- The behaviour that both ends share: messages and their acknowledgements (4.3), and publishing.
 use Rattle.std.specs.Prelude.{ℕ, Bool, true, false, not, ◌&&◌, if◌then◌else◌, Option, Some, None, [], ◌∷◌, nat_lt}
 use Rattle.mq_topic.specs.declared.qos.Qos.{Qos}
 use Rattle.mq_topic.specs.declared.qos.Qos.TheVariants.{Q0, Q1, Q2}
@@ -16,8 +16,8 @@ use Rattle.mq_end.specs.declared.refusal.PublishRefusal.TheVariants as refusals
 use Rattle.mq_end.specs.End.{End, Reply, silent, puts_out, tells, closes, is_up}
 use Rattle.mq_end.specs.Sizes.{publish_size}
 
--- PUBLISH of quality of service 2: the identifier is stored, and PUBREC says so; only a message whose identifier was not stored
--- is handed on (4.3.3).
+-- QoS 2 PUBLISH: the identifier is stored and PUBREC sent; the message is delivered only if its
+-- identifier was not stored (4.3.3).
 abbrev pub stores : ℕ → Message → End → Reply
 stores i m e = record {
   end = record e { received = on_publish i e.received };
@@ -27,11 +27,11 @@ stores i m e = record {
   close = None;
 }
 
--- PUBLISH comes to an end that is up, by the quality of service (3.3, 4.3).
+-- A PUBLISH arrives at a connected end, by its QoS (3.3, 4.3).
 abbrev pub publish_gets : Qos → Option Delivery → Message → End → Reply
--- at most once: handed on (4.3.1)
+-- At most once: it is delivered (4.3.1).
 publish_gets Q0 None m e = tells (happens.Handed m) e
--- at least once: each PUBLISH is handed on and acknowledged by PUBACK, a repeated one too (4.3.2)
+-- At least once: each PUBLISH is delivered and acknowledged by PUBACK, also a repeated one (4.3.2).
 publish_gets Q1 (Some d) m e = record {
   end = e;
   out = packets.PubAck d.id ∷ [];
@@ -39,12 +39,13 @@ publish_gets Q1 (Some d) m e = record {
   freed = [];
   close = None;
 }
--- exactly once: what doesn't fit the window closes the connection (4.8), else it is stored
+-- Exactly once: a message beyond the receive window closes the connection (4.8), otherwise it is
+-- stored.
 publish_gets Q2 (Some d) m e = if fits_window e.window d.id e.received then stores d.id m e else closes reasons.Window e
--- there is no other PUBLISH: an identifier stands exactly where the quality of service is over 0 (2.3.1)
+-- No other PUBLISH exists: it has an identifier exactly if its QoS is 1 or 2 (2.3.1).
 publish_gets qos delivery m e = closes reasons.Unexpected e
 
--- A packet of a message's flow comes to an end that is up (4.3).
+-- A packet of a message flow arrives at a connected end (4.3).
 abbrev pub flow_gets : Packet → End → Reply
 flow_gets (packets.Publish p) e = publish_gets p.message.qos p.delivery p.message e
 -- PUBACK (3.4, 4.3.2)
@@ -72,8 +73,8 @@ has_identifier Q0 = false
 has_identifier Q1 = true
 has_identifier Q2 = true
 
--- The user publishes a message, which is given this identifier where it has one. It goes out at once where the end is
--- up. With quality of service 1 and 2 it is kept until it is acknowledged (4.3.2, 4.3.3).
+-- The user publishes a message under this identifier, if it has one. A connected end sends it at
+-- once. A QoS 1 or 2 message is stored until it is acknowledged (4.3.2, 4.3.3).
 abbrev pub publishes_at : Qos → ℕ → Message → End → Reply
 publishes_at Q0 i m e = puts_out (packets.Publish (record { message = m; delivery = None }) ∷ []) e
 publishes_at qos i m e = puts_out
@@ -84,13 +85,13 @@ publishes_at qos i m e = puts_out
 abbrev pub publishes : ℕ → Message → End → Reply
 publishes i m e = publishes_at m.qos i m e
 
--- the identifier that the call answers: there is one where the quality of service is over 0 (2.3.1)
+-- The identifier that the call returns, for QoS 1 and 2 (2.3.1).
 abbrev pub answered_identifier : Qos → ℕ → Option ℕ
 answered_identifier qos i = if has_identifier qos then Some i else None
 
--- Why a message is refused, the first that stands: with quality of service 0, which is not kept (4.3.1), there has to be a
--- connection that is up; the remaining length (2.2.3) is within the limit; and a message with an identifier (2.3.1) finds room
--- for one.
+-- The first reason to refuse a message: QoS 0 messages are not stored (4.3.1) and need a
+-- connection; the remaining length must be within the limit (2.2.3); and a message with an
+-- identifier needs a free one (2.3.1).
 abbrev pub publish_refusal : ℕ → ℕ → Message → End → Option PublishRefusal
 publish_refusal limit capacity m e =
     if not (has_identifier m.qos) && not (is_up e.state) then Some refusals.NotConnected else

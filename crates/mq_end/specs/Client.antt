@@ -1,4 +1,4 @@
--- The client end: what it does with a packet, and with each call of its user.
+-- The client end: its reaction to each packet and each call.
 use Rattle.std.specs.Prelude.{ℕ, not, ◌&&◌, if◌then◌else◌, Option, Some, None, List, [], ◌∷◌, length, nat_lt}
 use Rattle.mq_packet.specs.declared.connect.Connect.{Connect}
 use Rattle.mq_packet.specs.declared.connack.ConnAck.{ConnAck}
@@ -20,12 +20,13 @@ use Rattle.mq_end.specs.Sizes.{subscribe_size, unsubscribe_size}
 
 -- ---- packets
 
--- CONNACK comes to a client that waits for it (3.2).
+-- A CONNACK arrives at a client that waits for it (3.2).
 abbrev pub connack_gets : ConnAck → End → Reply
 -- CONNECT is refused (3.2.2.3)
 connack_gets (connacks.Refused code) e = closes (reasons.Refused code) e
--- It is accepted. Session Present may not be 1 after clean session 1 (3.2.2.2); it may not be 0 after clean session 0 where
--- the session is established, since the server then lost it (3.2.2.2, 3.1.2.4). Else the client is up.
+-- It accepts. Session Present must be 0 after clean session 1 (3.2.2.2). It must be 1 if the
+-- session is established, since otherwise the server has lost it (3.2.2.2, 3.1.2.4). Else the
+-- client is connected.
 connack_gets (connacks.Accepted session_present) e =
     if e.clean && session_present then closes reasons.Unexpected e else
     (if not e.clean && (e.known && not session_present) then closes reasons.SessionLost e else
@@ -36,29 +37,30 @@ abbrev pub client_open_gets : Packet → End → Reply
 client_open_gets (packets.ConnAck answer) e = connack_gets answer e
 client_open_gets p e = closes reasons.Unexpected e
 
--- A packet comes to a client that is up.
+-- A packet arrives at a connected client.
 abbrev pub client_up_gets : Packet → End → Reply
--- SUBACK has the identifier of a SUBSCRIBE that waits, and as many codes as it has filters (3.8.4, 3.9)
+-- SUBACK must have the identifier of a pending SUBSCRIBE, and one code for each of its filters
+-- (3.8.4, 3.9).
 client_up_gets (packets.SubAck i codes) e =
     if awaits_suback i (length codes) e.book then tells (happens.SubAck i codes) (record e { book = release i e.book }) else
     closes reasons.Unexpected e
--- UNSUBACK has the identifier of an UNSUBSCRIBE that waits (3.10.4, 3.11)
+-- UNSUBACK must have the identifier of a pending UNSUBSCRIBE (3.10.4, 3.11).
 client_up_gets (packets.UnsubAck i) e =
     if awaits_unsuback i e.book then tells (happens.UnsubAck i) (record e { book = release i e.book }) else
     closes reasons.Unexpected e
 -- PINGRESP (3.13)
 client_up_gets packets.PingResp e = tells happens.Pong e
--- messages and their acknowledgements; any other packet may not come to a client (4.3, 4.8)
+-- Messages and their acknowledgements; any other packet is a protocol violation (4.3, 4.8).
 client_up_gets p e = flow_gets p e
 
--- a packet comes to a client whose connection is so far
+-- A packet arrives at a client in this connection state.
 abbrev pub client_gets_in : State → Packet → End → Reply
 -- without a connection nothing comes
 client_gets_in Disconnected p e = silent e
 client_gets_in Connecting p e = client_open_gets p e
 client_gets_in Connected p e = client_up_gets p e
 
--- a packet comes to the client (3.2 to 3.13)
+-- A packet arrives at the client (3.2 to 3.13).
 abbrev pub client_gets : Packet → End → Reply
 client_gets p e = client_gets_in e.state p e
 
@@ -80,7 +82,8 @@ subscribes i requests e = puts_out (packets.Subscribe i requests ∷ []) (record
 abbrev pub unsubscribes : ℕ → List (List ℕ) → End → Reply
 unsubscribes i filters e = puts_out (packets.Unsubscribe i filters ∷ []) (record e { book = claim i claims.Unsubscribe (length filters) e.book; last = i })
 
--- why a packet of this remaining length (2.2.3) that takes an identifier (2.3.1) is refused, the first that stands
+-- The first reason to refuse a packet of this remaining length (2.2.3) that needs an identifier
+-- (2.3.1).
 abbrev pub request_refusal : ℕ → ℕ → ℕ → End → Option PublishRefusal
 request_refusal limit capacity size e =
     if not (is_up e.state) then Some refusals.NotConnected else

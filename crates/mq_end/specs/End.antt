@@ -1,4 +1,4 @@
--- An end of a connection, and what comes of a packet or of a call.
+-- An end of a connection, and its reply to a packet or call.
 use Rattle.std.specs.Prelude.{ℕ, Bool, true, false, if◌then◌else◌, Option, Some, None, List, [], ◌∷◌, ◌++◌}
 use Rattle.mq_packet.specs.declared.packet.Packet.{Packet}
 use Rattle.mq_flow.specs.Sender.{SenderBook, blank_book, no_claims, all_sent, resent}
@@ -9,15 +9,15 @@ use Rattle.mq_end.specs.declared.happening.Happening.{Happening}
 use Rattle.mq_end.specs.declared.happening.Happening.TheVariants as happens
 use Rattle.mq_end.specs.declared.reason.CloseReason.{CloseReason}
 
--- An end. Its session (3.1.2.4) is book, received, last and known.
--- book, received: what it sends and receives, and is not through with (4.1, 4.3).
--- last: the packet identifier that it gave last, 0 where it gave none (2.3.1).
--- known: at the client, that the session is established: a CONNACK that accepts was read for it; at the server, that
---   a session stands for the client.
--- clean: the CONNECT of the connection, at the server the accepted one, has clean session 1, so that the session ends
---   with the connection (3.1.2.4).
--- keep_alive: the seconds of that CONNECT (3.1.2.10).
--- window: the receiving window, where it has one.
+-- An end. Its session (3.1.2.4) consists of book, received, last and known.
+-- book, received: unfinished messages that it sends and receives (4.1, 4.3).
+-- last: the packet identifier assigned last, 0 if none was (2.3.1).
+-- known: at the client, the session is established, that is, a CONNACK accepted it; at the server,
+-- the client has a session.
+-- clean: the CONNECT of the connection (at the server, the accepted one) has clean session 1, so
+-- the session ends with the connection (3.1.2.4).
+-- keep_alive: the keep-alive of that CONNECT in seconds (3.1.2.10).
+-- window: the receive window, if any.
 pub record End : Type 0 where
   pub book : SenderBook
   pub received : ReceiverBook
@@ -32,13 +32,14 @@ pub record End : Type 0 where
 abbrev pub blank_end : Option ℕ → End
 blank_end window = record { book = blank_book; received = none_received; last = 0; state = Disconnected; known = false; clean = false; keep_alive = 0; window = window }
 
--- An end with this window that goes on with a session of before (3.1.2.4), its claimed identifiers freed; known is its mark.
+-- An end with this window that continues a stored session (3.1.2.4), without identifiers of
+-- SUBSCRIBE and UNSUBSCRIBE.
 abbrev pub resumed : Option ℕ → Bool → SenderBook → ReceiverBook → ℕ → End
 resumed window known book received last =
     record { book = no_claims book; received = received; last = last; state = Disconnected; known = known; clean = false; keep_alive = 0; window = window }
 
--- What comes of a packet or of a call: the end after it, the packets that it puts out in order, what it tells its user,
--- the identifiers whose message of quality of service 1 is acknowledged, and why the connection is closed, where it is.
+-- The reply to a packet or call: the end after it, the packets that it sends in order, the events
+-- that it reports, the identifiers of acknowledged QoS 1 messages, and the reason if it closes.
 pub record Reply : Type 0 where
   pub end : End
   pub out : List Packet
@@ -62,17 +63,18 @@ is_live Connected = true
 abbrev pub silent : End → Reply
 silent e = record { end = e; out = []; happenings = []; freed = []; close = None }
 
--- packets are put out
+-- It sends packets.
 abbrev pub puts_out : List Packet → End → Reply
 puts_out ps e = record { end = e; out = ps; happenings = []; freed = []; close = None }
 
--- something is told
+-- It reports an event.
 abbrev pub tells : Happening → End → Reply
 tells h e = record { end = e; out = []; happenings = h ∷ []; freed = []; close = None }
 
--- The connection is over. The identifiers of SUBSCRIBE and UNSUBSCRIBE are free; the rest of the session stays, but one of
--- a CONNECT with clean session 1 ends with its connection, however that ends: the client then has a new session that was
--- never established, the server has none (3.1.2.4).
+-- The connection is over. The identifiers of SUBSCRIBE and UNSUBSCRIBE are free; the rest of the
+-- session stays, but one of a CONNECT with clean session 1 ends with its connection, however that
+-- ends: the client then has a new session that was never established, the server has none
+-- (3.1.2.4).
 abbrev pub over : End → End
 over e = record e {
   book = if e.clean then blank_book else no_claims e.book;
@@ -87,12 +89,12 @@ over e = record e {
 abbrev pub closes_after : List Packet → CloseReason → End → Reply
 closes_after ps reason e = record { end = over e; out = ps; happenings = []; freed = []; close = Some reason }
 
--- the end closes the connection, and puts out nothing (4.8)
+-- It closes the connection and sends nothing (4.8).
 abbrev pub closes : CloseReason → End → Reply
 closes reason e = closes_after [] reason e
 
--- A connection begins to which clean session applies or not: with 1 the session before is discarded, with 0 it goes on
--- (3.1.2.4).
+-- A connection begins to which clean session applies or not: with 1 the session before is
+-- discarded, with 0 it goes on (3.1.2.4).
 abbrev pub renewed : Bool → End → End
 renewed clean e = record e {
   book = if clean then blank_book else e.book;
@@ -102,8 +104,8 @@ renewed clean e = record e {
   clean = clean;
 }
 
--- The end is up: after these packets it sends again what is not acknowledged (4.4), and for the first time what was
--- accepted since.
+-- The end is connected: after these packets it retransmits all unacknowledged messages (4.4), and
+-- sends those accepted since for the first time.
 abbrev pub comes_up : List Packet → Bool → End → Reply
 comes_up before session_present e = record {
   end = record e { state = Connected; known = true; book = all_sent e.book };

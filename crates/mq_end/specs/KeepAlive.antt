@@ -1,10 +1,11 @@
--- Keep-alive (3.1.2.10). Moments are milliseconds, keep-alives are seconds.
+-- Keep-alive (3.1.2.10). Times are in milliseconds, keep-alives in seconds.
 use Rattle.std.specs.Prelude.{ℕ, ◌+◌, ◌*◌, ◌<◌, ◌≡◌, ◌↔◌, Bool, true, ◌&&◌, if◌then◌else◌, Some, [], ◌∷◌, nat_lt, nat_le}
 use Rattle.mq_packet.specs.declared.packet.Packet.TheVariants as packets
 use Rattle.mq_end.specs.declared.reason.CloseReason.TheVariants as reasons
 use Rattle.mq_end.specs.End.{End, Reply, silent, puts_out, closes, is_up}
 
--- Late: the keep-alive is not 0, and since the last whole packet more than one and a half times of it has gone by (3.1.2.10).
+-- Late: the keep-alive is not 0, and since the last whole packet more than one and a half times of
+-- it has gone by (3.1.2.10).
 abbrev pub Late : ℕ → ℕ → ℕ → Type 0
 Late last keep_alive now = (0 < keep_alive) × (last + 1500 * keep_alive < now)
 
@@ -16,23 +17,23 @@ is_late last keep_alive now = nat_lt 0 keep_alive && nat_lt (last + 1500 * keep_
 abbrev pub is_due : ℕ → ℕ → ℕ → Bool
 is_due since keep_alive now = nat_lt 0 keep_alive && nat_le (since + 1000 * keep_alive) now
 
--- the client is up and a PINGREQ is due (3.12)
+-- The client is connected and a PINGREQ is due (3.12).
 abbrev pub pings : ℕ → ℕ → End → Bool
 pings since now e = is_up e.state && is_due since e.keep_alive now
 
--- The client is told the time: it puts out PINGREQ where one is due (3.12). It never closes.
+-- The client's `tick`: it sends PINGREQ if one is due (3.12). It never closes.
 abbrev pub client_ticks : ℕ → ℕ → End → Reply
 client_ticks since now e = puts_out (if pings since now e then packets.PingReq ∷ [] else []) e
 
--- the moment of its CONNECT or of its last PINGREQ, after that (3.1.2.10)
+-- The time of its CONNECT or last PINGREQ, after the call (3.1.2.10).
 abbrev pub client_since : ℕ → ℕ → End → ℕ
 client_since since now e = if pings since now e then now else since
 
--- The server is told the time: it closes where it is up and late (3.1.2.10).
+-- The server's `tick`: it closes a connected end whose client is late (3.1.2.10).
 abbrev pub server_ticks : ℕ → ℕ → End → Reply
 server_ticks last now e = if is_up e.state && is_late last e.keep_alive now then closes reasons.KeepAlive e else silent e
 
--- What a user of keep-alives may rely on (3.1.2.10).
+-- The laws of keep-alive (3.1.2.10).
 pub record KeepAliveLaws : Type 0 where
   pub late : (last keep_alive now : ℕ) → is_late last keep_alive now ≡ true ↔ Late last keep_alive now
   pub closes_late : (last now : ℕ) (e : End) → (server_ticks last now e).close ≡ Some reasons.KeepAlive ↔ ((is_up e.state ≡ true) × Late last e.keep_alive now)

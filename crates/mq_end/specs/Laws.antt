@@ -1,4 +1,4 @@
--- What an end keeps, whatever it takes in and whatever its user asks.
+-- The invariants of an end, after any list of packets and calls.
 use Rattle.std.specs.Prelude.{ℕ, ◌≡◌, Bool, true, false, None, Some, List}
 use Rattle.mq_packet.specs.declared.connect.Connect.{Connect}
 use Rattle.mq_packet.specs.declared.message.Message.{Message}
@@ -16,7 +16,7 @@ use Rattle.mq_end.specs.Client.{client_gets, client_gets_all, connects, subscrib
 use Rattle.mq_end.specs.Server.{server_gets, server_gets_all, opens, level_refused}
 use Rattle.mq_end.specs.KeepAlive.{server_ticks}
 
--- an identifier is free, where the message has one (2.3.1)
+-- The identifier is free, if the message needs one (2.3.1).
 abbrev pub MayHave : Bool → End → ℕ → Type 0
 MayHave true e i = IsFree e.book i
 MayHave false e i = Unit {0}
@@ -38,8 +38,8 @@ pub record SoundLaws : Type 0 where
   pub leave : (capacity : ℕ) (e : End) → IsSoundEnd capacity e → IsSoundEnd capacity (leaves e).end
   pub drop : (capacity : ℕ) (e : End) → IsSoundEnd capacity e → IsSoundEnd capacity (drops e).end
 
--- Where a packet or a call closes the connection, the session is as it was just before, but for the identifiers of SUBSCRIBE
--- and UNSUBSCRIBE, which are free; and after clean session 1 it ends (3.1.2.4).
+-- If a packet or call closes the connection, the session is as it was just before, without the
+-- identifiers of SUBSCRIBE and UNSUBSCRIBE; after clean session 1 it ends (3.1.2.4).
 pub record ClosingLaws : Type 0 where
   pub client : (p : Packet) (e : End) (reason : CloseReason) → (client_gets p e).close ≡ Some reason → (client_gets p e).end ≡ over e
   pub server : (p : Packet) (e : End) (reason : CloseReason) → (server_gets p e).close ≡ Some reason → (server_gets p e).end ≡ over e
@@ -53,11 +53,12 @@ pub record ClosingLaws : Type 0 where
   pub client_ignores : (ps : List Packet) (e : End) → e.state ≡ Disconnected → client_gets_all ps e ≡ silent e
   pub server_ignores : (ps : List Packet) (e : End) → e.state ≡ Disconnected → server_gets_all ps e ≡ silent e
 
--- From one end to the next: the window is the same, and at most as many identifiers are stored as it has or as were stored before.
+-- From one end to the next: the window is the same, and at most as many identifiers are stored as
+-- it has or as were stored before.
 abbrev pub KeepsWindow : End → End → Type 0
 KeepsWindow e f = (f.window ≡ e.window) × IsWithin e.window e.received f.received
 
--- Whatever comes to an end, its receiving window stays, and bounds what is stored (4.3.3).
+-- Whatever arrives, the receive window stays the same and bounds the stored identifiers (4.3.3).
 pub record WindowLaws : Type 0 where
   pub client : (ps : List Packet) (e : End) → KeepsWindow e (client_gets_all ps e).end
   pub server : (ps : List Packet) (e : End) → KeepsWindow e (server_gets_all ps e).end

@@ -10,12 +10,12 @@ use Rattle.mq_end.specs.declared.first_packet.Terms.{Terms}
 use Rattle.mq_end.specs.End.{End, Reply, comes_up, renewed}
 use Rattle.mq_end.specs.Server.{refuses}
 
--- the answer that a packet is, if it is CONNACK (3.2)
+-- The CONNACK in a packet (3.2).
 abbrev pub connack_in : Packet → Option ConnAck
 connack_in (packets.ConnAck answer) = Some answer
 connack_in p = None
 
--- what of a CONNECT says how the server answers it (3.1)
+-- The fields of a CONNECT that determine the response (3.1).
 abbrev pub terms_of : Connect → Terms
 terms_of c = record { clean = c.clean_session; keep_alive = c.keep_alive; anonymous = length c.client_id == 0 }
 
@@ -23,11 +23,11 @@ abbrev pub terms_in : Packet → Option Terms
 terms_in (packets.Connect c) = Some (terms_of c)
 terms_in p = None
 
--- CONNECT is accepted: CONNACK, and what is sent again (3.1.4, 4.4)
+-- The response to an accepted CONNECT: CONNACK, and all retransmissions (3.1.4, 4.4).
 abbrev pub accepts_connect : Terms → Bool → End → Reply
 accepts_connect t session_present e =
     comes_up (packets.ConnAck (connacks.Accepted session_present) ∷ []) session_present (record (renewed t.clean e) { keep_alive = t.keep_alive })
 
--- what the server does with it
+-- The server's reaction to a CONNECT with these fields.
 abbrev pub terms_get : Terms → End → Reply
 terms_get t e = if not t.clean && t.anonymous then refuses IdentifierRejected e else accepts_connect t (not t.clean && e.known) e

@@ -1,4 +1,4 @@
--- What comes of a message that an end accepts (3.3, 4.3).
+-- Publishing a message (3.3, 4.3).
 use Rattle.std.specs.Prelude.{◌≡◌, ℕ, ◌-◌, Bool, true, if◌then◌else◌, Option}
 use Rattle.mq_topic.specs.declared.qos.Qos.{Qos}
 use Rattle.mq_packet.specs.declared.message.Message.{Message}
@@ -8,12 +8,13 @@ use Rattle.mq_end.specs.declared.config.ClientConfig.{ClientConfig}
 use Rattle.mq_end.specs.Both.{publishes, has_identifier, answered_identifier}
 use Rattle.mq_end.specs.State.{EndState, PutsOut, Room}
 
--- the room of an end that accepted a message of this quality of service: one with an identifier takes a place
+-- the room of an end that accepted a message of this quality of service: one with an identifier
+-- takes a place
 abbrev pub room_left : Qos → Room → Room
 room_left qos r = record r { messages = if has_identifier qos then r.messages - 1 else r.messages }
 
--- A message is published, and the call answers its identifier, where it has one: the first that is free after the one that was given
--- last (2.3.1). It goes out at once where the end is up.
+-- A message is accepted. The call returns its identifier if it has QoS 1 or 2: the first free one
+-- after the one assigned last (2.3.1). A connected end sends it at once.
 pub record Accepts (answer : Option ℕ) (m : Message) (old new : EndState) : Type 0 where
   pub id : ℕ
   pub answered : answer ≡ answered_identifier m.qos id
@@ -25,7 +26,7 @@ pub record Accepts (answer : Option ℕ) (m : Message) (old new : EndState) : Ty
 abbrev pub connect_of : ClientConfig → Bool → Connect
 connect_of config clean = record { client_id = config.id; clean_session = clean; keep_alive = config.keep_alive; will = config.will; login = config.login }
 
--- What contracts see of a client end: the end, and what its user said of it.
+-- A client end as contracts see it: the end, and its configuration.
 pub record ClientState : Type 0 where
   pub link : EndState
   pub config : ClientConfig

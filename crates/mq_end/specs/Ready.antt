@@ -1,4 +1,4 @@
--- What an end that is ready for messages has room for.
+-- The room of an end that is ready for messages.
 use Rattle.std.specs.Prelude.{◌≡◌, ℕ, ◌+◌, ◌<◌, ◌≤◌, ◌^◌, Bool, false, if◌then◌else◌, List, [], ◌∷◌, length, filter}
 use Rattle.mq_topic.specs.declared.qos.Qos.TheVariants.{Q2}
 use Rattle.mq_packet.specs.declared.connect.Connect.{Connect}
@@ -15,7 +15,8 @@ use Rattle.mq_end.specs.Both.{has_identifier}
 use Rattle.mq_end.specs.Sizes.{publish_size}
 use Rattle.mq_end.specs.State.{EndState}
 
--- The most bytes of a packet of this remaining length: its first one, up to four of the length itself, and its fields (2.2).
+-- The most bytes of a packet of this remaining length: its first one, up to four of the length
+-- itself, and its fields (2.2).
 abbrev pub whole_size : ℕ → ℕ
 whole_size n = 5 + n
 
@@ -29,11 +30,11 @@ abbrev pub publishes_size : List Message → ℕ
 publishes_size [] = 0
 publishes_size (m ∷ ms) = whole_size (publish_size m) + publishes_size ms
 
--- those that go out at once, which is where the end is up (4.3)
+-- The size of the messages that are sent at once: all if the end is connected (4.3).
 abbrev pub size_at_once : State → List Message → ℕ
 size_at_once state ms = if is_up state then publishes_size ms else 0
 
--- An end has room for these messages to be published, and for so many bytes more to be put out: it takes no more memory for them.
+-- An end has room to publish these messages and to send `more` other bytes without allocation.
 pub record HasRoom (ms : List Message) (more : ℕ) (s : EndState) : Type 0 where
   pub messages : length (filter (λ m. has_identifier m.qos) ms) ≤ s.room.messages
   pub bytes : length s.output + (size_at_once s.end.state ms + more) ≤ s.room.bytes
@@ -48,18 +49,18 @@ abbrev pub AreEncodable : List Packet → Type 0
 AreEncodable [] = Unit {0}
 AreEncodable (p ∷ ps) = (length (fields p) < 2 ^ 28) × AreEncodable ps
 
--- An end has room for these packets to be put out: it takes no more memory for their bytes.
+-- An end has room to send these packets without allocation.
 abbrev pub FitsRoom : List Packet → EndState → Type 0
 FitsRoom ps s = length s.output + packets_size ps ≤ s.room.bytes
 
--- An end has room to come up by this CONNECT on a new connection: for CONNACK and for all that is sent again (3.2, 4.4); and then for
--- these messages to be published, and for so many bytes more.
+-- An end has room to connect by this CONNECT on a new connection: for CONNACK and all
+-- retransmissions (3.2, 4.4), then to publish these messages and to send `more` other bytes.
 pub record HasRise (c : Connect) (ms : List Message) (more : ℕ) (s : EndState) : Type 0 where
   pub messages : length (filter (λ m. has_identifier m.qos) ms) ≤ s.room.messages
   pub bytes : packets_size (server_gets (packets.Connect c) (opens s.end).end).out + (publishes_size ms + more) ≤ s.room.bytes
   pub encodable : AreEncodable (server_gets (packets.Connect c) (opens s.end).end).out
 
--- An end waits for a CONNECT on a connection that was opened, and nothing was put out on it (3.1).
+-- An end waits for the CONNECT of an open connection and has no pending output (3.1).
 pub record CanRise (s : EndState) : Type 0 where
   pub state : s.end.state ≡ Connecting
   pub clean : s.end.clean ≡ false

@@ -11,6 +11,6 @@ pub record ReadyLaws : Type 0 where
   pub first : (limit capacity : ℕ) (m : Message) (ms : List Message) (e : End) → ready_refusal limit capacity (m ∷ ms) e ≡ None → server_publish_refusal limit capacity m e ≡ None
   -- once it is published, with whatever identifier, the end is ready for the others
   pub others : (limit capacity i : ℕ) (m : Message) (ms : List Message) (e : End) → ready_refusal limit capacity (m ∷ ms) e ≡ None → ready_refusal limit capacity ms (publishes i m e).end ≡ None
-  -- a packet that comes and does not close the end frees identifiers or leaves them as they are: PUBACK, PUBREC, PUBREL, PUBCOMP, or
-  -- what the client asks and publishes (4.3)
+  -- A packet that doesn't close the end frees identifiers or leaves them unchanged: PUBACK, PUBREC,
+  -- PUBREL, PUBCOMP, or requests and messages of the client (4.3).
   pub taken : (limit capacity : ℕ) (p : Packet) (ms : List Message) (e : End) → is_up e.state ≡ true → (server_gets p e).close ≡ None → ready_refusal limit capacity ms e ≡ None → ready_refusal limit capacity ms (server_gets p e).end ≡ None

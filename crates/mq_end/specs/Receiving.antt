@@ -1,4 +1,4 @@
--- What comes of bytes that an open end receives, cut anywhere (4.2, 4.6, 4.8).
+-- The reaction of an open end to received bytes, cut anywhere (4.2, 4.6, 4.8).
 use Rattle.std.specs.Prelude.{◌≡◌, ◌⊎◌, ℕ, Bool, false, not, ◌&&◌, if◌then◌else◌, ◌<◌, ◌≤◌, List, [], ◌∷◌, ◌++◌, length, take, Option, Some, None, IsSome, option_to_list, Result, Ok, Err}
 use Rattle.mq_packet.specs.declared.message.Message.{Message}
 use Rattle.mq_packet.specs.declared.packet.Packet.{Packet}
@@ -20,8 +20,8 @@ use Rattle.mq_end.specs.Client.{client_gets}
 use Rattle.mq_end.specs.Server.{server_gets}
 use Rattle.mq_end.specs.State.{EndState, PutsOut, is_level, client_faulted, server_faulted}
 
--- How it ends, where s is what came of the whole packets, rest the bytes behind them, r all that comes of it, and held what the
--- end then holds.
+-- How it ends. `s` is the reply to the complete packets, `rest` the bytes behind them, `r` the
+-- whole reply, and `held` the bytes that the end then holds.
 pub data Ending (limit : Bounds) (faulted : DecodeFault → End → Reply) (s : Reply) (rest : List ℕ) (r : Reply) (held : List ℕ) : Type 0 where
   -- the rest is less than a whole packet, and is held
   Waits : Pending limit rest → s.close ≡ None → r ≡ s → held ≡ rest → Ending limit faulted s rest r held
@@ -32,8 +32,8 @@ pub data Ending (limit : Bounds) (faulted : DecodeFault → End → Reply) (s : 
   -- memory ran out before all was taken in
   Starves : 0 < length rest → s.close ≡ None → r ≡ followed s (closes reasons.Memory s.end) → held ≡ [] → Ending limit faulted s rest r held
 
--- The bytes held before and the new ones are whole packets, which come one after another, up to the first at which the end closes,
--- and a rest.
+-- The bytes held before and the new ones are whole packets, which come one after another, up to the
+-- first at which the end closes, and a rest.
 pub record Receives (limit : Bounds) (gets : Packet → End → Reply) (faulted : DecodeFault → End → Reply) (b : List ℕ) (e : End) (r : Reply) (held : List ℕ) : Type 0 where
   pub packets : List Packet
   pub front : List ℕ
@@ -42,8 +42,8 @@ pub record Receives (limit : Bounds) (gets : Packet → End → Reply) (faulted 
   pub parts : b ≡ front ++ rest
   pub ending : Ending limit faulted (one_by_one gets packets e) rest r held
 
--- What the user of an end sees of a reply: the end after it, what it puts out, what it tells, the identifiers whose message is
--- acknowledged, and why it closed, where it did.
+-- A reply as the user of an end sees it: the end after it, its output, its events, the acknowledged
+-- identifiers, and the reason if it closed.
 pub record Shows (r : Reply) (old new : EndState) (happenings : List Happening) (acknowledged : List ℕ) (closed : Option CloseReason) : Type 0 where
   pub after : new.end ≡ r.end
   pub out : PutsOut r.out old.output new.output
@@ -63,36 +63,38 @@ ServerReceives piece old new happenings acknowledged closed = (r : Reply)
     × Receives old.limit server_gets server_faulted (old.held ++ piece) old.end r new.held
     × Shows r old new happenings acknowledged closed
 
--- The server's moment, of the last whole packet, after bytes that came now: b are those held before, and they. Less than a whole
--- packet says nothing, and an end that closes keeps its moment (3.1.2.10).
+-- The server's time of the last complete packet after bytes that arrive now; `b` is these bytes
+-- behind those held before. Less than a complete packet changes nothing, and an end that closes
+-- keeps its time (3.1.2.10).
 pub record HearsAt (now : ℕ) (b : List ℕ) (closed : Option CloseReason) (old new : EndState) : Type 0 where
   pub waits : Pending old.limit b → new.last_activity ≡ old.last_activity
   pub closes : IsSome closed → new.last_activity ≡ old.last_activity
   pub hears : closed ≡ None → ¬ Pending old.limit b → new.last_activity ≡ now
 
--- the moment of an end of this role, where a whole packet came now or none did (3.1.2.10)
+-- The time of last activity of an end of this role, after a complete packet or none (3.1.2.10).
 abbrev pub heard_as : Role → Bool → ℕ → ℕ → ℕ
 heard_as Client came now last = last
 heard_as Server came now last = if came then now else last
 
--- the moment of an end of this role after bytes that came now: the client's is not that of what it hears (3.1.2.10)
+-- The time of last activity of an end of this role after bytes that arrive now; the client's does
+-- not depend on received packets (3.1.2.10).
 abbrev pub HeardAs : Role → ℕ → List ℕ → Option CloseReason → EndState → EndState → Type 0
 HeardAs Client now b closed old new = new.last_activity ≡ old.last_activity
 HeardAs Server now b closed old new = HearsAt now b closed old new
 
--- ---- packets that are taken in, where memory may run out
+-- ---- Packets while an allocation may fail
 
--- what a closed end holds of a packet that is not whole: nothing
+-- A closed end holds no bytes.
 abbrev pub held_after : Option CloseReason → List ℕ → List ℕ
 held_after None held = held
 held_after (Some reason) held = []
 
--- A reply that tells nothing is made: the end after it, and its packets put out.
+-- A reply without events is made: the end after it, and its packets are sent.
 pub record Acts (r : Reply) (old new : EndState) : Type 0 where
   pub out : PutsOut r.out old.output new.output
   pub state : new ≡ record old { end = r.end; output = new.output; held = held_after r.close old.held }
 
--- A reply is made: the end after it, its packets put out; and the outcome says what it tells.
+-- A reply is made: the end after it, its packets are sent, and the outcome has its event.
 pub record Gives (r : Reply) (o : PacketOutcome) (old new : EndState) : Type 0 where
   pub out : PutsOut r.out old.output new.output
   pub state : new ≡ record old { end = r.end; output = new.output; held = held_after r.close old.held }
@@ -100,7 +102,8 @@ pub record Gives (r : Reply) (o : PacketOutcome) (old new : EndState) : Type 0 w
   pub acknowledged : option_to_list o.acknowledged ≡ r.freed
   pub close : o.closed ≡ r.close
 
--- A reply is made: the end after it, its packets put out, and what it tells behind what was told before.
+-- A reply is made: the end after it, its packets are sent, and its events come behind the earlier
+-- ones.
 pub record Makes (r : Reply) (old new : EndState) (told now : ProgressBuilder) : Type 0 where
   pub out : PutsOut r.out old.output new.output
   pub state : new ≡ record old { end = r.end; output = new.output; held = held_after r.close old.held }
@@ -113,14 +116,14 @@ pub record Stays (old new : EndState) (told now : ProgressBuilder) : Type 0 wher
   pub happenings : now.happenings.items ≡ told.happenings.items
   pub acknowledged : now.acknowledged.items ≡ told.acknowledged.items
 
--- What comes of packets that are taken in one after another: all are, or those up to one at which the end closes, or those before
--- one for which memory runs out.
+-- The reaction to packets, one after another: to all of them, to those up to one at which the end
+-- closes, or to those before one for which an allocation fails.
 pub data Taken (gets : Packet → End → Reply) (ps : List Packet) (e : End) (r : Reply) : Type 0 where
   TakesAll : (one_by_one gets ps e).close ≡ None → r ≡ one_by_one gets ps e → Taken gets ps e r
   Closed : (first rest : List Packet) (reason : CloseReason) → ps ≡ first ++ rest → (one_by_one gets first e).close ≡ Some reason → r ≡ one_by_one gets first e → Taken gets ps e r
   Starved : (first rest : List Packet) (p : Packet) → ps ≡ first ++ p ∷ rest → (one_by_one gets first e).close ≡ None → r ≡ followed (one_by_one gets first e) (closes reasons.Memory (one_by_one gets first e).end) → Taken gets ps e r
 
--- what an end of this role does with a packet, and with bytes that are no packet
+-- The reaction of an end of this role to a packet, and to a malformed one.
 abbrev pub gets_as : Role → Packet → End → Reply
 gets_as Client p e = client_gets p e
 gets_as Server p e = server_gets p e
@@ -129,16 +132,16 @@ abbrev pub faulted_as : Role → DecodeFault → End → Reply
 faulted_as Client fault e = client_faulted fault e
 faulted_as Server fault e = server_faulted fault e
 
--- whether bytes that are no packet are answered: a CONNECT of another level, where one is waited for (3.1.2.2)
+-- Whether a malformed packet is answered: a first CONNECT of another protocol level is (3.1.2.2).
 abbrev pub is_answered : Role → DecodeFault → End → Bool
 is_answered Client fault e = false
 is_answered Server fault e = not (is_up e.state) && is_level fault.kind
 
--- what comes of bytes that are no packet, where memory may run out for an answer
+-- The reaction to a malformed packet if an allocation for the response may fail.
 abbrev pub IsBreak : Role → DecodeFault → End → Reply → Type 0
 IsBreak role fault e r = (r ≡ faulted_as role fault e) ⊎ (r ≡ closes reasons.Memory e)
 
--- Bytes came to an end with a connection, and this is what it did with them.
+-- The reaction of an end with a connection to received bytes.
 pub record Hears (role : Role) (now : ℕ) (piece : List ℕ) (old new : EndState) (told after : ProgressBuilder) (closed : Option CloseReason) : Type 0 where
   pub reply : Reply
   pub receives : Receives old.limit (gets_as role) (faulted_as role) (old.held ++ piece) old.end reply new.held
@@ -149,8 +152,9 @@ pub record Hears (role : Role) (now : ℕ) (piece : List ℕ) (old new : EndStat
   pub acknowledged : after.acknowledged.items ≡ told.acknowledged.items ++ reply.freed
   pub close : closed ≡ reply.close
 
--- The next whole packet of what is held and a piece came to an end of this role: it took so many bytes of the piece, this came of it, or
--- there was no memory for it and the end closed; and why the end closed, where it did. Nothing is held behind it.
+-- The reaction to the next complete packet of the held bytes and a piece: the number of bytes used
+-- of the piece, and the reply; or an allocation failed and the end closed. Nothing is held behind
+-- it.
 pub record TakesNext (role : Role) (piece : List ℕ) (size : ℕ) (closed : Option CloseReason) (old new : EndState) (told now : ProgressBuilder) : Type 0 where
   pub within : size ≤ length piece
   pub packet : Packet
@@ -165,17 +169,20 @@ abbrev pub ReceivesAs : Role → List ℕ → EndState → EndState → List Hap
 ReceivesAs Client piece old new happenings acknowledged closed = ClientReceives piece old new happenings acknowledged closed
 ReceivesAs Server piece old new happenings acknowledged closed = ServerReceives piece old new happenings acknowledged closed
 
--- the moment of a server's last whole packet, where one came now and the end did not close (3.1.2.10)
+-- The time of a server's last complete packet after one that arrives now, unless the end closed
+-- (3.1.2.10).
 abbrev pub heard_one : Option CloseReason → ℕ → ℕ → ℕ
 heard_one None now last = now
 heard_one (Some reason) now last = last
 
--- the moment of an end of this role after a whole packet that came now: the client's is not that of what it hears (3.1.2.10)
+-- The time of last activity of an end of this role after a packet that arrives now; the client's
+-- does not depend on it (3.1.2.10).
 abbrev pub heard_one_as : Role → Option CloseReason → ℕ → ℕ → ℕ
 heard_one_as Client closed now last = last
 heard_one_as Server closed now last = heard_one closed now last
 
--- A whole packet came to an end of this role with a connection: this came of it, or there was no memory for it and the end closed.
+-- A whole packet came to an end of this role with a connection: this came of it, or there was no
+-- memory for it and the end closed.
 pub record TakesAs (role : Role) (now : ℕ) (p : Packet) (old new : EndState) (happenings : List Happening) (acknowledged : List ℕ) (closed : Option CloseReason) : Type 0 where
   pub reply : Reply
   pub does : (reply ≡ gets_as role p old.end) ⊎ (reply ≡ closes reasons.Memory old.end)
@@ -190,8 +197,8 @@ ClientTakes now p old new happenings acknowledged closed = TakesAs Client now p 
 abbrev pub TakesOne : ℕ → Packet → EndState → EndState → List Happening → List ℕ → Option CloseReason → Type 0
 TakesOne now p old new happenings acknowledged closed = TakesAs Server now p old new happenings acknowledged closed
 
--- A whole packet came to a server end with a connection, and this came of it: what is put out, all of the new state, and what the
--- outcome tells.
+-- The reaction of a server end with a connection to a complete packet: its output, its whole new
+-- state, and the outcome.
 pub record TakesPacket (now : ℕ) (p : Packet) (o : PacketOutcome) (old new : EndState) : Type 0 where
   pub out : PutsOut (server_gets p old.end).out old.output new.output
   pub state : new ≡ record old {
@@ -208,13 +215,13 @@ pub record TakesPacket (now : ℕ) (p : Packet) (o : PacketOutcome) (old new : E
 abbrev pub no_outcome : PacketOutcome
 no_outcome = record { happening = None; acknowledged = None; closed = None }
 
--- what is told of a message, by what came of its PUBLISH (4.3)
+-- The outcome with the message, for each outcome of a PUBLISH (4.3).
 abbrev pub outcome_of : PublishOutcome → Message → PacketOutcome
 outcome_of handings.HandedOn m = record { happening = Some (happens.Handed m); acknowledged = None; closed = None }
 outcome_of handings.Nothing m = no_outcome
 outcome_of (handings.Closed reason) m = record { happening = None; acknowledged = None; closed = Some reason }
 
--- the same where memory may run out
+-- The same if an allocation may fail.
 abbrev pub told_of : {E : Type 0} → Message → Result PublishOutcome E → Result PacketOutcome E
 told_of m (Ok handing) = Ok (outcome_of handing m)
 told_of m (Err e) = Err e

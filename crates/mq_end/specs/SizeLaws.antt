@@ -1,4 +1,4 @@
--- The remaining length of a packet that a user has an end put out is the length of its fields (2.2.3).
+-- The remaining length of a packet that a call sends is the length of its fields (2.2.3).
 use Rattle.std.specs.Prelude.{◌≡◌, ℕ, true, List, length, Option}
 use Rattle.mq_packet.specs.declared.message.Message.{Message}
 use Rattle.mq_packet.specs.declared.publish.Delivery.{Delivery}

@@ -1,4 +1,4 @@
--- The remaining length of the packets that a user has an end put out (2.2.3).
+-- The remaining length of packets that calls send (2.2.3).
 use Rattle.std.specs.Prelude.{ℕ, ◌+◌, List, [], ◌∷◌, length}
 use Rattle.mq_topic.specs.declared.qos.Qos.{Qos}
 use Rattle.mq_topic.specs.declared.qos.Qos.TheVariants.{Q0, Q1, Q2}

@@ -1,4 +1,4 @@
--- Items that come one after another, where a single one needs no memory of its own.
+-- Lists that store a single item without allocation.
 use Rattle.std.specs.Prelude.{ℕ, Bool, true, false, if◌then◌else◌, ◌==◌, ◌-◌, List}
 
 -- the items, and how many more there is room for without more memory
@@ -6,7 +6,8 @@ pub record Gathering (T : Type 0) : Type 0 where
   pub items : List T
   pub room : ℕ
 
--- how many more there is room for, where one stands alone or n stand in a vector of this capacity
+-- The number of items that can be added, if one is stored alone or `n` in a vector of this
+-- capacity.
 abbrev pub room_of : Bool → ℕ → ℕ → ℕ
 room_of true n capacity = 0
 room_of false n capacity = if n == 0 then 1 else capacity - n

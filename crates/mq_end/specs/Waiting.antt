@@ -1,4 +1,4 @@
--- The bytes of an end that wait to be written.
+-- Pending output.
 use Rattle.std.specs.Prelude.{ℕ, List}
 
 -- The bytes, the oldest first; and how many may wait in all without more memory, as reserved.

@@ -21,14 +21,14 @@ impl<T> Model for BoxedList<T> {
 }
 
 impl<T> BoxedList<T> {
-    /// The list of these items. It takes no memory.
+    /// Wraps a vector.
     pub fn from_vec(items: Vec<T>) -> BoxedList<T>
         ensures { result ≡ items.items }
     {
         BoxedList { items }
     }
 
-    /// The items. It takes no memory.
+    /// Consumes the list and returns the vector.
     pub fn into_vec(self) -> Vec<T>
         ensures { result.items ≡ self }
     {

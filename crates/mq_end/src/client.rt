@@ -33,8 +33,12 @@ use mq_topic::TopicFilter;
 use std::alloc::{AllocError, Global};
 use std::marker::Model;
 
-/// The client end of connections, one after another, with its session (3.1.2.4). Bytes go in, and happenings and bytes
-/// come out; it knows no socket and no clock. Moments are milliseconds.
+/// The client's end of its connections, one after another, with its session (3.1.2.4). It consumes
+/// and produces bytes and knows neither sockets nor clocks; all times are in milliseconds.
+/// Order of calls: [`connect`](ClientEnd::connect) for each new connection,
+/// [`receive`](ClientEnd::receive) for received bytes, [`tick`](ClientEnd::tick) regularly,
+/// [`output`](ClientEnd::output) and [`take_output`](ClientEnd::take_output) after each call, and
+/// [`dropped`](ClientEnd::dropped) when the connection is lost.
 #[derive(Debug, Drop)]
 pub struct ClientEnd {
     config: ClientConfig,
@@ -56,7 +60,7 @@ impl Model for ClientEnd {
 }
 
 impl ClientEnd {
-    /// A client without a session and without a connection. It takes no memory.
+    /// A client without a session or a connection.
     pub fn new(alloc: Global, config: ClientConfig) -> ClientEnd
         requires capacity { 0 < config.capacity }
         requires window { IfSome config.window (λ window. 0 < window) }
@@ -72,9 +76,10 @@ impl ClientEnd {
         ClientEnd { config, link }
     }
 
-    /// A client without a connection that goes on with a session of before, its claimed identifiers freed (3.1.2.4, 4.1).
-    /// It counts as never established, so the server may have no session present. The session keeps its capacity, which
-    /// stands in place of the configured one. `None` where a message of the session is over the limit. It takes no memory.
+    /// Continues a stored session, without a connection; the identifiers of its SUBSCRIBE and
+    /// UNSUBSCRIBE packets are free (3.1.2.4, 4.1). The session counts as not established, so the
+    /// server may have none. The session keeps its capacity, which replaces the configured one.
+    /// Returns `None` if a message of the session exceeds the size limit.
     pub fn with_session(alloc: Global, config: ClientConfig, session: Session) -> Option<ClientEnd>
         requires { IfSome config.window (λ window. 0 < window) }
         ensures there { IsSome result ↔ FitsWithin config.limits.most session }
@@ -95,10 +100,11 @@ impl ClientEnd {
         Some(ClientEnd { config, link })
     }
 
-    /// A client without a connection that goes on with a session that was saved, its claimed identifiers freed (3.1.2.4, 4.1). It is
-    /// established where the saved one was. The session keeps its capacity, which stands in place of the configured one. Returns
-    /// `AnotherClient` where the session was saved for another client identifier, and else `TooLarge` where a message of it is over the
-    /// limit. It takes no memory.
+    /// Continues a saved session, without a connection; the identifiers of its SUBSCRIBE and
+    /// UNSUBSCRIBE packets are free (3.1.2.4, 4.1). It is established if the saved one was. The
+    /// session keeps its capacity, which replaces the configured one. Errors: `AnotherClient` if it
+    /// was saved for another client identifier, `TooLarge` if one of its messages exceeds the size
+    /// limit.
     pub fn with_saved(
         alloc: Global,
         config: ClientConfig,
@@ -137,9 +143,9 @@ impl ClientEnd {
         Ok(ClientEnd { config, link })
     }
 
-    /// Appends the saved form of the session, version 2 (4.1): the client identifier, whether the session is established, and what it sends
-    /// and receives and is not through with. The identifiers in use by SUBSCRIBE and UNSUBSCRIBE are not saved. Returns an error where
-    /// memory runs out, and then `out` is unchanged.
+    /// Appends the saved form of the session, version 2 (4.1): the client identifier, whether the
+    /// session is established, and the unfinished messages in both directions. Identifiers of
+    /// SUBSCRIBE and UNSUBSCRIBE are not saved. On `Err`, `out` is unchanged.
     pub fn save(&self, out: &mut Vec<u8>) -> Result<(), AllocError>
         ensures ok { OnOk result (out.new.items ≡ out.old.items ++ saved_form_two self.now.config.id self.now.link.end.known (kept_session self.now.link)) }
         ensures session { OnOk result (AreWithin 268435455 self.now.link.end.book.entries → IsSession (kept_session self.now.link)) }
@@ -163,9 +169,9 @@ impl ClientEnd {
         })
     }
 
-    /// Begins a connection: CONNECT is put out (3.1). A connection that is open is dropped first, and what waits to be
-    /// written of an earlier one is gone. With clean session the session is discarded (3.1.2.4). Fails if memory runs
-    /// out, and then nothing changes.
+    /// Begins a connection at time `now`: sends CONNECT (3.1). Drops an open connection, and
+    /// discards pending output of an earlier one. `clean` discards the session (3.1.2.4). On `Err`
+    /// nothing changes.
     pub fn connect(&mut self, now: u64, clean: bool) -> Result<(), AllocError>
         ensures end { OnOk result (self.new.link.end ≡ (connects (connect_of self.old.config clean) self.old.link.end).end) }
         ensures output { OnOk result (PutsOut (packets.Connect (connect_of self.old.config clean) ∷ []) [] self.new.link.output) }
@@ -185,8 +191,9 @@ impl ClientEnd {
         Ok(())
     }
 
-    /// Bytes come from the server, at this moment. Without a connection they are ignored. The whole packets among them
-    /// come one after another, up to one at which the end closes; where memory runs out it closes.
+    /// Processes bytes from the server, received at time `now`. Ignores them without a connection.
+    /// Processes each complete packet in turn, up to one at which the end closes. Closes the end if
+    /// an allocation fails.
     pub fn receive(&mut self, now: u64, piece: &[u8]) -> Progress
         ensures open { is_live self.old.link.end.state ≡ true → ClientReceives piece.now self.old.link self.new.link
             result.happenings result.acknowledged result.closed }
@@ -202,8 +209,9 @@ impl ClientEnd {
         self.link.receive(Role::Client, now, piece)
     }
 
-    /// A whole packet that lies in bytes comes from the server, at this moment: `receive` is the decoder, and then this for each packet.
-    /// Without a connection it is ignored; where memory runs out, for a copy of its own or for what comes of it, the end closes.
+    /// Processes a complete packet that is borrowed from a buffer, received at time `now`;
+    /// `receive` decodes packets and does this with each. Ignores it without a connection. Closes
+    /// the end if an allocation fails.
     pub fn on_view(&mut self, now: u64, view: &PacketView<'_>) -> Progress
         ensures open { is_live self.old.link.end.state ≡ true → ClientTakes now (packet_of view.now) self.old.link self.new.link
             result.happenings result.acknowledged result.closed }
@@ -215,9 +223,9 @@ impl ClientEnd {
         self.link.on_view(Role::Client, now, view)
     }
 
-    /// Publishes a message, and answers its packet identifier, where it has one (2.3.1). While the end is not up, one of
-    /// quality of service 1 or 2 is kept, and goes out when the end comes up. Fails with the first refusal that stands, and
-    /// then nothing changes.
+    /// Publishes a message. Returns its packet identifier if it has QoS 1 or 2 (2.3.1). Without a
+    /// connection, a QoS 1 or 2 message is stored, and sent once the client has connected. Errors:
+    /// `NotConnected` for QoS 0, `TooLarge`, `Full`, `Memory`, in this order; then nothing changes.
     pub fn publish(&mut self, message: Message) -> Result<Option<PacketId>, PublishRefusal>
         ensures refused { IfSome (publish_refusal self.old.link.limit.most self.old.link.capacity message self.old.link.end)
             (λ why. result ≡ Err why) }
@@ -230,8 +238,9 @@ impl ClientEnd {
         self.link.publish(message)
     }
 
-    /// Subscribes, and answers the packet identifier of the SUBSCRIBE, which is in use until its SUBACK (3.8). Fails with
-    /// the first refusal that stands, and then nothing changes.
+    /// Subscribes. Returns the packet identifier of the SUBSCRIBE, which is in use until its SUBACK
+    /// arrives (3.8). Errors: `NotConnected`, `TooLarge`, `Full`, `Memory`, in this order; then
+    /// nothing changes.
     pub fn subscribe(&mut self, requests: NonEmpty<Request>) -> Result<PacketId, PublishRefusal>
         ensures refused { IfSome (subscribe_refusal self.old.link.limit.most self.old.link.capacity requests self.old.link.end)
             (λ why. result ≡ Err why) }
@@ -244,8 +253,9 @@ impl ClientEnd {
         self.link.subscribe(requests)
     }
 
-    /// Gives subscriptions up, and answers the packet identifier of the UNSUBSCRIBE, which is in use until its UNSUBACK
-    /// (3.10). Fails with the first refusal that stands, and then nothing changes.
+    /// Unsubscribes. Returns the packet identifier of the UNSUBSCRIBE, which is in use until its
+    /// UNSUBACK arrives (3.10). Errors: `NotConnected`, `TooLarge`, `Full`, `Memory`, in this
+    /// order; then nothing changes.
     pub fn unsubscribe(
         &mut self,
         filters: NonEmpty<TopicFilter>,
@@ -261,9 +271,9 @@ impl ClientEnd {
         self.link.unsubscribe(filters)
     }
 
-    /// Leaves: DISCONNECT is put out, and the end closes (3.14). The session stays but for the identifiers of SUBSCRIBE
-    /// and UNSUBSCRIBE; after clean session 1 it is gone (3.1.2.4). Fails if the end is not up or memory runs out, and
-    /// then nothing changes.
+    /// Sends DISCONNECT and closes (3.14). The session stays, without the identifiers of SUBSCRIBE
+    /// and UNSUBSCRIBE; after clean session 1 it is discarded (3.1.2.4). Errors: `NotConnected`,
+    /// `Memory`; then nothing changes.
     pub fn disconnect(&mut self) -> Result<(), PublishRefusal>
         ensures refused { IfSome (leave_refusal self.old.link.end) (λ why. result ≡ Err why) }
         ensures memory { IfNone (leave_refusal self.old.link.end) (IfErr result (λ why. why ≡ PublishRefusal.Memory)) }
@@ -274,9 +284,10 @@ impl ClientEnd {
         self.link.disconnect()
     }
 
-    /// It is this moment: where the end is up, and a keep-alive has gone by since its CONNECT or its last PINGREQ, it puts
-    /// out PINGREQ (3.1.2.10, 3.12). It never closes, so that the answer is `None`. Fails if memory runs out for that, and
-    /// then nothing changes.
+    /// Call this regularly with the current time. Sends a PINGREQ if the keep-alive interval has
+    /// elapsed since CONNECT or the last PINGREQ (3.1.2.10, 3.12). Never closes, so it returns
+    /// `None`. On `Err` nothing changes. Whether a [`Pong`](Happening::Pong) follows in time is for
+    /// the caller to watch.
     pub fn tick(&mut self, now: u64) -> Result<Option<CloseReason>, AllocError>
         ensures ok { OnOk result (Ticks now self.old.link self.new.link) }
         ensures memory { OnErr result (pings self.old.link.last_activity now self.old.link.end ≡ true) }
@@ -288,7 +299,7 @@ impl ClientEnd {
         Ok(None)
     }
 
-    /// The connection is lost (4.2): what waits to be written is gone. It takes no memory.
+    /// Reports that the connection is lost (4.2). Discards pending output.
     pub fn dropped(&mut self)
         ensures end { self.new.link.end ≡ over self.old.link.end }
         ensures output { self.new.link.output ≡ [] }
@@ -302,14 +313,14 @@ impl ClientEnd {
         self.link.drop_connection();
     }
 
-    /// The bytes that wait to be written.
+    /// The bytes that must be written to the connection.
     pub fn output(&self) -> &[u8]
         ensures { result.now ≡ self.now.link.output }
     {
         self.link.output.as_slice()
     }
 
-    /// So many bytes were written. It takes no memory.
+    /// Reports that the first `count` bytes of the output were written.
     pub fn take_output(&mut self, count: usize)
         requires { count ≤ length self.old.link.output }
         ensures { self.new ≡ record self.old {
@@ -322,7 +333,7 @@ impl ClientEnd {
         self.link.output.take(count);
     }
 
-    /// All bytes that wait to be written, which it gives away. It takes no memory.
+    /// Removes and returns all pending output.
     pub fn take_all_output(&mut self) -> ByteQueue
         ensures bytes { result ≡ self.old.link.output }
         ensures left { self.new ≡ record self.old { link = record self.old.link { output = []; room = no_bytes self.old.link.room } } }
@@ -330,7 +341,7 @@ impl ClientEnd {
         self.link.take_all_output()
     }
 
-    /// Exchanges the bytes that wait to be written for others. It takes no memory.
+    /// Exchanges the pending output for another queue.
     pub fn swap_output(&mut self, other: &mut ByteQueue)
         ensures end { self.new ≡ record self.old { link = record self.old.link { output = other.old; room = no_bytes self.old.link.room } } }
         ensures other { other.new ≡ self.old.link.output }

@@ -1,4 +1,4 @@
-//! What both ends have: a session, how far the connection is, and the connection's bytes.
+//! The state that both ends share: session, connection and pending bytes.
 
 ghost use Rattle.std.specs.Prelude.{◌≡◌, ◌+◌, ◌<◌, ◌≤◌, ◌^◌, ◌++◌, ◌∷◌, [], List, ℕ, length, true, false, IsOk, OnOk, OnErr};
 ghost use Rattle.mq_packet.specs.Encoding.{Encodes, fields};
@@ -79,7 +79,7 @@ impl Endpoint {
         Endpoint::with_session(alloc, limits, window, Session::new(alloc, capacity), false)
     }
 
-    /// The session is discarded (3.1.2.4): it is as new, but for its room, and not known.
+    /// Discards the session (3.1.2.4): it is new, apart from its room, and not established.
     fn forget(&mut self)
         ensures { self.new ≡ record self.old { end = record self.old.end { book = blank_book; received = none_received; last = 0; known = false } } }
     {
@@ -87,7 +87,7 @@ impl Endpoint {
         self.known = false;
     }
 
-    /// The connection is over (3.1.2.4). What waits to be written stays.
+    /// Ends the connection (3.1.2.4). Pending output stays.
     pub(crate) fn end_connection(&mut self)
         ensures { self.new ≡ record self.old { end = over self.old.end; held = [] } }
     {
@@ -120,7 +120,7 @@ impl Endpoint {
         self.clean = clean;
     }
 
-    /// The end is up, and all that it holds is sent (4.4).
+    /// Marks the end as connected and all of its messages as sent (4.4).
     pub(crate) fn connect_end(&mut self)
         ensures { self.new ≡ record self.old { end = record self.old.end { state = states.Connected; known = true; book = all_sent self.old.end.book } } }
     {
@@ -129,7 +129,7 @@ impl Endpoint {
         self.state = State::Connected;
     }
 
-    /// The connection is lost, and what waits to be written is gone (4.2).
+    /// Ends a lost connection and discards pending output (4.2).
     pub(crate) fn drop_connection(&mut self)
         ensures { self.new ≡ record self.old { end = over self.old.end; held = []; output = [] } }
     {
@@ -137,7 +137,7 @@ impl Endpoint {
         self.output.clear();
     }
 
-    /// A connection is opened, at this moment; one that is open is lost first (4.2).
+    /// Opens a connection at time `now`; drops an open one first (4.2).
     pub(crate) fn open_connection(&mut self, now: u64)
         ensures { self.new ≡ record self.old { end = (opens self.old.end).end; held = []; output = []; last_activity = now } }
     {
@@ -146,7 +146,7 @@ impl Endpoint {
         self.last_activity = now;
     }
 
-    /// A client's connection begins, with this clean session and keep-alive, at this moment; one that is open is over
+    /// Begins a client's connection with these CONNECT fields at time `now`; ends an open one
     /// first.
     pub(crate) fn begin(&mut self, clean: bool, keep_alive: u16, now: u64)
         ensures { self.new ≡ record self.old {
@@ -162,7 +162,7 @@ impl Endpoint {
         self.last_activity = now;
     }
 
-    /// All bytes that wait to be written, which it gives away.
+    /// Removes and returns all pending output.
     pub(crate) fn take_all_output(&mut self) -> ByteQueue
         ensures bytes { result ≡ self.old.output }
         ensures left { self.new ≡ record self.old { output = []; room = no_bytes self.old.room } }
@@ -171,7 +171,7 @@ impl Endpoint {
         ByteQueue { output }
     }
 
-    /// Exchanges the bytes that wait to be written for others, behind which there is no room.
+    /// Exchanges the pending output for another queue, which has no room.
     pub(crate) fn swap_output(&mut self, other: &mut ByteQueue)
         ensures end { self.new ≡ record self.old { output = other.old; room = no_bytes self.old.room } }
         ensures other { other.new ≡ self.old.output }
@@ -180,7 +180,7 @@ impl Endpoint {
         self.output.forget_room();
     }
 
-    /// A packet is put out. Fails if memory runs out, which it doesn't within the room, and then nothing changes.
+    /// Sends a packet. On `Err` nothing changes. Can't fail within the room.
     pub(crate) fn write(&mut self, packet: &Packet) -> Result<(), AllocError>
         ensures ok { OnOk result ((b : List ℕ) × Encodes packet.now b × (self.new ≡ record self.old { output = self.old.output ++ b })) }
         ensures within { length (fields packet.now) < 2 ^ 28

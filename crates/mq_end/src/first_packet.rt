@@ -1,4 +1,4 @@
-//! The first packet of a connection (3.1, 3.2), and what is sent again when an end comes up (4.4).
+//! The first packet of a connection (3.1, 3.2), and the retransmissions that follow it (4.4).
 
 ghost use Rattle.std.specs.Prelude.{◌≡◌, ◌∷◌, [], IsOk, IfOk, OnOk, OnErr};
 ghost use Rattle.mq_packet.specs.declared.packet.Packet.TheVariants as packets;
@@ -19,7 +19,7 @@ use crate::reason::CloseReason;
 use mq_packet::{ConnAck, Connect, Packet, RefusalCode};
 use std::alloc::AllocError;
 
-/// What of a CONNECT says how the server answers it.
+/// The fields of a CONNECT that determine the response.
 #[derive(Clone, Copy)]
 struct Terms {
     clean: bool,
@@ -28,7 +28,7 @@ struct Terms {
     anonymous: bool,
 }
 
-// The answer that a packet is, if it is CONNACK (3.2).
+// The CONNACK in a packet (3.2).
 fn connack_in(packet: Packet) -> Option<ConnAck>
     ensures { result ≡ connack_in packet }
 {
@@ -59,7 +59,7 @@ fn terms_of(connect: &Connect) -> Terms
 }
 
 impl Endpoint {
-    /// The client is up (4.4).
+    /// Marks the client as connected (4.4).
     fn come_up(&mut self, session_present: bool) -> Result<PacketOutcome, AllocError>
         ensures ok { IfOk result (λ outcome. Gives (comes_up [] session_present self.old.end) outcome self.old self.new) }
         ensures err { OnErr result (self.new ≡ self.old) }
@@ -69,7 +69,7 @@ impl Endpoint {
         Ok(PacketOutcome::tells(Happening::Up { session_present }))
     }
 
-    /// CONNACK comes to a client that waits for it (3.2).
+    /// Processes the CONNACK that the client waits for (3.2).
     fn take_connack(&mut self, answer: ConnAck) -> Result<PacketOutcome, AllocError>
         ensures ok { IfOk result (λ outcome. Gives (connack_gets answer self.old.end) outcome self.old self.new) }
         ensures err { OnErr result (self.new ≡ self.old) }
@@ -89,7 +89,7 @@ impl Endpoint {
         self.come_up(session_present)
     }
 
-    /// The first packet comes to the client (3.2).
+    /// Processes the first packet at the client (3.2).
     pub(crate) fn open_client(&mut self, packet: Packet) -> Result<PacketOutcome, AllocError>
         ensures ok { IfOk result (λ outcome. Gives (client_open_gets packet self.old.end) outcome self.old self.new) }
         ensures err { OnErr result (self.new ≡ self.old) }
@@ -111,8 +111,8 @@ impl Endpoint {
         Ok(self.close(CloseReason::Refused(code)))
     }
 
-    /// Puts out what answers a CONNECT that is accepted: CONNACK, and what is sent again (3.2, 4.4). Fails if memory runs
-    /// out, and then nothing changes.
+    /// Sends the response to an accepted CONNECT: CONNACK, and all retransmissions (3.2, 4.4). On
+    /// `Err` nothing changes.
     fn write_accepted(&mut self, clean: bool, session_present: bool) -> Result<(), AllocError>
         ensures ok { OnOk result (PutsOut (packets.ConnAck (connacks.Accepted session_present)
             ∷ resent (renewed clean self.old.end).book) self.old.output self.new.output) }
@@ -152,7 +152,7 @@ impl Endpoint {
         Ok(PacketOutcome::tells(Happening::Up { session_present }))
     }
 
-    /// CONNECT comes to a server that waits for it (3.1.4).
+    /// Processes the CONNECT that the server waits for (3.1.4).
     fn take_connect(&mut self, terms: Terms) -> Result<PacketOutcome, AllocError>
         ensures ok { IfOk result (λ outcome. Gives (terms_get terms self.old.end) outcome self.old self.new) }
         ensures within { AreEncodable (terms_get terms self.old.end).out → FitsRoom (terms_get terms self.old.end).out self.old
@@ -167,7 +167,7 @@ impl Endpoint {
         self.accept_connect(terms, session_present)
     }
 
-    /// The first packet comes to the server (3.1).
+    /// Processes the first packet at the server (3.1).
     pub(crate) fn open_server(&mut self, packet: Packet) -> Result<PacketOutcome, AllocError>
         ensures ok { IfOk result (λ outcome. Gives (server_open_gets packet self.old.end) outcome self.old self.new) }
         ensures within { AreEncodable (server_open_gets packet self.old.end).out

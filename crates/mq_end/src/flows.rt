@@ -27,7 +27,7 @@ fn forget(receiver: &mut Receiver, id: PacketId)
 }
 
 impl Endpoint {
-    /// A message of quality of service 1: it is handed on, and PUBACK answers (4.3.2).
+    /// Processes a QoS 1 message: deliver it and send PUBACK (4.3.2).
     fn take_at_least_once(&mut self, delivery: Delivery) -> Result<PublishOutcome, AllocError>
         ensures ok { IfOk result (λ handing. (m : Message) → Gives (publish_gets Q1 (Some delivery) m self.old.end) (outcome_of handing m) self.old self.new) }
         ensures within { (m : Message) → FitsRoom (publish_gets Q1 (Some delivery) m self.old.end).out self.old → IsOk result }
@@ -37,8 +37,8 @@ impl Endpoint {
         Ok(PublishOutcome::HandedOn)
     }
 
-    /// A message of quality of service 2: its identifier is stored, and PUBREC answers; it is handed on where the
-    /// identifier was not stored before (4.3.3).
+    /// Processes a QoS 2 message: store its identifier and send PUBREC; deliver it if the
+    /// identifier is new (4.3.3).
     fn take_exactly_once(&mut self, delivery: Delivery) -> Result<PublishOutcome, AllocError>
         ensures ok { IfOk result (λ handing. (m : Message) → Gives (stores delivery.id m self.old.end) (outcome_of handing m) self.old self.new) }
         ensures err { OnErr result (self.new ≡ self.old) }
@@ -55,7 +55,7 @@ impl Endpoint {
         }
     }
 
-    /// A message of quality of service 2: where it doesn't fit the window the end closes (4.3.3, 4.8).
+    /// Processes a QoS 2 message; closes the end if it exceeds the receive window (4.3.3, 4.8).
     fn take_within_window(&mut self, delivery: Delivery) -> Result<PublishOutcome, AllocError>
         ensures ok { IfOk result (λ handing. (m : Message) → Gives (publish_gets Q2 (Some delivery) m self.old.end) (outcome_of handing m) self.old self.new) }
         ensures err { OnErr result (self.new ≡ self.old) }
@@ -66,8 +66,7 @@ impl Endpoint {
         self.take_exactly_once(delivery)
     }
 
-    /// The PUBLISH of a message of this quality of service, with its delivery where it has one (3.3, 4.3). The message stays with the
-    /// caller.
+    /// Processes a PUBLISH with this QoS (3.3, 4.3). The caller keeps the message.
     #[inline(always)]
     pub(crate) fn take_delivery(
         &mut self,
@@ -86,7 +85,7 @@ impl Endpoint {
         }
     }
 
-    /// The message of a PUBLISH, with its delivery where it has one (3.3, 4.3).
+    /// Processes a PUBLISH (3.3, 4.3).
     #[inline(always)]
     pub(crate) fn take_message(
         &mut self,
@@ -125,7 +124,7 @@ impl Endpoint {
         }
     }
 
-    /// PUBREC, which PUBREL answers (3.5, 4.3.3).
+    /// Processes a PUBREC and answers with PUBREL (3.5, 4.3.3).
     pub(crate) fn take_pubrec(&mut self, id: PacketId) -> Result<(), AllocError>
         ensures ok { OnOk result (Acts (flow_gets (packets.PubRec id) self.old.end) self.old self.new) }
         ensures within { FitsRoom (flow_gets (packets.PubRec id) self.old.end).out self.old → IsOk result }
@@ -138,7 +137,7 @@ impl Endpoint {
         Ok(())
     }
 
-    /// PUBREL, which PUBCOMP answers (3.6, 4.3.3).
+    /// Processes a PUBREL and answers with PUBCOMP (3.6, 4.3.3).
     pub(crate) fn take_pubrel(&mut self, id: PacketId) -> Result<(), AllocError>
         ensures ok { OnOk result (Acts (flow_gets (packets.PubRel id) self.old.end) self.old self.new) }
         ensures within { FitsRoom (flow_gets (packets.PubRel id) self.old.end).out self.old → IsOk result }
@@ -156,8 +155,8 @@ impl Endpoint {
         let _ = self.session.sender.on_pubcomp(id);
     }
 
-    /// A packet of a message's flow comes to an end that is up; any other closes it (4.3, 4.8). Fails if memory runs out,
-    /// which it does within the room only where an identifier is stored, and then nothing changes.
+    /// Processes a packet of a message flow while connected; any other packet closes the end (4.3,
+    /// 4.8). On `Err` nothing changes; within the room that happens only for a stored identifier.
     #[inline(always)]
     #[tactic(auto, using(crate::proofs::Outcomes::quiet))]
     pub(crate) fn take_flow(&mut self, packet: Packet) -> Result<PacketOutcome, AllocError>

@@ -1,4 +1,4 @@
-//! What an end tells its user.
+//! Events that an end reports to its user.
 
 ghost use Rattle.std.specs.Prelude.{◌≡◌};
 
@@ -6,40 +6,40 @@ use mq_packet::{Message, NonEmpty, PacketId, Request, SubAckCode};
 use mq_topic::TopicFilter;
 use std::alloc::AllocError;
 
-/// What an end tells its user of a packet that came.
+/// An event that an end reports for a received packet.
 #[derive(Debug, Drop)]
 pub enum Happening {
-    /// The connection is up (3.2).
+    /// The connection is established (3.2).
     Up {
         /// A session was there before (3.2.2.2).
         session_present: bool,
     },
-    /// A message is handed on (4.3).
+    /// A message is delivered (4.3).
     Handed(Message),
     /// A client subscribes (3.8).
     Subscribe {
-        /// The packet identifier, which the answer is to have.
+        /// The packet identifier, which the response must have.
         id: PacketId,
-        /// What it asks for.
+        /// The requested subscriptions.
         requests: NonEmpty<Request>,
     },
     /// A client gives subscriptions up (3.10).
     Unsubscribe {
-        /// The packet identifier, which the answer is to have.
+        /// The packet identifier, which the response must have.
         id: PacketId,
         /// The filters.
         filters: NonEmpty<TopicFilter>,
     },
-    /// The server answers a SUBSCRIBE (3.9).
+    /// The server answered a SUBSCRIBE (3.9).
     SubAck {
-        /// The identifier of that SUBSCRIBE.
+        /// The identifier of the SUBSCRIBE.
         id: PacketId,
         /// A code for each request.
         codes: NonEmpty<SubAckCode>,
     },
-    /// The server answers an UNSUBSCRIBE (3.11).
+    /// The server answered an UNSUBSCRIBE (3.11).
     UnsubAck(PacketId),
-    /// The server answers a PINGREQ (3.13).
+    /// The server answered a PINGREQ (3.13).
     Pong,
 }
 

@@ -1,4 +1,4 @@
-//! What an end puts out, until it is written.
+//! Pending output.
 
 ghost use Rattle.std.specs.Prelude.{◌≡◌, ℕ, ◌+◌, ◌-◌, ◌<◌, ◌≤◌, ◌^◌, List, [], ◌++◌, length, drop, take, true, IsOk, IfOk, OnOk, OnErr};
 ghost use Rattle.mq_packet.specs.Publication.{fits_delivery};
@@ -12,14 +12,15 @@ use std::alloc::{AllocError, Global};
 use std::marker::Model;
 use std::mem;
 
-/// Bytes that wait to be written, the oldest first: they are appended at the end and taken from the front, at a cost that
-/// grows with the bytes and not with what waits. Contracts see them as a list, and how many may wait without more memory.
+/// Pending output, the oldest byte first. Appending and removing bytes costs time in proportion to
+/// these bytes, not to the pending ones. Contracts see the bytes, and how many may be pending
+/// without allocation.
 #[derive(Debug, Drop)]
 pub(crate) struct Output {
     bytes: Vec<u8>,
-    // so many of them are gone
+    // The number of bytes at the front of the buffer that were removed.
     gone: usize,
-    // so many may wait without more memory, as reserved
+    // The number of bytes that may be pending without allocation.
     room: usize,
 }
 
@@ -35,7 +36,7 @@ impl Model for Output {
 }
 
 impl Output {
-    /// No bytes, and no room. It takes no memory.
+    /// No bytes and no room.
     pub(crate) fn new(alloc: Global) -> Output
         ensures { result ≡ record { bytes = []; room = 0 } }
     {
@@ -61,7 +62,7 @@ impl Output {
         self.bytes.len() - self.gone
     }
 
-    /// Makes room for so many bytes behind those that wait. Fails if memory runs out, and then nothing changes.
+    /// Reserves room for `more` bytes behind the pending ones. On `Err` nothing changes.
     pub(crate) fn reserve(&mut self, more: usize) -> Result<(), AllocError>
         ensures ok { OnOk result (length self.old.bytes + more ≤ self.new.room) }
         ensures more { self.old.room ≤ self.new.room }
@@ -74,7 +75,7 @@ impl Output {
         Ok(())
     }
 
-    /// Appends bytes. Fails if memory runs out, and then nothing changes.
+    /// Appends bytes. On `Err` nothing changes.
     pub(crate) fn append(&mut self, bytes: &[u8]) -> Result<(), AllocError>
         ensures ok { OnOk result (self.new ≡ record self.old { bytes = self.old.bytes ++ bytes.now }) }
         ensures err { OnErr result (self.new ≡ self.old) }
@@ -82,8 +83,8 @@ impl Output {
         self.bytes.extend_from_slice(bytes)
     }
 
-    /// Appends the bytes of a packet (chapter 3). Fails if memory runs out, which it doesn't within the room, or the packet is
-    /// too large, and then nothing changes.
+    /// Appends the encoding of a packet (chapter 3). On `Err` nothing changes: the packet is too
+    /// large, or an allocation failed, which can't happen within the room.
     pub(crate) fn append_packet(&mut self, packet: &Packet) -> Result<(), AllocError>
         ensures ok { OnOk result
             ((b : List ℕ) × Encodes packet.now b × (self.new ≡ record self.old { bytes = self.old.bytes ++ b })) }
@@ -98,9 +99,9 @@ impl Output {
         }
     }
 
-    /// Appends the bytes of the PUBLISH of a message (3.3), which stays where it is. It has a delivery exactly where the quality of
-    /// service is over 0. Fails if memory runs out, which it doesn't within the room, or the packet is too large, and then
-    /// nothing changes.
+    /// Appends the encoding of a PUBLISH of a borrowed message (3.3). `delivery` must be given
+    /// exactly for QoS 1 and 2. On `Err` nothing changes: the packet is too large, or an allocation
+    /// failed, which can't happen within the room.
     pub(crate) fn append_publish(
         &mut self,
         message: &Message,
@@ -121,7 +122,7 @@ impl Output {
         }
     }
 
-    /// Takes bytes from the front; the room that they had is gone. It takes no memory.
+    /// Removes bytes from the front, and the room that they had.
     #[tactic(auto, using(crate::proofs::Outputs::moved_up))]
     pub(crate) fn take(&mut self, count: usize)
         requires { count ≤ length self.old.bytes }
@@ -137,7 +138,7 @@ impl Output {
         }
     }
 
-    /// Keeps the first bytes alone. It takes no memory.
+    /// Keeps only the first `count` bytes.
     pub(crate) fn truncate(&mut self, count: usize)
         requires { count ≤ length self.old.bytes }
         ensures { self.new ≡ record self.old { bytes = take count self.old.bytes } }
@@ -145,7 +146,7 @@ impl Output {
         self.bytes.truncate(self.gone + count);
     }
 
-    /// Takes all bytes; the room stays. It takes no memory.
+    /// Removes all bytes. The room stays.
     pub(crate) fn clear(&mut self)
         ensures { self.new ≡ record self.old { bytes = [] } }
     {
@@ -153,8 +154,8 @@ impl Output {
         self.gone = 0;
     }
 
-    /// Takes all bytes, in one block that its owners share: none is copied. Fails if memory runs out for the count of the owners, which
-    /// it doesn't where no byte waits, and then the bytes stay.
+    /// Removes and returns all bytes in one shared block, without copying them. On `Err` the bytes
+    /// stay. Does not allocate if there are none.
     pub(crate) fn take_bytes(&mut self) -> Result<Bytes, AllocError>
         ensures bytes { IfOk result (λ b. b ≡ self.old.bytes) }
         ensures taken { OnOk result (self.new.bytes ≡ []) }
@@ -179,7 +180,7 @@ impl Output {
         }
     }
 
-    /// No more than what waits already may wait without more memory.
+    /// Gives up the room beyond the pending bytes.
     pub(crate) fn forget_room(&mut self)
         ensures { self.new ≡ record self.old { room = 0 } }
     {

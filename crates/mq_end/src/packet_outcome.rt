@@ -1,4 +1,4 @@
-//! What comes of one packet.
+//! The result of one packet.
 
 ghost use Rattle.std.specs.Prelude.{◌≡◌, None, Some};
 
@@ -6,19 +6,20 @@ use crate::happening::Happening;
 use crate::reason::CloseReason;
 use mq_packet::PacketId;
 
-/// What comes of one packet that an end takes in. No list is made for it.
+/// The result of one packet, without a list.
 #[derive(Debug, Drop)]
 pub struct PacketOutcome {
-    /// What the packet tells, where it tells something.
+    /// The event to report, if any.
     pub happening: Option<Happening>,
-    /// The identifier of the message of quality of service 1 that it acknowledges, which is free (4.3.2).
+    /// The identifier of the message of quality of service 1 that it acknowledges, which is free
+    /// (4.3.2).
     pub acknowledged: Option<PacketId>,
-    /// Why the end closed, where it did.
+    /// The reason if the end closed.
     pub closed: Option<CloseReason>,
 }
 
 impl PacketOutcome {
-    /// Nothing is told, and the end goes on.
+    /// Nothing to report; the end continues.
     pub(crate) fn nothing() -> PacketOutcome
         ensures { result ≡ record { happening = None; acknowledged = None; closed = None } }
     {
@@ -29,7 +30,7 @@ impl PacketOutcome {
         }
     }
 
-    /// Something is told.
+    /// An event to report.
     pub(crate) fn tells(happening: Happening) -> PacketOutcome
         ensures { result ≡ record { happening = Some happening; acknowledged = None; closed = None } }
     {

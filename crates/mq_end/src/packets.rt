@@ -1,4 +1,4 @@
-//! Packets that come to an end, one after another (4.6).
+//! Packets, one after another (4.6).
 
 ghost use Rattle.std.specs.Prelude.{◌≡◌, ◌⊎◌, true, false, IsOk, IfOk, OnOk, OnErr};
 ghost use Rattle.mq_end.specs.declared.reason.CloseReason.TheVariants as reasons;
@@ -20,7 +20,7 @@ use mq_packet::{NonEmpty, Packet, PacketId, SubAckCode};
 use std::alloc::AllocError;
 
 impl Endpoint {
-    /// SUBACK comes to the client (3.9).
+    /// Processes a SUBACK at the client (3.9).
     fn take_suback(&mut self, id: PacketId, codes: NonEmpty<SubAckCode>) -> PacketOutcome
         ensures { Gives (client_up_gets (Packet.SubAck id codes) self.old.end) result self.old self.new }
     {
@@ -32,7 +32,7 @@ impl Endpoint {
         PacketOutcome::tells(Happening::SubAck { id, codes })
     }
 
-    /// UNSUBACK comes to the client (3.11).
+    /// Processes an UNSUBACK at the client (3.11).
     fn take_unsuback(&mut self, id: PacketId) -> PacketOutcome
         ensures { Gives (client_up_gets (Packet.UnsubAck id) self.old.end) result self.old self.new }
     {
@@ -43,7 +43,7 @@ impl Endpoint {
         PacketOutcome::tells(Happening::UnsubAck(id))
     }
 
-    /// A packet comes to a client that is up.
+    /// Processes a packet at a connected client.
     fn take_up_client(&mut self, packet: Packet) -> Result<PacketOutcome, AllocError>
         ensures ok { IfOk result (λ outcome. Gives (client_up_gets packet self.old.end) outcome self.old self.new) }
         ensures err { OnErr result (self.new ≡ self.old) }
@@ -56,7 +56,7 @@ impl Endpoint {
         }
     }
 
-    /// A packet comes to a server that is up.
+    /// Processes a packet at a connected server.
     fn take_up_server(&mut self, packet: Packet) -> Result<PacketOutcome, AllocError>
         ensures ok { IfOk result (λ outcome. Gives (server_up_gets packet self.old.end) outcome self.old self.new) }
         ensures within { is_exactly_once packet ≡ false → FitsRoom (server_up_gets packet self.old.end).out self.old → IsOk result }
@@ -78,7 +78,7 @@ impl Endpoint {
         }
     }
 
-    /// A packet comes to a client.
+    /// Processes a packet at a client.
     fn take_client(&mut self, packet: Packet) -> Result<PacketOutcome, AllocError>
         ensures ok { IfOk result (λ outcome. Gives (client_gets packet self.old.end) outcome self.old self.new) }
         ensures err { OnErr result (self.new ≡ self.old) }
@@ -90,8 +90,8 @@ impl Endpoint {
         }
     }
 
-    /// A packet comes to a server. Fails if memory runs out, which it does within the room only where an identifier is stored,
-    /// and then nothing changes.
+    /// Processes a packet at a server. On `Err` nothing changes; within the room that happens only
+    /// for a stored identifier.
     #[inline(always)]
     pub(crate) fn take_server(&mut self, packet: Packet) -> Result<PacketOutcome, AllocError>
         ensures ok { IfOk result (λ outcome. Gives (server_gets packet self.old.end) outcome self.old self.new) }
@@ -108,7 +108,7 @@ impl Endpoint {
         }
     }
 
-    /// A packet comes to the end. Fails if memory runs out, and then nothing changes.
+    /// Processes a packet. On `Err` nothing changes.
     fn take_one(&mut self, role: Role, packet: Packet) -> Result<PacketOutcome, AllocError>
         ensures ok { IfOk result (λ outcome. Gives (gets_as role packet self.old.end) outcome self.old self.new) }
         ensures err { OnErr result (self.new ≡ self.old) }
@@ -119,8 +119,8 @@ impl Endpoint {
         }
     }
 
-    /// A packet comes to the end, and what comes of it is told. Answers why it closed, where it did. Fails if memory runs out,
-    /// and then nothing changes.
+    /// Processes a packet and adds its result. Returns the reason if the end closed. On `Err`
+    /// nothing changes.
     #[tactic(auto, using(crate::proofs::Outcomes::told_behind))]
     pub(crate) fn take(
         &mut self,
@@ -137,8 +137,8 @@ impl Endpoint {
         Ok(told.add(outcome))
     }
 
-    /// A packet comes to the end, and what comes of it is told; where memory runs out the end closes. Answers why it closed, where it
-    /// did.
+    /// Processes a packet, adds its result, and closes the end if an allocation fails. Returns the
+    /// reason if the end closed.
     pub(crate) fn take_or_close(
         &mut self,
         role: Role,

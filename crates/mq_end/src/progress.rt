@@ -1,4 +1,4 @@
-//! What comes of bytes that an end receives.
+//! The results of received bytes.
 
 ghost use Rattle.std.specs.Prelude.{◌≡◌};
 
@@ -8,15 +8,15 @@ use crate::small_list::SmallList;
 use mq_packet::PacketId;
 use std::alloc::AllocError;
 
-/// What comes of bytes that an end receives.
+/// The results of received bytes.
 #[derive(Debug, Drop)]
 pub struct Progress {
-    /// What the packets tell, in their order.
+    /// The events of the packets, in order.
     pub happenings: SmallList<Happening>,
-    /// The identifiers of the messages of quality of service 1 that were acknowledged and are free (4.3.2), in
-    /// their order.
+    /// The identifiers of the messages of quality of service 1 that were acknowledged and are free
+    /// (4.3.2), in their order.
     pub acknowledged: SmallList<PacketId>,
-    /// Why the end closed, where it did.
+    /// The reason if the end closed.
     pub closed: Option<CloseReason>,
 }
 

@@ -1,4 +1,4 @@
-//! What is told of packets so far.
+//! Collects the results of packets.
 
 ghost use Rattle.std.specs.Prelude.{◌≡◌, ◌<◌, ◌++◌, [], option_to_list, OnOk};
 
@@ -10,7 +10,7 @@ use crate::small_list::{SmallList, SmallListBuilder};
 use mq_packet::PacketId;
 use std::alloc::{AllocError, Global};
 
-/// What is told of packets so far.
+/// The results of the packets so far.
 #[derive(Drop)]
 pub(crate) struct ProgressBuilder {
     pub(crate) happenings: SmallListBuilder<Happening>,
@@ -29,7 +29,7 @@ impl ProgressBuilder {
         }
     }
 
-    /// Makes room for what comes of one more packet.
+    /// Reserves room for the result of one more packet.
     pub(crate) fn reserve(&mut self) -> Result<(), AllocError>
         ensures happenings { self.new.happenings.items ≡ self.old.happenings.items }
         ensures acknowledged { self.new.acknowledged.items ≡ self.old.acknowledged.items }
@@ -40,7 +40,8 @@ impl ProgressBuilder {
         self.acknowledged.reserve()
     }
 
-    /// Tells what came of one more packet, within the room for it, and answers why the end closed, where it did.
+    /// Adds the result of one more packet, within the reserved room. Returns the reason if the end
+    /// closed.
     pub(crate) fn add(&mut self, outcome: PacketOutcome) -> Option<CloseReason>
         requires happening { 0 < self.old.happenings.room }
         requires acknowledged { 0 < self.old.acknowledged.room }
@@ -62,7 +63,7 @@ impl ProgressBuilder {
         closed
     }
 
-    /// All of it, and why the end closed, where it did.
+    /// All results, and the reason if the end closed.
     pub(crate) fn into_progress(self, closed: Option<CloseReason>) -> Progress
         ensures happenings { result.happenings ≡ self.happenings.items }
         ensures acknowledged { result.acknowledged ≡ self.acknowledged.items }

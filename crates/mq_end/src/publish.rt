@@ -27,7 +27,7 @@ pub(crate) fn publish_size(message: &Message) -> usize
 }
 
 impl Endpoint {
-    /// Why a message is refused, memory aside.
+    /// Why a message is refused, unless an allocation fails.
     pub(crate) fn publish_refusal(&self, message: &Message) -> Option<PublishRefusal>
         ensures refused { result ≡ publish_refusal self.now.limit.most self.now.capacity message.now self.now.end }
         ensures most { result ≡ None → self.now.limit.most < 2 ^ 28 }
@@ -45,7 +45,7 @@ impl Endpoint {
         None
     }
 
-    /// Puts out the first PUBLISH of a message, where the end is up.
+    /// Sends the first PUBLISH of a message if the end is connected.
     fn send(&mut self, id: PacketId, message: &Message) -> Result<(), AllocError>
         requires { message.now.qos ≡ Q0 → ⊥ }
         ensures ok { OnOk result (PutsOut (publishes id message.now self.old.end).out self.old.output self.new.output) }
@@ -82,7 +82,7 @@ impl Endpoint {
         }
     }
 
-    /// Puts out a message of quality of service 0 (4.3.1).
+    /// Sends a QoS 0 message (4.3.1).
     fn send_once(&mut self, message: &Message) -> Result<(), AllocError>
         requires { message.now.qos ≡ Q0 }
         ensures ok { OnOk result (Accepts None message.now self.old self.new) }
@@ -93,7 +93,7 @@ impl Endpoint {
         self.output.append_publish(message, None)
     }
 
-    /// Publishes a message that is not refused, and answers its identifier, where it has one.
+    /// Publishes a message that is not refused. Returns its identifier if it has one.
     fn accept(&mut self, message: Message) -> Result<Option<PacketId>, AllocError>
         requires accepted { publish_refusal self.old.limit.most self.old.capacity message self.old.end ≡ None }
         requires most { self.old.limit.most < 2 ^ 28 }
@@ -109,7 +109,7 @@ impl Endpoint {
         Ok(Some(id))
     }
 
-    /// Publishes a message, and answers its identifier, where it has one (2.3.1).
+    /// Publishes a message. Returns its identifier if it has QoS 1 or 2 (2.3.1).
     pub(crate) fn publish(&mut self, message: Message) -> Result<Option<PacketId>, PublishRefusal>
         ensures refused { IfSome (publish_refusal self.old.limit.most self.old.capacity message self.old.end)
             (λ why. result ≡ Err why) }

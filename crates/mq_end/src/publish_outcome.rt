@@ -1,4 +1,4 @@
-//! What comes of a message whose PUBLISH an end takes in.
+//! The result of a PUBLISH whose message stays with the caller.
 
 ghost use Rattle.std.specs.Prelude.{◌≡◌};
 ghost use Rattle.mq_end.specs.Receiving.{outcome_of};
@@ -9,19 +9,20 @@ use crate::packet_outcome::PacketOutcome;
 use crate::reason::CloseReason;
 use mq_packet::Message;
 
-/// What comes of a message whose PUBLISH an end takes in, while the message stays with the caller (4.3).
+/// The result of a PUBLISH whose message stays with the caller (4.3).
 #[derive(Clone, Copy, Debug, PartialEq, Eq)]
 pub enum PublishOutcome {
-    /// The message is handed on.
+    /// The message must be delivered.
     HandedOn,
-    /// It is not: it was handed on when it came before (4.3.3), or the end has no connection.
+    /// Nothing is to be delivered: the message is a duplicate (4.3.3), or the end has no
+    /// connection.
     Nothing,
     /// The end closed, for this reason.
     Closed(CloseReason),
 }
 
 impl PublishOutcome {
-    /// Why the end closed, where it did.
+    /// The reason if the end closed.
     pub fn closed(self) -> Option<CloseReason>
         ensures { (m : Message) → result ≡ (outcome_of self m).closed }
     {
@@ -31,7 +32,7 @@ impl PublishOutcome {
         }
     }
 
-    /// What an end tells that has the message.
+    /// The result with the message.
     pub(crate) fn outcome(self, message: Message) -> PacketOutcome
         ensures { result ≡ outcome_of self message }
     {

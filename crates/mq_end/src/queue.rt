@@ -1,4 +1,4 @@
-//! Bytes that wait.
+//! A queue of bytes.
 
 ghost use Rattle.std.specs.Prelude.{◌≡◌, ℕ, ◌≤◌, ◌==◌, List, [], ◌++◌, length, drop, take, true, IsOk, IfOk, OnOk, OnErr};
 ghost use Rattle.mq_packet.specs.Publication.{fits_delivery};
@@ -10,8 +10,8 @@ use mq_packet::{Delivery, Message, Packet};
 use std::alloc::{AllocError, Global};
 use std::marker::Model;
 
-/// Bytes that wait, the oldest first: they are appended at the end and taken from the front, at a cost that
-/// grows with the bytes and not with what waits. Contracts see them as a list.
+/// A queue of bytes, the oldest first. Appending and removing bytes costs time in proportion to
+/// these bytes, not to the queued ones.
 #[derive(Debug, Drop)]
 pub struct ByteQueue {
     pub(crate) output: Output,
@@ -26,7 +26,7 @@ impl Model for ByteQueue {
 }
 
 impl ByteQueue {
-    /// No bytes. It takes no memory.
+    /// No bytes.
     pub fn new(alloc: Global) -> ByteQueue
         ensures { result ≡ [] }
     {
@@ -56,7 +56,7 @@ impl ByteQueue {
         self.len() == 0
     }
 
-    /// Appends bytes. Fails if memory runs out, and then nothing changes.
+    /// Appends bytes. On `Err` nothing changes.
     pub fn append(&mut self, bytes: &[u8]) -> Result<(), AllocError>
         ensures ok { OnOk result (self.new ≡ self.old ++ bytes.now) }
         ensures err { OnErr result (self.new ≡ self.old) }
@@ -64,8 +64,8 @@ impl ByteQueue {
         self.output.append(bytes)
     }
 
-    /// Appends the bytes of a packet (chapter 3). Fails if memory runs out or the packet is too large, and then
-    /// nothing changes.
+    /// Appends the encoding of a packet (chapter 3). On `Err` nothing changes: an allocation
+    /// failed, or the packet is too large.
     pub fn append_packet(&mut self, packet: &Packet) -> Result<(), AllocError>
         ensures ok { OnOk result
             ((b : List ℕ) × Encodes packet.now b × (self.new ≡ self.old ++ b)) }
@@ -74,8 +74,9 @@ impl ByteQueue {
         self.output.append_packet(packet)
     }
 
-    /// Appends the bytes of the PUBLISH of a message (3.3), which stays where it is. It has a delivery exactly where the quality of
-    /// service is over 0. Fails if memory runs out or the packet is too large, and then nothing changes.
+    /// Appends the encoding of a PUBLISH of a borrowed message (3.3). `delivery` must be given
+    /// exactly for QoS 1 and 2. On `Err` nothing changes: an allocation failed, or the packet is
+    /// too large.
     pub fn append_publish(
         &mut self,
         message: &Message,
@@ -90,7 +91,7 @@ impl ByteQueue {
         self.output.append_publish(message, delivery)
     }
 
-    /// Takes bytes from the front. It takes no memory.
+    /// Removes `count` bytes from the front.
     pub fn take(&mut self, count: usize)
         requires { count ≤ length self.old }
         ensures { self.new ≡ drop count self.old }
@@ -98,8 +99,8 @@ impl ByteQueue {
         self.output.take(count);
     }
 
-    /// Takes all bytes, in one block that its owners share: none is copied. It takes memory for the count of the owners, and none where
-    /// no byte waits. Fails if memory runs out, and then the bytes stay.
+    /// Removes and returns all bytes in one shared block, without copying them. On `Err` the bytes
+    /// stay. Does not allocate if there are none.
     pub fn take_bytes(&mut self) -> Result<Bytes, AllocError>
         ensures bytes { IfOk result (λ b. b ≡ self.old) }
         ensures taken { OnOk result (self.new ≡ []) }
@@ -109,7 +110,7 @@ impl ByteQueue {
         self.output.take_bytes()
     }
 
-    /// Keeps the first bytes alone. It takes no memory.
+    /// Keeps only the first `count` bytes.
     pub fn truncate(&mut self, count: usize)
         requires { count ≤ length self.old }
         ensures { self.new ≡ take count self.old }
@@ -117,7 +118,7 @@ impl ByteQueue {
         self.output.truncate(count);
     }
 
-    /// Takes all bytes. It takes no memory.
+    /// Removes all bytes.
     pub fn clear(&mut self)
         ensures { self.new ≡ [] }
     {

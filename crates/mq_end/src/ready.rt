@@ -54,7 +54,7 @@ pub(crate) fn count_identified(messages: &[Message]) -> usize
     count
 }
 
-/// The most bytes of their PUBLISHes, `None` where a machine can't count them.
+/// An upper bound on the size of their PUBLISH packets, or `None` if it exceeds `usize`.
 pub(crate) fn size_of_all(messages: &[Message]) -> Option<usize>
     ensures { IfSome result (λ size. size ≡ publishes_size messages.now) }
 {
@@ -67,7 +67,7 @@ pub(crate) fn size_of_all(messages: &[Message]) -> Option<usize>
 }
 
 impl Endpoint {
-    /// Whether the end is up (3.2).
+    /// Whether the end is connected (3.2).
     fn is_up(&self) -> bool
         ensures { result ≡ is_up self.now.end.state }
     {
@@ -95,7 +95,8 @@ impl Endpoint {
         self.session.sender.left() < count_identified(messages)
     }
 
-    /// Why not all of the messages could be published one after another, memory aside.
+    /// Why not all of the messages could be published one after another, unless an allocation
+    /// fails.
     fn ready_refusal(&self, messages: &[Message]) -> Option<PublishRefusal>
         ensures { result ≡ ready_refusal self.now.limit.most self.now.capacity messages.now self.now.end }
     {
@@ -114,7 +115,8 @@ impl Endpoint {
         None
     }
 
-    /// The most bytes of the messages that go out at once, `None` where a machine can't count them.
+    /// An upper bound on the size of the messages that are sent at once, or `None` if it exceeds
+    /// `usize`.
     fn size_at_once(&self, messages: &[Message]) -> Option<usize>
         ensures { IfSome result (λ size. size ≡ size_at_once self.now.end.state messages.now) }
     {
@@ -124,7 +126,7 @@ impl Endpoint {
         size_of_all(messages)
     }
 
-    /// Makes room for messages, and for so many bytes more. Fails if memory runs out.
+    /// Reserves room for messages and for `more` bytes.
     fn make_room(&mut self, messages: &[Message], more: usize) -> Result<(), AllocError>
         ensures room { OnOk result (HasRoom messages.now more self.new) }
         ensures same { self.new ≡ record self.old { room = self.new.room } }
@@ -140,7 +142,7 @@ impl Endpoint {
         self.output.reserve(bytes)
     }
 
-    /// Makes room for messages, and for so many bytes that are put out beside their PUBLISHes.
+    /// Reserves room for messages and for `more` bytes next to their PUBLISH packets.
     pub(crate) fn ready(&mut self, messages: &[Message], more: usize) -> Result<(), PublishRefusal>
         ensures refused { IfSome (ready_refusal self.old.limit.most self.old.capacity messages.now self.old.end)
             (λ why. result ≡ Err why) }

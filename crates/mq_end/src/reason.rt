@@ -19,7 +19,7 @@ pub enum CloseReason {
     /// CONNECT was refused (3.2.2.3).
     #[error("the connection was refused")]
     Refused(RefusalCode),
-    /// The server has no session, where the client has one that it knew of (3.2.2.2).
+    /// The server has no session although the client's is established (3.2.2.2).
     #[error("the server lost the session")]
     SessionLost,
     /// Nothing came for one and a half times the keep-alive (3.1.2.10).

@@ -1,4 +1,4 @@
-//! Bytes that come to an end (4.2, 4.8).
+//! Received bytes (4.2, 4.8).
 
 ghost use Rattle.std.specs.Prelude.{◌≡◌, ◌≤◌, ◌++◌, [], length, take, true, false, IsOk, IfOk, IfErr, IfSome, IfNone, OnErr, Ok, Err, None, Some};
 ghost use Rattle.mq_topic.specs.declared.qos.Qos.TheVariants.{Q2};
@@ -26,8 +26,9 @@ use mq_packet::{Delivery, Message, Packet, RefusalCode};
 use std::alloc::AllocError;
 
 impl Endpoint {
-    /// The next whole packet of what is held and a piece, with the number of bytes of the piece that it used. Returns `None` where they
-    /// are less than a whole packet, and then all of the piece is held. After an error nothing is held.
+    /// Takes the next complete packet from the held bytes and a piece. Returns it with the number
+    /// of bytes used of the piece, or `None` if they hold less than a packet; then the whole piece
+    /// is held. After an error nothing is held.
     fn next_packet(&mut self, piece: &[u8]) -> Result<Option<(Packet, usize)>, DecodeError>
         ensures within { IfOk result (λ o. IfSome o (λ x. x.1 ≤ length piece.now)) }
         ensures packet { IfOk result (λ o. IfSome o
@@ -47,7 +48,8 @@ impl Endpoint {
         }
     }
 
-    /// Whether bytes that are no packet are answered: a CONNECT of another level, where one is waited for (3.1.2.2).
+    /// Whether a malformed packet is answered: a first CONNECT of another protocol level is
+    /// (3.1.2.2).
     fn is_answered(&self, role: Role, fault: DecodeFault) -> bool
         ensures { result ≡ is_answered role fault self.now.end }
     {
@@ -72,7 +74,7 @@ impl Endpoint {
         }
     }
 
-    /// A whole packet came at this moment, or none did: the server's keep-alive goes by it (3.1.2.10).
+    /// Records the time of the server's last complete packet, for its keep-alive (3.1.2.10).
     fn hear(&mut self, role: Role, now: u64, came: bool)
         ensures { self.new ≡ record self.old { last_activity = heard_as role came now self.old.last_activity } }
     {
@@ -81,8 +83,9 @@ impl Endpoint {
         }
     }
 
-    /// A packet that lies whole at the front of a piece comes to an end that holds nothing. Answers how many bytes it takes, and why the
-    /// end closed, where it did; `None` where no packet lies there or bytes are held, and then nothing changes.
+    /// Processes a packet that is complete at the front of a piece, if the end holds no bytes.
+    /// Returns the size of the packet, and the reason if the end closed. Returns `None`, and
+    /// changes nothing, if there is no such packet.
     fn take_lying(
         &mut self,
         role: Role,
@@ -104,9 +107,9 @@ impl Endpoint {
         }
     }
 
-    /// The next whole packet of what is held and a piece comes to the end. Answers how many bytes of the piece it takes, and why the end
-    /// closed, where it did. Returns `None` where they are less than a whole packet, and then all of the piece is held. After an error
-    /// nothing is held.
+    /// Processes the next complete packet of the held bytes and a piece. Returns the number of
+    /// bytes used of the piece, and the reason if the end closed. Returns `None` if they hold less
+    /// than a packet; then the whole piece is held. After an error nothing is held.
     fn take_next(
         &mut self,
         role: Role,
@@ -131,8 +134,7 @@ impl Endpoint {
         }
     }
 
-    /// Bytes come to an end with a connection, at this moment. Each whole packet is taken out of them and comes to the end, before the
-    /// next one is looked at.
+    /// Processes bytes while there is a connection, packet by packet.
     fn take_bytes(
         &mut self,
         role: Role,
@@ -168,8 +170,8 @@ impl Endpoint {
         }
     }
 
-    /// A whole packet comes to the server, at this moment. Without a connection it is ignored. Fails if memory runs out, which it
-    /// does within the room only where an identifier is stored, and then nothing changes.
+    /// Processes a complete packet at the server. Ignores it without a connection. On `Err` nothing
+    /// changes; within the reserved room that happens only for a stored identifier.
     #[inline(always)]
     pub(crate) fn take_packet(
         &mut self,
@@ -193,8 +195,8 @@ impl Endpoint {
         Ok(outcome)
     }
 
-    /// The PUBLISH of a message comes to the server, at this moment, with its delivery where it has one (3.3, 4.3): as `take_packet`, but the
-    /// message stays with the caller.
+    /// Processes a PUBLISH at the server (3.3, 4.3) like `take_packet`, but the caller keeps the
+    /// message.
     #[inline(always)]
     pub(crate) fn take_publish_of(
         &mut self,
@@ -222,7 +224,8 @@ impl Endpoint {
         }
     }
 
-    /// A whole packet comes to the end, at this moment. Without a connection it is ignored; where memory runs out the end closes.
+    /// Processes a complete packet. Ignores it without a connection, and closes the end if an
+    /// allocation fails.
     pub(crate) fn on_packet(&mut self, role: Role, now: u64, packet: Packet) -> Progress
         ensures open { is_live self.old.end.state ≡ true → TakesAs role now packet self.old self.new
             result.happenings result.acknowledged result.closed }
@@ -239,7 +242,7 @@ impl Endpoint {
         told.into_progress(closed)
     }
 
-    /// A whole packet that lies in bytes comes to the end, at this moment, as `on_packet`: its own memory is taken here.
+    /// Processes a complete borrowed packet like `on_packet`; allocates its own copy if necessary.
     pub(crate) fn on_view(&mut self, role: Role, now: u64, view: &PacketView<'_>) -> Progress
         ensures open { is_live self.old.end.state ≡ true → TakesAs role now (packet_of view.now) self.old self.new
             result.happenings result.acknowledged result.closed }
@@ -260,7 +263,7 @@ impl Endpoint {
         }
     }
 
-    /// Bytes come to the end, at this moment. Without a connection they are ignored.
+    /// Processes received bytes. Ignores them without a connection.
     pub(crate) fn receive(&mut self, role: Role, now: u64, piece: &[u8]) -> Progress
         ensures open { is_live self.old.end.state ≡ true → ReceivesAs role piece.now self.old self.new
             result.happenings result.acknowledged result.closed }

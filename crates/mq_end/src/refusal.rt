@@ -8,7 +8,7 @@ use thiserror::Error;
 /// Why a call of an end's user is refused.
 #[derive(Clone, Copy, Debug, PartialEq, Eq, Error)]
 pub enum PublishRefusal {
-    /// There is no connection that is up.
+    /// There is no established connection.
     #[error("not connected")]
     NotConnected,
     /// The server has no session for the client.

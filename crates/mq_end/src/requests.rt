@@ -1,4 +1,4 @@
-//! What an end's user asks of the other end, and answers it (3.8 to 3.12, 3.14).
+//! Requests to the other end, and responses to its requests (3.8 to 3.12, 3.14).
 
 ghost use Rattle.std.specs.Prelude.{◌≡◌, ℕ, ◌+◌, List, ◌∷◌, [], length, true, false, not, if◌then◌else◌, nat_lt, IsOk, IfOk, IfErr, IfSome, IfNone, OnOk, OnErr, Err, None, Some};
 ghost use Rattle.mq_packet.specs.declared.message.Message.{Message};
@@ -55,7 +55,7 @@ fn is_unsubscribe_over(limit: u32, filters: &[TopicFilter]) -> bool
 }
 
 impl Endpoint {
-    /// Why a packet is refused that takes an identifier (2.3.1), memory aside.
+    /// Why a packet that needs an identifier is refused (2.3.1), unless an allocation fails.
     fn request_refusal(&self, too_large: bool) -> Option<PublishRefusal>
         ensures { result ≡ (if not (is_up self.now.end.state) then Some refusals.NotConnected else
             (if too_large then Some refusals.TooLarge else
@@ -73,7 +73,7 @@ impl Endpoint {
         None
     }
 
-    /// Why a SUBSCRIBE is refused, memory aside (3.8).
+    /// Why a SUBSCRIBE is refused, unless an allocation fails (3.8).
     fn subscribe_refusal(&self, requests: &[Request]) -> Option<PublishRefusal>
         ensures { result ≡ subscribe_refusal self.now.limit.most self.now.capacity requests.now self.now.end }
     {
@@ -81,7 +81,7 @@ impl Endpoint {
         self.request_refusal(too_large)
     }
 
-    /// Why an UNSUBSCRIBE is refused, memory aside (3.10).
+    /// Why an UNSUBSCRIBE is refused, unless an allocation fails (3.10).
     fn unsubscribe_refusal(&self, filters: &[TopicFilter]) -> Option<PublishRefusal>
         ensures { result ≡ unsubscribe_refusal self.now.limit.most self.now.capacity filters.now self.now.end }
     {
@@ -89,7 +89,7 @@ impl Endpoint {
         self.request_refusal(too_large)
     }
 
-    /// Puts out a packet with this identifier, which is in use by it from then on (2.3.1).
+    /// Sends a packet that uses this identifier (2.3.1).
     fn write_claimed(
         &mut self,
         id: PacketId,
@@ -112,7 +112,7 @@ impl Endpoint {
         claimed
     }
 
-    /// Puts out SUBSCRIBE with the next identifier, and answers that (3.8).
+    /// Sends a SUBSCRIBE with the next identifier, and returns it (3.8).
     fn write_subscribe(&mut self, requests: NonEmpty<Request>) -> Result<PacketId, AllocError>
         requires { is_full self.old.capacity self.old.end.book ≡ false }
         ensures ok { IfOk result (λ id. Requests id (subscribes id requests self.old.end) self.old self.new) }
@@ -125,7 +125,7 @@ impl Endpoint {
         Ok(id)
     }
 
-    /// Puts out UNSUBSCRIBE with the next identifier, and answers that (3.10).
+    /// Sends an UNSUBSCRIBE with the next identifier, and returns it (3.10).
     fn write_unsubscribe(&mut self, filters: NonEmpty<TopicFilter>) -> Result<PacketId, AllocError>
         requires { is_full self.old.capacity self.old.end.book ≡ false }
         ensures ok { IfOk result (λ id. Requests id (unsubscribes id filters self.old.end) self.old self.new) }
@@ -138,7 +138,7 @@ impl Endpoint {
         Ok(id)
     }
 
-    /// Subscribes, and answers the identifier of the SUBSCRIBE (3.8).
+    /// Subscribes. Returns the identifier of the SUBSCRIBE (3.8).
     pub(crate) fn subscribe(
         &mut self,
         requests: NonEmpty<Request>,
@@ -159,7 +159,7 @@ impl Endpoint {
         }
     }
 
-    /// Gives subscriptions up, and answers the identifier of the UNSUBSCRIBE (3.10).
+    /// Unsubscribes. Returns the identifier of the UNSUBSCRIBE (3.10).
     pub(crate) fn unsubscribe(
         &mut self,
         filters: NonEmpty<TopicFilter>,
@@ -180,7 +180,7 @@ impl Endpoint {
         }
     }
 
-    /// Leaves: DISCONNECT is put out, and the end closes (3.14).
+    /// Sends DISCONNECT and closes (3.14).
     pub(crate) fn disconnect(&mut self) -> Result<(), PublishRefusal>
         ensures refused { IfSome (leave_refusal self.old.end) (λ why. result ≡ Err why) }
         ensures memory { IfNone (leave_refusal self.old.end) (IfErr result (λ why. why ≡ PublishRefusal.Memory)) }
@@ -205,7 +205,7 @@ impl Endpoint {
         wait > 0 && now >= self.last_activity && now - self.last_activity >= wait
     }
 
-    /// A client is told the time: it puts out PINGREQ where one is due (3.12).
+    /// Sends a PINGREQ if one is due (3.12).
     pub(crate) fn tick_client(&mut self, now: u64) -> Result<(), AllocError>
         ensures ok { OnOk result (Ticks now self.old self.new) }
         ensures memory { OnErr result (pings self.old.last_activity now self.old.end ≡ true) }
@@ -226,7 +226,7 @@ impl Endpoint {
         wait > 0 && now > self.last_activity && now - self.last_activity > wait
     }
 
-    /// A server is told the time: it closes where it is late (3.1.2.10).
+    /// Closes the server's end if the client is late (3.1.2.10).
     pub(crate) fn tick_server(&mut self, now: u64) -> Option<CloseReason>
         ensures closed { result ≡ (server_ticks self.old.last_activity now self.old.end).close }
         ensures state { Acts (server_ticks self.old.last_activity now self.old.end) self.old self.new }
@@ -237,7 +237,7 @@ impl Endpoint {
         None
     }
 
-    /// Puts out a packet of this remaining length (2.2.3), which answers the other end.
+    /// Sends a response with this remaining length (2.2.3).
     fn answer(&mut self, size: usize, packet: &Packet) -> Result<(), PublishRefusal>
         requires { size ≡ length (fields packet.now) }
         ensures refused { IfSome (answer_refusal self.old.limit.most size self.old.end) (λ why. result ≡ Err why) }

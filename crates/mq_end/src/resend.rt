@@ -1,4 +1,4 @@
-//! What is sent again when an end comes up (4.4).
+//! Retransmissions after a reconnect (4.4).
 
 ghost use Rattle.std.specs.Prelude.{◌≡◌, ◌+◌, ◌≤◌, ◌++◌, false, List, ℕ, length, map, IsOk, OnOk, OnErr};
 ghost use Rattle.std.specs.List.{list_any};
@@ -15,7 +15,8 @@ use mq_packet::{Delivery, Packet};
 use std::alloc::AllocError;
 
 impl Endpoint {
-    /// Puts out what is sent again, straight from what the sender keeps. Fails if memory runs out, and then nothing changes.
+    /// Sends all retransmissions, encoded directly from the sender's state. On `Err` nothing
+    /// changes.
     pub(crate) fn write_resent(&mut self) -> Result<(), AllocError>
         ensures ok { OnOk result (PutsOut (resent self.old.end.book) self.old.output self.new.output) }
         ensures state { self.new ≡ record self.old { output = self.new.output } }
@@ -31,7 +32,7 @@ impl Endpoint {
     }
 }
 
-// Appends what is sent again; where memory runs out a beginning of it.
+// Appends all retransmissions, or some of them if an allocation fails.
 #[tactic(auto, using(crate::proofs::Onward::grown_twice, crate::proofs::Onward::put_grown))]
 fn put_resent(output: &mut Output, sender: &Sender) -> Result<(), AllocError>
     ensures ok { OnOk result (PutsOut (resent sender.now.book) output.old.bytes output.new.bytes) }
@@ -44,7 +45,7 @@ fn put_resent(output: &mut Output, sender: &Sender) -> Result<(), AllocError>
     put_messages(output, sender.entries())
 }
 
-// Appends a PUBREL for each identifier; where memory runs out a beginning of them.
+// Appends a PUBREL for each released identifier, or for some of them if an allocation fails.
 #[tactic(auto, using(crate::proofs::Onward::at_first, crate::proofs::Onward::at_last, crate::proofs::Onward::not_grown))]
 fn put_releases(output: &mut Output, released: Releases<'_>) -> Result<(), AllocError>
     ensures ok { OnOk result (PutsOut (map packets.PubRel released.entry) output.old.bytes output.new.bytes) }
@@ -58,7 +59,8 @@ fn put_releases(output: &mut Output, released: Releases<'_>) -> Result<(), Alloc
     Ok(())
 }
 
-// Appends a PUBLISH for each message, with DUP where it was sent before (3.3.1.1); where memory runs out a beginning of them.
+// Appends a PUBLISH for each message, with DUP if it was sent before (3.3.1.1), or for some of them
+// if an allocation fails.
 #[tactic(auto, using(crate::proofs::Onward::at_first, crate::proofs::Onward::at_last, crate::proofs::Onward::not_grown))]
 fn put_messages(output: &mut Output, entries: Entries<'_>) -> Result<(), AllocError>
     requires { list_any (λ e. same_qos Q0 e.message.qos) entries ≡ false }

@@ -1,4 +1,4 @@
-//! Room that an end makes before it comes up (3.2, 4.4).
+//! Reserves room for connecting (3.2, 4.4).
 
 ghost use Rattle.std.specs.Prelude.{◌≡◌, ◌≤◌, ℕ, List, false, length, map, IfSome, OnOk};
 ghost use Rattle.std.specs.List.{list_any};
@@ -15,8 +15,8 @@ use mq_flow::{Entries, Sender};
 use mq_packet::{Connect, Message};
 use std::alloc::AllocError;
 
-// The most bytes of the PUBLISHes of messages that are kept (3.3), `None` where a machine can't count them or one of them is too large
-// to be put out.
+// An upper bound on the size of the PUBLISH packets of stored messages (3.3), or `None` if it
+// exceeds `usize` or one of them is too large to send.
 fn size_of_messages(entries: Entries<'_>) -> Option<usize>
     requires { list_any (λ e. same_qos Q0 e.message.qos) entries ≡ false }
     ensures size { IfSome result (λ size. size ≡ packets_size (map (λ e. publish_packet e.id e.sent e.message) entries.entry)) }
@@ -33,7 +33,8 @@ fn size_of_messages(entries: Entries<'_>) -> Option<usize>
     Some(size)
 }
 
-// The most bytes of what is sent again (4.4), `None` where a machine can't count them or one of the packets is too large to be put out.
+// An upper bound on the size of all retransmissions (4.4), or `None` if it exceeds `usize` or one
+// of the packets is too large to send.
 fn size_of_resent(sender: &Sender) -> Option<usize>
     ensures size { IfSome result (λ size. size ≡ packets_size (resent sender.now.book)) }
     ensures encodable { IfSome result (λ _. AreEncodable (resent sender.now.book)) }
@@ -44,8 +45,8 @@ fn size_of_resent(sender: &Sender) -> Option<usize>
 }
 
 impl Endpoint {
-    /// The most bytes that are put out where this CONNECT comes on a new connection: CONNACK, and what is sent again. `None` where a
-    /// machine can't count them or one of the packets is too large to be put out.
+    /// An upper bound on the response to this CONNECT on a new connection: CONNACK and all
+    /// retransmissions. `None` if it exceeds `usize` or one of the packets is too large to send.
     fn size_of_rise(&self, connect: &Connect) -> Option<usize>
         ensures size { IfSome result (λ size. packets_size (server_gets (packets.Connect connect.now) (opens self.now.end).end).out ≤ size) }
         ensures encodable { IfSome result (λ _. AreEncodable (server_gets (packets.Connect connect.now) (opens self.now.end).end).out) }
@@ -56,8 +57,8 @@ impl Endpoint {
         size_of_resent(&self.session.sender)?.checked_add(7)
     }
 
-    /// Makes room to come up by this CONNECT on a new connection, and then for messages and for so many bytes more. Fails if memory
-    /// runs out.
+    /// Reserves room to connect by this CONNECT on a new connection, then for messages and for
+    /// `more` bytes.
     pub(crate) fn reserve_connect(
         &mut self,
         connect: &Connect,

@@ -1,4 +1,4 @@
-//! Ends that go on with a session of before (3.1.2.4, 4.1).
+//! Ends that continue a stored session (3.1.2.4, 4.1).
 
 ghost use Rattle.std.specs.Prelude.{◌≡◌, ◌↔◌, [], IsTrue};
 ghost use Rattle.mq_end.specs.End.{resumed};
@@ -33,7 +33,8 @@ pub(crate) fn names_another(client: &Option<Text>, id: &Text) -> bool
 }
 
 impl Endpoint {
-    /// An end without a connection that goes on with a session, its claimed identifiers freed; `known` is its mark.
+    /// An end without a connection that goes on with a session, its claimed identifiers freed;
+    /// `known` is its mark.
     pub(crate) fn with_session(
         alloc: Global,
         limits: Limits,

@@ -34,8 +34,13 @@ use mq_topic::Qos;
 use std::alloc::{AllocError, Global};
 use std::marker::Model;
 
-/// The server end of one client's connections, one after another, with the client's session (3.1.2.4). Bytes go in, and
-/// happenings and bytes come out; it knows no socket and no clock. Moments are milliseconds.
+/// The server's end of one client's connections, one after another, with the session of the client
+/// (3.1.2.4). It consumes and produces bytes and knows neither sockets nor clocks; all times are in
+/// milliseconds.
+/// Order of calls: [`opened`](ServerEnd::opened) for each new connection,
+/// [`receive`](ServerEnd::receive) for received bytes, [`tick`](ServerEnd::tick) regularly,
+/// [`output`](ServerEnd::output) and [`take_output`](ServerEnd::take_output) after each call, and
+/// [`dropped`](ServerEnd::dropped) when the connection is lost.
 #[derive(Debug, Drop)]
 pub struct ServerEnd {
     link: Endpoint,
@@ -55,7 +60,7 @@ impl Model for ServerEnd {
 }
 
 impl ServerEnd {
-    /// A server end without a session and without a connection. It takes no memory.
+    /// A server end without a session or a connection.
     pub fn new(alloc: Global, config: ServerConfig) -> ServerEnd
         requires capacity { 0 < config.capacity }
         requires window { IfSome config.window (λ window. 0 < window) }
@@ -71,9 +76,9 @@ impl ServerEnd {
         }
     }
 
-    /// A server end without a connection that goes on with a session of before, its claimed identifiers freed (3.1.2.4,
-    /// 4.1). The session keeps its capacity, which stands in place of the configured one. `None` where a message of the
-    /// session is over the limit. It takes no memory.
+    /// Continues a stored session, without a connection; the identifiers of its SUBSCRIBE and
+    /// UNSUBSCRIBE packets are free (3.1.2.4, 4.1). The session keeps its capacity, which replaces
+    /// the configured one. Returns `None` if a message of the session exceeds the size limit.
     pub fn with_session(alloc: Global, config: ServerConfig, session: Session) -> Option<ServerEnd>
         requires { IfSome config.window (λ window. 0 < window) }
         ensures there { IsSome result ↔ FitsWithin config.limits.most session }
@@ -93,8 +98,8 @@ impl ServerEnd {
         Some(ServerEnd { link })
     }
 
-    /// A connection is opened, at this moment; its CONNECT is waited for (3.1). One that is open is dropped first, and
-    /// what waits to be written of an earlier one is gone. It takes no memory.
+    /// Opens a connection at time `now`; the end then waits for its CONNECT (3.1). Drops an open
+    /// connection, and discards pending output of an earlier one.
     pub fn opened(&mut self, now: u64)
         ensures end { self.new.end ≡ (opens self.old.end).end }
         ensures output { self.new.output ≡ [] }
@@ -109,8 +114,9 @@ impl ServerEnd {
         self.link.open_connection(now);
     }
 
-    /// Bytes come from the client, at this moment. Without a connection they are ignored. The whole packets among them
-    /// come one after another, up to one at which the end closes; where memory runs out it closes.
+    /// Processes bytes from the client, received at time `now`. Ignores them without a connection.
+    /// Processes each complete packet in turn, up to one at which the end closes. Closes the end if
+    /// an allocation fails.
     pub fn receive(&mut self, now: u64, piece: &[u8]) -> Progress
         ensures open { is_live self.old.end.state ≡ true → ServerReceives piece.now self.old self.new
             result.happenings result.acknowledged result.closed }
@@ -125,8 +131,9 @@ impl ServerEnd {
         self.link.receive(Role::Server, now, piece)
     }
 
-    /// A whole packet comes from the client, at this moment: `receive` is the decoder, and then this for each packet. Without a
-    /// connection it is ignored; where memory runs out the end closes.
+    /// Processes a complete packet from the client, received at time `now`; `receive` decodes
+    /// packets and does this with each. Ignores it without a connection. Closes the end if an
+    /// allocation fails.
     pub fn on_packet(&mut self, now: u64, packet: Packet) -> Progress
         ensures open { is_live self.old.end.state ≡ true → TakesOne now packet self.old self.new
             result.happenings result.acknowledged result.closed }
@@ -139,8 +146,8 @@ impl ServerEnd {
         self.link.on_packet(Role::Server, now, packet)
     }
 
-    /// A whole packet that lies in bytes comes from the client, at this moment, as its equal comes by `on_packet`. Where there is no
-    /// memory for a copy of its own the end closes, as where memory runs out for what comes of it.
+    /// Processes a complete packet that is borrowed from a buffer, like `on_packet` with an equal
+    /// packet. Closes the end if an allocation for a copy fails.
     pub fn on_view(&mut self, now: u64, view: &PacketView<'_>) -> Progress
         ensures open { is_live self.old.end.state ≡ true → TakesOne now (packet_of view.now) self.old self.new
             result.happenings result.acknowledged result.closed }
@@ -153,10 +160,10 @@ impl ServerEnd {
         self.link.on_view(Role::Server, now, view)
     }
 
-    /// A whole packet comes from the client, at this moment: as `on_packet`, but no list is made of what comes of it, and where memory
-    /// runs out nothing changes. Without a connection the packet is ignored. Within the room that an end has that is up, memory runs
-    /// out only where an identifier is stored, of a message of quality of service 2 (4.3.3); and not where an end that has room to rise
-    /// takes the CONNECT in.
+    /// Processes a complete packet like `on_packet`, but makes no list of happenings, and returns
+    /// an error instead of closing if an allocation fails; then nothing changes. Within the
+    /// reserved room of a connected end this happens only for the stored identifier of a QoS 2
+    /// message (4.3.3). It doesn't happen for a CONNECT for which `reserve_connect` reserved room.
     pub fn take_packet(&mut self, now: u64, packet: Packet) -> Result<PacketOutcome, AllocError>
         ensures open { is_live self.old.end.state ≡ true → IfOk result (λ outcome. TakesPacket now packet outcome self.old self.new) }
         ensures closed { is_live self.old.end.state ≡ false → self.new ≡ self.old }
@@ -172,9 +179,10 @@ impl ServerEnd {
         self.link.take_packet(now, packet)
     }
 
-    /// The PUBLISH of a message comes from the client, at this moment, with its delivery, which it has exactly where the quality of service is
-    /// over 0 (3.3, 4.3): as `take_packet` of that PUBLISH, but the message stays with the caller, who is told whether it is handed on. Fails
-    /// if memory runs out, which it does within the room only where an identifier is stored, and then nothing changes.
+    /// Processes the PUBLISH of a message (3.3, 4.3) like `take_packet`, but the caller keeps the
+    /// message and learns whether to deliver it. `delivery` must be given exactly for QoS 1 and 2.
+    /// On `Err` nothing changes; within the reserved room that happens only for a stored
+    /// identifier.
     #[inline(always)]
     pub fn take_publish(
         &mut self,
@@ -197,9 +205,10 @@ impl ServerEnd {
         self.link.take_publish_of(now, message, delivery)
     }
 
-    /// Makes room to come up by this CONNECT on a new connection: for CONNACK and for all that is sent again, and then for messages to
-    /// be published and for so many bytes more (3.2, 4.4). So `opened` and a `take_packet` of the CONNECT are not refused. Fails if
-    /// memory runs out; no room that was made before is lost.
+    /// Reserves room to connect by this CONNECT on a new connection: for CONNACK and all
+    /// retransmissions, then for publishing `messages` and for `more` bytes (3.2, 4.4). Afterwards
+    /// `opened` and `take_packet` of the CONNECT don't fail. On `Err` no room that was reserved
+    /// earlier is lost.
     pub fn reserve_connect(
         &mut self,
         connect: &Connect,
@@ -214,7 +223,7 @@ impl ServerEnd {
         self.link.reserve_connect(connect, messages, more)
     }
 
-    /// Whether a packet that comes now hands a message on, memory aside (4.3). It takes no memory.
+    /// Returns whether this packet would deliver a message if it arrived now (4.3).
     pub fn would_hand(&self, packet: &Packet) -> bool
         ensures { result ≡ would_hand packet.now self.now.end }
     {
@@ -227,7 +236,6 @@ impl ServerEnd {
         }
     }
 
-    // Whether a PUBLISH that comes to an end that is up hands its message on (4.3).
     fn hands(&self, publish: &Publish) -> bool
         ensures { is_up self.now.end.state ≡ true → result ≡ would_hand (Packet.Publish publish.now) self.now.end }
     {
@@ -240,9 +248,10 @@ impl ServerEnd {
         }
     }
 
-    /// Makes room for messages, and for so many bytes that are put out beside their PUBLISHes: then these messages can be
-    /// published, and these bytes be put out, without more memory. Fails with the first refusal that stands for one of them, with
-    /// `Full` where fewer identifiers are free than they need, or where memory runs out; no room that was made before is lost.
+    /// Reserves room for publishing `messages` and for sending `more` other bytes, which then can't
+    /// fail for lack of memory. Errors: the first refusal of one of the messages, `Full` if fewer
+    /// identifiers are free than they need, `Memory` if an allocation fails. No room that was
+    /// reserved earlier is lost.
     pub fn ready(&mut self, messages: &[Message], more: usize) -> Result<(), PublishRefusal>
         ensures refused { IfSome (ready_refusal self.old.limit.most self.old.capacity messages.now self.old.end)
             (λ why. result ≡ Err why) }
@@ -255,9 +264,10 @@ impl ServerEnd {
         self.link.ready(messages, more)
     }
 
-    /// Publishes a message to the client, and answers its packet identifier, where it has one (2.3.1). While the end is
-    /// not up, one of quality of service 1 or 2 is kept, and goes out when the end comes up. Fails with the first refusal
-    /// that stands, and then nothing changes. Within the room for messages memory doesn't run out.
+    /// Publishes a message to the client. Returns its packet identifier if it has QoS 1 or 2
+    /// (2.3.1). Without a connection, a QoS 1 or 2 message is stored, and sent once the client has
+    /// connected. Errors: `NoSession`, `NotConnected` for QoS 0, `TooLarge`, `Full`, `Memory`, in
+    /// this order; then nothing changes. Does not fail for lack of memory within the reserved room.
     pub fn publish(&mut self, message: Message) -> Result<Option<PacketId>, PublishRefusal>
         ensures refused { IfSome (server_publish_refusal self.old.limit.most self.old.capacity message self.old.end)
             (λ why. result ≡ Err why) }
@@ -275,8 +285,8 @@ impl ServerEnd {
         self.link.publish(message)
     }
 
-    /// Answers a SUBSCRIBE of the client: SUBACK is put out, with this packet identifier and these codes (3.9). Fails with
-    /// the first refusal that stands, and then nothing changes.
+    /// Answers a SUBSCRIBE: sends SUBACK with its packet identifier and a code for each request
+    /// (3.9). Errors: `NotConnected`, `TooLarge`, `Memory`; then nothing changes.
     pub fn suback(
         &mut self,
         id: PacketId,
@@ -293,8 +303,8 @@ impl ServerEnd {
         self.link.suback(id, codes)
     }
 
-    /// Answers an UNSUBSCRIBE of the client: UNSUBACK is put out, with this packet identifier (3.11). Fails with the first
-    /// refusal that stands, and then nothing changes.
+    /// Answers an UNSUBSCRIBE: sends UNSUBACK with its packet identifier (3.11). Errors:
+    /// `NotConnected`, `TooLarge`, `Memory`; then nothing changes.
     pub fn unsuback(&mut self, id: PacketId) -> Result<(), PublishRefusal>
         ensures refused { IfSome (unsuback_refusal self.old.limit.most self.old.end) (λ why. result ≡ Err why) }
         ensures memory { IfNone (unsuback_refusal self.old.limit.most self.old.end)
@@ -307,8 +317,9 @@ impl ServerEnd {
         self.link.unsuback(id)
     }
 
-    /// It is this moment: where the end is up, and more than one and a half times its keep-alive has gone by since the last
-    /// whole packet, it closes, and the answer says why (3.1.2.10). It takes no memory.
+    /// Call this regularly with the current time. Closes a connected end if more than one and a
+    /// half times its keep-alive has elapsed since the last complete packet, and returns the reason
+    /// (3.1.2.10).
     pub fn tick(&mut self, now: u64) -> Option<CloseReason>
         ensures closed { result ≡ (server_ticks self.old.last_activity now self.old.end).close }
         ensures state { Acts (server_ticks self.old.last_activity now self.old.end) self.old self.new }
@@ -316,7 +327,7 @@ impl ServerEnd {
         self.link.tick_server(now)
     }
 
-    /// The connection is lost (4.2): what waits to be written is gone. It takes no memory.
+    /// Reports that the connection is lost (4.2). Discards pending output.
     pub fn dropped(&mut self)
         ensures end { self.new.end ≡ over self.old.end }
         ensures output { self.new.output ≡ [] }
@@ -330,14 +341,14 @@ impl ServerEnd {
         self.link.drop_connection();
     }
 
-    /// The bytes that wait to be written.
+    /// The bytes that must be written to the connection.
     pub fn output(&self) -> &[u8]
         ensures { result.now ≡ self.now.output }
     {
         self.link.output.as_slice()
     }
 
-    /// So many bytes were written. It takes no memory.
+    /// Reports that the first `count` bytes of the output were written.
     pub fn take_output(&mut self, count: usize)
         requires { count ≤ length self.old.output }
         ensures { self.new ≡ record self.old { output = drop count self.old.output; room = bytes_less count self.old.room } }
@@ -345,7 +356,7 @@ impl ServerEnd {
         self.link.output.take(count);
     }
 
-    /// All bytes that wait to be written, which it gives away. It takes no memory.
+    /// Removes and returns all pending output.
     pub fn take_all_output(&mut self) -> ByteQueue
         ensures bytes { result ≡ self.old.output }
         ensures left { self.new ≡ record self.old { output = []; room = no_bytes self.old.room } }
@@ -353,7 +364,7 @@ impl ServerEnd {
         self.link.take_all_output()
     }
 
-    /// Exchanges the bytes that wait to be written for others. It takes no memory.
+    /// Exchanges the pending output for another queue.
     pub fn swap_output(&mut self, other: &mut ByteQueue)
         ensures end { self.new ≡ record self.old { output = other.old; room = no_bytes self.old.room } }
         ensures other { other.new ≡ self.old.output }
@@ -368,7 +379,7 @@ impl ServerEnd {
         self.link.state
     }
 
-    /// The client's session, `None` where there is none (3.1.2.4).
+    /// The session of the client, or `None` if there is none (3.1.2.4).
     pub fn session(&self) -> Option<&Session>
         ensures there { IsSome result ↔ (self.now.end.known ≡ true) }
         ensures book { IfSome result (λ session. session.now.sender.book ≡ self.now.end.book) }

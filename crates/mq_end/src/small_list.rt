@@ -6,7 +6,7 @@ ghost use Rattle.std.specs.List.{AllZip};
 use std::alloc::{AllocError, Global};
 use std::marker::Model;
 
-/// Items that come one after another: a single one stands in `first`, several stand in `more`.
+/// Collects items: a single one in `first`, several in `more`.
 #[derive(Debug, Drop)]
 pub(crate) struct SmallListBuilder<T> {
     first: Option<[T; 1]>,
@@ -36,7 +36,7 @@ impl<T> Model for SmallListBuilder<T> {
 }
 
 impl<T: Drop> SmallListBuilder<T> {
-    /// None yet. It takes no memory.
+    /// No items.
     pub(crate) fn new(alloc: Global) -> SmallListBuilder<T>
         ensures { result.items ≡ [] }
     {
@@ -114,7 +114,8 @@ impl<T: Clone> Clone for SmallListBuilder<T> {
     }
 }
 
-/// A list, which may be empty and takes no memory of its own for a single item. Contracts see it as the list of its items.
+/// A list, which may be empty and takes no memory of its own for a single item. Contracts see it as
+/// the list of its items.
 #[derive(Debug, Drop)]
 pub struct SmallList<T> {
     gathered: SmallListBuilder<T>,
@@ -129,7 +130,7 @@ impl<T> Model for SmallList<T> {
 }
 
 impl<T: Drop> SmallList<T> {
-    /// The list of what was gathered.
+    /// The list of the collected items.
     pub(crate) fn from_gathered(gathered: SmallListBuilder<T>) -> SmallList<T>
         ensures { result ≡ gathered.items }
     {
@@ -143,7 +144,7 @@ impl<T: Drop> SmallList<T> {
         self.gathered.as_slice()
     }
 
-    /// The items as a vector. A single one needs memory for it, and only then it fails, if memory runs out.
+    /// Returns the items as a vector. Allocates only for a single item.
     pub fn into_vec(self) -> Result<Vec<T>, AllocError>
         ensures items { IfOk result (λ v. v.items ≡ self) }
         ensures single { OnErr result (length self ≡ 1) }

@@ -1,4 +1,5 @@
-//! Packets that lie in bytes come to an end (4.3, 4.6): of a message the end makes one of its own at once, and of an acknowledgement none.
+//! Packets that are borrowed from a buffer (4.3, 4.6). The end copies the message of a PUBLISH;
+//! acknowledgements need no copy.
 
 ghost use Rattle.std.specs.Prelude.{◌≡◌, ◌⊎◌, true, IfOk, OnOk, OnErr};
 ghost use Rattle.mq_packet.specs.declared.packet.Packet.TheVariants as packets;
@@ -20,8 +21,8 @@ use mq_topic::Qos;
 use std::alloc::AllocError;
 
 impl Endpoint {
-    /// A PUBLISH that lies in bytes comes to an end that is up, and what comes of it is told (3.3, 4.3). Answers why the end closed,
-    /// where it did. Fails if memory runs out, and then nothing changes.
+    /// Processes a borrowed PUBLISH while connected (3.3, 4.3). Returns the reason if the end
+    /// closed. On `Err` nothing changes.
     fn take_lent_publish(
         &mut self,
         publish: &PublishView<'_>,
@@ -45,7 +46,8 @@ impl Endpoint {
         }
     }
 
-    /// PUBACK comes to an end that is up, and what comes of it is told (3.4, 4.3.2). Fails if memory runs out, and then nothing changes.
+    /// Processes a PUBACK while connected (3.4, 4.3.2). Returns the reason if the end closed. On
+    /// `Err` nothing changes.
     fn take_lent_puback(
         &mut self,
         id: PacketId,
@@ -60,7 +62,7 @@ impl Endpoint {
         Ok(told.add(outcome))
     }
 
-    /// A packet that lies in bytes comes to the end as one of its own, as `take`.
+    /// Copies a borrowed packet and processes the copy.
     fn take_owned(
         &mut self,
         role: Role,
@@ -75,7 +77,7 @@ impl Endpoint {
         self.take(role, packet, told)
     }
 
-    /// A packet that lies in bytes comes to an end that is up, as `take`.
+    /// Processes a borrowed packet while connected.
     fn take_lent_up(
         &mut self,
         role: Role,
@@ -98,8 +100,7 @@ impl Endpoint {
         Ok(None)
     }
 
-    /// A packet that lies in bytes comes to the end, and what comes of it is told, as `take`. Answers why it closed, where it did. Fails if
-    /// memory runs out, and then nothing changes.
+    /// Processes a borrowed packet. Returns the reason if the end closed. On `Err` nothing changes.
     fn take_lent(
         &mut self,
         role: Role,
@@ -116,8 +117,8 @@ impl Endpoint {
         }
     }
 
-    /// A packet that lies in bytes comes to the end, and what comes of it is told; where memory runs out the end closes. Answers why it
-    /// closed, where it did.
+    /// Processes a borrowed packet, and closes the end if an allocation fails. Returns the reason
+    /// if the end closed.
     pub(crate) fn take_lent_or_close(
         &mut self,
         role: Role,
