@@ -27,7 +27,7 @@ some_whole limit (x ∷ b) whole = omega arith
 pub alone_stops : (limit : Bounds) (b : List ℕ) (old new : List Packet) (e : DecodeError) → (Pending limit b → ⊥) → (e ≡ errors.Memory) × (new ≡ old) → Stops limit b old new e
 alone_stops limit b old new e whole h = memory_stops limit b old new e h.0 h.1 (some_whole limit b whole)
 
--- ---- one byte behind what is pending
+-- ---- One byte behind pending bytes
 
 pub byte_alone : (limit : Bounds) (held : List ℕ) (x : ℕ) → Pending limit held → IsAlone limit (held ++ x ∷ [])
 byte_alone limit held x pending = before_alone limit (held ++ x ∷ []) (before_more limit held (x ∷ []) 1 pending (wants_one limit held) (omega arith))

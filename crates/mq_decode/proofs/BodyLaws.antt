@@ -1,4 +1,4 @@
--- The laws of whole bodies: what is read is spelled so, and what is spelled so is read.
+-- The laws of whole bodies: decoding and encoding are inverse to each other.
 use Rattle.std.proofs.Common.{◌≡◌, ℕ, ◌^◌, ◌<◌, Bool, true, false, cond, eqb, List, [], ◌∷◌, ◌++◌, length, Option, Some, None, Ok, Err, refl, ap, subst, ◌∙◌, arith, inl, inr}
 use Rattle.std.specs.Prelude.{IfSome}
 use Rattle.std.proofs.lemmas.Bool.{eqb-true}

@@ -1,4 +1,4 @@
--- What of a piece is copied into the decoder's own buffer.
+-- The part of a piece that is copied into the decoder's own buffer.
 use Rattle.std.proofs.Common.{◌≡◌, ℕ, ◌+◌, ◌-◌, ◌^◌, ◌<◌, ◌≤◌, min, List, [], ◌∷◌, ◌++◌, length, take, drop, refl, sym, ap, subst, ◌∙◌, arith, inl, inr}
 use Rattle.std.proofs.lemmas.Bool.{cases_lt}
 use Rattle.std.proofs.lemmas.List.{append-nil, nil_from_length, length-take, length-drop, take-append-drop, take_all}
@@ -16,7 +16,7 @@ more_than most old used n c d e f = omega arith
 pub counts_then : (old used n c d : ℕ) → c ≡ counted_more old used → d ≡ counted_more c n → d ≡ counted_more old (used + n)
 counts_then old used n c d e f = more_than (2 ^ 64 - 1) old used n c d e f
 
--- so many of a list that has as many
+-- A prefix of a list that is long enough.
 pub counts_part : (old used n c d : ℕ) (part : List ℕ) → length part ≡ n → c ≡ counted_more old used → d ≡ counted_more c (length part) → d ≡ counted_more old (used + n)
 counts_part old used n c d part size e f = counts_then old used n c d e (f ∙ ap (counted_more c) size)
 
@@ -27,7 +27,7 @@ none_more most c le = omega arith
 pub counts_none : (c : ℕ) → c < 2 ^ 64 → c ≡ counted_more c 0
 counts_none c lt = none_more (2 ^ 64 - 1) c (omega arith)
 
--- ---- filling up what is held
+-- ---- Completing the held packet
 
 -- a packet that nothing follows is all of the bytes
 pub alone_reads : (limit : Bounds) (b : List ℕ) (p : Packet) (n : ℕ) → IsAlone limit b → (n ≤ length b) × ReadsWithin limit p (take n b) → ReadsWithin limit p b
@@ -37,7 +37,7 @@ alone_reads limit b p n alone h =
     let all : b ≡ take n b = parts ∙ (ap (λ (t : List ℕ). take n b ++ t) ended ∙ append-nil (take n b)) in
     subst (λ (s : List ℕ). ReadsWithin limit p s) (sym all) h.1
 
--- the piece was too short for what is held
+-- The piece was too short for the held packet.
 pub pending_adds : (limit : Bounds) (held piece : List ℕ) → 0 < length held → Pending limit (held ++ piece) → Adds limit held (take (length piece) piece) (drop (length piece) piece)
 pending_adds limit [] piece some pending = absurd (omega arith)
 pending_adds limit (b ∷ held) piece some pending = inl (
@@ -45,7 +45,7 @@ pending_adds limit (b ∷ held) piece some pending = inl (
   nil_from_length (drop (length piece) piece) (omega (arith, length-drop (length piece) piece)),
 )
 
--- or what is held is whole with these
+-- The held packet is complete with these bytes.
 pub packet_adds : (limit : Bounds) (held piece : List ℕ) (p : Packet) (n : ℕ) → 0 < length held → ReadsWithin limit p (held ++ take n piece) → Adds limit held (take n piece) (drop n piece)
 packet_adds limit [] piece p n some h = absurd (omega arith)
 packet_adds limit (b ∷ held) piece p n some h = inr (p, h)
@@ -57,7 +57,7 @@ nothing_adds limit (b ∷ held) piece e = absurd cc
 
 -- ---- a piece
 
--- all of it went to what is held
+-- All of it went to the held packet.
 pub copies_all : (limit : Bounds) (held piece : List ℕ) (used old c : ℕ) → length piece ≤ used → used ≤ length piece → Adds limit held (take used piece) (drop used piece) → c ≡ counted_more old used → Copies limit held piece old c
 copies_all limit held piece used old c long within adds e =
     let none : drop used piece ≡ [] = nil_from_length (drop used piece) (omega (arith, length-drop used piece)) in (
@@ -75,7 +75,7 @@ copies_all limit held piece used old c long within adds e =
       e,
     )
 
--- the rest was read where it lies, and what is left over was held
+-- The remaining packets were read from the piece, and the rest was held.
 pub copies_left : (limit : Bounds) (held piece left : List ℕ) (used old c d : ℕ) (mid new : List Packet) → used ≤ length piece → Adds limit held (take used piece) (drop used piece) → Goes limit (drop used piece) mid new left
     → c ≡ counted_more old used → d ≡ counted_more c (length left) → Copies limit held piece old d
 copies_left limit held piece left used old c d mid new within adds goes e f = (
@@ -111,7 +111,7 @@ copies_none limit held piece left used old c mid new within adds goes none e = (
   e,
 )
 
--- what is left in the buffer shows that all of the piece went there
+-- Bytes left in the buffer show that the whole piece went there.
 pub all_used : (size used : ℕ) (now : List ℕ) → 0 < length now → (used < size → now ≡ []) → size ≤ used
 all_used size used now left none =
     elim (cases_lt used size) [

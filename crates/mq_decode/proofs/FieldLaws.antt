@@ -1,4 +1,4 @@
--- The laws of single fields: what is read is spelled so, and what is spelled so is read.
+-- The laws of single fields: decoding and encoding are inverse to each other.
 use Rattle.std.proofs.Common.{◌≡◌, ℕ, ◌+◌, ◌<◌, ◌≤◌, Bool, true, false, cond, eqb, ltb, List, [], ◌∷◌, ◌++◌, length, take, drop, Result, Ok, Err, refl, sym, ap, subst, ◌∙◌, append_assoc, arith}
 use Rattle.std.proofs.lemmas.Bool.{ltb-false, le-ltb, eqb-false, ne_eqb}
 use Rattle.std.proofs.lemmas.List.{take_at, drop_at, length-append, length-take, take-append-drop, get_or-drop}
@@ -55,7 +55,7 @@ AreBytes-drop n bytes h i = rw get_or-drop (h (n + i))
 pub AreBytes-rest : (front rest : List ℕ) → AreBytes (front ++ rest) → AreBytes rest
 AreBytes-rest front rest h = subst AreBytes (drop-append_seam front rest) (AreBytes-drop (length front) (front ++ rest) h)
 
--- a field was read from the front: it is spelled so, and the rest are bytes
+-- A field was read from the front: its encoding comes first, and the rest are bytes.
 pub record Takes (bytes text rest : List ℕ) : Type 0 where
   pub parts : bytes ≡ text ++ rest
   pub rest_bytes : AreBytes rest

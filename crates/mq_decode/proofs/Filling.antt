@@ -1,4 +1,4 @@
--- What stands in a buffer after a read behind its bytes.
+-- The contents of a buffer after a read behind its bytes.
 use Rattle.std.proofs.Common.{◌≡◌, ℕ, ◌+◌, ◌≤◌, Bool, true, List, ◌++◌, length, take, cond, refl, sym, ap, ◌∙◌, append_assoc, arith}
 use Rattle.std.proofs.lemmas.List.{take-take, take-append-le, take_all, take_at}
 use Rattle.bytes.proofs.Ranges.{take-append_past}

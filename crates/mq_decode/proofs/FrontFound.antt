@@ -1,4 +1,4 @@
--- What is read at the front of bytes is what the grammar says.
+-- The result of reading at the front is the one that the grammar states.
 use Rattle.std.proofs.Common.{◌≡◌, ℕ, zero, suc, ◌+◌, ◌-◌, ◌^◌, ◌<◌, ◌≤◌, Bool, true, false, cond, ltb, List, [], ◌∷◌, ◌++◌, length, take, drop, Option, Some, None, Result, Ok, Err, refl, sym, ap, subst, ◌∙◌, append_assoc, arith}
 use Rattle.std.proofs.lemmas.Bool.{ltb-false}
 use Rattle.std.proofs.lemmas.List.{take_at, length-append, length-take, take-append-drop}
@@ -136,7 +136,7 @@ front_found w limit (first ∷ rest) bytes = go (kind_at first) refl
     go (Err k) e = is_faulty w limit (first ∷ rest) k 0 (AtFirst (record { first = first; rest = rest; bytes = refl; fault = e; here = refl }))
     go (Ok kind) e = first_found w limit first kind rest e (λ i. bytes (suc i))
 
--- ---- a number that is told stands in a right header
+-- ---- A length that was found belongs to a valid header
 
 abbrev pub Told : Bounds → List ℕ → Type 0
 Told limit b = IfSome (len_told (header_at limit b)) (HasHeader limit b)
@@ -190,13 +190,13 @@ told_found w limit (first ∷ rest) bytes = go (kind_at first) refl
     go (Err k) e = wrong_told limit first k rest e
     go (Ok kind) e = length_told w limit first kind rest e (λ i. bytes (suc i))
 
--- what a view read
+-- The result of a view.
 pub view_is : (w : Wire) (limit : Bounds) (b : List ℕ) (v : View) → AreBytes b → view_read v ≡ front_at limit b → IsView limit b v
 view_is w limit b (views.Whole packet n) bytes e = subst (FrontFound limit b) (sym e) (front_found w limit b bytes)
 view_is w limit b views.More bytes e = subst (FrontFound limit b) (sym e) (front_found w limit b bytes)
 view_is w limit b (views.Fault fault) bytes e = subst (FrontFound limit b) (sym e) (front_found w limit b bytes)
 
--- what a view is, by what it read
+-- The view with this result.
 pub more_is : (v : View) → view_read v ≡ Ok None → v ≡ views.More
 more_is (views.Whole packet n) e = absurd cc
 more_is views.More e = refl

@@ -1,4 +1,5 @@
--- The laws of what stands at the front: each thing that the grammar names is read as that, and what is read is one.
+-- The laws of the front of a buffer: each case of the grammar is read as such, and each result is a
+-- case of the grammar.
 use Rattle.std.proofs.Common.{◌≡◌, ℕ, ◌+◌, Bool, true, false, ltb, List, ◌∷◌, ◌++◌, length, take, drop, Option, Some, None, Result, Ok, Err, refl, sym, ap, ◌∙◌, append_assoc, arith}
 use Rattle.std.proofs.lemmas.Bool.{le-ltb}
 use Rattle.std.proofs.lemmas.List.{take_at, drop_at, length-append}
@@ -22,7 +23,7 @@ use Rattle.mq_decode.proofs.BodyLaws.{body_again}
 abbrev pub Read : Type 0
 Read = Result (Option (Packet × ℕ)) DecodeFault
 
--- ---- what is read as a packet, whichever the limits
+-- ---- Packets under all limits
 
 -- its parts
 pub record Parts (lenient : Bool) (p : Packet) (b : List ℕ) : Type 0 where
@@ -39,7 +40,7 @@ pub reads_from : (lenient : Bool) (p : Packet) (b : List ℕ) → Parts lenient 
 reads_from false p b h = record { packet = h.packet; len = h.len; formed = h.formed; bytes = h.bytes }
 reads_from true p b h = record { packet = h.packet; len = h.len; formed = h.formed; bytes = h.bytes }
 
--- what is spelled is read under all limits
+-- An encoding is read under all limits.
 pub encoded_reads : (w : Wire) (lenient : Bool) (p : Packet) (b : List ℕ) → Encodes p b → Reads lenient p b
 encoded_reads w lenient p b h = reads_from lenient p b (record { packet = h.packet; len = h.len; formed = w.lengths.reads lenient (length (fields p)) h.len h.formed; bytes = h.bytes })
 
@@ -64,7 +65,7 @@ unfolding front_at
 front_is w limit first kind len body rest right formed size =
     rw (header_is w limit first (length body) kind len (body ++ rest) right formed, size, whole_long first len body rest, body_is first len body rest) refl
 
--- ---- what is spelled is read, whatever follows it
+-- ---- An encoding is read, whatever follows it
 
 pub whole_again : (w : Wire) (limit : Bounds) (p : Packet) (s rest : List ℕ) → ReadsWithin limit p s → front_at limit (s ++ rest) ≡ Ok (Some (p, length s))
 whole_again w limit p s rest h =
@@ -92,7 +93,7 @@ pub told_is : (w : Wire) (limit : Bounds) (b : List ℕ) (size : ℕ) → HasHea
 told_is w limit b size h =
     ap (λ (bytes : List ℕ). len_told (header_at limit bytes)) h.bytes ∙ (ap len_told (header_is w limit h.first h.n h.kind h.len h.rest h.right h.formed) ∙ rw (h.fits, h.told) refl)
 
--- ---- what is faulty is read as that fault
+-- ---- A faulty front is read as its fault
 
 first_again : (limit : Bounds) (b : List ℕ) (k : FaultKind) (place : ℕ) → FirstFault b k place → front_at limit b ≡ Err (fault_at k place)
 unfolding front_at header_at
@@ -115,7 +116,7 @@ faulty_again w limit b k place (AtSize h) = size_again_at w limit b k place h
 faulty_again w limit b k place (AtField h) =
     ap (front_at limit) h.bytes ∙ (front_is w limit h.first h.kind h.len h.body h.rest h.right h.formed h.size ∙ rw (h.fault, h.here) refl)
 
--- ---- what is read as nothing is pending
+-- ---- If nothing is read, the front is pending
 
 pub pending_at : (w : Wire) (limit : Bounds) (b : List ℕ) → front_at limit b ≡ Ok None → Pending limit b
 pending_at w limit b e = record {

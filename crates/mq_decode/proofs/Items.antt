@@ -21,7 +21,7 @@ shorter item encoding IsItem laws bytes x after h e =
     let l = laws.found bytes x after h e in
     (omega (arith, ap length l.0.parts, length-append (encoding x) after, laws.more x l.1), l.0.rest_bytes)
 
--- so no more than so many are read, whatever the bound over that
+-- A larger bound on the number of items makes no difference.
 items_enough : {A : Type 0} (item : List ℕ → Result (A × List ℕ) BadField) (encoding : A → List ℕ) (IsItem : A → Type 0) → ItemLaws item encoding IsItem
     → (n m : ℕ) (bytes : List ℕ) → AreBytes bytes → length bytes ≤ n → length bytes ≤ m → items_at item n bytes ≡ items_at item m bytes
 items_enough item encoding IsItem laws n m [] h le few = refl
@@ -45,7 +45,7 @@ first_of : {A : Type 0} (x : A) (read : Result (List A) BadField) → IsOk (read
 first_of x (Ok xs) h = (refl, refl)
 first_of x (Err bad) h = absurd (false≢true h)
 
--- an item, and what is left
+-- An item, and the remaining bytes.
 pub record Next {A : Type 0} (item : List ℕ → Result (A × List ℕ) BadField) (rest : List ℕ) (x : A) (after : List ℕ) : Type 0 where
   pub items : items_of (items_at item (length rest) rest) ≡ x ∷ items_of (items_at item (length after) after)
   pub tested : IsOk (items_at item (length after) after)

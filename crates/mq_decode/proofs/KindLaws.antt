@@ -1,4 +1,4 @@
--- The laws of the first byte: the kind that it stands for, and the byte of a kind.
+-- The laws of the first byte: its kind, and the byte of a kind.
 use Rattle.std.proofs.Common.{◌≡◌, ℕ, zero, suc, ◌+◌, ◌*◌, ◌/◌, ◌%◌, ◌<◌, ◌≤◌, Bool, true, false, cond, eqb, length, Option, Some, None, Result, Ok, Err, refl, subst, arith, inl, inr}
 use Rattle.std.proofs.lemmas.Bool.{eqb-true, le-ltb}
 use Rattle.mq_topic.specs.declared.qos.Qos.{Qos}

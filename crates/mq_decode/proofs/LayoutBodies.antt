@@ -1,4 +1,5 @@
--- A reading of a packet's fields that stops gives the first that is not of its kind, for each type of packet.
+-- If reading the fields of a packet stops, it returns the first invalid field, for each type of
+-- packet.
 use Rattle.std.proofs.Common.{◌≡◌, ℕ, zero, suc, ◌+◌, ◌<◌, Bool, true, false, cond, eqb, List, [], ◌∷◌, ◌++◌, length, Option, Some, None, Result, Ok, Err, refl, sym, ap, subst, inl, inr, arith}
 use Rattle.std.proofs.lemmas.Bool.{eqb-true}
 use Rattle.std.proofs.lemmas.List.{append-nil, append_cancel_left, length-append}
@@ -80,7 +81,7 @@ Some_of item fields = (n : ℕ) × (fields ≡ item ++ repeated item n)
 abbrev Any_of : List Field → List Field → Type 0
 Any_of item fields = (n : ℕ) × (fields ≡ repeated item n)
 
--- where bytes are left, the list doesn't end
+-- If bytes are left, the list doesn't end.
 not_ended : (before : List Field) (field : Field) (others : List Field) (front after : List ℕ) → Laid before front → 0 < length (front ++ after)
     → before ++ field ∷ others ≡ End ∷ [] → Stands field after → ⊥
 not_ended [] field others front after laid some e stands =
@@ -136,7 +137,7 @@ items_stop {A} item reader r (suc fuel) (b ∷ bytes) bad h e =
     left_over fuel [] e = absurd cc
     left_over fuel (c ∷ rest) e = omega arith
 
--- a list, whose first field doesn't stand where nothing is
+-- A list whose first field can't be empty.
 list_stops : {A : Type 0} (field : Field) (others : List Field) (reader : List ℕ → Result (A × List ℕ) BadField) → ReadsAll (field ∷ others) reader
     → (Stands field [] → ⊥)
     → (bytes : List ℕ) (bad : BadField) → AreBytes bytes → list_at reader bytes ≡ Err bad → Bad (Some_of (field ∷ others)) bytes bad.left
@@ -411,7 +412,7 @@ flags_left (b ∷ bytes) = go (flags_from b)
     go None = refl
     go (Some flags) = tt
 
--- what stands behind the flags
+-- The fields behind the flags.
 abbrev tail_at : ConnectFlags → List ℕ → Result Connect BadField
 tail_at flags bytes =
     number_at bytes >>= λ keep_alive. text_at keep_alive.1 >>= λ client. will_at flags.will client.1 >>= λ will. login_at flags.password will.1 >>= λ login. end_at login.1 >>= λ end.

@@ -1,4 +1,5 @@
--- A reading that stops at a field gives the first field that is not of its kind: the steps, and the readers of single fields.
+-- A reading that stops at a field gives the first field that is not of its kind: the steps, and the
+-- readers of single fields.
 use Rattle.std.proofs.Common.{◌≡◌, ℕ, Bool, true, false, cond, eqb, ltb, List, [], ◌∷◌, ◌++◌, length, take, drop, Option, Some, None, Result, Ok, Err, refl, sym, ap, subst, ◌∙◌, append_assoc, ◌⊎◌, inl, inr}
 use Rattle.std.proofs.lemmas.List.{append-nil, append_cancel_left}
 use Rattle.mq_wire.specs.declared.text.FieldFault.{FieldFault}
@@ -19,7 +20,7 @@ use Rattle.mq_decode.proofs.ConnectLaws.{protocol_found, protocol_again, level_f
 use Rattle.mq_decode.proofs.FieldLaws.{Wire, Takes, number_found, number_again, identifier_found, identifier_again, text_found, text_again, name_found, name_again, filter_found, filter_again, binary_found, binary_again}
 use Rattle.mq_decode.proofs.ListLaws.{code_found, code_again, code_exact, code_back, qos_exact, qos_back}
 
--- ---- the first bad field of bytes, with so many bytes from it on
+-- ---- The first invalid field, with `size` bytes from it on
 
 pub record Bad (layout : List Field → Type 0) (bytes : List ℕ) (left : ℕ) : Type 0 where
   pub front : List ℕ
@@ -32,7 +33,7 @@ pub record Bad (layout : List Field → Type 0) (bytes : List ℕ) (left : ℕ) 
 abbrev pub Only : List Field → List Field → Type 0
 Only these fields = fields ≡ these
 
--- it stands at the front
+-- It is at the front.
 pub at_front : (layout : List Field → Type 0) (next : Field) (more : List Field) (bytes : List ℕ) (left : ℕ) → left ≡ length bytes → layout (next ∷ more)
     → ((field : Field) (others : List Field) → layout (field ∷ others) → Stands field bytes → ⊥) → Bad layout bytes left
 at_front layout next more bytes left count on wrong = record {
@@ -90,12 +91,12 @@ retold old new bytes left to back b = record {
   };
 }
 
--- what comes next in a list is one
+-- The next field of a list is unique.
 pub same_next : (before : List Field) (a b : Field) (x y : List Field) → before ++ a ∷ x ≡ before ++ b ∷ y → a ≡ b
 same_next [] a b x y e = cc
 same_next (field ∷ before) a b x y e = let inner : before ++ a ∷ x ≡ before ++ b ∷ y = cc in same_next before a b x y inner
 
--- what follows makes no difference
+-- The bytes behind make no difference.
 pub extended : (these : List Field) (layout : List Field → Type 0) (bytes : List ℕ) (left : ℕ) →
     ((fields : List Field) → layout fields → (more : List Field) × (fields ≡ these ++ more)) → (more : List Field) → layout (these ++ more)
     → Bad (Only these) bytes left → Bad layout bytes left
@@ -131,7 +132,8 @@ pub map_bad : {A B : Type 0} (r : Result A BadField) (f : A → B) (bad : BadFie
 map_bad (Ok x) f bad e = absurd cc
 map_bad (Err d) f bad e = cc
 
--- a reader of a field: at a fault no such field stands there, and all bytes are left; else one was there, and these are behind it
+-- A reader of a field: on a fault, no such field is at the front and all bytes are left; otherwise
+-- one is, and the result is the bytes behind it.
 pub record Reads1 {A : Type 0} (field : Field) (reader : List ℕ → Result A BadField) (after : A → List ℕ) : Type 0 where
   pub count : (bytes : List ℕ) (bad : BadField) → reader bytes ≡ Err bad → bad.left ≡ length bytes
   pub wrong : (bytes : List ℕ) (bad : BadField) → reader bytes ≡ Err bad → Stands field bytes → ⊥
@@ -263,7 +265,7 @@ end_left (b ∷ bytes) = refl
 
 -- ---- the readers of single fields
 
--- what is read is no fault
+-- A result excludes a fault.
 pub refuted : {A : Type 0} (reader : List ℕ → Result A BadField) (bytes text : List ℕ) (x : A)
     (bad : BadField) → reader bytes ≡ Err bad → bytes ≡ text → reader text ≡ Ok x → ⊥
 refuted reader bytes text x bad e parts again = differ (sym again ∙ (ap reader (sym parts) ∙ e))

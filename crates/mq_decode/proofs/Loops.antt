@@ -11,7 +11,7 @@ use Rattle.mq_decode.specs.Lent.{rest_of}
 use Rattle.mq_decode.specs.Lists.{items_at, list_at}
 use Rattle.mq_decode.proofs.FieldLaws.{ok_is}
 
--- the items read so far, before those still to be read
+-- The items read before, in front of those still to be read.
 abbrev pub with_front : {A : Type 0} → List A → Result (List A) BadField → Result (List A) BadField
 with_front front read = read >>= λ xs. Ok (front ++ xs)
 

@@ -1,4 +1,4 @@
--- What is taken from a reader.
+-- The bytes taken from a reader.
 use Rattle.std.proofs.Common.{◌≡◌, ℕ, ◌<◌, ◌≤◌, List, [], ◌++◌, length, take, drop, Option, Some, None, Result, Ok, Err, sym, ap, subst, ◌∙◌, append_assoc, arith}
 use Rattle.std.specs.Prelude.{IfSome, IfNone, IfOk, IfErr, OnErr}
 use Rattle.std.specs.Io.KnownBytes.{Consumes, IsAtEnd}
@@ -20,7 +20,7 @@ left_some None now b some c = tt
 left_some (Some xs) None b some c = absurd c
 left_some (Some xs) (Some ys) b some c = omega (arith, ap length c, length-append b ys, some)
 
--- the bytes that were taken are faulty, and so all that was left
+-- The bytes taken are faulty, and so are all remaining bytes.
 pub stops_at : (limit : Bounds) (left now : Option (List ℕ)) (b : List ℕ) (e : DecodeError) → IsFront limit b (Err e) → Consumes left now b → ReadStops limit left (stop_of e)
 stops_at limit left now b decodes.Memory h c = left_some left now b h c
 stops_at limit None now b (decodes.Fault fault) h c = tt
@@ -34,7 +34,7 @@ all_taken limit b n p before h =
     let same : take n b ≡ b = sym (append-nil (take n b)) ∙ (ap (λ (t : List ℕ). take n b ++ t) (sym none) ∙ take-append-drop n b) in
     subst (ReadsWithin limit p) same h.1
 
--- what is left was pending
+-- The remaining bytes were pending.
 pub left_pending : (limit : Bounds) (left now : Option (List ℕ)) (b : List ℕ) → Pending limit b → 0 < length b → Consumes left now b → IsAtEnd now → IfSome left (λ all. Pending limit all × (0 < length all))
 left_pending limit None now b h some c end = tt
 left_pending limit (Some xs) None b h some c end = absurd c
@@ -42,7 +42,7 @@ left_pending limit (Some xs) (Some ys) b h some c end =
     let all : xs ≡ b = c ∙ (ap (λ (t : List ℕ). b ++ t) end ∙ append-nil b) in
     subst (λ (t : List ℕ). Pending limit t × (0 < length t)) (sym all) (h, some)
 
--- no more was read
+-- Nothing more was read.
 pub fill_stops : (limit : Bounds) (left now : Option (List ℕ)) (b : List ℕ) (e : ReadError) → 0 < length b → Consumes left now b → FillStops e → ReadStops limit left e
 fill_stops limit left now b errors.Cut some c h = absurd h
 fill_stops limit left now b (errors.Io error) some c h = tt
@@ -58,7 +58,7 @@ end_before (Some xs) (Some ys) b c none end = c ∙ (ap (λ (t : List ℕ). t ++
 some_is : {a b : List ℕ} → Some a ≡ Some b → a ≡ b
 some_is e = cc
 
--- what is spelled at the front is what was read
+-- The encoding at the front is the packet that was read.
 pub answers : (laws : ReadsAgain) (limit : Bounds) (p : Packet) (s rest : List ℕ) (r : Result (Option Packet) ReadError) (left now : Option (List ℕ)) → ReadsWithin limit p s → left ≡ Some (s ++ rest)
     → IfOk r (λ o. IfSome o (λ q. (t : List ℕ) × ReadsWithin limit q t × Consumes left now t)) → IfOk r (λ o. IfNone o (IsAtEnd left)) → IfErr r (ReadStops limit left) → Answers p rest r now
 answers laws limit p s rest r None now h e packet none err = absurd cc
@@ -110,7 +110,7 @@ sized_within limit (Err e) left now h = h
 pub longer : (b held new more : List ℕ) → held ≡ b → new ≡ held ++ more → 0 < length b → 0 < length new
 longer b held new more same e some = omega (arith, ap length same, ap length e, length-append held more, some)
 
--- what was taken is pending, and then no more is taken than it wants
+-- The bytes taken are pending, and the next read takes at most what is missing.
 pub more_taken : (limit : Bounds) (b held new more : List ℕ) (wanted : ℕ) (left mid now : Option (List ℕ)) → held ≡ b → Pending limit b → Wants limit held wanted → length more ≤ wanted → new ≡ held ++ more
     → Consumes left mid b → Consumes mid now more → Consumes left now new × PendingBefore limit new
 more_taken limit b held new more wanted left mid now same pending wants few e taken read =

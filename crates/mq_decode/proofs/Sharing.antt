@@ -8,7 +8,7 @@ use Rattle.mq_decode.specs.Gives.{BeginsWith}
 use Rattle.mq_decode.specs.Grammar.{Reads, ReadsWithin}
 use Rattle.mq_decode.specs.Limits.{Bounds}
 
--- what begins with a copy begins behind its front with the copy behind its front
+-- If bytes begin with a copy, then without a prefix they begin with the copy without that prefix.
 pub begins_behind : (bytes copy : List ℕ) (n : ℕ) → n ≤ length copy → BeginsWith bytes copy → BeginsWith (drop n bytes) (drop n copy)
 begins_behind bytes copy n le h = ap (λ k. take k (drop n bytes)) (length-drop n copy) ∙ (sym (drop-take_less bytes n (length copy) le) ∙ ap (drop n) h)
 
@@ -23,7 +23,7 @@ begins_with_none : (bytes copy : List ℕ) → length copy ≡ 0 → BeginsWith 
 begins_with_none bytes [] e = refl
 begins_with_none bytes (x ∷ copy) e = absurd (omega (arith, e))
 
--- the same where the copy may be shorter
+-- The same if the copy may be shorter.
 pub begins_behind_some : (bytes copy : List ℕ) (n : ℕ) → BeginsWith bytes copy → BeginsWith (drop n bytes) (drop (min n (length copy)) copy)
 begins_behind_some bytes copy n h =
     elim (cases_lt (length copy) n) [

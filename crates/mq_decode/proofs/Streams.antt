@@ -26,7 +26,7 @@ stream_join limit (p ∷ ps) qs a b h k = (h.0, h.1 ++ b, h.2, stream_join limit
 pub stream_one : (limit : Bounds) (p : Packet) (s : List ℕ) → ReadsWithin limit p s → Stream limit (p ∷ []) s
 stream_one limit p s h = (s, [], h, refl, sym (append-nil s))
 
--- ---- what follows a fault doesn't matter
+-- ---- The bytes behind a fault make no difference
 
 bad_length_more : (limit : Bounds) (rest more : List ℕ) (k : FaultKind) (place : ℕ) → BadLength limit rest k place → BadLength limit (rest ++ more) k place
 bad_length_more limit rest more LengthTooLong place h =
@@ -82,7 +82,7 @@ stops_more limit b more old new errors.Memory h = (
 
 -- ---- one piece after another
 
--- what was read, and then what follows the rest
+-- The packets read, then those behind the rest.
 reading_then : (limit : Bounds) (b more : List ℕ) (ps qs : List Packet) (rest last : List ℕ) (end : Option DecodeFault)
     → Reading limit b ps rest None → Reading limit (rest ++ more) qs last end → Reading limit (b ++ more) (ps ++ qs) last end
 reading_then limit b more ps qs rest last end h k = record {
@@ -111,13 +111,13 @@ stops_then limit b more old mid new rest errors.Memory h k = (
   },
 )
 
--- nothing read yet: what is held is pending
+-- No packet was read: the held bytes are pending.
 pub goes_none : (limit : Bounds) (held : List ℕ) (old : List Packet) → Pending limit held → Goes limit (held ++ []) old old held
 goes_none limit held old h = ([], sym (append-nil old), record { front = []; stream = refl; parts = append-nil held; ends = h })
 
 -- ---- packets from the front of bytes
 
--- the packets taken so far, from so many bytes
+-- The packets taken so far, from a prefix of the bytes.
 pub record Taken (limit : Bounds) (bytes : List ℕ) (taken : ℕ) (old new : List Packet) : Type 0 where
   pub within : taken ≤ length bytes
   pub packets : List Packet
@@ -146,9 +146,9 @@ pub taken_stops : (limit : Bounds) (bytes : List ℕ) (taken : ℕ) (old new : L
 taken_stops limit bytes taken old new (errors.Fault fault) h front = (h.packets, drop taken bytes, h.appended, record { front = take taken bytes; stream = h.stream; parts = sym (take-append-drop taken bytes); ends = front })
 taken_stops limit bytes taken old new errors.Memory h front = (h.packets, h.appended, record { front = take taken bytes; stream = h.stream; rest = drop taken bytes; parts = sym (take-append-drop taken bytes); left = front })
 
--- ---- pieces that go to what is held
+-- ---- Pieces that complete the held packet
 
--- the bytes of the piece so far, and the next ones
+-- The bytes of the piece so far, and the next ones.
 pub next_bytes : (held piece : List ℕ) (used n : ℕ) → (held ++ take used piece) ++ take n (drop used piece) ≡ held ++ take (used + n) piece
 next_bytes held piece used n = append_assoc held (take used piece) (take n (drop used piece)) ∙ ap (λ (t : List ℕ). held ++ t) (sym (take-more used n piece))
 
@@ -167,7 +167,7 @@ filled_stops_all limit held piece now used old mid new e now_is h k =
     subst (λ (b : List ℕ). Stops limit b old new e) (all_bytes held piece used)
     (stops_then limit (held ++ take used piece) (drop used piece) old mid new now e h (subst (λ (t : List ℕ). Stops limit (t ++ drop used piece) mid new e) (sym now_is) k))
 
--- memory ran out before what is left was held
+-- An allocation failed before the rest was held.
 pub left_memory : (limit : Bounds) (bytes : List ℕ) (n : ℕ) (old mid : List Packet) (left : List ℕ) (e : DecodeError) → e ≡ errors.Memory → 0 < length left → Goes limit bytes old mid left → Stops limit bytes old mid e
 left_memory limit bytes n old mid left e is some h =
     rw is (h.0, h.1, record { front = h.2.front; stream = h.2.stream; rest = left; parts = h.2.parts; left = some })
@@ -218,12 +218,12 @@ pending_nil limit = record { not_whole = λ p first rest h e. no_bytes p first r
 pub front_stops : (limit : Bounds) (b : List ℕ) (old : List Packet) (e : DecodeError) → IsFront limit b (Err e) → Stops limit b old old e
 front_stops limit b old e h = taken_stops limit b 0 old old e (taken_none limit b old) h
 
--- a fault, or lack of memory, at the front of more bytes
+-- A fault or a failed allocation at the front of more bytes.
 pub front_more : (limit : Bounds) (b more : List ℕ) (e : DecodeError) → IsFront limit b (Err e) → IsFront limit (b ++ more) (Err e)
 front_more limit b more (errors.Fault fault) h = faulty_more limit b more fault.kind fault.place h
 front_more limit b more errors.Memory h = omega (arith, length-append b more, h)
 
--- at the front of what is held and a piece, of which so many bytes were put behind it
+-- At the front of the held bytes and a piece, of which a prefix was appended to them.
 pub front_piece : (limit : Bounds) (held piece now next : List ℕ) (used n : ℕ) (e : DecodeError) → next ≡ now ++ take n (drop used piece) → now ≡ held ++ take used piece
     → IsFront limit next (Err e) → IsFront limit (held ++ piece) (Err e)
 front_piece limit held piece now next used n e next_is now_is h =
@@ -235,14 +235,14 @@ front_piece limit held piece now next used n e next_is now_is h =
 pub one_goes : (limit : Bounds) (b : List ℕ) (p : Packet) (old new : List Packet) (rest : List ℕ) → ReadsWithin limit p b → new ≡ old ++ p ∷ [] → rest ≡ [] → Goes limit b old new rest
 one_goes limit b p old new rest h e none = rw none (p ∷ [], e, record { front = b; stream = stream_one limit p b h; parts = sym (append-nil b); ends = pending_nil limit })
 
--- nothing but what is pending
+-- Only pending bytes.
 pub none_goes : (limit : Bounds) (held piece : List ℕ) (old : List Packet) (rest : List ℕ) → Pending limit (held ++ piece) → rest ≡ held ++ piece → Goes limit (held ++ take (length piece) piece) old old rest
 none_goes limit held piece old rest h e =
     let all : take (length piece) piece ≡ piece = take_all (length piece) piece (omega arith) in
     let whole : Goes limit (held ++ piece) old old (held ++ piece) = ([], sym (append-nil old), record { front = []; stream = refl; parts = refl; ends = h }) in
     rw (all, e) whole
 
--- what is less than something pending is pending
+-- A prefix of pending bytes is pending.
 pub pending_less : (limit : Bounds) (b more : List ℕ) → Pending limit (b ++ more) → Pending limit b
 pending_less limit b more h = record {
   not_whole = λ p first rest read parts. h.not_whole p first (rest ++ more) read (ap (λ (t : List ℕ). t ++ more) parts ∙ append_assoc first rest more);
@@ -264,7 +264,7 @@ before_alone limit b before p first (x ∷ rest) read parts =
 pub before_one : (limit : Bounds) (x : ℕ) → PendingBefore limit (x ∷ [])
 before_one limit x n lt = let none : n ≡ 0 = omega arith in rw none (pending_nil limit)
 
--- what is pending, with no more than it wants
+-- Pending bytes, with at most what they are missing.
 pub before_more : (limit : Bounds) (b more : List ℕ) (wanted : ℕ) → Pending limit b → Wants limit b wanted → length more ≤ wanted → PendingBefore limit (b ++ more)
 before_more limit b more wanted pending wants few n lt =
     elim (cases_lt n (length b)) [
@@ -280,12 +280,12 @@ pub held_alone : (limit : Bounds) (now piece next : List ℕ) (used n wanted : �
 held_alone limit now piece next used n wanted e few wants pending =
     subst (IsAlone limit) (sym e) (before_alone limit (now ++ take n (drop used piece)) (before_more limit now (take n (drop used piece)) wanted pending wants (omega (arith, length-take n (drop used piece), few))))
 
--- what is held after a step is pending: nothing, where a packet came
+-- The held bytes after a step are pending: none, if a packet arrived.
 pub next_pending : {X : Type 0} (limit : Bounds) (o : Option X) (b new : List ℕ) → IfSome o (λ x. new ≡ []) → IfNone o (Pending limit b) → IfNone o (new ≡ b) → Pending limit new
 next_pending limit (Some x) b new taken less holds = rw taken (pending_nil limit)
 next_pending limit None b new taken less holds = rw holds less
 
--- nothing is said of an error where there is none
+-- Without an error, nothing is claimed about one.
 pub nothing_failed : {X : Type 0} (o : Option X) (held : List ℕ) → o ≡ None → IfSome o (λ e. held ≡ [])
 nothing_failed o held is = rw is tt
 
@@ -299,13 +299,13 @@ reads_on limits held piece p n ps rest end h k = record {
   ends = k.ends;
 }
 
--- ---- what is wanted
+-- ---- Missing bytes
 
 -- nothing
 pub wants_nothing : (limit : Bounds) (b : List ℕ) (w : ℕ) → w ≡ 0 → Wants limit b w
 wants_nothing limit b w none pending more few = absurd (omega (arith, few))
 
--- so many less, where so many came
+-- Fewer bytes are missing after some arrived.
 pub wants_less : (limit : Bounds) (b more next : List ℕ) (w left : ℕ) → next ≡ b ++ more → left ≡ w - length more → Wants limit b w → Wants limit next left
 wants_less limit b more next w left e left_is h =
     subst (λ (t : List ℕ). Wants limit t left) (sym e)
@@ -323,7 +323,7 @@ rest_held held piece now used now_is = ap (λ (t : List ℕ). t ++ drop used pie
 pub memory_stops : (limit : Bounds) (b : List ℕ) (old new : List Packet) (e : DecodeError) → e ≡ errors.Memory → new ≡ old → 0 < length b → Stops limit b old new e
 memory_stops limit b old new e is same some = rw (is, same) (front_stops limit b old errors.Memory some)
 
--- two things that a call ensures where it succeeds
+-- Two properties that a call ensures on success.
 pub on_ok_both : {X E P Q R : Type 0} (r : Result X E) → (P → Q → R) → OnOk r P → OnOk r Q → OnOk r R
 on_ok_both (Ok x) f p q = f p q
 on_ok_both (Err e) f p q = tt

@@ -1,4 +1,4 @@
--- Every list of bytes has one reading, and what is pending is short.
+-- Every list of bytes has exactly one reading, and pending bytes are short.
 use Rattle.std.proofs.Common.{◌≡◌, ℕ, zero, suc, ◌+◌, ◌<◌, ◌≤◌, Bool, true, false, cond, ltb, List, [], ◌∷◌, ◌++◌, length, take, drop, Option, Some, None, Result, Ok, Err, refl, sym, ap, subst, ◌∙◌, append_assoc, arith, ◌⊎◌, inl, inr}
 use Rattle.std.proofs.lemmas.Bool.{ltb-true, ltb-false}
 use Rattle.std.proofs.lemmas.List.{length-take, length-drop, take-append-drop, drop_at, take_at}
@@ -25,13 +25,13 @@ use Rattle.mq_decode.proofs.ListLaws.{chosen}
 use Rattle.mq_decode.proofs.FrontLaws.{Read, parts_of, encoded_reads, whole_again, faulty_again}
 use Rattle.mq_decode.proofs.FrontFound.{FrontFound, front_found}
 
--- ---- what is pending is short
+-- ---- Pending bytes are short
 
 nothing_after : (end : ℕ) (r : Result Packet BadField) → packet_or_fault end r ≡ Ok None → ⊥
 nothing_after end (Ok p) e = absurd cc
 nothing_after end (Err bad) e = absurd cc
 
--- nothing is read where there is no header, or where bytes are lacking
+-- Nothing is read without a header, or if bytes are missing.
 after_none : (r : Result (Option Header) DecodeFault) (b : List ℕ) → front_after r b ≡ Ok None → (r ≡ Ok None) ⊎ ((h : Header) × (r ≡ Ok (Some h)) × (length b < h.start + h.size))
 after_none (Err fault) b e = absurd cc
 after_none (Ok None) b e = inl refl
@@ -66,7 +66,7 @@ short_length : (lenient : Bool) (n : ℕ) (b : List ℕ) → LengthUnder lenient
 short_length false n b h = h.1
 short_length true n b h = h.1
 
--- what the header tells
+-- The size that a header states.
 header_small : (w : Wire) (limit : Bounds) (rest : List ℕ) (r : Result Kind FaultKind) (h : Header) → AreBytes rest → header_after limit r rest ≡ Ok (Some h) → Sized limit.most h
 header_small w limit rest (Err k) h bytes e = absurd cc
 header_small w limit rest (Ok kind) h bytes e = go (read_length limit.lenient rest) refl e
@@ -115,7 +115,7 @@ pending_short w limit b bytes pending = go (front_at limit b) refl (front_found 
 
 -- ---- one reading
 
--- a packet that was read, and where it ends
+-- A packet that was read, and its end.
 abbrev pub packet_at : Packet × ℕ → Read
 packet_at x = Ok (Some x)
 
@@ -128,7 +128,7 @@ faulted f = Err f
 same_fault : (f g : DecodeFault) → faulted f ≡ faulted g → f ≡ g
 same_fault f g e = cc
 
--- where a packet is spelled, nothing ends
+-- If the front is the encoding of a packet, nothing ends there.
 not_ended : (w : Wire) (limit : Bounds) (p : Packet) (s more b : List ℕ) (end : Option DecodeFault) → ReadsWithin limit p s → b ≡ s ++ more → Ends limit b end → ⊥
 not_ended w limit p s more b None h e pending = pending.not_whole p s more h e
 not_ended w limit p s more b (Some fault) h e bad =
@@ -177,7 +177,7 @@ one_stream w limit (p ∷ ps) (q ∷ qs) f g rest last end stop sf sg e ef eg =
 pub one_way : (w : Wire) → OneReading
 one_way w limit b ps qs rest last end stop h k = one_stream w limit ps qs h.front k.front rest last end stop h.stream k.stream (sym h.parts ∙ k.parts) h.ends k.ends
 
--- ---- what is spelled
+-- ---- Encodings
 
 one_front : (w : Wire) (limit : Bounds) (p q : Packet) (s t rest more : List ℕ) → ReadsWithin limit p s → ReadsWithin limit q t → s ++ rest ≡ t ++ more → (p ≡ q) × (rest ≡ more)
 one_front w limit p q s t rest more h k e =

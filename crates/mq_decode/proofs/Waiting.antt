@@ -1,4 +1,4 @@
--- A piece that is shorter than what the held packet wants.
+-- A piece that is shorter than the missing part of the held packet.
 use Rattle.std.proofs.Common.{◌≡◌, ℕ, ◌<◌, List, [], ◌∷◌, ◌++◌, length, refl, sym, arith, inl}
 use Rattle.std.proofs.lemmas.List.{append-nil, length-append}
 use Rattle.mq_packet.specs.declared.packet.Packet.{Packet}

@@ -49,7 +49,7 @@ header_more w limit (first ∷ rest) more h bytes e = kinds (kind_at first) refl
     kinds (Err k) is e = absurd cc
     kinds (Ok kind) is e = rw is (lengths kind (read_length limit.lenient rest) refl e)
 
--- with the header it wants what the header says
+-- With a header, it is missing the bytes that the header states.
 wants_rest : (w : Wire) (limit : Bounds) (b : List ℕ) (h : Header) (n : ℕ) → AreBytes b → header_at limit b ≡ Ok (Some h) → length b + n ≤ h.start + h.size → Wants limit b n
 unfolding front_at
 wants_rest w limit b h n bytes e within pending more few =
@@ -57,7 +57,7 @@ wants_rest w limit b h n bytes e within pending more few =
     let short : ltb (length (b ++ more)) (h.start + h.size) ≡ true = lt-ltb _ _ (omega (arith, length-append b more)) in
     pending_at w limit (b ++ more) (ap (λ (r : Result (Option Header) DecodeFault). front_after r (b ++ more)) header ∙ rw short refl)
 
--- the greater of one and what the header says
+-- The maximum of one and the number that the header states.
 pub wants_most : (w : Wire) (limit : Bounds) (b : List ℕ) (h : Header) (n : ℕ) → AreBytes b → header_at limit b ≡ Ok (Some h) → (length b < h.start + h.size → length b + n ≤ h.start + h.size) → (h.start + h.size ≤ length b → n ≤ 1) → Wants limit b n
 wants_most w limit b h n bytes e more one =
     elim (cases_lt (length b) (h.start + h.size)) [
@@ -85,7 +85,7 @@ complete_not w limit b h bytes e long pending =
     let enough : ltb (length b) (h.start + h.size) ≡ false = le-ltb _ _ long in
     never_none (h.start + h.size) (body_at h.kind (take h.size (drop h.start b))) (rw enough at read)
 
--- ---- where the packet ends, as the header says
+-- ---- The end of the packet, as its header states it
 
 told_some : (r : Result (Option Header) DecodeFault) (end : ℕ) → end_told r ≡ Ok (Some end) → (h : Header) × (r ≡ Ok (Some h)) × (h.start + h.size ≡ end)
 told_some (Err fault) end e = absurd cc
@@ -110,13 +110,13 @@ short_pending w limit b end e few =
     let short : ltb (length b) (told.0.start + told.0.size) ≡ true = lt-ltb _ _ (omega (arith, told.2, few)) in
     pending_at w limit b (ap (λ (r : Result (Option Header) DecodeFault). front_after r b) told.1 ∙ rw short refl)
 
--- and wants what is missing
+-- It is missing the rest.
 pub short_wants : (w : Wire) (limit : Bounds) (b : List ℕ) (end n : ℕ) → AreBytes b → end_told (header_at limit b) ≡ Ok (Some end) → length b + n ≤ end → Wants limit b n
 short_wants w limit b end n bytes e within =
     let told = told_some (header_at limit b) end e in
     wants_rest w limit b told.0 n bytes told.1 (omega (arith, told.2, within))
 
--- so much is not
+-- Not that many.
 pub long_not : (w : Wire) (limit : Bounds) (b : List ℕ) (end : ℕ) → AreBytes b → end_told (header_at limit b) ≡ Ok (Some end) → end ≤ length b → Pending limit b → ⊥
 long_not w limit b end bytes e long pending =
     let told = told_some (header_at limit b) end e in

@@ -38,7 +38,7 @@ present_at (b ∷ bytes) = if b == 0 then Ok (false, bytes) else (if b == 1 then
 unfoldable pub connack_at : List ℕ → Result ConnAck BadField
 connack_at bytes = present_at bytes >>= λ present. answer_at present.0 present.1 >>= λ answer. end_at answer.1 >>= λ end. Ok answer.0
 
--- the identifier of a PUBLISH (3.3.2.2), where the quality of service is over 0
+-- The identifier of a PUBLISH with QoS 1 or 2 (3.3.2.2).
 abbrev pub identified_at : Bool → List ℕ → Result (Option Delivery × List ℕ) BadField
 identified_at dup bytes = identifier_at bytes >>= λ id. Ok (Some (record { id = id.0; dup = dup }), id.1)
 

@@ -12,8 +12,8 @@ use Rattle.mq_decode.specs.declared.flags.WillFlags.{WillFlags}
 use Rattle.mq_decode.specs.Gives.{◌>>=◌}
 use Rattle.mq_decode.specs.Fields.{bad_at, number_at, text_at, name_at, binary_at, end_at}
 
--- the bits of the flags (3.1.2.3) that speak of the will: without bit 2 none of bits 3, 4 and 5 is set, and the quality of
--- service is not 3
+-- the bits of the flags (3.1.2.3) that speak of the will: without bit 2 none of bits 3, 4 and 5 is
+-- set, and the quality of service is not 3
 abbrev pub will_with : Option Qos → Bool → Option (Option WillFlags)
 will_with None retain = None
 will_with (Some qos) retain = Some (Some (record { qos = qos; retain = retain }))
@@ -21,7 +21,8 @@ will_with (Some qos) retain = Some (Some (record { qos = qos; retain = retain })
 abbrev pub will_from : ℕ → Option (Option WillFlags)
 will_from x = if x / 4 % 2 == 1 then will_with (qos_from (x / 8 % 4)) (x / 32 % 2 == 1) else (if x / 8 % 8 == 0 then Some None else None)
 
--- those that speak of the user name and the password: without bit 7 bit 6 is not set; Some b: whether there is a password
+-- those that speak of the user name and the password: without bit 7 bit 6 is not set; Some b:
+-- whether there is a password
 abbrev pub login_from : ℕ → Option (Option Bool)
 login_from x = if x / 128 == 1 then Some (Some (x / 64 % 2 == 1)) else (if x / 64 % 2 == 0 then Some None else None)
 
@@ -55,18 +56,18 @@ abbrev pub level_at : List ℕ → Result (List ℕ) BadField
 level_at [] = Err (bad_at PastEnd [])
 level_at (b ∷ bytes) = if b == 4 then Ok bytes else Err (bad_at ProtocolLevel (b ∷ bytes))
 
--- the will (3.1.3.2, 3.1.3.3), where the flags say that there is one
+-- The will (3.1.3.2, 3.1.3.3), if the flags announce one.
 unfoldable pub will_at : Option WillFlags → List ℕ → Result (Option Will × List ℕ) BadField
 will_at None bytes = Ok (None, bytes)
 will_at (Some flags) bytes = name_at bytes >>= λ t. binary_at t.1 >>= λ m.
     Ok (Some (record { topic = t.0; message = m.0; qos = flags.qos; retain = flags.retain }), m.1)
 
--- the password (3.1.3.5), where there is one
+-- The password (3.1.3.5), if there is one.
 unfoldable pub password_at : Bool → List ℕ → Result (Option (List ℕ) × List ℕ) BadField
 password_at false bytes = Ok (None, bytes)
 password_at true bytes = binary_at bytes >>= λ p. Ok (Some p.0, p.1)
 
--- the user name (3.1.3.4) and the password, where there are any
+-- The user name (3.1.3.4) and the password, if there are any.
 unfoldable pub login_at : Option Bool → List ℕ → Result (Option Login × List ℕ) BadField
 login_at None bytes = Ok (None, bytes)
 login_at (Some has_password) bytes = text_at bytes >>= λ name. password_at has_password name.1 >>= λ p. Ok (Some (record { name = name.0; password = p.0 }), p.1)

@@ -1,5 +1,5 @@
--- Reading single fields from the front of the bytes of a packet (1.5). Each gives its value and the bytes after it, or the
--- first thing that is wrong, with the number of bytes from the field on.
+-- Reading single fields from the front of the bytes of a packet (1.5). Each gives its value and the
+-- bytes after it, or the first thing that is wrong, with the number of bytes from the field on.
 use Rattle.std.specs.Prelude.{ℕ, List, [], ◌∷◌, length, take, drop, Option, Some, None, Result, Ok, Err, nat_lt, ◌==◌, if◌then◌else◌}
 use Rattle.mq_wire.specs.declared.text.FieldFault.TheVariants as texts
 use Rattle.mq_wire.specs.declared.text.FieldFault.{FieldFault}
@@ -47,7 +47,7 @@ name_at bytes = text_at bytes >>= λ t. if is_topic_name t.0 then Ok t else Err 
 unfoldable pub filter_at : List ℕ → Result (List ℕ × List ℕ) BadField
 filter_at bytes = text_at bytes >>= λ t. if is_topic_filter t.0 then Ok t else Err (bad_at NotTopicFilter bytes)
 
--- a binary: a count of two bytes, and so many bytes
+-- A binary field: two bytes with the number of bytes, and the bytes.
 unfoldable pub binary_at : List ℕ → Result (List ℕ × List ℕ) BadField
 binary_at bytes = number_at bytes >>= λ n. if nat_lt (length n.1) n.0 then Err (bad_at PastEnd bytes) else Ok (take n.0 n.1, drop n.0 n.1)
 

@@ -1,4 +1,4 @@
--- Reading what stands at the front of bytes: a packet, less than a whole one, or the first fault.
+-- Reading the front of a buffer: a packet, less than a packet, or the first fault.
 use Rattle.std.specs.Prelude.{ℕ, ◌+◌, ◌-◌, List, [], ◌∷◌, length, take, drop, Option, Some, None, Result, Ok, Err, nat_lt, if◌then◌else◌}
 use Rattle.mq_wire.specs.declared.length_reading.LengthReading.{LengthReading}
 use Rattle.mq_wire.specs.declared.length_reading.LengthReading.TheVariants.{Whole, Unfinished, TooLong, Overlong}
@@ -43,13 +43,13 @@ len_told (Ok (Some h)) = Some (h.start + h.size)
 len_told (Ok None) = None
 len_told (Err fault) = None
 
--- where the packet ends, as the header says, or its fault
+-- The end of the packet as its header states it, or the fault of the header.
 abbrev pub end_told : Result (Option Header) DecodeFault → Result (Option ℕ) DecodeFault
 end_told (Ok (Some h)) = Ok (Some (h.start + h.size))
 end_told (Ok None) = Ok None
 end_told (Err fault) = Err fault
 
--- the packet and where it ends, or the place of its first bad field
+-- The packet and its end, or the place of its first invalid field.
 abbrev pub packet_or_fault : ℕ → Result Packet BadField → Result (Option (Packet × ℕ)) DecodeFault
 packet_or_fault end (Ok packet) = Ok (Some (packet, end))
 packet_or_fault end (Err bad) = Err (fault_at bad.kind (end - bad.left))
@@ -59,6 +59,6 @@ front_after (Err fault) bytes = Err fault
 front_after (Ok None) bytes = Ok None
 front_after (Ok (Some h)) bytes = if nat_lt (length bytes) (h.start + h.size) then Ok None else packet_or_fault (h.start + h.size) (body_at h.kind (take h.size (drop h.start bytes)))
 
--- the packet at the front and how many bytes it takes, nothing where it isn't whole, or its first fault
+-- The packet at the front with its size, nothing if it is incomplete, or its first fault.
 unfoldable pub front_at : Bounds → List ℕ → Result (Option (Packet × ℕ)) DecodeFault
 front_at limits bytes = front_after (header_at limits bytes) bytes

@@ -4,13 +4,13 @@ use Rattle.mq_decode.specs.declared.fault.BadField.{BadField}
 use Rattle.mq_decode.specs.declared.fault.FieldsError.{FieldsError}
 use Rattle.mq_decode.specs.declared.fault.FieldsError.TheVariants as errors
 
--- one field after another, up to the first that is bad
+-- Reads one field after another, up to the first invalid one.
 infixl 10 ◌>>=◌
 abbrev pub ◌>>=◌ : {A B : Type 0} → Result A BadField → (A → Result B BadField) → Result B BadField
 (Ok x) >>= f = f x
 (Err e) >>= f = Err e
 
--- what a function returned, seen by view, is what reading gives
+-- The result of a function, as contracts see it, is the result of reading.
 abbrev pub Same : {X Y : Type 0} → (X → Y) → Result X BadField → Result Y BadField → Type 0
 Same view (Ok x) read = read ≡ Ok (view x)
 Same view (Err bad) read = read ≡ Err bad

@@ -1,4 +1,4 @@
--- Streams of packets, and what may be left over (chapters 2 and 3).
+-- Streams of packets, and the bytes behind them (chapters 2 and 3).
 use Rattle.std.specs.Prelude.{◌≡◌, ℕ, ◌+◌, ◌-◌, ◌<◌, ◌≤◌, Bool, true, false, List, [], ◌∷◌, ◌++◌, length, take, Option, Some, None, Result, Ok, Err, ◌⊎◌}
 use Rattle.mq_wire.specs.Length.{LooseLength, LengthUnder}
 use Rattle.mq_wire.specs.Reading.{IsTooLong, IsOverlong}
@@ -15,7 +15,7 @@ use Rattle.mq_decode.specs.Kind.{kind_at, size_fault}
 use Rattle.mq_decode.specs.Limits.{Bounds}
 use Rattle.mq_decode.specs.Bodies.{body_at}
 
--- b spells p (chapter 3), but for a remaining length that may have more bytes than it needs
+-- `b` encodes `p` (chapter 3), except that its remaining length may have more bytes than necessary.
 pub record LooselyEncodes (p : Packet) (b : List ℕ) : Type 0 where
   pub packet : IsPacket p
   pub len : List ℕ
@@ -44,8 +44,8 @@ pub record FirstFault (b : List ℕ) (k : FaultKind) (place : ℕ) : Type 0 wher
   pub fault : kind_at first ≡ Err k
   pub here : place ≡ 0
 
--- the remaining length is none (2.2.3): a fourth byte says that a fifth follows, or, under strict limits, a last byte of 0
--- is not alone
+-- the remaining length is none (2.2.3): a fourth byte says that a fifth follows, or, under strict
+-- limits, a last byte of 0 is not alone
 abbrev pub BadLength : Bounds → List ℕ → FaultKind → ℕ → Type 0
 BadLength limits rest LengthTooLong place = IsTooLong rest × (place ≡ 4)
 BadLength limits rest LengthOverlong place = (limits.lenient ≡ false) × IsOverlong rest place
@@ -72,8 +72,8 @@ pub record SizeFault (limits : Bounds) (b : List ℕ) (k : FaultKind) (place : �
   pub fault : size_fault limits.most kind n ≡ Some k
   pub here : place ≡ 1
 
--- the header is right and the packet whole, and this is the first field that is not of its kind: with so many bytes from it
--- to the packet's end
+-- The header is valid and the packet complete; this is the first invalid field, counted by the
+-- number of bytes from it to the end of the packet.
 pub record FieldFault (limits : Bounds) (b : List ℕ) (k : FaultKind) (place : ℕ) : Type 0 where
   pub first : ℕ
   pub len : List ℕ
@@ -88,8 +88,8 @@ pub record FieldFault (limits : Bounds) (b : List ℕ) (k : FaultKind) (place : 
   pub fault : body_at kind body ≡ Err (record { kind = k; left = left })
   pub here : place ≡ 1 + length len + length body - left
 
--- a right header stands at the front of b (2.2): a first byte that is one, and a remaining length that is within the limits and right
--- for its kind; with it a packet takes so many bytes
+-- `b` begins with a valid header (2.2): a valid first byte, and a remaining length within the
+-- limits and valid for its type. The packet then takes `size` bytes.
 pub record HasHeader (limits : Bounds) (b : List ℕ) (size : ℕ) : Type 0 where
   pub first : ℕ
   pub n : ℕ
@@ -102,7 +102,7 @@ pub record HasHeader (limits : Bounds) (b : List ℕ) (size : ℕ) : Type 0 wher
   pub fits : size_fault limits.most kind n ≡ None
   pub told : size ≡ 1 + length len + n
 
--- b begins with what is no packet: the first fault, and its place
+-- `b` begins with a malformed packet: its first fault, and the place of the fault.
 pub data Faulty (limits : Bounds) (b : List ℕ) (k : FaultKind) (place : ℕ) : Type 0 where
   AtFirst : FirstFault b k place → Faulty limits b k place
   AtLength : LengthFault limits b k place → Faulty limits b k place
@@ -126,7 +126,7 @@ pub record Reading (limits : Bounds) (b : List ℕ) (ps : List Packet) (rest : L
   pub parts : b ≡ front ++ rest
   pub ends : Ends limits rest end
 
--- the packets are a beginning of those that b spells, and something of b is left behind them
+-- The packets are the first ones of a stream `b`, which has more bytes behind them.
 pub record Begins (limits : Bounds) (b : List ℕ) (ps : List Packet) : Type 0 where
   pub front : List ℕ
   pub stream : Stream limits ps front
@@ -138,12 +138,13 @@ pub record Begins (limits : Bounds) (b : List ℕ) (ps : List Packet) : Type 0 w
 abbrev pub Goes : Bounds → List ℕ → List Packet → List Packet → List ℕ → Type 0
 Goes limits b old new rest = (ps : List Packet) × (new ≡ old ++ ps) × Reading limits b ps rest None
 
--- where reading b stops: new is old with the packets before the fault, or with some of them where memory ran out
+-- Reading `b` stops: `new` is `old` with the packets before the fault, or with some of them if an
+-- allocation failed.
 abbrev pub Stops : Bounds → List ℕ → List Packet → List Packet → DecodeError → Type 0
 Stops limits b old new (errors.Fault fault) = (ps : List Packet) × (rest : List ℕ) × (new ≡ old ++ ps) × Reading limits b ps rest (Some fault)
 Stops limits b old new errors.Memory = (ps : List Packet) × (new ≡ old ++ ps) × Begins limits b ps
 
--- what stands at the front: less than a whole packet, a packet of so many bytes, or a fault
+-- The front of the buffer: less than a packet, a packet with its size, or a fault.
 abbrev pub IsFront : Bounds → List ℕ → Result (Option (Packet × ℕ)) DecodeError → Type 0
 IsFront limits b (Ok None) = Pending limits b
 IsFront limits b (Ok (Some x)) = (x.1 ≤ length b) × ReadsWithin limits x.0 (take x.1 b)
@@ -154,7 +155,7 @@ IsFront limits b (Err (errors.Fault fault)) = Faulty limits b fault.kind fault.p
 abbrev pub IsAlone : Bounds → List ℕ → Type 0
 IsAlone limits b = (p : Packet) (first rest : List ℕ) → ReadsWithin limits p first → b ≡ first ++ rest → rest ≡ []
 
--- what is pending wants so many bytes: with less it is pending still
+-- Pending bytes are missing at least this many bytes: with fewer they are still pending.
 abbrev pub Wants : Bounds → List ℕ → ℕ → Type 0
 Wants limits b n = Pending limits b → (more : List ℕ) → length more < n → Pending limits (b ++ more)
 

@@ -1,4 +1,4 @@
--- What a first byte stands for (2.2.1, 2.2.2), and the types of a fixed remaining length.
+-- The meaning of the first byte (2.2.1, 2.2.2), and the types with a fixed remaining length.
 use Rattle.std.specs.Prelude.{ℕ, ◌/◌, ◌%◌, Bool, true, false, Option, Some, None, Result, Ok, Err, ◌==◌, nat_lt, if◌then◌else◌}
 use Rattle.mq_topic.specs.declared.qos.Qos.{Qos}
 use Rattle.mq_topic.specs.declared.qos.Qos.TheVariants.{Q0, Q1, Q2}

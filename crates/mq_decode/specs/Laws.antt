@@ -17,13 +17,13 @@ OneReading = (limits : Bounds) (b : List ℕ) (ps qs : List Packet) (rest last :
 abbrev pub EachReads : Type 0
 EachReads = (limits : Bounds) (b : List ℕ) → AreBytes b → (ps : List Packet) × (rest : List ℕ) × (end : Option DecodeFault) × Reading limits b ps rest end
 
--- what is pending has at most five bytes more than the limit
+-- Pending bytes exceed the limit by at most five bytes.
 abbrev pub PendingIsShort : Type 0
 PendingIsShort = (limits : Bounds) (b : List ℕ) → AreBytes b → Pending limits b → length b ≤ 5 + limits.most
 
 -- a packet that is read at the front
 pub record ReadsAgain : Type 0 where
-  -- each that is spelled is one, under all limits within which it is
+  -- Each encoding is read as its packet, under all limits that admit it.
   pub encoded : (limits : Bounds) (p : Packet) (s : List ℕ) → Encodes p s → length (fields p) ≤ limits.most → ReadsWithin limits p s
   -- is the only one
   pub one : (limits : Bounds) (p q : Packet) (s t rest more : List ℕ) → ReadsWithin limits p s → ReadsWithin limits q t → s ++ rest ≡ t ++ more → (p ≡ q) × (rest ≡ more)
@@ -32,7 +32,8 @@ pub record ReadsAgain : Type 0 where
   -- and is no fault
   pub right : (limits : Bounds) (p : Packet) (s rest : List ℕ) (k : FaultKind) (place : ℕ) → ReadsWithin limits p s → Faulty limits (s ++ rest) k place → ⊥
 
--- a packet of what is held and the front of a piece, and then a reading of the rest of the piece, are a reading of both
+-- A packet from the held bytes and the front of a piece, followed by a reading of the rest of the
+-- piece, is a reading of both.
 abbrev pub ReadsOn : Type 0
 ReadsOn = (limits : Bounds) (held piece : List ℕ) (p : Packet) (n : ℕ) (ps : List Packet) (rest : List ℕ) (end : Option DecodeFault)
     → ReadsWithin limits p (held ++ take n piece) → Reading limits (drop n piece) ps rest end → Reading limits (held ++ piece) (p ∷ ps) rest end

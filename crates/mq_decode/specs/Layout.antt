@@ -1,4 +1,4 @@
--- The fields of each type of packet, in their order (chapter 3), and the first that is not of its kind.
+-- The fields of each type of packet in order (chapter 3), and the first invalid one.
 use Rattle.std.specs.Prelude.{◌≡◌, ℕ, zero, suc, ◌+◌, ◌*◌, ◌<◌, Bool, true, false, List, [], ◌∷◌, ◌++◌, length, Option, Some, None, Ok, ◌⊎◌}
 use Rattle.mq_wire.specs.Bytes.{AreBytes}
 use Rattle.mq_wire.specs.Length.{LengthUnder}
@@ -36,7 +36,7 @@ pub data Field : Type 0 where
   Protocol : Field
   Level : Field
   Flags : ConnectFlags → Field
-  -- of CONNACK: this Session Present, and a return code beside it
+  -- CONNACK: Session Present with this value, and a return code next to it.
   Present : Bool → Field
   Returned : Bool → Field
   -- of SUBSCRIBE and SUBACK: a quality of service that is asked for, a code
@@ -46,7 +46,8 @@ pub data Field : Type 0 where
   Payload : Field
   End : Field
 
--- the byte of flags (3.1.2.3): bit 7 user name, 6 password, 5 will retain, 4 and 3 will quality of service, 2 will, 1 clean session, 0 always 0
+-- the byte of flags (3.1.2.3): bit 7 user name, 6 password, 5 will retain, 4 and 3 will quality of
+-- service, 2 will, 1 clean session, 0 always 0
 abbrev pub will_bits : Option WillFlags → ℕ
 will_bits None = 0
 will_bits (Some will) = 4 + 8 * qos_number will.qos + 32 * bit will.retain
@@ -58,7 +59,7 @@ login_bits (Some password) = 128 + 64 * bit password
 abbrev pub flags_byte : ConnectFlags → ℕ
 flags_byte flags = 2 * bit flags.clean_session + will_bits flags.will + login_bits flags.password
 
--- a return code (3.2.2.3): 0, or that of a refusal where Session Present is 0
+-- A return code (3.2.2.3): 0, or that of a refusal if Session Present is 0.
 abbrev pub IsReturned : Bool → List ℕ → Type 0
 IsReturned false s = (s ≡ 0 ∷ []) ⊎ ((code : RefusalCode) × (s ≡ refusal_number code ∷ []))
 IsReturned true s = s ≡ 0 ∷ []
@@ -81,7 +82,7 @@ IsField Granted s = (code : SubAckCode) × (s ≡ code_number code ∷ [])
 IsField Payload s = Unit {0}
 IsField End s = s ≡ []
 
--- such a field stands at the front of b; the end stands only where nothing is left
+-- `b` begins with such a field. The end is such a field only if nothing is left.
 abbrev pub Begins : Field → List ℕ → Type 0
 Begins field b = (s : List ℕ) × (rest : List ℕ) × IsField field s × (b ≡ s ++ rest)
 
@@ -107,7 +108,7 @@ abbrev pub Laid : List Field → List ℕ → Type 0
 Laid [] b = b ≡ []
 Laid (field ∷ more) b = (s : List ℕ) × (rest : List ℕ) × IsField field s × Laid more rest × (b ≡ s ++ rest)
 
--- the will and the login, where the flags say that there is one (3.1.3)
+-- The will and the login, if the flags announce them (3.1.3).
 abbrev pub will_layout : Option WillFlags → List Field
 will_layout None = []
 will_layout (Some will) = Name ∷ Binary ∷ []
@@ -127,7 +128,7 @@ delivery_layout Q0 = []
 delivery_layout Q1 = Identifier ∷ []
 delivery_layout Q2 = Identifier ∷ []
 
--- so many items, and the end
+-- This many items, then the end.
 abbrev pub repeated : List Field → ℕ → List Field
 repeated item zero = End ∷ []
 repeated item (suc n) = item ++ repeated item n
@@ -153,7 +154,8 @@ Layout kinds.PingReq fields = fields ≡ End ∷ []
 Layout kinds.PingResp fields = fields ≡ End ∷ []
 Layout kinds.Disconnect fields = fields ≡ End ∷ []
 
--- front is the fields before one that is not of its kind: some layout goes on behind them, and none with a field that stands there
+-- `front` is the fields before the first invalid one: some layout continues behind them, and none
+-- with a field that is valid there.
 pub record FirstBad (layout : List Field → Type 0) (front after : List ℕ) : Type 0 where
   pub before : List Field
   pub right : Laid before front
@@ -162,7 +164,8 @@ pub record FirstBad (layout : List Field → Type 0) (front after : List ℕ) : 
   pub goes_on : layout (before ++ next ∷ more)
   pub wrong : (field : Field) (others : List Field) → layout (before ++ field ∷ others) → Stands field after → ⊥
 
--- a packet whose header is right and that is whole begins b, and at this place is the first of its fields that is not of its kind
+-- a packet whose header is right and that is whole begins b, and at this place is the first of its
+-- fields that is not of its kind
 pub record BadFieldAt (limits : Bounds) (b : List ℕ) (place : ℕ) : Type 0 where
   pub first : ℕ
   pub len : List ℕ
@@ -176,6 +179,6 @@ pub record BadFieldAt (limits : Bounds) (b : List ℕ) (place : ℕ) : Type 0 wh
   pub bad : FirstBad (Layout kind) front after
   pub here : place ≡ 1 + length len + length front
 
--- the fault of a field stands at the first that is not of its kind
+-- The fault of a field is that of the first invalid field.
 abbrev pub FaultyFields : Type 0
 FaultyFields = (limits : Bounds) (b : List ℕ) (k : FaultKind) (place : ℕ) → AreBytes b → FieldFault limits b k place → BadFieldAt limits b place

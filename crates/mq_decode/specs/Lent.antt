@@ -1,4 +1,4 @@
--- What bytes that were tested stand for.
+-- The meaning of validated bytes.
 use Rattle.std.specs.Prelude.{◌≡◌, ℕ, ◌+◌, ◌<◌, ◌≤◌, ◌^◌, true, false, List, [], length, slice_range, Option, Some, None, Result, Ok, Err, IsOk}
 use Rattle.mq_topic.specs.declared.qos.Qos.{Qos}
 use Rattle.mq_topic.specs.Topic.{is_topic_name}
@@ -25,12 +25,12 @@ abbrev pub connect_in : Result Connect BadField → Connect
 connect_in (Ok connect) = connect
 connect_in (Err bad) = record { client_id = []; clean_session = false; keep_alive = 0; will = None; login = None }
 
--- the bytes after what was read
+-- The bytes behind the result.
 abbrev pub rest_of : {A : Type 0} → Result (A × List ℕ) BadField → Result (List ℕ) BadField
 rest_of (Ok x) = Ok x.1
 rest_of (Err bad) = Err bad
 
--- what a test says of a reading: that there is one, or its fault
+-- A test agrees with a reading: it passes, or reports the same fault.
 abbrev pub Tests : {Y : Type 0} → Result (Unit {0}) BadField → Result Y BadField → Type 0
 Tests (Ok done) read = IsOk read
 Tests (Err bad) read = read ≡ Err bad
@@ -40,11 +40,12 @@ abbrev pub delivery_len : Option Delivery → ℕ
 delivery_len None = 0
 delivery_len (Some delivery) = 2
 
--- how many bytes of a PUBLISH stand before its payload (3.3.3): the topic name behind its count, and the identifier
+-- The number of bytes of a PUBLISH before its payload (3.3.3): the topic name with its length, and
+-- the identifier.
 abbrev pub payload_start : List ℕ → Option Delivery → ℕ
 payload_start topic delivery = 2 + length topic + delivery_len delivery
 
--- the topic name of a PUBLISH stands at the front of its fields, and its delivery fits
+-- The fields of a PUBLISH begin with its topic name, and the delivery fits the QoS.
 pub record LiesIn (fields topic : List ℕ) (qos : Qos) (delivery : Option Delivery) : Type 0 where
   pub within : payload_start topic delivery ≤ length fields
   pub stands : slice_range fields 2 (2 + length topic) ≡ topic
@@ -52,7 +53,7 @@ pub record LiesIn (fields topic : List ℕ) (qos : Qos) (delivery : Option Deliv
   pub fits : fits_delivery qos delivery ≡ true
   pub small : length fields < 2 ^ 28
 
--- a PUBLISH in bytes: all its fields, and what they say
+-- A PUBLISH in a buffer: all its fields, and their meaning.
 pub record LentPublish : Type 0 where
   pub fields : List ℕ
   pub publish : Publication

@@ -1,4 +1,4 @@
--- Bounds on what is read.
+-- Limits on packets that are read.
 use Rattle.std.specs.Prelude.{ℕ, Bool, true, false}
 
 -- the greatest remaining length, and whether one may have more bytes than it needs (2.2.3)

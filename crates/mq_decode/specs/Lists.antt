@@ -9,13 +9,13 @@ use Rattle.mq_decode.specs.declared.fault.BadField.{BadField}
 use Rattle.mq_decode.specs.Gives.{◌>>=◌}
 use Rattle.mq_decode.specs.Fields.{bad_at, identifier_at, filter_at, code_byte_at}
 
--- the items up to the end of the packet; no more of them than so many
+-- The items up to the end of the packet, at most this many.
 abbrev pub items_at : {A : Type 0} → (List ℕ → Result (A × List ℕ) BadField) → ℕ → List ℕ → Result (List A) BadField
 items_at item more [] = Ok []
 items_at item zero (b ∷ bytes) = Ok []
 items_at item (suc more) (b ∷ bytes) = item (b ∷ bytes) >>= λ x. items_at item more x.1 >>= λ xs. Ok (x.0 ∷ xs)
 
--- at least one item; each takes a byte or more, so there are no more of them than bytes
+-- At least one item. Each takes at least one byte, so there are at most as many as bytes.
 abbrev pub list_at : {A : Type 0} → (List ℕ → Result (A × List ℕ) BadField) → List ℕ → Result (List A) BadField
 list_at item [] = Err (bad_at EmptyList [])
 list_at item (b ∷ bytes) = items_at item (length (b ∷ bytes)) (b ∷ bytes)

@@ -1,4 +1,4 @@
--- What reading a packet from a reader says of the bytes that it had left, where these are known.
+-- Reading a packet from a reader, in terms of the reader's remaining bytes, if they are known.
 use Rattle.std.specs.Prelude.{◌≡◌, ℕ, ◌<◌, List, length, take, Option, Some, None, IfSome, Result, Ok, Err}
 use Rattle.std.specs.Io.KnownBytes.{Consumes}
 use Rattle.mq_packet.specs.declared.packet.Packet.{Packet}
@@ -16,19 +16,19 @@ ReadStops limits left (errors.Io error) = Unit {0}
 ReadStops limits left (errors.Fault fault) = IfSome left (λ b. Faulty limits b fault.kind fault.place)
 ReadStops limits left errors.Memory = IfSome left (λ b. 0 < length b)
 
--- what was taken before an error is within the packet that it is of: each shorter beginning of it is less than a whole packet, and nothing is
--- wrong with it
+-- The bytes taken before an error belong to one packet: each proper prefix of them is less than a
+-- packet and has no fault.
 abbrev pub TakesWithin : Bounds → Option (List ℕ) → Option (List ℕ) → Type 0
 TakesWithin limits old new = (taken : List ℕ) × Consumes old new taken × ((n : ℕ) → n < length taken → Pending limits (take n taken))
 
--- a reader that gives no more bytes failed, or memory ran out
+-- A reader without more bytes failed, or an allocation did.
 abbrev pub FillStops : ReadError → Type 0
 FillStops errors.Cut = ⊥
 FillStops (errors.Io error) = Unit {0}
 FillStops (errors.Fault fault) = ⊥
 FillStops errors.Memory = Unit {0}
 
--- where a packet was left, it was read, unless the reader failed or memory ran out
+-- A packet that remained is read, unless the reader or an allocation failed.
 abbrev pub Answers : Packet → List ℕ → Result (Option Packet) ReadError → Option (List ℕ) → Type 0
 Answers p rest (Ok o) left = (o ≡ Some p) × (left ≡ Some rest)
 Answers p rest (Err errors.Cut) left = ⊥
@@ -36,11 +36,11 @@ Answers p rest (Err (errors.Io error)) left = Unit {0}
 Answers p rest (Err (errors.Fault fault)) left = ⊥
 Answers p rest (Err errors.Memory) left = Unit {0}
 
--- a packet of so many bytes was taken, and it is read so
+-- The bytes of one packet were taken, and are read as that packet.
 abbrev pub TakesSized : Bounds → Option (List ℕ) → Option (List ℕ) → Packet × ℕ → Type 0
 TakesSized limits old new x = (s : List ℕ) × ReadsWithin limits x.0 s × Consumes old new s × (x.1 ≡ length s)
 
--- what was read, without its size
+-- The packet that was read, without its size.
 abbrev pub without_size : Result (Option (Packet × ℕ)) ReadError → Result (Option Packet) ReadError
 without_size (Ok (Some x)) = Ok (Some x.0)
 without_size (Ok None) = Ok None

@@ -1,17 +1,18 @@
--- What contracts see of a decoder.
+-- A decoder as contracts see it.
 use Rattle.std.specs.Prelude.{ℕ, List, Option}
 use Rattle.mq_decode.specs.Limits.{Bounds}
 use Rattle.mq_decode.specs.declared.fault.DecodeError.{DecodeError}
 
--- the bounds on what is read, the bytes of the packet that isn't whole, the error after which it stands still, and how many bytes were put
--- into its own buffer
+-- The limits, the bytes of the incomplete packet, the error after which it stops, and the number of
+-- bytes copied into its own buffer.
 pub record State : Type 0 where
   pub limit : Bounds
   pub held : List ℕ
   pub failed : Option DecodeError
   pub copied : ℕ
 
--- the bytes that are held, how many more their packet wants at least (0 where that wasn't asked), and how many were put there
+-- The held bytes, a lower bound on the missing bytes of their packet (0 if unknown), and the number
+-- of bytes copied.
 pub record HeldBytes : Type 0 where
   pub bytes : List ℕ
   pub wants : ℕ

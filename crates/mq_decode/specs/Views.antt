@@ -1,4 +1,4 @@
--- The packet that a view stands for, and what a view says of bytes.
+-- The packet behind a view, and the result of viewing a buffer.
 use Rattle.std.specs.Prelude.{ℕ, ◌≤◌, List, length, take, Option, Some, None, Result, Ok, Err}
 use Rattle.mq_packet.specs.declared.connect.Connect.{Connect}
 use Rattle.mq_packet.specs.declared.packet.Packet.{Packet}
@@ -17,7 +17,7 @@ use Rattle.mq_decode.specs.Grammar.{ReadsWithin, Faulty, Pending}
 abbrev pub connect_of : ConnectFields → Connect
 connect_of c = record { client_id = c.client_id; clean_session = c.clean_session; keep_alive = c.keep_alive; will = c.will; login = c.login }
 
--- the packet that a view stands for
+-- The packet behind a view.
 abbrev pub packet_of : PacketView → Packet
 packet_of (lent.Connect connect) = packets.Connect connect
 packet_of (lent.ConnAck answer) = packets.ConnAck answer
@@ -34,13 +34,13 @@ packet_of lent.PingReq = packets.PingReq
 packet_of lent.PingResp = packets.PingResp
 packet_of lent.Disconnect = packets.Disconnect
 
--- what stands at the front of b: a packet of so many bytes, less than a whole one, or a fault
+-- The front of `b`: a packet with its size, less than a packet, or a fault.
 abbrev pub IsView : Bounds → List ℕ → View → Type 0
 IsView limits b (views.Whole packet n) = (n ≤ length b) × ReadsWithin limits (packet_of packet) (take n b)
 IsView limits b views.More = Pending limits b
 IsView limits b (views.Fault fault) = Faulty limits b fault.kind fault.place
 
--- what a view read
+-- The result of a view.
 abbrev pub view_read : View → Result (Option (Packet × ℕ)) DecodeFault
 view_read (views.Whole packet n) = Ok (Some (packet_of packet, n))
 view_read views.More = Ok None
@@ -63,7 +63,7 @@ LiesAtEnd b lent.PingReq = Unit {0}
 LiesAtEnd b lent.PingResp = Unit {0}
 LiesAtEnd b lent.Disconnect = Unit {0}
 
--- the packet that a view lends ends where its bytes do
+-- The packet that a view borrows ends with its bytes.
 abbrev pub LiesInFront : List ℕ → View → Type 0
 LiesInFront b (views.Whole packet n) = LiesAtEnd (take n b) packet
 LiesInFront b views.More = Unit {0}

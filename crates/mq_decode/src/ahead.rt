@@ -1,4 +1,4 @@
-//! Packets that are taken one at a time, whose messages share a copy of what comes next.
+//! Packets taken one at a time, whose messages share a copy of the bytes ahead.
 
 ghost use Rattle.std.specs.Prelude.{◌≡◌, ◌<◌, ◌≤◌, ◌^◌, ◌++◌, [], length, take, Err, Ok, Some, IfOk, IfErr, IfNone, IfSome, IsTrue, OnOk};
 ghost use Rattle.mq_packet.specs.declared.packet.Packet.TheVariants as packets;
@@ -20,8 +20,8 @@ use mq_packet::{Packet, Publish};
 use mq_wire::{length_laws, number_laws, text_laws};
 use std::alloc::{AllocError, Global};
 
-/// The most bytes of which messages that are taken one at a time share one copy, since one may be kept for long; a longer packet has one of its
-/// own.
+/// The most bytes of which messages that are taken one at a time share one copy, since one may be
+/// kept for long; a longer packet has one of its own.
 const SHARED_AHEAD: usize = 1024;
 
 // Whether a copy begins with these bytes.
@@ -31,8 +31,8 @@ fn begins_with(copy: &Bytes, front: &[u8]) -> bool
     copy.as_slice().starts_with(front)
 }
 
-// The first `size` bytes, out of a copy of what was to come where that begins with them, and else out of a copy of the front of all bytes
-// that is made anew. What is left of it is to come next.
+// The first `size` bytes, from the copy of the bytes ahead if it begins with them, otherwise from a
+// new copy of the front of the buffer. The rest of the copy is kept for the next packets.
 #[inline(always)]
 fn share_ahead(
     alloc: Global,
@@ -51,7 +51,7 @@ fn share_ahead(
     ahead.split_to(size)
 }
 
-// Passes the first `size` bytes over in a copy of what was to come, where that begins with them.
+// Skips the first `size` bytes in the copy of the bytes ahead, if it begins with them.
 fn pass_ahead(size: usize, bytes: &[u8], ahead: &mut Bytes)
     requires { size ≤ length bytes.now }
 {
@@ -61,8 +61,9 @@ fn pass_ahead(size: usize, bytes: &[u8], ahead: &mut Bytes)
     }
 }
 
-/// The PUBLISH that bytes begin with and how many it takes, where a whole one stands there and there is memory for it. It shares a copy of
-/// them and of what comes next. It is never inlined: what it takes on a frame would be zeroed for each packet that is no PUBLISH.
+/// The complete PUBLISH at the front with its size, if there is one and memory suffices. It shares
+/// a copy of its bytes and of those ahead. Never inlined: its stack frame would be zeroed for each
+/// other packet.
 #[inline(never)]
 pub(crate) fn take_publish(
     alloc: Global,
@@ -86,7 +87,7 @@ pub(crate) fn take_publish(
     }
 }
 
-// The packet that a view stands for, where it is no more than a kind and an identifier.
+// The packet behind a view, if it has at most an identifier.
 #[inline(always)]
 fn plain(packet: &PacketView<'_>) -> Option<Packet>
     ensures { IfSome result (λ p. p ≡ packet_of packet.now) }
@@ -104,7 +105,8 @@ fn plain(packet: &PacketView<'_>) -> Option<Packet>
     }
 }
 
-// A packet that stands at the front and is no more than a kind and an identifier, and how many bytes it takes (3.4 to 3.7, 3.11 to 3.14).
+// The packet at the front with its size, if it has at most an identifier (3.4 to 3.7, 3.11 to
+// 3.14).
 #[inline(always)]
 fn short_front(limits: Limits, bytes: &[u8]) -> Option<(PacketView<'_>, usize)>
     ensures read { IfSome result (λ x. front_at limits bytes.now ≡ Ok (Some (packet_of x.0, x.1))) }
@@ -119,8 +121,8 @@ fn short_front(limits: Limits, bytes: &[u8]) -> Option<(PacketView<'_>, usize)>
     }
 }
 
-// The packet that bytes begin with and how many it takes, where a whole one stands there that is no more than a kind and an identifier. A
-// copy of what was to come is passed over. It is never inlined: what it takes on a frame would be zeroed for each longer packet.
+// The complete packet at the front with its size, if it has at most an identifier. Skips it in the
+// copy of the bytes ahead. Never inlined: its stack frame would be zeroed for each longer packet.
 #[inline(never)]
 fn take_short(limits: Limits, bytes: &[u8], ahead: &mut Bytes) -> Option<(Packet, usize)>
     ensures within { IfSome result (λ x. x.1 ≤ length bytes.now) }
@@ -135,8 +137,8 @@ fn take_short(limits: Limits, bytes: &[u8], ahead: &mut Bytes) -> Option<(Packet
     Some((packet, size))
 }
 
-// The packet at the front and how many bytes it takes, `None` where nothing is wrong but it is not whole, or the first fault. It has bytes of
-// its own. What was to come is passed over in its copy; where there is no packet the copy is let go.
+// The owned packet at the front with its size, `None` if it is incomplete, or its first fault.
+// Skips it in the copy of the bytes ahead; drops the copy if there is no packet.
 fn front_ahead(
     alloc: Global,
     limits: Limits,
@@ -164,8 +166,7 @@ fn front_ahead(
     }
 }
 
-// Takes the next packet of what is held and a piece that follows it, as `take_next` does, however many
-// bytes are wanted.
+// Takes the next packet like `take_next`, however many bytes are missing.
 #[inline(never)]
 fn take_found(
     alloc: Global,
@@ -202,11 +203,10 @@ fn take_found(
     }
 }
 
-/// Takes the next packet of what is held and a piece that follows it, and answers it with how many
-/// bytes of the piece it took; `None` where they are less than a whole packet, and then all of the
-/// piece is held. A piece that is shorter than what the held packet is known to want is put behind it, and
-/// nothing is read. A message that lies whole in the piece shares a copy of what comes next, which is kept for the next call and
-/// passed over where something else comes.
+/// Takes the next packet of the held bytes and a piece behind them. Returns it with the number of
+/// bytes used of the piece, or `None` if they hold less than a packet; then the whole piece is
+/// held. A piece shorter than the known number of missing bytes is only appended. A message that is
+/// complete in the piece shares a copy of the bytes ahead, which is kept for the next call.
 #[inline(never)]
 pub(crate) fn take_next(
     alloc: Global,

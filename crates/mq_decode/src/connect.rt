@@ -16,7 +16,7 @@ use mq_wire::TextRef;
 use std::alloc::{AllocError, Global};
 use std::marker::Model;
 
-/// The will of a CONNECT that lies in bytes (3.1.3.2, 3.1.3.3). Contracts see it as the will.
+/// The will of a borrowed CONNECT (3.1.3.2, 3.1.3.3).
 #[derive(Debug, Drop)]
 pub struct WillView<'a> {
     topic: TextRef<'a>,
@@ -38,7 +38,7 @@ impl<'a> Model for WillView<'a> {
 }
 
 impl<'a> WillView<'a> {
-    /// What it is published to.
+    /// The topic to publish it to.
     pub fn topic(&self) -> &'a str
         ensures value { result.now ≡ self.now.topic }
         ensures name { is_topic_name self.now.topic ≡ true }
@@ -46,14 +46,14 @@ impl<'a> WillView<'a> {
         self.topic.as_str()
     }
 
-    /// What it says.
+    /// The payload.
     pub fn message(&self) -> &'a [u8]
         ensures { result.now ≡ self.now.message }
     {
         self.message.as_slice()
     }
 
-    /// How often it is handed on.
+    /// The quality of service to publish it with.
     pub fn qos(&self) -> Qos
         ensures { result ≡ self.now.qos }
     {
@@ -82,7 +82,7 @@ impl<'a> WillView<'a> {
     }
 }
 
-/// A user name and a password that lie in bytes (3.1.3.4, 3.1.3.5). Contracts see them as the login.
+/// The user name and password of a borrowed CONNECT (3.1.3.4, 3.1.3.5).
 #[derive(Debug, Drop)]
 pub struct LoginView<'a> {
     name: TextRef<'a>,
@@ -105,7 +105,7 @@ impl<'a> LoginView<'a> {
         self.name.as_str()
     }
 
-    /// The password, where there is one.
+    /// The password, if there is one.
     pub fn password(&self) -> Option<&'a [u8]>
         ensures { MatchOption result (self.now.password ≡ None)
             (λ b. self.now.password ≡ Some b.now) }
@@ -129,7 +129,7 @@ impl<'a> LoginView<'a> {
     }
 }
 
-/// The fields of a CONNECT that lies in bytes (3.1).
+/// The fields of a borrowed CONNECT (3.1).
 #[derive(Debug, Drop)]
 pub struct ConnectFields<'a> {
     /// The client identifier (3.1.3.1), any text.
@@ -140,7 +140,7 @@ pub struct ConnectFields<'a> {
     pub keep_alive: u16,
     /// The message that is published when the connection ends without a DISCONNECT (3.1.2.5).
     pub will: Option<WillView<'a>>,
-    /// Who the client says that it is (3.1.3.4, 3.1.3.5).
+    /// User name and password (3.1.3.4, 3.1.3.5).
     pub login: Option<LoginView<'a>>,
 }
 
@@ -168,7 +168,7 @@ impl<'a> ConnectFields<'a> {
     }
 }
 
-/// A CONNECT that lies in bytes (3.1), which were tested. Contracts see it as the CONNECT.
+/// A valid CONNECT that is borrowed from a buffer (3.1).
 #[derive(Debug, Drop)]
 pub struct ConnectView<'a> {
     // All its fields.

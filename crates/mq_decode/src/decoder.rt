@@ -18,16 +18,17 @@ use mq_packet::{Packet, Publish};
 use std::alloc::Global;
 use std::marker::Model;
 
-/// Takes the packets out of a stream that comes in pieces, cut anywhere. It keeps the bytes of the
-/// packet that is not whole; a packet that lies whole in a piece is read from the piece. After an error it holds nothing, and answers the same error until
-/// `reset`.
+/// Splits a stream, which arrives in pieces that are cut anywhere, into packets. Copies only the
+/// bytes of a packet that is incomplete in its piece; complete packets are read from the piece.
+/// After an error it holds nothing and returns the same error until [`reset`](Decoder::reset).
 #[derive(Debug, Drop)]
 pub struct Decoder {
     alloc: Global,
     limits: Limits,
     held: Held,
     failed: Option<DecodeError>,
-    /// A copy of what may come next in the piece, while its packets are taken one at a time. Only messages that begin it share it.
+    /// A copy of the bytes ahead in the piece, while packets are taken one at a time. Only messages
+    /// at its front share it.
     ahead: Bytes,
 }
 
@@ -53,7 +54,7 @@ impl Model for Decoder {
 }
 
 impl Decoder {
-    /// A decoder that no byte has come to. It takes no memory.
+    /// A decoder that has received no bytes.
     pub fn new(alloc: Global, limits: Limits) -> Decoder
         ensures limit { result.limit ≡ limits }
         ensures held { result.held ≡ [] }
@@ -69,18 +70,19 @@ impl Decoder {
         }
     }
 
-    /// Takes the next piece of the stream, and appends each packet that is whole now. Packets before
-    /// an error are appended and stand. Messages that lie whole in the piece share copies of its bytes, so one that is kept keeps up to
-    /// 4 KiB; of those that `next_packet` gives, up to 1 KiB.
+    /// Takes the next piece of the stream, and appends each packet that is now complete. On an
+    /// error, the packets before it are appended. Messages that are complete in the piece share
+    /// copies of its bytes: one that is kept keeps up to 4 KiB in memory (1 KiB for messages from
+    /// `next_packet`). Errors: `Fault` if a packet is malformed, `Memory` if an allocation fails.
     #[inline]
     pub fn feed(&mut self, piece: &[u8], out: &mut Vec<Packet>) -> Result<(), DecodeError>
-        // The bytes held before and the piece are these packets, and what is held now.
+        // The held bytes and the piece are these packets and the bytes held afterwards.
         ensures ok { OnOk result (Goes self.old.limit (self.old.held ++ piece.now)
             out.old.items out.new.items self.new.held) }
-        // Or they stop at a fault, or where memory ran out.
+        // Or reading stops at a fault or a failed allocation.
         ensures err { self.old.failed ≡ None → IfErr result
             (Stops self.old.limit (self.old.held ++ piece.now) out.old.items out.new.items) }
-        // After an error it stands still.
+        // After an error it stops.
         ensures goes_on { OnOk result (self.old.failed ≡ None) }
         ensures again { IfSome self.old.failed
             (λ e. (result ≡ Err e) × (out.new.items ≡ out.old.items)) }
@@ -88,7 +90,7 @@ impl Decoder {
         // After an error nothing is held.
         ensures gone { OnErr result (self.new.held ≡ []) }
         ensures limit { self.new.limit ≡ self.old.limit }
-        // Just what belongs to a packet that doesn't lie whole in the piece is copied.
+        // Exactly the bytes that don't belong to a complete packet of the piece are copied.
         ensures copied { OnOk result (Copies self.old.limit self.old.held piece.now
             self.old.copied self.new.copied) }
     {
@@ -104,8 +106,8 @@ impl Decoder {
         }
     }
 
-    // Takes the PUBLISH that a piece begins with, where nothing is held: most packets of a busy stream are such. `None` where no whole one
-    // stands there, or memory runs out.
+    // Takes the PUBLISH at the front of a piece if nothing is held, the most frequent case. `None`
+    // if there is no complete one, or an allocation fails.
     #[inline(always)]
     fn next_publish(&mut self, piece: &[u8]) -> Option<(Publish, usize)>
         ensures within { IfSome result (λ x. x.1 ≤ length piece.now) }
@@ -120,18 +122,19 @@ impl Decoder {
         take_publish(self.alloc, self.limits, piece, &mut self.ahead)
     }
 
-    /// Takes the next whole packet of the stream, and answers it with the number of bytes of the piece
-    /// that it used. Returns `None` where what is held and the piece are less than a whole packet, and
-    /// then all of the piece is held. Messages that lie whole in the piece share copies of its bytes, where each call gets what the one before
-    /// left of it, so one that is kept keeps up to 1 KiB; and so does the decoder, up to the call that returns `None` or an error.
+    /// Takes the next complete packet of the stream. Returns it with the number of bytes used of
+    /// the piece, or `None` if the held bytes and the piece are less than a packet; then the whole
+    /// piece is held. Messages that are complete in the piece share copies of its bytes, of which
+    /// one that is kept keeps up to 1 KiB in memory; so does the decoder, until a call returns
+    /// `None` or an error.
     #[inline(always)]
     pub fn next_packet(&mut self, piece: &[u8]) -> Result<Option<(Packet, usize)>, DecodeError>
-        // What is held and the front of the piece are the packet, and nothing is held after it.
+        // The held bytes and the front of the piece are the packet, and nothing is held afterwards.
         ensures within { IfOk result (λ o. IfSome o (λ x. x.1 ≤ length piece.now)) }
         ensures packet { IfOk result (λ o. IfSome o
             (λ x. ReadsWithin self.old.limit x.0 (self.old.held ++ take x.1 piece.now))) }
         ensures taken { IfOk result (λ o. IfSome o (λ x. self.new.held ≡ [])) }
-        // What is held and the piece are less than a packet, and are held.
+        // The held bytes and the piece are less than a packet, and are held.
         ensures less { IfOk result (λ o. IfNone o
             (Pending self.old.limit (self.old.held ++ piece.now))) }
         ensures holds { IfOk result (λ o. IfNone o
@@ -139,14 +142,14 @@ impl Decoder {
         // They begin with a fault, or memory ran out, which is wanted for no byte.
         ensures err { self.old.failed ≡ None → IfErr result
             (λ e. IsFront self.old.limit (self.old.held ++ piece.now) (Err e)) }
-        // After an error it stands still.
+        // After an error it stops.
         ensures goes_on { OnOk result (self.old.failed ≡ None) }
         ensures again { IfSome self.old.failed (λ e. result ≡ Err e) }
         ensures failed { self.new.failed ≡ result_err result }
         // After an error nothing is held.
         ensures gone { OnErr result (self.new.held ≡ []) }
         ensures limit { self.new.limit ≡ self.old.limit }
-        // A packet that lies whole in the piece is not copied; else all that is taken of the piece is.
+        // A packet that is complete in the piece is not copied; otherwise all bytes used are.
         ensures counted { IfOk result (λ o. IfSome o
             (λ x. self.new.copied ≡ counted_next self.old.held self.old.copied x.1)) }
         ensures counted_all { IfOk result (λ o. IfNone o
@@ -174,7 +177,7 @@ impl Decoder {
         }
     }
 
-    /// How many bytes of the packet that is not whole are held; after an error none are. It takes no memory.
+    /// Returns the number of held bytes of the incomplete packet; 0 after an error.
     pub fn held(&self) -> usize
         ensures value { result ≡ length self.now.held }
         ensures most { result ≤ 5 + self.now.limit.most }
@@ -182,15 +185,15 @@ impl Decoder {
         len_of(self.limits, self.held.as_slice())
     }
 
-    /// How many bytes were put into the decoder's own buffer since `new` or `reset`; it stops at the
-    /// greatest `u64`. It takes no memory.
+    /// Returns the number of bytes copied into the decoder's own buffer since `new` or `reset`.
+    /// Stops at the maximum of `u64`.
     pub fn copied(&self) -> u64
         ensures { result ≡ self.now.copied }
     {
         self.held.copied()
     }
 
-    /// Lets go of what is held and of an error: the stream begins anew. It takes no memory.
+    /// Drops the held bytes and the error, and starts a new stream.
     pub fn reset(&mut self)
         ensures limit { self.new.limit ≡ self.old.limit }
         ensures held { self.new.held ≡ [] }
@@ -209,7 +212,8 @@ fn begins_as_publish(piece: &[u8]) -> bool {
     matches!(piece, [0x30..=0x3F, ..])
 }
 
-// Lets go of what is held, and keeps the error. It is never inlined: it is called seldom, and `next_packet` is always inlined.
+// Drops the held bytes and keeps the error. Never inlined: it is called rarely, and `next_packet`
+// always inlined.
 #[inline(never)]
 fn stop(alloc: Global, held: &mut Held, failed: &mut Option<DecodeError>, error: DecodeError)
     ensures held { held.new.bytes ≡ [] }
@@ -221,7 +225,7 @@ fn stop(alloc: Global, held: &mut Held, failed: &mut Option<DecodeError>, error:
     *failed = Some(error);
 }
 
-// How many bytes are held, which are few where they are less than a packet.
+// The number of held bytes, which is small if they are less than a packet.
 fn len_of(limits: Limits, held: &[u8]) -> usize
     ensures value { result ≡ length held.now }
     ensures most { Pending limits held.now → result ≤ 5 + limits.most }
@@ -230,8 +234,8 @@ fn len_of(limits: Limits, held: &[u8]) -> usize
     held.len()
 }
 
-/// Feeds a new decoder each piece in turn, up to the first error, and answers how many bytes are held
-/// at the end. How the stream was cut does not matter.
+/// Feeds each piece to a new decoder, up to the first error, and appends the packets. Returns the
+/// number of bytes held at the end. The result doesn't depend on how the stream is cut.
 pub fn decode_pieces(
     alloc: Global,
     limits: Limits,

@@ -1,4 +1,4 @@
-//! What is wrong with bytes that are no packet.
+//! Why bytes are not a packet.
 
 ghost use Rattle.std.specs.Prelude.{◌≡◌, Some};
 ghost use Rattle.mq_decode.specs.Fault.{fault_code, fault_number};
@@ -7,7 +7,7 @@ use std::alloc::{AllocError, AllocFailed};
 use std::fmt;
 use thiserror::Error;
 
-/// What stands where a packet should. It displays as its code, `F1` to `F20`.
+/// Why bytes are not a packet. Displays as its code, `F1` to `F20`.
 #[derive(Clone, Copy, Debug, PartialEq, Eq)]
 pub enum FaultKind {
     /// The type is 0 or 15 (2.2.1).
@@ -96,10 +96,10 @@ impl std::error::Error for FaultKind {}
 #[derive(Clone, Copy, Debug, PartialEq, Eq, Error)]
 #[error("the bytes are no packet: {kind} at byte {place}")]
 pub struct DecodeFault {
-    /// What is wrong.
+    /// The kind of fault.
     pub kind: FaultKind,
-    /// Where, counted from the packet's first byte. A field's place is its first byte; that of a text
-    /// or a binary is the first byte of its count.
+    /// The place of the fault, counted from the first byte of the packet. The place of a field is
+    /// its first byte; for a text or binary field that is the first byte of its length.
     pub place: usize,
 }
 

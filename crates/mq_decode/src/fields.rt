@@ -14,7 +14,7 @@ use mq_wire::{FieldFault, TextRef};
 use std::alloc::{AllocError, Global};
 use std::marker::Model;
 
-/// A binary field that lies elsewhere: at most 65,535 bytes. Contracts see it as the bytes.
+/// A borrowed binary field: at most 65,535 bytes.
 #[derive(Debug, Drop)]
 pub struct BinaryView<'a> {
     bytes: &'a [u8],
@@ -48,7 +48,7 @@ impl<'a> BinaryView<'a> {
     }
 }
 
-/// A topic filter (4.7) that lies elsewhere. Contracts see it as its bytes.
+/// A borrowed topic filter (4.7).
 #[derive(Debug, Drop)]
 pub struct FilterView<'a> {
     text: TextRef<'a>,

@@ -5,16 +5,16 @@ ghost use Rattle.mq_decode.specs.Connects.{flags_from, will_from, login_from};
 
 use mq_topic::Qos;
 
-/// What the flags byte of a CONNECT says.
+/// The flags of a CONNECT.
 #[derive(Clone, Copy)]
 pub(crate) struct ConnectFlags {
     pub(crate) clean_session: bool,
     pub(crate) will: Option<WillFlags>,
-    /// Whether a password follows the user name, `None` where there is no user name.
+    /// Whether a password follows the user name, or `None` without a user name.
     pub(crate) password: Option<bool>,
 }
 
-/// What it says of a will.
+/// The will flags.
 #[derive(Clone, Copy)]
 pub(crate) struct WillFlags {
     pub(crate) qos: Qos,
@@ -42,7 +42,7 @@ fn login_from(byte: u8) -> Option<Option<bool>>
     if has_password { None } else { Some(None) }
 }
 
-/// The flags that a byte stands for, `None` where they are forbidden.
+/// The flags in a byte, or `None` if they are invalid.
 pub(crate) fn flags_from(byte: u8) -> Option<ConnectFlags>
     ensures { result ≡ flags_from byte }
 {

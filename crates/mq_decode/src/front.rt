@@ -22,7 +22,8 @@ use mq_packet::{Packet, PacketId};
 use mq_wire::{length_laws, number_laws, text_laws};
 use std::alloc::Global;
 
-/// An acknowledgement (3.4 to 3.7, 3.11), whose only field is an identifier, where it stands at the front, whole and right.
+/// The acknowledgement at the front (3.4 to 3.7, 3.11), whose only field is an identifier, if it is
+/// complete and valid.
 #[inline(always)]
 #[tactic(auto, unfolding(crate::specs::Front::front_at, crate::specs::Front::header_at, mq_wire::specs::Reading::read_length, crate::specs::Bodies::only_identifier_at, crate::specs::Fields::identifier_at, crate::specs::Fields::number_at))]
 pub(crate) fn acknowledgement(limits: Limits, bytes: &[u8]) -> Option<PacketView<'_>>
@@ -48,7 +49,7 @@ pub(crate) fn acknowledgement(limits: Limits, bytes: &[u8]) -> Option<PacketView
     }
 }
 
-/// A packet without fields (3.12 to 3.14) that stands at the front.
+/// The packet without fields at the front (3.12 to 3.14).
 #[inline(always)]
 #[tactic(auto, unfolding(crate::specs::Front::front_at, crate::specs::Front::header_at, mq_wire::specs::Reading::read_length))]
 pub(crate) fn bare_packet(limits: Limits, bytes: &[u8]) -> Option<PacketView<'_>>
@@ -65,7 +66,7 @@ pub(crate) fn bare_packet(limits: Limits, bytes: &[u8]) -> Option<PacketView<'_>
     }
 }
 
-// What stands at the front, whichever it is.
+// The front of the buffer in all other cases.
 #[tactic(auto, unfolding(crate::specs::Front::front_at))]
 fn read_any(limits: Limits, bytes: &[u8]) -> View<'_>
     ensures read { view_read result ≡ front_at limits bytes.now }
@@ -91,7 +92,7 @@ fn read_any(limits: Limits, bytes: &[u8]) -> View<'_>
     }
 }
 
-/// The PUBLISH that stands at the front, whole and right, and how many bytes it takes (3.3).
+/// The PUBLISH at the front with its size, if it is complete and valid (3.3).
 #[inline(always)]
 #[tactic(auto, unfolding(crate::specs::Front::front_at))]
 pub(crate) fn publish_front(limits: Limits, bytes: &[u8]) -> Option<(PublishView<'_>, usize)>
@@ -121,8 +122,8 @@ pub(crate) fn publish_front(limits: Limits, bytes: &[u8]) -> Option<(PublishView
     }
 }
 
-// What stands at the front, as the definitions read it. The packets of two and of four bytes are the most frequent, and need no
-// reader of a header.
+// The front of the buffer. Packets of two and four bytes are the most frequent, and need no header
+// reader.
 fn read_front(limits: Limits, bytes: &[u8]) -> View<'_>
     ensures read { view_read result ≡ front_at limits bytes.now }
     ensures end { LiesInFront bytes.now result }
@@ -136,17 +137,17 @@ fn read_front(limits: Limits, bytes: &[u8]) -> View<'_>
     read_any(limits, bytes)
 }
 
-/// What stands at the front of bytes: a packet that lies there and how many bytes it takes, less than a
-/// whole one, or the first fault. It takes no memory.
+/// Looks at the front of a buffer: a borrowed packet with its size, less than a packet, or the
+/// first fault.
 pub fn view<'a>(bytes: &'a [u8], limits: Limits) -> View<'a>
     ensures front { IsView limits bytes.now result }
-    // Each of the three is told where it stands.
+    // All three cases are exact.
     ensures whole { (p : Packet) (s rest : List ℕ) → ReadsWithin limits p s → bytes.now ≡ s ++ rest
         → view_read result ≡ Ok (Some (p, length s)) }
     ensures more { Pending limits bytes.now → result ≡ View.More }
     ensures fault { (k : FaultKind) (place : ℕ) → Faulty limits bytes.now k place
         → result ≡ View.Fault (record { kind = k; place = place }) }
-    // A PUBLISH lies where its packet ends.
+    // A PUBLISH ends with its packet.
     ensures end { LiesInFront bytes.now result }
 {
     number_laws();
@@ -155,9 +156,8 @@ pub fn view<'a>(bytes: &'a [u8], limits: Limits) -> View<'a>
     read_front(limits, bytes)
 }
 
-/// The packet at the front and how many bytes it takes, `None` where nothing is wrong but it is not
-/// whole, or the first fault. Where `whole` are these bytes in a buffer, and the packet takes all of
-/// them, its payload shares them; else it is a copy.
+/// The owned packet at the front with its size, `None` if it is incomplete, or its first fault. If
+/// the packet fills the buffer `whole`, its payload shares the buffer; otherwise it is a copy.
 pub(crate) fn front(
     alloc: Global,
     limits: Limits,

@@ -10,7 +10,7 @@ use crate::kind::{Kind, fixed_size, kind_at};
 use crate::limits::Limits;
 use mq_wire::{LengthReading, length_at, loose_length_at};
 
-/// The kind of a packet, where its fields start, and how many bytes they take.
+/// The kind of a packet, and the place and size of its fields.
 #[derive(Clone, Copy)]
 pub(crate) struct Header {
     pub(crate) kind: Kind,
@@ -41,7 +41,7 @@ fn length_under(limits: Limits, bytes: &[u8]) -> LengthReading
     length_at(bytes)
 }
 
-/// The header at the front of `bytes`, `None` where it is not whole, or its fault.
+/// The header at the front of `bytes`, `None` if it is incomplete, or its fault.
 #[inline(always)]
 #[tactic(auto, unfolding(crate::specs::Front::header_at))]
 pub(crate) fn header_at(limits: Limits, bytes: &[u8]) -> Result<Option<Header>, DecodeFault>
@@ -77,8 +77,7 @@ pub(crate) fn header_at(limits: Limits, bytes: &[u8]) -> Result<Option<Header>, 
     }
 }
 
-// Where a packet of two or of four bytes ends, whose header stands at the front, or that its header is not whole, where only its first
-// byte does.
+// The end of a packet of two or four bytes, or that its header is incomplete.
 #[inline(always)]
 #[tactic(auto, unfolding(crate::specs::Front::header_at, mq_wire::specs::Reading::read_length))]
 fn short_end(limits: Limits, bytes: &[u8]) -> Option<Option<usize>>
@@ -92,7 +91,8 @@ fn short_end(limits: Limits, bytes: &[u8]) -> Option<Option<usize>>
     }
 }
 
-/// Where the packet at the front of `bytes` ends, as its header says, `None` where that is not whole, or its fault.
+/// The end of the packet at the front of `bytes` as its header states it, `None` if the header is
+/// incomplete, or its fault.
 #[inline(always)]
 pub(crate) fn end_at(limits: Limits, bytes: &[u8]) -> Result<Option<usize>, DecodeFault>
     ensures { result ≡ end_told (header_at limits bytes.now) }

@@ -32,7 +32,7 @@ impl Model for Held {
 }
 
 impl Held {
-    /// No bytes, and none were put here. It takes no memory.
+    /// No bytes.
     pub(crate) fn new(alloc: Global) -> Held
         ensures bytes { result.bytes ≡ [] }
         ensures wants { result.wants ≡ 0 }
@@ -45,7 +45,7 @@ impl Held {
         }
     }
 
-    /// Appends bytes, and counts them. Of what is wanted there are so many less.
+    /// Appends bytes and counts them. As many fewer are missing.
     pub(crate) fn hold(&mut self, bytes: &[u8]) -> Result<(), DecodeError>
         ensures ok { OnOk result (self.new.bytes ≡ self.old.bytes ++ bytes.now) }
         ensures wants { OnOk result (self.new.wants ≡ self.old.wants - length bytes.now) }
@@ -63,7 +63,7 @@ impl Held {
         }
     }
 
-    /// Appends one byte, and counts it. What is wanted stays.
+    /// Appends one byte and counts it. The number of missing bytes stays.
     #[inline(always)]
     pub(crate) fn hold_byte(&mut self, byte: u8) -> Result<(), DecodeError>
         ensures ok { OnOk result (self.new.bytes ≡ self.old.bytes ++ byte ∷ []) }
@@ -80,7 +80,8 @@ impl Held {
         }
     }
 
-    /// Whether the packet is known to want another byte behind the one that was put here last, which is one less of those that it wants.
+    /// Whether the packet is known to want another byte behind the one that was put here last,
+    /// which is one less of those that it wants.
     #[inline(always)]
     pub(crate) fn waits(&mut self) -> bool
         ensures more { IsTrue result → 1 < self.old.wants }
@@ -97,7 +98,8 @@ impl Held {
         }
     }
 
-    /// Whether the packet is less than a whole one by its header; then it is noted how many bytes it wants.
+    /// Whether the packet is less than a whole one by its header; then it is noted how many bytes
+    /// it wants.
     pub(crate) fn lacks(&mut self, limits: Limits) -> bool
         ensures less { IsTrue result → Pending limits self.old.bytes }
         ensures wants { IsTrue result → Wants limits self.old.bytes self.new.wants }
@@ -121,7 +123,7 @@ impl Held {
         self.bytes.as_slice()
     }
 
-    /// How many bytes the packet wants at least. The header is read where that isn't known.
+    /// A lower bound on the number of missing bytes. Reads the header if it isn't known.
     pub(crate) fn want(&mut self, limits: Limits) -> usize
         requires { Wants limits self.old.bytes self.old.wants }
         ensures some { 0 < result }
@@ -172,7 +174,7 @@ impl Held {
         !piece.is_empty() && piece.len() < self.wants
     }
 
-    /// Lets go of the bytes, and of their memory where that is much. The count stays.
+    /// Drops the bytes, and their memory if it is large. The count stays.
     pub(crate) fn clear(&mut self, alloc: Global)
         ensures bytes { self.new.bytes ≡ [] }
         ensures wants { self.new.wants ≡ 0 }
@@ -186,7 +188,7 @@ impl Held {
         self.wants = 0;
     }
 
-    /// Lets go of the bytes and of the count.
+    /// Drops the bytes and the count.
     pub(crate) fn reset(&mut self, alloc: Global)
         ensures bytes { self.new.bytes ≡ [] }
         ensures wants { self.new.wants ≡ 0 }
@@ -196,8 +198,8 @@ impl Held {
         self.copied = 0;
     }
 
-    /// The packet that stands at the front, and how many bytes it takes. A packet that fills the buffer
-    /// takes it, and its payload shares it.
+    /// The packet at the front with its size. A packet that fills the buffer takes it over, and its
+    /// payload shares it.
     pub(crate) fn take(
         &mut self,
         alloc: Global,

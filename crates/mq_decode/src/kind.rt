@@ -49,7 +49,7 @@ fn publish_flags(low: u8) -> Result<Kind, FaultKind>
     Ok(Kind::Publish(PublishFlags { dup, qos, retain }))
 }
 
-/// The type and the flags that a first byte stands for, or what is wrong with it.
+/// The type and the flags in a first byte, or its fault.
 pub(crate) fn kind_at(first: u8) -> Result<Kind, FaultKind>
     ensures { result ≡ kind_at first }
 {

@@ -32,8 +32,8 @@ pub fn pending_is_short()
     length_laws();
 }
 
-/// A packet that is spelled is read. Where one is read at the front, no other one is, nothing is pending,
-/// and there is no fault.
+/// An encoded packet is read. If one is read at the front, no other one is, nothing is pending, and
+/// there is no fault.
 pub fn reads_again()
     ensures { ReadsAgain }
 {
@@ -42,15 +42,14 @@ pub fn reads_again()
     length_laws();
 }
 
-/// A packet that `Decoder::next_packet` takes, and then a reading of what is left of the piece, are a
-/// reading of what was held and the piece.
+/// A packet that `Decoder::next_packet` takes, followed by a reading of the rest of the piece, is a
+/// reading of the held bytes and the piece.
 pub fn reads_on()
     ensures { ReadsOn }
 {}
 
-/// A fault of a field stands at the first field that is not of its kind: the fields before it are each of
-/// their kind, in the order in which the packet's type has them (chapter 3), and none that may come next
-/// stands there.
+/// The fault of a field is that of the first invalid field: the fields before it are valid, in the
+/// order of the packet's type (chapter 3), and no field that may come next is valid there.
 pub fn faulty_fields()
     ensures { FaultyFields }
 {

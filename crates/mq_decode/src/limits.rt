@@ -1,4 +1,4 @@
-//! Bounds on what is read.
+//! Limits on packets that are read.
 
 ghost use Rattle.std.specs.Prelude.{◌≡◌, ◌≤◌, ◌<◌, ◌^◌, ◌↔◌, IsSome, IfSome};
 ghost use Rattle.mq_decode.specs.Limits.{strict, loose};
@@ -27,8 +27,8 @@ impl Model for Limits {
 }
 
 impl Limits {
-    /// The bound, `None` where it is under 64 or over 268,435,455. A length with more bytes than it
-    /// needs is a fault.
+    /// A limit on the remaining length, in bytes. `None` if it is below 64 or above 268,435,455. A
+    /// remaining length with more bytes than necessary is a fault.
     pub fn new(max_packet: u32) -> Option<Limits>
         ensures fits { IsSome result ↔ ((64 ≤ max_packet) × (max_packet < 2 ^ 28)) }
         ensures value { IfSome result (λ l. l ≡ strict max_packet) }
@@ -36,8 +36,8 @@ impl Limits {
         Limits::of(max_packet, false)
     }
 
-    /// The same bound, under which a length may have more bytes than it needs: two to four, of which
-    /// the last is 0.
+    /// The same bound, under which a length may have more bytes than it needs: two to four, of
+    /// which the last is 0.
     pub fn lenient(max_packet: u32) -> Option<Limits>
         ensures fits { IsSome result ↔ ((64 ≤ max_packet) × (max_packet < 2 ^ 28)) }
         ensures value { IfSome result (λ l. l ≡ loose max_packet) }

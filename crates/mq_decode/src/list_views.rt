@@ -1,5 +1,5 @@
-//! Lists that lie in bytes (3.8.3, 3.9.3, 3.10.3): the bytes were tested, and an item is read when it is
-//! asked for.
+//! Borrowed lists (3.8.3, 3.9.3, 3.10.3). They were validated as a whole; items are decoded on
+//! access.
 
 ghost use Rattle.std.specs.Prelude.{◌≡◌, [], ◌∷◌, length, IfOk, IfSome, IsOk, MatchOption};
 ghost use Rattle.std.specs.Iterator.{at_most};
@@ -16,7 +16,7 @@ use mq_wire::{length_laws, number_laws, text_laws};
 use std::alloc::{AllocError, Global};
 use std::marker::Model;
 
-/// The items of a SUBSCRIBE that lies in bytes (3.8.3). Contracts see it as the list of the items.
+/// The subscriptions of a borrowed SUBSCRIBE (3.8.3).
 #[derive(Debug, Drop)]
 pub struct RequestsView<'a> {
     bytes: &'a [u8],
@@ -113,7 +113,7 @@ fn first_request(bytes: &[u8]) -> Option<(RequestView<'_>, &[u8])>
     }
 }
 
-/// The codes of a SUBACK that lies in bytes (3.9.3). Contracts see it as the list of the codes.
+/// The codes of a borrowed SUBACK (3.9.3).
 #[derive(Debug, Drop)]
 pub struct CodesView<'a> {
     bytes: &'a [u8],
@@ -207,7 +207,7 @@ fn first_code(bytes: &[u8]) -> Option<(SubAckCode, &[u8])>
     }
 }
 
-/// The filters of an UNSUBSCRIBE that lies in bytes (3.10.3). Contracts see it as the list of the filters.
+/// The filters of a borrowed UNSUBSCRIBE (3.10.3).
 #[derive(Debug, Drop)]
 pub struct FiltersView<'a> {
     bytes: &'a [u8],

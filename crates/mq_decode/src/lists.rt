@@ -15,7 +15,7 @@ use mq_topic::{Qos, TopicFilter};
 use std::alloc::{AllocError, Global};
 use std::marker::Model;
 
-/// An item of SUBSCRIBE that lies in bytes (3.8.3). Contracts see it as the item.
+/// A borrowed item of a SUBSCRIBE (3.8.3).
 #[derive(Debug, Drop)]
 pub struct RequestView<'a> {
     filter: FilterView<'a>,
@@ -57,7 +57,7 @@ impl<'a> RequestView<'a> {
     }
 }
 
-/// What stands in a list of a packet.
+/// An item of a list in a packet.
 pub(crate) trait Item: Sized {
     ghost item_at: { List ℕ → Result (Self × List ℕ) BadField };
 

@@ -1,4 +1,4 @@
-//! Packets that lie in bytes.
+//! Borrowed packets.
 
 ghost use Rattle.std.specs.Prelude.{◌≡◌, IfOk, IfSome};
 ghost use Rattle.mq_decode.specs.Views.{LiesAtEnd, packet_of};
@@ -11,7 +11,7 @@ use bytes::Bytes;
 use mq_packet::{ConnAck, Packet, PacketId};
 use std::alloc::{AllocError, Global};
 
-/// What stands at the front of bytes.
+/// The result of [`view`](crate::view).
 #[derive(Debug, Drop)]
 pub enum View<'a> {
     /// A packet, and how many bytes it takes.
@@ -22,13 +22,13 @@ pub enum View<'a> {
     Fault(DecodeFault),
 }
 
-/// A control packet that lies in bytes (chapter 3). It owns nothing: names, payloads and lists are lent
-/// from the bytes.
+/// A control packet that is borrowed from a buffer (chapter 3): it refers to names, payloads and
+/// lists in the buffer.
 #[derive(Debug, Drop)]
 pub enum PacketView<'a> {
     /// A client asks for a connection (3.1).
     Connect(ConnectView<'a>),
-    /// The server's answer (3.2).
+    /// The server's response to CONNECT (3.2).
     ConnAck(ConnAck),
     /// A message (3.3).
     Publish(PublishView<'a>),
@@ -44,10 +44,10 @@ pub enum PacketView<'a> {
     Subscribe {
         /// The packet identifier.
         id: PacketId,
-        /// What it asks for, at least one item.
+        /// The requested subscriptions.
         requests: RequestsView<'a>,
     },
-    /// The server's answer, a code for each request (3.9).
+    /// The server's response to SUBSCRIBE, one code for each request (3.9).
     SubAck {
         /// The packet identifier.
         id: PacketId,
@@ -61,9 +61,9 @@ pub enum PacketView<'a> {
         /// The filters, at least one.
         filters: FiltersView<'a>,
     },
-    /// The server's answer (3.11).
+    /// The server's response to UNSUBSCRIBE (3.11).
     UnsubAck(PacketId),
-    /// A client asks whether the server is there (3.12).
+    /// The client checks that the server is alive (3.12).
     PingReq,
     /// It is (3.13).
     PingResp,
@@ -79,7 +79,7 @@ impl<'a> PacketView<'a> {
         self.shared(alloc, None)
     }
 
-    /// The packet of its own. Where `whole` are bytes that end with it, a message shares them.
+    /// The owned packet. If `whole` is bytes that end with it, a message shares them.
     pub(crate) fn shared(&self, alloc: Global, whole: Option<&Bytes>) -> Result<Packet, AllocError>
         requires { IfSome whole (λ packet. LiesAtEnd packet.now self.now) }
         ensures { IfOk result (λ p. p ≡ packet_of self.now) }

@@ -17,8 +17,7 @@ use mq_wire::TextRef;
 use std::alloc::{AllocError, Global};
 use std::marker::Model;
 
-/// A PUBLISH that lies in bytes (3.3): it owns nothing. Contracts see its fields as they lie there, and
-/// what they say.
+/// A PUBLISH that is borrowed from a buffer (3.3).
 #[derive(Debug, Drop)]
 pub struct PublishView<'a> {
     // From the topic name to the end of the payload.
@@ -52,7 +51,7 @@ impl<'a> Model for PublishView<'a> {
 }
 
 impl<'a> PublishView<'a> {
-    /// What it is published to.
+    /// The topic to publish it to.
     pub fn topic(&self) -> &'a str
         ensures value { result.now ≡ self.now.publish.message.topic }
         ensures name { is_topic_name self.now.publish.message.topic ≡ true }
@@ -60,7 +59,7 @@ impl<'a> PublishView<'a> {
         self.topic.as_str()
     }
 
-    /// What it says.
+    /// The payload.
     pub fn payload(&self) -> &'a [u8]
         ensures value { result.now ≡ self.now.publish.message.payload }
         ensures short { length self.now.publish.message.payload < 2 ^ 28 }
@@ -70,7 +69,7 @@ impl<'a> PublishView<'a> {
         payload
     }
 
-    /// How often it is handed on.
+    /// The quality of service to deliver it with.
     pub fn qos(&self) -> Qos
         ensures { result ≡ self.now.publish.message.qos }
     {
@@ -99,8 +98,8 @@ impl<'a> PublishView<'a> {
         self.message_over(Bytes::copy_from_slice(alloc, self.fields)?)
     }
 
-    /// A PUBLISH of its own. Topic name and payload share one block: where `whole` is the packet whose
-    /// end the fields are, its bytes, and else a copy of the fields.
+    /// The owned PUBLISH. Topic name and payload share one block: `whole`, if that is the packet of
+    /// these fields, or a copy of the fields.
     pub(crate) fn shared(&self, alloc: Global, whole: Option<&Bytes>) -> Result<Publish, AllocError>
         requires { IfSome whole (λ packet. EndsWith packet.now self.now.fields) }
         ensures { IfOk result (λ p. p ≡ self.now.publish) }
@@ -108,7 +107,8 @@ impl<'a> PublishView<'a> {
         self.over(shared_fields(alloc, whole, self.fields)?)
     }
 
-    /// A PUBLISH of its own, whose topic name and payload share the bytes of its packet, which the fields end. None is copied.
+    /// A PUBLISH of its own, whose topic name and payload share the bytes of its packet, which the
+    /// fields end. None is copied.
     pub(crate) fn sharing(&self, packet: Bytes) -> Result<Publish, AllocError>
         requires { EndsWith packet self.now.fields }
         ensures { IfOk result (λ p. p ≡ self.now.publish) }
@@ -143,7 +143,7 @@ impl<'a> PublishView<'a> {
     }
 }
 
-// How many bytes stand before the payload.
+// The number of bytes before the payload.
 fn payload_start(topic: &TextRef<'_>, delivery: Option<Delivery>) -> usize
     ensures { result ≡ payload_start topic.now delivery }
 {
@@ -154,7 +154,7 @@ fn payload_start(topic: &TextRef<'_>, delivery: Option<Delivery>) -> usize
     }
 }
 
-// The fields of its own: they are part of the packet where that is whole in a buffer, and else a copy.
+// The owned fields: a part of the packet if `whole` is its buffer, otherwise a copy.
 fn shared_fields(alloc: Global, whole: Option<&Bytes>, fields: &[u8]) -> Result<Bytes, AllocError>
     requires { IfSome whole (λ packet. EndsWith packet.now fields.now) }
     ensures { IfOk result (λ b. b ≡ fields.now) }

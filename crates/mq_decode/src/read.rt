@@ -48,7 +48,7 @@ impl From<io::Error> for ReadError {
 // How far the buffer grows at a time.
 const CHUNK: usize = 4096;
 
-// One read, retried where a signal interrupts it.
+// Reads once; retries interrupted reads.
 fn read_some<R: Read>(reader: &mut R, room: &mut [u8]) -> io::Result<usize>
     ensures count { IfOk result (λ n. n ≤ length room.new) }
     ensures within { IfOk result (λ n. n ≤ length room.old) }
@@ -63,8 +63,8 @@ fn read_some<R: Read>(reader: &mut R, room: &mut [u8]) -> io::Result<usize>
     reader.read(room)
 }
 
-// Reads at most `most` bytes behind those of the buffer, none only at the reader's end. Where it fails
-// nothing was taken.
+// Reads at most `most` bytes behind those of the buffer; none only at the end of the reader. On
+// `Err` nothing was taken.
 fn fill<R: Read>(reader: &mut R, buffer: &mut Vec<u8>, most: usize) -> Result<usize, ReadError>
     requires some { 0 < most }
     requires chunk { most ≤ 4096 }
@@ -85,15 +85,16 @@ fn fill<R: Read>(reader: &mut R, buffer: &mut Vec<u8>, most: usize) -> Result<us
     Ok(count)
 }
 
-/// Reads the next packet, and takes just its bytes from the reader. Returns `None` where the reader was at its end.
-/// After an error the reader stands within the packet, at the byte that shows the error or where the reader
-/// failed, and is not to be read on.
+/// Reads the next packet, and takes exactly its bytes from the reader. Returns `None` at the end of
+/// the reader. Errors: `Cut` if the reader ends inside a packet, `Io` if it fails, `Fault` if the
+/// packet is malformed, `Memory` if an allocation fails. After an error the reader is inside the
+/// packet, and must not be read on.
 pub fn read_packet<R: Read>(
     alloc: Global,
     reader: &mut R,
     limits: Limits,
 ) -> Result<Option<Packet>, ReadError>
-    // A packet that was read is spelled by the bytes that were taken.
+    // The bytes taken are an encoding of the packet.
     ensures packet { IfOk result (λ o. IfSome o (λ p. (s : List ℕ) × ReadsWithin limits p s
         × Consumes (R.remaining reader.old) (R.remaining reader.new) s)) }
     ensures none { IfOk result (λ o. IfNone o (IsAtEnd (R.remaining reader.old))) }
@@ -101,7 +102,7 @@ pub fn read_packet<R: Read>(
     // Before an error no byte was taken past the one that shows it.
     ensures within { OnErr result
         (TakesWithin limits (R.remaining reader.old) (R.remaining reader.new)) }
-    // A packet that stands there is read, and what follows is left.
+    // A packet that remains is read, and the bytes behind it are left.
     ensures again { (p : Packet) (s rest : List ℕ) → ReadsWithin limits p s
         → R.remaining reader.old ≡ Some (s ++ rest) → Answers p rest result (R.remaining reader.new) }
 {
@@ -110,7 +111,7 @@ pub fn read_packet<R: Read>(
     without_size(read)
 }
 
-// What was read, without its size.
+// The packet without its size.
 fn without_size(
     read: Result<Option<(Packet, usize)>, ReadError>,
 ) -> Result<Option<Packet>, ReadError>

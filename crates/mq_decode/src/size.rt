@@ -18,8 +18,8 @@ fn len_told(limits: Limits, bytes: &[u8]) -> Option<usize>
     }
 }
 
-/// How many bytes the packet at the front takes (2.2), `None` where no right header stands there. Its fields
-/// are not looked at. It takes no memory.
+/// Returns the size of the packet at the front (2.2), or `None` if there is no complete valid
+/// header. Ignores the fields.
 pub fn packet_len(limits: Limits, bytes: &[u8]) -> Option<usize>
     ensures header { (size : ℕ) → HasHeader limits bytes.now size → result ≡ Some size }
     ensures told { IfSome result (HasHeader limits bytes.now) }

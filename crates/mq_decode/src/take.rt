@@ -20,7 +20,7 @@ use mq_wire::{length_laws, number_laws, text_laws};
 use std::alloc::{AllocError, Global};
 use std::mem;
 
-// Appends a packet. Where memory runs out the list is unchanged.
+// Appends a packet. On `Err` the list is unchanged.
 fn append(out: &mut Vec<Packet>, packet: Packet) -> Result<(), DecodeError>
     ensures ok { OnOk result (out.new.items ≡ out.old.items ++ packet ∷ []) }
     ensures err { IfErr result
@@ -35,8 +35,8 @@ fn append(out: &mut Vec<Packet>, packet: Packet) -> Result<(), DecodeError>
 /// The most bytes of which messages of a piece share one copy; a longer packet has one of its own.
 const SHARED_COPY: usize = 4096;
 
-/// How many bytes are copied for a packet of `size` bytes, and for those that follow it in `len` bytes: as many as
-/// whole packets of this size take, and at most so many where these are more than one.
+/// The number of bytes to copy for a packet of `size` bytes and those behind it in `len` bytes: as
+/// many whole packets of this size as fit into `most`, at least one.
 pub(crate) fn copy_len(most: usize, size: usize, len: usize) -> usize
     requires { size ≤ len }
     ensures whole { size ≤ result }
@@ -46,7 +46,7 @@ pub(crate) fn copy_len(most: usize, size: usize, len: usize) -> usize
     many.max(size).min(len)
 }
 
-// Sees to it that a copy of the front of all bytes has the first `size` of them: where it is shorter it is made anew.
+// Makes a copy of the front of the buffer with at least `size` bytes, unless it exists.
 fn copy_front(alloc: Global, size: usize, bytes: &[u8], copy: &mut Bytes) -> Result<(), AllocError>
     requires within { size ≤ length bytes.now }
     requires copy { BeginsWith bytes.now copy.old }
@@ -77,7 +77,8 @@ fn share_front(
     copy.split_to(size)
 }
 
-// Appends the packet that a view stands for, within room for it, where it is no more than a kind and an identifier; answers whether it is.
+// Appends the packet behind a view, within room for it, if it has at most an identifier. Returns
+// whether it does.
 #[inline(always)]
 fn push_plain(packet: &PacketView<'_>, out: &mut Vec<Packet>) -> bool
     requires { vec_len out.old < vec_capacity out.old }
@@ -99,7 +100,7 @@ fn push_plain(packet: &PacketView<'_>, out: &mut Vec<Packet>) -> bool
     true
 }
 
-// Appends the packet that a view stands for, with bytes of its own. Where memory runs out the list is unchanged.
+// Appends the owned packet behind a view. On `Err` the list is unchanged.
 #[inline(always)]
 fn append_alone(
     alloc: Global,
@@ -125,8 +126,8 @@ fn append_alone(
     }
 }
 
-// The PUBLISH of its own that takes the first `size` bytes. It shares a copy of the front of all bytes, of which those that follow are
-// left.
+// The PUBLISH of its own that takes the first `size` bytes. It shares a copy of the front of all
+// bytes, of which those that follow are left.
 fn sharing_front(
     alloc: Global,
     publish: &PublishView<'_>,
@@ -144,7 +145,7 @@ fn sharing_front(
     publish.sharing(packet)
 }
 
-// Appends the PUBLISH that takes the first `size` bytes, as `sharing_front` gives it. Where memory runs out the list is unchanged.
+// Appends the PUBLISH of the first `size` bytes. On `Err` the list is unchanged.
 fn append_publish(
     alloc: Global,
     publish: &PublishView<'_>,
@@ -174,8 +175,8 @@ fn append_publish(
     }
 }
 
-// Appends the packet that a view of the first `size` bytes stands for. A message shares a copy of the front of all bytes, of which those
-// that follow are left. Where memory runs out the list is unchanged.
+// Appends the packet behind a view of the first `size` bytes. A message shares a copy of the front
+// of the buffer, whose rest is kept. On `Err` the list is unchanged.
 #[inline(always)]
 fn append_owned(
     alloc: Global,
@@ -200,7 +201,7 @@ fn append_owned(
     append_alone(alloc, packet, out)
 }
 
-/// Appends the packets that stand whole at the front, and answers how many bytes they take.
+/// Appends the complete packets at the front, and returns their size.
 pub(crate) fn take_packets(
     alloc: Global,
     limits: Limits,
@@ -213,7 +214,7 @@ pub(crate) fn take_packets(
     ensures err { IfErr result (Stops limits bytes.now out.old.items out.new.items) }
 {
     let mut taken = 0;
-    // A copy of what follows, as far as it is there, which the messages share.
+    // A copy of the next bytes, which messages share.
     let mut copy = Bytes::new();
     loop {
         let (_, rest) = bytes.split_at(taken);
@@ -228,8 +229,8 @@ pub(crate) fn take_packets(
     }
 }
 
-/// How many bytes the packet at the front still wants, as far as its header tells, and at least one. A
-/// packet that these make whole ends with them.
+/// How many bytes the packet at the front still wants, as far as its header tells, and at least
+/// one. A packet that these make whole ends with them.
 pub(crate) fn wanted(limits: Limits, held: &[u8]) -> usize
     ensures some { 0 < result }
     ensures exact { Wants limits held.now result }
@@ -245,7 +246,8 @@ pub(crate) fn wanted(limits: Limits, held: &[u8]) -> usize
     }
 }
 
-/// How many bytes the packet at the front wants, where it is less than a whole one by its header; `None` where nothing is pending.
+/// The number of missing bytes of the packet at the front, as its header states it; `None` if
+/// nothing is pending.
 pub(crate) fn lacking(limits: Limits, held: &[u8]) -> Option<usize>
     ensures some { IfSome result (λ n. 0 < n) }
     ensures pending { IfSome result (λ n. Pending limits held.now) }
@@ -281,12 +283,12 @@ fn is_complete(limits: Limits, held: &[u8]) -> bool
     }
 }
 
-/// The fewest bytes of a packet that takes the buffer in which it was held; of a shorter one the parts
-/// are copied, and the buffer stays for the next.
+/// The fewest bytes of a packet that takes the buffer in which it was held; of a shorter one the
+/// parts are copied, and the buffer stays for the next.
 const SHARED: usize = 1024;
 
-/// The packet that stands at the front of a buffer, and how many bytes it takes. A packet that fills the
-/// buffer and is not short takes it, and its payload shares it.
+/// The packet at the front of a buffer with its size. A packet that fills the buffer and isn't
+/// small takes it over, and its payload shares it.
 pub(crate) fn take_held(
     alloc: Global,
     limits: Limits,
@@ -307,9 +309,8 @@ pub(crate) fn take_held(
     }
 }
 
-/// Fills up the packet that is held with the bytes of `piece`, up to its end, and takes it once it is
-/// whole. Answers it with how many bytes of the piece went in; `None` where all of them did and it is
-/// not whole.
+/// Completes the held packet with the bytes of `piece`. Returns it with the number of bytes used,
+/// or `None` if all were used and it is still incomplete.
 #[inline(never)]
 pub(crate) fn fill_up(
     alloc: Global,
@@ -354,8 +355,8 @@ pub(crate) fn fill_up(
     Ok(None)
 }
 
-// Takes the packet that is held, with as many bytes of a piece as it wants. Answers how many bytes of
-// the piece went in: all of them, or nothing is held any more.
+// Takes the held packet, with its missing bytes from a piece. Returns the number of bytes used: all
+// of them, or nothing is held any more.
 fn take_first(
     alloc: Global,
     limits: Limits,
@@ -388,7 +389,7 @@ fn take_first(
     }
 }
 
-// Appends the packet that is held, which is whole or faulty, whichever it is. Where memory runs out the list is unchanged.
+// Appends the held packet, which is complete or malformed. On `Err` the list is unchanged.
 #[inline(never)]
 fn append_any(
     alloc: Global,
@@ -415,8 +416,8 @@ fn append_any(
     }
 }
 
-// Appends the packet at the front, which is all of the bytes, within room for it, where it is one of two or four bytes that is no more than a
-// kind and an identifier (3.4 to 3.7, 3.11 to 3.14); answers whether it is.
+// Appends the packet that is all of the bytes, within room for it, if it has two or four bytes and
+// at most an identifier (3.4 to 3.7, 3.11 to 3.14). Returns whether it does.
 #[inline(always)]
 fn push_short(limits: Limits, bytes: &[u8], out: &mut Vec<Packet>) -> bool
     requires alone { IsAlone limits bytes.now }
@@ -436,7 +437,7 @@ fn push_short(limits: Limits, bytes: &[u8], out: &mut Vec<Packet>) -> bool
     }
 }
 
-// Appends the packet that is held, which is whole or faulty. Where memory runs out the list is unchanged.
+// Appends the held packet, which is complete or malformed. On `Err` the list is unchanged.
 #[inline(always)]
 fn append_held(
     alloc: Global,
@@ -459,7 +460,7 @@ fn append_held(
     append_any(alloc, limits, held, out)
 }
 
-// Takes the packet that is held, where it is whole.
+// Takes the held packet if it is complete.
 #[inline(never)]
 fn take_whole(
     alloc: Global,
@@ -482,7 +483,7 @@ fn take_whole(
     Ok(())
 }
 
-// Takes a byte that follows what is held.
+// Takes a byte behind the held ones.
 #[inline(always)]
 fn take_byte(
     alloc: Global,
@@ -511,7 +512,7 @@ fn take_byte(
     }
 }
 
-/// Takes the packets of a piece that follows what is held.
+/// Takes the packets of a piece behind the held bytes.
 #[inline(never)]
 pub(crate) fn take_piece(
     alloc: Global,
@@ -543,8 +544,8 @@ pub(crate) fn take_piece(
     held.hold(left)
 }
 
-/// Takes the packets of a piece that follows what is held. One that is shorter than what the held packet
-/// is known to want is put behind it, and nothing is read.
+/// Takes the packets of a piece behind the held bytes. A piece shorter than the known number of
+/// missing bytes is only appended.
 #[inline]
 pub(crate) fn take_in(
     alloc: Global,
