@@ -1,4 +1,4 @@
--- The lists of a side: what is told of, and what is acknowledged, one after another.
+-- The lists of a side: reported and acknowledged messages, one after another.
 use Rattle.std.proofs.Common.{◌≡◌, ℕ, suc, ◌+◌, ◌<◌, Bool, true, false, cond, eqb, ◌||◌, List, [], ◌∷◌, ◌++◌, length, drop, get_or, Option, Some}
 use Rattle.std.proofs.Common.{refl, sym, ap, ◌∙◌, add-one}
 use Rattle.std.specs.Option.{unwrap_or}
@@ -41,7 +41,7 @@ or_false : (b : Bool) → b || false ≡ b
 or_false true = refl
 or_false false = refl
 
--- an identifier stands in a list with a pair behind it where it stood before, and where the pair has it
+-- An identifier occurs in a list with one more pair if it occurred before or the pair has it.
 given_there : (i : ℕ) (ps : List (ℕ × Message)) (p : ℕ × Message) → eqb p.0 i ≡ true → is_given i (ps ++ p ∷ []) ≡ true
 given_there i [] p e = ap (λ b. b || false) e
 given_there i (q ∷ ps) p e = ap (λ b. eqb q.0 i || b) (given_there i ps p e) ∙ or_true (eqb q.0 i)
@@ -68,7 +68,8 @@ last_by i ps p false e = last_before i ps p e
 pub last_more : (i : ℕ) (ps : List (ℕ × Message)) (p : ℕ × Message) → last_place i (ps ++ p ∷ []) ≡ cond (eqb p.0 i) (length ps) (last_place i ps)
 last_more i ps p = last_by i ps p (eqb p.0 i) refl
 
--- places that say the last place of each identifier say it with a pair behind the others and its place put in
+-- places that say the last place of each identifier say it with a pair behind the others and its
+-- place put in
 unwrap_cond : (b : Bool) (n : ℕ) (o : Option ℕ) → unwrap_or (cond b (Some n) o) 0 ≡ cond b n (unwrap_or o 0)
 unwrap_cond true n o = refl
 unwrap_cond false n o = refl

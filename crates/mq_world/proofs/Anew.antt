@@ -1,4 +1,5 @@
--- What a client holds can be saved, and loaded within its limits; and what comes of a client that is made anew.
+-- A client's state can be saved, and loaded within its limits; and the effect of continuing a saved
+-- session.
 use Rattle.std.proofs.Common.{◌≡◌, ◌↔◌, ◌⊎◌, inl, inr, ℕ, ◌+◌, ◌≤◌, Bool, true, Some, Result, Ok, Err, IfErr, List, [], ◌∷◌, ◌++◌, length}
 use Rattle.std.proofs.Common.{refl, sym, ap, subst, ◌∙◌, arith}
 use Rattle.std.specs.Prelude.{IsErrOf}
@@ -34,7 +35,7 @@ use Rattle.mq_world.specs.World.{IsRestarted, IsNotRestarted}
 use Rattle.mq_world.proofs.Wires.{reached_entries}
 use Rattle.mq_world.proofs.Worlds.{cut_same, lost_at}
 
--- ---- what is held
+-- ---- Stored messages
 
 -- a message with an identifier has room for it in its size (3.3.2.2)
 saved_size : (limit : ℕ) (q : Qos) (topic payload : ℕ) → has_identifier q ≡ true → (2 + topic) + (identifier_size q + payload) ≤ limit
@@ -75,9 +76,9 @@ can_be_loaded limit capacity w m s =
     (subst (λ (e : End). P e.book.entries) (sym s.carries.client.end)
     (fit_within limit.most m.client.end.book.entries (reached_entries limit.most capacity m s.reached)))
 
--- ---- what is saved
+-- ---- The saved form
 
--- what is saved of a client
+-- The saved form of a client.
 abbrev pub saved_of : ClientState → Saved
 saved_of c = record { client = Some c.config.id; established = c.link.end.known; session = kept_session c.link }
 

@@ -1,4 +1,4 @@
--- What holds between two sides at every point of a run.
+-- The invariant between two sides at every point of a run.
 use Rattle.std.proofs.Common.{◌≡◌, ℕ, ◌+◌, ◌≤◌, true, false, Option, List, [], ◌∷◌, ◌++◌, map, refl, sym, subst, arith}
 use Rattle.mq_topic.specs.declared.qos.Qos.TheVariants.{Q1, Q2}
 use Rattle.mq_packet.specs.declared.message.Message.{Message}
@@ -47,7 +47,8 @@ IsSent e = e.sent ≡ true
 abbrev pub IsHeld : Entry → Type 0
 IsHeld e = has_identifier e.message.qos ≡ true
 
--- the sender's book alone: it is sound; where the side is up, all was sent; nothing of quality of service 0 is held
+-- The sender's book alone: it is sound; if the side is connected, every message was sent; no
+-- message with QoS 0 is stored.
 abbrev pub OwnOf : ℕ → State → SenderBook → Type 0
 OwnOf capacity st b = IsSound capacity b × When (is_up st) (Each IsSent b.entries) × Each IsHeld b.entries
 
@@ -125,7 +126,7 @@ close_keeps capacity h y st q rest ps reason none_answering none_flying plain b 
     plain
     b
 
--- ---- the side comes up
+-- ---- The side connects
 
 pub up_keeps : (capacity : ℕ) (h y : Half) (p : Packet) (rest before : List Packet) (alive : ℕ) → answers before ≡ no_answers
     → flight before ≡ no_flight → Each IsPlain before
@@ -186,7 +187,7 @@ up_keeps capacity h y p rest before alive none_answering none_flying plain rest_
     plain_resent b =
         each_append IsPlain (map packets.PubRel b.released) _ (each_map IsPlain packets.PubRel b.released (λ i. tt)) (each_map IsPlain _ b.entries (λ e. tt))
 
--- ---- nothing of a flow comes or goes out
+-- ---- No packet of a message flow arrives or is sent
 
 pub calm_keeps : (capacity : ℕ) (h y : Half) (st : State) (p : Packet) (rest ps : List Packet) (cs : List Claimed) → answers ps ≡ no_answers
     → flight ps ≡ no_flight → Each IsPlain ps

@@ -1,4 +1,4 @@
--- What is held and what is on its way, over every run.
+-- Stored messages and packets in flight, over every run.
 use Rattle.std.proofs.Common.{◌≡◌, ℕ, Bool, true, false, not, ◌&&◌, eqb, Option, Some, None, List, [], ◌∷◌, ◌++◌, map, length, refl, sym, subst}
 use Rattle.std.proofs.lemmas.Bool.{cond_both}
 use Rattle.mq_topic.specs.declared.qos.Qos.{Qos}
@@ -34,11 +34,11 @@ use Rattle.mq_world.specs.Carried.{IsCarried, IsEntry, IsPublication, CarriesOnl
 use Rattle.mq_world.proofs.Lists.{each_append, each_filter, each_mapped}
 
 module _ (test : Message → Bool) where
-  -- what a book holds
+  -- The messages in a book.
   abbrev pub Holds : SenderBook → Type 0
   Holds b = Each (IsEntry test) b.entries × Each IsIdentifier b.released
 
-  -- what comes of a packet
+  -- The effect of a packet.
   abbrev pub Leaves_well : Reply → Type 0
   Leaves_well r = Holds r.end.book × Each (IsCarried test) r.out
 
@@ -165,7 +165,7 @@ module _ (test : Message → Bool) where
   kept_well Connecting q c = c
   kept_well Connected q c = c
 
-  -- what a side holds, and what is on its way to it
+  -- The messages of a side, and the packets in flight to it.
   abbrev pub Well : Half → Type 0
   Well h = Holds h.end.book × Each (IsCarried test) h.coming
 

@@ -1,4 +1,4 @@
--- Runs that are made of runs, and what they keep of the sessions.
+-- Runs that consist of runs, and their effect on sessions.
 use Rattle.std.proofs.Common.{◌≡◌, ℕ, zero, suc, Bool, true, false, List, [], ◌∷◌, ◌++◌, replicate, length, refl, sym, subst, ◌∙◌}
 use Rattle.mq_world.specs.declared.side.Side.{Side}
 use Rattle.mq_world.specs.declared.side.Side.TheVariants.{Client, Server}

@@ -1,4 +1,4 @@
--- What comes of a client that leaves, and of clocks that go on, from what the ends do.
+-- A client that leaves, and clocks that advance, derived from the ends.
 use Rattle.std.proofs.Common.{◌≡◌, ℕ, Bool, true, false, ◌&&◌, if◌then◌else◌, Option, None, Result, Err, List, [], ◌∷◌, ◌++◌, refl, sym, ap, subst}
 use Rattle.std.proofs.Common.{◌∙◌, IfSome, IfNone, IfErr, append-nil}
 use Rattle.mq_packet.specs.declared.packet.Packet.TheVariants as packets
@@ -45,7 +45,7 @@ pub not_left_at : {A : Type 0} (w v : Wired) (why : PublishRefusal) (result : Re
     → IfNone (leave_refusal w.client.state.end) (IfErr result (λ y. y ≡ refusals.Memory)) → v ≡ w → IsNotLeft why w v
 not_left_at w v why result e a b same = record { reason = reason_is (leave_refusal w.client.state.end) why result e a b; same = same }
 
--- ---- the client is told the time
+-- ---- The client's `tick`
 
 follows_alike : OverBytes → (limit : Bounds) (capacity : ℕ) (m : Machine) (moves : List Move) (w v : Wired) → Follows limit capacity m moves w
     → Alike w.client v.client → Alike w.server v.server → Follows limit capacity m moves v
@@ -60,7 +60,7 @@ alike_later x now =
 abbrev asked : Wired → ℕ → EndState → Wired
 asked w now new = record { client = record w.client { state = written new; clock = now }; server = with_more new.output w.server }
 
--- the client asks where it is due
+-- The client sends PINGREQ if one is due.
 asks : OverBytes → (limit : Bounds) (capacity : ℕ) (w : Wired) (m : Machine) (now : ℕ) (due : Bool) (new : EndState) → Stands limit capacity w m
     → (due ≡ true → is_up w.client.state.end.state ≡ true)
     → PutsOut (if due then packets.PingReq ∷ [] else []) w.client.state.output new.output → new.end ≡ w.client.state.end
@@ -111,13 +111,13 @@ asked_at law limit capacity w v more new quiet t e =
           (ap (λ (z : EndState). z.limit) t.state, ap (λ (z : EndState). z.capacity) t.state);
     })
 
--- ---- the server is told the time
+-- ---- The server's `tick`
 
 -- the world after the server's clock went on
 abbrev told : Wired → ℕ → Option CloseReason → EndState → Wired
 told w now closed new = record { client = w.client; server = record w.server { state = new; clock = now; wire = left_on closed w.server.wire } }
 
--- the server closes where it is late
+-- The server closes if the client is late.
 drops_late : OverBytes → (limit : Bounds) (capacity : ℕ) (w : Wired) (m : Machine) (now : ℕ) (late : Bool) (closed : Option CloseReason)
     (new : EndState) → Stands limit capacity w m
     → closed ≡ (if late then closes reasons.KeepAlive w.server.state.end else silent w.server.state.end).close

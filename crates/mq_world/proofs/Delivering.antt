@@ -1,4 +1,4 @@
--- Bytes come to a side, cut anywhere: the machine makes as many arrivals as packets came with them.
+-- Bytes arrive at a side, cut anywhere: the machine makes one arrival for each packet.
 use Rattle.std.proofs.Common.{◌≡◌, ℕ, true, false, Option, Some, None, List, [], ◌∷◌, ◌++◌, length, replicate, refl, sym, ap, subst, ◌∙◌}
 use Rattle.std.proofs.Common.{append_assoc, inl, inr}
 use Rattle.std.proofs.lemmas.List.{append-nil}
@@ -60,7 +60,8 @@ closes_all laws side (p ∷ ps) e reason h = at (gets side p e).close refl h (cl
 
 -- ---- windows
 
--- in a machine that a run reaches, an end whose window is not less than the capacity does not close because of it
+-- in a machine that a run reaches, an end whose window is not less than the capacity does not close
+-- because of it
 fits_all : (limit capacity : ℕ) (side : Side) (m : Machine) → Reached limit capacity m → Spans (half_of side m).end.window capacity
     → (ps rest : List Packet) → (half_of side m).coming ≡ kept (half_of side m).end.state (ps ++ rest)
     → IsOther (one_by_one (gets side) ps (half_of side m).end).close
@@ -84,7 +85,7 @@ not_live st closed live = true_not (sym live ∙ ap is_live closed)
     true_not : true ≡ false → ⊥
     true_not e = cc
 
--- it shows what comes of a reply
+-- The side shows the effect of a reply.
 heard_side : (limit : Bounds) (capacity : ℕ) (x : WiredSide) (h : Half) (left : List ℕ) (new : EndState) (happenings : List Happening)
     (acknowledged : List ℕ) (closed : Option CloseReason) (rest : List Packet) (r : Reply)
     → CarriesSide limit capacity x h → SameBounds x.state new → new.end ≡ r.end → happenings ≡ r.happenings → acknowledged ≡ r.freed
@@ -132,7 +133,8 @@ lost limit capacity Server m moves h y run =
 
 -- ---- bytes come
 
--- what is known where bytes came: the whole packets, the queue behind them, and what is shown
+-- The facts after bytes arrived: the complete packets, the queue behind them, and the visible
+-- effect.
 record Came (limit : Bounds) (capacity : ℕ) (side : Side) (w : Wired) (m : Machine) (b left : List ℕ) (new : EndState) (happenings : List Happening)
     (acknowledged : List ℕ) (closed : Option CloseReason) (ps : List Packet) (front rest : List ℕ) (r : Reply) : Type 0 where
   stands : Stands limit capacity w m
@@ -147,7 +149,7 @@ record Came (limit : Bounds) (capacity : ℕ) (side : Side) (w : Wired) (m : Mac
 
 module _ (limit : Bounds) (capacity : ℕ) (side : Side) (w : Wired) (m : Machine) (b left : List ℕ) (new : EndState) (happenings : List Happening)
     (acknowledged : List ℕ) (closed : Option CloseReason) (ps : List Packet) (front rest : List ℕ) (r : Reply) where
-  -- what comes of the packets
+  -- The effect of the packets.
   abbrev all : Reply
   all = one_by_one (gets side) ps (half_of side m).end
 

@@ -143,7 +143,7 @@ ending_closed laws limit side ps e rest r held reason some (Breaks fault bad non
     ap (λ (r : Reply). r.end.state) same ∙ faulted_closed side fault (one_by_one (gets side) ps e).end
 ending_closed laws limit side ps e rest r held reason some (Starves more none same is_held) = ap (λ (r : Reply). r.end.state) same
 
--- what is pending has no packet in front
+-- Pending bytes have no packet in front.
 none_pending : (limit : Bounds) (q : List Packet) (rest : List ℕ) → Stream limit q rest → Pending limit rest → q ≡ []
 none_pending limit [] rest s p = refl
 none_pending limit (x ∷ q) rest s p = absurd (p.not_whole x s.0 s.1 s.2 s.4)
@@ -153,7 +153,7 @@ module _ (reads : ReadsAgain) (laws : ClosingLaws) (limit : Bounds) (capacity : 
   abbrev next : Option CloseReason → Wired
   next closed = facing side (hearing [] new happenings acknowledged closed (near side w)) (with_more new.output (far side w))
 
-  -- where the end does not close, all packets of the queue came
+  -- If the end doesn't close, all packets of the queue arrived.
   all_came : Stands limit capacity w m → is_live (near side w).state.end.state ≡ true
       → (d : Delivers limit capacity side m ((near side w).state.held ++ (near side w).wire) None (next None))
       → delivered side m ≡ arrivals (length d.packets) side m
@@ -166,7 +166,7 @@ module _ (reads : ReadsAgain) (laws : ClosingLaws) (limit : Bounds) (capacity : 
       ap (λ (q : List Packet). arrivals (length q) side m)
       (queue_is side m ∙ (behind.1 ∙ (ap (λ (q : List Packet). d.packets ++ q) none ∙ append-nil d.packets)))
 
-  -- where it closes, nothing more comes
+  -- If it closes, no further packet arrives.
   no_more_came : (reason : CloseReason) → new.end.state ≡ Disconnected
       → (d : Delivers limit capacity side m ((near side w).state.held ++ (near side w).wire) (Some reason) (next (Some reason)))
       → d.follows.machine ≡ arrivals (length d.packets) side m → delivered side m ≡ d.follows.machine
@@ -183,7 +183,7 @@ module _ (reads : ReadsAgain) (laws : ClosingLaws) (limit : Bounds) (capacity : 
       near_end Client k = k.carries.client.end
       near_end Server k = k.carries.server.end
 
-  -- the machine made so many arrivals
+  -- The machine made one arrival for each packet.
   made : (closed : Option CloseReason) → (closed ≡ Some reasons.Memory → ⊥)
       → (d : Delivers limit capacity side m ((near side w).state.held ++ (near side w).wire) closed (next closed))
       → d.follows.machine ≡ arrivals (length d.packets) side m

@@ -16,8 +16,9 @@ use Rattle.mq_world.proofs.Lists.{Each, each_append, ids}
 use Rattle.mq_world.proofs.Places.{reach, walk_more, reach_more, at_more, at_grown, get_seam, each_later, among_more, among_last, last_place_at}
 use Rattle.mq_world.proofs.Places.{part_more, part_both, part_front}
 
--- entries: the messages of quality of service 1 that x holds; pubacks: on their way to x; publishes: on their way to y; accepted,
--- handed: by x, and on by y; places_freed: of those that were acknowledged
+-- entries: the messages of quality of service 1 that x holds; pubacks: on their way to x;
+-- publishes: on their way to y; accepted, handed: by x, and on by y; places_freed: of those that
+-- were acknowledged
 pub record First (x y : State) (entries : List (ℕ × Message)) (pubacks : List ℕ) (publishes accepted : List (ℕ × Message)) (handed : List Message)
     (places_freed : List ℕ) : Type 0 where
   pub taken : List (ℕ × Message)
@@ -120,7 +121,7 @@ accepts {entries = entries} {accepted = accepted} {handed = handed} i m publishe
 
 -- ---- a PUBLISH comes
 
--- what stands behind some of the messages accepted
+-- The messages behind some of the accepted ones.
 pub stands : (accepted before after : List (ℕ × Message)) (i : ℕ) (m : Message) → accepted ≡ before ++ (i, m) ∷ after
     → slice_get (messages accepted) (length before) ≡ Some m
 stands accepted before after i m e =
@@ -184,7 +185,7 @@ takes_publish {x} {entries} {pubacks} {rest} {accepted} {handed} {places_freed} 
 
 -- ---- a PUBACK comes
 
--- the message that it answers is the first one held
+-- The acknowledged message is the first stored one.
 pub data Acknowledged (y : State) (entries : List (ℕ × Message)) (i : ℕ) (rest : List ℕ) (publishes accepted : List (ℕ × Message))
     (handed : List Message) (places_freed : List ℕ) : Type 0 where
   Oldest : (a : ℕ × Message) (later : List (ℕ × Message)) → entries ≡ a ∷ later → a.0 ≡ i
@@ -229,7 +230,7 @@ takes_puback {y} {entries} {rest} {publishes} {accepted} {handed} {places_freed}
           })
     ]
 
--- ---- at most once: handed on, on their way, accepted
+-- ---- At most once: delivered, in flight, accepted
 
 abbrev pub Zeroth : List Message → List Message → List Message → Type 0
 Zeroth flying accepted handed = Part (handed ++ flying) accepted

@@ -1,4 +1,4 @@
--- A world whose windows are not less than its capacity: no answer tells of a close because of a window.
+-- A world whose windows are at least its capacity: no answer reports a close because of a window.
 use Rattle.std.proofs.Common.{◌≡◌, ◌≢◌, ℕ, ◌&&◌, Option, Some, Ok, Err, List, [], ◌∷◌, length, take, drop}
 use Rattle.std.proofs.Common.{sym, ap, subst, ◌∙◌}
 use Rattle.std.specs.List.{All}

@@ -1,4 +1,4 @@
--- A packet of a message's flow comes to a side that is up.
+-- A packet of a message flow arrives at a connected side.
 use Rattle.std.proofs.Common.{◌≡◌, ℕ, Bool, true, false, cond, not, Option, Some, None, List, [], ◌∷◌, ◌++◌, refl, sym, ap, subst, ◌∙◌, arith}
 use Rattle.std.proofs.lemmas.Bool.{cond_both}
 use Rattle.std.specs.FinSet as FinSet
@@ -28,7 +28,7 @@ use Rattle.mq_world.proofs.First as first
 use Rattle.mq_world.proofs.Queues.{answers, flight, same_answers, same_flight, puback_joins, pubrec_joins, pubcomp_joins, pubrel_joins}
 use Rattle.mq_world.proofs.Both.{IsSent, IsHeld, Both, finish, upon, once_of, once_first, apart, close_keeps}
 
--- what a packet's arrival is to keep
+-- The invariant that the arrival of a packet keeps.
 abbrev pub Keeps : ℕ → Half → List Packet → Half → Reply → Type 0
 Keeps capacity x rest y r = Both capacity (took x rest r).half (put r.out y)
 

@@ -54,7 +54,7 @@ pair_first i p ps e z =
     let P : Bool → Type 0 = λ b. cond (not b) (p ∷ without_pair i ps) (without_pair i ps) ≡ ps in
     subst P (sym (ap (λ (k : ℕ). eqb k i) e ∙ eqb_self i)) (pair_absent i ps z)
 
--- ---- what is held of a quality of service
+-- ---- Stored messages of one QoS
 
 pub held_append : (q : Qos) (es fs : List Entry) → held q (es ++ fs) ≡ held q es ++ held q fs
 held_append q es fs =
@@ -108,7 +108,7 @@ times_held i (e ∷ es) =
       | Q2 ↦ omega arith
     ]
 
--- the first one that is held is awaited, where all were sent
+-- The first stored message is pending if all were sent.
 pub first_awaited : (q : Qos) (es : List Entry) (a : ℕ × Message) (later : List (ℕ × Message)) → Each (λ (e : Entry). e.sent ≡ true) es
     → held q es ≡ a ∷ later → is_awaited q a.0 es ≡ true
 first_awaited q [] a later s h = absurd (empty_not a later h)

@@ -1,4 +1,5 @@
--- Where the client's session is established, or an accepting CONNACK is on its way to it, the server has a session.
+-- If the client's session is established, or an accepting CONNACK is in flight to it, the server
+-- has a session.
 use Rattle.std.proofs.Common.{◌≡◌, ℕ, Bool, true, false, not, ◌&&◌, eqb, Option, Some, None, List, [], ◌∷◌, length, refl, sym, subst, ◌∙◌}
 use Rattle.std.proofs.lemmas.Bool.{cond_both}
 use Rattle.mq_topic.specs.declared.qos.Qos.{Qos}
@@ -112,7 +113,7 @@ client_marks limit capacity Drops st q c s may m = λ k. ((m k).0, tt)
 client_marks limit capacity Leaves st q c s may m = λ k. ((m k).0, tt)
 client_marks limit capacity Pings st q c s may m = m
 
--- ---- the server's mark is not lost, and a CONNACK goes out with it
+-- ---- The server keeps its session, and a CONNACK is sent with it
 
 publish_out : (q : Qos) (d : Option Delivery) (m : Message) (e : End) → Each IsNoConnack (publish_gets q d m e).out
 publish_out Q0 None m e = tt
@@ -129,7 +130,7 @@ flow_out (packets.PubRel i) e = (tt, tt)
 flow_out (packets.PubComp i) e = tt
 flow_out p e = tt
 
--- what the server's reply says of both
+-- The effect of the server's reply on both.
 abbrev pub Tells : Half → Reply → Type 0
 Tells h r = r.end.known ≡ false → (h.end.known ≡ false) × Each IsNoConnack r.out
 

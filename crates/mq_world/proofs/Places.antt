@@ -1,4 +1,4 @@
--- Places in a list: walks, what stands there, and what was freed.
+-- Places in a list: walks, the items at places, and freed places.
 use Rattle.std.proofs.Common.{◌≡◌, ℕ, zero, suc, ◌+◌, ◌<◌, ◌≤◌, max, Bool, true, false, cond, ◌||◌, eqb, Some, List, [], ◌∷◌, ◌++◌, length, slice_get}
 use Rattle.std.proofs.Common.{refl, sym, ap, subst, ◌∙◌, arith, inl, inr}
 use Rattle.std.proofs.lemmas.Bool.{cases_eq, cases_lt, ne_eqb}
@@ -55,7 +55,7 @@ at_grown [] ys zs (q ∷ ps) h = absurd h
 at_grown (x ∷ xs) ys zs [] h = absurd h
 at_grown (x ∷ xs) ys zs (q ∷ ps) h = (get_front ys zs q x h.0, at_grown xs ys zs ps h.1)
 
--- ---- what was freed
+-- ---- Freed places
 
 pub among_not : (n : ℕ) (places_freed : List ℕ) → Each (λ p. p < n) places_freed → is_among n places_freed ≡ false
 among_not n [] h = refl

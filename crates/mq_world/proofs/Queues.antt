@@ -1,4 +1,4 @@
--- What of a message's flow is in a queue.
+-- The packets of message flows in a queue.
 use Rattle.std.proofs.Common.{◌≡◌, ℕ, false, cond, Option, Some, None, List, [], ◌∷◌, ◌++◌, map, filter, refl, ap, ◌∙◌, append-nil}
 use Rattle.std.specs.List.{filter_map, cons_option}
 use Rattle.std.proofs.lemmas.List.Elements.{filter_map-append}
@@ -54,13 +54,13 @@ abbrev pub as_second : Packet → Option (ℕ × Message)
 as_second (packets.Publish p) = second_of p.message.qos p.delivery p.message
 as_second p = None
 
--- the answers in a queue: PUBREC, PUBCOMP, PUBACK
+-- Responses in a queue: PUBREC, PUBCOMP, PUBACK.
 pub record Answers : Type 0 where
   pub pubrecs : List ℕ
   pub pubcomps : List ℕ
   pub pubacks : List ℕ
 
--- what asks for one: PUBLISH of quality of service 2 and 1, PUBREL; and messages of quality of service 0
+-- Packets that ask for one: PUBLISH with QoS 2 and 1, PUBREL; and messages with QoS 0.
 pub record Flight : Type 0 where
   pub publishes_2 : List (ℕ × Message)
   pub publishes_1 : List (ℕ × Message)
@@ -98,7 +98,7 @@ pub grown : {A : Type 0} (f : Packet → Option A) (st : State) (q ps : List Pac
     → filter_map f (joined st q ps) ≡ joined st (filter_map f q) xs
 grown {A} f st q ps xs e = grow f st q ps ∙ ap (λ (r : List A). joined st (filter_map f q) r) e
 
--- packets among which there is no answer
+-- Packets without responses.
 pub same_answers : (st : State) (q ps : List Packet) → answers ps ≡ no_answers → answers (joined st q ps) ≡ answers q
 same_answers st q ps e =
     let a = keep as_pubrec st q ps (ap (λ (n : Answers). n.pubrecs) e) in
@@ -106,7 +106,7 @@ same_answers st q ps e =
     let c = keep as_puback st q ps (ap (λ (n : Answers). n.pubacks) e) in
     λ i. record { pubrecs = a i; pubcomps = b i; pubacks = c i }
 
--- packets among which nothing asks for an answer
+-- Packets that ask for no response.
 pub same_flight : (st : State) (q ps : List Packet) → flight ps ≡ no_flight → flight (joined st q ps) ≡ flight q
 same_flight st q ps e =
     let a = keep as_second st q ps (ap (λ (n : Flight). n.publishes_2) e) in

@@ -1,4 +1,4 @@
--- Packets answer packets of a lower rank only, so queues run empty.
+-- Packets cause only packets of a lower rank, so queues become empty.
 use Rattle.std.proofs.Common.{◌≡◌, ℕ, suc, ◌<◌, ◌≤◌, Bool, true, cond, Option, Some, None, List, [], ◌∷◌, map, length, refl, sym, ap, subst, ◌∙◌, arith}
 use Rattle.std.proofs.lemmas.Bool.{cond_both}
 use Rattle.std.specs.List.{filter_map, cons_option}
@@ -53,7 +53,7 @@ pub below_none : (q : List Packet) → Below 0 q → q ≡ []
 below_none [] b = refl
 below_none (p ∷ q) b = let lt : rank p < 0 = b.0 in absurd (omega arith)
 
--- ---- a side that is up stays up, and answers lower
+-- ---- A connected side stays connected, and responds with lower ranks
 
 pub record Stays (n : ℕ) (e : End) (r : Reply) : Type 0 where
   pub state : r.end.state ≡ e.state
@@ -95,7 +95,7 @@ stays : (side : Side) (n : ℕ) (p : Packet) (e : End) → FitsIn p e.window e.r
 stays Client n p e f lt le = client_stays n p (record e { state = Connected }) f lt le
 stays Server n p e f lt le = server_stays n p (record e { state = Connected }) f lt le
 
--- ---- one side takes in all that is in the queue toward it
+-- ---- One side processes all packets of its queue
 
 pub record Draining (capacity : ℕ) (n m : ℕ) (x y : Half) (old_x old_y : Accepted) : Type 0 where
   pub both : Both capacity x y
@@ -167,7 +167,7 @@ drained capacity n m side (p ∷ rest) x y old_x old_y le three is d =
     let s = step capacity n m side x y old_x old_y p rest le three is d in
     drained capacity n m side rest (moved side Arrives x).half (put (moved side Arrives x).out y) old_x old_y le three s.1 s.0
 
--- ---- what is sent once more
+-- ---- Retransmissions
 
 held_rank : (e : Entry) → IsHeld e → rank (publish_packet e.id e.sent e.message) < 4
 held_rank e h = by_qos e.message.qos h
@@ -183,7 +183,7 @@ resent_below b h =
     (each_map (λ p. rank p < 4) packets.PubRel b.released (λ i. omega arith))
     (each_mapped IsHeld (λ p. rank p < 4) (λ (e : Entry). publish_packet e.id e.sent e.message) b.entries held_rank h)
 
--- ---- what is not in a queue of low ranks
+-- ---- Packets that can't be in a queue of low ranks
 
 none_below : {A : Type 0} (n : ℕ) (f : Packet → Option A) → ((p : Packet) → rank p < n → f p ≡ None) → (q : List Packet) → Below n q → filter_map f q ≡ []
 none_below n f h [] b = refl

@@ -22,8 +22,9 @@ use Rattle.mq_flow.proofs.Members.{insert_same, insert_other, remove_same, remov
 abbrev pub pair_key : ℕ × Message → ℕ
 pair_key p = p.0
 
--- entries: the messages of quality of service 2 that x holds; released: its released identifiers; stored: what y stored; pubrecs,
--- pubcomps: the packets on their way to x; publishes, pubrels: those on their way to y; accepted, handed: by x, and on by y
+-- entries: the QoS 2 messages that `x` stores; released: its released identifiers; stored: the
+-- identifiers that `y` stores; pubrecs, pubcomps: packets in flight to `x`; publishes, pubrels:
+-- packets in flight to `y`; accepted: by `x`; handed: delivered by `y`.
 pub record Second (x y : State) (entries : List (ℕ × Message)) (released : List ℕ) (stored : FinSet.FinSet nat_cmp) (pubrecs pubcomps : List ℕ)
     (publishes : List (ℕ × Message)) (pubrels : List ℕ) (accepted handed : List Message) : Type 0 where
   pub taken : List (ℕ × Message)
@@ -181,7 +182,7 @@ receiver_up h = record {
   handed_is = h.handed_is;
 }
 
--- ---- what is where
+-- ---- Positions
 
 -- an identifier among the entries was taken, or waits
 pub split_times : {x y : State} {entries : List (ℕ × Message)} {released : List ℕ} {stored : FinSet.FinSet nat_cmp} {pubrecs pubcomps : List ℕ}
@@ -209,7 +210,7 @@ in_middle i front back p e =
 
 -- ---- a message is accepted
 
--- what is kept when a message is accepted, whatever is on its way
+-- Accepting a message keeps the invariant, whatever is in flight.
 pub accepts : {x y : State} {entries : List (ℕ × Message)} {released : List ℕ} {stored : FinSet.FinSet nat_cmp} {pubrecs pubcomps : List ℕ}
     {publishes : List (ℕ × Message)} {pubrels : List ℕ} {accepted handed : List Message} (i : ℕ) (m : Message) (publishes_now : List (ℕ × Message))
     (h : Second x y entries released stored pubrecs pubcomps publishes pubrels accepted handed)
@@ -335,7 +336,7 @@ takes_publish {x} {entries} {released} {stored} {pubrecs} {pubcomps} {rest} {pub
 
 -- ---- a receiving window
 
--- where all that the sender has out fits the window, so does what comes
+-- If all messages in flight fit the window, so does the next one.
 pub spanned : {x : State} {entries : List (ℕ × Message)} {released : List ℕ} {stored : FinSet.FinSet nat_cmp} {pubrecs pubcomps : List ℕ}
     {rest : List (ℕ × Message)} {pubrels : List ℕ} {accepted handed : List Message} (i : ℕ) (m : Message) (window : Option ℕ) (capacity : ℕ)
     → Second x Connected entries released stored pubrecs pubcomps ((i, m) ∷ rest) pubrels accepted handed → length (ids entries ++ released) ≤ capacity
@@ -359,7 +360,7 @@ spanned {x} {entries} {released} {stored} i m window capacity h short spans =
 
 -- ---- a PUBREL comes
 
--- what stands in the book after it, wherever the released identifier was
+-- The book afterwards, wherever the released identifier was.
 pub forgets : {x : State} {entries : List (ℕ × Message)} {released : List ℕ} {stored : FinSet.FinSet nat_cmp} {pubrecs pubcomps : List ℕ}
     {publishes : List (ℕ × Message)} {pubrels : List ℕ} {accepted handed : List Message} (i : ℕ) (rest pubcomps_now taken_now waiting_now : List ℕ)
     (h : Second x Connected entries released stored pubrecs pubcomps publishes pubrels accepted handed) → Once entries released → 1 ≤ times i released
@@ -428,7 +429,7 @@ takes_pubrel {x} {entries} {released} {stored} {pubrecs} {pubcomps} {publishes} 
 
 -- ---- a PUBREC comes
 
--- the message that it answers is the first one held
+-- The acknowledged message is the first stored one.
 pub data Acknowledged (y : State) (entries : List (ℕ × Message)) (released : List ℕ) (stored : FinSet.FinSet nat_cmp) (i : ℕ) (rest pubcomps : List ℕ)
     (publishes : List (ℕ × Message)) (pubrels : List ℕ) (accepted handed : List Message) : Type 0 where
   First : (a : ℕ × Message) (later : List (ℕ × Message)) → entries ≡ a ∷ later → a.0 ≡ i

@@ -29,7 +29,7 @@ use Rattle.mq_world.proofs.Windows.{run_windows}
 use Rattle.mq_world.proofs.Marks.{Marks, IsNoConnack, Well, after_well, reached_well}
 use Rattle.mq_world.proofs.Ranks.{below_more, below_none, Draining, drained, resent_below, low_second, low_first, low_pubrec, low_puback}
 
--- both sides are up, with packets below these ranks in the queues toward the client and toward the server
+-- Both sides are connected, with packets below these ranks in their queues.
 abbrev pub Going : ℕ → ℕ → ℕ → Accepted → Accepted → Machine → Type 0
 Going capacity c s old_client old_server w = Draining capacity c s w.client w.server old_client old_server
 
@@ -92,7 +92,7 @@ exchanged capacity k a b w le d =
 abbrev pub pair : Half → Half → Machine
 pair c s = record { client = record c { end = record c.end { clean = false } }; server = record s { end = record s.end { clean = false } } }
 
--- the two sides after the handshake, where the client stays
+-- The two sides after the handshake, if the client stays.
 abbrev pub up_client : Half → Half → Half
 up_client c s = record c {
   end = record c.end {
@@ -199,7 +199,7 @@ shaken_hands capacity w spans_c spans_s well =
     let one : P false w.server.end.clean = subst (λ (b : Bool). P false b) (sym well.0.kept_y) (shaken capacity w.client w.server spans_c spans_s) in
     subst (λ (a : Bool). P a w.server.end.clean) (sym well.0.kept_x) one well
 
--- ---- what is left
+-- ---- The remaining packets
 
 nothing_at : {A : Type 0} (key : A → ℕ) (x y : State) (taken waiting : List A) (answering : List ℕ) (flying : List A) → x ≡ Connected → y ≡ Connected
     → answering ≡ [] → flying ≡ [] → Stages key x y taken waiting answering flying → (taken ≡ []) × (waiting ≡ [])
@@ -226,7 +226,7 @@ no_entries (e ∷ es) k one two = absurd (by_qos e.message.qos k.0 one two)
 both_nil : {A : Type 0} (E taken waiting : List A) → E ≡ taken ++ waiting → (taken ≡ []) × (waiting ≡ []) → E ≡ []
 both_nil {A} E taken waiting e n = e ∙ (ap (λ (q : List A). q ++ waiting) n.0 ∙ n.1)
 
--- nothing that asks for an answer is on its way from x to y, and no answer from y to x
+-- No packet that asks for a response is in flight from `x` to `y`, and no response from `y` to `x`.
 pub record Over (x y : Half) : Type 0 where
   pub up_x : x.end.state ≡ Connected
   pub up_y : y.end.state ≡ Connected

@@ -1,4 +1,4 @@
--- What settling leaves, from what came of its opening and of its deliveries.
+-- The state after settling, from the effects of its opening and its deliveries.
 use Rattle.std.proofs.Common.{◌≡◌, ◌≢◌, ℕ, zero, suc, true, false, Some, List, [], ◌∷◌, length, take, drop, refl, sym, ap, subst, ◌∙◌}
 use Rattle.std.specs.List.{All}
 use Rattle.std.proofs.Math.Seq.{take-length, drop-length}
@@ -21,7 +21,7 @@ use Rattle.mq_world.proofs.Worlds.{live_or_not, stands_opened}
 
 -- ---- one delivery after another
 
--- the end did not close for lack of memory
+-- The end did not close because an allocation failed.
 abbrev pub IsFed : Delivery → Type 0
 IsFed d = d.progress.closed ≢ Some reasons.Memory
 
@@ -30,7 +30,7 @@ abbrev pub turned : List Side → Machine → Machine
 turned [] m = m
 turned (side ∷ sides) m = turned sides (delivered side m)
 
--- all bytes of a wire come to a side that has a connection: all packets of the machine's queue do
+-- If all bytes of a wire arrive at a side with a connection, all packets of the machine's queue do.
 come_heard : SettlesOver → (limit : Bounds) (capacity : ℕ) (side : Side) (w v : Wired) (m : Machine) (d : Delivery) → Stands limit capacity w m
     → IsDelivered limit capacity side (length (near side w).wire) d w v → is_live (near side w).state.end.state ≡ true → IsFed d
     → Stands limit capacity v (delivered side m)

@@ -1,7 +1,10 @@
--- The stages of what a sender holds, from one side, x, to the other, y.
--- Each item of the book is in one of five stages, which follow one another in the order of the book:
--- answering: y took it in, and its answer is on its way; silent: y took it in, nothing is on its way; again: y took it in before,
--- and it is on its way again; coming: it is on its way for the first time; staying: it is not on its way.
+-- The stages of a sender's items, from one side, `x`, to the other, `y`. Each item of the book is
+-- in one of five stages, in the order of the book.
+-- answering: `y` has it, and its response is in flight.
+-- silent: `y` has it, and nothing is in flight.
+-- again: `y` has it, and it is in flight again.
+-- coming: it is in flight for the first time.
+-- staying: it is not in flight.
 use Rattle.std.proofs.Common.{◌≡◌, ℕ, ◌≤◌, Bool, true, false, not, ◌&&◌, ◌||◌, List, [], ◌∷◌, ◌++◌, map, refl, sym, ap, subst, ◌∙◌, arith}
 use Rattle.std.proofs.Common.{append_assoc, append-nil}
 use Rattle.std.proofs.lemmas.List.{map-append}
@@ -366,7 +369,7 @@ takes_in {A} key Connected taken waiting answers a rest h =
     up_takes key taken waiting answers a rest h.answering h.again h.coming (h.taken_is ∙ ap (λ (q : List A). h.answering ++ (q ++ h.again)) h.both.0)
     (h.waiting_is ∙ (ap (λ (q : List A). h.coming ++ q) h.both.1 ∙ append-nil h.coming)) h.answered h.flown
 
--- ---- the sender takes an answer in
+-- ---- The sender processes a response
 
 pub data Answered {A : Type 0} (key : A → ℕ) (y : State) (taken waiting : List A) (i : ℕ) (rest : List ℕ) (flying : List A) : Type 0 where
   Answer : (a : A) (later : List A) → taken ≡ a ∷ later → key a ≡ i → Stages key Connected y later waiting rest flying → Answered key y taken waiting i rest flying
@@ -400,9 +403,9 @@ answered key y taken waiting i rest flying h =
           quiet = quiet;
         })
 
--- ---- what follows
+-- ---- Consequences
 
--- what is answered was taken in
+-- An acknowledged item was received.
 pub answers_taken : {A : Type 0} (key : A → ℕ) (x y : State) (taken waiting : List A) (answers : List ℕ) (flying : List A)
     → Stages key x y taken waiting answers flying → (i : ℕ) → times i answers ≤ times i (map key taken)
 answers_taken key x y taken waiting answers flying h i =
@@ -420,7 +423,7 @@ no_front : {A : Type 0} (again coming : List A) → [] ≡ again ++ coming → (
 no_front [] coming e = (refl, sym e)
 no_front (z ∷ again) coming e = absurd (not_empty z (again ++ coming) (sym e))
 
--- both sides are up, and nothing is on its way: nothing is held
+-- Both sides are connected and nothing is in flight: nothing is stored.
 pub nothing_held : {A : Type 0} (key : A → ℕ) (taken waiting : List A) → Stages key Connected Connected taken waiting [] [] → (taken ≡ []) × (waiting ≡ [])
 nothing_held {A} key taken waiting h =
     let r = nothing_mapped key h.answering h.answered in

@@ -1,4 +1,5 @@
--- A world over bytes stands on a machine: what each side shows, and how it follows the machine's moves.
+-- A world over bytes carries a machine: the visible state of each side, and how it follows the
+-- machine's moves.
 use Rattle.std.proofs.Common.{◌≡◌, ℕ, ◌≤◌, true, false, Option, List, [], ◌∷◌, ◌++◌, refl, sym, ap, subst, ◌∙◌}
 use Rattle.std.proofs.lemmas.List.{append-nil}
 use Rattle.mq_packet.specs.declared.packet.Packet.{Packet}
@@ -62,7 +63,7 @@ far_fits limit capacity Client w m x h ps c k r s =
 far_fits limit capacity Server w m x h ps c k r s =
     grown limit capacity w.client m.client ps c k.large (reached_fits limit.most capacity (face Server h (put ps m.client)) r).0 s k.carries.client
 
--- a side moves, and what it puts out goes on its way to the other
+-- A side moves, and its output is in flight to the other.
 pub follows : (limit : Bounds) (capacity : ℕ) (side : Side) (w : Wired) (m : Machine) (moves : List Move) (x : WiredSide) (h : Half)
     (ps : List Packet) (c : List ℕ) → Stands limit capacity w m
     → Run limit.most capacity m moves (face side h (put ps (other side m))) → EncodesAll ps c → CarriesSide limit capacity x h
@@ -96,11 +97,11 @@ follows_one limit capacity side w m action x c k may s near_side =
     follows limit capacity side w m (By side action ∷ []) x (moved side action (half_of side m)).half (moved side action (half_of side m)).out c k
     (one_move limit.most capacity side m action may) s near_side
 
--- nothing is put out
+-- No output.
 pub no_more_bytes : (y : WiredSide) → with_more [] y ≡ y
 no_more_bytes y = λ i. record y { wire = append-nil y.wire i }
 
--- what is put out where nothing waited
+-- The whole output, if none was pending.
 pub all_put_out : (ps : List Packet) (old new : List ℕ) → old ≡ [] → PutsOut ps old new → EncodesAll ps new
 all_put_out ps old new e p = subst (EncodesAll ps) (sym (p.2 ∙ ap (λ (b : List ℕ). b ++ p.0) e)) p.1
 
@@ -169,7 +170,7 @@ unheard limit capacity Client w m left k off =
 unheard limit capacity Server w m left k off =
     alike limit capacity w (record w { server = record w.server { wire = left } }) m k (alike_itself w.client) (unheard_side w.server left off)
 
--- ---- what every run keeps
+-- ---- Invariants of every run
 
 seen_least : (x y : Half) (q r : List Packet) → AtLeastOnce x y → AtLeastOnce (record x { coming = q }) (record y { coming = r })
 seen_least x y q r h = record { places = h.places; walk = h.walk; are = h.are; freed = h.freed; rest = h.rest }

@@ -1,4 +1,4 @@
--- Each move keeps what holds between two sides.
+-- Each move keeps the invariant between two sides.
 use Rattle.std.proofs.Common.{◌≡◌, ℕ, ◌+◌, Bool, true, false, cond, not, ◌&&◌, Some, None, List, [], ◌∷◌, ◌++◌, length, refl, sym, subst, ◌∙◌, arith}
 use Rattle.std.proofs.Common.{append-nil}
 use Rattle.std.proofs.lemmas.Bool.{cond_both}
@@ -128,7 +128,7 @@ server_keeps capacity h y Disconnected p rest b = closed_keeps capacity h y (p �
 server_keeps capacity h y Connecting p rest b = server_open_keeps capacity h y p rest b
 server_keeps capacity h y Connected p rest b = server_up_keeps capacity h y p rest b
 
--- nothing comes, nothing goes out
+-- Nothing arrives and nothing is sent.
 pub still_keeps : (capacity : ℕ) (x y : Half) (ps : List Packet) → answers ps ≡ no_answers → flight ps ≡ no_flight → Each IsPlain ps
     → Both capacity x y → Both capacity x (put ps y)
 still_keeps capacity x y ps no_an no_fl plain b =
@@ -162,7 +162,7 @@ published_0 capacity h y st q i m b =
     (tt, tt)
     b
 
--- what is held with one more message
+-- The stored messages with one more.
 held_1 : (es : List Entry) (i : ℕ) (m : Message) (sent : Bool)
     → held Q1 (es ++ record { id = i; message = record m { qos = Q1 }; sent = sent } ∷ []) ≡ held Q1 es ++ (i, record m { qos = Q1 }) ∷ []
 held_1 es i m sent = held_append Q1 es (record { id = i; message = record m { qos = Q1 }; sent = sent } ∷ [])

@@ -32,7 +32,7 @@ cut_first reads limit (r ∷ q) p ps all first fr rest h s e next =
     let n = next q s.1 s.3 (sym same.1) in
     (n.0, (λ i. sym same.0 i ∷ n.1 i), n.2)
 
--- packets that are read in front of what is left are the first of all, and what is left is the others
+-- Packets read in front of the rest are the first ones of all; the rest is the others.
 pub cut : ReadsAgain → (limit : Bounds) (q ps : List Packet) (all front rest : List ℕ) → Stream limit q all → Stream limit ps front
     → all ≡ front ++ rest → Behind limit q ps rest
 cut reads limit q [] all front rest s t e = (q, refl, subst (Stream limit q) (e ∙ ap (λ (x : List ℕ). x ++ rest) t) s)
@@ -40,7 +40,7 @@ cut reads limit q (p ∷ ps) all front rest s t e =
     cut_first reads limit q p ps all t.0 t.1 rest t.2 s (e ∙ (ap (λ (x : List ℕ). x ++ rest) t.4 ∙ append_assoc t.0 t.1 rest))
     (λ q b s e. cut reads limit q ps b t.1 rest s t.3 e)
 
--- ---- what follows a fault doesn't matter
+-- ---- The bytes behind a fault make no difference
 
 bad_length_more : (limit : Bounds) (rest more : List ℕ) (k : FaultKind) (place : ℕ) → BadLength limit rest k place → BadLength limit (rest ++ more) k place
 bad_length_more limit rest more LengthTooLong place h = (

@@ -1,4 +1,5 @@
--- The events of a world and their answers are a run of the machine, and its lists are what the answers tell.
+-- The events of a world and their answers are a run of the machine, and its lists are those that
+-- the answers report.
 use Rattle.std.proofs.Common.{◌≡◌, ℕ, Bool, true, false, if◌then◌else◌, Option, Ok, Err, [], ◌∷◌, ◌++◌, ◌&&◌, refl, sym, ap, subst, ◌∙◌}
 use Rattle.mq_topic.specs.declared.qos.Qos.{Qos}
 use Rattle.mq_topic.specs.declared.qos.Qos.TheVariants.{Q0, Q1, Q2}
@@ -52,7 +53,7 @@ same_machine m n e = (ap (λ (z : Machine). lists_of z.client) e, ap (λ (z : Ma
 abbrev unmoved : (limit : Bounds) (capacity : ℕ) (v : Wired) (m : Machine) → Stands limit capacity v m → Follows limit capacity m [] v
 unmoved limit capacity v m s = record { machine = m; run = refl; stands = s }
 
--- ---- what an event tells
+-- ---- The lists after an event
 
 accepted_is : (qos : Qos) (i : ℕ) (message : Message) (id : Option ℕ) (before : Accepted) → id ≡ answered_identifier qos i
     → accepted_with qos i message before ≡ accepted_with qos (identifier_in id) message before
@@ -157,7 +158,7 @@ told_opening limit capacity w v m o s h = live_or_not o.refused (Tells limit cap
     let same = same_machine (after m Opens) f.machine f.run.1 in
     record { moves = Opens ∷ []; follows = f; client = same.0; server = same.1 })
 
--- time that goes by: the client asks, the server drops, or nothing happens
+-- Time passes: the client sends PINGREQ, the server drops the connection, or nothing happens.
 one_or_none : (limit capacity : ℕ) (m n : Machine) (made : Bool) (move : Move) → SameLists m (after m move)
     → Run limit capacity m (if made then move ∷ [] else []) n → SameLists m n
 one_or_none limit capacity m n true move kept run =

@@ -17,7 +17,7 @@ use Rattle.mq_world.specs.Machine.{Machine, By, after}
 use Rattle.mq_world.specs.Settling.{arrivals}
 use Rattle.mq_world.specs.AtOnce.{AtOnceLaw}
 
--- so many arrivals at a side that faces another
+-- Several arrivals at a side that faces another.
 pub record Sides : Type 0 where
   pub near : Half
   pub far : Half
@@ -59,7 +59,7 @@ pub closed_silent : (side : Side) (p : Packet) (e : End) → gets side p (record
 closed_silent Client p e = refl
 closed_silent Server p e = refl
 
--- what the two sides come to
+-- The two sides afterwards.
 abbrev pub result : List Packet → Half → Half → Reply → Sides
 result rest x y r = record { near = (took x rest r).half; far = put (took x rest r).out y }
 

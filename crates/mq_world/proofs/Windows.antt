@@ -1,4 +1,5 @@
--- The receiving windows over every run: they stay, and what comes fits one that is not less than the capacity.
+-- Receive windows over every run: they stay, and each packet fits one that is at least the
+-- capacity.
 use Rattle.std.proofs.Common.{◌≡◌, ◌≢◌, ℕ, ◌≤◌, Bool, true, not, ◌&&◌, eqb, Option, Some, None, cond, List, [], ◌∷◌, ◌++◌, map, filter}
 use Rattle.std.proofs.Common.{length, refl, sym, ap, subst, ◌∙◌, arith}
 use Rattle.std.proofs.lemmas.Bool.{cond_both}
@@ -83,7 +84,7 @@ run_windows limit capacity m (move ∷ moves) v run =
 pub reached_windows : (limit capacity : ℕ) (m : Machine) (r : Reached limit capacity m) → (m.client.end.window ≡ r.0) × (m.server.end.window ≡ r.0)
 reached_windows limit capacity m r = run_windows limit capacity (blank_machine r.0) r.1 m r.2
 
--- ---- what comes fits
+-- ---- Packets fit
 
 abbrev pub FitsAs : Qos → Option Delivery → Option ℕ → ReceiverBook → Type 0
 FitsAs Q2 (Some d) window r = fits_window window d.id r ≡ true
@@ -94,7 +95,7 @@ abbrev pub FitsIn : Packet → Option ℕ → ReceiverBook → Type 0
 FitsIn (packets.Publish p) window r = FitsAs p.message.qos p.delivery window r
 FitsIn p window r = Unit {0}
 
--- what a sender has out is at most the capacity
+-- A sender has at most `capacity` messages in flight.
 few : (capacity : ℕ) (b : SenderBook) → IsSound capacity b → length (ids (held Q2 b.entries) ++ b.released) ≤ capacity
 few capacity b s =
     let es : List Entry = b.entries in
@@ -197,7 +198,7 @@ either_other (Some reason) b x y = x
 
 -- ---- packets that come one after another
 
--- what holds of each side to which the rest comes
+-- A property of each side at which the rest arrives.
 abbrev Later : ℕ → Side → List Packet → List Packet → Type 0
 Later capacity side ps rest =
     (x y : Half) → Both capacity x y → Spans x.end.window capacity → x.coming ≡ kept x.end.state (ps ++ rest) → Other (one_by_one (gets side) ps x.end)

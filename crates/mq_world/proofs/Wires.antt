@@ -1,4 +1,4 @@
--- What is put out in a run spells a stream: all of it is within the limit.
+-- The output of a run encodes a stream: all of it is within the limit.
 use Rattle.std.proofs.Common.{◌≡◌, ℕ, ◌≤◌, Bool, true, false, not, ◌&&◌, cond, Option, Some, None, List, [], ◌∷◌, ◌++◌, length, nat_lt, refl, sym}
 use Rattle.std.proofs.Common.{subst, append_assoc, arith}
 use Rattle.std.proofs.lemmas.Bool.{leb-true, le-leb, ltb-false}
@@ -73,7 +73,7 @@ size_within limit packets.PingResp large h = omega arith
 size_within limit packets.Disconnect large h = omega arith
 size_within limit p large h = absurd h
 
--- what is spelled is read under all limits
+-- An encoding is read under all limits.
 reads : (lenient : Bool) (p : Packet) (b : List ℕ) → Encodes p b → Reads lenient p b
 reads false p b h = h
 reads true p b h = record { packet = h.packet; len = h.len; formed = (h.formed.0, h.formed.1); bytes = h.bytes }
@@ -108,7 +108,7 @@ run_fits limit capacity w (By Server (Publishes i m) ∷ moves) v run = (
 )
 run_fits limit capacity w (move ∷ moves) v run = run_fits limit capacity (after w move) moves v run.1
 
--- all that is on its way in a machine that a run reaches is within the limit
+-- All packets in flight in a machine that a run reaches are within the limit.
 pub reached_fits : (limit capacity : ℕ) (m : Machine) → Reached limit capacity m → Each (IsCarried (fits limit)) m.client.coming
     × Each (IsCarried (fits limit)) m.server.coming
 reached_fits limit capacity m r =
@@ -120,7 +120,7 @@ pub reached_entries : (limit capacity : ℕ) (m : Machine) → Reached limit cap
 reached_entries limit capacity m r =
     (carried (fits limit) limit capacity r.0 r.1 m (run_fits limit capacity (blank_machine r.0) r.1 m r.2) r.2).0.entries
 
--- ---- the wire toward a side grows by what the other side puts out
+-- ---- The wire toward a side grows by the output of the other side
 
 each_last : {A : Type 0} (P : A → Type 0) (xs ys : List A) → Each P (xs ++ ys) → Each P ys
 each_last P [] ys h = h

@@ -1,4 +1,4 @@
--- What comes of each event of a world over bytes, from what its ends do.
+-- The effect of each event of a world over bytes, derived from its ends.
 use Rattle.std.proofs.Common.{◌≡◌, ℕ, ◌<◌, ◌≤◌, Bool, true, false, not, ◌&&◌, Option, None, Some, Result, Ok, Err, List, [], ◌∷◌, ◌++◌, length, take}
 use Rattle.std.proofs.Common.{drop, get_or, ◌+◌, add-one, refl, sym, ap, subst, ◌∙◌, nat_lt, IfSome, IfNone, IfErr, OnOk, OnErr}
 use Rattle.std.specs.Result.{is_err}
@@ -62,7 +62,7 @@ written_same s e z = λ i. record s { output = sym e i; room = record s.room { b
 
 -- ---- time
 
--- no time goes by for a side that only gets bytes on their way to it
+-- No time passes for a side toward which bytes are sent.
 no_time : (x : WiredSide) → SameTime x x
 no_time x = record { clock = refl; last_activity = refl }
 
@@ -70,14 +70,14 @@ same_times : (side : Side) (w : Wired) (x y : WiredSide) → SameTime (near side
 same_times Client w x y a b = record { client = a; server = b }
 same_times Server w x y a b = record { client = b; server = a }
 
--- the server hears what its end does
+-- The server's own time of last activity.
 pub heard_written : (now : ℕ) (b : List ℕ) (closed : Option CloseReason) (old new : EndState) → HearsAt now b closed old new
     → HearsAt now b closed old (written new)
 heard_written now b closed old new h = record { waits = h.waits; closes = h.closes; hears = h.hears }
 
 -- ---- publishing
 
--- what an end puts out goes on the wire behind what is there, where nothing waited to be written
+-- The output of an end is appended to the wire, if none was pending.
 pub on_wire : (ps : List Packet) (old new wire : List ℕ) → old ≡ [] → PutsOut ps old new → PutsOut ps wire (wire ++ new)
 on_wire ps old new wire quiet (b, encoded, e) = (b, encoded, ap (λ (z : List ℕ). wire ++ z) (e ∙ ap (λ (z : List ℕ). z ++ b) quiet))
 
@@ -148,7 +148,7 @@ pub no_reason : {A : Type 0} (o : Option PublishRefusal) (answer : A) (result : 
 no_reason None answer result e h = refl
 no_reason (Some y) answer result e h = let f : Ok answer ≡ Err y = sym e ∙ h in cc
 
--- a message is accepted, where the end and the lists get clones of it
+-- A message is accepted; the end and the lists get clones of it.
 pub published_at : OverBytes → (limit : Bounds) (capacity : ℕ) (side : Side) (w v : Wired) (m : Machine) (message copy twin : Message)
     (answer : Option ℕ) (new : EndState) (out : List ℕ) → Stands limit capacity w m
     → copy ≡ message → twin ≡ message

@@ -8,8 +8,8 @@ use Rattle.mq_world.specs.Half.{took, put, kept}
 use Rattle.mq_world.specs.Machine.{Machine}
 use Rattle.mq_world.specs.Settling.{arrivals}
 
--- Where the queue toward a side begins with some packets, their arrival one after another is what the end does with them at
--- once, also where it closes at one of them.
+-- If the queue toward a side begins with some packets, their arrivals one after another have the
+-- same effect as processing them at once, also if the end closes at one of them.
 pub record AtOnceLaw : Type 0 where
   pub client : (ps rest : List Packet) (w : Machine) → w.client.coming ≡ kept w.client.end.state (ps ++ rest) → arrivals (length ps) Client w ≡ record {
     client = (took w.client rest (client_gets_all ps w.client.end)).half;

@@ -1,4 +1,4 @@
--- What is held and what is on its way, over every run.
+-- Stored messages and packets in flight, over every run.
 use Rattle.std.specs.Prelude.{ℕ, ◌≡◌, Bool, true, Option, Some, None, List, [], ◌∷◌}
 use Rattle.mq_packet.specs.Identifier.{IsIdentifier}
 use Rattle.mq_packet.specs.Publication.{fits_delivery}
@@ -12,7 +12,7 @@ use Rattle.mq_world.specs.Half.{Half, Publishes}
 use Rattle.mq_world.specs.Machine.{Machine, Move, By, Run, blank_machine, first_packet}
 use Rattle.mq_world.specs.Orders.{Each}
 
--- where there is an identifier, it is one (2.3.1)
+-- An identifier, if there is one, is valid (2.3.1).
 abbrev pub IsDelivery : Option Delivery → Type 0
 IsDelivery None = Unit {0}
 IsDelivery (Some d) = IsIdentifier d.id
@@ -21,8 +21,8 @@ IsDelivery (Some d) = IsIdentifier d.id
 abbrev pub IsPublication : (Message → Bool) → Message → Option Delivery → Type 0
 IsPublication test m d = (test m ≡ true) × (fits_delivery m.qos d ≡ true) × IsDelivery d
 
--- A packet that may be on its way: a new connection's CONNECT (3.1), the PUBLISH of a message that passes the test (3.3),
--- what answers one (3.4 to 3.7), and packets without an identifier.
+-- A packet that may be in flight: the CONNECT of a new connection (3.1), the PUBLISH of a message
+-- that passes the test (3.3), its acknowledgements (3.4 to 3.7), and packets without an identifier.
 abbrev pub IsCarried : (Message → Bool) → Packet → Type 0
 IsCarried test (packets.Connect c) = c ≡ first_packet
 IsCarried test (packets.ConnAck answer) = Unit {0}
@@ -34,7 +34,7 @@ IsCarried test (packets.PubComp i) = IsIdentifier i
 IsCarried test packets.PingReq = Unit {0}
 IsCarried test packets.PingResp = Unit {0}
 IsCarried test packets.Disconnect = Unit {0}
--- nobody subscribes
+-- No side subscribes.
 IsCarried test p = ⊥
 
 -- a message that passes the test is held, with its identifier (4.3.2, 4.3.3)

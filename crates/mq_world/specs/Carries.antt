@@ -14,8 +14,8 @@ use Rattle.mq_world.specs.declared.side.Side.{Side}
 use Rattle.mq_world.specs.Half.{Accepted, HandedOn, Half, Arrives, Drops}
 use Rattle.mq_world.specs.Machine.{Machine, Move, By, Run, blank_machine}
 
--- A side of the world: its end, its clock in milliseconds, the bytes on their way to it, the oldest first (4.6), and the lists of
--- the run.
+-- A side of the world: its end, its clock in milliseconds, the bytes on their way to it, the oldest
+-- first (4.6), and the lists of the run.
 pub record WiredSide : Type 0 where
   pub state : EndState
   pub clock : ℕ
@@ -29,8 +29,9 @@ pub record Wired : Type 0 where
   pub client : WiredSide
   pub server : WiredSide
 
--- A side carries that of the machine: the ends and the lists are the same, no byte waits to be written and no room is kept for one, and
--- where there is a connection, the bytes held followed by those on their way spell the packets of the queue.
+-- A side of the world carries a side of the machine: ends and lists are the same, no output is
+-- pending, no room is reserved, and if there is a connection, the held bytes followed by those in
+-- flight encode the packets of the queue.
 pub record CarriesSide (limit : Bounds) (capacity : ℕ) (x : WiredSide) (h : Half) : Type 0 where
   pub end : x.state.end ≡ h.end
   pub bytes : is_live h.end.state ≡ true → Stream limit h.coming (x.state.held ++ x.wire)
@@ -54,7 +55,7 @@ Reached limit capacity m = (window : Option ℕ) × (moves : List Move) × Run l
 abbrev pub IsSpanned : ℕ → Wired → Type 0
 IsSpanned capacity w = Spans w.client.state.end.window capacity × Spans w.server.state.end.window capacity
 
--- both sides have this window, where it is one
+-- Both sides have this receive window.
 abbrev pub HaveWindow : Option ℕ → Wired → Type 0
 HaveWindow window w = (w.client.state.end.window ≡ window) × (w.server.state.end.window ≡ window)
 
@@ -72,8 +73,8 @@ seen w = record { client = seen_side w.client; server = seen_side w.server }
 
 -- ---- bytes that come
 
--- The packets that come with bytes: those that are whole now, all of them where the end does not close, else up to one at which it
--- closes (4.6).
+-- The packets that arrive with bytes: all complete ones if the end doesn't close, otherwise those
+-- up to the one at which it closes (4.6).
 pub record Comes (limit : Bounds) (b : List ℕ) (closed : Option CloseReason) (ps : List Packet) : Type 0 where
   pub front : List ℕ
   pub rest : List ℕ
@@ -81,7 +82,8 @@ pub record Comes (limit : Bounds) (b : List ℕ) (closed : Option CloseReason) (
   pub parts : b ≡ front ++ rest
   pub all : closed ≡ None → Pending limit rest
 
--- These moves are so many arrivals; where memory ran out, the connection is lost after them.
+-- These moves are one arrival for each packet. If an allocation failed, the connection is lost
+-- after them.
 abbrev pub AreArrivals : Side → ℕ → Option CloseReason → List Move → Type 0
 AreArrivals side n closed moves = (moves ≡ replicate n (By side Arrives))
     ⊎ ((closed ≡ Some reasons.Memory) × (moves ≡ replicate n (By side Arrives) ++ By side Drops ∷ []))

@@ -26,11 +26,13 @@ word_1 = record { topic = 116 ∷ []; payload = 120 ∷ []; qos = Q1; retain = f
 abbrev pub word_2 : Message
 word_2 = record { topic = 116 ∷ []; payload = 120 ∷ []; qos = Q2; retain = false }
 
--- a message of quality of service 2 comes to the server, and the client drops before PUBREC comes (4.3.3)
+-- A QoS 2 message arrives at the server, and the client drops the connection before PUBREC arrives
+-- (4.3.3).
 abbrev pub pubrec_lost : List Move
 pubrec_lost = handshake (By Client (Publishes 1 word_2) ∷ By Server Arrives ∷ By Client Drops ∷ [])
 
--- a message of quality of service 1 comes to the server, and the client drops before PUBACK comes (4.3.2)
+-- A QoS 1 message arrives at the server, and the client drops the connection before PUBACK arrives
+-- (4.3.2).
 abbrev pub puback_lost : List Move
 puback_lost = handshake (By Client (Publishes 1 word_1) ∷ By Server Arrives ∷ By Client Drops ∷ [])
 
@@ -38,22 +40,23 @@ puback_lost = handshake (By Client (Publishes 1 word_1) ∷ By Server Arrives �
 abbrev pub dropped_inside : List Move
 dropped_inside = Opens ∷ By Server Arrives ∷ By Client Drops ∷ []
 
--- That the machine has these runs, and what comes of them.
+-- The machine has these runs, with these results.
 pub record Examples : Type 0 where
-  -- PUBREC lost: handed on once, before and after all is settled
+  -- PUBREC lost: delivered once, before and after settling.
   pub pubrec_lost_runs : Run 100 4 (blank_machine None) pubrec_lost (after_all (blank_machine None) pubrec_lost)
   pub pubrec_lost_before : (after_all (blank_machine None) pubrec_lost).server.handed.exactly_once ≡ word_2 ∷ []
   pub pubrec_lost_after : (settled (after_all (blank_machine None) pubrec_lost)).server.handed.exactly_once ≡ word_2 ∷ []
-  -- PUBACK lost: handed on twice when all is settled
+  -- PUBACK lost: delivered twice after settling.
   pub puback_lost_runs : Run 100 4 (blank_machine None) puback_lost (after_all (blank_machine None) puback_lost)
   pub puback_lost_before : (after_all (blank_machine None) puback_lost).server.handed.at_least_once ≡ word_1 ∷ []
   pub puback_lost_after : (settled (after_all (blank_machine None) puback_lost)).server.handed.at_least_once ≡ word_1 ∷ word_1 ∷ []
-  -- a drop inside the handshake: the server has a session, the client has none that is established; it goes on all the same
+  -- a drop inside the handshake: the server has a session, the client has none that is established;
+  -- it goes on all the same
   pub dropped_inside_runs : Run 100 4 (blank_machine None) dropped_inside (after_all (blank_machine None) dropped_inside)
   pub dropped_inside_server : (after_all (blank_machine None) dropped_inside).server.end.known ≡ true
   pub dropped_inside_client : (after_all (blank_machine None) dropped_inside).client.end.known ≡ false
   pub dropped_inside_after : (settled (after_all (blank_machine None) dropped_inside)).client.end.state ≡ Connected
-  -- a server's message is refused before a session stands, and accepted after
+  -- A server's message is refused while the client has no session, and accepted afterwards.
   pub refused_before : refusal Server 100 4 word_2 (blank_machine None).server.end ≡ Some NoSession
   pub accepted_after : Run 100 4 (blank_machine None) (Opens ∷ By Server Arrives ∷ By Server (Publishes 1 word_2) ∷ [])
       (after_all (blank_machine None) (Opens ∷ By Server Arrives ∷ By Server (Publishes 1 word_2) ∷ []))

@@ -1,4 +1,5 @@
--- One side of the machine: its end, the queue of packets toward it, and the lists of the run; and its moves.
+-- One side of the machine: its end, the queue of packets toward it, and the lists of the run; and
+-- its moves.
 use Rattle.std.specs.Prelude.{ℕ, ◌+◌, ◌≡◌, Bool, true, false, ◌||◌, if◌then◌else◌, Option, None, List, [], ◌∷◌, ◌++◌, ◌==◌}
 use Rattle.mq_topic.specs.declared.qos.Qos.{Qos}
 use Rattle.mq_topic.specs.declared.qos.Qos.TheVariants.{Q0, Q1, Q2}
@@ -19,22 +20,22 @@ use Rattle.mq_end.specs.Laws.{MayHave}
 use Rattle.mq_world.specs.declared.side.Side.{Side}
 use Rattle.mq_world.specs.declared.side.Side.TheVariants.{Client, Server}
 
--- The messages that a side accepted from its user, in order, by quality of service (4.3); those of quality of service 1
--- with the identifiers that it gave them.
+-- The messages that a side accepted from its user, in order, by quality of service (4.3); those of
+-- quality of service 1 with the identifiers that it gave them.
 pub record Accepted : Type 0 where
   pub at_most_once : List Message
   pub at_least_once : List (ℕ × Message)
   pub exactly_once : List Message
 
--- the messages that a side handed on to its user, in order, by quality of service (4.3)
+-- The messages that a side delivered to its user, in order, by QoS (4.3).
 pub record HandedOn : Type 0 where
   pub at_most_once : List Message
   pub at_least_once : List Message
   pub exactly_once : List Message
 
--- A side: its end, the queue of packets toward it (4.6), the oldest first, and of the run so far what it accepted, what it
--- handed on, and the places, among the messages of quality of service 1 that it accepted, of those that were acknowledged to it
--- (4.3.2).
+-- A side: its end; the queue of packets toward it, the oldest first (4.6); and of the run so far
+-- the messages that it accepted, those that it delivered, and the places, among its accepted QoS 1
+-- messages, of those that were acknowledged to it (4.3.2).
 pub record Half : Type 0 where
   pub end : End
   pub coming : List Packet
@@ -42,20 +43,20 @@ pub record Half : Type 0 where
   pub handed : HandedOn
   pub freed : List ℕ
 
--- nothing accepted, and nothing handed on
+-- No message was accepted, and none delivered.
 abbrev pub none_accepted : Accepted
 none_accepted = record { at_most_once = []; at_least_once = []; exactly_once = [] }
 
 abbrev pub none_handed : HandedOn
 none_handed = record { at_most_once = []; at_least_once = []; exactly_once = [] }
 
--- with this receiving window; no session, no connection, nothing accepted or handed on
+-- A side with this receive window: no session, no connection, no message accepted or delivered.
 abbrev pub blank_half : Option ℕ → Half
 blank_half window = record { end = blank_end window; coming = []; accepted = none_accepted; handed = none_handed; freed = [] }
 
 -- ---- queues
 
--- what joins the queue toward a side: packets toward a closed one are lost (4.2)
+-- The packets that join the queue toward a side; packets toward a closed one are lost (4.2).
 abbrev pub joined : {A : Type 0} → State → List A → List A → List A
 joined Disconnected queue ps = queue
 joined Connecting queue ps = queue ++ ps
@@ -73,13 +74,13 @@ put ps h = record h { coming = joined h.end.state h.coming ps }
 
 -- ---- the lists of the run
 
--- the messages of a quality of service (4.3), after those that are told of
+-- The messages of one QoS (4.3), behind the reported ones.
 abbrev pub told : Qos → List Happening → List Message → List Message
 told q [] ms = ms
 told q (happens.Handed m ∷ hs) ms = told q hs (if same_qos q m.qos then ms ++ m ∷ [] else ms)
 told q (h ∷ hs) ms = told q hs ms
 
--- an identifier stands in a list of pairs
+-- An identifier occurs in a list of pairs.
 abbrev pub is_given : ℕ → List (ℕ × Message) → Bool
 is_given i [] = false
 is_given i (p ∷ ps) = p.0 == i || is_given i ps
@@ -102,7 +103,7 @@ accepted_with Q2 i m a = record a { exactly_once = a.exactly_once ++ m ∷ [] }
 
 -- ---- moves
 
--- a side after its move, and what it puts out
+-- A side after its move, and the packets that it sends.
 pub record Outcome : Type 0 where
   pub half : Half
   pub out : List Packet
@@ -123,7 +124,7 @@ took h rest r = record {
   out = r.out;
 }
 
--- a packet comes to the end of a side
+-- A packet arrives at the end of a side.
 abbrev pub gets : Side → Packet → End → Reply
 gets Client p e = client_gets p e
 gets Server p e = server_gets p e
@@ -133,16 +134,16 @@ abbrev pub arrival : List Packet → Side → Half → Outcome
 arrival [] side h = record { half = h; out = [] }
 arrival (p ∷ rest) side h = took h rest (gets side p h.end)
 
--- a message is accepted, with this identifier where it has one (2.3.1, 4.3)
+-- A message is accepted, under this identifier if it has one (2.3.1, 4.3).
 abbrev pub publication : ℕ → Message → Half → Outcome
 publication i m h = record {
   half = record h { end = (publishes i m h.end).end; accepted = accepted_with m.qos i m h.accepted };
   out = (publishes i m h.end).out;
 }
 
--- What one side may do.
+-- The actions of one side.
 pub data Action : Type 0 where
-  -- its user publishes a message, which is given this identifier where it has one
+  -- Its user publishes a message, under this identifier if it has one.
   Publishes : (id : ℕ) (message : Message) → Action
   -- the oldest packet of the queue toward it comes
   Arrives : Action
@@ -150,7 +151,7 @@ pub data Action : Type 0 where
   Drops : Action
   -- the client leaves
   Leaves : Action
-  -- the client asks whether the server is there
+  -- The client sends PINGREQ.
   Pings : Action
 
 -- why the end of a side refuses a message
@@ -158,8 +159,8 @@ abbrev pub refusal : Side → ℕ → ℕ → Message → End → Option Publish
 refusal Client limit capacity m e = publish_refusal limit capacity m e
 refusal Server limit capacity m e = server_publish_refusal limit capacity m e
 
--- When it may: a message is not refused, and an identifier that it is given is free. A packet may come at any time, a
--- connection may be lost at any time.
+-- When it may: a message is not refused, and an identifier that it is given is free. A packet may
+-- come at any time, a connection may be lost at any time.
 abbrev pub May : ℕ → ℕ → Side → Action → Half → Type 0
 May limit capacity side (Publishes i m) h = (refusal side limit capacity m h.end ≡ None) × MayHave (has_identifier m.qos) h.end i
 May limit capacity side Arrives h = Unit {0}
@@ -169,7 +170,7 @@ May limit capacity Server Leaves h = ⊥
 May limit capacity Client Pings h = is_up h.end.state ≡ true
 May limit capacity Server Pings h = ⊥
 
--- What comes of an action.
+-- The effect of an action.
 abbrev pub moved : Side → Action → Half → Outcome
 moved side (Publishes i m) h = publication i m h
 moved side Arrives h = arrival h.coming side h

@@ -1,4 +1,4 @@
--- What every run keeps (4.3).
+-- The promise of every run (4.3).
 use Rattle.std.specs.Prelude.{ℕ, ◌+◌, ◌≡◌, ◌≤◌, Option, List, ◌++◌, length}
 use Rattle.mq_topic.specs.declared.qos.Qos.TheVariants.{Q1, Q2}
 use Rattle.mq_packet.specs.declared.message.Message.{Message}
@@ -7,12 +7,14 @@ use Rattle.mq_world.specs.Half.{Half}
 use Rattle.mq_world.specs.Machine.{Machine, Move, Run, blank_machine}
 use Rattle.mq_world.specs.Orders.{Beginning, Part, Walk, IsAt, AllIn, others, messages}
 
--- At most once (4.3.1), from x to y: y handed on only what x accepted, in order, and nothing twice; some may be lost.
+-- At most once (4.3.1), from `x` to `y`: `y` delivered only messages that `x` accepted, in order,
+-- and none twice; some may be lost.
 abbrev pub AtMostOnce : Half → Half → Type 0
 AtMostOnce x y = Part y.handed.at_most_once x.accepted.at_most_once
 
--- At least once (4.3.2), from x to y: y handed on only what x accepted, each message for the first time when all before it had
--- come, and perhaps again later; what was acknowledged to x has come, and all the rest x holds, in order.
+-- At least once (4.3.2), from `x` to `y`: `y` delivered only messages that `x` accepted, each for
+-- the first time after all before it, and perhaps again later. Each message that was acknowledged
+-- to `x` was delivered, and `x` stores all the others, in order.
 pub record AtLeastOnce (x y : Half) : Type 0 where
   pub places : List ℕ
   pub walk : Walk places
@@ -20,8 +22,9 @@ pub record AtLeastOnce (x y : Half) : Type 0 where
   pub freed : AllIn x.freed places
   pub rest : others x.freed x.accepted.at_least_once ≡ held Q1 x.end.book.entries
 
--- Exactly once (4.3.3), from x to y: what y handed on is how the list of what x accepted begins, so nothing comes twice or out
--- of turn; what has not come yet stands at the end of that list, and x holds it.
+-- Exactly once (4.3.3), from `x` to `y`: the messages that `y` delivered are a prefix of those that
+-- `x` accepted, so none is delivered twice or out of order. The others are at the end of that list,
+-- and `x` stores them.
 pub record ExactlyOnce (x y : Half) : Type 0 where
   pub beginning : Beginning y.handed.exactly_once x.accepted.exactly_once
   pub before : List Message

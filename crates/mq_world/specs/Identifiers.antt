@@ -13,7 +13,7 @@ abbrev pub half_of : Side → Machine → Half
 half_of Client w = w.client
 half_of Server w = w.server
 
--- What every run keeps of the identifiers, and what a new one is (2.3.1).
+-- The identifiers of every run, and a newly assigned one (2.3.1).
 pub record IdentifiersLaw : Type 0 where
   -- at each side those in use are from 1 to 65,535, each in use once, and within the capacity
   pub sound : (limit capacity : ℕ) (window : Option ℕ) (moves : List Move) (w : Machine) → Run limit capacity (blank_machine window) moves w

@@ -1,16 +1,16 @@
--- What contracts see of the lists of a side.
+-- The lists of a side as contracts see them.
 use Rattle.std.specs.Prelude.{ℕ, length}
 use Rattle.mq_topic.specs.declared.qos.Qos.{Qos}
 use Rattle.mq_topic.specs.declared.qos.Qos.TheVariants.{Q0, Q1, Q2}
 use Rattle.mq_world.specs.declared.account.Account.{Account}
 use Rattle.mq_world.specs.Half.{Accepted, HandedOn}
 
--- what a side accepted
+-- The messages that a side accepted.
 abbrev pub accepted_in : Account → Accepted
 accepted_in l =
     record { at_most_once = l.accepted_at_most_once.items; at_least_once = l.accepted_at_least_once.items; exactly_once = l.accepted_exactly_once.items }
 
--- what it handed on
+-- The messages that it delivered.
 abbrev pub handed_in : Account → HandedOn
 handed_in l = record { at_most_once = l.handed_at_most_once.items; at_least_once = l.handed_at_least_once.items; exactly_once = l.handed_exactly_once.items }
 
@@ -20,7 +20,7 @@ accepted_count Q0 a = length a.at_most_once
 accepted_count Q1 a = length a.at_least_once
 accepted_count Q2 a = length a.exactly_once
 
--- how many messages of a quality of service were handed on
+-- The number of delivered messages of one QoS.
 abbrev pub handed_count : Qos → HandedOn → ℕ
 handed_count Q0 h = length h.at_most_once
 handed_count Q1 h = length h.at_least_once

@@ -1,4 +1,4 @@
--- Two sides that are joined by two queues of packets, and what may happen.
+-- Two sides that are joined by two queues of packets, and the moves between them.
 use Rattle.std.specs.Prelude.{ℕ, ◌≡◌, false, Option, None, List, [], ◌∷◌}
 use Rattle.mq_packet.specs.declared.connect.Connect.{Connect}
 use Rattle.mq_packet.specs.declared.packet.Packet.{Packet}
@@ -13,17 +13,18 @@ pub record Machine : Type 0 where
   pub client : Half
   pub server : Half
 
--- at first neither side has a session, and there is no connection; both have this receiving window, where it is one
+-- At first neither side has a session, and there is no connection. Both have this receive window,
+-- if any.
 abbrev pub blank_machine : Option ℕ → Machine
 blank_machine window = record { client = blank_half window; server = blank_half window }
 
--- Each connection begins with this CONNECT: the client `w`, clean session 0, so that both sides keep their sessions
--- (3.1.2.4), and a keep-alive of 60 seconds.
+-- Each connection begins with this CONNECT: the client `w`, clean session 0, so that both sides
+-- keep their sessions (3.1.2.4), and a keep-alive of 60 seconds.
 abbrev pub first_packet : Connect
 first_packet = record { client_id = 119 ∷ []; clean_session = false; keep_alive = 60; will = None; login = None }
 
--- A move: a side does something; or a new connection is opened; or the client's program ends, and goes on with the session that it
--- saved (3.1.2.4, 4.1).
+-- A move: a side does something; or a new connection is opened; or the client's program ends, and
+-- goes on with the session that it saved (3.1.2.4, 4.1).
 pub data Move : Type 0 where
   By : Side → Action → Move
   Opens : Move
@@ -33,7 +34,7 @@ pub data Move : Type 0 where
 abbrev pub opened_client : Half → Half
 opened_client h = record h { end = (connects first_packet h.end).end; coming = [] }
 
--- the server of a new connection: the queue toward it has just what the client puts out, its CONNECT (3.1)
+-- The server of a new connection: the queue toward it has only the client's CONNECT (3.1).
 abbrev pub opened_server : List Packet → Half → Half
 opened_server ps h = record h { end = (opens h.end).end; coming = ps }
 
@@ -41,15 +42,17 @@ opened_server ps h = record h { end = (opens h.end).end; coming = ps }
 abbrev pub without_keep_alive : Half → Half
 without_keep_alive h = record h { end = record h.end { keep_alive = 0 } }
 
--- when a move may be made; a connection may be opened at any time, and a program may end at any time
+-- when a move may be made; a connection may be opened at any time, and a program may end at any
+-- time
 abbrev pub IsAllowed : ℕ → ℕ → Machine → Move → Type 0
 IsAllowed limit capacity w (By Client action) = May limit capacity Client action w.client
 IsAllowed limit capacity w (By Server action) = May limit capacity Server action w.server
 IsAllowed limit capacity w Opens = Unit {0}
 IsAllowed limit capacity w Restarts = Unit {0}
 
--- The machine after a move: what a side puts out joins the queue toward the other. Where the client's program ends, its connection is
--- lost: this is a drop, but that the keep-alive is not saved.
+-- The machine after a move: the packets that a side sends join the queue toward the other. If the
+-- client's program ends, its connection is lost; this is a drop, except that the keep-alive is not
+-- saved.
 abbrev pub after : Machine → Move → Machine
 after w (By Client action) = record { client = (moved Client action w.client).half; server = put (moved Client action w.client).out w.server }
 after w (By Server action) = record { client = put (moved Server action w.server).out w.client; server = (moved Server action w.server).half }
@@ -59,8 +62,8 @@ after w Restarts = record {
   server = put (moved Client Drops (without_keep_alive w.client)).out w.server;
 }
 
--- The machine may make these moves, one after another, from one machine to another; limit bounds the remaining length of
--- what is published, capacity the identifiers in use at a side.
+-- The machine can make these moves, one after another. `limit` bounds the remaining length of
+-- published messages, `capacity` the identifiers in use at a side.
 abbrev pub Run : ℕ → ℕ → Machine → List Move → Machine → Type 0
 Run limit capacity w [] v = v ≡ w
 Run limit capacity w (move ∷ moves) v = IsAllowed limit capacity w move × Run limit capacity (after w move) moves v

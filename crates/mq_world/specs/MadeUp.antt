@@ -27,8 +27,8 @@ made_message qos n = record { topic = 116 ∷ []; payload = to_be_bytes w32 n; q
 abbrev pub made_loss : Side → ℕ → Event
 made_loss side value = if value % 4 == 0 then events.Leave else events.Drop side
 
--- The event of step n, by its kind from 0 to 7, its side and a number: of the eight kinds two are a message, three are
--- bytes that come, and one each is a loss, an opening, and time that goes by.
+-- The event of step `n`, by its kind from 0 to 7, its side and a number: of the eight kinds two are
+-- messages, three are deliveries, and one each is a lost connection, an opening, and passing time.
 abbrev pub event_of_kind : ℕ → Side → ℕ → ℕ → Event
 event_of_kind kind side value n =
     if nat_lt kind 2 then events.Publish side (made_message (made_qos value) n)
@@ -37,15 +37,16 @@ event_of_kind kind side value n =
     else (if kind == 6 then events.Open
     else events.Tick side (value % 1000))))
 
--- the event of step n, by its word: three bits for the kind, one for the side, and the others for the number
+-- the event of step n, by its word: three bits for the kind, one for the side, and the others for
+-- the number
 abbrev pub made_event : ℕ → ℕ → Event
 made_event word n = event_of_kind (word % 8) (made_side word) (word / 16) n
 
--- so many events, from step n on, each by the next word of a generator
+-- `count` events from step `n` on, each by the next word of a generator.
 unfoldable pub made_from : Lcg → ℕ → ℕ → List Event
 made_from g n zero = []
 made_from g n (suc steps) = made_event (pcg32 g).0 n ∷ made_from (pcg32 g).1 (suc n) steps
 
--- so many events, by the generator of a start
+-- The events of the generator with this start value.
 abbrev pub made_up : ℕ → ℕ → List Event
 made_up start steps = made_from (started 64 multiplier_64 start (increment_of 64 1)) 0 steps

@@ -1,4 +1,4 @@
--- How one list stands to another.
+-- Relations between two lists.
 use Rattle.std.specs.Prelude.{ℕ, ◌+◌, ◌≡◌, ◌≤◌, max, Bool, false, ◌||◌, ◌==◌, if◌then◌else◌, ◌⊎◌, Some, List, [], ◌∷◌, ◌++◌, map, slice_get}
 use Rattle.mq_packet.specs.declared.message.Message.{Message}
 
@@ -6,22 +6,24 @@ use Rattle.mq_packet.specs.declared.message.Message.{Message}
 abbrev pub Beginning : List Message → List Message → Type 0
 Beginning x y = (rest : List Message) × (y ≡ x ++ rest)
 
--- x is left where items are taken out of y, each of the others in its turn
+-- `x` is `y` without some items; the others are in the same order.
 abbrev pub Part : List Message → List Message → Type 0
 Part [] ys = Unit {0}
 Part (x ∷ xs) [] = ⊥
 Part (x ∷ xs) (y ∷ ys) = ((x ≡ y) × Part xs ys) ⊎ Part (x ∷ xs) ys
 
--- each place is one of the first that were reached before, or the next one, which is then reached too; next is their number
+-- each place is one of the first that were reached before, or the next one, which is then reached
+-- too; next is their number
 abbrev pub WalkFrom : ℕ → List ℕ → Type 0
 WalkFrom next [] = Unit {0}
 WalkFrom next (p ∷ ps) = (p ≤ next) × WalkFrom (max next (p + 1)) ps
 
--- the places are first reached one after another, 0, 1, 2 and so on; one that was reached may come again at any time
+-- the places are first reached one after another, 0, 1, 2 and so on; one that was reached may come
+-- again at any time
 abbrev pub Walk : List ℕ → Type 0
 Walk places = WalkFrom 0 places
 
--- xs is what stands in ys at these places, item by item
+-- `xs` is the items of `ys` at these places, one by one.
 abbrev pub IsAt : List Message → List Message → List ℕ → Type 0
 IsAt [] ys [] = Unit {0}
 IsAt [] ys (p ∷ ps) = ⊥

@@ -1,4 +1,5 @@
--- What comes of each event of a world over bytes: the machine that it carries makes some moves (4.2, 4.4, 4.6).
+-- The effect of each event of a world over bytes: the machine that it carries makes some moves
+-- (4.2, 4.4, 4.6).
 use Rattle.std.specs.Prelude.{ℕ, ◌≡◌, ◌≢◌, ◌≤◌, true, false, Option, None, Some, List, [], ◌∷◌, ◌++◌, length}
 use Rattle.mq_topic.specs.declared.qos.Qos.TheVariants.{Q0, Q1, Q2}
 use Rattle.mq_packet.specs.declared.message.Message.{Message}
@@ -54,7 +55,7 @@ abbrev pub facing : Side → WiredSide → WiredSide → Wired
 facing Client x y = record { client = x; server = y }
 facing Server x y = record { client = y; server = x }
 
--- ---- what becomes of a side
+-- ---- Changes of a side
 
 -- an end whose output is on the wire, with the room that it had
 abbrev pub written : EndState → EndState
@@ -64,7 +65,8 @@ written state = record state { output = []; room = no_bytes state.room }
 abbrev pub SameBounds : EndState → EndState → Type 0
 SameBounds old new = (new.limit ≡ old.limit) × (new.capacity ≡ old.capacity)
 
--- the end of a program that ended, made anew: it goes on with the session that the end without a connection had (3.1.2.4, 4.1)
+-- the end of a program that ended, made anew: it goes on with the session that the end without a
+-- connection had (3.1.2.4, 4.1)
 abbrev pub made_anew : End → End
 made_anew e = resumed e.window (over e).known (over e).book (over e).received (over e).last
 
@@ -72,7 +74,7 @@ made_anew e = resumed e.window (over e).known (over e).book (over e).received (o
 abbrev pub with_more : List ℕ → WiredSide → WiredSide
 with_more b y = record y { wire = y.wire ++ b }
 
--- the connection of a side is over, or a new one begins: what was on its way to it is lost (4.2)
+-- The connection of a side ends, or a new one begins: bytes in flight to it are lost (4.2).
 abbrev pub cut_off : EndState → WiredSide → WiredSide
 cut_off new x = record x { state = written new; wire = [] }
 
@@ -80,11 +82,11 @@ cut_off new x = record x { state = written new; wire = [] }
 abbrev pub blank_side : EndState → WiredSide
 blank_side new = record { state = written new; clock = 0; wire = []; accepted = none_accepted; handed = none_handed; freed = [] }
 
--- it accepted a message, with this identifier where it has one
+-- It accepted a message, under this identifier if it has one.
 abbrev pub accepting : ℕ → Message → EndState → WiredSide → WiredSide
 accepting i m new x = record x { state = written new; accepted = accepted_with m.qos i m x.accepted }
 
--- the messages handed on, with those that are told of
+-- The delivered messages, with the reported ones.
 abbrev pub handed_with : List Happening → HandedOn → HandedOn
 handed_with happenings h = record {
   at_most_once = told Q0 happenings h.at_most_once;
@@ -92,7 +94,7 @@ handed_with happenings h = record {
   exactly_once = told Q2 happenings h.exactly_once;
 }
 
--- what an end that closes leaves on the wire (4.2)
+-- The wire after the end closed (4.2).
 abbrev pub left_on : Option CloseReason → List ℕ → List ℕ
 left_on None left = left
 left_on (Some reason) left = []
@@ -106,7 +108,7 @@ hearing left new happenings acknowledged closed x = record x {
   freed = freed_with x.accepted.at_least_once acknowledged x.freed;
 }
 
--- what the end of a side does where bytes are no packet (4.8)
+-- The reaction of a side's end to a malformed packet (4.8).
 abbrev pub faulted : Side → DecodeFault → End → Reply
 faulted Client fault e = client_faulted fault e
 faulted Server fault e = server_faulted fault e
@@ -117,7 +119,8 @@ ReceivesAt side piece old new happenings acknowledged closed = (r : Reply)
     × Receives old.limit (gets side) (faulted side) (old.held ++ piece) old.end r new.held
     × Shows r old new happenings acknowledged closed
 
--- Bytes came to a side: with them the first packets of the queue toward it, and the machine made as many arrivals.
+-- Bytes came to a side: with them the first packets of the queue toward it, and the machine made as
+-- many arrivals.
 pub record Delivers (limit : Bounds) (capacity : ℕ) (side : Side) (m : Machine) (b : List ℕ) (closed : Option CloseReason) (w : Wired) : Type 0 where
   pub packets : List Packet
   pub moves : List Move
@@ -129,7 +132,7 @@ pub record Delivers (limit : Bounds) (capacity : ℕ) (side : Side) (m : Machine
   pub fits : Spans (half_of side m).end.window capacity → closed ≢ Some reasons.Window
   pub follows : Follows limit capacity m moves w
 
--- Two sides that show the same: of their bytes, where there is a connection, what comes next.
+-- Two sides that look the same; their bytes count only if there is a connection.
 pub record Alike (x y : WiredSide) : Type 0 where
   pub end : y.state.end ≡ x.state.end
   pub bytes : is_live x.state.end.state ≡ true → y.state.held ++ y.wire ≡ x.state.held ++ x.wire
@@ -152,18 +155,18 @@ pub record OverBytes : Type 0 where
   -- worlds whose sides are alike
   pub alike : (limit : Bounds) (capacity : ℕ) (w v : Wired) (m : Machine) → Stands limit capacity w m
       → Alike w.client v.client → Alike w.server v.server → Stands limit capacity v m
-  -- what is on its way to a side without a connection doesn't matter
+  -- Bytes in flight to a side without a connection make no difference.
   pub unheard : (limit : Bounds) (capacity : ℕ) (side : Side) (w : Wired) (m : Machine) (left : List ℕ) → Stands limit capacity w m
       → is_live (near side w).state.end.state ≡ false
       → Stands limit capacity (facing side (record (near side w) { wire = left }) (far side w)) m
-  -- bytes come to a side that has a connection
+  -- Bytes arrive at a side with a connection.
   pub deliver : (limit : Bounds) (capacity : ℕ) (side : Side) (w : Wired) (m : Machine) (piece left : List ℕ) (new : EndState)
       (happenings : List Happening) (acknowledged : List ℕ) (closed : Option CloseReason)
       → Stands limit capacity w m → is_live (near side w).state.end.state ≡ true → (near side w).wire ≡ piece ++ left
       → ReceivesAt side piece (near side w).state new happenings acknowledged closed → SameBounds (near side w).state new
       → Delivers limit capacity side m ((near side w).state.held ++ piece) closed
       (facing side (hearing left new happenings acknowledged closed (near side w)) (with_more new.output (far side w)))
-  -- the user of a side publishes a message, which is given this identifier where it has one
+  -- The user of a side publishes a message, under this identifier if it has one.
   pub publish : (limit : Bounds) (capacity : ℕ) (side : Side) (w : Wired) (m : Machine) (i : ℕ) (message : Message) (new : EndState)
       → Stands limit capacity w m → refusal side limit.most capacity message (near side w).state.end ≡ None
       → MayHave (has_identifier message.qos) (near side w).state.end i
@@ -194,10 +197,10 @@ pub record OverBytes : Type 0 where
   pub leave : (limit : Bounds) (capacity : ℕ) (w : Wired) (m : Machine) (new : EndState) → Stands limit capacity w m → leave_refusal w.client.state.end ≡ None
       → new.end ≡ (leaves w.client.state.end).end → PutsOut (packets.Disconnect ∷ []) w.client.state.output new.output → SameBounds w.client.state new
       → Follows limit capacity m (By Client Leaves ∷ []) (record { client = cut_off new w.client; server = with_more new.output w.server })
-  -- the client asks whether the server is there
+  -- The client sends PINGREQ.
   pub ping : (limit : Bounds) (capacity : ℕ) (w : Wired) (m : Machine) (new : EndState) → Stands limit capacity w m → is_up w.client.state.end.state ≡ true
       → new.end ≡ w.client.state.end → PutsOut (packets.PingReq ∷ []) w.client.state.output new.output → new.held ≡ w.client.state.held
       → SameBounds w.client.state new
       → Follows limit capacity m (By Client Pings ∷ []) (record { client = record w.client { state = written new }; server = with_more new.output w.server })
-  -- what every run keeps (4.3)
+  -- The promise of every run (4.3).
   pub headline : (limit : Bounds) (capacity : ℕ) (w : Wired) (m : Machine) → Stands limit capacity w m → Headline (seen w)

@@ -1,4 +1,4 @@
--- What contracts see of two ends that are joined by two wires.
+-- Two ends that are joined by two wires, as contracts see them.
 use Rattle.mq_world.specs.declared.pair.Pair.{Pair}
 use Rattle.mq_world.specs.Carries.{Wired}
 use Rattle.mq_world.specs.Listed.{accepted_in, handed_in}

@@ -2,8 +2,8 @@
 use Rattle.std.specs.Prelude.{ℕ, ◌≡◌, true, false, Option, List}
 use Rattle.mq_world.specs.Machine.{Machine, Move, Run, blank_machine}
 
--- Neither side's connection has clean session 1, so neither discards its session; and where the client's session is
--- established, one stands at the server (3.1.2.4).
+-- No connection has clean session 1, so neither side discards its session; and if the client's
+-- session is established, the server has one (3.1.2.4).
 pub record KeepsSessions (w : Machine) : Type 0 where
   pub client : w.client.end.clean ≡ false
   pub server : w.server.end.clean ≡ false

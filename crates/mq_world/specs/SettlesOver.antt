@@ -13,18 +13,18 @@ use Rattle.mq_world.specs.Settling.{Idle, AllHanded, delivered, exchange, settle
 use Rattle.mq_world.specs.Carries.{Wired, IsSpanned, seen}
 use Rattle.mq_world.specs.OverBytes.{Stands, near, far, facing, with_more, hearing, ReceivesAt, SameBounds}
 
--- What settling leaves (4.4), from one world to another.
+-- The state after settling (4.4), compared with the one before.
 pub record SettledFrom (w v : Wired) : Type 0 where
   -- neither side holds a message or a released identifier
   pub client_idle : Idle (seen v).client
   pub server_idle : Idle (seen v).server
-  -- in each direction all that was accepted was handed on
+  -- In each direction every accepted message was delivered.
   pub to_server : AllHanded (seen v).client (seen v).server
   pub to_client : AllHanded (seen v).server (seen v).client
   -- and nothing was accepted meanwhile
   pub client_same : v.client.accepted ≡ w.client.accepted
   pub server_same : v.server.accepted ≡ w.server.accepted
-  -- both sides are up, and no bytes are on their way
+  -- Both sides are connected, and no bytes are in flight.
   pub client_up : v.client.state.end.state ≡ Connected
   pub server_up : v.server.state.end.state ≡ Connected
   pub client_bytes : v.client.state.held ++ v.client.wire ≡ []
@@ -37,7 +37,7 @@ pub record HoldsNothing (v : Wired) : Type 0 where
 
 -- The exchanges of a world over bytes are those of the machine.
 pub record SettlesOver : Type 0 where
-  -- all the bytes on their way to a side that has a connection come to it, and its memory does not run out
+  -- All bytes in flight to a side with a connection arrive, and none of its allocations fails.
   pub deliver_all : (limit : Bounds) (capacity : ℕ) (side : Side) (w : Wired) (m : Machine) (new : EndState) (happenings : List Happening)
       (acknowledged : List ℕ) (closed : Option CloseReason)
       → Stands limit capacity w m → is_live (near side w).state.end.state ≡ true
@@ -48,7 +48,8 @@ pub record SettlesOver : Type 0 where
   pub lose_all : (limit : Bounds) (capacity : ℕ) (side : Side) (w : Wired) (m : Machine) → Stands limit capacity w m
       → is_live (near side w).state.end.state ≡ false
       → Stands limit capacity (facing side (record (near side w) { wire = [] }) (far side w)) (delivered side m)
-  -- what the third exchange after a new connection leaves, and what the second, where the capacity is at most the window
+  -- The state after the third exchange of a new connection, and after the second if the capacity is
+  -- at most the window.
   pub settles : (limit : Bounds) (capacity : ℕ) (w v : Wired) (m : Machine) → IsSpanned capacity w → Stands limit capacity w m
       → Stands limit capacity v (settled m) → SettledFrom w v
   pub second : (limit : Bounds) (capacity : ℕ) (w v : Wired) (m : Machine) → IsSpanned capacity w → Stands limit capacity w m

@@ -14,16 +14,16 @@ abbrev pub queue : Side → Machine → List Packet
 queue Client w = w.client.coming
 queue Server w = w.server.coming
 
--- so many packets come, one after another
+-- Several packets arrive, one after another.
 abbrev pub arrivals : ℕ → Side → Machine → Machine
 arrivals zero side w = w
 arrivals (suc n) side w = arrivals n side (after w (By side Arrives))
 
--- all that is in the queue toward a side comes
+-- The whole queue toward a side arrives.
 abbrev pub delivered : Side → Machine → Machine
 delivered side w = arrivals (length (queue side w)) side w
 
--- all that is on its way to the server comes, then all that is on its way to the client
+-- The whole queue toward the server arrives, then that toward the client.
 abbrev pub exchange : Machine → Machine
 exchange w = delivered Client (delivered Server w)
 
@@ -31,12 +31,13 @@ exchange w = delivered Client (delivered Server w)
 abbrev pub settled : Machine → Machine
 settled w = exchange (exchange (exchange (after w Opens)))
 
--- nothing of a side's own waits for the other: it holds no message, and no identifier is released (4.3)
+-- nothing of a side's own waits for the other: it holds no message, and no identifier is released
+-- (4.3)
 pub record Idle (h : Half) : Type 0 where
   pub entries : h.end.book.entries ≡ []
   pub released : h.end.book.released ≡ []
 
--- y handed on each message that x accepted: with quality of service 2 once (4.3.3), with 1 at least once (4.3.2)
+-- `y` delivered each message that `x` accepted: QoS 2 once (4.3.3), QoS 1 at least once (4.3.2).
 pub record AllHanded (x y : Half) : Type 0 where
   pub exactly_once : y.handed.exactly_once ≡ x.accepted.exactly_once
   pub places : List ℕ
@@ -44,7 +45,7 @@ pub record AllHanded (x y : Half) : Type 0 where
   pub are : IsAt y.handed.at_least_once (messages x.accepted.at_least_once) places
   pub each : (p : ℕ) → p < length x.accepted.at_least_once → In p places
 
--- What settling leaves (4.4).
+-- The state after settling (4.4).
 pub record Settles (w : Machine) : Type 0 where
   pub client_idle : Idle (settled w).client
   pub server_idle : Idle (settled w).server
@@ -52,7 +53,7 @@ pub record Settles (w : Machine) : Type 0 where
   pub to_client : AllHanded (settled w).server (settled w).client
   pub client_same : (settled w).client.accepted ≡ w.client.accepted
   pub server_same : (settled w).server.accepted ≡ w.server.accepted
-  -- both sides are up, and nothing is on its way
+  -- Both sides are connected, and nothing is in flight.
   pub client_up : (settled w).client.end.state ≡ Connected
   pub server_up : (settled w).server.end.state ≡ Connected
   pub client_queue : (settled w).client.coming ≡ []
@@ -61,7 +62,8 @@ pub record Settles (w : Machine) : Type 0 where
   pub client_second : (exchange (exchange (after w Opens))).client.end.book.entries ≡ []
   pub server_second : (exchange (exchange (after w Opens))).server.end.book.entries ≡ []
 
--- from every machine that a run reaches, where there is no window, or one that is not less than the capacity
+-- From every machine that a run reaches, if there is no window or one that is at least the
+-- capacity.
 abbrev pub SettlingLaw : Type 0
 SettlingLaw =
     (limit capacity : ℕ) (window : Option ℕ) (moves : List Move) (w : Machine) → Spans window capacity

@@ -1,4 +1,4 @@
--- A world: two ends over bytes, what came of each event, and what it leads to.
+-- A world: two ends over bytes, the answer to each event, and its effect.
 use Rattle.std.specs.Prelude.{ℕ, ◌≡◌, ◌≢◌, ◌↔◌, Bool, true, false, not, ◌&&◌, Option, None, Some, Ok, Err, List, [], ◌∷◌, ◌++◌, length, take, drop}
 use Rattle.std.specs.Prelude.{nat_lt, All, IsTrue}
 use Rattle.mq_packet.specs.declared.message.Message.{Message}
@@ -29,9 +29,9 @@ use Rattle.mq_world.specs.OverBytes.{Stands, Follows, Delivers, ReceivesAt, Same
 use Rattle.mq_world.specs.SettlesOver.{HoldsNothing}
 use Rattle.mq_world.specs.Time.{SameTime, SameTimes, HearsIn, BeginsNow, later, time_closes, time_moves, time_moment, time_out}
 
--- What contracts see of a world: its sides, the bounds on what is read and published (2.2.3), the most packet identifiers in use at a side
--- (2.3.1), the receiving window of both sides, where it is one, whether memory ran out, and what came of the events so far, the oldest
--- first.
+-- A world as contracts see it: its sides, the limits on packets (2.2.3), the maximum number of
+-- identifiers in use at a side (2.3.1), the receive window of both sides, whether an allocation
+-- failed, and the answers to the events so far, the oldest first.
 pub record WorldState : Type 0 where
   pub wired : Wired
   pub limit : Bounds
@@ -40,7 +40,7 @@ pub record WorldState : Type 0 where
   pub failed : Bool
   pub answers : List Answer
 
--- a new world: no session, no connection, no byte on its way, nothing accepted or handed on
+-- A new world: no session, no connection, no byte in flight, no message accepted or delivered.
 pub record IsNew (limit : Bounds) (capacity : ℕ) (window : Option ℕ) (w : Wired) : Type 0 where
   pub stands : Stands limit capacity w (blank_machine window)
   pub client_clock : w.client.clock ≡ 0
@@ -52,10 +52,10 @@ pub record IsNew (limit : Bounds) (capacity : ℕ) (window : Option ℕ) (w : Wi
 abbrev pub Moves : Bounds → ℕ → Wired → List Move → Wired → Type 0
 Moves limit capacity old moves new = (m : Machine) → Stands limit capacity old m → Follows limit capacity m moves new
 
--- ---- what comes of an event
+-- ---- The effect of an event
 
--- A message is accepted, with the first identifier that is free after the last one given where it has one (2.3.1, 4.3). Its PUBLISH goes on
--- its way where the side is up; nothing else changes on either wire.
+-- A message is accepted, under the first free identifier after the one assigned last if it has one
+-- (2.3.1, 4.3). Its PUBLISH is sent if the side is connected; nothing else changes on either wire.
 pub record IsAccepted (limit : Bounds) (capacity : ℕ) (side : Side) (m : Message) (answer : Option ℕ) (old new : Wired) : Type 0 where
   pub id : ℕ
   pub answered : answer ≡ answered_identifier m.qos id
@@ -65,7 +65,7 @@ pub record IsAccepted (limit : Bounds) (capacity : ℕ) (side : Side) (m : Messa
   pub times : SameTimes old new
   pub moves : Moves limit capacity old (By side (Publishes id m) ∷ []) new
 
--- the first reason that stands against a message, else that memory ran out
+-- The first reason to refuse a message, or that an allocation failed.
 abbrev pub reason_or_memory : Option PublishRefusal → PublishRefusal
 reason_or_memory None = refusals.Memory
 reason_or_memory (Some why) = why
@@ -82,7 +82,7 @@ pub record Hears (side : Side) (left : List ℕ) (d : Delivery) (old new : Wired
   pub bounds : SameBounds (near side old).state state
   pub world : new ≡ facing side (hearing left state d.progress.happenings d.progress.acknowledged d.progress.closed (near side old))
       (with_more state.output (far side old))
-  -- the server's keep-alive counts from now where a whole packet came (3.1.2.10)
+  -- If a packet is complete, this is the server's time of last activity (3.1.2.10).
   pub heard : HearsIn side ((near side old).state.held ++ d.bytes) d.progress.closed (near side old) (near side new)
 
 -- The end of a side without a connection lets the bytes go.
@@ -92,13 +92,13 @@ pub record Ignores (side : Side) (left : List ℕ) (d : Delivery) (old new : Wir
   pub closed : d.progress.closed ≡ None
   pub world : new ≡ facing side (record (near side old) { wire = left }) (far side old)
 
--- So many bytes come to a side, or all that are on their way to it where they are fewer (4.2, 4.6).
+-- Some bytes arrive at a side, or all bytes in flight to it if there are fewer (4.2, 4.6).
 pub record IsDelivered (limit : Bounds) (capacity : ℕ) (side : Side) (count : ℕ) (d : Delivery) (old new : Wired) : Type 0 where
   pub to : d.side ≡ side
   pub bytes : d.bytes ≡ take count (near side old).wire
   -- they are no longer on their way, and an end that closes leaves nothing there
   pub left : (near side new).wire ≡ left_on d.progress.closed (drop count (near side old).wire)
-  -- what the end tells is handed on, and what is acknowledged to it is free
+  -- Reported messages are delivered, and acknowledged ones freed.
   pub handed : (near side new).handed ≡ handed_with d.progress.happenings (near side old).handed
   pub freed : (near side new).freed ≡ freed_with (near side old).accepted.at_least_once d.progress.acknowledged (near side old).freed
   pub lost : d.lost ≡ (not (is_live (near side old).state.end.state) && nat_lt 0 (length d.bytes))
@@ -108,7 +108,8 @@ pub record IsDelivered (limit : Bounds) (capacity : ℕ) (side : Side) (count : 
   pub hears : is_live (near side old).state.end.state ≡ true → Hears side (drop count (near side old).wire) d old new
   pub ignores : is_live (near side old).state.end.state ≡ false → Ignores side (drop count (near side old).wire) d old new
 
--- The connection of a side is lost, and the bytes on their way to it (4.2). The other side is as it was, also what is on its way to it.
+-- The connection of a side is lost, with the bytes in flight to it (4.2). The other side is
+-- unchanged, and so are the bytes in flight to it.
 pub record IsLost (limit : Bounds) (capacity : ℕ) (side : Side) (was_open : Bool) (old new : Wired) : Type 0 where
   pub said : was_open ≡ is_live (near side old).state.end.state
   pub wire : (near side new).wire ≡ []
@@ -116,8 +117,8 @@ pub record IsLost (limit : Bounds) (capacity : ℕ) (side : Side) (was_open : Bo
   pub times : SameTimes old new
   pub moves : Moves limit capacity old (By side Drops ∷ []) new
 
--- The client's program ends, and goes on with its session as it was saved and loaded (3.1.2.4, 4.1). Its connection is lost, and the bytes
--- on their way to it; no time goes by, and the server is as it was.
+-- The client's program ends, and continues with its session as saved and loaded (3.1.2.4, 4.1). Its
+-- connection and the bytes in flight to it are lost; no time passes, and the server is unchanged.
 pub record IsRestarted (limit : Bounds) (capacity : ℕ) (was_open : Bool) (old new : Wired) : Type 0 where
   pub said : was_open ≡ is_live old.client.state.end.state
   pub wire : new.client.wire ≡ []
@@ -125,12 +126,13 @@ pub record IsRestarted (limit : Bounds) (capacity : ℕ) (was_open : Bool) (old 
   pub clock : new.client.clock ≡ old.client.clock
   pub moves : Moves limit capacity old (Restarts ∷ []) new
 
--- Memory runs out for that, and the end whose connection is lost stays.
+-- An allocation for that failed, and the end whose connection is lost stays.
 pub record IsNotRestarted (limit : Bounds) (capacity : ℕ) (was_open : Bool) (why : PublishRefusal) (old new : Wired) : Type 0 where
   pub reason : why ≡ refusals.Memory
   pub lost : IsLost limit capacity Client was_open old new
 
--- A connection is opened (3.1), earlier ones are lost; where memory runs out for CONNECT, both ends are closed.
+-- A connection is opened (3.1), and earlier ones are lost. If an allocation for CONNECT fails, both
+-- ends are closed.
 pub record IsOpened (limit : Bounds) (capacity : ℕ) (o : Opening) (old new : Wired) : Type 0 where
   pub client_dropped : o.client_dropped ≡ is_live old.client.state.end.state
   pub server_dropped : o.server_dropped ≡ is_live old.server.state.end.state
@@ -139,7 +141,8 @@ pub record IsOpened (limit : Bounds) (capacity : ℕ) (o : Opening) (old new : W
   pub opens : o.refused ≡ false → Moves limit capacity old (Opens ∷ []) new
   pub refused : o.refused ≡ true → (new.server.wire ≡ []) × SameTimes old new × Moves limit capacity old (By Client Drops ∷ By Server Drops ∷ []) new
 
--- The user of the client leaves: DISCONNECT goes on its way, and what was on its way to the client is lost (3.14, 4.2).
+-- The client disconnects: DISCONNECT is sent, and bytes in flight to the client are lost (3.14,
+-- 4.2).
 pub record IsLeft (limit : Bounds) (capacity : ℕ) (old new : Wired) : Type 0 where
   pub allowed : leave_refusal old.client.state.end ≡ None
   pub wire : new.client.wire ≡ []
@@ -152,7 +155,8 @@ pub record IsNotLeft (why : PublishRefusal) (old new : Wired) : Type 0 where
   pub reason : why ≡ reason_or_memory (leave_refusal old.client.state.end)
   pub same : new ≡ old
 
--- The clock of a side goes on, and its end is told the time: it closes, or puts out PINGREQ, or does nothing (3.1.2.10).
+-- The clock of a side advances, followed by the `tick` of its end: it closes, sends PINGREQ, or
+-- does nothing (3.1.2.10).
 pub record IsTold (limit : Bounds) (capacity : ℕ) (side : Side) (more : ℕ) (closed : Option CloseReason) (old new : Wired) : Type 0 where
   pub clock : (near side new).clock ≡ later (near side old).clock more
   pub closes : closed ≡ time_closes side (later (near side old).clock more) (near side old).state
@@ -162,14 +166,14 @@ pub record IsTold (limit : Bounds) (capacity : ℕ) (side : Side) (more : ℕ) (
   pub out : PutsOut (time_out side (later (near side old).clock more) (near side old).state) (far side old).wire (far side new).wire
   pub moves : Moves limit capacity old (time_moves side (later (near side old).clock more) (near side old).state) new
 
--- The clock of the client goes on, but memory runs out for the PINGREQ that is due (3.12).
+-- The clock of the client advances, but an allocation for the PINGREQ that is due fails (3.12).
 pub record IsNotTold (side : Side) (more : ℕ) (why : PublishRefusal) (old new : Wired) : Type 0 where
   pub client : side ≡ Client
   pub reason : why ≡ refusals.Memory
   pub due : pings old.client.state.last_activity (later old.client.clock more) old.client.state.end ≡ true
   pub world : new ≡ record old { client = record old.client { clock = later old.client.clock more } }
 
--- What comes of an event, by the event and its answer.
+-- The effect of an event, by its answer.
 abbrev pub Does : Bounds → ℕ → Event → Answer → Wired → Wired → Type 0
 Does limit capacity (events.Publish side m) (answers.Published at (Ok id)) old new = (at ≡ side) × IsAccepted limit capacity side m id old new
 Does limit capacity (events.Publish side m) (answers.Published at (Err why)) old new = (at ≡ side) × IsRefused limit capacity side m why old new
@@ -184,7 +188,7 @@ Does limit capacity (events.Tick side more) (answers.Ticked at (Ok closed)) old 
 Does limit capacity (events.Tick side more) (answers.Ticked at (Err why)) old new = (at ≡ side) × IsNotTold side more why old new
 Does limit capacity event answer old new = ⊥
 
--- Events come one after another, each with its answer.
+-- Events one after another, each with its answer.
 abbrev pub Leads : Bounds → ℕ → List Event → List Answer → Wired → Wired → Type 0
 Leads limit capacity [] [] old new = new ≡ old
 Leads limit capacity (e ∷ es) (a ∷ rest) old new = (mid : Wired) × Does limit capacity e a old mid × Leads limit capacity es rest mid new
@@ -205,7 +209,8 @@ InTurn limit capacity (side ∷ sides) [] old new = ⊥
 abbrev pub exchanges : List Side
 exchanges = Server ∷ Client ∷ Server ∷ Client ∷ Server ∷ Client ∷ []
 
--- nothing of an end's own waits for the other end: it holds no message, and no identifier is released (4.3)
+-- nothing of an end's own waits for the other end: it holds no message, and no identifier is
+-- released (4.3)
 abbrev pub IsIdle : End → Type 0
 IsIdle e = (e.book.entries ≡ []) × (e.book.released ≡ [])
 
@@ -229,12 +234,13 @@ pub record IsSettled (limit : Bounds) (capacity : ℕ) (s : Settling) (old new :
   pub opened : IsOpened limit capacity s.opening old between
   pub exchanged_twice : InTurn limit capacity (take 4 exchanges) (take 4 s.deliveries) between second
   pub exchanged_again : InTurn limit capacity (drop 4 exchanges) (drop 4 s.deliveries) second new
-  -- for the messages two exchanges are enough, the third is for the released identifiers, where the capacity is at most the window
+  -- Two exchanges are enough for the messages; the third completes released identifiers, if the
+  -- capacity is at most the window.
   pub second_left : IsSpanned capacity old → MetNoWant (answers.Settled s) → HoldsNothing second
-  -- a server without a session has nothing that waits
+  -- A server without a session has no pending output.
   pub idle : IsTrue s.idle ↔ (IsIdle new.client.state.end × (new.server.state.end.known ≡ true → IsIdle new.server.state.end))
 
--- what comes of settling, by its answer
+-- The effect of settling, by its answer.
 abbrev pub Settles : Bounds → ℕ → Answer → Wired → Wired → Type 0
 Settles limit capacity (answers.Settled s) old new = IsSettled limit capacity s old new
 Settles limit capacity answer old new = ⊥

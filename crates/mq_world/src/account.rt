@@ -1,4 +1,4 @@
-//! What a side accepted and handed on.
+//! The messages that a side accepted and delivered.
 
 ghost use Rattle.std.specs.Prelude.{◌≡◌, ◌∷◌, ℕ, [], OnOk, nat_eq};
 ghost use Rattle.std.specs.HashMap.{get};
@@ -12,22 +12,24 @@ use mq_topic::Qos;
 use std::alloc::{AllocError, Global};
 use std::collections::HashMap;
 
-/// What one side accepted from its user and handed on to it, in order, by quality of service (4.3).
+/// The messages that one side accepted from its user and delivered to it, in order, by QoS (4.3).
 #[derive(Debug, Drop)]
 pub struct Account {
     /// The messages of quality of service 0 that it accepted.
     pub accepted_at_most_once: Vec<Message>,
-    /// The messages of quality of service 1 that it accepted, with the identifiers that they were given.
+    /// The messages of quality of service 1 that it accepted, with the identifiers that they were
+    /// given.
     pub accepted_at_least_once: Vec<(PacketId, Message)>,
     /// The messages of quality of service 2 that it accepted.
     pub accepted_exactly_once: Vec<Message>,
-    /// The messages of quality of service 0 that it handed on.
+    /// The delivered messages with QoS 0.
     pub handed_at_most_once: Vec<Message>,
-    /// The messages of quality of service 1 that it handed on.
+    /// The delivered messages with QoS 1.
     pub handed_at_least_once: Vec<Message>,
-    /// The messages of quality of service 2 that it handed on.
+    /// The delivered messages with QoS 2.
     pub handed_exactly_once: Vec<Message>,
-    /// The places, among the messages of quality of service 1 that it accepted, of those that were acknowledged to it.
+    /// The places, among the messages of quality of service 1 that it accepted, of those that were
+    /// acknowledged to it.
     pub freed: Vec<usize>,
     // The place of the last message of quality of service 1 that was given each identifier.
     places: HashMap<u16, usize>,
@@ -38,7 +40,7 @@ impl Account {
     ghost use Rattle.mq_world.specs.OverBytes.{handed_with};
     ghost use Rattle.mq_world.specs.Listed.{accepted_in, handed_in, accepted_count, handed_count};
 
-    /// Makes an account in which nothing was accepted and nothing handed on. Takes no memory.
+    /// An account without messages.
     pub fn new(alloc: Global) -> Account
         ensures accepted { accepted_in result ≡ none_accepted }
         ensures handed { handed_in result ≡ none_handed }
@@ -67,7 +69,7 @@ impl Account {
         }
     }
 
-    /// Returns how many messages of quality of service `qos` the side handed on.
+    /// Returns the number of delivered messages with this QoS.
     pub fn handed(&self, qos: Qos) -> usize
         ensures { result ≡ handed_count qos (handed_in self.now) }
     {
@@ -78,7 +80,7 @@ impl Account {
         }
     }
 
-    // Records that the side accepted `message`, which was given the identifier `id` if it has one. Fails if memory runs out.
+    // Records that the side accepted `message`, under the identifier `id` if it has one.
     pub(crate) fn accept(
         &mut self,
         id: Option<PacketId>,
@@ -103,7 +105,7 @@ impl Account {
         Ok(())
     }
 
-    // Records that the side handed `message` on. Fails if memory runs out.
+    // Records that the side delivered `message`.
     fn hand(&mut self, message: Message) -> Result<(), AllocError>
         ensures handed { OnOk result (handed_in self.new ≡ handed_with (Happening.Handed message ∷ []) (handed_in self.old)) }
         ensures accepted { OnOk result (accepted_in self.new ≡ accepted_in self.old) }
@@ -117,7 +119,7 @@ impl Account {
         Ok(())
     }
 
-    // Records the messages that `happenings` hand on. Fails if memory runs out.
+    // Records the messages that `happenings` deliver.
     fn hand_all(&mut self, happenings: &[Happening]) -> Result<(), AllocError>
         ensures handed { OnOk result (handed_in self.new ≡ handed_with happenings.now (handed_in self.old)) }
         ensures accepted { OnOk result (accepted_in self.new ≡ accepted_in self.old) }
@@ -131,7 +133,7 @@ impl Account {
         Ok(())
     }
 
-    // Records the places of the messages with the identifiers `acknowledged`. Fails if memory runs out.
+    // Records the places of the messages with the acknowledged identifiers.
     fn free_all(&mut self, acknowledged: &[PacketId]) -> Result<(), AllocError>
         ensures freed { OnOk result (self.new.freed.items
             ≡ freed_with self.old.accepted_at_least_once.items acknowledged.now self.old.freed.items) }
@@ -145,7 +147,7 @@ impl Account {
         Ok(())
     }
 
-    // Records what came of bytes. Fails if memory runs out.
+    // Records the effect of received bytes.
     pub(crate) fn tell(&mut self, progress: &Progress) -> Result<(), AllocError>
         ensures handed { OnOk result (handed_in self.new ≡ handed_with progress.now.happenings (handed_in self.old)) }
         ensures freed { OnOk result (self.new.freed.items

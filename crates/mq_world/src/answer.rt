@@ -1,4 +1,4 @@
-//! What comes of an event.
+//! The result of an event.
 
 ghost use Rattle.std.specs.Prelude.{◌≡◌};
 
@@ -7,7 +7,7 @@ use mq_end::{BoxedList, CloseReason, Progress, PublishRefusal};
 use mq_packet::PacketId;
 use std::alloc::AllocError;
 
-/// Bytes that came to a side, and what the side did with them.
+/// Bytes that arrived at a side, and their effect.
 #[derive(Debug, Drop)]
 pub struct Delivery {
     /// The side to which the bytes came.
@@ -16,11 +16,11 @@ pub struct Delivery {
     pub bytes: BoxedList<u8>,
     /// Whether there were bytes, but no connection that could take them in.
     pub lost: bool,
-    /// What the side did with the bytes.
+    /// The effect of the bytes.
     pub progress: Progress,
 }
 
-/// What the opening of a connection did.
+/// The result of opening a connection.
 #[derive(Clone, Copy, Debug, PartialEq, Eq)]
 pub struct Opening {
     /// Whether an earlier connection of the client was open, and is lost.
@@ -31,18 +31,18 @@ pub struct Opening {
     pub refused: bool,
 }
 
-/// What the opening of a connection did, and what came of three exchanges after it.
+/// The result of opening a connection, and of three exchanges after it.
 #[derive(Debug, Drop)]
 pub struct Settling {
-    /// What the opening did.
+    /// The result of the opening.
     pub opening: Opening,
-    /// What came of the bytes delivered, in order: to the server, to the client, and so on.
+    /// The deliveries in order: to the server, to the client, and so on.
     pub deliveries: BoxedList<Delivery>,
-    /// Whether neither side has anything of its own that waits for the other.
+    /// Whether both sides are idle: neither stores unfinished messages.
     pub idle: bool,
 }
 
-/// What comes of an event.
+/// The result of an event.
 #[derive(Debug, Drop)]
 pub enum Answer {
     /// A message was accepted, with its packet identifier if it has one, or it was refused.
@@ -51,14 +51,15 @@ pub enum Answer {
     Delivered(Delivery),
     /// The connection of a side is lost. The flag says whether it was open.
     Dropped(Side, bool),
-    /// The client was dropped, and made anew from its session as it was saved; or memory ran out for that, and the client that was
-    /// dropped stays. The flag says whether it was open.
+    /// The client was dropped, and made anew from its session as it was saved; or memory ran out
+    /// for that, and the client that was dropped stays. The flag says whether it was open.
     Restarted(bool, Result<(), PublishRefusal>),
     /// The client left, or leaving was refused.
     Left(Result<(), PublishRefusal>),
     /// A connection was opened.
     Opened(Opening),
-    /// A side was told the time: the reason if it closed, or a refusal if memory ran out for what it had to put out.
+    /// A side's `tick`: the reason if it closed, or a refusal if an allocation for its output
+    /// failed.
     Ticked(Side, Result<Option<CloseReason>, PublishRefusal>),
     /// A connection was opened, and three times all bytes on their way were delivered.
     Settled(Settling),
@@ -67,7 +68,7 @@ pub enum Answer {
 impl Clone for Delivery {
     ghost is_clone = { λ delivery copy. copy ≡ delivery };
 
-    /// Copies the delivery; the bytes of its messages are shared, not copied. Fails if memory runs out.
+    /// Shares the bytes of the messages.
     fn clone(&self) -> Result<Delivery, AllocError> {
         Ok(Delivery {
             side: self.side,
@@ -81,7 +82,7 @@ impl Clone for Delivery {
 impl Clone for Settling {
     ghost is_clone = { λ settling copy. copy ≡ settling };
 
-    /// Copies the parts; the bytes of their messages are shared, not copied. Fails if memory runs out.
+    /// Shares the bytes of the messages.
     fn clone(&self) -> Result<Settling, AllocError> {
         Ok(Settling {
             opening: self.opening,
@@ -94,7 +95,7 @@ impl Clone for Settling {
 impl Clone for Answer {
     ghost is_clone = { λ answer copy. copy ≡ answer };
 
-    /// Copies the answer; the bytes of its messages are shared, not copied. Fails if memory runs out.
+    /// Shares the bytes of the messages.
     fn clone(&self) -> Result<Answer, AllocError> {
         Ok(match self {
             Answer::Published(side, outcome) => Answer::Published(*side, *outcome),

@@ -1,7 +1,9 @@
-//! Two ends that are joined by two wires of bytes, under a list of events, and what every run of them keeps.
+//! Two ends that are joined by two wires of bytes, under a list of events, and the promise of every
+//! run. A call that can fail for lack of memory says so in its return type; other calls never
+//! allocate.
 //!
-//! The definitions are in `specs/`: the machine of two ends and two queues of packets, its moves, the headline, settling, and
-//! the world over bytes that carries such a machine.
+//! The definitions are in `specs/`: the machine of two ends and two queues of packets, its moves,
+//! the headline, settling, and the world over bytes that carries such a machine.
 #![tactic(auto)]
 
 mod account;

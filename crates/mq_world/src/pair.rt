@@ -1,4 +1,4 @@
-//! Two ends that are joined by two wires of bytes, and what they do at each event.
+//! Two ends that are joined by two wires of bytes, and their reaction to each event.
 
 ghost use Rattle.std.specs.Prelude.{◌≡◌, ◌++◌, ◌↔◌, ◌<◌, ◌&&◌, ℕ, true, false, not, nat_lt, take, drop, length, OnOk, OnErr, IfOk, IfSome, IsTrue};
 ghost use Rattle.mq_decode.specs.Limits.{Bounds};
@@ -21,7 +21,8 @@ use mq_end::{BoxedList, ByteQueue, ClientEnd, CloseReason, PublishRefusal, Serve
 use mq_packet::Message;
 use std::alloc::{AllocError, Global};
 
-// The three exchanges after an opening: to each of these sides, in turn, all bytes on their way are delivered.
+// The three exchanges after an opening: to each of these sides, in turn, all bytes on their way are
+// delivered.
 const EXCHANGES: [Side; 6] = [
     Side::Server,
     Side::Client,
@@ -45,7 +46,7 @@ pub(crate) struct Pair {
 }
 
 impl Pair {
-    // Publishes a message at the client. Fails if memory runs out for a copy, the wire or the account.
+    // Publishes a message at the client.
     fn publish_at_client(&mut self, message: &Message) -> Result<Answer, AllocError>
         ensures does { IfOk result (λ answer. (limit : Bounds) (capacity : ℕ) (m : Machine) → Stands limit capacity (wired_of self.old) m
             → Does limit capacity (Event.Publish Side.Client message.now) answer (wired_of self.old) (wired_of self.new)) }
@@ -64,7 +65,7 @@ impl Pair {
         }
     }
 
-    // Publishes a message at the server. Fails if memory runs out for a copy, the wire or the account.
+    // Publishes a message at the server.
     fn publish_at_server(&mut self, message: &Message) -> Result<Answer, AllocError>
         ensures does { IfOk result (λ answer. (limit : Bounds) (capacity : ℕ) (m : Machine) → Stands limit capacity (wired_of self.old) m
             → Does limit capacity (Event.Publish Side.Server message.now) answer (wired_of self.old) (wired_of self.new)) }
@@ -83,7 +84,7 @@ impl Pair {
         }
     }
 
-    // Delivers `count` bytes to the client, or all on their way to it if they are fewer. Fails if memory runs out.
+    // Delivers `count` bytes to the client, or all in flight to it if there are fewer.
     fn deliver_to_client(&mut self, count: usize) -> Result<Delivery, AllocError>
         ensures delivered { IfOk result (λ delivery. (limit : Bounds) (capacity : ℕ) (m : Machine) → Stands limit capacity (wired_of self.old) m
             → IsDelivered limit capacity Side.Client count delivery (wired_of self.old) (wired_of self.new)) }
@@ -107,7 +108,7 @@ impl Pair {
         })
     }
 
-    // Delivers `count` bytes to the server, or all on their way to it if they are fewer. Fails if memory runs out.
+    // Delivers `count` bytes to the server, or all in flight to it if there are fewer.
     fn deliver_to_server(&mut self, count: usize) -> Result<Delivery, AllocError>
         ensures delivered { IfOk result (λ delivery. (limit : Bounds) (capacity : ℕ) (m : Machine) → Stands limit capacity (wired_of self.old) m
             → IsDelivered limit capacity Side.Server count delivery (wired_of self.old) (wired_of self.new)) }
@@ -131,7 +132,7 @@ impl Pair {
         })
     }
 
-    // Delivers `count` bytes to a side, or all on their way to it if they are fewer. Fails if memory runs out.
+    // Delivers `count` bytes to a side, or all in flight to it if there are fewer.
     fn deliver(&mut self, side: Side, count: usize) -> Result<Delivery, AllocError>
         ensures delivered { IfOk result (λ delivery. (limit : Bounds) (capacity : ℕ) (m : Machine) → Stands limit capacity (wired_of self.old) m
             → IsDelivered limit capacity side count delivery (wired_of self.old) (wired_of self.new)) }
@@ -144,7 +145,7 @@ impl Pair {
         }
     }
 
-    // Delivers all bytes on their way to a side. Fails if memory runs out.
+    // Delivers all bytes in flight to a side.
     fn deliver_all(&mut self, side: Side) -> Result<Delivery, AllocError>
         ensures delivered { IfOk result (λ delivery. (limit : Bounds) (capacity : ℕ) (m : Machine) → Stands limit capacity (wired_of self.old) m
             → IsDelivered limit capacity side (length (near side (wired_of self.old)).wire) delivery (wired_of self.old) (wired_of self.new)) }
@@ -187,8 +188,8 @@ impl Pair {
         }
     }
 
-    // Ends the program of the client, which goes on with its session as it was saved. If memory runs out for that, the end that
-    // was dropped stays.
+    // Ends the client's program, which continues with its session as saved. If an allocation for
+    // that fails, the dropped end stays.
     fn restart(&mut self, terms: Terms) -> Answer
         requires config { connect_of self.old.client.config false ≡ first_packet }
         requires stands { (m : Machine) × Stands terms.limits terms.capacity (wired_of self.old) m }
@@ -211,12 +212,12 @@ impl Pair {
             return Answer::Restarted(was_open, Err(PublishRefusal::Memory));
         };
         self.client = client;
-        // As after each event, no room is kept for bytes that wait to be written.
+        // No room is reserved between events.
         let _none = self.client.take_all_output();
         Answer::Restarted(was_open, Ok(()))
     }
 
-    // Lets the client leave. Fails if memory runs out for the wire.
+    // Disconnects the client.
     fn leave(&mut self) -> Result<Answer, AllocError>
         ensures does { IfOk result (λ answer. (limit : Bounds) (capacity : ℕ) (m : Machine) → Stands limit capacity (wired_of self.old) m
             → Does limit capacity Event.Leave answer (wired_of self.old) (wired_of self.new)) }
@@ -233,7 +234,7 @@ impl Pair {
         Ok(Answer::Left(Ok(())))
     }
 
-    // Moves the clock of the client on, and tells it the time. Fails if memory runs out for the wire.
+    // Advances the client's clock and calls its `tick`.
     fn tick_client(&mut self, more: u64) -> Result<Answer, AllocError>
         ensures does { IfOk result (λ answer. (limit : Bounds) (capacity : ℕ) (m : Machine) → Stands limit capacity (wired_of self.old) m
             → Does limit capacity (Event.Tick Side.Client more) answer (wired_of self.old) (wired_of self.new)) }
@@ -295,7 +296,7 @@ impl Pair {
         }
     }
 
-    /// Makes an event happen. Fails if memory runs out for the wires, an account or a copy.
+    /// Processes an event.
     pub(crate) fn make(&mut self, event: &Event, terms: Terms) -> Result<Answer, AllocError>
         requires config { connect_of self.old.client.config false ≡ first_packet }
         requires stands { (m : Machine) × Stands terms.limits terms.capacity (wired_of self.old) m }
@@ -319,8 +320,8 @@ impl Pair {
         }
     }
 
-    /// Opens a connection and makes three exchanges, in each of which all bytes on their way to the server are delivered, then
-    /// all on their way to the client. Fails if memory runs out.
+    /// Opens a connection and makes three exchanges, each of which delivers all bytes in flight to
+    /// the server, then all in flight to the client.
     pub(crate) fn settle(&mut self) -> Result<Settling, AllocError>
         requires config { connect_of self.old.client.config false ≡ first_packet }
         ensures settled { IfOk result (λ s. (limit : Bounds) (capacity : ℕ) (m : Machine) → Stands limit capacity (wired_of self.old) m
@@ -345,7 +346,7 @@ impl Pair {
         })
     }
 
-    // Returns whether neither side has anything of its own that waits for the other.
+    // Returns whether neither side stores unfinished messages or has pending output.
     fn is_idle(&self) -> bool
         ensures { IsTrue result ↔ (IsIdle self.now.client.link.end × (self.now.server.end.known ≡ true → IsIdle self.now.server.end)) }
     {
@@ -387,7 +388,7 @@ fn cut_off(wire: &mut ByteQueue, closed: Option<CloseReason>)
     }
 }
 
-// Takes the oldest `count` bytes from a wire, or all if they are fewer. Fails if memory runs out, and then nothing changes.
+// Takes the oldest `count` bytes from a wire, or all if there are fewer. On `Err` nothing changes.
 fn take_first(
     alloc: Global,
     wire: &mut ByteQueue,
@@ -404,8 +405,7 @@ fn take_first(
     Ok(BoxedList::from_vec(bytes))
 }
 
-// Puts bytes on a wire, behind all others. They are moved if the wire is empty, else copied. Fails if memory runs out, and then
-// nothing changes.
+// Appends bytes to a wire; moves them if it is empty. On `Err` nothing changes.
 fn carry(wire: &mut ByteQueue, more: ByteQueue) -> Result<(), AllocError>
     ensures ok { OnOk result (wire.new ≡ wire.old ++ more) }
     ensures err { OnErr result (wire.new ≡ wire.old) }

@@ -12,7 +12,6 @@ use rand_core::utils::NextWord;
 use rand_pcg::Pcg32;
 use std::alloc::{AllocError, Global};
 
-// Returns the side that a word stands for.
 fn made_side(word: u32) -> Side
     ensures { result ≡ made_side word }
 {
@@ -23,7 +22,6 @@ fn made_side(word: u32) -> Side
     }
 }
 
-// Returns the quality of service that a number stands for.
 fn made_qos(value: u32) -> Qos
     ensures { result ≡ made_qos value }
 {
@@ -34,7 +32,7 @@ fn made_qos(value: u32) -> Qos
     }
 }
 
-// Makes the message of a step, whose payload is the step's number. Fails if memory runs out.
+// The message of a step, whose payload is the step's number.
 fn made_message(alloc: Global, qos: Qos, number: u32) -> Result<Message, AllocError>
     ensures { IfOk result (λ message. message ≡ made_message qos number) }
 {
@@ -50,7 +48,7 @@ fn made_message(alloc: Global, qos: Qos, number: u32) -> Result<Message, AllocEr
     })
 }
 
-// Makes the event of a step from its word. Fails if memory runs out.
+// The event of a step.
 fn made_event(alloc: Global, word: u32, number: u32) -> Result<Event, AllocError>
     ensures { IfOk result (λ event. event ≡ made_event word number) }
 {
@@ -66,8 +64,8 @@ fn made_event(alloc: Global, word: u32, number: u32) -> Result<Event, AllocError
     })
 }
 
-/// Makes up `steps` events for tests, always the same ones for the same `start`. A message has the topic `t`, and its payload
-/// is the number of its step in four bytes, the high byte first. Fails if memory runs out.
+/// Generates `steps` events for tests, the same ones for the same `start`. A message has the topic
+/// `t`; its payload is the number of its step in four bytes, in big-endian order.
 pub fn made_up(alloc: Global, start: u64, steps: u32) -> Result<Vec<Event>, AllocError>
     ensures { IfOk result (λ events. events.items ≡ made_up start steps) }
 {

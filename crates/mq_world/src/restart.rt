@@ -13,7 +13,7 @@ use mq_flow::{LoadError, Saved};
 use mq_wire::Text;
 use std::alloc::{AllocError, Global};
 
-/// What both ends of a world are made with.
+/// The configuration of both ends of a world.
 #[derive(Clone, Copy)]
 pub(crate) struct Terms {
     pub(crate) limits: Limits,
@@ -21,7 +21,6 @@ pub(crate) struct Terms {
     pub(crate) window: Option<u16>,
 }
 
-/// Returns the configuration of the client. Fails if memory runs out.
 pub(crate) fn client_config(alloc: Global, terms: Terms) -> Result<ClientConfig, AllocError>
     ensures connect { IfOk result (λ config. connect_of config false ≡ first_packet) }
     ensures limits { IfOk result (λ config. config.limits ≡ terms.limits) }
@@ -42,8 +41,8 @@ pub(crate) fn client_config(alloc: Global, terms: Terms) -> Result<ClientConfig,
     })
 }
 
-/// Saves the session of a client without a connection, loads what was saved, and makes the client anew from it (3.1.2.4, 4.1).
-/// Fails only if memory runs out.
+/// Saves the session of a client without a connection, loads it, and continues with it (3.1.2.4,
+/// 4.1).
 pub(crate) fn made_anew(
     alloc: Global,
     client: &ClientEnd,

@@ -3,13 +3,13 @@
 use crate::account::Account;
 use crate::answer::Answer;
 
-/// What came of all events of a world so far.
+/// The results of all events of a world so far.
 #[derive(Debug, Drop)]
 pub struct Trace {
-    /// The answers to the events, oldest first.
+    /// The answers to the events, the oldest first.
     pub answers: Vec<Answer>,
-    /// What the client accepted and handed on.
+    /// The messages that the client accepted and delivered.
     pub client: Account,
-    /// What the server accepted and handed on.
+    /// The messages that the server accepted and delivered.
     pub server: Account,
 }

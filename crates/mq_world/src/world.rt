@@ -24,11 +24,11 @@ use mq_flow::Session;
 use std::alloc::{AllocError, Global};
 use std::marker::Model;
 
-/// A client and a server that are joined by two wires of bytes, and the trace of the events so far. The client has the identifier
-/// `w`, clean session 0 and a keep-alive of 60 seconds.
+/// A client and a server that are joined by two wires of bytes, and the trace of the events so far.
+/// The client has the identifier `w`, clean session 0 and a keep-alive of 60 seconds.
 ///
-/// If memory runs out for a wire, for the trace or for a copy of a message, the event fails. From then on each event fails, and
-/// nothing changes any more.
+/// If an allocation for a wire, the trace or a copy of a message fails, the event fails, and so
+/// does each later one; nothing changes any more.
 #[derive(Debug, Drop)]
 pub struct World {
     pair: Pair,
@@ -67,7 +67,7 @@ impl Model for World {
         × (w.failed ≡ false → (m : Machine) × Stands w.limits w.capacity (wired_of w.pair) m × HaveWindow w.window (wired_of w.pair)) };
 }
 
-// Gives a value where what was done with it did not fail, and else lets go of it.
+// Returns the value if the action on it succeeded, and drops it otherwise.
 fn given<T: Drop>(value: T, done: Result<(), AllocError>) -> Result<T, AllocError>
     ensures ok { OnOk done (result ≡ Ok value) }
     ensures err { OnErr done (IsErr result) }
@@ -79,8 +79,8 @@ fn given<T: Drop>(value: T, done: Result<(), AllocError>) -> Result<T, AllocErro
 }
 
 impl World {
-    /// Makes a world in which nothing has happened. Packets are within `limits` at both sides, and at most `capacity` packet
-    /// identifiers are in use at each. No side has a receiving window. Fails if memory runs out.
+    /// A world without events. Packets are within `limits` at both sides, and at most `capacity`
+    /// packet identifiers are in use at each. No side has a receive window.
     pub fn new(alloc: Global, limits: Limits, capacity: u16) -> Result<World, AllocError>
         requires { 0 < capacity }
         ensures new { IfOk result (λ world. IsNew limits capacity None world.wired) }
@@ -93,8 +93,8 @@ impl World {
         World::begin(alloc, limits, capacity, None)
     }
 
-    /// Makes a world like `new`, but both sides have the receiving window `window`: a side closes with C11 if a new message of
-    /// quality of service 2 does not fit it. Fails if memory runs out.
+    /// Like `new`, but both sides have this receive window: a side closes with C11 if a new QoS 2
+    /// message exceeds it.
     pub fn with_window(
         alloc: Global,
         limits: Limits,
@@ -113,7 +113,6 @@ impl World {
         World::begin(alloc, limits, capacity, Some(window))
     }
 
-    // Makes a world in which nothing has happened, with a receiving window if there is one. Fails if memory runs out.
     fn begin(
         alloc: Global,
         limits: Limits,
@@ -166,7 +165,7 @@ impl World {
         })
     }
 
-    /// Makes an event happen, and returns what came of it. Fails if memory runs out; each later call then fails and changes
+    /// Processes an event and returns its result. On `Err` each later call fails too and changes
     /// nothing.
     pub fn step(&mut self, event: &Event) -> Result<Answer, AllocError>
         ensures does { IfOk result (λ answer. Does self.old.limit self.old.capacity event.now answer self.old.wired self.new.wired) }
@@ -198,12 +197,12 @@ impl World {
         Ok(answer)
     }
 
-    /// Opens a connection and makes three exchanges, in each of which all bytes on their way to the server are delivered, then all
-    /// on their way to the client (4.4).
+    /// Opens a connection and makes three exchanges, in each of which all bytes on their way to the
+    /// server are delivered, then all on their way to the client (4.4).
     ///
-    /// If no end ran out of memory, and the capacity is at most the window if there is one, then both sides are idle afterwards,
-    /// and each message of quality of service 1 or 2 that was accepted was handed on, with 2 just once and in order. Fails if
-    /// memory runs out; each later call then fails and changes nothing.
+    /// If no end closed for lack of memory, and the capacity is at most the window, both sides are
+    /// idle afterwards, and each accepted QoS 1 or 2 message was delivered, QoS 2 exactly once and
+    /// in order. On `Err` each later call fails too and changes nothing.
     pub fn settle(&mut self) -> Result<Answer, AllocError>
         ensures settles { IfOk result (λ answer. Settles self.old.limit self.old.capacity answer self.old.wired self.new.wired) }
         ensures settled { IfOk result (λ answer. Spans self.old.window self.old.capacity → MetNoWant answer → SettledFrom self.old.wired self.new.wired) }
@@ -230,8 +229,8 @@ impl World {
         Ok(answer)
     }
 
-    /// Makes a world like `new`, and the events happen in it, in order. What each side then handed on stands to what the other
-    /// accepted as the quality of service of the messages promises (4.3). Fails if memory runs out.
+    /// Creates a world like `new` and processes the events in order. Each side has then delivered
+    /// the messages that the other accepted as their QoS promises (4.3).
     pub fn run(
         alloc: Global,
         limits: Limits,
@@ -250,8 +249,9 @@ impl World {
         World::run_with(alloc, limits, capacity, None, events)
     }
 
-    /// Makes a world like `with_window`, and the events happen in it, in order. It keeps the same promise as `run`, for each
-    /// window. If the capacity is at most the window, no answer tells of a close with C11. Fails if memory runs out.
+    /// Creates a world like `with_window` and processes the events in order. Makes the same promise
+    /// as `run`, for each window. If the capacity is at most the window, no answer reports a close
+    /// with C11.
     pub fn run_with_window(
         alloc: Global,
         limits: Limits,
@@ -273,7 +273,6 @@ impl World {
         World::run_with(alloc, limits, capacity, Some(window), events)
     }
 
-    // Makes a world, with a receiving window if there is one, and the events happen in it, in order. Fails if memory runs out.
     fn run_with(
         alloc: Global,
         limits: Limits,
@@ -297,7 +296,7 @@ impl World {
         given(world, made)
     }
 
-    // Makes events happen, in order, in a world in which nothing has happened. Fails if memory runs out.
+    // Processes events in order in a new world.
     fn make_all(&mut self, events: &[Event]) -> Result<(), AllocError>
         requires new { self.old.answers ≡ [] }
         requires stands { self.old.failed ≡ false }
@@ -316,8 +315,9 @@ impl World {
         Ok(())
     }
 
-    /// Does nothing. Its contract is what every world keeps as long as no event failed: it carries a machine that a run reaches,
-    /// so the laws of each run hold of it, and what its sides handed on stands to what they accepted as promised (4.3).
+    /// Does nothing. Its contract is the invariant of every world in which no event failed: it
+    /// carries a machine that a run reaches, so the laws of each run hold for it, and its sides
+    /// delivered accepted messages as promised (4.3).
     pub fn promise(&self)
         ensures carries { self.now.failed ≡ false → (m : Machine) × Stands self.now.limit self.now.capacity self.now.wired m }
         ensures window { self.now.failed ≡ false → HaveWindow self.now.window self.now.wired }
@@ -327,7 +327,8 @@ impl World {
         let _failed = self.failed;
     }
 
-    /// Returns the answers to all events so far, and what each side accepted and handed on.
+    /// Returns the answers to all events so far, and the messages that each side accepted and
+    /// delivered.
     pub fn trace(&self) -> &Trace
         ensures answers { result.now.answers.items ≡ self.now.answers }
         ensures accepted_at_client { accepted_in result.now.client ≡ self.now.wired.client.accepted }

@@ -19,7 +19,7 @@ one_more made event old new word n steps lt drawn is =
     let second : new ≡ (pcg32 old).1 = ap (λ (p : ℕ × Lcg). p.1) drawn in
     rw (left, append_assoc, is, first, second, add-one)
 
--- no more events
+-- No further events.
 none_left : (made : List Event) (g : Lcg) (n steps : ℕ) → steps ≤ n → made ++ made_from g n (steps - n) ≡ made
 unfolding made_from
 none_left made g n steps le =

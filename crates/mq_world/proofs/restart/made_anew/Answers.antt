@@ -20,7 +20,7 @@ returns-in_err-saved-clause-memory c =
     c.as_slice.result.now c.as_str-id.ensures.text c.requires.id c.new-bytes.ensures.items put c.as_slice.ensures.value) in
     search (rules, memory)
 
--- what was loaded is what was saved
+-- The loaded session is the saved one.
 same : (c : goal.After-drop-bytes-2) → c.in_ok-saved.saved ≡ saved_of c.args.client.now
 same c =
     let client : ClientState = c.args.client.now in
