@@ -508,7 +508,8 @@ def fails(name, pages):
 def summary(pages):
     counted = [it for it in pages if not is_left_out(it.path)]
     hits, words = sum(len(it.hits) for it in counted), sum(it.words for it in counted)
-    return f"{hits} hits in {words} words of prose, {len(pages) - len(counted)} files left out"
+    text = f"{hits} hit{'' if hits == 1 else 's'} in {words} words of prose"
+    return f"{text}, {len(pages) - len(counted)} files left out"
 
 
 def report(pages, paths):

@@ -67,7 +67,7 @@ PHRASES = [
         "It keeps what is owed to the client.",
     ),
     (
-        r"\bwhat (?:stands|stood|goes|went|an? \w+ (?:says|said|does|did|is|has|takes))\b",
+        r"\bwhat (?:stands|stood|goes|went|an? \w+ (?:says|said|asks|tells|takes))\b",
         "a noun for it",
         "What a packet says of its length is checked.",
     ),
@@ -88,20 +88,14 @@ PHRASES = [
         "Each call returns, asked as its contract demands.",
     ),
     (
-        r"(?:^ *|[.:;] +)what \w+(?=[^?\n]*(?:[.;:]|$))",
+        r"(?:^ *|\. +)what \w+(?=(?:[^?.\n]|\.\w)*\.(?:\s|$))",
         "a noun for it",
         "What changes of a list leave is its order.",
     ),
     (
-        r"\bwhat (?:came|comes|was|(?:it|they|its|is)(?! (?:looks?|means?|now)\b))\b",
+        r"\bwhat (?:came|comes|was|(?:it|they|is)(?! (?:looks?|means?|now)\b))\b",
         "a noun for it",
         "The table keeps what it has.",
-    ),
-    (
-        r"\b(?:and|or|but|of|than|by|, \w+) what (?:an?|the|its|this|these|"
-        r"that) \w+\b(?! looks?\b| means?\b)",
-        "a noun for it",
-        "A row has a number and what the packet holds.",
     ),
     # Reports.
     (
@@ -110,7 +104,7 @@ PHRASES = [
         "The current time is told once.",
     ),
     (
-        r"\btells (?:of|how|whether|what|which|nothing|so|by|apart)\b",
+        r"\btells (?:of|how|that|whether|what|which|nothing|so|by|apart)\b",
         "returns, reports",
         "The status tells how the run ended.",
     ),
@@ -190,7 +184,7 @@ PHRASES = [
     (r"\b(?:drawn|draws?|drew) up\b", "computes, plans", "A list is drawn up."),
     (
         rf"\b(?:packets?|pieces?|connections?|clients?|messages?|bytes|connect|publish|connack|"
-        rf"subscribe|{CODE}) (?:came|comes|come)\b(?! from| with| before| after| to\b)|"
+        rf"subscribe|{CODE}) (?:came|comes|come)\b(?! from| with| before| after| out)|"
         rf"\bit came\b(?! from| with| to\b)",
         "arrives, is received",
         "When a packet comes, it is decoded.",
@@ -224,12 +218,11 @@ PHRASES = [
     (r"\bby hal(?:f|ves|ving)\b", "by binary search", "The row is found by halves."),
     (r"\bmiddle one\b", "the median of", "The middle one of five runs counts."),
     (r"\bwrong bod(?:y|ies)\b|\bplanted bod(?:y|ies)\b", "mutants", "A tool plants wrong bodies."),
-    (r"\bthe (?:merge )?gate(?:'s)?\b", "CI", "The gate runs each proof."),
+    (r"\bthe (?:merge )?gate(?:'s)?\b(?! in\b| of\b)", "CI", "The gate runs each proof."),
     (
-        r"\b(?:a|one) gate (?:that|which|through)\b|\bthrough which (?:nobody|no one|none|"
-        r"nothing)\b",
-        "an acceptor",
-        "It is a gate that admits all.",
+        r"\bthrough which (?:nobody|no one|none)\b",
+        "that no .. passes",
+        "It is a door through which no one goes.",
     ),
     (
         r"\b(?:are|is|as|so|less|more|too|very) dear\b|\bdear (?:is|are|to)\b|\bdear(?:er|est)\b",
@@ -247,6 +240,34 @@ PHRASES = [
         "measured on (date, machine)",
         "All figures are of one day.",
     ),
+    (r"\bthe same of\b", "the same for ..", "The same of a list."),
+    (r"\bon (?:its|their) way\b", "in flight", "The bytes on their way are lost."),
+    (
+        r"(?<!there )\b(?:is|are|was|were) none\b(?! of)",
+        "is not a .., does not exist, is empty",
+        "A filter that is none is refused.",
+    ),
+    (
+        r"\b(?:goes|go|went|going) on\b(?! to\b)",
+        "continues, happens",
+        "The step goes on with the next row.",
+    ),
+    (
+        r"\b(?:in|of|to|on|for|after|behind|by|from) which nothing\b",
+        "a .. without, an empty ..",
+        "It is a session in which nothing is stored.",
+    ),
+    (
+        r"\b(?:that|which) waits?\b(?! for| on| until)",
+        "pending",
+        "It takes the bytes that wait.",
+    ),
+    (
+        r"\bless than (?:an?|one) (?:whole )?(?:packet|one)\b",
+        "an incomplete packet",
+        "The rest is less than a packet.",
+    ),
+    (r"\bthat (?:is|are) left\b(?! out)", "remaining", "It reads the bytes that are left."),
     # Amounts.
     (
         r"\bso many\b(?! \w+ that\b)|\bso much\b(?! that\b)",
@@ -254,9 +275,9 @@ PHRASES = [
         "It reads so many bytes.",
     ),
     (
-        r"\bas many as (?!possible\b|necessary\b|needed\b|you\b|\d)|\bas (?:many|"
-        r"much) (?:\w+ )?as (?:may|there|it|they|are|is)\b|\bas there (?:may|can|were)\b|"
-        r"\bas many (?:are|is|were|stand)\b",
+        r"\bas many as (?!possible\b|necessary\b|needed\b|you\b|\d)|"
+        r"\bas (?:many|much) (?:\w+ )?as (?:may|there|are)\b|"
+        r"\bas there (?:may|can|were)\b|\bas many (?:are|is|were|stand)\b",
         "the maximum, the number of",
         "It takes as many as the table has.",
     ),
@@ -296,7 +317,7 @@ PHRASES = [
         "It takes no memory.",
     ),
     (
-        r"\b(?:fails?|and|that|but|or|,) ?if memory runs out\b|\bmemory (?:runs|ran) out\b",
+        r"\bfails? if memory runs out\b|\bif memory runs out,? (?:and )?nothing\b",
         "an allocation fails; say it once per crate",
         "Fails if memory runs out.",
     ),
@@ -309,6 +330,11 @@ PHRASES = [
         r"\bnothing but an?\b|\bno \w+ but (?:the|an?|one|its|that|those)\b",
         "only",
         "There is nothing but a row in it.",
+    ),
+    (
+        r"\bno memory (?:for|is|to)\b|\bthere (?:is|was) no memory\b(?! access)",
+        "an allocation fails; say it once per crate",
+        "It is dropped if there is no memory for it.",
     ),
     # People.
     (r"\bsomebody\b|\bnobody\b", "a client, a peer; no client", "Nobody reads it."),
@@ -381,4 +407,7 @@ PLAIN = [
     "The client must be connected before this call.",
     "A long-standing bug was fixed in a stand-alone tool.",
     "The first connection comes from the listener.",
+    "Lines that are left out don't count.",
+    "What this is not",
+    "What can go wrong?",
 ]
