@@ -2,8 +2,8 @@
 
 It reads the Markdown of the root and of docs/, comments of the Rattle sources (`//!`, `///`, `//`),
 comments of the definitions and proofs (`--`), the help texts of the command line, and the comments
-of Makefile, .ci/ and bench/. It skips code in backticks, fenced blocks, and short texts in double
-quotes.
+of Makefile, .ci/, bench/ and examples/. It skips code in backticks, fenced blocks, and short texts
+in double quotes.
 
 It is a fault if
 - there are `LIMIT_PER_THOUSAND` or more hits of .ci/phrases.py in a thousand words (if the limit is
@@ -265,7 +265,8 @@ def wide_lines(path, text):
         passages = in_c(text) if path.endswith(".c") else in_python(text)
         # A passage of one line can be a comment after code, and is no block of prose.
         prose = {number for passage in passages if len(passage) > 1 for number, _ in passage}
-        return [number for number, line in wide if number in prose or line.strip()[0] in "/#"]
+        mark = "//" if path.endswith(".c") else "#"
+        return [n for n, line in wide if n in prose or line.strip().startswith(mark)]
     mark = {".rt": "//", ".antt": "--"}.get(os.path.splitext(path)[1], "#")
     return [number for number, line in wide if line.strip().startswith(mark)]
 
@@ -273,7 +274,12 @@ def wide_lines(path, text):
 def prose_files():
     """The paths of all files with prose, relative to the root."""
     paths = [it for it in sorted(os.listdir(ROOT)) if it.endswith(".md") or it == "Makefile"]
-    endings = {"docs": (".md",), "crates": (".rt", ".antt"), "bench": (".c", ".sh")}
+    endings = {
+        "docs": (".md",),
+        "crates": (".rt", ".antt"),
+        "bench": (".c", ".py", ".sh"),
+        "examples": (".md", ".rt", ".sh"),
+    }
     for top, wanted in endings.items():
         for at, folders, names in os.walk(f"{ROOT}/{top}"):
             folders[:] = sorted(it for it in folders if it != "out")
