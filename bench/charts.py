@@ -113,7 +113,7 @@ def main():
     data = read_data()
     decoding = draw(
         "Decoding: nanoseconds a packet (less is better)",
-        [("pieces of 65,536 bytes", data["decoding"])],
+        [("feed takes pieces of 65,536 bytes", data["decoding"])],
         {"C: tests": 0, "view": 1, "C: tests and copies": 2, "feed": 3},
     )
     brokers = draw(
