@@ -3,8 +3,9 @@
 
 Usage: bench/charts.py [--check]
 
-Writes docs/decoding.svg and docs/brokers.svg. With --check it writes nothing, and its status is 1 if
-a chart differs from the data. The charts contain no script. They have a light and a dark palette.
+Writes docs/decoding.svg and docs/brokers.svg. With --check it writes nothing, and its status is 1
+if a chart differs from the data. The charts contain no script, and have a light and a dark
+palette.
 """
 
 import csv
