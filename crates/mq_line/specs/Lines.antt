@@ -27,7 +27,8 @@ byte_digits byte = digits 16 false (byte / 16) ++ digits 16 false (byte % 16)
 abbrev pub hex_of : List ℕ → List ℕ
 hex_of bytes = flat_map byte_digits bytes
 
--- a byte of a text: 21 to 7e (hexadecimal) as it is, but `%`; that, and any other, as `%` and two digits
+-- a byte of a text: 21 to 7e (hexadecimal) as it is, but `%`; that, and any other, as `%` and two
+-- digits
 abbrev pub escaped_byte : ℕ → List ℕ
 escaped_byte byte = if nat_le 33 byte && nat_le byte 126 && not (byte == 37) then byte ∷ [] else codes "%" ++ byte_digits byte
 
@@ -120,6 +121,6 @@ packet_text packets.Disconnect = codes "DISCONNECT"
 
 -- ---- any
 
--- a text of which this holds was written behind what the writer holds, where that is known
+-- A text with this property was appended to the writer's bytes, if they are known.
 abbrev pub Prints : Option (List ℕ) → Option (List ℕ) → (List ℕ → Type 0) → Type 0
 Prints old new P = (text : List ℕ) × Appends old new text × P text

@@ -1,4 +1,4 @@
-//! What the programs print: texts, bytes and packets, each on a line that has no end of its own.
+//! The text form of texts, bytes and packets: each on one line, without the line end.
 #![tactic(auto)]
 
 mod line;

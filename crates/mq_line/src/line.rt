@@ -11,8 +11,8 @@ use mq_packet::{
 use mq_topic::TopicFilter;
 use std::fmt;
 
-/// Displays a packet as its name and its fields, on one line without a line's end, however long it is. Texts are displayed as by
-/// `Escaped`, other bytes as by `Hex`, and truth values as 0 and 1.
+/// Displays a packet as its name and its fields, on one line without a line's end, however long it
+/// is. Texts are displayed as by `Escaped`, other bytes as by `Hex`, and truth values as 0 and 1.
 #[derive(Clone, Copy)]
 pub struct Line<'a>(pub &'a Packet);
 
@@ -48,7 +48,8 @@ impl fmt::Display for Line<'_> {
     }
 }
 
-// Writes a byte of a text: as it is if it is 21 to 7e (hexadecimal) and not `%`, else as `%` and two hexadecimal digits.
+// Writes a byte of a text: as it is if it is 21 to 7e (hexadecimal) and not `%`, else as `%` and
+// two hexadecimal digits.
 fn write_escaped<W: fmt::Write>(f: &mut fmt::Formatter<W>, byte: u8) -> fmt::Result
     ensures { DisplaysOnOk W.write_str_gives f.old result (Some (escaped_byte byte)) f.new }
 {
@@ -59,8 +60,8 @@ fn write_escaped<W: fmt::Write>(f: &mut fmt::Formatter<W>, byte: u8) -> fmt::Res
     write!(f, "%{high:x}{low:x}")
 }
 
-/// Displays a text: its bytes 21 to 7e (hexadecimal) as they are, except `%`; each other byte, and `%`, as `%` and two
-/// hexadecimal digits in lower case.
+/// Displays a text: its bytes 21 to 7e (hexadecimal) as they are, except `%`; each other byte, and
+/// `%`, as `%` and two hexadecimal digits in lower case.
 #[derive(Clone, Copy)]
 pub struct Escaped<'a>(pub &'a str);
 

@@ -1,4 +1,4 @@
--- Steps that were made, and what was printed of them.
+-- The steps that were made, and their output.
 use Rattle.std.proofs.Common.{◌≡◌, ℕ, ◌+◌, ◌<◌, List, [], ◌∷◌, ◌++◌, Option, length, take, drop, get_or, refl, sym, ap, subst, ◌∙◌, take-append-drop}
 use Rattle.std.proofs.lemmas.List.{flat_map_more, take_more}
 use Rattle.std.proofs.KnownBytes.{Appends-nil, Appends-trans}
@@ -27,7 +27,7 @@ steps_more limit capacity (t ∷ steps) (b ∷ answers) s a u v w h does = (h.0,
 steps_more limit capacity [] (b ∷ answers) s a u v w h does = absurd h
 steps_more limit capacity (t ∷ steps) [] s a u v w h does = absurd h
 
--- Steps lead from one world to another, and what came of each was printed.
+-- Steps lead from one world to another, and the result of each was printed.
 pub record IsMade (limit : Bounds) (capacity : ℕ) (steps : List Step) (start end : Wired) (old new : Option (List ℕ)) : Type 0 where
   pub answers : List Answer
   pub leads : StepsLead limit capacity steps answers start end
@@ -62,7 +62,7 @@ all_made s start end old mid new begins h prints = (
   record { answers = h.answers; end = end; comes = record { start = start; new = begins; leads = h.leads }; text_is = refl },
 )
 
--- the first steps were made, and no more
+-- Only the first steps were made.
 pub first_made : (s : Schedule) (k : ℕ) (start end : Wired) (old new : Option (List ℕ)) → IsNew s.limits (non_zero_u16_get s.capacity) (number_of s.window) start → IsMade s.limits (non_zero_u16_get s.capacity) (take k s.steps.items) start end old new
     → Prints old new (IsCutReplay s)
 first_made s k start end old new begins h = (
@@ -79,7 +79,7 @@ first_made s k start end old new begins h = (
   },
 )
 
--- where memory ran out, what came of the first steps stands printed
+-- If an allocation failed, the results of the first steps are printed.
 pub cut_made : {W : Type 0} (contents : W → Option (List ℕ)) (s : Schedule) (k : ℕ) (start end : Wired) (old mid new : W) (fault : ReplayFault) → IsNew s.limits (non_zero_u16_get s.capacity) (number_of s.window) start
     → IsMade s.limits (non_zero_u16_get s.capacity) (take k s.steps.items) start end (contents old) (contents mid) → OnMemory fault (new ≡ mid) → OnMemory fault (Prints (contents old) (contents new) (IsCutReplay s))
 cut_made contents s k start end old mid new (Io error) begins h same = tt

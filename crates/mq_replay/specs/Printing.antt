@@ -1,4 +1,4 @@
--- What is printed of the answers of a world: lines, each with its end.
+-- The output for the answers of a world, line by line.
 use Rattle.std.specs.Prelude.{⊤, ℕ, Bool, true, false, Option, None, Some, Result, Ok, Err, List, [], ◌++◌, codes, decimal}
 use Rattle.std.specs.List.{flat_map}
 use Rattle.mq_topic.specs.Qos.{qos_number}
@@ -19,12 +19,12 @@ use Rattle.mq_world.specs.declared.answer.Settling.{Settling}
 use Rattle.mq_line.specs.Lines.{escaped, truth}
 use Rattle.mq_schedule.specs.Schedule.{bytes_word, side_word}
 
--- ---- one line each: the side, and what comes of it
+-- ---- One line each: the side, and the result
 
 abbrev pub line_of : Side → List ℕ → List ℕ
 line_of side text = side_word side ++ (codes " " ++ (text ++ codes "\n"))
 
--- an identifier, or `-` where a message has none
+-- An identifier, or `-` for a message without one.
 abbrev pub id_word : Option ℕ → List ℕ
 id_word None = codes "-"
 id_word (Some id) = decimal id
@@ -33,11 +33,11 @@ abbrev pub published_line : Side → Result (Option ℕ) PublishRefusal → List
 published_line side (Ok id) = line_of side (codes "accepted " ++ id_word id)
 published_line side (Err why) = line_of side (codes "refused " ++ refusal_code why)
 
--- a message is handed on: its quality of service, its topic, its payload
+-- A delivered message: its QoS, topic and payload.
 abbrev pub handed_text : Message → List ℕ
 handed_text m = codes "got " ++ (decimal (qos_number m.qos) ++ (codes " " ++ (escaped m.topic ++ (codes " " ++ bytes_word m.payload))))
 
--- what an end tells; no event of a world lets an end subscribe
+-- An event of an end. No event of a world makes an end subscribe.
 abbrev pub happening_line : Side → Happening → List ℕ
 happening_line side (Up present) = line_of side (codes "up " ++ truth present)
 happening_line side (Handed m) = line_of side (handed_text m)
@@ -68,7 +68,7 @@ abbrev pub left_line : Result ⊤ PublishRefusal → List ℕ
 left_line (Ok done) = closed_line Client (Some closes.Left)
 left_line (Err why) = line_of Client (codes "refused " ++ refusal_code why)
 
--- a side was told the time: why it closed, where it did, or that it had no memory
+-- The `tick` of a side: the reason if it closed, or that an allocation failed.
 abbrev pub ticked_line : Side → Result (Option CloseReason) PublishRefusal → List ℕ
 ticked_line side (Ok closed) = closed_line side closed
 ticked_line side (Err why) = line_of side (codes "refused " ++ refusal_code why)
@@ -82,7 +82,7 @@ lost_line true = codes "lost\n"
 abbrev pub bytes_line : Side → List ℕ → List ℕ
 bytes_line side bytes = codes "to " ++ line_of side (bytes_word bytes)
 
--- the bytes, whether they were lost, what came of them
+-- The bytes, whether they were lost, and their effect.
 abbrev pub delivery_lines : Delivery → List ℕ
 delivery_lines d = bytes_line d.side d.bytes ++ (lost_line d.lost ++ (flat_map (happening_line d.side) d.progress.happenings ++ closed_line d.side d.progress.closed))
 
@@ -101,7 +101,7 @@ idle_line false = codes "idle no\n"
 abbrev pub settling_lines : Settling → List ℕ
 settling_lines s = opening_lines s.opening ++ (flat_map delivery_lines s.deliveries ++ idle_line s.idle)
 
--- ---- all answers
+-- ---- All answers
 
 abbrev pub answer_lines : Answer → List ℕ
 answer_lines (answers.Published side outcome) = published_line side outcome

@@ -1,4 +1,4 @@
--- What a schedule comes to, and what is printed of it.
+-- The result of a schedule, and its output.
 use Rattle.std.specs.Prelude.{ℕ, ◌≡◌, if◌then◌else◌, Option, List, [], ◌∷◌, ◌++◌, length, codes, decimal}
 use Rattle.std.specs.List.{flat_map}
 use Rattle.std.specs.Int.NonZero.{non_zero_u16_get}
@@ -20,14 +20,14 @@ use Rattle.mq_schedule.specs.declared.schedule.Schedule.{Schedule}
 use Rattle.mq_schedule.specs.Schedule.{number_of, side_word}
 use Rattle.mq_replay.specs.Printing.{answer_lines}
 
--- ---- what the steps come to
+-- ---- The result of the steps
 
--- what comes of a step, by the step and its answer
+-- The effect of a step, by its answer.
 abbrev pub StepDoes : Bounds → ℕ → Step → Answer → Wired → Wired → Type 0
 StepDoes limit capacity (Event event) answer old new = Does limit capacity event answer old new
 StepDoes limit capacity Settle answer old new = Settles limit capacity answer old new
 
--- steps come one after another, each with its answer
+-- Steps one after another, each with its answer.
 abbrev pub StepsLead : Bounds → ℕ → List Step → List Answer → Wired → Wired → Type 0
 StepsLead limit capacity [] [] old new = new ≡ old
 StepsLead limit capacity (s ∷ ss) (a ∷ rest) old new = (mid : Wired) × StepDoes limit capacity s a old mid × StepsLead limit capacity ss rest mid new
@@ -40,9 +40,10 @@ pub record Comes (limit : Bounds) (capacity : ℕ) (window : Option ℕ) (steps 
   pub new : IsNew limit capacity window start
   pub leads : StepsLead limit capacity steps answers start end
 
--- ---- the last lines: of each direction and quality of service, how many messages were accepted, handed on, and are held
+-- ---- The last lines: for each direction and QoS, the number of messages that were accepted,
+-- ---- delivered and are stored
 
--- how many messages the sender of a side holds, none where there is no session
+-- The number of messages that the sender of a side stores, 0 without a session.
 abbrev pub held_count : Qos → Side → Wired → ℕ
 held_count q Client w = length (held q w.client.state.end.book.entries)
 held_count q Server w = if w.server.state.end.known then length (held q w.server.state.end.book.entries) else 0
@@ -56,14 +57,14 @@ last_lines w = total_line Client Server Q1 w ++ (total_line Client Server Q2 w +
 
 -- ---- a replay
 
--- what a schedule prints: the answers of its steps, and the last lines
+-- The output of a schedule: the answers of its steps, and the last lines.
 pub record IsReplay (s : Schedule) (text : List ℕ) : Type 0 where
   pub answers : List Answer
   pub end : Wired
   pub comes : Comes s.limits (non_zero_u16_get s.capacity) (number_of s.window) s.steps.items answers end
   pub text_is : text ≡ flat_map answer_lines answers ++ last_lines end
 
--- what it prints where memory runs out: the answers of its first steps
+-- The output if an allocation fails: the answers of its first steps.
 pub record IsCutReplay (s : Schedule) (text : List ℕ) : Type 0 where
   pub done : List Step
   pub left : List Step

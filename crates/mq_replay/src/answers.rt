@@ -1,4 +1,4 @@
-//! Lines of what comes of each step.
+//! The lines of each step's result.
 
 ghost use Rattle.std.specs.Prelude.{◌++◌, OnOk};
 ghost use Rattle.std.specs.List.{flat_map};
@@ -29,7 +29,8 @@ fn write_published<W: Write>(
     }
 }
 
-// What an end tells. No event of a world lets an end subscribe, so nothing is written of that.
+// Writes an event of an end. No event of a world makes an end subscribe, so those events have no
+// line.
 fn write_happening<W: Write>(output: &mut W, side: Side, happening: &Happening) -> io::Result<()>
     ensures { OnOk result
         (Appends (W.contents output.old) (W.contents output.new) (happening_line side happening.now)) }
@@ -49,7 +50,7 @@ fn write_happening<W: Write>(output: &mut W, side: Side, happening: &Happening) 
     }
 }
 
-// What an end tells of some bytes, in order.
+// Writes the events of some bytes, in order.
 fn write_happenings<W: Write>(
     output: &mut W,
     side: Side,
@@ -64,7 +65,7 @@ fn write_happenings<W: Write>(
     Ok(())
 }
 
-// Why an end closed its connection, where it did.
+// Writes the reason if an end closed its connection.
 fn write_closed<W: Write>(output: &mut W, side: Side, closed: Option<CloseReason>) -> io::Result<()>
     ensures { OnOk result
         (Appends (W.contents output.old) (W.contents output.new) (closed_line side closed)) }
@@ -75,7 +76,7 @@ fn write_closed<W: Write>(output: &mut W, side: Side, closed: Option<CloseReason
     }
 }
 
-// That the connection of a side is lost, where it was open.
+// Writes that the connection of a side is lost, if it was open.
 fn write_dropped<W: Write>(output: &mut W, side: Side, was_open: bool) -> io::Result<()>
     ensures { OnOk result
         (Appends (W.contents output.old) (W.contents output.new) (dropped_line side was_open)) }
@@ -94,7 +95,7 @@ fn write_bytes<W: Write>(output: &mut W, side: Side, bytes: &[u8]) -> io::Result
     writeln!(output, "to {} {}", SideWord(side), BytesWord(bytes))
 }
 
-// That bytes were lost, where they were.
+// Writes that bytes were lost, if they were.
 fn write_lost<W: Write>(output: &mut W, lost: bool) -> io::Result<()>
     ensures { OnOk result
         (Appends (W.contents output.old) (W.contents output.new) (lost_line lost)) }
@@ -105,7 +106,7 @@ fn write_lost<W: Write>(output: &mut W, lost: bool) -> io::Result<()>
     Ok(())
 }
 
-// The bytes, whether they were lost, and what came of them.
+// Writes the bytes, whether they were lost, and their effect.
 fn write_delivery<W: Write>(output: &mut W, delivery: &Delivery) -> io::Result<()>
     ensures { OnOk result
         (Appends (W.contents output.old) (W.contents output.new) (delivery_lines delivery.now)) }
@@ -117,7 +118,7 @@ fn write_delivery<W: Write>(output: &mut W, delivery: &Delivery) -> io::Result<(
     write_closed(output, side, delivery.progress.closed)
 }
 
-// What came, in order.
+// Writes the deliveries in order.
 fn write_deliveries<W: Write>(output: &mut W, deliveries: &[Delivery]) -> io::Result<()>
     ensures { OnOk result (Appends (W.contents output.old) (W.contents output.new)
         (flat_map delivery_lines deliveries.now)) }
@@ -186,7 +187,7 @@ fn write_left<W: Write>(output: &mut W, outcome: Result<(), PublishRefusal>) -> 
     }
 }
 
-// Why a side closed its connection when it was told the time, where it did; or that memory ran out.
+// Writes the reason if a side closed its connection at a `tick`, or that an allocation failed.
 fn write_ticked<W: Write>(
     output: &mut W,
     side: Side,
@@ -212,7 +213,7 @@ fn write_idle<W: Write>(output: &mut W, idle: bool) -> io::Result<()>
     writeln!(output, "idle no")
 }
 
-// The opening, what came after it, and whether nothing waits any more.
+// Writes the opening, the deliveries after it, and whether both sides are idle.
 fn write_settling<W: Write>(output: &mut W, settling: &Settling) -> io::Result<()>
     ensures { OnOk result
         (Appends (W.contents output.old) (W.contents output.new) (settling_lines settling.now)) }
@@ -222,7 +223,7 @@ fn write_settling<W: Write>(output: &mut W, settling: &Settling) -> io::Result<(
     write_idle(output, settling.idle)
 }
 
-/// Writes what came of a step.
+/// Writes the result of a step.
 pub(crate) fn write_answer<W: Write>(output: &mut W, answer: &Answer) -> io::Result<()>
     ensures { OnOk result
         (Appends (W.contents output.old) (W.contents output.new) (answer_lines answer.now)) }

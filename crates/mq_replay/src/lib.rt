@@ -1,4 +1,4 @@
-//! Replays: what a schedule comes to between two ends, printed line by line.
+//! Replays: the result of a schedule between two ends, printed line by line.
 #![tactic(auto)]
 
 mod answers;

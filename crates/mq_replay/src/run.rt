@@ -56,7 +56,7 @@ impl From<AllocError> for ReplayFault {
     }
 }
 
-// There is a new world of these bounds, also where memory does not suffice to make it.
+// A new world with these limits exists, even if memory does not suffice to create it.
 fn begins(limits: Limits, capacity: u16, window: Option<u16>)
     ensures { (start : Wired) × IsNew limits capacity window start }
 {
@@ -94,7 +94,7 @@ fn places(window: Option<NonZeroU16>) -> Option<u16>
     }
 }
 
-// Makes a step, and answers what came of it.
+// Processes a step and returns its result.
 fn make(world: &mut World, step: &Step) -> Result<Answer, AllocError>
     ensures does { IfOk result (λ answer. StepDoes world.old.limit world.old.capacity step.now answer world.old.wired world.new.wired) }
     ensures limit { world.new.limit ≡ world.old.limit }
@@ -106,7 +106,7 @@ fn make(world: &mut World, step: &Step) -> Result<Answer, AllocError>
     }
 }
 
-// Makes a step, and prints what came of it.
+// Processes a step and prints its result.
 fn advance<W: Write>(world: &mut World, step: &Step, output: &mut W) -> Result<(), ReplayFault>
     ensures does { OnOk result ((answer : Answer)
         × StepDoes world.old.limit world.old.capacity step.now answer world.old.wired world.new.wired
@@ -137,11 +137,11 @@ fn run<W: Write>(world: &mut World, schedule: &Schedule, output: &mut W) -> Resu
     Ok(())
 }
 
-/// Runs a schedule in a new world and prints what comes of each step, as soon as it was made, then four last lines: for each
-/// direction, and for at least once and exactly once (4.3), how many messages were accepted, handed on, and are held. Fails with
-/// `Io` where a write fails, and with `Memory` where memory runs out for the world: then what came of the steps before stands
-/// printed. Where memory runs out for an end, that is what came of the step (`closed C6`, `refused P5`), and the replay goes on.
-/// The writer is not flushed.
+/// Runs a schedule in a new world and prints the result of each step at once, then four lines: for
+/// each direction, and for QoS 1 and 2 (4.3), the number of messages that were accepted, delivered
+/// and are stored. Errors: `Io` if a write fails; `Memory` if an allocation for the world fails,
+/// after the results of the previous steps were printed. An end whose allocation fails closes,
+/// which is a result like any other.
 pub fn replay<W: Write>(
     alloc: Global,
     schedule: &Schedule,

@@ -12,7 +12,7 @@ use mq_world::{Account, Side, World};
 use std::io;
 use std::io::Write;
 
-// What a side accepted and handed on.
+// The messages that a side accepted and delivered.
 fn account(world: &World, side: Side) -> &Account
     ensures accepted { accepted_in result.now ≡ (near side world.now.wired).accepted }
     ensures handed { handed_in result.now ≡ (near side world.now.wired).handed }
@@ -24,7 +24,7 @@ fn account(world: &World, side: Side) -> &Account
     }
 }
 
-// How many messages the sender of a side holds, none where there is no session.
+// The number of messages that the sender of a side stores, 0 without a session.
 fn held(world: &World, side: Side, qos: Qos) -> usize
     ensures { result ≡ held_count qos side world.now.wired }
 {

@@ -8,7 +8,7 @@ use mq_packet::{Message, PacketId};
 use mq_schedule::BytesWord;
 use std::fmt;
 
-/// A packet identifier, or `-` where a message has none (2.3.1).
+/// A packet identifier, or `-` for a message without one (2.3.1).
 #[derive(Clone, Copy)]
 pub(crate) struct IdWord(pub(crate) Option<PacketId>);
 
@@ -23,7 +23,7 @@ impl fmt::Display for IdWord {
     }
 }
 
-/// A message that is handed on (4.3): its quality of service, its topic and its payload.
+/// A delivered message (4.3): its QoS, topic and payload.
 #[derive(Clone, Copy)]
 pub(crate) struct HandedText<'a>(pub(crate) &'a Message);
 

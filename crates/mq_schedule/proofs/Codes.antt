@@ -38,7 +38,7 @@ no_low high low none n h =
     let glyph : digit_glyph false (n % 16) ≡ low = cc same in
     none (n % 16) (omega (arith, h.0), glyph)
 
--- where two digits begin a list, they are its first two
+-- If a list begins with two digits, they are its first two items.
 pub pair_is : (left after : List ℕ) (b : ℕ) → b < 256 → left ≡ byte_digits b ++ after → byte_digits b ≡ get_or left 0 0 ∷ get_or left 1 0 ∷ []
 pair_is left after b lt e =
     let two : left ≡ digit_glyph false (b / 16) ∷ digit_glyph false (b % 16) ∷ after = e ∙ ap (λ (t : List ℕ). t ++ after) (two_digits b lt) in
@@ -76,7 +76,7 @@ pub record IsCode (f : ℕ → List ℕ) : Type 0 where
 glyph_same : (a b : ℕ) → a < 16 → b < 16 → digit_glyph false a ≡ digit_glyph false b → a ≡ b
 glyph_same a b x y e = grind (arith, nat_tests)
 
--- two digits show their byte, and where they end
+-- Two digits determine their byte and their end.
 digits_apart : (a b : ℕ) (r s : List ℕ) → a < 256 → b < 256 → byte_digits a ++ r ≡ byte_digits b ++ s → (a ≡ b) × (r ≡ s)
 digits_apart a b r s x y e =
     let same = rw (two_digits a x, two_digits b y) at e in
@@ -106,7 +106,7 @@ escaped_other b h = rw h refl
 plain_other : (b : ℕ) → is_plain b ≡ true → b ≢ 37
 plain_other b h e = grind (arith, nat_tests)
 
--- what begins with a byte that is not printed as it is
+-- The code of a byte that is escaped.
 pub escape : (first b : ℕ) (tail after : List ℕ) → is_plain first ≡ false → first ∷ tail ≡ escaped_byte b ++ after → (first ≡ 37) × (is_plain b ≡ false) × (tail ≡ byte_digits b ++ after)
 escape first b tail after other e = by_kind (is_plain b) refl
   where
@@ -126,7 +126,7 @@ no_escape first p b tail after other small is plain lt e =
     let same = digits_apart b p [] [] lt small (ap (λ (t : List ℕ). t ++ []) (pair_is tail after b lt parts.2 ∙ sym is)) in
     absurd (cc (ap is_plain same.0, parts.1, plain))
 
--- what is printed of a byte is not nothing
+-- The code of a byte is not empty.
 escaped_some : (a : ℕ) (r : List ℕ) → a < 256 → escaped_byte a ++ r ≢ []
 escaped_some a r x e = by_kind (is_plain a) refl
   where
@@ -134,7 +134,7 @@ escaped_some a r x e = by_kind (is_plain a) refl
     by_kind true h = let same = rw (escaped_plain a h) at e in absurd (cc same)
     by_kind false h = let same = rw (escaped_other a h) at e in absurd (cc same)
 
--- what is printed of a byte shows it, and where it ends
+-- The code of a byte determines the byte and its end.
 escaped_apart : (a b : ℕ) (r s : List ℕ) → a < 256 → b < 256 → escaped_byte a ++ r ≡ escaped_byte b ++ s → (a ≡ b) × (r ≡ s)
 escaped_apart a b r s x y e = by_kinds (is_plain a) (is_plain b) refl refl
   where
@@ -153,19 +153,19 @@ escaped_apart a b r s x y e = by_kinds (is_plain a) (is_plain b) refl refl
         let digits : byte_digits a ++ r ≡ byte_digits b ++ s = cc same in
         digits_apart a b r s x y digits
 
--- what is printed of a byte is a code
+-- The printed form of a byte is a code.
 pub escaped_code : IsCode escaped_byte
 escaped_code = record { some = escaped_some; apart = escaped_apart }
 
 -- ---- lists of codes
 
--- what is left are codes
+-- The rest consists of codes.
 pub record Rest (f : ℕ → List ℕ) (left : List ℕ) : Type 0 where
   pub bytes : List ℕ
   pub are : IsBytes bytes
   pub left_is : left ≡ flat_map f bytes
 
--- where all are codes, so is what is left behind some
+-- If everything consists of codes, so does the rest behind some of them.
 pub rest : (f : ℕ → List ℕ) → IsCode f → (done all left : List ℕ) → IsBytes done → IsBytes all → flat_map f done ++ left ≡ flat_map f all → Rest f left
 rest f code [] all left h k e = record { bytes = all; are = k; left_is = e }
 rest f code (a ∷ done) [] left h k e = absurd (code.some a (flat_map f done ++ left) (h 0) (sym (append_assoc (f a) (flat_map f done) left) ∙ e))
@@ -173,7 +173,7 @@ rest f code (a ∷ done) (b ∷ all) left h k e =
     let same = code.apart a b (flat_map f done ++ left) (flat_map f all) (h 0) (k 0) (sym (append_assoc (f a) (flat_map f done) left) ∙ e) in
     rest f code done all left (λ i. h (suc i)) (λ i. k (suc i)) same.1
 
--- no code begins what is left, which is not empty
+-- No code begins the rest, which is not empty.
 pub stuck : (f : ℕ → List ℕ) (left : List ℕ) → ((b : ℕ) (after : List ℕ) → b < 256 → left ≢ f b ++ after) → left ≢ [] → ¬ Rest f left
 stuck f left none some r = by_bytes r.bytes r.are r.left_is
   where

@@ -12,7 +12,7 @@ use Rattle.mq_schedule.specs.Parts.{parts_left}
 
 -- ---- words
 
--- nothing is left where there are no parts
+-- Without parts nothing is left.
 pub none_is_empty : (by : ℕ) (left : Option (Bor (List ℕ))) (b : Bool) → is_some left ≡ not b → IsTrue b ↔ (parts_left by left ≡ [])
 none_is_empty by None true e = (λ _. refl, λ _. refl)
 none_is_empty by None false e = absurd (cc e)

@@ -1,4 +1,4 @@
--- Lines that are put out as words, and read back.
+-- Lines that are written as words, and read back.
 use Rattle.std.proofs.Common.{◌≡◌, ℕ, suc, ◌+◌, ◌/◌, ◌%◌, ◌^◌, ◌≤◌, ◌<◌, Bool, true, false, ◌==◌, nat_lt, Option, Some, None, List, [], ◌∷◌, ◌++◌, length, map, take, get_or, flat_map, refl, sym, ap, subst, inl, ◌∙◌, append_assoc, arith, lit<}
 use Rattle.std.specs.Prelude.{⊤, decimal}
 use Rattle.std.specs.Fmt.{digit_glyph}
@@ -34,7 +34,7 @@ use Rattle.mq_schedule.proofs.Octets.{name_bytes}
 
 -- ---- texts that are parted by a byte
 
--- a byte does not stand in a text
+-- A byte does not occur in a text.
 abbrev Lacks : ℕ → List ℕ → Type 0
 Lacks c text = All (λ b. (b == c) ≡ false) text
 
@@ -42,7 +42,7 @@ abbrev AllLack : ℕ → List (List ℕ) → Type 0
 AllLack c [] = ⊤
 AllLack c (text ∷ texts) = Lacks c text × AllLack c texts
 
--- texts that are joined by a byte which stands in none of them are its parts
+-- Texts joined by a byte that occurs in none of them are its parts.
 parted : (c : ℕ) (text : List ℕ) (texts : List (List ℕ)) → AllLack c (text ∷ texts) → slice_split (λ b. b == c) (join_with_byte c (text ∷ texts)) ≡ text ∷ texts
 parted c text [] h = slice_split_none (λ b. b == c) text h.0
 parted c text (next ∷ texts) h =
@@ -74,7 +74,7 @@ all_lack_space (word ∷ words) h = (solid_lacks 32 word (omega arith) h.0, all_
 line_words : (word : List ℕ) (words : List (List ℕ)) → AllSolid (word ∷ words) → words_of (join_with_byte 32 (word ∷ words)) ≡ word ∷ words
 line_words word words h = parted 32 word words (all_lack_space (word ∷ words) h)
 
--- no line feed stands in it
+-- It contains no line feed.
 lacks_feed : (words : List (List ℕ)) → AllSolid words → Lacks 10 (join_with_byte 32 words)
 lacks_feed [] h = All-nil (λ b. (b == 10) ≡ false)
 lacks_feed (word ∷ []) h = solid_lacks 10 word (omega arith) h.0
@@ -82,7 +82,7 @@ lacks_feed (word ∷ next ∷ words) h =
     All-append (λ b. (b == 10) ≡ false) word (32 ∷ join_with_byte 32 (next ∷ words)) (solid_lacks 10 word (omega arith) h.0)
     (All-cons (λ b. (b == 10) ≡ false) 32 (join_with_byte 32 (next ∷ words)) refl (lacks_feed (next ∷ words) h.1))
 
--- and one stands at its end
+-- And it ends with one.
 line_end : (words : List (List ℕ)) → line_with words ≡ join_with_byte 32 words ++ 10 ∷ []
 line_end [] = refl
 line_end (word ∷ []) = refl
@@ -154,7 +154,7 @@ solid_bytes (b ∷ bytes) h = solid_codes byte_digits solid_digits (b ∷ bytes)
 
 -- ---- the words of steps
 
--- they stand for the step
+-- They are the words of the step.
 step_writes : (step : Step) → KeepsBounds step → Writes step (step_words step)
 step_writes (Event (events.Publish side m)) h = record {
   qos = decimal (qos_number m.qos);
@@ -254,7 +254,7 @@ line_more words steps k step old new below at before e =
     let more : take k steps ++ step ∷ [] ≡ take (k + 1) steps = ap (λ (s : Step). take k steps ++ s ∷ []) at ∙ sym (take_more steps k step below) in
     e ∙ ap (λ (t : List ℕ). t ++ step_line step) before ∙ flat_map_more step_line (line_with words) (take k steps) step ∙ ap (λ (ss : List Step). line_with words ++ flat_map step_line ss) more
 
--- what is put out is read as the schedule
+-- The output is read as the schedule.
 pub schedule_back : (s : Schedule) (text : List ℕ) → text ≡ schedule_text s → IsWorldLine s.limits.most (non_zero_u16_get s.capacity) (number_of s.window) (world_words s) → All KeepsBounds s.steps.items → IsSchedule (lines_of text) s
 schedule_back s text e world bounds =
     let first = join_with_byte 32 (world_words s) in

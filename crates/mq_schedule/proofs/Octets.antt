@@ -20,7 +20,7 @@ pub bytes_append : (a b : List ℕ) → IsBytes a → IsBytes b → IsBytes (a +
 bytes_append [] b h k = k
 bytes_append (x ∷ a) b h k = bytes_cons x (a ++ b) (h 0) (bytes_append a b (λ i. h (suc i)) k)
 
--- a character is spelled by bytes
+-- A character is encoded as bytes.
 char_bytes : (c : ℕ) → c < 1114112 → IsBytes (encode c)
 unfolding encode
 char_bytes c small = by_length (ltb c 128) (ltb c 2048) (ltb c 65536) refl refl refl

@@ -83,7 +83,7 @@ same_payload (x ∷ a) (y ∷ b) h k e = same_codes byte_digits digits_code (x �
 
 -- ---- steps
 
--- the third byte of the first word, 0 where it has none: each kind of step has its own
+-- The third byte of the first word, 0 if it has none: it differs for each kind of step.
 abbrev mark : List (List ℕ) → ℕ
 mark words = get_or (get_or words 0 []) 2 0
 
@@ -243,7 +243,7 @@ not_both : (lines : List (List ℕ)) (s : Schedule) (n : ℕ) → IsSchedule lin
 not_both lines s n h (inl bad) = no_world lines s h bad.1
 not_both lines s n h (inr bad) = no_bad_step lines s n h bad
 
--- what is written of a schedule
+-- The text form of a schedule.
 read_back : (s : Schedule) → InBounds s → IsSchedule (lines_of (schedule_text s)) s
 read_back s bounds = schedule_back s (schedule_text s) refl (world_is s bounds.least bounds.most bounds.some bounds.few bounds.window) bounds.steps
 

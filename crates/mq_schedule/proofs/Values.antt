@@ -21,17 +21,17 @@ pub some_word : (bytes : List ℕ) → IsBytes bytes → bytes_word bytes ≢ []
 some_word [] h e = absurd (cc e)
 some_word (b ∷ bytes) h e = digits_code.some b (hex_of bytes) (h 0) e
 
--- what is no `-` is digits
+-- A word that is not `-` is digits.
 pub no_dash : (word bytes : List ℕ) → false ≡ bytes_eq word (45 ∷ []) → word ≡ bytes_word bytes → word ≡ hex_of bytes
 no_dash word [] other e = let k = rw e at other in absurd (cc k)
 no_dash word (b ∷ bytes) other e = e
 
--- digits, where there are some
+-- Digits, if there are some.
 some_digits : (word bytes : List ℕ) → word ≢ [] → word ≡ hex_of bytes → word ≡ bytes_word bytes
 some_digits word [] some e = absurd (some e)
 some_digits word (b ∷ bytes) some e = e
 
--- the payload of digits, where they are not too many
+-- The payload in digits, if there are not too many.
 pub payload_found : (r : Option (List ℕ)) (word bytes : List ℕ) → false ≡ bytes_eq word (45 ∷ []) → word ≢ [] → IsBytes bytes → word ≡ hex_of bytes → IsSome r ↔ (length bytes < 2 ^ 28) → IfSome r (λ p. p ≡ bytes)
     → Finds (λ (payload : List ℕ). IsBytes payload × (length payload < 2 ^ 28) × (word ≡ bytes_word payload)) r
 payload_found None word bytes other some are e fits same = λ value h.
@@ -46,13 +46,13 @@ payload_found (Some p) word bytes other some are e fits same =
 pub name_is : (word text name : List ℕ) → IsBytes text → word ≡ escaped text → IsTopicName name × (word ≡ escaped name) → name ≡ text
 name_is word text name are e h = same_codes escaped_byte escaped_code name text (name_bytes name h.0) are (sym h.1 ∙ e)
 
--- a name has no fault but lack of memory
+-- A valid name has no fault except a failed allocation.
 pub name_memory : (text name : List ℕ) (fault : TopicFault) → name ≡ text → IsTopicName name → IfNone (name_fault text) (fault ≡ faults.Memory) → fault ≡ faults.Memory
 name_memory text name fault same h memory =
     let none : name_fault text ≡ None = ap name_fault (sym same) ∙ (laws.name name h.text.utf8).1 h in
     rw none at memory
 
--- no value is found where one would have been an error
+-- Without a value, nothing is found, or there is an error.
 pub no_value : {E : Type 0} (r : Result (Option (List ℕ)) E) (P : List ℕ → Type 0) → IfOk r (λ o. o ≡ None) → ((value : List ℕ) → P value → IsErr r) → IfOk r (Finds P)
 no_value (Ok o) P none fails = rw none (λ value h. absurd (cc (fails value h)))
 no_value (Err e) P none fails = tt

@@ -10,7 +10,7 @@ to_publishes : (retain : Bool) → codes "to" ≢ publish_word retain
 to_publishes false e = absurd (cc e)
 to_publishes true e = absurd (cc e)
 
--- what is no amount is none of a delivery
+-- A word that is not an amount is not the amount of a delivery.
 pub no_amount : (words : List (List ℕ)) (to count : List ℕ) → words ≡ to ∷ count ∷ [] → ((n : ℕ) → ¬ IsAmount n count) → (step : Step) → ¬ Writes step (codes "to" ∷ words)
 no_amount words to count e none (Event (events.Publish side m)) h = let same : codes "to" ≡ publish_word m.retain = cc (h.words_are) in to_publishes m.retain same
 no_amount words to count e none (Event (events.Deliver side n)) h = let same : h.0 ≡ count = cc (h.2, e) in none n (subst (IsAmount n) same h.1)

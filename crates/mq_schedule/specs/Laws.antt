@@ -1,4 +1,4 @@
--- What a text says as a schedule.
+-- The meaning of a text as a schedule.
 use Rattle.std.specs.Prelude.{◌≡◌, ⊤, ℕ, Option, Some, None, ◌^◌, ◌≤◌, ◌<◌, List}
 use Rattle.std.specs.List.{All}
 use Rattle.std.specs.Int.NonZero.{non_zero_u16_get}
@@ -19,7 +19,8 @@ abbrev pub KeepsWindow : Option ℕ → Type 0
 KeepsWindow None = ⊤
 KeepsWindow (Some n) = (1 ≤ n) × (n < 2 ^ 16)
 
--- the limit is one (2.2.3), identifiers may be in use (2.3.1), and the window and each step keep their bounds
+-- the limit is one (2.2.3), identifiers may be in use (2.3.1), and the window and each step keep
+-- their bounds
 pub record InBounds (s : Schedule) : Type 0 where
   pub least : 64 ≤ s.limits.most
   pub most : s.limits.most < 2 ^ 28
@@ -28,11 +29,11 @@ pub record InBounds (s : Schedule) : Type 0 where
   pub window : KeepsWindow (number_of s.window)
   pub steps : All KeepsBounds s.steps.items
 
--- what a reader of lines may rely on
+-- The laws of schedules.
 pub record ScheduleLaws : Type 0 where
   -- lines are at most one schedule
   pub one_schedule : (lines : List (List ℕ)) (s t : Schedule) → IsSchedule lines s → IsSchedule lines t → SameSchedule s t
   -- lines that are a schedule have no line that is of no kind
   pub not_both : (lines : List (List ℕ)) (s : Schedule) (n : ℕ) → IsSchedule lines s → ¬ IsBadLine lines n
-  -- what is written of a schedule is read as it, where each of its parts is in its bounds
+  -- The text form of a schedule is read back, if each of its parts is within its bounds.
   pub read_back : (s : Schedule) → InBounds s → IsSchedule (lines_of (schedule_text s)) s

@@ -1,4 +1,4 @@
--- Parts of a text, and what is found in them.
+-- Parts of a text, and the values in them.
 use Rattle.std.specs.Prelude.{◌≡◌, ⊤, ℕ, ◌+◌, ◌^◌, ◌≤◌, ◌<◌, Bool, ◌==◌, ◌&&◌, not, nat_le, List, ◌∷◌, ◌++◌, [], length, Option, Some, None, Vec}
 use Rattle.std.specs.List.{AllZip, slice_split}
 use Rattle.std.specs.Borrow.{Bor}
@@ -24,12 +24,12 @@ abbrev pub last_word : Option (Bor (List ℕ)) → List (List ℕ)
 last_word None = []
 last_word (Some word) = word.now ∷ []
 
--- a value of which this holds, or none where it holds of none
+-- A value with this property, or none if no value has it.
 abbrev pub Finds : {A : Type 0} → (A → Type 0) → Option A → Type 0
 Finds {A} P None = (value : A) → ¬ P value
 Finds P (Some value) = P value
 
--- bytes of which this holds, or none where it holds of none
+-- Bytes with this property, or none if no bytes have it.
 abbrev pub FindsBytes : {Z : Type 0} → (List ℕ → Type 0) → Option (Vec ℕ Z) → Type 0
 FindsBytes P None = (bytes : List ℕ) → ¬ P bytes
 FindsBytes P (Some bytes) = P bytes.items
@@ -50,7 +50,7 @@ pub record IsCapacity (n : ℕ) (word : List ℕ) : Type 0 where
   pub least : 1 ≤ n
   pub most : n ≤ 65535
 
--- what the parts of a step keep to (2.2.3, 4.7)
+-- The bounds of the parts of a step (2.2.3, 4.7).
 abbrev pub KeepsBounds : Step → Type 0
 KeepsBounds (Event (events.Publish side m)) = IsTopicName m.topic × IsBytes m.payload × (length m.payload < 2 ^ 28)
 KeepsBounds (Event (events.Deliver side n)) = n < 2 ^ 64
@@ -65,7 +65,7 @@ KeepsBounds Settle = ⊤
 abbrev pub AreSteps : List Step → List (List ℕ) → Type 0
 AreSteps steps lines = AllZip (λ step line. Writes step (words_of line)) steps lines
 
--- lines that are steps, and then one that is none, where the first of them has the number 2
+-- Lines that are steps, followed by one that is not. The first line has the number 2.
 pub record StopsAt (lines : List (List ℕ)) (n : ℕ) : Type 0 where
   pub steps : Vec Step Global
   pub front : List (List ℕ)

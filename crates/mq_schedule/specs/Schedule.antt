@@ -43,12 +43,12 @@ abbrev pub publish_word : Bool → List ℕ
 publish_word false = codes "pub"
 publish_word true = codes "pubr"
 
--- bytes as hexadecimal digits, or `-` where there are none
+-- Bytes as hexadecimal digits, or `-` for none.
 abbrev pub bytes_word : List ℕ → List ℕ
 bytes_word [] = codes "-"
 bytes_word (byte ∷ bytes) = hex_of (byte ∷ bytes)
 
--- a number of bytes, or all that there may be
+-- A number of bytes, or the maximum.
 abbrev pub IsAmount : ℕ → List ℕ → Type 0
 IsAmount n word = IsNumber n word ⊎ ((word ≡ codes "all") × (n ≡ 2 ^ 64 - 1))
 
@@ -80,13 +80,14 @@ Writes Settle words = words ≡ codes "settle" ∷ []
 abbrev pub number_of : Option NonZeroU16 → Option ℕ
 number_of n = option_map non_zero_u16_get n
 
--- a word for the receiving window (4.3.3), and no word where there is none
+-- A word for the receive window (4.3.3), and none without one.
 abbrev pub IsWindow : Option ℕ → List (List ℕ) → Type 0
 IsWindow None words = words ≡ []
 IsWindow (Some n) words = (word : List ℕ) × IsNumber n word × (1 ≤ n) × (n ≤ 65535) × (words ≡ word ∷ [])
 
--- the bound on the remaining length (2.2.3), how many packet identifiers may be in use at a side (2.3.1), and how many messages of
--- quality of service 2 a side has in its receiving window at most, if it has one
+-- the bound on the remaining length (2.2.3), how many packet identifiers may be in use at a side
+-- (2.3.1), and how many messages of quality of service 2 a side has in its receiving window at
+-- most, if it has one
 pub record IsWorldLine (limit capacity : ℕ) (window : Option ℕ) (words : List (List ℕ)) : Type 0 where
   pub most : List ℕ
   pub room : List ℕ

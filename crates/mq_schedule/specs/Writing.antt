@@ -1,4 +1,4 @@
--- Schedules as they are put out: of the ways to write each step one, and each line with its end.
+-- The text form of schedules: one way to write each step, and each line with its end.
 use Rattle.std.specs.Prelude.{ℕ, Option, Some, None, List, [], ◌∷◌, ◌++◌, codes, decimal}
 use Rattle.std.specs.List.{flat_map}
 use Rattle.std.specs.Int.NonZero.{non_zero_u16_get}
@@ -16,7 +16,7 @@ line_with [] = codes "\n"
 line_with (word ∷ []) = word ++ codes "\n"
 line_with (word ∷ next ∷ words) = word ++ (codes " " ++ line_with (next ∷ words))
 
--- a word for the receiving window where there is one
+-- A word for the receive window, if there is one.
 abbrev pub window_words : Option ℕ → List (List ℕ)
 window_words None = []
 window_words (Some n) = decimal n ∷ []

@@ -1,4 +1,4 @@
-//! What single words stand for.
+//! The values of single words.
 
 ghost use Rattle.std.specs.Prelude.{◌≡◌, ◌<◌, ◌^◌, ℕ, false, length, IfOk, IfSome, IsErr, MatchOption, Option};
 ghost use Rattle.std.specs.Int.NonZero.{non_zero_u16_get};
@@ -39,7 +39,7 @@ pub fn number(word: &str) -> Option<u64>
     word.parse().ok()
 }
 
-// A number of bytes; `all` stands for the greatest.
+// A number of bytes; `all` is the maximum.
 pub(crate) fn amount(word: &str) -> Option<usize>
     ensures { Finds (λ n. IsAmount n word.now) result }
 {
@@ -84,7 +84,7 @@ pub(crate) fn window(word: Option<&str>) -> Option<Option<NonZeroU16>>
     }
 }
 
-// What a fault of a text says: that it is no name, or that memory ran out.
+// An invalid name is no value; a failed allocation is an error.
 fn no_name(fault: TopicFault) -> Result<Option<TopicName>, AllocError>
     ensures none { IfOk result (λ name. name ≡ None) }
     ensures memory { fault ≡ TopicFault.Memory → IsErr result }

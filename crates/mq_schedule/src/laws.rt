@@ -2,8 +2,8 @@
 
 ghost use Rattle.mq_schedule.specs.Laws.{ScheduleLaws};
 
-/// A text is at most one schedule, and no schedule where a line is of no kind; what is written of a schedule within its bounds is read as
-/// it.
+/// A text is at most one schedule, and none if a line is invalid; the text form of a schedule
+/// within its bounds is read back.
 pub fn schedule_laws()
     ensures { ScheduleLaws }
 {}

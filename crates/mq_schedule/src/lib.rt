@@ -1,5 +1,5 @@
-//! Schedules of what happens between two ends, as texts: each is read from its lines, or the first line that is of no kind is
-//! named; and each is written.
+//! Schedules of events between two ends as texts. Reading names the first invalid line. A call that
+//! can fail for lack of memory says so in its return type; other calls never allocate.
 #![tactic(auto)]
 
 mod fields;

@@ -52,7 +52,7 @@ fn is_plain(byte: u8) -> bool
     byte.is_ascii_graphic() && byte != b'%'
 }
 
-// The first byte of a text, and what is printed after it.
+// The first byte of a text, and the rest of its printed form.
 fn first_byte(printed: &[u8]) -> Option<(u8, &[u8])>
     ensures some { IfSome result
         (λ p. (p.0 < 256) × (printed.now ≡ escaped_byte p.0 ++ p.1.now)) }

@@ -62,8 +62,9 @@ fn read_steps(alloc: Global, lines: &str) -> Result<Vec<Step>, ScheduleFault>
     Ok(steps)
 }
 
-/// Reads a schedule: a line for the world, and then a line for each step. A text is at most one schedule (`schedule_laws`).
-/// Fails with `Line` at the first line that is of no kind, and with `Memory` where memory runs out.
+/// Reads a schedule: a line for the world, followed by a line for each step. A text is at most one
+/// schedule (`schedule_laws`). Errors: `Line` with the number of the first invalid line, `Memory`
+/// if an allocation fails.
 pub fn read_schedule(alloc: Global, text: &str) -> Result<Schedule, ScheduleFault>
     ensures reads { IfOk result (IsSchedule (lines_of text.now)) }
     ensures line { (n : ℕ) → IsErrOf result (ScheduleFault.Line n)

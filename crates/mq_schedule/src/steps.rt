@@ -1,4 +1,4 @@
-//! What single lines stand for.
+//! The steps in single lines.
 
 ghost use Rattle.std.specs.Prelude.{◌≡◌, ◌∷◌, ℕ, false, IfOk, IfSome, MatchOption, Option, codes};
 ghost use Rattle.std.specs.Int.NonZero.{non_zero_u16_get};

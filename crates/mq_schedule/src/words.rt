@@ -5,7 +5,8 @@ ghost use Rattle.mq_schedule.specs.Parts.{last_word, parts, parts_left};
 
 use std::marker::Model;
 
-/// The part of a text before the first character of a kind, and the text after that, which a last part has not.
+/// The part of a text before the first character of a kind, and the text after that, which a last
+/// part has not.
 pub fn first_part(text: &str, by: char) -> (&str, Option<&str>)
     requires { by < 128 }
     ensures { parts by text.now ≡ result.0.now ∷ parts_left by result.1 }
@@ -58,7 +59,7 @@ impl<'a> Words<'a> {
         Some(word)
     }
 
-    // The word, where one is left.
+    // The last word, if exactly one is left.
     pub(crate) fn one(mut self) -> Option<&'a str>
         ensures some { IfSome result (λ word. self.entry ≡ word.now ∷ []) }
         ensures none { IfNone result (length self.entry ≢ 1) }
@@ -67,7 +68,7 @@ impl<'a> Words<'a> {
         self.is_empty().then_some(word)
     }
 
-    // The words, where two are left.
+    // The last words, if exactly two are left.
     pub(crate) fn two(mut self) -> Option<(&'a str, &'a str)>
         ensures some { IfSome result (λ two. self.entry ≡ two.0.now ∷ two.1.now ∷ []) }
         ensures none { IfNone result (length self.entry ≢ 2) }
@@ -76,7 +77,7 @@ impl<'a> Words<'a> {
         Some((first, self.one()?))
     }
 
-    // The words, where two are left, and a third that there may be.
+    // The last words, if two or three are left.
     pub(crate) fn two_or_three(mut self) -> Option<(&'a str, &'a str, Option<&'a str>)>
         ensures some { IfSome result (λ three. self.entry ≡ three.0.now ∷ three.1.now ∷ last_word three.2) }
         ensures none { IfNone result ((length self.entry ≢ 2) × (length self.entry ≢ 3)) }
@@ -89,7 +90,7 @@ impl<'a> Words<'a> {
         Some((first, second, Some(self.one()?)))
     }
 
-    /// The words, where four are left.
+    /// The last words, if exactly four are left.
     pub fn four(mut self) -> Option<(&'a str, &'a str, &'a str, &'a str)>
         ensures some { IfSome result (λ four.
             self.entry ≡ four.0.now ∷ four.1.now ∷ four.2.now ∷ four.3.now ∷ []) }

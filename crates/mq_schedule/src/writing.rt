@@ -32,7 +32,7 @@ impl fmt::Display for SideWord {
     }
 }
 
-/// Bytes: two hexadecimal digits each, or `-` where there are none.
+/// Bytes as two hexadecimal digits each, or `-` for none.
 #[derive(Clone, Copy)]
 pub struct BytesWord<'a>(pub &'a [u8]);
 
@@ -118,9 +118,8 @@ fn write_step(text: &mut String, step: &Step) -> Result<(), AllocError>
     }
 }
 
-/// Writes a schedule: the line for the world and a line for each step, each with its end. Numbers have no zeros in front, and
-/// a delivery always has one. Whoever reads the text has the schedule again, since a text is at most one (`schedule_laws`).
-/// Fails where memory runs out.
+/// Writes a schedule: a line for the world and a line for each step. Numbers have no leading zeros,
+/// and a delivery always has one. The text is read back as the same schedule (`schedule_laws`).
 pub fn write_schedule(alloc: Global, schedule: &Schedule) -> Result<String, AllocError>
     ensures text { IfOk result (λ text. string_bytes text ≡ schedule_text schedule.now) }
     ensures reads { IfOk result (λ text. IsSchedule (lines_of (string_bytes text)) schedule.now) }

@@ -3,7 +3,7 @@ use Rattle.hex.specs.Hex.{IsBytes}
 use Rattle.mq_line.specs.Lines.{hex_of}
 use Rattle.mq_schedule.proofs.printed.hex_bytes.Given as goal
 
--- the digits are those of the bytes so far, and what is left
+-- The digits are those of the bytes read, followed by the rest.
 abbrev pub invariant-pairs : goal.invariant-pairs
 invariant-pairs l = record {
   are : IsBytes l.bytes.items;

@@ -3,7 +3,7 @@ use Rattle.hex.specs.Hex.{IsBytes}
 use Rattle.mq_line.specs.Lines.{escaped}
 use Rattle.mq_schedule.proofs.printed.unescaped.Given as goal
 
--- what is printed is the text so far, and what is left
+-- The printed form is the text read, followed by the rest.
 abbrev pub invariant-bytes : goal.invariant-bytes
 invariant-bytes l = record {
   are : IsBytes l.text.items;

@@ -2,7 +2,7 @@ use Rattle.std.proofs.Common.{map}
 use Rattle.mq_schedule.specs.Parts.{AreSteps}
 use Rattle.mq_schedule.proofs.read.read_steps.Given as goal
 
--- the lines so far are the steps
+-- The lines read are the steps.
 abbrev pub invariant-loop-line : goal.invariant-loop-line
 invariant-loop-line l = record {
   can_next : (goal.iterator-loop-line).can_next l.line-iterator;

@@ -5,7 +5,7 @@ use Rattle.mq_schedule.specs.Parts.{KeepsBounds}
 use Rattle.mq_schedule.specs.Writing.{line_with, step_line, world_words}
 use Rattle.mq_schedule.proofs.writing.write_schedule.Given as goal
 
--- the lines so far
+-- The lines written.
 abbrev pub invariant-loop-step : goal.invariant-loop-step
 invariant-loop-step l = record {
   text : string_bytes l.text ≡ line_with (world_words l.schedule) ++ flat_map step_line (take l.step-index l.step-items);
