@@ -1,4 +1,4 @@
--- What was counted of an input so far.
+-- The packets counted in an input.
 use Rattle.std.proofs.Common.{◌≡◌, ℕ, zero, suc, ◌+◌, ◌<◌, ◌≤◌, ◌==◌, if◌then◌else◌, true, false, List, [], ◌∷◌, ◌++◌, length, Option, Some, None, refl, sym, ap, subst, ◌∙◌, arith}
 use Rattle.std.specs.Prelude.{IfSome}
 use Rattle.std.specs.Io.KnownBytes.{Appends, Consumes, IsAtEnd}
@@ -16,7 +16,7 @@ use Rattle.mq_cli.specs.Show.{Reads}
 use Rattle.mq_cli.specs.Status.{end_of_rest}
 use Rattle.mq_cli.proofs.InTurn.{Printed, end_of, fault_of, more_printed, more_read, none_printed}
 
--- so many bytes were read: those of so many packets, and these
+-- The bytes read are those of the counted packets, followed by these.
 pub record Counted (limits : Bounds) (left now : Option (List ℕ)) (bytes : List ℕ) (total number : ℕ) : Type 0 where
   pub read : Printed limits left now None None bytes total
   pub all : number ≡ length read.packets

@@ -1,4 +1,4 @@
--- What was printed of a reader so far.
+-- The packets printed from a reader.
 use Rattle.std.proofs.Common.{◌≡◌, ℕ, ◌+◌, ◌^◌, ◌≤◌, ◌<◌, Bool, true, false, ◌==◌, if◌then◌else◌, List, [], ◌∷◌, ◌++◌, length, drop, flat_map, Option, Some, None, Result, Ok, Err, refl, sym, ap, subst, ◌∙◌, append_assoc, inl, inr, arith}
 use Rattle.std.specs.Prelude.{IfOk, IfSome, OnOk}
 use Rattle.std.specs.Io.KnownBytes.{Appends, Consumes, IsAtEnd}
@@ -20,7 +20,7 @@ use Rattle.mq_cli.specs.Stops.{IsTooLong}
 use Rattle.mq_cli.specs.Status.{IsCutShort, IsStreamShown, end_of_rest, end_status, widest}
 use Rattle.mq_cli.proofs.Streams.{behind}
 
--- so many bytes were read: those of the packets that were printed, and these
+-- The bytes read are those of the printed packets, followed by these.
 pub record Printed (limits : Bounds) (left now old new : Option (List ℕ)) (bytes : List ℕ) (total : ℕ) : Type 0 where
   pub packets : List Packet
   pub front : List ℕ
@@ -79,7 +79,7 @@ more_printed limits left now old mid new bytes rest packets fault total p r k = 
   lines = subst (Appends old new) (sym (flat_map-append packet_line p.packets packets)) (Appends-trans old mid new (flat_map packet_line p.packets) (flat_map packet_line packets) p.lines k);
 }
 
--- ---- what the packets are of all bytes
+-- ---- The packets as part of all bytes
 
 first_of : (limits : Bounds) (left now old new : Option (List ℕ)) (bytes : List ℕ) (total : ℕ) (p : Printed limits left now old new bytes total) → IfSome left (λ all. AreFirst limits all p.packets)
 first_of limits None now old new bytes total p = tt
@@ -156,7 +156,7 @@ finished lenient limits left now old mid new fails before bytes packets total he
 
 -- ---- the front
 
--- so many bytes are those of the packets
+-- The size of the packets.
 pub rest_is : (limits : Bounds) (bytes rest : List ℕ) (packets : List Packet) (fault : Option DecodeFault) (n : ℕ) → Reading limits bytes packets rest fault → n + length rest ≡ length bytes
     → (n ≤ length bytes) × Reading limits bytes packets (drop n bytes) fault
 rest_is limits bytes rest packets fault n r e =

@@ -59,7 +59,7 @@ one_written start count g h word n event old mid new w lt drawn is line =
       lines = subst (Appends old new) one (Appends-trans old mid new (flat_map f w.made) (f event) w.lines line);
     }
 
--- no more events
+-- No further events.
 pub all_written : (start count : ℕ) (g : Lcg) (n : ℕ) (old new : Option (List ℕ)) → Written start count g n old new → count ≤ n → Appends old new (flat_map (λ event. step_line (Event event)) (made_up start count))
 unfolding made_from
 all_written start count g n old new w le =
@@ -84,7 +84,8 @@ topic_ascii (suc i) = omega arith
 topic_is_name : IsTopicName (116 ∷ [])
 topic_is_name = record { text = record { utf8 = is_utf8-from_IsUtf8 (116 ∷ []) (IsUtf8-from_ascii (116 ∷ []) topic_ascii); no_nul = refl; short = omega arith }; name = refl }
 
--- by the tests on the kind of an event, and the one on whether a loss is that of a client that leaves
+-- by the tests on the kind of an event, and the one on whether a loss is that of a client that
+-- leaves
 kind_kept : (publishes delivers loses opens leaves : Bool) (side : Side) (value n : ℕ)
     → KeepsBounds (Event (if publishes then events.Publish side (made_message (made_qos value) n) else (if delivers then events.Deliver side (value % 32) else (if loses then (if leaves then events.Leave else events.Drop side) else (if opens then events.Open else events.Tick side (value % 1000))))))
 kind_kept true delivers loses opens leaves side value n = (topic_is_name, payload_bytes n, omega arith)

@@ -27,7 +27,7 @@ command_met : {Z : Type 0} (o : Option (Box SubCommand Z)) (name : Text) (rows :
 command_met None name rows n r = cc
 command_met (Some b) name rows n r = cc
 
--- what there is of a word
+-- The value of an argument.
 pub word_given : {Z : Type 0} (o : Option (Box SubCommand Z)) (name word : Text) (f : Found) (v : Option (Bor Text)) → Met o name f → option_map (λ s. s.now) v ≡ first_value f word
     → HasWord (subcommand_rows o) name word (option_map (λ s. s.now) v)
 word_given o name word f v met read = (rows_of f, command_met o name (rows_of f) met.named met.rows, sym (first_value-rows f word) ∙ sym read)

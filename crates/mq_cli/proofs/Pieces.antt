@@ -1,4 +1,4 @@
--- What is read of bytes that come in one piece.
+-- Reading bytes that arrive in one piece.
 use Rattle.std.proofs.Common.{◌≡◌, ℕ, List, [], ◌∷◌, ◌++◌, length, Option, sym, ◌∙◌, ap, subst, arith}
 use Rattle.std.proofs.lemmas.List.{append-nil}
 use Rattle.mq_packet.specs.declared.packet.Packet.{Packet}

@@ -1,4 +1,4 @@
--- What was written behind what a writer holds.
+-- The output appended to that of a writer.
 use Rattle.std.proofs.Common.{◌≡◌, ℕ, Bool, List, ◌++◌, Option, Some, None, Result, Ok, Err, refl, sym, ap, subst, ◌∙◌, append_assoc, inl, inr}
 use Rattle.std.specs.Prelude.{IfOk, IfSome, IsUtf8, OnOk}
 use Rattle.std.specs.Io.KnownBytes.{Appends}
@@ -25,19 +25,19 @@ pub printed_one : {E : Type 0} (r : Result ℕ E) (n : ℕ) (old new : Option (L
 printed_one (Ok x) n old new text P h k p = (text, k, subst (λ (m : ℕ). P m text) (sym h) p)
 printed_one (Err e) n old new text P h k p = tt
 
--- what is shown is that of `show`
+-- The result is that of `show`.
 pub shown_done : {E : Type 0} (lenient : Bool) (limits : Bounds) (digits : List ℕ) (shown : Shown) (r : Result ℕ E) (old new : Option (List ℕ)) → limits ≡ widest lenient → Shows limits digits shown
     → IfOk r (λ status. status ≡ end_status shown.end) → OnOk r (Appends old new (shown_lines shown.packets.items shown.end)) → IfOk r (λ status. Prints old new (IsShowDone lenient digits status))
 shown_done lenient limits digits shown r old new is shows h k =
     let here : Shows (widest lenient) digits shown = subst (λ (l : Bounds). Shows l digits shown) is shows in
     printed_one r (end_status shown.end) old new (shown_lines shown.packets.items shown.end) (IsShowDone lenient digits) h k (inl (shown, here, refl, refl))
 
--- a text, and then what a function wrote
+-- A text, followed by the output of a function.
 pub printed_then : {E : Type 0} (r : Result ℕ E) (a b c : Option (List ℕ)) (x y : List ℕ) → Appends a b x → OnOk r (Appends b c y) → OnOk r (Appends a c (x ++ y))
 printed_then (Ok n) a b c x y h k = appends_then a b c x y h k
 printed_then (Err e) a b c x y h k = tt
 
--- what a replay prints, and then that memory ran out
+-- The output of a replay, followed by the line for a failed allocation.
 pub cut_off : {E : Type 0} (text : List ℕ) (schedule : Schedule) (r : Result ℕ E) (a b c : Option (List ℕ)) → IsSchedule (lines_of text) schedule → Prints a b (IsCutReplay schedule)
     → IfOk r (λ status. status ≡ 3) → OnOk r (Appends b c no_memory) → IfOk r (λ status. Prints a c (IsTextReplayed text status))
 cut_off text schedule (Ok n) a b c reads p status k = (p.0 ++ no_memory, appends_then a b c p.0 no_memory p.1 k, inr (inr (p.0, inr (schedule, reads, p.2), status, refl)))

@@ -5,7 +5,7 @@ use Rattle.mq_packet.specs.declared.packet.Packet.{Packet}
 use Rattle.mq_decode.specs.Limits.{Bounds}
 use Rattle.mq_decode.specs.Grammar.{ReadsWithin, Stream}
 
--- some packets, one more, and what is left
+-- Some packets, one more, and the rest.
 pub record Place (limit : Bounds) (ps : List Packet) (i : ℕ) (p : Packet) (b : List ℕ) : Type 0 where
   pub front : List ℕ
   pub one : List ℕ
@@ -62,7 +62,7 @@ longer limit (q ∷ ps) (suc i) p b lt e h =
       parts = h.4 ∙ (ap (λ (t : List ℕ). h.0 ++ t) r.parts ∙ sym (append_assoc h.0 r.front r.one));
     }
 
--- where so many bytes are the front, the rest is what follows
+-- If the front has this size, the rest is what follows it.
 pub behind : (bytes front rest : List ℕ) (size : ℕ) → bytes ≡ front ++ rest → length front ≡ size → drop size bytes ≡ rest
 behind bytes front rest size e n = ap (drop size) e ∙ drop_at front rest size n
 

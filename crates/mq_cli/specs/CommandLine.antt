@@ -1,4 +1,4 @@
--- What the words of a command line ask for.
+-- The meaning of a command line.
 use Rattle.std.specs.Prelude.{◌≡◌, ◌≢◌, ◌⊎◌, ◌≤◌, ℕ, Bool, true, false, List, [], length, map, Option, Some, None, option_map, unwrap_or, codes}
 use Rattle.std.specs.Str.Parse.{IsNumeral, digits_value, without_leading_plus}
 use Rattle.clap.specs.Words.{Row, Text, all_of, first_of, one_of}
@@ -14,7 +14,7 @@ use Rattle.mq_cli.specs.declared.jobs.Serve.{Serve}
 use Rattle.mq_cli.specs.declared.jobs.Publish.{Publish}
 use Rattle.mq_cli.specs.declared.jobs.Collect.{Collect}
 
--- the command of this name was met, and this is what it has for a word: its value, or nothing
+-- The command of this name was given, with this value for an argument, or none.
 abbrev pub HasWord : Option (Text × List Row) → Text → Text → Option Text → Type 0
 HasWord command name word value = (rows : List Row) × (command ≡ Some (name, rows)) × (first_of word rows ≡ value)
 
@@ -29,12 +29,12 @@ IsSource word Standard = word ≡ codes "-"
 abbrev pub GivesSource : Option (Text × List Row) → Text → Text → Source → Type 0
 GivesSource command name word source = (value : Text) × GivesWord command name word value × IsSource value source
 
--- the same, where the value is a number in decimal digits, which a `+` may stand before
+-- The same for a number in decimal digits, with an optional `+` in front.
 abbrev pub GivesNumber : Option (Text × List Row) → Text → Text → ℕ → Type 0
 GivesNumber command name word n =
     (rows : List Row) × (digits : Text) × (command ≡ Some (name, rows)) × (one_of word rows ≡ Some digits) × IsNumeral 10 (without_leading_plus digits) × (digits_value 10 (without_leading_plus digits) ≡ n)
 
--- what the value of a flag says: that it was given, or that it wasn't
+-- The value of a flag: whether it was given.
 pub record IsFlag (value : Option Text) (flag : Bool) : Type 0 where
   pub given : value ≡ Some (codes "true") → flag ≡ true
   pub default : value ≡ Some (codes "false") → flag ≡ false
@@ -44,7 +44,7 @@ pub record IsFlag (value : Option Text) (flag : Bool) : Type 0 where
 abbrev pub GivesFlag : Option (Text × List Row) → Text → Text → Bool → Type 0
 GivesFlag command name word flag = (rows : List Row) × (command ≡ Some (name, rows)) × IsFlag (one_of word rows) flag
 
--- digits stand where no `-` does
+-- Digits, if the argument is not `-`.
 abbrev pub IsDigits : Option (Text × List Row) → Text → Type 0
 IsDigits command hex = GivesWord command (codes "show") (codes "HEX") hex × (hex ≢ codes "-") × HasWord command (codes "show") (codes "FILE") None
 
@@ -116,7 +116,7 @@ IsCommandOf command (commands.Publish publish) = IsPublish command publish
 IsCommandOf command (commands.Collect collect) = IsCollect command collect
 IsCommandOf command (commands.Loopback source) = GivesSource command (codes "loopback") (codes "FILE") source
 
--- where the bytes come from that a job reads
+-- The source of the bytes that a job reads.
 abbrev pub job_source : Job → Option Source
 job_source (Show hex lenient) = None
 job_source (ShowFrom source lenient) = Some source

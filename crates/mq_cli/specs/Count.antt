@@ -1,4 +1,4 @@
--- What is counted of the packets of a reader.
+-- Counting the packets of a reader.
 use Rattle.std.specs.Prelude.{◌≡◌, ⊤, ℕ, ◌+◌, ◌<◌, ◌==◌, if◌then◌else◌, Bool, true, List, [], length, Option, Some, None}
 use Rattle.mq_packet.specs.declared.packet.Packet.{Packet}
 use Rattle.mq_decode.specs.Limits.{Bounds}
@@ -12,8 +12,8 @@ use Rattle.mq_cli.specs.declared.front.Stop.{Stop}
 use Rattle.mq_cli.specs.declared.front.Stop.TheVariants as stops
 use Rattle.mq_cli.specs.Stops.{IsTooLong}
 
--- the bytes are these packets and end so: with nothing, with less than a whole packet, or with what is no packet, which begins
--- where the packets end
+-- The bytes are these packets with this end: nothing, less than a packet, or a malformed packet
+-- that begins where the packets end.
 abbrev pub EndsAt : Bounds → List ℕ → List Packet → CountEnd → Type 0
 EndsAt limits bytes packets Whole = Reading limits bytes packets [] None
 EndsAt limits bytes packets Cut = (rest : List ℕ) × Reading limits bytes packets rest None × (0 < length rest)
@@ -23,7 +23,7 @@ EndsAt limits bytes packets (Fault fault start) = (rest : List ℕ) × Reading l
 abbrev pub Counts : Bounds → PacketCount → List ℕ → Type 0
 Counts limits count bytes = (packets : List Packet) × EndsAt limits bytes packets count.end × (count.packets ≡ length packets)
 
--- how packets end that have so many bytes behind them, with which nothing is wrong
+-- The end if this many bytes without a fault follow the packets.
 abbrev pub count_rest : ℕ → CountEnd
 count_rest held = if held == 0 then Whole else Cut
 

@@ -1,18 +1,18 @@
--- How the program ends without an answer.
+-- How the program ends without a result.
 use Rattle.std.specs.Prelude.{◌≡◌, ◌≢◌, ℕ}
 use Rattle.std.specs.declared.io.ErrorKind.{ErrorKind}
 use Rattle.std.specs.declared.io.ErrorKind.TheVariants.{OutOfMemory, BrokenPipe}
 use Rattle.mq_cli.specs.declared.failure.Failure.{Failure}
 use Rattle.mq_cli.specs.declared.failure.Failure.TheVariants.{Words, Memory, Output, Closed}
 
--- 2 for words that can't be read, 3 for lack of memory, 4 where the output failed or was closed
+-- 2 for invalid arguments, 3 for a failed allocation, 4 if the output failed or was closed.
 abbrev pub failure_status : Failure → ℕ
 failure_status Words = 2
 failure_status Memory = 3
 failure_status Output = 4
 failure_status Closed = 4
 
--- what an error of a write says, by its kind
+-- The failure for an error of a write, by its kind.
 pub record IsOutputFailure (kind : ErrorKind) (failure : Failure) : Type 0 where
   pub memory : kind ≡ OutOfMemory → failure ≡ Memory
   pub closed : kind ≡ BrokenPipe → failure ≡ Closed

@@ -54,7 +54,8 @@ port_rule = number_rule (codes "PORT") (codes "port") (Signed (pos 0) (pos 65535
 abbrev pub qos_rule : Rule
 qos_rule = number_rule (codes "QOS") (codes "qos") (Signed (pos 0) (pos 2))
 
--- `serve --port PORT --connections CONNECTIONS --workers WORKERS`: a number of 32 bits, and one from 1 to 64
+-- `serve --port PORT --connections CONNECTIONS --workers WORKERS`: a number of 32 bits, and one
+-- from 1 to 64
 abbrev pub serve_words : App
 serve_words = with_rule (with_rule (with_rule (new_app (codes "serve")) port_rule) (number_rule (codes "CONNECTIONS") (codes "connections") (Signed (pos 0) (pos 4294967295)))) (number_rule (codes "WORKERS") (codes "workers") (Signed (pos 1) (pos 64)))
 

@@ -1,4 +1,4 @@
--- What the program prints: lines, each with its end.
+-- The output of the program, line by line.
 use Rattle.std.specs.Prelude.{ℕ, Bool, true, false, List, [], ◌++◌, codes, decimal}
 use Rattle.std.specs.List.{flat_map}
 use Rattle.mq_packet.specs.declared.packet.Packet.{Packet}
@@ -22,7 +22,7 @@ bad_hex = codes "bad hex\n"
 abbrev pub file_not_read : List ℕ
 file_not_read = codes "file not read\n"
 
--- the fault's code, its place in its packet, and where that begins
+-- The code of the fault, its place in its packet, and the place of the packet.
 abbrev pub fault_line : DecodeFault → ℕ → List ℕ
 fault_line fault start = codes "fault " ++ (fault_code fault.kind ++ (codes " at " ++ (decimal fault.place ++ (codes " in packet at " ++ (decimal start ++ codes "\n")))))
 
@@ -56,7 +56,7 @@ count_lines count = packets_line count.packets ++ count_end_lines count.end
 
 -- ---- match
 
--- what the text should be, and the fault's code
+-- The kind of text that was expected, and the code of the fault.
 abbrev pub topic_line : List ℕ → TopicFault → List ℕ
 topic_line kind fault = kind ++ (codes " " ++ (topic_code fault ++ codes "\n"))
 

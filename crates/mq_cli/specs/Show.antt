@@ -1,4 +1,4 @@
--- What is shown of bytes.
+-- The result of `show`.
 use Rattle.std.specs.Prelude.{◌≡◌, ℕ, ◌+◌, ◌<◌, List, [], ◌++◌, length, Some, None, Ok}
 use Rattle.hex.specs.Hex.{decode_of}
 use Rattle.mq_packet.specs.declared.packet.Packet.{Packet}
@@ -8,8 +8,8 @@ use Rattle.mq_cli.specs.declared.stream.StreamEnd.{StreamEnd}
 use Rattle.mq_cli.specs.declared.stream.StreamEnd.TheVariants.{Whole, Held, Fault}
 use Rattle.mq_cli.specs.declared.stream.Shown.{Shown}
 
--- the bytes are these packets and end so: with nothing, with the bytes of a packet that is not whole, or with what is no packet,
--- which begins where the packets end
+-- The bytes are these packets with this end: nothing, an incomplete packet, or a malformed packet
+-- that begins where the packets end.
 abbrev pub Reads : Bounds → List ℕ → List Packet → StreamEnd → Type 0
 Reads limits bytes packets Whole = Reading limits bytes packets [] None
 Reads limits bytes packets (Held n) = (rest : List ℕ) × Reading limits bytes packets rest None × (n ≡ length rest) × (0 < n)
@@ -19,6 +19,6 @@ Reads limits bytes packets (Fault fault start) = (rest : List ℕ) × Reading li
 abbrev pub AreFirst : Bounds → List ℕ → List Packet → Type 0
 AreFirst limits bytes packets = (front : List ℕ) × (rest : List ℕ) × Stream limits packets front × (bytes ≡ front ++ rest)
 
--- the packets, and the end, of the bytes that the digits stand for
+-- The packets, and the end, of the bytes in hexadecimal digits.
 abbrev pub Shows : Bounds → List ℕ → Shown → Type 0
 Shows limits digits shown = (bytes : List ℕ) × (decode_of digits ≡ Ok bytes) × Reads limits bytes shown.packets.items shown.end

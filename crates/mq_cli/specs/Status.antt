@@ -1,4 +1,4 @@
--- What the statuses of the program mean, and what it prints with each.
+-- The exit status of each command, and its output.
 use Rattle.std.specs.Prelude.{◌≡◌, ◌⊎◌, ℕ, ◌==◌, if◌then◌else◌, Bool, true, false, List, [], ◌∷◌, ◌++◌, map, Option, Some, None, IfSome, IsUtf8, codes, decimal}
 use Rattle.std.specs.List.{flat_map}
 use Rattle.std.specs.Int.NonZero.{non_zero_u16_get}
@@ -27,13 +27,13 @@ use Rattle.mq_schedule.specs.Schedule.{IsBadLine, IsSchedule, lines_of}
 use Rattle.mq_schedule.specs.Writing.{line_with, schedule_text, step_line}
 use Rattle.mq_replay.specs.Replay.{IsCutReplay, IsReplay}
 
--- 0 where all bytes are packets
+-- 0 if all bytes are packets.
 abbrev pub end_status : StreamEnd → ℕ
 end_status Whole = 0
 end_status (Held n) = 1
 end_status (Fault fault start) = 1
 
--- 0 where all bytes of a file are packets
+-- 0 if all bytes of a file are packets.
 abbrev pub count_status : CountEnd → ℕ
 count_status ends.Whole = 0
 count_status ends.Cut = 1
@@ -43,74 +43,77 @@ count_status (ends.Fault fault start) = 1
 abbrev pub widest : Bool → Bounds
 widest lenient = record { most = 268435455; lenient = lenient }
 
--- the status and the lines of `show`: those of what is shown within the limit of the standard, 2 for what is no hexadecimal, or 3
--- for lack of memory
+-- The status and output of `show`: those of the result within the standard's limit, 2 for invalid
+-- hexadecimal digits, or 3 for a failed allocation.
 abbrev pub IsShowDone : Bool → List ℕ → ℕ → List ℕ → Type 0
 IsShowDone lenient digits status text =
     ((shown : Shown) × Shows (widest lenient) digits shown × (status ≡ end_status shown.end) × (text ≡ shown_lines shown.packets.items shown.end)) ⊎ ((status ≡ 2) × (text ≡ bad_hex) × (¬ IsHexadecimal digits)) ⊎ ((status ≡ 3) × (text ≡ no_memory))
 
--- how bytes end that have so many behind their packets
+-- The end if this many bytes follow the packets.
 abbrev pub end_of_rest : ℕ → StreamEnd
 end_of_rest held = if held == 0 then Whole else Held held
 
--- the status and the line where bytes can't be read on: 2 where a read may fail or there are too many, or 3 for lack of memory
+-- The status and line if reading can't continue: 2 if a read may fail or there are too many bytes,
+-- or 3 for a failed allocation.
 abbrev pub IsCutShort : Option (List ℕ) → Bool → ℕ → List ℕ → Type 0
 IsCutShort left fails status line = ((status ≡ 2) × (line ≡ file_not_read) × IsUnread left fails) ⊎ ((status ≡ 3) × (line ≡ no_memory))
 
--- the status and the lines of `show` for a file: those of its packets and its end, where its bytes are known; or, behind the lines of
--- its first packets, that it can't be read on
+-- The status and output of `show` for a file: those of its packets and its end, if its bytes are
+-- known; or the lines of its first packets, followed by the line that reading can't continue.
 abbrev pub IsStreamShown : Bool → Option (List ℕ) → Bool → ℕ → List ℕ → Type 0
 IsStreamShown lenient left fails status text =
     ((packets : List Packet) × (end : StreamEnd) × IfSome left (λ bytes. Reads (widest lenient) bytes packets end) × (status ≡ end_status end) × (text ≡ shown_lines packets end)) ⊎
     ((packets : List Packet) × (line : List ℕ) × IfSome left (λ bytes. AreFirst (widest lenient) bytes packets) × IsCutShort left fails status line × (text ≡ flat_map packet_line packets ++ line))
 
--- the status and the lines of `check`: those of what a file has, where its bytes are known, or 2 where a read may fail or the bytes are
--- too many, or 3 for lack of memory
+-- The status and output of `check`: those of the file's bytes, if they are known; 2 if a read may
+-- fail or there are too many bytes; or 3 for a failed allocation.
 abbrev pub IsCheckDone : Bool → Option (List ℕ) → Bool → ℕ → List ℕ → Type 0
 IsCheckDone lenient left fails status text =
     ((count : PacketCount) × IfSome left (Counts (widest lenient) count) × (status ≡ count_status count.end) × (text ≡ count_lines count)) ⊎ IsCutShort left fails status text
 
--- 0 where the filter matches
+-- 0 if the filter matches.
 abbrev pub match_status : Bool → ℕ
 match_status true = 0
 match_status false = 1
 
--- the status and the line of `match`: those of the filter's fault, or else of the name's, or else of whether the one matches the other
+-- the status and the line of `match`: those of the filter's fault, or else of the name's, or else
+-- of whether the one matches the other
 abbrev pub match_outcome : Option TopicFault → Option TopicFault → Bool → ℕ × List ℕ
 match_outcome (Some fault) name matches = (2, topic_line (codes "filter") fault)
 match_outcome None (Some fault) matches = (2, topic_line (codes "name") fault)
 match_outcome None None matches = (match_status matches, match_line matches)
 
--- those, or 3 for lack of memory
+-- The same, or 3 for a failed allocation.
 abbrev pub IsMatchDone : List ℕ → List ℕ → ℕ → List ℕ → Type 0
 IsMatchDone filter name status text =
     ((status, text) ≡ match_outcome (filter_fault filter) (name_fault name) (is_match filter name)) ⊎ ((status ≡ 3) × (text ≡ no_memory))
 
--- what was printed before memory ran out: nothing, or the first steps of the schedule
+-- The output before an allocation failed: nothing, or the results of the first steps.
 abbrev pub IsCutOff : List ℕ → List ℕ → Type 0
 IsCutOff text printed = (printed ≡ []) ⊎ ((schedule : Schedule) × IsSchedule (lines_of text) schedule × IsCutReplay schedule printed)
 
--- the status and the lines of a schedule's replay: what its steps come to, or 2 and its first line that is of no kind, or 3 for want
--- of memory
+-- The status and output of a replay: those of its steps; 2 with its first invalid line; or 3 for a
+-- failed allocation.
 abbrev pub IsTextReplayed : List ℕ → ℕ → List ℕ → Type 0
 IsTextReplayed text status printed =
     ((schedule : Schedule) × IsSchedule (lines_of text) schedule × IsReplay schedule printed × (status ≡ 0)) ⊎ ((line : ℕ) × IsBadLine (lines_of text) line × (status ≡ 2) × (printed ≡ bad_line line)) ⊎ ((front : List ℕ) × IsCutOff text front × (status ≡ 3) × (printed ≡ front ++ no_memory))
 
--- the status and the lines of `replay`: those of a file's schedule, where its bytes are known, or 2 where a read may fail or the bytes
--- are no UTF-8, or 3 for lack of memory
+-- The status and output of `replay`: those of the file's schedule, if its bytes are known; 2 if a
+-- read may fail or the bytes are not UTF-8; or 3 for a failed allocation.
 abbrev pub IsReplayDone : Option (List ℕ) → Bool → ℕ → List ℕ → Type 0
 IsReplayDone left fails status printed =
     ((text : List ℕ) × IfSome left (λ bytes. bytes ≡ text) × IsTextReplayed text status printed) ⊎ ((status ≡ 2) × (printed ≡ file_not_read) × ((fails ≡ true) ⊎ IfSome left (λ bytes. ¬ IsUtf8 bytes))) ⊎ ((status ≡ 3) × (printed ≡ no_memory))
 
--- so many events that are made up from a start, and then all settles: the remaining length of packets is 65,536 at most (2.2.3),
--- 4 packet identifiers may be in use at a side (2.3.1), and no side has a receiving window
+-- Generated events, followed by `settle`: packets have a remaining length of at most 65,536
+-- (2.2.3), each side uses at most 4 packet identifiers (2.3.1), and no side has a receive window.
 pub record IsMadeUp (start count : ℕ) (schedule : Schedule) : Type 0 where
   pub limit : schedule.limits ≡ strict 65536
   pub capacity : non_zero_u16_get schedule.capacity ≡ 4
   pub window : schedule.window ≡ None
   pub all : schedule.steps.items ≡ map (λ event. Event event) (made_up start count) ++ Settle ∷ []
 
--- the lines of such a schedule: the one for the world, one for each event, and `settle`; they are read as it
+-- the lines of such a schedule: the one for the world, one for each event, and `settle`; they are
+-- read as it
 pub record IsRandomText (start count : ℕ) (text : List ℕ) : Type 0 where
   pub lines : text ≡ line_with (codes "world" ∷ decimal 65536 ∷ decimal 4 ∷ []) ++ flat_map step_line (map (λ event. Event event) (made_up start count) ++ Settle ∷ [])
   pub written : (schedule : Schedule) → IsMadeUp start count schedule → text ≡ schedule_text schedule
@@ -120,7 +123,8 @@ pub record IsRandomText (start count : ℕ) (text : List ℕ) : Type 0 where
 abbrev pub IsRandomDone : ℕ → ℕ → ℕ → List ℕ → Type 0
 IsRandomDone start count status text = (status ≡ 0) × IsRandomText start count text
 
--- the status that a job ends with and the lines that it prints, over a file with these bytes, of which a read may fail or not
+-- the status that a job ends with and the lines that it prints, over a file with these bytes, of
+-- which a read may fail or not
 abbrev pub IsDone : Job → Option (List ℕ) → Bool → ℕ → List ℕ → Type 0
 IsDone (jobs.Show hex lenient) left fails status text = IsShowDone lenient hex.now status text
 IsDone (jobs.ShowFrom source lenient) left fails status text = IsStreamShown lenient left fails status text

@@ -3,12 +3,12 @@ use Rattle.std.specs.Prelude.{◌≡◌, ◌⊎◌, ◌≤◌, ◌^◌, ⊤, ℕ
 use Rattle.mq_cli.specs.declared.front.Stop.{Stop}
 use Rattle.mq_cli.specs.declared.front.Stop.TheVariants.{Io, Memory}
 
--- a fact where memory ran out
+-- A fact that holds if an allocation failed.
 abbrev pub OnMemory : Stop → Type 0 → Type 0
 OnMemory (Io error) P = ⊤
 OnMemory Memory P = P
 
--- a fact where a read failed
+-- A fact that holds if a read failed.
 abbrev pub OnIo : Stop → Type 0 → Type 0
 OnIo (Io error) P = P
 OnIo Memory P = ⊤

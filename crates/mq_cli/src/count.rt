@@ -11,27 +11,27 @@ use std::alloc::{AllocError, Global};
 use std::io;
 use thiserror::Error;
 
-/// How many packets an input gave, and what comes after them.
+/// The number of packets of an input, and its end.
 #[derive(Clone, Copy, Debug, PartialEq, Eq)]
 pub struct PacketCount {
     /// The number of packets.
     pub packets: u64,
-    /// What comes after them.
+    /// The end of the input.
     pub end: CountEnd,
 }
 
-/// What comes after the last packet of an input.
+/// The end of an input, behind its last packet.
 #[derive(Clone, Copy, Debug, PartialEq, Eq)]
 pub enum CountEnd {
     /// Nothing.
     Whole,
     /// A packet that is not whole.
     Cut,
-    /// What is no packet.
+    /// A malformed packet.
     Fault {
-        /// What is wrong with it.
+        /// The fault.
         fault: DecodeFault,
-        /// Where it begins, counted from the first byte of all.
+        /// The place of the packet, counted from the first byte.
         start: u64,
     },
 }
@@ -75,7 +75,7 @@ impl From<Stop> for CountFault {
     }
 }
 
-// How packets end that have so many bytes behind them, with which nothing is wrong.
+// The end if this many bytes without a fault follow the packets.
 fn end_of_rest(held: usize) -> CountEnd
     ensures { result ≡ count_rest held }
 {
@@ -86,8 +86,8 @@ fn end_of_rest(held: usize) -> CountEnd
     }
 }
 
-/// Counts packets up to the input's end or the first that is not whole or no packet. It holds the bytes of one packet at a time, and
-/// those that were read with its last ones.
+/// Counts packets up to the end of the input, or the first incomplete or malformed packet. Holds
+/// the bytes of one packet at a time, and those read together with its last ones.
 pub fn count_packets<R: JobInput>(
     alloc: Global,
     input: &mut R,

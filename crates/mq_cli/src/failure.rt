@@ -1,4 +1,4 @@
-//! Why the program ends without an answer.
+//! Why the program ends without a result.
 
 ghost use Rattle.std.specs.Prelude.{◌≡◌, ◌≢◌};
 ghost use Rattle.std.specs.IoError.{error_kind};
@@ -9,7 +9,7 @@ use std::io;
 use std::io::ErrorKind;
 use thiserror::Error;
 
-/// Why the program ends without an answer.
+/// Why the program ends without a result.
 #[derive(Clone, Copy, Debug, PartialEq, Eq, Error)]
 pub enum Failure {
     /// A word of the command line is not UTF-8.
@@ -18,10 +18,10 @@ pub enum Failure {
     /// Memory ran out.
     #[error("out of memory")]
     Memory,
-    /// What the job prints could not be written.
+    /// A write of the output failed.
     #[error("output failed")]
     Output,
-    /// Whoever reads the output reads no more of it.
+    /// The reader of the output closed it.
     #[error("output closed")]
     Closed,
 }

@@ -52,7 +52,7 @@ impl From<AllocError> for Stop {
     }
 }
 
-// One read, again where a signal interrupts it.
+// Reads once; retries interrupted reads.
 fn read_some<R: JobInput>(reader: &mut R, room: &mut [u8]) -> io::Result<usize>
     ensures count { IfOk result (λ n. n ≤ length room.new) }
     ensures bytes { ReadConsumes (R.remaining reader.old) (R.remaining reader.new) result room.new }
@@ -97,7 +97,8 @@ pub(crate) fn read_whole<R: JobInput>(alloc: Global, input: &mut R) -> Result<By
     Err(Stop::Memory)
 }
 
-// Whether it is worth while to read packets off the front: the first one is whole, or its header isn't or is wrong.
+// Whether it is worth while to read packets off the front: the first one is whole, or its header
+// isn't or is wrong.
 pub(crate) fn is_due(limits: Limits, bytes: &[u8]) -> bool {
     match packet_len(limits, bytes) {
         Some(size) => size <= bytes.len(),
@@ -105,7 +106,7 @@ pub(crate) fn is_due(limits: Limits, bytes: &[u8]) -> bool {
     }
 }
 
-// How many bytes the packets before an end take of so many, and what is wrong with those after them.
+// The number of bytes before the end that belong to packets, and the fault of those behind them.
 fn front_of(end: StreamEnd, len: usize) -> (usize, Option<DecodeFault>)
     ensures { (limits : Bounds) (bytes : List ℕ) (packets : List Packet) → length bytes ≡ len
         → Reads limits bytes packets end
@@ -118,8 +119,8 @@ fn front_of(end: StreamEnd, len: usize) -> (usize, Option<DecodeFault>)
     }
 }
 
-// Takes the packets that stand whole at the front of the bytes off, and answers what is wrong with the bytes that are left,
-// `None` where they are less than a whole packet.
+// Removes the complete packets at the front of the bytes. Returns the fault of the rest, or `None`
+// if it is less than a packet.
 pub(crate) fn take_front(
     alloc: Global,
     limits: Limits,

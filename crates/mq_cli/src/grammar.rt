@@ -1,4 +1,4 @@
-//! The command line as its parser takes it: each command with its words, and what the help says.
+//! The definition of the command line: the commands with their arguments, and the help texts.
 
 ghost use Rattle.std.specs.Prelude.{◌≡◌, false, codes, IfOk};
 ghost use Rattle.clap.specs.Words.{App, app_of, new_app, rule_of, with_rule, with_subcommand};
@@ -9,7 +9,7 @@ use clap::builder::ValueParser;
 use clap::{Arg, ArgAction, Command, value_parser};
 use std::alloc::{AllocError, Global};
 
-/// What the statuses mean, for the help.
+/// The exit statuses, for the help.
 const STATUSES: &str = "Status:
   0  done, and nothing is wrong
   1  a fault, less than a whole packet, a no, or a connection that failed
@@ -17,7 +17,7 @@ const STATUSES: &str = "Status:
   3  out of memory
   4  the output failed, or was closed";
 
-// What the help says of a command.
+// The help texts of a command.
 #[derive(Clone, Copy)]
 struct Texts<'a> {
     name: &'a str,
@@ -61,7 +61,7 @@ fn with_arg<'a>(command: Command<'a>, arg: Arg<'a>) -> Result<Command<'a>, Alloc
     command.arg(arg)
 }
 
-// A command line with one command more, where there was memory for it. So what is owned while a command is made is let go of here alone.
+// Adds a command. It alone drops the values that a command owns.
 fn with_command<'a>(
     line: Command<'a>,
     command: Result<Command<'a>, AllocError>,
@@ -255,7 +255,8 @@ fn serve_command<'a>(alloc: Global) -> Result<Command<'a>, AllocError>
     )
 }
 
-// A command of a client, with the options that name the broker, the client, its topics, by this word, and a quality of service.
+// A command of a client, with the options that name the broker, the client, its topics, by this
+// word, and a quality of service.
 fn client_command<'a>(
     alloc: Global,
     texts: Texts<'a>,

@@ -1,4 +1,4 @@
-//! What jobs read.
+//! The input of jobs.
 
 ghost use Rattle.std.specs.Prelude.{◌≡◌, ℕ, List, Option, Bool, true, false, Some, [], OnErr};
 ghost use Rattle.std.specs.Io.{ReadsAtMost};
@@ -7,15 +7,16 @@ ghost use Rattle.std.specs.Io.KnownBytes.{ReadConsumes};
 use std::io;
 use std::io::{Empty, Read};
 
-/// The bytes that a job reads. Contracts know of it whether a read of them may fail, which they don't know of a reader.
+/// The bytes that a job reads. Contracts know of it whether a read of them may fail, which they
+/// don't know of a reader.
 pub trait JobInput {
-    // The bytes that reads will give from here on, where they are known.
+    // The bytes that further reads return, if they are known.
     ghost remaining: { Self → Option (List ℕ) };
 
     // Whether a read may fail.
     ghost may_fail: { Self → Bool };
 
-    /// Reads some of the next bytes, none only at their end or where there is no room.
+    /// Reads some of the next bytes; none only at the end or without room.
     fn read_into(&mut self, room: &mut [u8]) -> io::Result<usize>
         ensures bound { ReadsAtMost result room.new }
         ensures bytes { ReadConsumes (remaining self.old) (remaining self.new) result room.new }

@@ -1,11 +1,11 @@
-//! What the program can do.
+//! The commands of the program.
 
 ghost use Rattle.std.specs.Prelude.{◌≡◌};
 ghost use Rattle.mq_cli.specs.CommandLine.{job_source};
 
 use mq_topic::Qos;
 
-/// Where the bytes of a job come from.
+/// The source of a job's bytes.
 #[derive(Clone, Copy, Debug, PartialEq, Eq)]
 pub enum Source<'a> {
     /// The file of this name.
@@ -14,7 +14,7 @@ pub enum Source<'a> {
     Standard,
 }
 
-/// What the words of a command line ask for.
+/// A parsed command line.
 #[derive(Debug, Drop, PartialEq, Eq)]
 pub enum Command<'a> {
     /// A job, which reads bytes and prints.
@@ -23,7 +23,7 @@ pub enum Command<'a> {
     Serve(Serve),
     /// To publish texts as a client.
     Publish(Publish<'a>),
-    /// To print the messages that come to a client.
+    /// Prints the messages that a client receives.
     Collect(Collect<'a>),
     /// To run the broker and the clients of a loopback file.
     Loopback(Source<'a>),
@@ -47,7 +47,7 @@ pub struct Publish<'a> {
     pub port: u16,
     /// The client identifier, of 65,535 bytes at most.
     pub id: &'a str,
-    /// What is given for the topic name, and may be none.
+    /// The topic name as given, which may be invalid.
     pub topic: &'a str,
     /// The quality of service of the messages.
     pub qos: Qos,
@@ -55,7 +55,7 @@ pub struct Publish<'a> {
     pub retain: bool,
     /// The file that keeps the session from one run to the next.
     pub session: Option<&'a str>,
-    /// The payloads, one message each; none only where there is a file for the session.
+    /// The payloads, one message each. Empty only with a session file.
     pub texts: Vec<&'a str>,
 }
 
@@ -66,7 +66,7 @@ pub struct Collect<'a> {
     pub port: u16,
     /// The client identifier, of 65,535 bytes at most.
     pub id: &'a str,
-    /// What is given for the topic filter, and may be none.
+    /// The topic filter as given, which may be invalid.
     pub filter: &'a str,
     /// The greatest quality of service that it asks for.
     pub qos: Qos,
@@ -76,7 +76,7 @@ pub struct Collect<'a> {
     pub clean: bool,
 }
 
-/// What the program is asked to print.
+/// A command that only reads input and prints.
 #[derive(Clone, Copy, Debug, PartialEq, Eq)]
 pub enum Job<'a> {
     /// To print the packets of bytes.
@@ -114,7 +114,7 @@ pub enum Job<'a> {
     },
     /// To print a schedule that is made up.
     Random {
-        /// What it is made up from: the same start, the same schedule.
+        /// The start value of the generator: the same value gives the same schedule.
         start: u64,
         /// How many events it has.
         steps: u32,
@@ -122,7 +122,7 @@ pub enum Job<'a> {
 }
 
 impl<'a> Job<'a> {
-    /// Where the bytes come from that the job reads, `None` for a job that reads none.
+    /// The source of the job's bytes, or `None` if it reads none.
     pub fn source(&self) -> Option<Source<'a>>
         ensures { result ≡ job_source self.now }
     {

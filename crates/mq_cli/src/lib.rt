@@ -1,5 +1,5 @@
-//! The program `mqtt` as calls: the words of its command line are read, and its jobs are done over any
-//! input and writer.
+//! The program `mqtt` as calls: the words of its command line are read, and its jobs are done over
+//! any input and writer.
 #![tactic(auto)]
 
 mod count;

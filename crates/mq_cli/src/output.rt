@@ -29,7 +29,7 @@ use std::rt::Files;
 
 /// Nothing is wrong.
 pub(crate) const DONE: u8 = 0;
-/// A fault was found, or less than a whole packet, or the answer is no.
+/// A fault, less than a packet, or the result `no`.
 const FAULT: u8 = 1;
 /// The digits or the file can't be read, or a text is no filter or no name.
 pub(crate) const BAD_INPUT: u8 = 2;
@@ -57,7 +57,7 @@ fn bad_hex<W: Write>(output: &mut W) -> io::Result<u8>
     Ok(BAD_INPUT)
 }
 
-// Writes what is wrong with a packet, and where in all bytes it begins.
+// Writes the fault of a packet and the place of the packet.
 pub(crate) fn write_fault<W: Write>(
     output: &mut W,
     fault: DecodeFault,
@@ -164,7 +164,7 @@ fn write_count<W: Write>(output: &mut W, count: PacketCount) -> io::Result<u8>
     write_count_end(output, count.end)
 }
 
-/// Writes that a file can't be read, and answers the status for that.
+/// Writes that a file can't be read, and returns the status for that.
 pub(crate) fn file_not_read<W: Write>(output: &mut W) -> io::Result<u8>
     ensures status { IfOk result (λ status. status ≡ BAD_INPUT) }
     ensures printed { OnOk result
@@ -234,9 +234,9 @@ fn match_texts<W: Write>(alloc: Global, filter: &str, name: &str, output: &mut W
     write_match(output, &filter, &name)
 }
 
-/// Does a job: writes what it prints, line by line, and answers the status that the program ends with.
-/// `input` has the bytes of the job's source, where it has one. An error is that of a write that failed. The writer
-/// is not flushed.
+/// Runs a job: writes its output line by line and returns the exit status. `input` must have the
+/// bytes of the job's source, if it has one. Returns the error of a write that failed. Does not
+/// flush the writer.
 pub fn perform<R: JobInput, W: Write>(
     alloc: Global,
     job: &Job<'_>,
@@ -256,8 +256,9 @@ pub fn perform<R: JobInput, W: Write>(
     }
 }
 
-/// Does a job over its file, which has this name and is opened here. A file that can't be opened is one that can't be read. An error is that
-/// of a write that failed, or says that there is no memory for a buffer.
+/// Does a job over its file, which has this name and is opened here. A file that can't be opened is
+/// one that can't be read. An error is that of a write that failed, or says that there is no memory
+/// for a buffer.
 pub fn perform_file<F: Files, W: Write>(
     files: &F,
     alloc: Global,

@@ -19,12 +19,12 @@ use rand_pcg::Pcg32;
 use std::io;
 use std::io::Write;
 
-/// An event that is made up, but for the message of a publication, which goes by its number.
+/// A generated event. The number of the step determines the message of a publication.
 #[derive(Clone, Copy)]
 pub(crate) enum Made {
     /// A message is published.
     Publish(Side, Qos),
-    /// Bytes come to a side.
+    /// Bytes arrive at a side.
     Deliver(Side, u32),
     /// The connection of a side is lost.
     Drop(Side),
@@ -121,7 +121,7 @@ fn write_world<W: Write>(output: &mut W, most: u32, room: u16) -> io::Result<()>
     writeln!(output, "world {most} {room}")
 }
 
-/// Writes a schedule that is made up, line by line. It takes no memory.
+/// Writes a generated schedule, line by line.
 pub(crate) fn write_random<W: Write>(start: u64, count: u32, output: &mut W) -> io::Result<u8>
     ensures { IfOk result (λ status. Prints (W.contents output.old) (W.contents output.new)
         (IsRandomDone start count status)) }

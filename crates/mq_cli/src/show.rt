@@ -47,8 +47,7 @@ fn is_hexadecimal(text: &str) -> bool
             .all(|digit| digit.is_ascii_hexdigit())
 }
 
-// The bytes that digits stand for. The digits are tested before memory is asked for, so that bad
-// ones are always named.
+// Decodes hexadecimal digits. Tests them before it allocates, so invalid ones are always reported.
 fn bytes_of(alloc: Global, text: &str) -> Result<Vec<u8>, ShowFault>
     ensures bytes { IfOk result (λ bytes. decode_of text.now ≡ Ok bytes.items) }
     ensures bad_hex { IsErrOf result ShowFault.BadHex ↔ ¬ IsHexadecimal text.now }
@@ -92,7 +91,7 @@ pub(crate) fn read_all(alloc: Global, limits: Limits, bytes: &[u8]) -> Result<Sh
     Ok(Shown { packets, end })
 }
 
-/// The packets of the bytes that hexadecimal digits stand for, two a byte, and how the bytes end.
+/// Decodes the packets in hexadecimal digits, two for each byte, and reports how the bytes end.
 pub fn shown(alloc: Global, text: &str, limits: Limits) -> Result<Shown, ShowFault>
     ensures shows { IfOk result (Shows limits text.now) }
     ensures bad_hex { IsErrOf result ShowFault.BadHex ↔ ¬ IsHexadecimal text.now }

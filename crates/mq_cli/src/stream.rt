@@ -1,4 +1,4 @@
-//! What bytes are, read as a stream of packets.
+//! Bytes, decoded as a stream of packets.
 
 use mq_decode::DecodeFault;
 use mq_packet::Packet;
@@ -8,22 +8,22 @@ use mq_packet::Packet;
 pub struct Shown {
     /// The packets, in order.
     pub packets: Vec<Packet>,
-    /// What comes after them.
+    /// The end of the bytes.
     pub end: StreamEnd,
 }
 
-/// What comes after the last packet of some bytes.
+/// The end of some bytes, behind their last packet.
 #[derive(Clone, Copy, Debug, PartialEq, Eq)]
 pub enum StreamEnd {
     /// Nothing.
     Whole,
-    /// A packet that is not whole, of so many bytes.
+    /// An incomplete packet with this many bytes.
     Held(usize),
-    /// What is no packet.
+    /// A malformed packet.
     Fault {
-        /// What is wrong with it.
+        /// The fault.
         fault: DecodeFault,
-        /// Where it begins, counted from the first byte of all.
+        /// The place of the packet, counted from the first byte.
         start: usize,
     },
 }

@@ -20,8 +20,8 @@ use std::alloc::Global;
 use std::io;
 use std::io::Write;
 
-// Prints the packets that stand whole at the front of the bytes, and takes them off. Answers what is wrong with the bytes that are left,
-// `None` where they are less than a whole packet.
+// Prints the complete packets at the front of the bytes and removes them. Returns the fault of the
+// rest, or `None` if it is less than a packet.
 fn print_front<W: Write>(
     alloc: Global,
     limits: Limits,
@@ -38,7 +38,7 @@ fn print_front<W: Write>(
     Ok(fault)
 }
 
-// Writes how bytes end that have so many behind their packets.
+// Writes the end if this many bytes follow the packets.
 fn write_rest<W: Write>(output: &mut W, held: usize) -> io::Result<u8>
     ensures status { IfOk result (λ status. status ≡ end_status (end_of_rest held)) }
     ensures printed { OnOk result (Appends (W.contents output.old) (W.contents output.new)
@@ -50,8 +50,8 @@ fn write_rest<W: Write>(output: &mut W, held: usize) -> io::Result<u8>
     write_end(output, StreamEnd::Held(held))
 }
 
-/// Prints the packets of an input as they come, and how its bytes end. It holds the bytes of one packet at a time, and those that
-/// were read with its last ones.
+/// Prints the packets of an input as they come, and how its bytes end. It holds the bytes of one
+/// packet at a time, and those that were read with its last ones.
 pub(crate) fn show_stream<R: JobInput, W: Write>(
     alloc: Global,
     input: &mut R,

@@ -22,8 +22,8 @@ const MOST_ID: usize = 65_535;
 /// Why words are no command.
 #[derive(Debug, Drop, Error)]
 pub enum WordsFault {
-    /// They ask for help or for the version, or they can't be read. The error says which, has the text
-    /// for the user, and the status.
+    /// They ask for help or for the version, or they can't be read. The error says which, has the
+    /// text for the user, and the status.
     #[error("{0}")]
     Words(ParseError),
     /// Memory ran out.
@@ -46,7 +46,7 @@ impl From<ParseError> for WordsFault {
     }
 }
 
-// What this command has for a word, where the command was met: its value, or nothing.
+// The value of an argument, if this command was given.
 fn given_of<'a>(matches: &ArgMatches<'a>, command: &str, word: &str) -> Option<Option<&'a str>>
     ensures { IfSome result (λ value. HasWord (subcommand_rows_of matches.now)
         command.now word.now (option_map (λ text. text.now) value)) }
@@ -55,7 +55,6 @@ fn given_of<'a>(matches: &ArgMatches<'a>, command: &str, word: &str) -> Option<O
     Some(met.get_str(word))
 }
 
-// The value of a word of this command, where that was met and has one.
 fn word_of<'a>(matches: &ArgMatches<'a>, command: &str, word: &str) -> Option<&'a str>
     ensures { IfSome result (λ value.
         GivesWord (subcommand_rows_of matches.now) command.now word.now value.now) }
@@ -63,7 +62,7 @@ fn word_of<'a>(matches: &ArgMatches<'a>, command: &str, word: &str) -> Option<&'
     given_of(matches, command, word)?
 }
 
-// What a word for a file stands for.
+// The source that a file argument names.
 fn file_or_input<'a>(word: &'a str) -> Source<'a>
     ensures { IsSource word.now result }
 {
@@ -73,7 +72,7 @@ fn file_or_input<'a>(word: &'a str) -> Source<'a>
     }
 }
 
-// What a word for a file of this command stands for, where that was met and has one.
+// The source that the file argument of this command names.
 fn source_of<'a>(matches: &ArgMatches<'a>, command: &str, word: &str) -> Option<Source<'a>>
     ensures { IfSome result
         (GivesSource (subcommand_rows_of matches.now) command.now word.now) }
@@ -81,7 +80,6 @@ fn source_of<'a>(matches: &ArgMatches<'a>, command: &str, word: &str) -> Option<
     Some(file_or_input(word_of(matches, command, word)?))
 }
 
-// Whether a flag of this command was given, where the command was met.
 fn flag_of(matches: &ArgMatches<'_>, command: &str, word: &str) -> Option<bool>
     ensures { IfSome result
         (GivesFlag (subcommand_rows_of matches.now) command.now word.now) }
@@ -90,7 +88,6 @@ fn flag_of(matches: &ArgMatches<'_>, command: &str, word: &str) -> Option<bool>
     Some(met.get_flag(word))
 }
 
-// The number that an option of this command has, where that was met.
 fn number_of(matches: &ArgMatches<'_>, command: &str, word: &str) -> Option<u64>
     ensures { IfSome result
         (GivesNumber (subcommand_rows_of matches.now) command.now word.now) }
@@ -99,7 +96,6 @@ fn number_of(matches: &ArgMatches<'_>, command: &str, word: &str) -> Option<u64>
     met.get_one(word)
 }
 
-// The number of 32 bits that an option of this command has, where that was met.
 fn count_of(matches: &ArgMatches<'_>, command: &str, word: &str) -> Option<u32>
     ensures { IfSome result
         (GivesNumber (subcommand_rows_of matches.now) command.now word.now) }
@@ -107,7 +103,6 @@ fn count_of(matches: &ArgMatches<'_>, command: &str, word: &str) -> Option<u32>
     u32::try_from(number_of(matches, command, word)?).ok()
 }
 
-// The port that this command has, where that was met.
 fn port_of(matches: &ArgMatches<'_>, command: &str) -> Option<u16>
     ensures { IfSome result
         (GivesNumber (subcommand_rows_of matches.now) command.now (codes "PORT")) }
@@ -115,7 +110,6 @@ fn port_of(matches: &ArgMatches<'_>, command: &str) -> Option<u16>
     u16::try_from(number_of(matches, command, "PORT")?).ok()
 }
 
-// The quality of service that this command has, where that was met.
 fn qos_of(matches: &ArgMatches<'_>, command: &str) -> Option<Qos>
     ensures { IfSome result (GivesQos (subcommand_rows_of matches.now) command.now) }
 {
@@ -123,7 +117,7 @@ fn qos_of(matches: &ArgMatches<'_>, command: &str) -> Option<Qos>
     Qos::from_number(number)
 }
 
-// The client identifier that this command has, where that was met and it is not too long.
+// The client identifier, unless it is too long.
 fn id_of<'a>(matches: &ArgMatches<'a>, command: &str) -> Option<&'a str>
     ensures { IfSome result
         (λ id. GivesId (subcommand_rows_of matches.now) command.now id.now) }
@@ -135,7 +129,6 @@ fn id_of<'a>(matches: &ArgMatches<'a>, command: &str) -> Option<&'a str>
     Some(id)
 }
 
-// All values of a word of this command, where the command was met.
 fn texts_of<'a>(
     alloc: Global,
     matches: &ArgMatches<'a>,
@@ -155,7 +148,7 @@ fn texts_of<'a>(
     }
 }
 
-// The job of `show` where digits stand, or `-` in their place.
+// The job of `show` for digits, or for `-` in their place.
 fn digits_job<'a>(hex: &'a str, lenient: bool) -> Job<'a>
     ensures { IsDigitsJob hex.now lenient result }
 {
@@ -168,7 +161,7 @@ fn digits_job<'a>(hex: &'a str, lenient: bool) -> Job<'a>
     }
 }
 
-// The job of `show`, where that was met with digits or with a file, and not with both.
+// The job of `show`, with digits or a file, but not both.
 fn show_job<'a>(matches: &ArgMatches<'a>) -> Option<Job<'a>>
     ensures { IfSome result (IsJobOf (subcommand_rows_of matches.now)) }
 {
@@ -185,7 +178,6 @@ fn show_job<'a>(matches: &ArgMatches<'a>) -> Option<Job<'a>>
     }
 }
 
-// The job of `check`, where that was met.
 fn check_job<'a>(matches: &ArgMatches<'a>) -> Option<Job<'a>>
     ensures { IfSome result (IsJobOf (subcommand_rows_of matches.now)) }
 {
@@ -194,7 +186,6 @@ fn check_job<'a>(matches: &ArgMatches<'a>) -> Option<Job<'a>>
     Some(Job::Check { source, lenient })
 }
 
-// The job of `match`, where that was met.
 fn match_job<'a>(matches: &ArgMatches<'a>) -> Option<Job<'a>>
     ensures { IfSome result (IsJobOf (subcommand_rows_of matches.now)) }
 {
@@ -203,7 +194,6 @@ fn match_job<'a>(matches: &ArgMatches<'a>) -> Option<Job<'a>>
     Some(Job::Match { filter, name })
 }
 
-// The job of `replay`, where that was met.
 fn replay_job<'a>(matches: &ArgMatches<'a>) -> Option<Job<'a>>
     ensures { IfSome result (IsJobOf (subcommand_rows_of matches.now)) }
 {
@@ -211,7 +201,6 @@ fn replay_job<'a>(matches: &ArgMatches<'a>) -> Option<Job<'a>>
     Some(Job::Replay { source })
 }
 
-// The job of `random`, where that was met.
 fn random_job<'a>(matches: &ArgMatches<'a>) -> Option<Job<'a>>
     ensures { IfSome result (IsJobOf (subcommand_rows_of matches.now)) }
 {
@@ -239,7 +228,7 @@ fn job_of<'a>(matches: &ArgMatches<'a>) -> Option<Job<'a>>
     }
 }
 
-// How many threads serve, where `serve` was met, and they are 1 to 64.
+// The number of threads, 1 to 64.
 fn workers_of(matches: &ArgMatches<'_>) -> Option<u8>
     ensures { IfSome result (λ workers.
         GivesNumber (subcommand_rows_of matches.now) (codes "serve") (codes "WORKERS") workers
@@ -252,7 +241,6 @@ fn workers_of(matches: &ArgMatches<'_>) -> Option<u8>
     Some(workers)
 }
 
-// What `serve` asks for, where that was met.
 fn serve_of(matches: &ArgMatches<'_>) -> Option<Serve>
     ensures { IfSome result (IsServe (subcommand_rows_of matches.now)) }
 {
@@ -266,7 +254,6 @@ fn serve_of(matches: &ArgMatches<'_>) -> Option<Serve>
     })
 }
 
-// What `publish` asks for, where that was met, with its texts.
 fn publish_with<'a>(matches: &ArgMatches<'a>, texts: Vec<&'a str>) -> Option<Publish<'a>>
     ensures { IfSome result (λ publish. (publish.texts ≡ texts.entry)
         × (GivesTexts (subcommand_rows_of matches.now) (codes "publish") (codes "TEXT")
@@ -288,7 +275,6 @@ fn publish_with<'a>(matches: &ArgMatches<'a>, texts: Vec<&'a str>) -> Option<Pub
     })
 }
 
-// What `publish` asks for, where that was met.
 fn publish_of<'a>(
     alloc: Global,
     matches: &ArgMatches<'a>,
@@ -302,7 +288,6 @@ fn publish_of<'a>(
     }
 }
 
-// What `collect` asks for, where that was met.
 fn collect_of<'a>(matches: &ArgMatches<'a>) -> Option<Collect<'a>>
     ensures { IfSome result (IsCollect (subcommand_rows_of matches.now)) }
 {
@@ -316,7 +301,6 @@ fn collect_of<'a>(matches: &ArgMatches<'a>) -> Option<Collect<'a>>
     })
 }
 
-// The file of `loopback`, where that was met.
 fn loopback_of<'a>(matches: &ArgMatches<'a>) -> Option<Source<'a>>
     ensures { IfSome result
         (GivesSource (subcommand_rows_of matches.now) (codes "loopback") (codes "FILE")) }
@@ -324,7 +308,6 @@ fn loopback_of<'a>(matches: &ArgMatches<'a>) -> Option<Source<'a>>
     source_of(matches, "loopback", "FILE")
 }
 
-// What the command that was met asks for.
 fn command_of<'a>(
     alloc: Global,
     matches: &ArgMatches<'a>,
@@ -350,7 +333,7 @@ fn command_of<'a>(
     }
 }
 
-// What is wrong with words that the command line's parser takes, and that are no command all the same.
+// The error for arguments that the parser accepts although they are not a command.
 fn complaint(matches: &ArgMatches<'_>) -> (ErrorKind, &'static str) {
     match matches.subcommand_name() {
         Some("serve") => (ErrorKind::ValueValidation, "serve has 1 to 64 workers"),
@@ -369,9 +352,8 @@ fn complaint(matches: &ArgMatches<'_>) -> (ErrorKind, &'static str) {
     }
 }
 
-/// What the words of a command line ask for. The first word is the program's name.
-/// An error has the text for the user, or says that memory ran out; which words it refuses is that of
-/// the command line's parser.
+/// Parses the arguments of a command line; the first is the program's name. An error has the text
+/// for the user, or says that an allocation failed; the parser decides which arguments it refuses.
 pub fn command<'a>(alloc: Global, words: &'a [&'a str]) -> Result<Command<'a>, WordsFault>
     ensures { IfOk result
         (IsCommandOf (subcommand_of program_words (map (λ word. word.now) words.entry.now))) }

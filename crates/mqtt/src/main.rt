@@ -20,7 +20,7 @@ fn perform_job(rt: &HostRuntime, job: &Job<'_>) -> Result<u8, Failure> {
     Ok(status)
 }
 
-/// Does a job over its file or the standard input, or over no bytes where it reads none.
+/// Runs a job over its file or the standard input, or without input.
 fn perform_into<W: Write>(rt: &HostRuntime, job: &Job<'_>, output: &mut W) -> io::Result<u8> {
     let alloc = rt.alloc();
     match job.source() {
@@ -53,7 +53,7 @@ where
     Ok(status)
 }
 
-/// Does what the words ask for, and answers the status.
+/// Runs the given command and returns the exit status.
 fn run<R>(rt: &HostRuntime, host: &R) -> Result<u8, Failure>
 where
     R: Net<Listener = TcpListener, Stream = TcpStream> + Files + Threads + Wait + Clock + Sync,
@@ -74,7 +74,7 @@ where
     }
 }
 
-/// Says why there is no answer, as far as that can still be said.
+/// Reports a failure on standard error, as far as possible.
 fn tell(rt: &HostRuntime, failure: Failure) {
     let _ = match failure {
         Failure::Memory => println!(rt; "{failure}"),
