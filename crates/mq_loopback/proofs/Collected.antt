@@ -1,4 +1,4 @@
--- The lines of what each client collected.
+-- The lines of the messages that each client collected.
 use Rattle.std.proofs.Common.{◌≡◌, ◌⊎◌, ℕ, ◌-◌, ◌≤◌, ◌<◌, List, [], ◌∷◌, ◌++◌, length, take, drop, get_or, map, Option, Some, None, Vec, refl, sym, ap, subst, inl, inr, ◌∙◌, append_assoc, append-nil, arith}
 use Rattle.std.specs.Io.KnownBytes.{Appends}
 use Rattle.std.proofs.Math.Seq.{take-length}
@@ -17,7 +17,7 @@ appends_then (Some xs) (Some ys) (Some zs) x y h k = k ∙ (ap (λ (t : List ℕ
 tail_is : {A : Type 0} (x : A) (xs : List A) → take (length (x ∷ xs) - 1) (drop 1 (x ∷ xs)) ≡ xs
 tail_is x xs = let size : length (x ∷ xs) - 1 ≡ length xs = omega arith in ap (λ (n : ℕ). take n xs) size ∙ take-length xs
 
--- what is written so far, and the lines of the clients that are left
+-- The output, followed by the lines of the remaining clients.
 abbrev pub Partly : {Z : Type 0} → Option (List ℕ) → Option (List ℕ) → List Client → List (Vec Message Z) → List ℕ → Type 0
 Partly old new left lists whole = (text : List ℕ) × Appends old new text × (text ++ collected_lines left (map (λ v. v.items) lists) ≡ whole)
 

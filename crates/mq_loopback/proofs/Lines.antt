@@ -6,14 +6,14 @@ use Rattle.std.specs.Option.{ok_or}
 use Rattle.std.proofs.Math.Seq.{split_at}
 use Rattle.std.proofs.lemmas.List.{map-append}
 use Rattle.mq_loopback.specs.declared.client.Client.{Client}
-use Rattle.mq_loopback.specs.declared.reading.ClientsFault.{ClientsFault}
-use Rattle.mq_loopback.specs.declared.reading.ClientsFault.TheVariants.{Line}
+use Rattle.mq_loopback.specs.declared.read.ClientsFault.{ClientsFault}
+use Rattle.mq_loopback.specs.declared.read.ClientsFault.TheVariants.{Line}
 use Rattle.mq_schedule.specs.Schedule.{bytes_word}
 use Rattle.mq_loopback.specs.File.{AreClients, IsBadLine, IsPayload, Joins}
 use Rattle.mq_loopback.proofs.Joining.{joins_more, last_of, same_length}
 use Rattle.mq_loopback.proofs.Unique.{one_list}
 
--- a word that stands behind payloads and is one
+-- A word behind payloads that is a payload.
 pub payload_in : (done all : List (List ℕ)) (word : List ℕ) (others : List (List ℕ)) → AllByRecursion IsPayload all → map bytes_word done ++ word ∷ others ≡ map bytes_word all
     → (p : List ℕ) × IsPayload p × (word ≡ bytes_word p)
 payload_in [] [] word others k e = absurd (cc e)

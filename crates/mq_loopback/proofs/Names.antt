@@ -29,14 +29,14 @@ text_is word bytes t are e h = same_codes escaped_byte escaped_code t bytes (tex
 pub same_text : (s t : List ℕ) → IsText s → IsText t → escaped s ≡ escaped t → s ≡ t
 same_text s t h k e = same_codes escaped_byte escaped_code s t (text_bytes s h) (text_bytes t k) e
 
--- a text has no fault but lack of memory
+-- A valid text has no fault except a failed allocation.
 pub text_memory : (r : Result (List ℕ) TextFault) (text name : List ℕ) (fault : TextFault) → r ≡ Err fault → name ≡ text → IsText name
     → IsErrOf r texts.TooLong ↔ (65535 < length text) → IsErrOf r texts.Nul ↔ ((length text ≤ 65535) × (has_nul text ≡ true)) → fault ≡ texts.Memory
 text_memory r text name texts.TooLong e same h long nul = absurd (omega (arith, long.0 e, ap length same, h.short))
 text_memory r text name texts.Nul e same h long nul = let some : has_nul name ≡ true = ap has_nul same ∙ (nul.0 e).1 in absurd (cc (some, h.no_nul))
 text_memory r text name texts.Memory e same h long nul = refl
 
--- a filter has no fault but lack of memory
+-- A valid filter has no fault except a failed allocation.
 pub filter_memory : (text filter : List ℕ) (fault : TopicFault) → filter ≡ text → IsTopicFilter filter → IfNone (filter_fault text) (fault ≡ faults.Memory) → fault ≡ faults.Memory
 filter_memory text filter fault same h memory =
     let none : filter_fault text ≡ None = ap filter_fault (sym same) ∙ (laws.filter filter h.text.utf8).1 h in

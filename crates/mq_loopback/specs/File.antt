@@ -20,7 +20,8 @@ pub record IsCount (n : ℕ) (word : List ℕ) : Type 0 where
   pub number : IsNumber n word
   pub bound : n < 2 ^ 32
 
--- `collect`, a client identifier (3.1.3.1) and a topic filter as they are printed, a quality of service, and how many messages
+-- `collect`, a client identifier (3.1.3.1) and a topic filter as they are printed, a quality of
+-- service, and how many messages
 pub record IsCollectorLine (name : List ℕ) (c : Collector) (words : List (List ℕ)) : Type 0 where
   pub qos : List ℕ
   pub count : List ℕ
@@ -41,7 +42,8 @@ pub record ArePayloads (payloads : List (List ℕ)) (words : List (List ℕ)) : 
   pub are : AllByRecursion IsPayload payloads
   pub words_are : words ≡ map bytes_word payloads
 
--- `publish`, a client identifier and a topic name as they are printed, a quality of service, and one payload or more
+-- `publish`, a client identifier and a topic name as they are printed, a quality of service, and
+-- one payload or more
 pub record IsPublisherLine (name : List ℕ) (p : Publisher) (words : List (List ℕ)) : Type 0 where
   pub qos : List ℕ
   pub named : IsText name
@@ -70,7 +72,8 @@ abbrev pub AreApart : List Client → Type 0
 AreApart [] = ⊤
 AreApart (c ∷ clients) = IsFresh c.name clients × AreApart clients
 
--- a line says a client that may come after these: there are fewer than 64, and none of them has its name
+-- a line says a client that may come after these: there are fewer than 64, and none of them has its
+-- name
 pub record Joins (clients : List Client) (c : Client) (line : List ℕ) : Type 0 where
   pub room : length clients < 64
   pub fresh : IsFresh c.name clients

@@ -1,4 +1,4 @@
--- What is said of a journal and of receipts.
+-- The verdict on a journal and on receipts.
 use Rattle.std.specs.Prelude.{◌≡◌, ◌⊎◌, ◌↔◌, Bool, false, IsTrue, List, map, Vec}
 use Rattle.std.specs.List.{AllByRecursion}
 use Rattle.std.specs.declared.alloc.Global.{Global}
@@ -14,7 +14,7 @@ use Rattle.mq_book.specs.declared.entry.Entry.{Entry}
 use Rattle.mq_book.specs.declared.entry.Receipt.{Receipt}
 use Rattle.mq_book.specs.Pages.{Sealed}
 use Rattle.mq_book.specs.Receipts.{Stand}
-use Rattle.mq_loopback.specs.declared.judging.Verdict.{Verdict}
+use Rattle.mq_loopback.specs.declared.verdict.Verdict.{Verdict}
 
 -- the events, and the replies, of entries
 abbrev pub events_in : List Entry → List HubEvent
@@ -23,7 +23,8 @@ events_in entries = map (λ e. e.event) entries
 abbrev pub replies_in : List Entry → List HubReply
 replies_in entries = map (λ e. e.reply) entries
 
--- The events of the entries came to a new broker, one after another, and its replies were those of the entries, or they were not.
+-- The events of the entries came to a new broker, one after another, and its replies were those of
+-- the entries, or they were not.
 pub record IsReplay (config : HubConfig) (entries : List Entry) (equal : Bool) : Type 0 where
   pub hub : HubState
   pub trace : HubTrace
@@ -39,11 +40,11 @@ pub record IsBroken (config : HubConfig) (entries : List Entry) (equal : Bool) :
 abbrev pub IsReplayed : HubConfig → List Entry → Bool → Type 0
 IsReplayed config entries equal = IsReplay config entries equal ⊎ IsBroken config entries equal
 
--- each worker's receipts stand in the journal, in order
+-- The receipts of each worker are in the journal, in order.
 abbrev pub AllStand : Sealed → List (Vec Receipt Global) → Type 0
 AllStand journal receipts = AllByRecursion (λ r. Stand journal.first journal.entries 0 r.items) receipts
 
--- what is said of a journal, and of the receipts of workers
+-- The verdict on a journal and on the receipts of workers.
 pub record IsVerdict (config : HubConfig) (journal : Sealed) (receipts : List (Vec Receipt Global)) (v : Verdict) : Type 0 where
   pub replayed : IsReplayed config journal.entries v.is_equal
   pub audited : IsTrue v.is_audited ↔ AllStand journal receipts

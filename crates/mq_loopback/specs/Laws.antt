@@ -1,9 +1,9 @@
--- What a text says as a loopback file.
+-- The meaning of a text as a loopback file.
 use Rattle.std.specs.Prelude.{◌≡◌, ℕ, List}
 use Rattle.mq_loopback.specs.declared.client.Client.{Client}
 use Rattle.mq_loopback.specs.File.{AreClients, IsBadLine}
 
--- what a reader of lines may rely on
+-- The laws of loopback files.
 pub record FileLaws : Type 0 where
   -- lines are at most one list of clients
   pub one_list : (lines : List (List ℕ)) (a b : List Client) → AreClients a lines → AreClients b lines → a ≡ b

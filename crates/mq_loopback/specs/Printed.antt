@@ -1,4 +1,4 @@
--- What `loopback` prints: lines, each with its end.
+-- The output of `loopback`, line by line.
 use Rattle.std.specs.Prelude.{ℕ, Bool, ◌&&◌, List, [], ◌∷◌, ◌++◌, codes, decimal, if◌then◌else◌}
 use Rattle.std.specs.List.{flat_map}
 use Rattle.mq_packet.specs.declared.message.Message.{Message}
@@ -11,9 +11,9 @@ use Rattle.mq_serve.specs.Printed.{end_line}
 use Rattle.mq_loopback.specs.declared.client.Client.{Client}
 use Rattle.mq_loopback.specs.declared.client.Role.{Role}
 use Rattle.mq_loopback.specs.declared.client.Role.TheVariants as roles
-use Rattle.mq_loopback.specs.declared.judging.Verdict.{Verdict}
-use Rattle.mq_loopback.specs.declared.stage.RunError.{RunError}
-use Rattle.mq_loopback.specs.declared.stage.RunError.TheVariants as ends
+use Rattle.mq_loopback.specs.declared.verdict.Verdict.{Verdict}
+use Rattle.mq_loopback.specs.declared.rig.RunError.{RunError}
+use Rattle.mq_loopback.specs.declared.rig.RunError.TheVariants as ends
 
 -- a message that a client collected: the client's name, the topic, the payload
 abbrev pub message_line : List ℕ → Message → List ℕ
@@ -24,7 +24,7 @@ abbrev pub role_lines : List ℕ → Role → List Message → List ℕ
 role_lines name (roles.Collector c) messages = flat_map (message_line name) messages
 role_lines name (roles.Publisher p) messages = []
 
--- what each of the clients collected, in their order
+-- The messages that each client collected, in the order of the clients.
 abbrev pub collected_lines : List Client → List (List Message) → List ℕ
 collected_lines [] lists = []
 collected_lines (c ∷ clients) [] = []
@@ -39,7 +39,7 @@ audit_line audited = if audited then codes "audit yes\n" else codes "audit no\n"
 abbrev pub verdict_lines : Verdict → List ℕ
 verdict_lines v = replay_line v.is_equal ++ audit_line v.is_audited
 
--- 0 where both are well
+-- 0 if both verdicts are positive.
 abbrev pub verdict_status : Verdict → ℕ
 verdict_status v = if v.is_equal && v.is_audited then 0 else 1
 

@@ -1,4 +1,4 @@
--- What `loopback` does.
+-- The effect of `loopback`.
 use Rattle.std.specs.Prelude.{◌≡◌, ◌⊎◌, ℕ, None, List, ◌++◌, Vec}
 use Rattle.std.specs.List.{AllZip}
 use Rattle.std.specs.declared.alloc.Global.{Global}
@@ -9,8 +9,8 @@ use Rattle.mq_book.specs.declared.entry.Receipt.{Receipt}
 use Rattle.mq_book.specs.Pages.{Sealed}
 use Rattle.mq_schedule.specs.Schedule.{lines_of}
 use Rattle.mq_loopback.specs.declared.client.Client.{Client}
-use Rattle.mq_loopback.specs.declared.judging.Verdict.{Verdict}
-use Rattle.mq_loopback.specs.declared.stage.RunError.{RunError}
+use Rattle.mq_loopback.specs.declared.verdict.Verdict.{Verdict}
+use Rattle.mq_loopback.specs.declared.rig.RunError.{RunError}
 use Rattle.mq_loopback.specs.File.{AreClients, IsBadLine}
 use Rattle.mq_loopback.specs.Judged.{IsVerdict}
 use Rattle.mq_loopback.specs.Ordered.{IsOrdered}
@@ -20,7 +20,8 @@ use Rattle.mq_loopback.specs.Printed.{bad_line, collected_lines, play_end_line, 
 abbrev pub program_broker : HubConfig
 program_broker = record { limits = strict 1048576; capacity = 100; window = None; max_conns = 1000; max_sessions = 1000; users = None }
 
--- Of what each client collected there is a list in order; it is printed, and then what is said of a journal and of receipts.
+-- The messages of each client are sorted and printed, followed by the verdict on the journal and
+-- the receipts.
 pub record IsTold (clients : List Client) (status : ℕ) (text : List ℕ) : Type 0 where
   pub came : List (List Message)
   pub ordered : List (List Message)
@@ -36,7 +37,7 @@ pub record IsTold (clients : List Client) (status : ℕ) (text : List ℕ) : Typ
 abbrev pub IsCutOff : ℕ → List ℕ → Type 0
 IsCutOff status text = (end : RunError) × (status ≡ play_end_status end) × (text ≡ play_end_line end)
 
--- what comes of clients
+-- The result of running clients.
 abbrev pub Ends : List Client → ℕ → List ℕ → Type 0
 Ends clients status text = IsTold clients status text ⊎ IsCutOff status text
 

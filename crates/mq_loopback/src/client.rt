@@ -10,11 +10,11 @@ use mq_wire::Text;
 pub struct Client {
     /// Its client identifier (3.1.3.1).
     pub name: Text,
-    /// What it does.
+    /// Its role.
     pub role: Role,
 }
 
-/// What a client of a loopback file does.
+/// The role of a client in a loopback file.
 #[derive(Debug, Drop)]
 pub enum Role {
     /// It collects messages.
@@ -23,7 +23,7 @@ pub enum Role {
     Publisher(Publisher),
 }
 
-/// What is collected.
+/// A subscription.
 #[derive(Debug, Drop)]
 pub struct Collector {
     /// Which topic names (4.7).
@@ -34,13 +34,13 @@ pub struct Collector {
     pub count: u32,
 }
 
-/// What is published.
+/// Messages to publish.
 #[derive(Debug, Drop)]
 pub struct Publisher {
-    /// What it is published to (4.7).
+    /// The topic to publish them to (4.7).
     pub topic: TopicName,
-    /// How often each message is handed on (4.3).
+    /// The quality of service to publish them with (4.3).
     pub qos: Qos,
-    /// What the messages say, one or more.
+    /// The payloads, at least one.
     pub payloads: BoxedList<Payload>,
 }

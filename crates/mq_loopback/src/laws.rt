@@ -1,4 +1,4 @@
-//! What a text says as a loopback file.
+//! The laws of loopback files.
 
 ghost use Rattle.mq_loopback.specs.Laws.{FileLaws};
 

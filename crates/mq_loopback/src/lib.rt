@@ -1,30 +1,31 @@
 //! Loopback files: a broker and its clients in one process, over sockets of this machine.
 //!
-//! A file has a line for each client. They run beside the broker's workers, of which there are as many; then it is printed what was
-//! collected, whether the journal of the broker replays, and whether each worker's receipts stand in it.
+//! A file has a line for each client. The clients run in threads, with one broker worker for each.
+//! Then the program prints the collected messages, whether the journal of the broker replays, and
+//! whether the receipts of each worker are in it.
 #![tactic(auto)]
 
-mod cast;
 mod client;
-mod judging;
+mod client_run;
+mod idle_limit;
 mod laws;
-mod ordering;
-mod patience;
-mod playing;
-mod printing;
+mod print;
 mod program;
-mod reading;
-mod stage;
-mod starting;
+mod read;
+mod rig;
+mod sort;
+mod start_barrier;
+mod threads;
+mod verdict;
 
-pub use crate::cast::{Act, Cast};
 pub use crate::client::{Client, Collector, Publisher, Role};
-pub use crate::judging::{Verdict, judge};
+pub use crate::idle_limit::IdleLimited;
 pub use crate::laws::file_laws;
-pub use crate::ordering::{all_ordered, ordered};
-pub use crate::patience::IdleLimited;
-pub use crate::printing::write_played;
-pub use crate::program::{loopback, loopback_file, run, tell};
-pub use crate::reading::{ClientsFault, read_clients};
-pub use crate::stage::{RunError, RunResult, play};
-pub use crate::starting::Start;
+pub use crate::print::write_played;
+pub use crate::program::{loopback, loopback_file, print_result, run};
+pub use crate::read::{ClientsFault, read_clients};
+pub use crate::rig::{RunError, RunResult, play};
+pub use crate::sort::{all_ordered, ordered};
+pub use crate::start_barrier::StartBarrier;
+pub use crate::threads::{ClientStart, ClientThreads};
+pub use crate::verdict::{Verdict, judge};

@@ -5,11 +5,11 @@ ghost use Rattle.mq_line.specs.Lines.{Prints};
 ghost use Rattle.mq_loopback.specs.Program.{Ends, IsInputRun, IsLoopback};
 
 use crate::client::Client;
-use crate::judging::judge;
-use crate::ordering::all_ordered;
-use crate::printing::{write_bad_line, write_play_end, write_played, write_unread};
-use crate::reading::{ClientsFault, read_clients};
-use crate::stage::{RunResult, play};
+use crate::print::{write_bad_line, write_play_end, write_played, write_unread};
+use crate::read::{ClientsFault, read_clients};
+use crate::rig::{RunResult, play};
+use crate::sort::all_ordered;
+use crate::verdict::judge;
 use mq_serve::{ServeEnd, broker_config, write_end};
 use std::alloc::Global;
 use std::fs::File;
@@ -21,9 +21,9 @@ use std::sync::Wait;
 use std::thread::Threads;
 use std::time::Clock;
 
-/// Writes what is left when all clients are done: what each collector collected, in order, and what is said of the journal and of the receipts.
-/// Answers the status.
-pub fn tell<W: Write>(
+/// Writes the result of all clients: the messages that each collector collected, sorted, and the
+/// verdict on the journal and the receipts. Returns the status.
+pub fn print_result<W: Write>(
     alloc: Global,
     clients: &[Client],
     played: RunResult,
@@ -45,7 +45,7 @@ pub fn tell<W: Write>(
     }
 }
 
-// Runs a broker and these clients, and prints what comes of it.
+// Runs a broker and these clients, and prints the result.
 fn run_clients<R, W>(rt: &R, alloc: Global, clients: &[Client], output: &mut W) -> io::Result<u8>
 where
     R: Net<Listener = TcpListener, Stream = TcpStream> + Threads + Wait + Clock + Sync,
@@ -54,12 +54,12 @@ where
     ensures { IfOk result (λ status. Prints (W.contents output.old) (W.contents output.new) (Ends clients.now status)) }
 {
     match play(rt, alloc, clients) {
-        Ok(played) => tell(alloc, clients, played, output),
+        Ok(played) => print_result(alloc, clients, played, output),
         Err(end) => write_play_end(output, end),
     }
 }
 
-/// Runs a broker and the clients of a text, and prints what comes of it; answers the status.
+/// Runs a broker and the clients of a text, and prints the result. Returns the status.
 pub fn run<R, W>(rt: &R, alloc: Global, text: &str, output: &mut W) -> io::Result<u8>
 where
     R: Net<Listener = TcpListener, Stream = TcpStream> + Threads + Wait + Clock + Sync,
@@ -91,7 +91,7 @@ where
     }
 }
 
-// Writes why there is no text, and answers the status.
+// Writes why a file has no text, and returns the status.
 fn write_no_file<W: Write>(output: &mut W, error: &io::Error) -> io::Result<u8>
     ensures { IfOk result (λ status. Prints (W.contents output.old) (W.contents output.new) (IsInputRun status)) }
 {

@@ -2,7 +2,7 @@
 
 use crate::files::{LINES, PAIRS};
 use mq_book::Receipt;
-use mq_loopback::{Client, play, read_clients, run, tell};
+use mq_loopback::{Client, play, print_result, read_clients, run};
 use std::alloc::Global;
 use std::io;
 use std::io::{ErrorKind, Write};
@@ -42,7 +42,7 @@ where
     };
     let busy = count_busy(played.receipts.as_slice());
     let mut printed = Vec::new(alloc);
-    let status = tell(alloc, clients, played, &mut printed)?;
+    let status = print_result(alloc, clients, played, &mut printed)?;
     let wanted = status == 0 && printed.as_slice() == LINES;
     Ok(Tally {
         as_wanted: tally.as_wanted.saturating_add(u32::from(wanted)),

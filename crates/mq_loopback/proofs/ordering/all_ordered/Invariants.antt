@@ -1,8 +1,0 @@
-use Rattle.std.proofs.Common.{map}
-use Rattle.std.specs.List.{AllZip}
-use Rattle.mq_loopback.specs.Ordered.{IsOrdered}
-use Rattle.mq_loopback.proofs.ordering.all_ordered.Given as goal
-
--- the lists so far are in order
-abbrev pub invariant-loop-messages : goal.invariant-loop-messages
-invariant-loop-messages l = AllZip IsOrdered (map (λ v. v.items) l.yielded) (map (λ v. v.items) l.all.items)

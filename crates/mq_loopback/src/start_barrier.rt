@@ -1,0 +1,80 @@
+//! When publishers start.
+
+use mq_client::ClientError;
+use std::sync::{Condvar, Mutex, Wait};
+
+// How many collectors are not subscribed yet, and the first fault of a client.
+#[derive(Drop)]
+struct Waiting {
+    left: usize,
+    fault: Option<ClientError>,
+}
+
+impl Waiting {
+    // Whether publishers are to wait on.
+    fn is_pending(&self) -> bool {
+        self.left > 0 && self.fault.is_none()
+    }
+
+    // One collector more is subscribed.
+    fn count(&mut self) {
+        self.left = self.left.saturating_sub(1);
+    }
+
+    // A client has a fault. The first one stays.
+    fn call_off(&mut self, fault: ClientError) {
+        if self.fault.is_none() {
+            self.fault = Some(fault);
+        }
+    }
+}
+
+/// Publishers wait here until every collector has subscribed, or a client has a fault.
+#[derive(Drop)]
+pub struct StartBarrier {
+    waiting: Mutex<Waiting>,
+    changed: Condvar,
+}
+
+impl StartBarrier {
+    /// A barrier for this many collectors.
+    pub fn after(collectors: usize) -> StartBarrier {
+        StartBarrier {
+            waiting: Mutex::new(Waiting {
+                left: collectors,
+                fault: None,
+            }),
+            changed: Condvar::new(),
+        }
+    }
+
+    /// A collector is subscribed.
+    pub fn count<R: Wait>(&self, rt: &R) {
+        self.waiting.lock(rt).count();
+        self.changed.notify_all();
+    }
+
+    /// A client has a fault.
+    pub fn call_off<R: Wait>(&self, rt: &R, fault: ClientError) {
+        self.waiting.lock(rt).call_off(fault);
+        self.changed.notify_all();
+    }
+
+    /// Waits. Returns whether publishers must start; they must not if a client has a fault.
+    pub fn wait<R: Wait>(&self, rt: &R) -> bool {
+        let waiting = self
+            .changed
+            .wait_while(rt, self.waiting.lock(rt), |waiting| waiting.is_pending());
+        waiting.fault.is_none()
+    }
+
+    /// The first fault of a client, if any had one.
+    pub fn into_fault(self) -> Option<ClientError> {
+        let StartBarrier {
+            waiting,
+            changed: _,
+        } = self;
+        let Waiting { left: _, fault } = waiting.into_inner();
+        fault
+    }
+}
