@@ -1,4 +1,4 @@
-//! A broker in memory, timed and printed: bytes of clients come in, and bytes go out.
+//! Benchmarks of a broker in memory, which consumes and produces the bytes of its clients.
 
 use crate::clients::{self, BATCH};
 use anyhow::{Context, ensure};
@@ -12,11 +12,10 @@ use std::time::Instant;
 /// The word for it.
 pub(crate) const NAME: &str = "hub";
 
-/// What it is, on one line.
 pub(crate) const EXPLANATION: &str =
     "a broker in memory: publishers and subscribers, 10 to 100,000 sessions beside";
 
-/// Who publishes, and how many subscribe to all of it.
+/// The publisher, and the number of subscribers to all its messages.
 #[derive(Clone, Copy, Debug)]
 struct Flow {
     publishers: u16,
@@ -48,7 +47,6 @@ const BESIDE: [u32; 3] = [10, 1_000, 100_000];
 /// How often each publisher sends a batch of messages.
 const TURNS: u16 = 400;
 
-/// How often each work is done. The middle one of its times counts.
 const ROUNDS: usize = 3;
 
 /// The connection of the other sessions, one after another.
@@ -105,14 +103,12 @@ pub(crate) fn close(hub: &mut Hub, conn: Conn) -> anyhow::Result<()> {
     Ok(())
 }
 
-/// What waits on a connection is taken, which is open; answers how many bytes that is.
 pub(crate) fn take(hub: &mut Hub, conn: Conn) -> anyhow::Result<usize> {
     let reply = hub.step(&HubEvent::Collect(conn))?;
     ensure!(reply.alive, "a connection was closed");
     Ok(reply.output.len())
 }
 
-/// So many other sessions, whose clients have left.
 fn add_others(alloc: Global, hub: &mut Hub, count: u32) -> anyhow::Result<()> {
     for client in 0..count {
         open(hub, OTHERS)?;
@@ -157,7 +153,7 @@ fn end(hub: &mut Hub, flow: Flow) -> anyhow::Result<()> {
     Ok(())
 }
 
-/// What is measured.
+/// A benchmark.
 #[derive(Clone, Copy, Debug)]
 struct Work {
     flow: Flow,
@@ -171,7 +167,6 @@ impl Work {
         self.flow.publishers.saturating_mul(BATCH)
     }
 
-    /// What publishers send in each turn.
     fn published(self, alloc: Global) -> anyhow::Result<Vec<HubEvent>> {
         let mut published = Vec::new(alloc);
         for number in 0..self.flow.publishers {
@@ -181,7 +176,6 @@ impl Work {
         Ok(published)
     }
 
-    /// What subscribers answer in the turn of this number; nothing to quality of service 0.
     fn acknowledged(self, alloc: Global, turn: u16) -> anyhow::Result<Vec<HubEvent>> {
         let mut acknowledged = Vec::new(alloc);
         if self.qos == Qos::Q0 {
@@ -198,7 +192,6 @@ impl Work {
     }
 }
 
-/// What waits on these connections is taken.
 fn collect(hub: &mut Hub, flow: Flow) -> anyhow::Result<()> {
     for number in 0..flow.publishers {
         take(hub, publisher(number))?;
@@ -247,7 +240,6 @@ fn time_turns(
     Ok(u64::try_from(time.as_nanos()).unwrap_or(u64::MAX))
 }
 
-/// How many messages a second come to a broker: the middle one of several times.
 fn measure_work(rt: &impl Clock, alloc: Global, hub: &mut Hub, work: Work) -> anyhow::Result<u64> {
     add_publishers(alloc, hub, work.flow)?;
     add_subscribers(alloc, hub, work.flow, work.qos)?;
@@ -285,7 +277,6 @@ fn measure_flows(
     Ok(())
 }
 
-/// Measures a broker to which so many other sessions are added first.
 fn measure_beside(
     rt: &(impl Print + Clock),
     alloc: Global,
@@ -301,7 +292,6 @@ fn measure_beside(
     Ok(())
 }
 
-/// Measures a broker of its own beside so many sessions.
 fn measure_anew(rt: &(impl Print + Clock), alloc: Global, beside: u32) -> anyhow::Result<()> {
     let mut hub = broker(alloc)?;
     measure_beside(rt, alloc, &mut hub, beside)

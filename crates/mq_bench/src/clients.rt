@@ -15,7 +15,6 @@ use std::alloc::Global;
 /// How many messages a publisher sends at once.
 pub(crate) const BATCH: u16 = 20;
 
-/// The spelling of a packet is put behind bytes, and the packet is let go of.
 fn put(bytes: &mut Vec<u8>, packet: Packet) -> anyhow::Result<()> {
     encode_into(&packet, bytes)?;
     Ok(())
@@ -114,7 +113,8 @@ fn publish(alloc: Global, id: PacketId, qos: Qos, payload: Bytes) -> anyhow::Res
     Ok(Packet::Publish(Publish::new(message, delivery)))
 }
 
-/// A publisher sends messages of this quality of service and size; of 2 it releases their identifiers at once.
+/// A publisher sends messages of this quality of service and size; of 2 it releases their
+/// identifiers at once.
 pub(crate) fn publishes(
     alloc: Global,
     conn: Conn,
@@ -133,7 +133,6 @@ pub(crate) fn publishes(
     sent(conn, bytes)
 }
 
-/// A subscriber acknowledges so many messages, whose identifiers follow on the one of this number, 65,535 and 1 being neighbours.
 pub(crate) fn acknowledges(
     alloc: Global,
     conn: Conn,

@@ -1,4 +1,5 @@
-//! A message from a client end to a server end and back, and the memory of ends, measured and printed.
+//! A message from a client end to a server end and back, and the memory of ends, measured and
+//! printed.
 
 use crate::memory::{print_bytes, resident};
 use crate::pair::{Pair, idle_client, idle_server};
@@ -15,7 +16,6 @@ use std::time::Instant;
 /// The word for it.
 pub(crate) const NAME: &str = "ends";
 
-/// What it is, on one line.
 pub(crate) const EXPLANATION: &str =
     "a message from a client end to a server end and back to idle, and the memory of ends";
 
@@ -28,13 +28,10 @@ const BATCH: u16 = 1_000;
 /// How many batches are timed.
 const BATCHES: u16 = 300;
 
-/// How often each work is done. The middle one of its times counts.
 const ROUNDS: usize = 5;
 
-/// How many ends are kept, to see what one takes.
 const ENDS: usize = 10_000;
 
-/// How many messages are in flight, to see what one takes.
 const FLIGHT: u16 = 60_000;
 
 /// A message of this quality of service and payload, with a topic name of its own.
@@ -47,7 +44,6 @@ fn message(alloc: Global, qos: Qos, payload: Bytes) -> anyhow::Result<Message> {
     })
 }
 
-/// So many messages, each with bytes of its own.
 fn messages(alloc: Global, qos: Qos, size: usize, count: u16) -> anyhow::Result<Vec<Message>> {
     let mut messages = Vec::with_capacity(alloc, usize::from(count))?;
     for _ in 0..count {
@@ -84,7 +80,6 @@ fn time_message(
     Ok(nanoseconds / count.max(1))
 }
 
-/// The middle one of the times of messages of a quality of service and size.
 fn middle_time(
     rt: &impl Clock,
     alloc: Global,
@@ -100,13 +95,11 @@ fn middle_time(
     Ok(times[ROUNDS / 2])
 }
 
-/// The middle one of the times of messages between two ends that are made for them.
 fn time(rt: &impl Clock, alloc: Global, qos: Qos, size: usize) -> anyhow::Result<u64> {
     let mut pair = Pair::new(alloc)?;
     middle_time(rt, alloc, &mut pair, qos, size)
 }
 
-/// Measures messages of a quality of service and size, and prints the middle one of their times.
 fn measure_messages(
     rt: &(impl Print + Clock),
     alloc: Global,
@@ -128,7 +121,6 @@ fn measure_all(rt: &(impl Print + Clock), alloc: Global) -> anyhow::Result<()> {
     Ok(())
 }
 
-/// So many client ends to which nothing happened.
 fn add_clients(alloc: Global, clients: &mut Vec<ClientEnd>) -> anyhow::Result<()> {
     for _ in 0..ENDS {
         clients.push(idle_client(alloc)?)?;
@@ -136,7 +128,6 @@ fn add_clients(alloc: Global, clients: &mut Vec<ClientEnd>) -> anyhow::Result<()
     Ok(())
 }
 
-/// So many server ends to which nothing happened.
 fn add_servers(alloc: Global, servers: &mut Vec<ServerEnd>) -> anyhow::Result<()> {
     for _ in 0..ENDS {
         servers.push(idle_server(alloc)?)?;
@@ -144,7 +135,6 @@ fn add_servers(alloc: Global, servers: &mut Vec<ServerEnd>) -> anyhow::Result<()
     Ok(())
 }
 
-/// So many ends of both sides, which are up.
 fn add_pairs(alloc: Global, pairs: &mut Vec<Pair>) -> anyhow::Result<()> {
     for _ in 0..ENDS {
         pairs.push(Pair::new(alloc)?)?;
@@ -152,7 +142,6 @@ fn add_pairs(alloc: Global, pairs: &mut Vec<Pair>) -> anyhow::Result<()> {
     Ok(())
 }
 
-/// So many times a message is published, and none is acknowledged.
 fn fly(pair: &mut Pair, message: &Message) -> anyhow::Result<()> {
     for _ in 0..FLIGHT {
         pair.publish(message.clone()?)?;
@@ -160,7 +149,6 @@ fn fly(pair: &mut Pair, message: &Message) -> anyhow::Result<()> {
     Ok(())
 }
 
-/// Prints what a message in flight takes at the client, beside its topic name and payload, which all share.
 fn weigh_flight<R: Files + AllocGlobal + Print>(
     rt: &R,
     pair: &mut Pair,
@@ -171,13 +159,11 @@ fn weigh_flight<R: Files + AllocGlobal + Print>(
     print_bytes(rt, NAME, "a message in flight", before, usize::from(FLIGHT))
 }
 
-/// Prints what a message in flight takes at a client that is made for it.
 fn weigh_one<R: Files + AllocGlobal + Print>(rt: &R, message: &Message) -> anyhow::Result<()> {
     let mut pair = Pair::new(rt.alloc())?;
     weigh_flight(rt, &mut pair, message)
 }
 
-/// Prints what a message of quality of service 2 in flight takes.
 fn weigh_message<R: Files + AllocGlobal + Print>(rt: &R) -> anyhow::Result<()> {
     let message = message(rt.alloc(), Qos::Q2, made_up_bytes(rt.alloc(), 16)?)?;
     weigh_one(rt, &message)
@@ -201,28 +187,24 @@ impl Kept {
         })
     }
 
-    /// Prints what a client end takes, to which nothing happened.
     fn weigh_clients<R: Files + AllocGlobal + Print>(&mut self, rt: &R) -> anyhow::Result<()> {
         let before = resident(rt)?;
         add_clients(rt.alloc(), &mut self.clients)?;
         print_bytes(rt, NAME, "an idle client end", before, ENDS)
     }
 
-    /// Prints what a server end takes, to which nothing happened.
     fn weigh_servers<R: Files + AllocGlobal + Print>(&mut self, rt: &R) -> anyhow::Result<()> {
         let before = resident(rt)?;
         add_servers(rt.alloc(), &mut self.servers)?;
         print_bytes(rt, NAME, "an idle server end", before, ENDS)
     }
 
-    /// Prints what a client end and a server end take together, which are up.
     fn weigh_pairs<R: Files + AllocGlobal + Print>(&mut self, rt: &R) -> anyhow::Result<()> {
         let before = resident(rt)?;
         add_pairs(rt.alloc(), &mut self.pairs)?;
         print_bytes(rt, NAME, "a client and a server end, up", before, ENDS)
     }
 
-    /// Prints what ends take, and what a message in flight does.
     fn weigh<R: Files + AllocGlobal + Print>(&mut self, rt: &R) -> anyhow::Result<()> {
         self.weigh_clients(rt)?;
         self.weigh_servers(rt)?;
@@ -231,13 +213,11 @@ impl Kept {
     }
 }
 
-/// Prints what ends take.
 fn weigh_all<R: Files + AllocGlobal + Print>(rt: &R) -> anyhow::Result<()> {
     let mut kept = Kept::new(rt.alloc())?;
     kept.weigh(rt)
 }
 
-/// Measures what ends keep, and what a message takes, and prints both. The program has to be a new one, which has freed nothing yet.
 pub(crate) fn measure<R: Files + AllocGlobal + Print + Clock>(rt: &R) -> anyhow::Result<()> {
     weigh_all(rt)?;
     measure_all(rt, rt.alloc())

@@ -11,7 +11,6 @@ pub(crate) struct Figures {
     nanoseconds: u64,
 }
 
-/// How many a second, where so many took this long.
 fn per_second(count: u64, nanoseconds: u64) -> u64 {
     count.saturating_mul(1_000_000_000) / nanoseconds.max(1)
 }

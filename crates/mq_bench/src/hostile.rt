@@ -1,5 +1,5 @@
-//! Pieces of bytes, made up and changed, that come to decoders, ends and a broker: what they answer is counted, and held against the
-//! bounds.
+//! Generated and mutated bytes for decoders, ends and a broker. Counts the results and compares
+//! them with the bounds.
 
 mod at_decoder;
 mod at_ends;
@@ -81,7 +81,6 @@ impl Targets {
         Ok(())
     }
 
-    /// So many pieces to each.
     fn play(&mut self, alloc: Global, count: u64) -> anyhow::Result<()> {
         for number in 0..count {
             if number % RENEWED == 0 {
@@ -94,7 +93,6 @@ impl Targets {
         Ok(())
     }
 
-    /// How many answers came that may not.
     fn wrong(&self) -> u64 {
         let ends = self
             .client
@@ -130,13 +128,11 @@ fn print_hub(rt: &impl Print, hub: &AtHub) -> anyhow::Result<()> {
     Ok(())
 }
 
-/// How many pieces come to each, where a word asks for that.
 pub(crate) fn count_of(word: &str) -> Option<u64> {
     let (_, count) = WORDS.iter().find(|(name, _)| *name == word)?;
     Some(*count)
 }
 
-/// Prints what came of all pieces.
 fn print_all(rt: &impl Print, targets: &Targets) -> anyhow::Result<()> {
     print_decoder(rt, "strict", &targets.strict)?;
     print_decoder(rt, "lenient", &targets.lenient)?;
@@ -145,7 +141,6 @@ fn print_all(rt: &impl Print, targets: &Targets) -> anyhow::Result<()> {
     print_hub(rt, &targets.hub)
 }
 
-/// So many pieces come to each; answers how many answers came that may not.
 fn wrong_of(rt: &impl Print, alloc: Global, count: u64) -> anyhow::Result<u64> {
     let mut targets = Targets::new(alloc)?;
     targets.play(alloc, count)?;
@@ -153,7 +148,6 @@ fn wrong_of(rt: &impl Print, alloc: Global, count: u64) -> anyhow::Result<u64> {
     Ok(targets.wrong())
 }
 
-/// So many pieces come to each, and what came of them is printed. An answer that may not come is an error.
 pub(crate) fn measure(rt: &impl Print, alloc: Global, count: u64) -> anyhow::Result<()> {
     let wrong = wrong_of(rt, alloc, count)?;
     println!(rt; "hostile: {count} pieces to each, {wrong} answers that may not come")?;

@@ -14,7 +14,6 @@ use std::time::Instant;
 /// The word for it.
 pub(crate) const NAME: &str = "in_flight";
 
-/// What it is, on one line.
 pub(crate) const EXPLANATION: &str =
     "an accept with its acknowledgement, 10 and 60,000 messages in flight";
 
@@ -27,7 +26,6 @@ const BATCH: u16 = 1_000;
 /// How many batches are timed. In order the identifiers go round 15 times.
 const BATCHES: u16 = 1_000;
 
-/// How often each work is done. The middle one of its times counts.
 const ROUNDS: usize = 5;
 
 /// What acknowledges a message, and which.
@@ -61,7 +59,6 @@ impl Answer {
     }
 }
 
-/// So many messages.
 fn messages(alloc: Global, qos: Qos, count: u16) -> anyhow::Result<Vec<Message>> {
     let mut messages = Vec::with_capacity(alloc, usize::from(count))?;
     for _ in 0..count {
@@ -84,7 +81,6 @@ struct Flight {
 }
 
 impl Flight {
-    /// So many messages, and none is acknowledged.
     fn new(alloc: Global, qos: Qos, size: u16) -> anyhow::Result<Flight> {
         let mut flight = Flight {
             sender: Sender::new(alloc, u16::MAX),
@@ -96,7 +92,6 @@ impl Flight {
         Ok(flight)
     }
 
-    /// Accepts a message that goes out at once, and answers its identifier.
     fn accept(&mut self, message: Message) -> anyhow::Result<PacketId> {
         ensure!(message.qos != Qos::Q0, "a message that is not acknowledged");
         let id = self.sender.next_id().context("no identifier is free")?;
@@ -166,7 +161,6 @@ fn time_message(
     Ok(nanoseconds.saturating_mul(1000) / count.max(1))
 }
 
-/// How many picoseconds a message takes with so many in flight: the middle one of several times.
 fn time(rt: &impl Clock, alloc: Global, answer: Answer, size: u16) -> anyhow::Result<u64> {
     let mut flight = Flight::new(alloc, answer.qos(), size)?;
     let mut times = [0u64; ROUNDS];
@@ -192,7 +186,6 @@ fn measure_answer(rt: &(impl Print + Clock), alloc: Global, answer: Answer) -> a
     Ok(())
 }
 
-/// Measures what a message costs, by how it is acknowledged.
 pub(crate) fn measure(rt: &(impl Print + Clock), alloc: Global) -> anyhow::Result<()> {
     for answer in [Answer::PubAck, Answer::PubComp, Answer::LastPubAck] {
         measure_answer(rt, alloc, answer)?;

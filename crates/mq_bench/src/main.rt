@@ -1,6 +1,6 @@
-//! Measures how fast packets are decoded and encoded, beside a plain scan and a plain copy of the same
-//! bytes in the same run, how fast topic filters are matched, how long schedules take to replay, and what a message costs
-//! while others are in flight. With no words it lists what it can measure.
+//! Measures decoding and encoding of packets next to a scan and a copy of the same bytes in the
+//! same run, matching of topic filters, replays of schedules, and the cost of a message while
+//! others are in flight. Without arguments it lists its benchmarks.
 #![tactic(auto)]
 
 mod broker;
@@ -29,17 +29,14 @@ use std::rt::{Clock, Files};
 use stores::Filters;
 use subject::Subject;
 
-/// The words for the memory of a store, by what its filters are like.
 const WEIGHED: [(&str, Filters); 3] = [
     ("rows_plain", Filters::Plain),
     ("rows_plus", Filters::Plus),
     ("rows_shared", Filters::Shared),
 ];
 
-/// The word that lists what can be measured, as no word does.
 const LIST: &str = "list";
 
-/// The words that stand alone.
 const NAMES: [&str; 7] = [
     topics::NAME,
     replays::NAME,
@@ -50,13 +47,11 @@ const NAMES: [&str; 7] = [
     LIST,
 ];
 
-/// What the filters are like of the store that a word names.
 fn weighed(word: &str) -> Option<Filters> {
     let (_, filters) = WEIGHED.iter().find(|(name, _)| *name == word)?;
     Some(*filters)
 }
 
-/// What stands behind the words that stand alone, but for the stores.
 const EXPLAINED: [(&str, &str); 5] = [
     (replays::NAME, replays::EXPLANATION),
     (in_flight::NAME, in_flight::EXPLANATION),
@@ -65,7 +60,6 @@ const EXPLAINED: [(&str, &str); 5] = [
     (ends::NAME, ends::EXPLANATION),
 ];
 
-/// Names each stream and says what it is.
 fn list_streams(rt: &impl Print) -> anyhow::Result<()> {
     for subject in Subject::ALL {
         println!(rt; "{:<14} {}", subject.name(), subject.explanation())?;
@@ -73,7 +67,6 @@ fn list_streams(rt: &impl Print) -> anyhow::Result<()> {
     Ok(())
 }
 
-/// Names what is measured of stores, and says what it is.
 fn list_stores(rt: &impl Print) -> anyhow::Result<()> {
     println!(rt; "{:<14} {}", topics::NAME, topics::EXPLANATION)?;
     for (name, filters) in WEIGHED {
@@ -82,7 +75,6 @@ fn list_stores(rt: &impl Print) -> anyhow::Result<()> {
     Ok(())
 }
 
-/// Names what is measured of whole works, and says what it is.
 fn list_works(rt: &impl Print) -> anyhow::Result<()> {
     for (name, explanation) in EXPLAINED {
         println!(rt; "{name:<14} {explanation}")?;
@@ -90,7 +82,6 @@ fn list_works(rt: &impl Print) -> anyhow::Result<()> {
     Ok(())
 }
 
-/// Names what any bytes come to, and says how many pieces.
 fn list_hostile(rt: &impl Print) -> anyhow::Result<()> {
     for (name, count) in hostile::WORDS {
         println!(rt; "{name:<14} {count} pieces of any bytes to decoders, ends and a broker")?;
@@ -98,7 +89,6 @@ fn list_hostile(rt: &impl Print) -> anyhow::Result<()> {
     Ok(())
 }
 
-/// Names each thing that can be measured, and says what it is.
 fn list(rt: &impl Print) -> anyhow::Result<()> {
     list_streams(rt)?;
     list_stores(rt)?;
@@ -106,7 +96,6 @@ fn list(rt: &impl Print) -> anyhow::Result<()> {
     list_hostile(rt)
 }
 
-/// Whether a word names what can be measured.
 fn is_known(word: &String) -> bool {
     Subject::named(word.as_str()).is_some()
         || weighed(word.as_str()).is_some()
@@ -120,7 +109,6 @@ fn refuse(rt: &impl Eprint, word: &str) -> anyhow::Result<ExitCode> {
     Ok(ExitCode::from(2))
 }
 
-/// Measures the memory of a store, lets pieces come to all, or lists what can be measured, as a word says.
 fn measure_other<R: Files + AllocGlobal + Print + Clock>(rt: &R, word: &str) -> anyhow::Result<()> {
     if let Some(filters) = weighed(word) {
         return topics::weigh(rt, filters);
@@ -131,7 +119,6 @@ fn measure_other<R: Files + AllocGlobal + Print + Clock>(rt: &R, word: &str) -> 
     }
 }
 
-/// Measures what a word names.
 fn measure_word<R: Files + AllocGlobal + Print + Clock>(rt: &R, word: &str) -> anyhow::Result<()> {
     let alloc = rt.alloc();
     if let Some(subject) = Subject::named(word) {
@@ -148,7 +135,6 @@ fn measure_word<R: Files + AllocGlobal + Print + Clock>(rt: &R, word: &str) -> a
     }
 }
 
-/// Measures what the words name, one after another, unless one of them names nothing.
 fn perform<R: Files + AllocGlobal + Print + Eprint + Clock>(
     rt: &R,
     words: &[String],

@@ -12,10 +12,8 @@ use std::time::Instant;
 /// How many bytes a stream has, but for a rest of less than one turn.
 const STREAM: usize = 64_000_000;
 
-/// How often each work is done. The middle one of its times counts.
 const ROUNDS: usize = 5;
 
-/// How long the pieces are in which a stream is decoded: a byte, little, what a packet of a network carries, and much.
 const PIECES: [usize; 4] = [1, 64, 1_500, 65_536];
 
 /// How many nanoseconds a work takes.
@@ -31,7 +29,6 @@ fn time_once(
     Ok(u64::try_from(time.as_nanos()).unwrap_or(u64::MAX))
 }
 
-/// The middle one of several times that a work takes.
 fn time(
     rt: &impl Clock,
     alloc: Global,
@@ -82,7 +79,6 @@ fn measure_work(
     print_row(rt, alloc, work, figures, plain)
 }
 
-/// Prints what a table is of, and the names of its columns.
 fn print_heading(rt: &impl Print, subject: Subject, stream: &Stream<'_>) -> anyhow::Result<()> {
     let name = subject.name();
     let bytes = stream.byte_count();

@@ -4,7 +4,6 @@ use anyhow::Context;
 use std::fs;
 use std::rt::Files;
 
-/// The bytes of memory that the program keeps, by what the system says of it.
 pub(crate) fn resident<R: Files + Alloc>(rt: &R) -> anyhow::Result<u64> {
     let text = fs::read_to_string(rt, "/proc/self/statm")?;
     let pages = text
@@ -16,7 +15,6 @@ pub(crate) fn resident<R: Files + Alloc>(rt: &R) -> anyhow::Result<u64> {
     Ok(pages.saturating_mul(4_096))
 }
 
-/// Prints how many bytes one of so many takes, where there were as many before as this.
 pub(crate) fn print_bytes<R: Files + Alloc + Print>(
     rt: &R,
     name: &str,

@@ -46,13 +46,11 @@ pub(crate) fn idle_server(alloc: Global) -> anyhow::Result<ServerEnd> {
     Ok(server_within(alloc, limits()?))
 }
 
-// A value with which nothing failed; else it is let go of.
 fn given<T: Drop>(value: T, done: anyhow::Result<()>) -> anyhow::Result<T> {
     done?;
     Ok(value)
 }
 
-/// How many messages are handed on.
 fn handed(happenings: &[Happening]) -> usize {
     let is_handed = |it: &&Happening| matches!(it, Happening::Handed(_));
     happenings.iter().filter(is_handed).count()
@@ -75,7 +73,6 @@ impl Pair {
         })
     }
 
-    /// Both ends are up.
     pub(crate) fn new(alloc: Global) -> anyhow::Result<Pair> {
         let mut pair = Pair::idle(alloc)?;
         let up = pair.come_up();
@@ -104,7 +101,6 @@ impl Pair {
         }
     }
 
-    /// The bytes that wait at the client come to the server; answers how many messages it hands on.
     fn to_server(&mut self) -> anyhow::Result<usize> {
         let progress = self.server.receive(0, self.client.output());
         ensure!(progress.closed.is_none(), "the server closed");
@@ -125,7 +121,8 @@ impl Pair {
         Ok(())
     }
 
-    /// The client publishes a message, and all bytes go to and fro until none waits: one exchange at quality of service 1, two at 2.
+    /// The client publishes a message, and all bytes go to and fro until none waits: one exchange
+    /// at quality of service 1, two at 2.
     pub(crate) fn exchange(&mut self, message: Message) -> anyhow::Result<()> {
         self.client.publish(message)?;
         let mut count = 0usize;

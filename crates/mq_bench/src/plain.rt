@@ -1,4 +1,4 @@
-//! What is least done with bytes: to look at each of them, and to copy them.
+//! The baselines: scanning and copying bytes.
 
 use std::alloc::{AllocError, Global};
 
@@ -15,8 +15,6 @@ pub(crate) fn scan(bytes: &[u8]) -> u64 {
     sum
 }
 
-/// Copies all bytes into a vector, a piece after another over the one before, and answers how many they
-/// are.
 #[inline(never)]
 pub(crate) fn copy(alloc: Global, bytes: &[u8]) -> Result<u64, AllocError> {
     let mut copied = 0u64;

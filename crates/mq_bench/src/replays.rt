@@ -12,7 +12,6 @@ use std::time::Instant;
 /// The word for it.
 pub(crate) const NAME: &str = "replays";
 
-/// What it is, on one line.
 pub(crate) const EXPLANATION: &str =
     "schedules of 10,000 and of 100,000 events, and of 6,000 and of 60,000 messages in flight";
 
@@ -29,10 +28,8 @@ const SIZES: [u32; 2] = [10_000, 100_000];
 /// How many messages are in flight before the first is acknowledged, few and many.
 const FLIGHTS: [u32; 2] = [6_000, 60_000];
 
-/// How often each schedule is replayed. The middle one of its times counts.
 const ROUNDS: usize = 5;
 
-/// A schedule of so many events.
 fn schedule(alloc: Global, events: u32) -> anyhow::Result<Schedule> {
     let mut text = String::new(alloc);
     text.write_str("world 65536 100\n")?;
@@ -42,8 +39,6 @@ fn schedule(alloc: Global, events: u32) -> anyhow::Result<Schedule> {
     Ok(read_schedule(alloc, text.as_str())?)
 }
 
-/// A schedule of so many messages of quality of service 1 that are published one after another, and then delivered and
-/// acknowledged at once.
 fn flight(alloc: Global, messages: u32) -> anyhow::Result<Schedule> {
     let mut text = String::new(alloc);
     text.write_str("world 65536 65535\nopen\nto s all\nto c all\n")?;
@@ -64,7 +59,6 @@ fn time_replay(rt: &impl Clock, alloc: Global, schedule: &Schedule) -> anyhow::R
     Ok(u64::try_from(time.as_nanos()).unwrap_or(u64::MAX))
 }
 
-/// The middle one of some replays' times.
 fn middle_time(rt: &impl Clock, alloc: Global, schedule: &Schedule) -> anyhow::Result<u64> {
     let mut times = [0u64; ROUNDS];
     for time in &mut times {
@@ -74,8 +68,8 @@ fn middle_time(rt: &impl Clock, alloc: Global, schedule: &Schedule) -> anyhow::R
     Ok(times[ROUNDS / 2])
 }
 
-/// Measures the replay of a short and a long schedule, and with few and with many messages in flight, and prints how long each
-/// event or message takes.
+/// Measures the replay of a short and a long schedule, and with few and with many messages in
+/// flight, and prints how long each event or message takes.
 pub(crate) fn measure(rt: &(impl Print + Clock), alloc: Global) -> anyhow::Result<()> {
     for events in SIZES {
         let each = middle_time(rt, alloc, &schedule(alloc, events)?)? / u64::from(events).max(1);

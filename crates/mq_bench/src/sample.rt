@@ -13,7 +13,6 @@ use std::alloc::Global;
 
 const TOPIC: &str = "greenhouse/4/north/temperature/c";
 
-/// As many bytes as are asked for, none of them the same as the one before.
 pub(crate) fn made_up_bytes(alloc: Global, size: usize) -> anyhow::Result<Bytes> {
     let mut bytes = Vec::with_capacity(alloc, size)?;
     for place in 0..size {
@@ -124,7 +123,6 @@ fn small(alloc: Global) -> anyhow::Result<Vec<Packet>> {
     Ok(packets)
 }
 
-/// So many PUBLISH of one size.
 fn publishes(alloc: Global, count: u16, size: usize) -> anyhow::Result<Vec<Packet>> {
     let mut packets = Vec::new(alloc);
     for number in 1..=count {
@@ -133,7 +131,6 @@ fn publishes(alloc: Global, count: u16, size: usize) -> anyhow::Result<Vec<Packe
     Ok(packets)
 }
 
-/// So many PUBLISH of one size, each with its PUBACK.
 fn push_acknowledged(
     alloc: Global,
     packets: &mut Vec<Packet>,
@@ -147,7 +144,6 @@ fn push_acknowledged(
     Ok(())
 }
 
-/// Appends what a busy connection might carry in both directions.
 fn push_mixed(alloc: Global, packets: &mut Vec<Packet>) -> anyhow::Result<()> {
     let accepted = ConnAck::Accepted {
         session_present: false,
@@ -161,7 +157,6 @@ fn push_mixed(alloc: Global, packets: &mut Vec<Packet>) -> anyhow::Result<()> {
     push_acknowledged(alloc, packets, 1, 65_536)
 }
 
-/// The same in a list of its own.
 fn mixed(alloc: Global) -> anyhow::Result<Vec<Packet>> {
     let mut packets = Vec::new(alloc);
     push_mixed(alloc, &mut packets)?;

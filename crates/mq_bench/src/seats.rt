@@ -10,14 +10,13 @@ use std::rt::Files;
 /// The word for it.
 pub(crate) const NAME: &str = "hub_memory";
 
-/// What it is, on one line.
 pub(crate) const EXPLANATION: &str =
     "the memory of a broker's idle session, and of an open connection";
 
-/// How many there are, to see what one takes.
 const COUNT: u32 = 50_000;
 
-/// The client of this number comes, on a connection of this number, and its session goes on after it.
+/// The client of this number comes, on a connection of this number, and its session goes on after
+/// it.
 fn come(alloc: Global, hub: &mut Hub, nth: u32) -> anyhow::Result<()> {
     let conn = Conn { worker: 0, nth };
     let name = format!(in alloc; "meter-{nth}")?;
@@ -27,7 +26,6 @@ fn come(alloc: Global, hub: &mut Hub, nth: u32) -> anyhow::Result<()> {
     Ok(())
 }
 
-/// So many clients come and leave, and their sessions stay.
 fn add_sessions(alloc: Global, hub: &mut Hub) -> anyhow::Result<()> {
     for nth in 0..COUNT {
         come(alloc, hub, nth)?;
@@ -44,7 +42,6 @@ fn add_connections(alloc: Global, hub: &mut Hub) -> anyhow::Result<()> {
     Ok(())
 }
 
-/// Prints what a session takes whose client is away, and what a connection takes beside its session.
 fn weigh<R: Files + AllocGlobal + Print>(rt: &R, hub: &mut Hub) -> anyhow::Result<()> {
     let count = COUNT as usize;
     let before = resident(rt)?;
@@ -61,7 +58,6 @@ fn weigh<R: Files + AllocGlobal + Print>(rt: &R, hub: &mut Hub) -> anyhow::Resul
     )
 }
 
-/// Measures what a broker keeps, and prints it. The program has to be a new one, which has freed nothing yet.
 pub(crate) fn measure<R: Files + AllocGlobal + Print>(rt: &R) -> anyhow::Result<()> {
     let mut hub = broker(rt.alloc())?;
     weigh(rt, &mut hub)

@@ -14,10 +14,8 @@ const BATCH: u32 = 1_000;
 /// How many filters the shared set has, whatever its rows are.
 const SHARED_FILTERS: u32 = 1_000;
 
-/// How many rows a client has where filters are not shared.
 const ROWS_OF_A_CLIENT: u32 = 10;
 
-/// How often each store is asked. The middle one of the times counts.
 const ROUNDS: usize = 5;
 
 /// How many clients are taken away.
@@ -65,7 +63,6 @@ impl Filters {
         }
     }
 
-    /// How many clients a name finds among so many rows.
     fn found(self, rows: u32) -> usize {
         match self {
             Filters::Plain | Filters::Plus => 1,
@@ -94,7 +91,6 @@ impl Filters {
         Ok(TopicName::parse(alloc, text.as_str())?)
     }
 
-    /// So many names, each of which a filter of the rows matches, spread over all rows.
     fn names(self, alloc: Global, rows: u32, count: u32) -> anyhow::Result<Vec<TopicName>> {
         let mut names = Vec::with_capacity(alloc, count as usize)?;
         for number in 0..count {
@@ -105,12 +101,10 @@ impl Filters {
     }
 }
 
-/// The nanoseconds since a moment.
 fn since(rt: &impl Clock, start: Instant) -> anyhow::Result<u64> {
     Ok(u64::try_from(start.elapsed(rt)?.as_nanos()).unwrap_or(u64::MAX))
 }
 
-/// Sets a thousand rows from one on, and answers how long that took.
 fn set_batch<S: FilterStore>(
     rt: &impl Clock,
     alloc: Global,
@@ -129,7 +123,6 @@ fn set_batch<S: FilterStore>(
     since(rt, start)
 }
 
-/// Sets so many rows, and answers how long that took.
 fn fill<S: FilterStore>(
     rt: &impl Clock,
     alloc: Global,
@@ -171,7 +164,6 @@ fn time_matching<S: FilterStore>(
     since(rt, start)
 }
 
-/// The nanoseconds that a store with so many rows takes for each of these questions: the middle one of some times.
 fn matching<S: FilterStore>(
     rt: &impl Clock,
     alloc: Global,
@@ -204,7 +196,6 @@ fn time_removal<S: FilterStore>(
     since(rt, start)
 }
 
-/// How many rows these clients have, of so many rows in all.
 fn rows_of(filters: Filters, clients: u32, rows: u32) -> u32 {
     match filters {
         Filters::Plain | Filters::Plus => clients.saturating_mul(ROWS_OF_A_CLIENT).min(rows),
@@ -212,8 +203,8 @@ fn rows_of(filters: Filters, clients: u32, rows: u32) -> u32 {
     }
 }
 
-/// Measures a store without rows, `named` so, as it gets so many rows, is asked about few names often and about many names, and
-/// loses clients, and prints the nanoseconds of each.
+/// Measures a store that gets `count` rows, answers few names often and many names once, and loses
+/// clients. Prints nanoseconds for each.
 pub(crate) fn measure<S: FilterStore>(
     rt: &(impl Print + Clock),
     alloc: Global,
@@ -234,7 +225,8 @@ pub(crate) fn measure<S: FilterStore>(
     Ok(())
 }
 
-/// Fills a store, and prints how many bytes a row takes. The program has to be a new one, which has freed nothing yet.
+/// Fills a store, and prints how many bytes a row takes. The program has to be a new one, which has
+/// freed nothing yet.
 pub(crate) fn weigh<R: Files + AllocGlobal + Print + Clock, S: FilterStore>(
     rt: &R,
     named: &str,

@@ -1,13 +1,13 @@
-//! Streams of bytes that spell packets, again and again.
+//! Streams of repeated packets.
 
 use crate::plain;
 use mq_packet::{Packet, encode_into};
 use std::alloc::Global;
 
-/// Packets, and the bytes that spell them so many times over.
+/// Packets, and the bytes of their repetition.
 #[derive(Drop)]
 pub(crate) struct Stream<'a> {
-    /// What each turn spells.
+    /// The packets of each repetition.
     pub(crate) packets: &'a [Packet],
     /// How many turns there are.
     pub(crate) turns: usize,

@@ -36,7 +36,6 @@ impl Subject {
         }
     }
 
-    /// What it is, on one line.
     pub(crate) fn explanation(self) -> &'static str {
         match self {
             Subject::Small =>

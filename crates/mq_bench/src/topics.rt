@@ -10,7 +10,6 @@ use std::time::Instant;
 /// The word for it.
 pub(crate) const NAME: &str = "topics";
 
-/// What it is, on one line.
 pub(crate) const EXPLANATION: &str = "a filter of 8 levels, and stores of 1,000 to 1,000,000 rows";
 
 /// How many names a filter is asked about, one after another.
@@ -22,7 +21,6 @@ const PASSES: u32 = 1_000;
 /// How many rows a plain store has. It asks each of its rows about each name.
 const LIST_ROWS: [u32; 2] = [1_000, 10_000];
 
-/// What a plain store is asked.
 const LIST_ASKED: [Asked; 2] = [
     Asked {
         names: 100,
@@ -37,7 +35,6 @@ const LIST_ASKED: [Asked; 2] = [
 /// How many rows a trie has.
 const TRIE_ROWS: [u32; 4] = [1_000, 10_000, 100_000, 1_000_000];
 
-/// What a trie is asked.
 const TRIE_ASKED: [Asked; 2] = [
     Asked {
         names: 1_000,
@@ -52,10 +49,8 @@ const TRIE_ASKED: [Asked; 2] = [
 /// How many rows a store has whose memory is looked at.
 const WEIGHED: u32 = 1_000_000;
 
-/// How often each work is done. The middle one of its times counts.
 const ROUNDS: usize = 5;
 
-/// How many a second, where so many took this long.
 fn per_second(count: u32, nanoseconds: u64) -> u64 {
     u64::from(count).saturating_mul(1_000_000_000) / nanoseconds.max(1)
 }
@@ -95,7 +90,6 @@ fn time_matches(rt: &impl Clock, filter: &TopicFilter, names: &[TopicName]) -> a
     Ok(u64::try_from(time.as_nanos()).unwrap_or(u64::MAX))
 }
 
-/// Measures a plain store of so many rows.
 fn measure_list(
     rt: &(impl Print + Clock),
     alloc: Global,
@@ -106,7 +100,6 @@ fn measure_list(
     stores::measure(rt, alloc, "list", &mut store, filters, rows, LIST_ASKED)
 }
 
-/// Measures a trie of so many rows.
 fn measure_trie(
     rt: &(impl Print + Clock),
     alloc: Global,
@@ -117,7 +110,6 @@ fn measure_trie(
     stores::measure(rt, alloc, "trie", &mut store, filters, rows, TRIE_ASKED)
 }
 
-/// Measures stores of so many rows of each kind, and prints how long each call takes.
 fn measure_stores(rt: &(impl Print + Clock), alloc: Global) -> anyhow::Result<()> {
     for filters in Filters::ALL {
         for rows in LIST_ROWS {
@@ -130,7 +122,8 @@ fn measure_stores(rt: &(impl Print + Clock), alloc: Global) -> anyhow::Result<()
     Ok(())
 }
 
-/// Prints how many bytes a row of both stores takes. The program has to be a new one, which has freed nothing yet.
+/// Prints how many bytes a row of both stores takes. The program has to be a new one, which has
+/// freed nothing yet.
 pub(crate) fn weigh<R: Files + AllocGlobal + Print + Clock>(
     rt: &R,
     filters: Filters,
@@ -139,7 +132,6 @@ pub(crate) fn weigh<R: Files + AllocGlobal + Print + Clock>(
     stores::weigh(rt, "trie", &mut store, filters, WEIGHED)
 }
 
-/// Measures the matching of a filter, and stores, and prints what each takes.
 pub(crate) fn measure(rt: &(impl Print + Clock), alloc: Global) -> anyhow::Result<()> {
     let names = names(alloc)?;
     let filter = TopicFilter::parse(alloc, "house/+/floor/+/room/+/sensor/+")?;

@@ -1,4 +1,4 @@
-//! What is done with a stream.
+//! The operations on a stream.
 
 use crate::plain;
 use crate::stream::Stream;
@@ -8,14 +8,14 @@ use mq_packet::encode_into;
 use std::alloc::Global;
 use std::fmt;
 
-/// What is done with a stream.
+/// An operation on a stream.
 #[derive(Clone, Copy, Debug, PartialEq, Eq)]
 pub(crate) enum Work {
     /// Its bytes are summed up.
     Scan,
     /// Its bytes are copied.
     Copy,
-    /// Its packets are looked at where they lie.
+    /// Views each packet.
     View,
     /// It is decoded, in pieces of this size.
     Decode(usize),
@@ -53,7 +53,6 @@ fn word_of(packet: &PacketView<'_>) -> usize {
     }
 }
 
-/// Looks at the packets of a stream where they lie, and answers how many there are.
 fn look(bytes: &[u8]) -> anyhow::Result<u64> {
     let limits = limits()?;
     let mut rest = bytes;
@@ -75,7 +74,6 @@ fn look(bytes: &[u8]) -> anyhow::Result<u64> {
     Ok(count)
 }
 
-/// Takes the packets of a piece one at a time, and answers how many there are.
 fn step(decoder: &mut Decoder, piece: &[u8]) -> anyhow::Result<u64> {
     let mut rest = piece;
     let mut count = 0u64;
@@ -93,7 +91,6 @@ fn step(decoder: &mut Decoder, piece: &[u8]) -> anyhow::Result<u64> {
     Ok(count)
 }
 
-/// Decodes a stream one packet at a time in pieces of one size, and answers how many there are.
 fn step_through(alloc: Global, bytes: &[u8], piece: usize) -> anyhow::Result<u64> {
     let mut decoder = Decoder::new(alloc, limits()?);
     let mut count = 0u64;
@@ -104,7 +101,6 @@ fn step_through(alloc: Global, bytes: &[u8], piece: usize) -> anyhow::Result<u64
     Ok(count)
 }
 
-/// Decodes a stream in pieces of one size, and answers how many packets came out.
 fn decode(alloc: Global, bytes: &[u8], piece: usize) -> anyhow::Result<u64> {
     let mut decoder = Decoder::new(alloc, limits()?);
     let mut packets = Vec::new(alloc);
@@ -122,7 +118,6 @@ fn decode(alloc: Global, bytes: &[u8], piece: usize) -> anyhow::Result<u64> {
     Ok(count)
 }
 
-/// Encodes the packets of a stream, each turn over the one before, and answers how many bytes that gave.
 fn encode(alloc: Global, stream: &Stream<'_>) -> anyhow::Result<u64> {
     let mut out = Vec::new(alloc);
     let mut count = 0u64;
@@ -137,7 +132,6 @@ fn encode(alloc: Global, stream: &Stream<'_>) -> anyhow::Result<u64> {
 }
 
 impl Work {
-    /// Does it once, and fails where what came out is not the stream.
     pub(crate) fn run(self, alloc: Global, stream: &Stream<'_>) -> anyhow::Result<()> {
         let (count, wanted) = match self {
             Work::Scan => (plain::scan(stream.bytes.as_slice()), stream.sum),

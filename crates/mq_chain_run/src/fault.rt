@@ -9,7 +9,7 @@ use thiserror::Error;
 /// Why rounds can't be run.
 #[derive(Clone, Copy, Debug, PartialEq, Eq, Error)]
 pub(crate) enum Fault {
-    /// A line is no command, or none that may stand there.
+    /// A line is not a command, or not in its place.
     #[error("a line is not read")]
     Line,
     /// A file or a socket failed, or the output.

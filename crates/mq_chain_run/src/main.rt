@@ -1,11 +1,15 @@
-//! Runs the broker and the client programs against each other, over sockets of this machine, as their words say.
+//! Runs the broker and the client programs against each other, over sockets of this machine, as
+//! their words say.
 //!
-//! The standard input has rounds, with an empty line between each two. A round is the line of a broker, and then lines of programs that are run
-//! one after another while it serves; each is as a person types it. `PORT` stands for the port on which the broker listens, which is a free one, `''` for an empty
-//! word, and `xxd -p FILE` prints a file's bytes. A line that begins with `#` is a remark. What each program prints is printed under its line, with its status; the
-//! broker's comes last.
+//! The standard input consists of rounds, separated by empty lines. A round is the command line of
+//! a broker, followed by those of programs that run one after another while it serves, as a person
+//! types them. `PORT` is replaced by the port of the broker, which is a free one; `''` is an empty
+//! argument; and `xxd -p FILE` prints the bytes of a file. A line that begins with `#` is a
+//! comment. The output of each program follows its command line, with its status; that of the
+//! broker comes last.
 //!
-//! No round waits for good: where a client made no connection, others are made in its place, and the broker ends all the same.
+//! No round waits forever: if a client makes no connection, others are made in its place, so the
+//! broker ends.
 #![tactic(auto)]
 
 mod fault;

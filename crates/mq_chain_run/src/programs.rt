@@ -15,13 +15,13 @@ use std::time::Clock;
 /// A program that has run.
 #[derive(Drop)]
 pub(crate) struct Ran {
-    /// What it printed.
+    /// Its output.
     pub(crate) printed: Vec<u8>,
     /// Its status.
     pub(crate) status: u8,
 }
 
-// What stands for a word of a line.
+// The argument in place of a word.
 fn word_of<'a>(word: &'a str, port: &'a str) -> &'a str {
     match word {
         "PORT" => port,

@@ -11,7 +11,7 @@ use std::thread::Threads;
 use std::time::{Clock, Duration};
 use std::{io, thread};
 
-/// How long a connection that stands in for another waits for its answer, in milliseconds.
+/// How long a substitute connection waits for a response, in milliseconds.
 const KNOCK_LIMIT: u64 = 1_000;
 
 // Writes what a program printed, and its status.
@@ -20,7 +20,7 @@ fn write_ran<W: Write>(output: &mut W, printed: &[u8], status: u8) -> io::Result
     writeln!(output, "status {status}")
 }
 
-// Runs the programs of the lines one after another, and says what they printed.
+// Runs the programs of the lines one after another, and writes their output.
 fn tell_lines<R: Net + Clock + Files>(
     rt: &R,
     alloc: Global,
@@ -36,7 +36,7 @@ fn tell_lines<R: Net + Clock + Files>(
     Ok(told)
 }
 
-// Makes so many connections, as far as there is somebody who listens, and leaves them at once.
+// Makes `connections` connections, if the port is open, and closes them at once.
 fn knock<R: Net>(rt: &R, port: u16, connections: u32) {
     let address = SocketAddr::from(([127, 0, 0, 1], port));
     for _ in 0..connections {
@@ -44,7 +44,8 @@ fn knock<R: Net>(rt: &R, port: u16, connections: u32) {
     }
 }
 
-// Runs the programs of the lines, and sees to it that the broker has as many connections as it waits for.
+// Runs the programs of the lines, and sees to it that the broker has as many connections as it
+// waits for.
 fn tell_clients<R: Net + Clock + Files>(
     rt: &R,
     alloc: Global,
@@ -76,7 +77,7 @@ fn write_broker<W: Write>(
     Ok(())
 }
 
-// Runs a round, and writes what came of it.
+// Runs a round and writes its output.
 fn write_round<R, W: Write>(
     rt: &R,
     alloc: Global,
@@ -100,7 +101,7 @@ where
     write_broker(output, alloc, &served?, port)
 }
 
-/// Runs each round of a text, and writes what came of it.
+/// Runs each round of a text and writes its output.
 pub(crate) fn write_rounds<R, W: Write>(
     rt: &R,
     alloc: Global,

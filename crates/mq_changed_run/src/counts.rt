@@ -1,4 +1,4 @@
-//! What comes of a packet that is changed.
+//! The results of mutated packets.
 
 use crate::fault::Fault;
 use crate::reading::{Reading, read};

@@ -1,9 +1,11 @@
-//! Reads packets, a line of hexadecimal digits each, from the standard input, and decodes what becomes of them where they are changed or cut.
+//! Reads packets from the standard input, one line of hexadecimal digits each, and decodes their
+//! mutations and prefixes.
 //!
-//! Each byte of a packet is set to each other value: then packets come, a rest that is held, or a fault, and the packets have to be written as
-//! the bytes that were taken. And it is cut at each place: then all of it has to be held. Of each packet is printed how often it was changed,
-//! how often something else came of that, and whether it is held wherever it is cut. A line that begins with `#` is a remark, and blanks in a
-//! line don't count.
+//! Each byte of a packet is set to each other value: then packets come, a rest that is held, or a
+//! fault, and the packets have to be written as the bytes that were taken. And it is cut at each
+//! place: then all of it has to be held. Of each packet is printed how often it was changed, how
+//! often something else came of that, and whether it is held wherever it is cut. A line that begins
+//! with `#` is a remark, and blanks in a line don't count.
 #![tactic(auto)]
 
 mod counts;
@@ -36,7 +38,6 @@ fn is_held(alloc: Global, packet: &[u8]) -> Result<bool, Fault> {
     Ok(true)
 }
 
-/// Changes and cuts a packet, and prints what comes of it. Answers whether all of it is right.
 fn walk_packet(rt: &impl Print, alloc: Global, line: &str) -> Result<bool, Fault> {
     let packet = bytes_of(alloc, line)?;
     if read(alloc, packet.as_slice())? != Reading::Whole {
@@ -48,7 +49,6 @@ fn walk_packet(rt: &impl Print, alloc: Global, line: &str) -> Result<bool, Fault
     Ok(is_held && wrong == 0)
 }
 
-/// Walks over the packets of a text. Answers whether all is right.
 fn walk_text(rt: &impl Print, alloc: Global, text: &str) -> Result<bool, Fault> {
     let mut is_right = true;
     for line in text.lines() {

@@ -13,7 +13,7 @@ const MOST: u32 = 268_435_455;
 pub(crate) enum Reading {
     /// They are packets.
     Whole,
-    /// So many of them are held, behind the packets.
+    /// This many bytes are held behind the packets.
     Held(usize),
     /// Behind the packets they are faulty.
     Faulty,

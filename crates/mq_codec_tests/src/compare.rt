@@ -1,14 +1,12 @@
-//! Texts and answers that are as they are to be. Nothing else is held where they are compared, so that a walk over rows holds nothing either.
+//! Comparison of texts. Holds no other values, so that a loop over rows holds none either.
 
 use std::process::Abort;
 use std::test::Fail;
 
-/// The text is this one; where it isn't, what it is of is told.
 pub(crate) fn expect_text(rt: &impl Abort, told: &str, wanted: &str, of: &str) {
     assert_eq!(rt; told, wanted, "{of}");
 }
 
-/// The same of a text that a call answers.
 pub(crate) fn expect_told(
     rt: &impl Abort,
     told: Result<String, Fail>,
@@ -20,7 +18,6 @@ pub(crate) fn expect_told(
     Ok(())
 }
 
-/// The same of a text of bytes.
 pub(crate) fn expect_read(
     rt: &impl Abort,
     told: Result<String, Fail>,
@@ -32,7 +29,6 @@ pub(crate) fn expect_read(
     Ok(())
 }
 
-// The same of a text that was told.
 fn expect_text_of(rt: &impl Abort, told: &str, wanted: &str, of: &[u8]) {
     assert_eq!(rt; told, wanted, "{of:?}");
 }

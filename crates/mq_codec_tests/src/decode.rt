@@ -52,7 +52,6 @@ pub(crate) fn limits(max_packet: u32) -> Result<Limits, Fail> {
     Ok(Limits::new(max_packet).ok_or("no limits")?)
 }
 
-// What the decoder answers to pieces, and how many packets came.
 pub(crate) fn outcome(
     alloc: Global,
     limits: Limits,
@@ -63,8 +62,8 @@ pub(crate) fn outcome(
     (answer, out.len())
 }
 
-// The decoder's answer to the last of the bytes where they come one at a time; nothing where it does not hold all that came before, or
-// a packet comes.
+// The decoder's result for the last byte if they arrive one at a time; `None` if it does not hold
+// all previous bytes, or returns a packet.
 fn answer_to_last(
     decoder: &mut Decoder,
     out: &mut Vec<Packet>,
@@ -80,7 +79,6 @@ fn answer_to_last(
     if out.is_empty() { Some(answer) } else { None }
 }
 
-// The same of a new decoder.
 fn answer_byte_by_byte(
     alloc: Global,
     limits: Limits,
@@ -91,8 +89,8 @@ fn answer_byte_by_byte(
     answer_to_last(&mut decoder, &mut out, bytes)
 }
 
-// The fault of these bytes, which the last of them shows: in place, as a whole, between two packets, and
-// one byte at a time.
+// The fault of these bytes, which the last of them shows: in place, as a whole, between two
+// packets, and one byte at a time.
 fn expect_fault(
     rt: &impl Abort,
     alloc: Global,
@@ -113,7 +111,6 @@ fn expect_fault(
     expect_stepped_fault(rt, alloc, limits, bytes, fault);
 }
 
-// The same where packets are taken one at a time, and in all cuttings in two.
 fn expect_stepped_fault(
     rt: &impl Abort,
     alloc: Global,
@@ -133,7 +130,6 @@ fn expect_stepped_fault(
     }
 }
 
-// The same of a row.
 fn expect_row_fault(
     rt: &impl Abort,
     alloc: Global,
@@ -267,8 +263,8 @@ fn places_count_from_the_first_byte(rt: &impl Abort, alloc: Global) -> Result<()
     Ok(())
 }
 
-// The flags of a CONNECT that are allowed (3.1.2.3): the will, the user name and the password, and the
-// clean session each add one of these.
+// The flags of a CONNECT that are allowed (3.1.2.3): the will, the user name and the password, and
+// the clean session each add one of these.
 const WILL_FLAGS: [u8; 7] = [0, 0x04, 0x0c, 0x14, 0x24, 0x2c, 0x34];
 
 const LOGIN_FLAGS: [u8; 3] = [0, 0x80, 0xc0];
@@ -331,7 +327,6 @@ fn feeds_in_two(
     Ok(is_held && decoder.held() == 0 && out.len() == 1)
 }
 
-// The same of a new decoder; and whether the packet is spelled as both pieces.
 fn reads_in_two(
     way: Way,
     alloc: Global,
@@ -418,7 +413,6 @@ fn streams_are_read_in_pieces(rt: &impl Abort, alloc: Global) -> Result<(), Fail
     expect_stream(rt, alloc, stream.as_slice())
 }
 
-// The values that the fields stand for, as the packet's line has them.
 static LINES: [(&str, &str); 7] = [
     (
         "10 1a 00044d515454 04 ee 000a 000161 000177 000200ff 000175 000170",
@@ -472,7 +466,6 @@ fn limits_are_from_64(rt: &impl Abort) -> Result<(), Fail> {
     Ok(())
 }
 
-// What comes of bytes: the decoder's answer, how many bytes it holds, and how many packets came so far.
 fn answered(
     way: Way,
     alloc: Global,
@@ -489,7 +482,6 @@ fn answered(
     }
 }
 
-// The same of a piece, or of a reset.
 fn fed(
     way: Way,
     alloc: Global,
@@ -573,8 +565,6 @@ fn feed(
     Ok(())
 }
 
-// What comes of a piece: how many bytes are held, how many packets came so far, and how many bytes were
-// copied.
 fn copied(
     way: Way,
     alloc: Global,
@@ -668,23 +658,19 @@ fn what_follows_a_fault_does_not_matter(rt: &impl Abort, alloc: Global) -> Resul
     Ok(())
 }
 
-// What a fault displays as.
 fn displayed(alloc: Global, kind: FaultKind) -> Result<String, Fail> {
     Ok(format!(in alloc; "{kind}")?)
 }
 
-// What an error displays as.
 fn said<E: Display + Drop>(alloc: Global, error: E) -> Result<String, Fail> {
     Ok(format!(in alloc; "{error}")?)
 }
 
-// Where the first byte of a packet is no type's.
 const FIRST_BYTE: DecodeFault = DecodeFault {
     kind: ForbiddenType,
     place: 0,
 };
 
-// Errors of the decoder, and what each displays.
 static DECODE_ERRORS: [(DecodeError, &str); 2] = [
     (
         DecodeError::Fault(FIRST_BYTE),

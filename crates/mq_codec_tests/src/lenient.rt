@@ -28,7 +28,6 @@ fn count_or_fault(
     }
 }
 
-// What lies behind a packet of this size.
 fn behind(bytes: &[u8], size: usize) -> Result<&[u8], Option<DecodeFault>> {
     match bytes.split_at_checked(size) {
         Some((_, after)) => Ok(after),
@@ -49,7 +48,6 @@ fn viewed(limits: Limits, bytes: &[u8]) -> Result<usize, Option<DecodeFault>> {
     Err(None)
 }
 
-// The same comes of the bytes in place, as a whole and in two pieces.
 fn expect(
     rt: &impl Abort,
     alloc: Global,

@@ -3,7 +3,6 @@
 use mq_wire::{LengthReading, VarFault, VarStep, VarlenReader, loose_length_at};
 use std::process::Abort;
 
-// What the bytes come to at a lenient reader, one after the other.
 fn pushed(bytes: &[u8]) -> VarStep {
     let mut reader = VarlenReader::lenient();
     for byte in bytes {

@@ -62,20 +62,17 @@ fn adds(alloc: Global, packet: &Packet, bytes: &[u8]) -> Result<bool, Fail> {
     Ok(are_behind_a_byte(out.as_slice(), bytes))
 }
 
-// Whether the packet has the size of these bytes, and a clone of it is spelled as they are.
 fn is_encoded(alloc: Global, packet: &Packet, bytes: &[u8]) -> Result<bool, Fail> {
     let size = encoded_len(packet).ok_or("too large")?;
     let copy = packet.clone()?;
     Ok(size as usize == bytes.len() && adds(alloc, &copy, bytes)?)
 }
 
-// The same of a packet that a call answers.
 fn is_encoded_as(alloc: Global, packet: Result<Packet, Fail>, bytes: &[u8]) -> Result<bool, Fail> {
     let packet = packet?;
     is_encoded(alloc, &packet, bytes)
 }
 
-// The packet is spelled as these bytes.
 fn expect_encoded(
     rt: &impl Abort,
     alloc: Global,
@@ -160,7 +157,6 @@ fn publish_is_encoded(rt: &impl Abort, alloc: Global) -> Result<(), Fail> {
     expect_encoded(rt, alloc, repeated_packet(alloc), bytes)
 }
 
-// Whether a message that stays where it is adds these bytes to a byte, as a PUBLISH of quality of service 0.
 fn once_in_place(alloc: Global, bytes: &[u8]) -> Result<bool, Fail> {
     let mut out = vec![in alloc; 0xff]?;
     let message = message(alloc, "a/b", Bytes::from_static(b"hi"), Qos::Q0)?;
@@ -171,7 +167,6 @@ fn once_in_place(alloc: Global, bytes: &[u8]) -> Result<bool, Fail> {
     Ok(are_behind_a_byte(out.as_slice(), bytes))
 }
 
-// The same of quality of service 2, which may have come before.
 fn repeated_in_place(alloc: Global, bytes: &[u8]) -> Result<bool, Fail> {
     let (id, dup) = (id(1)?, true);
     let mut out = vec![in alloc; 0xff]?;
@@ -324,7 +319,6 @@ fn bounds_are_those_of_the_standard(rt: &impl Abort, alloc: Global) -> Result<()
     Ok(())
 }
 
-// How many bytes a binary field of 65,536 has, and one of 65,535; nothing where it is none.
 fn binary_sizes(alloc: Global) -> Result<(Option<usize>, Option<usize>), Fail> {
     let bytes = Bytes::from_vec(vec![in alloc; 0; 65_536]?)?;
     let longest = binary_size(bytes.slice(..65_535)?);
@@ -369,7 +363,6 @@ fn sizes_of_publish(alloc: Global, bytes: &Bytes) -> Result<[Option<u32>; 2], Fa
     Ok([longest, longer])
 }
 
-// What comes of 268,435,456 bytes: those sizes, whether the second PUBLISH is refused, and whether all of them are a payload.
 fn greatest_in_short(alloc: Global) -> Result<String, Fail> {
     let bytes = Bytes::from_vec(vec![in alloc; 0; 268_435_456]?)?;
     let sizes = sizes_of_publish(alloc, &bytes)?;
@@ -386,7 +379,7 @@ fn a_remaining_length_has_28_bits(rt: HostRuntime) -> Result<(), Fail> {
     expect_told(rt, greatest_in_short(alloc), wanted, "")
 }
 
-// Takes so many bytes, at most three at a time and each time after a signal, and then fails.
+// Takes a number of bytes, at most three at a time, each after an interruption, and then fails.
 #[derive(Drop)]
 struct Narrow {
     taken: Vec<u8>,
@@ -427,7 +420,6 @@ fn write_to(
     }
 }
 
-// How the writing of a PUBLISH to a writer with so much room ended, where the writer has taken these bytes.
 fn written(alloc: Global, room: usize, bytes: &[u8]) -> Result<Option<ErrorKind>, Fail> {
     let mut writer = Narrow {
         taken: Vec::with_capacity(alloc, 16)?,

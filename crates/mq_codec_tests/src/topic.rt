@@ -19,13 +19,11 @@ fn filter_fault(alloc: Global, text: &str) -> Option<TopicFault> {
     TopicFilter::parse(alloc, text).err()
 }
 
-// What a name shows, by way of its clone.
 fn copied_name(alloc: Global, name: &TopicName) -> Result<String, Fail> {
     let copy = name.clone()?;
     Ok(copy.as_str().to_string(alloc)?)
 }
 
-// The same, or its fault.
 fn name_in_short(alloc: Global, text: &str) -> Result<String, Fail> {
     match TopicName::parse(alloc, text) {
         Ok(name) => copied_name(alloc, &name),
@@ -33,7 +31,6 @@ fn name_in_short(alloc: Global, text: &str) -> Result<String, Fail> {
     }
 }
 
-// Texts, and what each shows as a name: itself, or its fault.
 static NAMES: [(&str, &str); 13] = [
     ("a", "a"),
     ("/", "/"),
@@ -57,13 +54,11 @@ fn names_are_taken_or_refused(rt: &impl Abort, alloc: Global) -> Result<(), Fail
     Ok(())
 }
 
-// What a filter shows, by way of its clone.
 fn copied_filter(alloc: Global, filter: &TopicFilter) -> Result<String, Fail> {
     let copy = filter.clone()?;
     Ok(copy.as_str().to_string(alloc)?)
 }
 
-// The same, or its fault.
 fn filter_in_short(alloc: Global, text: &str) -> Result<String, Fail> {
     match TopicFilter::parse(alloc, text) {
         Ok(filter) => copied_filter(alloc, &filter),
@@ -71,7 +66,6 @@ fn filter_in_short(alloc: Global, text: &str) -> Result<String, Fail> {
     }
 }
 
-// Texts, and what each shows as a filter: itself, or its fault.
 static FILTERS: [(&str, &str); 24] = [
     ("a", "a"),
     ("/", "/"),
@@ -148,13 +142,11 @@ fn texts_that_pass_become_names_and_filters(rt: &impl Abort, alloc: Global) -> R
     expect_told(rt, name_and_filter(alloc), "a/b a/b", "")
 }
 
-// The code of a fault, and what it displays.
 fn fault_in_short(alloc: Global, fault: TopicFault) -> Result<String, Fail> {
     let code = fault.code();
     Ok(format!(in alloc; "{code} {fault}")?)
 }
 
-// Each fault, its code, and what it displays.
 static FAULTS: [(TopicFault, &str); 7] = [
     (TopicFault::Empty, "N1 the text is empty"),
     (TopicFault::Nul, "N2 the text has the character U+0000"),
@@ -215,7 +207,6 @@ fn filters_have_faults(rt: &impl Abort, alloc: Global) {
     assert_eq!(rt; name_fault(alloc, "a/+"), Some(TopicFault::Wildcard));
 }
 
-// What a name finds in any store.
 fn found<S: FilterStore>(store: &S, name: &TopicName) -> Result<Vec<(ClientKey, Qos)>, AllocError>
     ensures { IfOk result (λ found. found.items ≡ matched name.now (S.rows store.now)) }
 {
@@ -230,7 +221,6 @@ fn add_clients(text: &mut String, clients: &[(ClientKey, Qos)]) -> Result<(), Al
     Ok(())
 }
 
-// What a name finds in a store, in order.
 pub(crate) fn found_in_short<S: FilterStore>(
     alloc: Global,
     store: &S,
@@ -305,7 +295,6 @@ fn find<S: FilterStore>(
     Ok(())
 }
 
-// What names find in a store with the rows, and after one row is taken away.
 fn finds_clients<S: FilterStore>(
     rt: &impl Abort,
     alloc: Global,
@@ -324,7 +313,6 @@ fn finds_clients<S: FilterStore>(
     find(rt, alloc, store, &rows)
 }
 
-// What a store answers for a row that is set again, and after its client's rows are taken away.
 fn sets_and_takes<S: FilterStore>(
     rt: &impl Abort,
     alloc: Global,
@@ -363,7 +351,8 @@ fn rows_are_set_and_taken_away_in_a_trie(rt: &impl Abort, alloc: Global) -> Resu
     sets_and_takes(rt, alloc, &mut store)
 }
 
-// How many nodes a trie has before its rows are set, then, and after its clients' rows are taken away.
+// How many nodes a trie has before its rows are set, then, and after its clients' rows are taken
+// away.
 fn node_counts(alloc: Global, store: &mut TrieStore) -> Result<[usize; 3], Fail> {
     let before = store.nodes();
     set_rows(alloc, store)?;
@@ -392,7 +381,6 @@ fn a_trie_has_the_nodes_of_its_rows(rt: &impl Abort, alloc: Global) -> Result<()
     Ok(())
 }
 
-// How many nodes a trie has with this filter, what the filter's text finds as a name, and how many nodes are left.
 fn levels_in_short(alloc: Global, store: &mut TrieStore, filter: &str) -> Result<String, Fail> {
     set(alloc, store, 7, filter, Qos::Q1)?;
     let nodes = store.nodes();

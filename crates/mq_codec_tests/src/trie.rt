@@ -57,7 +57,6 @@ impl Numbers {
     }
 }
 
-// Both stores find the same.
 fn find_alike(
     rt: &impl Abort,
     alloc: Global,
@@ -76,7 +75,6 @@ fn find_alike(
     Ok(())
 }
 
-// Sets the same row in both stores.
 fn set_alike(
     list: &mut ListStore,
     trie: &mut TrieStore,
@@ -88,7 +86,6 @@ fn set_alike(
     trie.set(client, filter.clone()?, qos)
 }
 
-// Both stores answer the same to a call with a filter, which the number picks.
 fn call_with(
     rt: &impl Abort,
     numbers: &mut Numbers,
@@ -111,7 +108,6 @@ fn call_with(
     Ok(())
 }
 
-// The same with a filter that is made up, where the text is one.
 fn call_alike(
     rt: &impl Abort,
     numbers: &mut Numbers,
@@ -127,7 +123,6 @@ fn call_alike(
     Ok(())
 }
 
-// Both stores answer the same to so many calls, and names find the same in them.
 fn walk(
     rt: &impl Abort,
     alloc: Global,

@@ -29,7 +29,6 @@ pub(crate) fn expect_view_fault(rt: &impl Abort, limits: Limits, bytes: &[u8], f
     assert!(rt; size_in(limits, bytes) == Err(Some(fault)), "{bytes:?}");
 }
 
-// Whether the packet of its own that a view gives is spelled as the bytes.
 fn is_encoded_again(alloc: Global, limits: Limits, bytes: &[u8]) -> Result<bool, Fail> {
     let mut out = Vec::new(alloc);
     let View::Whole(lent, _) = view(bytes, limits) else {
@@ -40,7 +39,6 @@ fn is_encoded_again(alloc: Global, limits: Limits, bytes: &[u8]) -> Result<bool,
     Ok(out.as_slice() == bytes)
 }
 
-// How many bytes the packet at the front takes where others follow.
 fn size_before_others(alloc: Global, limits: Limits, bytes: &[u8]) -> Result<Option<usize>, Fail> {
     let mut more = bytes.to_vec(alloc)?;
     more.extend_from_slice(b"\xc0\xff")?;
@@ -65,7 +63,6 @@ pub(crate) fn expect_view(
     Ok(())
 }
 
-// Adds what the fields of a CONNECT are.
 fn add_connect(text: &mut String, fields: &ConnectFields<'_>) -> Result<(), AllocError> {
     let id = fields.client_id.as_str();
     write!(text, "{id} {} {}", fields.clean_session, fields.keep_alive)?;
@@ -84,7 +81,6 @@ fn add_connect(text: &mut String, fields: &ConnectFields<'_>) -> Result<(), Allo
     Ok(())
 }
 
-// Adds what a PUBLISH says.
 fn add_publish(text: &mut String, publish: &PublishView<'_>) -> Result<(), AllocError> {
     let (topic, payload) = (publish.topic(), publish.payload());
     let (qos, retain) = (publish.qos(), publish.retain());
@@ -95,7 +91,6 @@ fn add_publish(text: &mut String, publish: &PublishView<'_>) -> Result<(), Alloc
     Ok(())
 }
 
-// Adds what a SUBSCRIBE asks for.
 fn add_requests(text: &mut String, requests: &RequestsView<'_>) -> Result<(), AllocError> {
     for request in requests.iter() {
         write!(text, " {} {:?}", request.filter().as_str(), request.qos())?;
@@ -119,7 +114,6 @@ fn add_filters(text: &mut String, filters: &FiltersView<'_>) -> Result<(), Alloc
     Ok(())
 }
 
-// Adds what a view lends: its fields, and the items of its list.
 fn add_view(text: &mut String, packet: &PacketView<'_>) -> Result<(), AllocError> {
     match packet {
         PacketView::Connect(connect) => add_connect(text, &connect.fields()),
@@ -144,7 +138,6 @@ fn add_view(text: &mut String, packet: &PacketView<'_>) -> Result<(), AllocError
     }
 }
 
-// What a view of these bytes lends.
 fn lent_in(alloc: Global, row: &str) -> Result<String, Fail> {
     let greatest = limits(268_435_455)?;
     let bytes = bytes_of(alloc, row)?;
@@ -156,7 +149,6 @@ fn lent_in(alloc: Global, row: &str) -> Result<String, Fail> {
     Ok(text)
 }
 
-// What the views of packets lend.
 static LENT: [(&str, &str); 12] = [
     ("10 0d 00044d515454 04 02 003c 000161", "a true 60"),
     (
@@ -201,7 +193,6 @@ fn message_in(alloc: Global, row: &str) -> Result<String, Fail> {
     Ok(format!(in alloc; "{topic} {payload:?} {qos:?} {retain}")?)
 }
 
-// What the messages of PUBLISHes say.
 static MESSAGES: [(&str, &str); 3] = [
     ("31 07 0003612f62 6869", "a/b [104, 105] Q0 true"),
     ("3c 09 0003612f62 0001 6869", "a/b [104, 105] Q2 false"),

@@ -7,7 +7,6 @@ use std::alloc::Global;
 use std::process::Abort;
 use std::test::Fail;
 
-// What the bytes come to, one after the other, and how many are taken.
 fn pushed(bytes: &[u8]) -> (VarStep, usize) {
     let mut reader = VarlenReader::new();
     for (i, byte) in bytes.iter().enumerate() {
@@ -19,7 +18,6 @@ fn pushed(bytes: &[u8]) -> (VarStep, usize) {
     (VarStep::More, bytes.len())
 }
 
-// Whether a length is written as these bytes; where it has none, there are none, and the buffer is as it was.
 fn is_written_as(n: u32, bytes: &[u8]) -> bool {
     let mut out = [0xaa; 4];
     let size = put_varlen(n, &mut out);
@@ -32,7 +30,8 @@ fn is_written_as(n: u32, bytes: &[u8]) -> bool {
     }
 }
 
-// The first and the last number of each size, as the table of 2.2.3 has them, and the first one of none.
+// The first and the last number of each size, as the table of 2.2.3 has them, and the first one of
+// none.
 fn lengths_take_one_to_four_bytes(rt: &impl Abort) {
     for (n, bytes) in [
         (0, b"\x00".as_slice()),
@@ -49,7 +48,6 @@ fn lengths_take_one_to_four_bytes(rt: &impl Abort) {
     }
 }
 
-// What a length's bytes come to, one after the other and at once; nothing where it has none.
 fn read_again(n: u32) -> Option<(VarStep, usize, LengthReading)> {
     let mut out = [0xaa; 4];
     let size = put_varlen(n, &mut out)?;
@@ -74,7 +72,6 @@ fn lengths_are_read_as_they_are_written(rt: &impl Abort) {
     }
 }
 
-// What bytes come to, one after the other and at once.
 fn length_in_short(alloc: Global, bytes: &[u8]) -> Result<String, Fail> {
     let (step, taken) = pushed(bytes);
     Ok(format!(in alloc; "{step:?} {taken} {:?}", length_at(bytes))?)
@@ -113,7 +110,6 @@ fn numbers_have_the_high_byte_first(rt: &impl Abort, alloc: Global) -> Result<()
     expect_told(rt, numbers_in_short(alloc), "[0, 10, 18, 52] 1234", "")
 }
 
-// The text that stands at a place and the place after it, or its fault.
 fn read_at(alloc: Global, bytes: &[u8], at: usize) -> Result<String, Fail> {
     match text_at(bytes, at) {
         Ok((text, after)) => {
@@ -145,14 +141,12 @@ fn texts_are_read_where_they_stand(rt: &impl Abort, alloc: Global) -> Result<(),
     Ok(())
 }
 
-// What a text shows, by way of its clone and of what it lends.
 fn copied(alloc: Global, text: &Text) -> Result<String, Fail> {
     let copy = text.clone()?;
     let copy = copy.as_ref().to_text(alloc)?;
     Ok(copy.as_str().to_string(alloc)?)
 }
 
-// The same, or its fault.
 fn shown(alloc: Global, text: &str) -> Result<String, Fail> {
     match Text::new(alloc, text) {
         Ok(text) => copied(alloc, &text),
@@ -171,7 +165,6 @@ fn texts_have_no_nul(rt: &impl Abort, alloc: Global) -> Result<(), Fail> {
     Ok(())
 }
 
-// Whether a text of so many letters, and then this, is shown as it is.
 fn is_shown(alloc: Global, letters: usize, last: &str) -> Result<bool, Fail> {
     let mut text = String::new(alloc);
     for _ in 0..letters {

@@ -20,7 +20,7 @@ use std::test::Fail;
 pub(crate) struct Kind {
     /// The most identifiers in use in a session.
     pub(crate) capacity: u16,
-    /// The most connections that are up.
+    /// The maximum number of connected clients.
     pub(crate) max_conns: usize,
     /// The most sessions.
     pub(crate) max_sessions: usize,
@@ -123,7 +123,6 @@ fn config(alloc: Global, kind: Kind) -> Result<HubConfig, Fail>
     })
 }
 
-// What a broker answers to what happens: what it did, or why it refuses that.
 fn answer<S: FilterStore>(
     alloc: Global,
     hub: &mut HubOver<S>,
@@ -136,7 +135,6 @@ fn answer<S: FilterStore>(
     }
 }
 
-// A broker answers each row of a table as it is to.
 fn walk<S: FilterStore>(
     rt: &impl Abort,
     alloc: Global,
@@ -179,7 +177,6 @@ fn brokers_answer_each_row(rt: HostRuntime) -> Result<(), Fail> {
     Ok(())
 }
 
-// What happens in rows, one after another.
 fn events(alloc: Global, rows: &[Row]) -> Result<Vec<HubEvent>, Fail> {
     let mut events = Vec::new(alloc);
     for (happens, _) in rows {
@@ -188,7 +185,6 @@ fn events(alloc: Global, rows: &[Row]) -> Result<Vec<HubEvent>, Fail> {
     Ok(events)
 }
 
-// What a run of events answers: what came of each, how many messages were taken from each client and placed for it, and the sessions.
 fn run_of(alloc: Global, events: &[HubEvent]) -> Result<[String; 3], Fail> {
     let (hub, trace) = hub_run(alloc, config(alloc, WIDE)?, events)?;
     let replies = all_told(alloc, trace.replies.as_slice())?;
@@ -197,7 +193,6 @@ fn run_of(alloc: Global, events: &[HubEvent]) -> Result<[String; 3], Fail> {
     Ok([replies, accounts, listed(alloc, names.as_slice())?])
 }
 
-// The same of rows.
 fn run_of_rows(alloc: Global, rows: &[Row]) -> Result<[String; 3], Fail> {
     let events = events(alloc, rows)?;
     run_of(alloc, events.as_slice())
@@ -219,7 +214,6 @@ fn sessions_are_listed_by_their_names(rt: HostRuntime) -> Result<(), Fail> {
     Ok(())
 }
 
-// Why a run of events is refused, where it is.
 fn refusal_of(alloc: Global, events: &[HubEvent]) -> Result<Option<HubRefusal>, Fail> {
     match hub_run(alloc, config(alloc, WIDE)?, events) {
         Ok(_) => Ok(None),
@@ -245,7 +239,6 @@ fn known_by(alloc: Global, hub: &mut Hub) -> Result<[bool; 3], Fail> {
     Ok([before, during, hub.knows(conn)])
 }
 
-// The same of a broker that is made for it.
 fn known(alloc: Global) -> Result<[bool; 3], Fail> {
     let mut hub = Hub::new(alloc, config(alloc, WIDE)?);
     known_by(alloc, &mut hub)

@@ -1,4 +1,4 @@
-//! Tests of the broker: rows of what happens to one, and what it does then.
+//! Tests of the broker: rows of events with the broker's acts.
 #![tactic(auto)]
 
 #[cfg(test)]

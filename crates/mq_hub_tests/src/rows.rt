@@ -2,7 +2,8 @@
 
 use crate::told::{Happens, Row};
 
-/// A message of quality of service 2 goes once to a client with two subscriptions that match (3.3.5); DISCONNECT ends a clean session (3.1.2.4, 3.14).
+/// A message of quality of service 2 goes once to a client with two subscriptions that match
+/// (3.3.5); DISCONNECT ends a clean session (3.1.2.4, 3.14).
 pub(crate) const ROUTED: [Row; 11] = [
     (Happens::Opens(1), ""),
     (
@@ -94,7 +95,8 @@ pub(crate) const REPLACED_IN_PLACE: [Row; 8] = [
     (Happens::Takes(1), "90030006023306000161000133310400016232"),
 ];
 
-/// A client comes on another connection: the old one is closed, its will published, and its session goes on (3.1.4, 3.1.2.5).
+/// A client comes on another connection: the old one is closed, its will published, and its session
+/// goes on (3.1.4, 3.1.2.5).
 pub(crate) const TAKEN_OVER: [Row; 10] = [
     (Happens::Opens(1), ""),
     (
@@ -117,7 +119,8 @@ pub(crate) const TAKEN_OVER: [Row; 10] = [
     (Happens::Takes(1), "20020000."),
 ];
 
-/// A CONNECT with clean session 1 takes a going-on session over: that session ends, and another begins (3.1.2.4).
+/// A CONNECT with clean session 1 takes a going-on session over: that session ends, and another
+/// begins (3.1.2.4).
 pub(crate) const TAKEN_OVER_CLEAN: [Row; 7] = [
     (Happens::Opens(1), ""),
     (
@@ -134,7 +137,8 @@ pub(crate) const TAKEN_OVER_CLEAN: [Row; 7] = [
     (Happens::Sends(2, "8206000100017702"), "set k1 w 2"),
 ];
 
-/// A clean session ends with the connection that is taken over, before its will is placed; the next one begins anew (3.1.2.4).
+/// A clean session ends with the connection that is taken over, before its will is placed; the next
+/// one begins anew (3.1.2.4).
 pub(crate) const CLEAN_TAKEN_OVER: [Row; 6] = [
     (Happens::Opens(1), ""),
     (
@@ -150,7 +154,8 @@ pub(crate) const CLEAN_TAKEN_OVER: [Row; 6] = [
     (Happens::Takes(2), "20020000"),
 ];
 
-/// A will goes to the own session, which goes on, and goes out at the CONNECT that takes over (3.1.2.5, 4.4).
+/// The will of a client goes to its own session, which continues, and is sent when the CONNECT that
+/// takes over is accepted (3.1.2.5, 4.4).
 pub(crate) const OWN_WILL: [Row; 6] = [
     (Happens::Opens(1), ""),
     (
@@ -189,7 +194,8 @@ pub(crate) const REPLACED: [Row; 10] = [
     (Happens::Sends(3, "300400016131"), "took k2 a 0 31"),
 ];
 
-/// A session that goes on keeps messages of quality of service 1 and 2 for its client, and none of 0 (4.3, 3.1.2.4).
+/// A session that goes on keeps messages of quality of service 1 and 2 for its client, and none of
+/// 0 (4.3, 3.1.2.4).
 pub(crate) const OFFLINE: [Row; 12] = [
     (Happens::Opens(1), ""),
     (
@@ -251,7 +257,8 @@ pub(crate) const OVERLAPPING: [Row; 9] = [
     (Happens::Takes(1), "32080003612f62000178300400016379"),
 ];
 
-/// The answer to a PUBLISH comes before the own copy; a repeated one of quality of service 2 is answered alone (4.3).
+/// The answer to a PUBLISH comes before the own copy; a repeated one of quality of service 2 is
+/// answered alone (4.3).
 pub(crate) const OWN_COPY: [Row; 10] = [
     (Happens::Opens(1), ""),
     (
@@ -314,7 +321,8 @@ pub(crate) const IN_PIECES: [Row; 4] = [
     (Happens::Takes(1), "20020000d000"),
 ];
 
-/// A client from which nothing came for one and a half times its keep-alive is closed, and its will published (3.1.2.10, 3.1.2.5).
+/// A client from which nothing came for one and a half times its keep-alive is closed, and its will
+/// published (3.1.2.10, 3.1.2.5).
 pub(crate) const KEPT_ALIVE: [Row; 11] = [
     (Happens::Opens(1), ""),
     (
@@ -338,8 +346,8 @@ pub(crate) const KEPT_ALIVE: [Row; 11] = [
     (Happens::Takes(2), "20020000d000."),
 ];
 
-/// Those that are late at a moment are closed in the order in which they were opened, whichever could be late first; one without a keep-alive
-/// is never late; and a name that is used again is late by what came since (3.1.2.10).
+/// Late clients are closed in the order in which their connections were opened. A client without
+/// keep-alive is never late. A reused connection name is late by its own packets (3.1.2.10).
 pub(crate) const LATE_IN_ORDER: [Row; 19] = [
     (Happens::Opens(1), ""),
     (
@@ -377,7 +385,8 @@ pub(crate) const LATE_IN_ORDER: [Row; 19] = [
     (Happens::Takes(3), "20020000"),
 ];
 
-/// A will is published where bytes come that are no packet, where a packet comes that may not, and where the other side ends the connection (3.1.2.5).
+/// A will is published after a malformed packet, after a protocol violation, and when the peer
+/// closes the connection (3.1.2.5).
 pub(crate) const WILL_AT_A_FAULT: [Row; 12] = [
     (Happens::Opens(1), ""),
     (
@@ -414,7 +423,7 @@ pub(crate) const WILL_AT_A_FAULT: [Row; 12] = [
     (Happens::Sends(4, "e000"), "closed 4 C7, removed k3."),
 ];
 
-/// What comes first has to be CONNECT (3.1), and a closed connection ignores what comes (4.8).
+/// The first packet must be CONNECT (3.1), and a closed connection ignores bytes (4.8).
 pub(crate) const UNASKED: [Row; 7] = [
     (Happens::Opens(1), ""),
     (Happens::Sends(1, "c000"), "closed 1 C2."),
@@ -425,7 +434,8 @@ pub(crate) const UNASKED: [Row; 7] = [
     (Happens::Takes(1), "."),
 ];
 
-/// Where a session has no identifier free for a copy its publisher is closed, and a will is dropped (2.3.1).
+/// If a session has no free identifier for a copy, the publisher is closed, or the will is dropped
+/// (2.3.1).
 pub(crate) const FULL_SESSION: [Row; 12] = [
     (Happens::Opens(1), ""),
     (
@@ -500,7 +510,7 @@ pub(crate) const NO_PLACE: [Row; 8] = [
     ),
 ];
 
-/// Where there are users a CONNECT is of one of them (3.1.3.4, 3.1.3.5).
+/// With a table of users, a CONNECT must belong to one of them (3.1.3.4, 3.1.3.5).
 pub(crate) const USERS: [Row; 9] = [
     (Happens::Opens(1), ""),
     (

@@ -1,4 +1,4 @@
-//! What happens to a broker as rows say it, and what it did as text.
+//! Events of a broker as rows, and its acts as text.
 
 use bytes::Bytes;
 use mq_hub::{Act, ClientLog, Conn, HubEvent, HubReply};
@@ -17,9 +17,9 @@ pub(crate) enum Happens {
     Sends(u32, &'static str),
     /// A connection is over.
     Ends(u32),
-    /// It is this moment, in milliseconds.
+    /// A tick at this time in milliseconds.
     Ticks(u64),
-    /// What waits on a connection is taken.
+    /// Collects the pending output of a connection.
     Takes(u32),
 }
 
@@ -55,8 +55,8 @@ fn digit(qos: Qos) -> u8 {
     }
 }
 
-// What is done with a message of a client: the client's key, topic name, quality of service, `r` where it has RETAIN, and the payload in
-// hexadecimal.
+// A message of a client as text: the key of the client, topic name, QoS, `r` if RETAIN is set, and
+// the payload in hexadecimal.
 fn of_message(
     alloc: Global,
     what: &str,
@@ -73,12 +73,10 @@ fn of_message(
     )?)
 }
 
-// What is done with a subscription of a client.
 fn of_filter(alloc: Global, key: ClientKey, filter: &str, qos: Qos) -> Result<String, Fail> {
     Ok(format!(in alloc; "set k{} {filter} {}", key.get(), digit(qos))?)
 }
 
-// A client is up on a connection.
 fn of_up(alloc: Global, conn: Conn, key: ClientKey, present: bool) -> Result<String, Fail> {
     let again = if present { "again" } else { "new" };
     Ok(format!(in alloc; "up {} k{} {again}", conn.nth, key.get())?)
@@ -113,8 +111,8 @@ fn acts(alloc: Global, acts: &[Act]) -> Result<String, Fail> {
     Ok(text)
 }
 
-/// What came of an event: the acts one after another, then the bytes that were taken, in hexadecimal, and `.` where the connection is not
-/// open.
+/// The result of an event as text: the acts, then the collected bytes in hexadecimal, and `.` if
+/// the connection is not open.
 pub(crate) fn told(alloc: Global, reply: &HubReply) -> Result<String, Fail> {
     let mut text = acts(alloc, reply.acts.as_slice())?;
     text.push_str(hex::encode(alloc, reply.output.as_slice())?.as_str())?;
@@ -122,7 +120,6 @@ pub(crate) fn told(alloc: Global, reply: &HubReply) -> Result<String, Fail> {
     Ok(text)
 }
 
-/// What came of events, one after another.
 pub(crate) fn all_told(alloc: Global, replies: &[HubReply]) -> Result<String, Fail> {
     let mut text = String::new(alloc);
     for reply in replies {

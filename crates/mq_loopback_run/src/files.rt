@@ -8,7 +8,6 @@ use std::io::Write;
 pub(crate) const PAIRS: &str =
     "collect a x/# 2 4\ncollect b x/# 2 4\npublish p x/p 2 31 32\npublish q x/q 2 33 34\n";
 
-/// What is printed of them.
 pub(crate) const LINES: &[u8] =
     b"a x/p 31\na x/p 32\na x/q 33\na x/q 34\nb x/p 31\nb x/p 32\nb x/q 33\nb x/q 34\nreplay equal\naudit yes\n";
 
@@ -30,7 +29,6 @@ pub(crate) static OTHERS: [&str; 14] = [
     "collect a x 0 1 \n",
 ];
 
-/// A line for each of so many clients: a publisher of no bytes, and collectors that take one message each.
 pub(crate) fn crowd(alloc: Global, count: u32) -> io::Result<String> {
     let mut text = Vec::new(alloc);
     writeln!(text, "publish p t 1 -")?;

@@ -1,7 +1,7 @@
 //! Runs loopback files: one a hundred times, and some that end otherwise.
 //!
-//! Of each run of the one it is counted whether it prints what it is to print, and whether at least three of its four workers made two steps
-//! or more, so that they worked beside each other.
+//! Counts for the runs of one file whether each prints the expected output, and whether at least
+//! three of its four workers made two steps or more, that is, worked concurrently.
 #![tactic(auto)]
 
 mod files;

@@ -14,7 +14,6 @@ use std::time::Clock;
 /// How often the pairs are run.
 const RUNS: u32 = 100;
 
-/// The most clients that are run beside each other.
 const MOST_CLIENTS: usize = 64;
 
 // How many workers made two steps or more.
@@ -22,14 +21,13 @@ fn count_busy(receipts: &[Vec<Receipt>]) -> usize {
     receipts.iter().filter(|own| own.len() >= 2).count()
 }
 
-// What came of the runs so far.
+// The results of the runs.
 #[derive(Clone, Copy)]
 struct Tally {
     as_wanted: u32,
     shared: u32,
 }
 
-// Runs clients once, and counts what comes of it.
 fn run_once<R>(rt: &R, alloc: Global, clients: &[Client], tally: Tally) -> io::Result<Tally>
 where
     R: Net<Listener = TcpListener, Stream = TcpStream> + Threads + Wait + Clock + Sync,
@@ -75,7 +73,6 @@ where
     writeln!(output)
 }
 
-/// Runs a file, and writes its lines, what is printed of it, and the status.
 pub(crate) fn write_file<R, W: Write>(
     rt: &R,
     alloc: Global,
@@ -93,7 +90,8 @@ where
     writeln!(output)
 }
 
-/// Runs a file of many bytes: writes how many lines are printed of it, the last of them, and the status.
+/// Runs a file of many bytes: writes how many lines are printed of it, the last of them, and the
+/// status.
 pub(crate) fn write_size<R, W: Write>(
     rt: &R,
     alloc: Global,

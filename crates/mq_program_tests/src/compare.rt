@@ -1,15 +1,13 @@
-//! Texts that are as they are to be. Nothing else is held where they are compared, so that a walk over rows holds nothing either.
+//! Comparison of texts. Holds no other values, so that a loop over rows holds none either.
 
 use std::io;
 use std::process::Abort;
 use std::test::Fail;
 
-/// The text is this one; where it isn't, what it is of is told.
 pub(crate) fn expect_text(rt: &impl Abort, told: &str, wanted: &str, of: &str) {
     assert_eq!(rt; told, wanted, "{of}");
 }
 
-/// The same of a text that a call answers.
 pub(crate) fn expect_told(
     rt: &impl Abort,
     told: Result<String, Fail>,
@@ -27,7 +25,6 @@ fn expect_output(rt: &impl Abort, told: (u8, &[u8]), wanted: (u8, &[u8]), of: &s
     assert_eq!(rt; told.0, wanted.0, "{of}");
 }
 
-/// The same of what a job prints, with its status.
 pub(crate) fn expect_printed(
     rt: &impl Abort,
     printed: io::Result<(u8, Vec<u8>)>,

@@ -1,4 +1,4 @@
-//! Tests of what stands on both ends: worlds, schedules, replays, and the jobs of the program.
+//! Tests of the crates above both ends: worlds, schedules, replays, and the jobs of the program.
 #![tactic(auto)]
 
 #[cfg(test)]

@@ -1,5 +1,5 @@
-//! The jobs of the program over readers and writers that fail, within a limit, and the words that ask for them. What the program prints of what it is
-//! given are rows of .ci/printed.py.
+//! The jobs of the program over readers and writers that fail, within a limit, and the arguments
+//! that select them. The rows of .ci/printed.py test the output.
 
 mod clients;
 mod streams;
@@ -15,14 +15,12 @@ use std::io::{Read, Write};
 use std::process::Abort;
 use std::test::Fail;
 
-// What a job prints of an input's bytes, with its status.
 fn printed<R: JobInput>(alloc: Global, job: &Job<'_>, input: &mut R) -> io::Result<(u8, Vec<u8>)> {
     let mut output = Vec::new(alloc);
     let status = perform(alloc, job, input, &mut output)?;
     Ok((status, output))
 }
 
-// The jobs of `show` and `check`, where a length has no more bytes than it needs.
 fn shows(hex: &str) -> Job<'_> {
     Job::Show {
         hex,
@@ -74,7 +72,7 @@ fn counts_within_a_limit(rt: &impl Abort, alloc: Global, limits: Limits) -> Resu
     Ok(())
 }
 
-// A writer that takes so many bytes, and then fails.
+// A writer that takes a number of bytes and then fails.
 #[derive(Drop)]
 struct Full(usize);
 
@@ -93,7 +91,7 @@ impl Write for Full {
     }
 }
 
-// A reader that gives so many bytes at a time, and fails where it has none left.
+// A reader that returns a number of bytes at a time, and fails when it has none left.
 #[derive(Drop)]
 struct Broken<'a> {
     bytes: &'a [u8],
@@ -113,7 +111,6 @@ impl Read for Broken<'_> {
     }
 }
 
-// The job that words ask for, where they ask for this one.
 fn asks_for(alloc: Global, words: &[&str], wanted: Job<'_>) -> bool {
     match command(alloc, words) {
         Ok(Command::Job(read)) => read == wanted,

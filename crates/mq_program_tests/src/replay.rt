@@ -7,7 +7,7 @@ use std::io;
 use std::io::Write;
 use std::test::Fail;
 
-// A writer that takes so many bytes, and then fails.
+// A writer that takes a number of bytes and then fails.
 #[derive(Drop)]
 struct Room(usize);
 

@@ -8,7 +8,6 @@ use std::alloc::{AllocError, Global};
 use std::process::Abort;
 use std::test::Fail;
 
-// Texts, and the number of the first line that is of no kind; 0 where each is of one.
 static TEXTS: [(&str, usize); 24] = [
     ("world 65536 4", 0),
     ("world 65536 4\n", 0),
@@ -130,7 +129,6 @@ static BAD: [&str; 64] = [
     "pub c 1 %00 78",
 ];
 
-// The first line that is of no kind, 0 where there is none; nothing where memory ran out.
 fn bad_line(alloc: Global, text: &str) -> Option<usize> {
     match read_schedule(alloc, text) {
         Ok(_) => Some(0),
@@ -145,7 +143,6 @@ fn names_the_first_bad_line(rt: &impl Abort, alloc: Global) {
     }
 }
 
-// The same of a step behind the line for a world.
 fn bad_step(alloc: Global, step: &str) -> Result<Option<usize>, AllocError> {
     let text = format!(in alloc; "world 65536 4\n{step}\nopen")?;
     Ok(bad_line(alloc, text.as_str()))
@@ -173,7 +170,6 @@ fn shown_message(alloc: Global, message: &Message) -> Result<String, AllocError>
     format!(in alloc; "{topic:?} {payload:?} {qos} {}", message.retain)
 }
 
-// What a step says.
 fn shown_step(alloc: Global, step: &Step) -> Result<String, AllocError> {
     match step {
         Step::Event(Event::Publish(side, message)) => {
@@ -192,7 +188,6 @@ fn shown_step(alloc: Global, step: &Step) -> Result<String, AllocError> {
     }
 }
 
-// Adds what steps say.
 fn add_steps(alloc: Global, text: &mut String, steps: &[Step]) -> Result<(), AllocError> {
     for step in steps {
         let step = shown_step(alloc, step)?;
@@ -201,7 +196,6 @@ fn add_steps(alloc: Global, text: &mut String, steps: &[Step]) -> Result<(), All
     Ok(())
 }
 
-// What a schedule says.
 fn shown(alloc: Global, schedule: &Schedule) -> Result<String, AllocError> {
     let limit = schedule.limits.max_packet();
     let capacity = schedule.capacity.get();
@@ -210,7 +204,6 @@ fn shown(alloc: Global, schedule: &Schedule) -> Result<String, AllocError> {
     Ok(all)
 }
 
-// What the schedule of a text says.
 fn read_and_shown(alloc: Global, text: &str) -> Result<String, Fail> {
     match read_schedule(alloc, text) {
         Ok(schedule) => Ok(shown(alloc, &schedule)?),
@@ -272,7 +265,6 @@ fn writes_schedules(rt: &impl Abort, alloc: Global) -> Result<(), Fail> {
     Ok(())
 }
 
-// What a fault says.
 fn said(alloc: Global, fault: ScheduleFault) -> Result<String, Fail> {
     Ok(format!(in alloc; "{fault}")?)
 }

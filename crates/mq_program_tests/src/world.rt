@@ -27,7 +27,7 @@ use std::test::Fail;
 enum Step {
     // The client opens a connection.
     Open,
-    // So many bytes come to a side.
+    // Delivers a number of bytes to a side.
     Deliver(Side, usize),
     // The connection of a side is lost.
     Lose(Side),
@@ -35,7 +35,7 @@ enum Step {
     Restart,
     // The user of the client leaves.
     Leave,
-    // The clock of a side goes on by so many milliseconds.
+    // Advances the clock of a side by milliseconds.
     Tick(Side, u64),
     // A side publishes a message to this topic.
     Publish(Side, Qos, &'static str, &'static [u8]),
@@ -79,7 +79,6 @@ fn event_of(alloc: Global, step: Step) -> Result<Event, Fail> {
     })
 }
 
-// A world with packets up to this length, and so much room at each side.
 fn new_world(alloc: Global, max_packet: u32, capacity: u16) -> Result<World, Fail> {
     let limits = Limits::new(max_packet).ok_or("no limits")?;
     if capacity == 0 {
@@ -88,17 +87,14 @@ fn new_world(alloc: Global, max_packet: u32, capacity: u16) -> Result<World, Fai
     Ok(World::new(alloc, limits, capacity)?)
 }
 
-// What comes of an event.
 fn make(alloc: Global, world: &mut World, event: &Event) -> Result<String, AllocError> {
     told_of_copy(alloc, world.step(event)?)
 }
 
-// What comes of settling.
 fn settle(alloc: Global, world: &mut World) -> Result<String, AllocError> {
     told_of_copy(alloc, world.settle()?)
 }
 
-// What an act tells.
 fn told(alloc: Global, world: &mut World, act: Act) -> Result<String, Fail> {
     Ok(match act {
         Act::Make(step) => make(alloc, world, &event_of(alloc, step)?)?,
@@ -107,7 +103,6 @@ fn told(alloc: Global, world: &mut World, act: Act) -> Result<String, Fail> {
     })
 }
 
-// These acts, one after another, tell this; where one doesn't, the name of the row is told.
 fn expect(
     rt: &impl Abort,
     alloc: Global,
@@ -121,7 +116,8 @@ fn expect(
     Ok(())
 }
 
-// A new world with packets up to this length, and so much room at each side, and what acts on it tell, one after another.
+// A new world with packets up to this length and this capacity at each side, and the results of
+// acts, one after another.
 struct Row {
     name: &'static str,
     max_packet: u32,
@@ -129,13 +125,11 @@ struct Row {
     acts: &'static [(Act, &'static str)],
 }
 
-// The same of the new world of a row.
 fn expect_of_row(rt: &impl Abort, alloc: Global, row: &Row) -> Result<(), Fail> {
     let mut world = new_world(alloc, row.max_packet, row.capacity)?;
     expect(rt, alloc, row.name, &mut world, row.acts)
 }
 
-// The same of each row.
 fn expect_of_new(rt: &impl Abort, alloc: Global, rows: &[Row]) -> Result<(), Fail> {
     for row in rows {
         expect_of_row(rt, alloc, row)?;

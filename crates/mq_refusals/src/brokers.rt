@@ -12,7 +12,6 @@ use mq_hub::{Act, Conn, Hub, HubConfig, HubEvent, HubOver, HubRefusal, HubReply}
 use mq_topic::{FilterStore, ListStore};
 use std::alloc::{AllocError, Global};
 
-/// What a broker is like: few places, so that some are missing.
 fn config() -> Option<HubConfig>
     ensures capacity { IfSome result (λ c. 0 < c.capacity) }
     ensures window { IfSome result (λ c. IfSome c.window (λ window. 0 < window)) }
@@ -74,7 +73,6 @@ fn add_reply(text: &mut String, reply: &HubReply) -> Result<(), AllocError> {
     text.push_str(if reply.alive { "" } else { "." })
 }
 
-/// An event comes, a second time where memory is refused.
 fn step<S: FilterStore>(
     hub: &mut HubOver<S>,
     event: &HubEvent,
@@ -89,7 +87,6 @@ fn step<S: FilterStore>(
     }
 }
 
-/// An event comes, and what comes of it is added.
 fn add_step<S: FilterStore>(
     hub: &mut HubOver<S>,
     event: &HubEvent,
@@ -101,7 +98,6 @@ fn add_step<S: FilterStore>(
     }
 }
 
-/// Events come to a broker. A moment comes twice: where memory is refused, those that are late then wait for the next one.
 fn run<S: FilterStore>(
     alloc: Global,
     hub: &mut HubOver<S>,

@@ -12,7 +12,6 @@ use mq_flow::{LoadError, Saved, Session};
 use mq_wire::{Text, TextFault};
 use std::alloc::Global;
 
-/// What a client is like.
 fn config(alloc: Global) -> Result<ClientConfig, Fault>
     ensures { IfOk result (λ c. IfSome c.window (λ window. 0 < window)) }
 {
@@ -32,7 +31,6 @@ fn config(alloc: Global) -> Result<ClientConfig, Fault>
     })
 }
 
-/// Loads a form, a second time where memory is refused.
 fn load(alloc: Global, bytes: &[u8], ran: &mut Ran) -> Result<Saved, LoadError> {
     match Saved::load(alloc, bytes) {
         Err(LoadError::Memory) => {
@@ -43,7 +41,6 @@ fn load(alloc: Global, bytes: &[u8], ran: &mut Ran) -> Result<Saved, LoadError> 
     }
 }
 
-/// Loads a session, a second time where memory is refused.
 fn load_session(alloc: Global, bytes: &[u8], ran: &mut Ran) -> Result<Session, LoadError> {
     match Session::load(alloc, bytes) {
         Err(LoadError::Memory) => {
@@ -54,7 +51,6 @@ fn load_session(alloc: Global, bytes: &[u8], ran: &mut Ran) -> Result<Session, L
     }
 }
 
-/// Saves an end's session behind what is there, a second time where memory is refused: then what is there is as it was.
 fn save(end: &ClientEnd, out: &mut Vec<u8>, ran: &mut Ran) -> Result<(), Fault> {
     let before = out.len();
     if end.save(out).is_err() {
@@ -67,7 +63,6 @@ fn save(end: &ClientEnd, out: &mut Vec<u8>, ran: &mut Ran) -> Result<(), Fault> 
     Ok(())
 }
 
-/// Saves a session behind what is there, a second time where memory is refused: then what is there is as it was.
 fn save_session(session: &Session, out: &mut Vec<u8>, ran: &mut Ran) -> Result<(), Fault> {
     let before = out.len();
     if session.save(out).is_err() {
@@ -80,7 +75,6 @@ fn save_session(session: &Session, out: &mut Vec<u8>, ran: &mut Ran) -> Result<(
     Ok(())
 }
 
-/// A client goes on with what was loaded, and saves it.
 fn go_on(alloc: Global, saved: Saved, ran: &mut Ran) -> Result<(), Fault> {
     let config = config(alloc)?;
     let mut out = vec![in alloc; 7]?;

@@ -1,15 +1,19 @@
-//! Does what sections of the standard input say, each twice, and compares what came of it. Where one allocation of all is refused, it falls
-//! into one of the two, or into neither; the other is the run that is not refused.
+//! Runs the sections of the standard input, each twice, and compares the results. If one of all
+//! allocations is refused, that happens in one of the two runs or in neither; the other one is the
+//! reference.
 //!
-//! Sections are parted by an empty line. `schedule` is followed by the lines of a schedule; `broker` by what happens to one: `open 1`,
-//! `send 1 c000`, `end 1`, `tick 1000`, `take 1`; `store` by calls of a store: `set 0 a/+ 1`, `match a/b`, `remove 0 a/+`, `leave 0`;
-//! `form` by the saved forms of a session, in hexadecimal digits; `session` by the file of one, `file 4d51..` in such digits or `file -`, the
-//! payloads that it holds, `holds x`, and texts that are published over it, a line each. A first line `spend 12` makes so many allocations before the sections.
+//! Sections are separated by empty lines. `schedule` is followed by the lines of a schedule;
+//! `broker` by events: `open 1`, `send 1 c000`, `end 1`, `tick 1000`, `take 1`; `store` by calls of
+//! a store: `set 0 a/+ 1`, `match a/b`, `remove 0 a/+`, `leave 0`; `form` by saved forms of a
+//! session in hexadecimal digits; `session` by its file (`file 4d51..` or `file -`), its payloads
+//! (`holds x`), and the texts to publish, one per line. A first line `spend 12` makes this many
+//! allocations before the sections.
 //!
-//! Of each section is printed `the same`; or `out of memory`, where a world stopped, and what it did before is the same; or `asked again`, where a
-//! call was refused, changed nothing, and was made again; or `goes on`, where the first other answer names the refusal, and a world is idle in
-//! the end, with the promises kept, or a session publishes what its file holds when it is asked again, each text at most once; or `another
-//! answer`, which may not come.
+//! Prints for each section `the same`; `out of memory` if a world stopped and its previous results
+//! are the same; `asked again` if a call was refused, changed nothing, and was repeated; `goes on`
+//! if the first different result names the refusal, and a world is idle in the end with its
+//! promises kept, or a session publishes the messages of its file when it is asked again, each at
+//! most once; or `another answer`, which is a failure.
 #![tactic(auto)]
 
 mod brokers;
@@ -32,7 +36,6 @@ use std::io;
 use std::process::ExitCode;
 use std::rt::Files;
 
-/// Makes so many allocations, and lets go of them.
 fn spend(alloc: Global, count: usize) -> Result<usize, AllocError> {
     let mut spent = Vec::with_capacity(alloc, count)?;
     for _ in 0..count {
@@ -41,7 +44,6 @@ fn spend(alloc: Global, count: usize) -> Result<usize, AllocError> {
     Ok(spent.len())
 }
 
-/// The text behind the line `spend`, if it is there, once so many allocations are made.
 fn spent(alloc: Global, text: &str) -> Result<&str, Fault> {
     let Some(rest) = text.strip_prefix("spend ") else {
         return Ok(text);
@@ -51,7 +53,6 @@ fn spent(alloc: Global, text: &str) -> Result<&str, Fault> {
     Ok(rest)
 }
 
-/// What comes of a section.
 fn judge<R: Files>(rt: &R, alloc: Global, section: Section<'_>) -> Result<Outcome, Fault> {
     match section.kind {
         "schedule" => schedules::judge(alloc, section.text),
@@ -63,7 +64,6 @@ fn judge<R: Files>(rt: &R, alloc: Global, section: Section<'_>) -> Result<Outcom
     }
 }
 
-/// Does all sections, and prints what comes of each; answers whether all may come.
 fn judge_all<R: Print + Files>(rt: &R, alloc: Global, text: &str) -> Result<bool, Fault> {
     let mut rest = spent(alloc, text)?;
     let mut fine = true;
@@ -79,7 +79,6 @@ fn judge_all<R: Print + Files>(rt: &R, alloc: Global, text: &str) -> Result<bool
     Ok(fine)
 }
 
-/// Does what the standard input says.
 fn run(rt: &HostRuntime) -> Result<bool, Fault> {
     let text = io::read_to_string(rt.alloc(), rt.reader())?;
     judge_all(rt, rt.alloc(), text.as_str())

@@ -1,15 +1,15 @@
-//! What comes of a section.
+//! The result of a section.
 
 use std::fmt;
 
-/// What comes of a section that is done twice.
+/// The result of a section that ran twice.
 #[derive(Clone, Copy, Debug, PartialEq, Eq)]
 pub(crate) enum Outcome {
     /// Twice the same.
     Same,
-    /// A world stopped for lack of memory, and what it did before is the same.
+    /// A world stopped because an allocation failed, and its previous results are the same.
     Stopped,
-    /// A call was refused for lack of memory, and was made again; all answers are the same.
+    /// A call failed for lack of memory and was repeated; all results are the same.
     Again,
     /// The first other answer names the refusal.
     GoesOn,

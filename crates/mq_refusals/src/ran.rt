@@ -1,9 +1,9 @@
-//! What came of a section that was done once.
+//! The result of one run of a section.
 
 use crate::outcome::Outcome;
 use std::alloc::{AllocError, Global};
 
-/// What came of a section: a line for each answer.
+/// The result of a section: one line for each answer.
 #[derive(Drop)]
 pub(crate) struct Ran {
     /// The answers, a line each.
@@ -30,7 +30,6 @@ impl Ran {
     }
 }
 
-/// Whether a line names a refusal for lack of memory.
 fn names_refusal(line: &str) -> bool {
     [
         "refused P5",
@@ -54,7 +53,6 @@ pub(crate) fn first_other<'a>(lines: &'a str, others: &str) -> Option<&'a str> {
     None
 }
 
-/// What one run is to another that was not refused.
 fn outcome_of(ran: &Ran, plain: &Ran) -> Outcome {
     let (lines, others) = (ran.lines.as_str(), plain.lines.as_str());
     if !plain.whole || plain.again > 0 {
@@ -75,7 +73,6 @@ fn outcome_of(ran: &Ran, plain: &Ran) -> Outcome {
     }
 }
 
-/// What two runs are to one another, of which one at most was refused.
 pub(crate) fn outcome(first: &Ran, second: &Ran) -> Outcome {
     match outcome_of(first, second) {
         Outcome::Other => outcome_of(second, first),

@@ -56,7 +56,6 @@ fn is_settled(ran: &Ran) -> bool {
     idle && kept
 }
 
-/// Replays a schedule twice, and says what comes of it; what comes to its end is settled.
 pub(crate) fn judge(alloc: Global, text: &str) -> Result<Outcome, Fault> {
     let schedule = match read_schedule(alloc, text) {
         Ok(schedule) => schedule,

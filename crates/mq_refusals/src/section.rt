@@ -7,7 +7,6 @@ pub(crate) struct Section<'a> {
     pub(crate) text: &'a str,
 }
 
-/// The first section, and what stands behind it; `None` where there is none.
 pub(crate) fn next_section(text: &str) -> Option<(Section<'_>, &str)> {
     let (section, rest) = text.split_once("\n\n").unwrap_or((text, ""));
     let (kind, text) = section.split_once('\n')?;

@@ -1,4 +1,4 @@
-//! Texts that are published over a session that stands in a file.
+//! Texts that are published over a session in a file.
 
 use crate::fault::Fault;
 use crate::hexes::{add_digits, bytes_of};
@@ -18,7 +18,8 @@ use std::rt::Files;
 /// The file of the session.
 const NAME: &str = "w.session";
 
-/// What a section says: the file as it is before, in digits, `-` where there is none; the payloads that it holds; and the texts.
+/// The contents of a section: the file in hexadecimal digits, or `-` for none; its payloads; and
+/// the texts.
 #[derive(Drop)]
 struct Wanted<'a> {
     file: &'a str,
@@ -26,7 +27,6 @@ struct Wanted<'a> {
     texts: Vec<&'a str>,
 }
 
-/// What a section says.
 fn wanted_of(alloc: Global, text: &str) -> Result<Wanted<'_>, Fault> {
     let (file, text) = text.split_once('\n').ok_or(Fault::Words)?;
     let (held, texts) = text.split_once('\n').unwrap_or((text, ""));
@@ -61,7 +61,6 @@ fn add_file<R: Files>(rt: &R, alloc: Global, lines: &mut String) -> Result<(), F
     Ok(lines.push('\n')?)
 }
 
-/// Publishes texts, adds what is printed and what the server did, and answers the status.
 fn publish<R: Files>(
     rt: &R,
     alloc: Global,
@@ -87,7 +86,6 @@ fn publish<R: Files>(
     Ok(status)
 }
 
-/// Adds that the server closed the last connection for lack of memory, where it did.
 fn add_close(side: &RefCell<Side>, lines: &mut String) -> Result<(), Fault> {
     let Ok(side) = side.try_borrow() else {
         return Ok(());
@@ -98,8 +96,8 @@ fn add_close(side: &RefCell<Side>, lines: &mut String) -> Result<(), Fault> {
     Ok(())
 }
 
-/// Whether these are the payloads that wait in the file and the texts, each once and in order: all of them, or a beginning where the
-/// texts were not published to their end.
+/// Whether these are the payloads of the file and the texts, each once and in order; a prefix of
+/// them if the texts were not all published.
 fn is_kept(wanted: &Wanted<'_>, side: &RefCell<Side>, is_done: bool) -> bool {
     let Ok(side) = side.try_borrow() else {
         return false;
@@ -116,7 +114,6 @@ fn is_kept(wanted: &Wanted<'_>, side: &RefCell<Side>, is_done: bool) -> bool {
     rest.is_empty()
 }
 
-/// Publishes the texts; where that did not come to its end, what the file then holds.
 fn run<R: Files>(rt: &R, alloc: Global, wanted: &Wanted<'_>) -> Result<(Ran, bool), Fault> {
     put_file(rt, alloc, wanted.file)?;
     let side = RefCell::new(Side::new(alloc)?);
@@ -128,7 +125,6 @@ fn run<R: Files>(rt: &R, alloc: Global, wanted: &Wanted<'_>) -> Result<(Ran, boo
     Ok((ran, is_well && is_kept(wanted, &side, is_done)))
 }
 
-/// Publishes texts over a session, twice, each time over the same file and to a new server. The file is gone in the end.
 pub(crate) fn judge<R: Files>(rt: &R, alloc: Global, text: &str) -> Result<Outcome, Fault> {
     let wanted = wanted_of(alloc, text)?;
     let (first, is_first_kept) = run(rt, alloc, &wanted)?;

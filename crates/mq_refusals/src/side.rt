@@ -11,7 +11,6 @@ use mq_stream::{Broken, Clock, ReadOutcome, Stream};
 use std::alloc::Global;
 use std::cell::RefCell;
 
-/// Room for the payloads that are handed on, so that none of it is asked for when they come.
 const ROOM: usize = 4_096;
 
 /// A server end of one client, whose session stays from one connection to the next.
@@ -37,12 +36,10 @@ impl Side {
         })
     }
 
-    /// The payloads that were handed on, one behind another.
     pub(crate) fn handed(&self) -> &[u8] {
         self.handed.as_slice()
     }
 
-    /// Why the server closed the last connection, where it did.
     pub(crate) fn closed(&self) -> Option<CloseReason> {
         self.closed
     }
@@ -53,7 +50,6 @@ impl Side {
         self.closed = None;
     }
 
-    // Takes bytes in, and remembers the payloads that are handed on.
     fn hear(&mut self, bytes: &[u8]) -> Result<(), Broken> {
         let progress = self.server.receive(0, bytes);
         self.closed = self.closed.or(progress.closed);

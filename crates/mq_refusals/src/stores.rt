@@ -37,7 +37,6 @@ fn qos(word: &str) -> Result<Qos, Fault> {
     }
 }
 
-/// `set CLIENT FILTER QOS`: a second time where memory is refused.
 fn set<S: FilterStore>(
     alloc: Global,
     store: &mut S,
@@ -55,7 +54,6 @@ fn set<S: FilterStore>(
     Ok(())
 }
 
-/// `match NAME`: a second time where memory is refused.
 fn find<S: FilterStore>(alloc: Global, store: &S, word: &str, ran: &mut Ran) -> Result<(), Fault> {
     let name = name(alloc, word)?;
     let found = match store.matching(&name) {
@@ -83,7 +81,6 @@ fn remove<S: FilterStore>(
     Ok(write!(ran.lines, "{there}")?)
 }
 
-/// The call of a line is made, and what it answers is added.
 fn call<S: FilterStore>(
     alloc: Global,
     store: &mut S,
@@ -109,7 +106,8 @@ fn run<S: FilterStore>(alloc: Global, store: &mut S, text: &str) -> Result<Ran, 
     Ok(ran)
 }
 
-/// The calls are made to a trie, and to a list; in the end no row is left, and the trie has one node.
+/// The calls are made to a trie, and to a list; in the end no row is left, and the trie has one
+/// node.
 pub(crate) fn judge(alloc: Global, text: &str) -> Result<Outcome, Fault> {
     let mut store = TrieStore::new(alloc);
     let trie = run(alloc, &mut store, text)?;

@@ -1,4 +1,4 @@
-//! What came of bytes, of packets and of calls, in short.
+//! The results of bytes, packets and calls as short texts.
 
 use crate::values::add_word;
 use crate::wrong::Wrong;
@@ -7,7 +7,6 @@ use mq_flow::Session;
 use mq_packet::{Message, PacketId};
 use std::alloc::AllocError;
 
-// Adds the topic, the quality of service and the payload of a message that is handed on.
 fn add_handed(told: &mut String, message: &Message) -> Result<(), AllocError> {
     let topic = message.topic.as_str();
     let qos = message.qos.number();
@@ -37,7 +36,6 @@ fn add_happening(told: &mut String, happening: &Happening) -> Result<(), AllocEr
     }
 }
 
-// Adds a comma where something stands before it.
 fn add_comma(told: &mut String) -> Result<(), AllocError> {
     if told.is_empty() {
         return Ok(());
@@ -75,13 +73,11 @@ fn add_parts(told: &mut String, progress: &Progress) -> Result<(), AllocError> {
     add_closed(told, progress.closed)
 }
 
-/// Adds what came of bytes, by way of a copy: its happenings, the identifiers that were acknowledged, and why the end closed.
 pub(crate) fn add_progress(told: &mut String, progress: &Progress) -> Result<(), Wrong> {
     let copy = progress.clone()?;
     Ok(add_parts(told, &copy)?)
 }
 
-/// Adds what came of one packet.
 pub(crate) fn add_outcome(told: &mut String, outcome: &Outcome) -> Result<(), Wrong> {
     if let Some(happening) = &outcome.happening {
         add_happening(told, happening)?;
@@ -132,12 +128,12 @@ pub(crate) fn add_done(told: &mut String, answer: Result<(), PublishRefusal>) ->
     Ok(())
 }
 
-/// Adds whether a moment closed the end.
 pub(crate) fn add_late(told: &mut String, closed: Option<CloseReason>) -> Result<(), Wrong> {
     Ok(write!(told, "{closed:?}")?)
 }
 
-/// Adds a session: whether it is idle, for how many identifiers it has room, and how many of them are left.
+/// Adds a session: whether it is idle, for how many identifiers it has room, and how many of them
+/// are left.
 pub(crate) fn add_session(told: &mut String, session: Option<&Session>) -> Result<(), Wrong> {
     let Some(session) = session else {
         return Ok(told.push_str("none")?);

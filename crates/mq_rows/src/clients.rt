@@ -1,4 +1,4 @@
-//! Client ends: what each call tells, and what they put out.
+//! Client ends: the result and the output of each call.
 
 ghost use Rattle.std.specs.Prelude.{◌≡◌, IfOk, None};
 
@@ -17,7 +17,6 @@ use mq_topic::{Qos, TopicFilter};
 use mq_wire::Text;
 use std::alloc::Global;
 
-// What the user of the client `w` says of it, with a keep-alive of 60 seconds: `ROOM LIMIT`.
 fn config(alloc: Global, words: &mut Words<'_>) -> Result<ClientConfig, Wrong>
     ensures { IfOk result (λ config. config.window ≡ None) }
 {
@@ -43,7 +42,6 @@ pub(crate) fn new_client(alloc: Global, words: &mut Words<'_>) -> Result<ClientE
     Ok(ClientEnd::new(alloc, config))
 }
 
-/// `client ROOM LIMIT` of a session: the client that goes on with it, where it can.
 pub(crate) fn resume(
     alloc: Global,
     books: Books,
@@ -56,14 +54,12 @@ pub(crate) fn resume(
     Ok(ClientEnd::with_session(alloc, config, books.session))
 }
 
-// Adds what a client saves.
 fn save(alloc: Global, client: &ClientEnd, told: &mut String) -> Result<(), Wrong> {
     let mut out = Vec::new(alloc);
     client.save(&mut out)?;
     Ok(add_hex(told, out.as_slice())?)
 }
 
-// Adds what the client saves that goes on with a saved session, or why it doesn't go on with it.
 fn go_on(alloc: Global, config: ClientConfig, saved: Saved, told: &mut String) -> Result<(), Wrong>
     requires { config.window ≡ None }
 {
@@ -73,7 +69,6 @@ fn go_on(alloc: Global, config: ClientConfig, saved: Saved, told: &mut String) -
     }
 }
 
-/// `client ROOM LIMIT` of a saved form: what the client saves that goes on with it, or why it doesn't.
 pub(crate) fn go_on_with(
     alloc: Global,
     form: &[u8],
@@ -192,7 +187,6 @@ fn swap(
     Ok(add_hex(told, queue.as_slice())?)
 }
 
-/// What an act of a client tells.
 pub(crate) fn tell(
     alloc: Global,
     client: &mut ClientEnd,
@@ -219,7 +213,6 @@ pub(crate) fn tell(
     }
 }
 
-/// Adds the output of a client that waits, which is written then; or so many bytes are written, and those that wait still are added.
 pub(crate) fn see(
     client: &mut ClientEnd,
     written: Option<usize>,

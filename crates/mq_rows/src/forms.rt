@@ -1,4 +1,4 @@
-//! Saved forms of sessions, and what is loaded of them.
+//! Saved forms of sessions, and loading them.
 
 use crate::clients::go_on_with;
 use crate::values::bytes_of;
@@ -7,7 +7,6 @@ use crate::wrong::Wrong;
 use mq_flow::{LoadError, Saved, Session};
 use std::alloc::Global;
 
-// Adds whether what was loaded is saved as the same bytes.
 fn add_same(told: &mut String, saved: &[u8], bytes: &[u8]) -> Result<(), Wrong> {
     told.push_str(if saved == bytes {
         "the same"
@@ -17,7 +16,6 @@ fn add_same(told: &mut String, saved: &[u8], bytes: &[u8]) -> Result<(), Wrong> 
     Ok(())
 }
 
-// Adds what a session is saved as.
 fn add_session(
     alloc: Global,
     told: &mut String,
@@ -29,7 +27,6 @@ fn add_session(
     add_same(told, out.as_slice(), bytes)
 }
 
-// Adds what the bytes are loaded as: a session, which is saved again, or why not.
 fn load(alloc: Global, told: &mut String, bytes: &[u8]) -> Result<(), Wrong> {
     match Session::load(alloc, bytes) {
         Ok(session) => add_session(alloc, told, &session, bytes),
@@ -49,7 +46,6 @@ fn add_whose(told: &mut String, saved: &Saved) -> Result<(), Wrong> {
     Ok(())
 }
 
-// What was loaded, saved again in its version.
 fn again(saved: &Saved, out: &mut Vec<u8>) -> Result<(), Wrong> {
     match &saved.client {
         Some(client) => saved
@@ -60,7 +56,6 @@ fn again(saved: &Saved, out: &mut Vec<u8>) -> Result<(), Wrong> {
     Ok(())
 }
 
-// Adds whose session was loaded, and what it is saved as.
 fn add_saved(alloc: Global, told: &mut String, saved: &Saved, bytes: &[u8]) -> Result<(), Wrong> {
     let mut out = Vec::new(alloc);
     again(saved, &mut out)?;
@@ -68,7 +63,6 @@ fn add_saved(alloc: Global, told: &mut String, saved: &Saved, bytes: &[u8]) -> R
     add_same(told, out.as_slice(), bytes)
 }
 
-// Adds what the bytes are loaded as, with the client that they name.
 fn load_saved(alloc: Global, told: &mut String, bytes: &[u8]) -> Result<(), Wrong> {
     match Saved::load(alloc, bytes) {
         Ok(saved) => add_saved(alloc, told, &saved, bytes),
@@ -86,7 +80,6 @@ fn put(bytes: &mut Vec<u8>, form: &[u8], place: usize, others: &[u8]) -> Result<
     Ok(())
 }
 
-// `with PLACE BYTES`: what is loaded where these bytes stand in the place of those from a place on.
 fn load_with(
     alloc: Global,
     form: &[u8],
@@ -100,7 +93,6 @@ fn load_with(
     load(alloc, told, bytes.as_slice())
 }
 
-// `behind BYTES`: what is loaded where the form stands behind these bytes.
 fn load_behind(
     alloc: Global,
     form: &[u8],
@@ -121,7 +113,8 @@ fn is_short(alloc: Global, front: &[u8]) -> bool {
     }
 }
 
-// `first COUNT`: what is loaded of so many bytes. `fronts`: how many bytes the fronts of the form have that are loaded, or whose bad field is behind their end.
+// `first COUNT`: loads this many bytes. `fronts`: the sizes of the prefixes of the form that load,
+// or whose invalid field is behind their end.
 fn add_fronts(alloc: Global, form: &[u8], told: &mut String) -> Result<(), Wrong> {
     for length in 0..form.len() {
         let (front, _) = form.split_at(length);
@@ -132,7 +125,6 @@ fn add_fronts(alloc: Global, form: &[u8], told: &mut String) -> Result<(), Wrong
     Ok(())
 }
 
-/// What an act of a form tells.
 pub(crate) fn tell(
     alloc: Global,
     form: &[u8],

@@ -1,12 +1,15 @@
-//! Reads lists of rows from the standard input, and prints each row where something else comes than stands there.
+//! Reads lists of rows from the standard input, and prints each row whose result differs.
 //!
-//! A list begins with a line `new`, which says what it is of: a session, the saved form of one, a client or a server end, or a queue of
-//! bytes. Each line after it is a row: an act, ` = ` and what it tells, where it tells something, and ` | ` and what is seen then, where
-//! something is. Of an end that is its output, which is written then. `next 3` behind that is the identifier that its session gives next.
+//! A list begins with a line `new` that names its subject: a session, a saved form, a client or
+//! server end, or a queue of bytes. Each further line is a row: an act, ` = ` and its result, if it
+//! has one, and `
+//! ` and the state afterwards, if it is shown. The state of an end is its output, which is written
+//! then. `next 3` behind it is the identifier that its session assigns next.
 //!
-//! `at 90000` before an act is its moment, 0 if it stands not there; `times 20` says how often it is done, and what it tells last counts;
-//! `writing 3` that so many bytes of an end's output are written, and what waits still is seen. A line that begins with `#` is a remark, and the
-//! last one is printed with a row that differs. Bytes are hexadecimal digits, `78*60` is 60 times the same ones, and `-` none.
+//! `at 90000` before an act is its time, 0 if it is missing; `times 20` repeats it, and the last
+//! result counts; `writing 3` writes this many bytes of an end's output, and the pending rest is
+//! shown. A line that begins with `#` is a comment; the last one is printed with a row that
+//! differs. Bytes are hexadecimal digits; `78*60` is 60 times the same ones, and `-` none.
 #![tactic(auto)]
 
 mod brief;
@@ -26,7 +29,6 @@ use std::io;
 use std::process::ExitCode;
 use walk::walk_text;
 
-/// Walks over the standard input; answers whether no row differs.
 fn run(rt: &HostRuntime) -> io::Result<bool> {
     let text = io::read_to_string(rt.alloc(), rt.reader())?;
     walk_text(rt, rt.alloc(), text.as_str())

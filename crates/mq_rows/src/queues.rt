@@ -1,4 +1,4 @@
-//! Queues of bytes: what is put into them and taken out, and what waits then.
+//! Queues of bytes: appending, removing, and the pending bytes.
 
 ghost use Rattle.std.specs.Prelude.{◌≤◌, length, IfOk};
 
@@ -51,7 +51,6 @@ fn give(queue: &mut ByteQueue, told: &mut String) -> Result<(), Wrong> {
     Ok(add_word(told, bytes.as_slice())?)
 }
 
-/// Does an act, and adds what it tells.
 pub(crate) fn tell(
     alloc: Global,
     queue: &mut ByteQueue,

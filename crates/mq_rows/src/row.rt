@@ -3,7 +3,7 @@
 use crate::words::Words;
 use crate::wrong::Wrong;
 
-/// A row: an act, what it tells, and what is seen then.
+/// A row: an act, its result, and the state afterwards.
 #[derive(Clone, Copy)]
 pub(crate) struct Row<'a> {
     pub(crate) act: &'a str,
@@ -11,7 +11,6 @@ pub(crate) struct Row<'a> {
     pub(crate) seen: &'a str,
 }
 
-// What stands before a mark, and what behind it.
 fn parts<'a>(text: &'a str, mark: &str) -> (&'a str, &'a str) {
     text.split_once(mark).unwrap_or((text, ""))
 }
@@ -23,7 +22,8 @@ pub(crate) fn row_of(line: &str) -> Row<'_> {
     Row { act, told, seen }
 }
 
-/// What is done: its words, at which moment and how often, and how many bytes of the output are written then, where it isn't all.
+/// The act: its words, its time and repetitions, and the number of output bytes to write, if not
+/// all.
 #[derive(Clone, Copy)]
 pub(crate) struct Act<'a> {
     pub(crate) words: Words<'a>,

@@ -1,4 +1,4 @@
-//! Server ends: what each call tells, and what they put out.
+//! Server ends: the result and the output of each call.
 
 use crate::brief::{
     add_done, add_late, add_outcome, add_progress, add_published, add_session, add_state,
@@ -11,7 +11,6 @@ use mq_end::{ByteQueue, ServerConfig, ServerEnd};
 use mq_packet::{Message, NonEmpty, Packet, SubAckCode};
 use std::alloc::Global;
 
-// What the user of a server says of it: `ROOM LIMIT [WINDOW]`.
 fn config(words: &mut Words<'_>) -> Result<ServerConfig, Wrong> {
     let capacity = words.short()?;
     let limits = words.limits()?;
@@ -32,7 +31,6 @@ pub(crate) fn new_server(alloc: Global, words: &mut Words<'_>) -> Result<ServerE
     Ok(ServerEnd::new(alloc, config))
 }
 
-/// `server ROOM LIMIT` of a session: the server that goes on with it, where it can.
 pub(crate) fn resume(
     alloc: Global,
     books: Books,
@@ -57,7 +55,6 @@ fn receive(
     add_progress(told, &server.receive(moment, bytes.as_slice()))
 }
 
-// `packet BYTES`: whether the packet would hand a message on, and what comes of it.
 fn take_whole(
     alloc: Global,
     server: &mut ServerEnd,
@@ -70,7 +67,6 @@ fn take_whole(
     add_progress(told, &server.on_packet(moment, packet))
 }
 
-// `take BYTES`: the packet is taken, and nothing else of what it tells.
 fn take(
     alloc: Global,
     server: &mut ServerEnd,
@@ -111,7 +107,6 @@ fn publish(
     add_published(told, server.publish(message))
 }
 
-// `suback ID COUNT`: a SUBSCRIBE is answered with so many codes of a failure.
 fn suback(
     alloc: Global,
     server: &mut ServerEnd,
@@ -153,7 +148,6 @@ fn messages(alloc: Global, words: &mut Words<'_>) -> Result<Vec<Message>, Wrong>
     Ok(messages)
 }
 
-// `ready MORE BYTES QOS ..`: room is made for messages, and for so many bytes more.
 fn ready(
     alloc: Global,
     server: &mut ServerEnd,
@@ -169,7 +163,6 @@ fn ready(
     Ok(())
 }
 
-// Adds whether there is room to come up by a CONNECT, and then for messages and for so many bytes more.
 fn add_ready(
     server: &mut ServerEnd,
     packet: &Packet,
@@ -214,7 +207,6 @@ fn swap(
     Ok(add_hex(told, queue.as_slice())?)
 }
 
-// What an act tells that is no client's.
 fn tell_of_server(
     alloc: Global,
     server: &mut ServerEnd,
@@ -231,7 +223,6 @@ fn tell_of_server(
     }
 }
 
-/// What an act of a server tells.
 pub(crate) fn tell(
     alloc: Global,
     server: &mut ServerEnd,
@@ -261,7 +252,6 @@ pub(crate) fn tell(
     }
 }
 
-/// Adds the output of a server that waits, which is written then; or so many bytes are written, and those that wait still are added.
 pub(crate) fn see(
     server: &mut ServerEnd,
     written: Option<usize>,

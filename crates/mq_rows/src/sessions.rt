@@ -77,7 +77,6 @@ fn next_message(alloc: Global, words: &mut Words<'_>) -> Result<Message, Wrong> 
     message(alloc, topic, qos, payload)
 }
 
-// `claim COUNT` by a SUBSCRIBE of so many filters, `claim` by an UNSUBSCRIBE.
 fn claim(session: &mut Session, words: &mut Words<'_>, told: &mut String) -> Result<(), Wrong> {
     let given = if words.is_empty() {
         session.claim_id(Claim::Unsubscribe, 1)
@@ -87,7 +86,6 @@ fn claim(session: &mut Session, words: &mut Words<'_>, told: &mut String) -> Res
     add_given(told, given)
 }
 
-// `awaits ID COUNT` asks for the SUBACK of so many codes, `awaits ID` for the UNSUBACK.
 fn awaits(sender: &Sender, words: &mut Words<'_>, told: &mut String) -> Result<(), Wrong> {
     let id = words.id()?;
     let awaits = if words.is_empty() {
@@ -107,7 +105,6 @@ fn add_lines(told: &mut String, packets: &[Packet]) -> Result<(), AllocError> {
     Ok(())
 }
 
-// `resend`: what goes out where the connection comes up.
 fn resend(alloc: Global, sender: &mut Sender, told: &mut String) -> Result<(), Wrong> {
     let mut packets = Vec::new(alloc);
     sender.resend(&mut packets)?;
@@ -115,7 +112,6 @@ fn resend(alloc: Global, sender: &mut Sender, told: &mut String) -> Result<(), W
     Ok(())
 }
 
-// Adds whether a message was handed on, and the answer.
 fn add_received(
     told: &mut String,
     received: &Result<(Option<Message>, Packet), ReceiveRefusal>,
@@ -159,7 +155,8 @@ fn release(session: &mut Session, words: &mut Words<'_>, told: &mut String) -> R
     Ok(())
 }
 
-// `save`, or `save CLIENT` of a client's session that is established: the saved form, behind a byte that was there.
+// `save`, or `save CLIENT` of a client's session that is established: the saved form, behind a byte
+// that was there.
 fn save(
     alloc: Global,
     session: &Session,
@@ -185,7 +182,6 @@ fn add_form(
     Ok(session.save_with_client(&client, true, out)?)
 }
 
-// Adds what an acknowledgement does.
 fn add_reaction(told: &mut String, reaction: Reaction) -> Result<(), Wrong> {
     Ok(write!(told, "{reaction:?}")?)
 }
@@ -220,7 +216,6 @@ fn tell_of_sender(
     }
 }
 
-/// What an act of a session tells.
 pub(crate) fn tell(
     alloc: Global,
     books: &mut Books,
@@ -252,8 +247,8 @@ fn add_entries(text: &mut String, sender: &Sender) -> Result<(), AllocError> {
     Ok(())
 }
 
-/// Adds the messages in order, each with its identifier and a + where it was sent; how many identifiers are released; how many are claimed;
-/// how much room there is.
+/// Adds the messages in order, each with its identifier and a + where it was sent; how many
+/// identifiers are released; how many are claimed; how much room there is.
 pub(crate) fn see(session: &Session, seen: &mut String) -> Result<(), Wrong> {
     let sender = &session.sender;
     add_entries(seen, sender)?;

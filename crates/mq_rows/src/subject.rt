@@ -65,7 +65,6 @@ fn new_server(alloc: Global, words: &mut Words<'_>) -> Result<Subject, Wrong> {
     Ok(Subject::Server(Box::new(alloc, server)?))
 }
 
-// The client that goes on with a session, or nothing where it can't.
 fn resumed_client(alloc: Global, books: Books, words: &mut Words<'_>) -> Result<Subject, Wrong> {
     match clients::resume(alloc, books, words)? {
         Some(client) => Ok(Subject::Client(Box::new(alloc, client)?)),
@@ -73,7 +72,6 @@ fn resumed_client(alloc: Global, books: Books, words: &mut Words<'_>) -> Result<
     }
 }
 
-// The server that goes on with a session, or nothing where it can't.
 fn resumed_server(alloc: Global, books: Books, words: &mut Words<'_>) -> Result<Subject, Wrong> {
     match servers::resume(alloc, books, words)? {
         Some(server) => Ok(Subject::Server(Box::new(alloc, server)?)),
@@ -82,7 +80,8 @@ fn resumed_server(alloc: Global, books: Books, words: &mut Words<'_>) -> Result<
 }
 
 impl Subject {
-    // `becomes client ROOM LIMIT` or `becomes server ROOM LIMIT` of a session: from here on the list is of the end that goes on with it.
+    // `becomes client ROOM LIMIT` or `becomes server ROOM LIMIT` of a session: from here on the
+    // list is of the end that goes on with it.
     fn go_on(
         &mut self,
         alloc: Global,
@@ -102,7 +101,6 @@ impl Subject {
         Ok(())
     }
 
-    // What an act tells, of the words of which it leaves those that it doesn't know.
     fn tell_words(
         &mut self,
         alloc: Global,
@@ -123,7 +121,6 @@ impl Subject {
         }
     }
 
-    /// Does an act once, and adds what it tells.
     pub(crate) fn tell(
         &mut self,
         alloc: Global,
@@ -158,7 +155,6 @@ impl Subject {
         sessions::add_next(seen, &session.sender)
     }
 
-    /// Adds what is seen of it; so many bytes of its output are written, or all.
     pub(crate) fn see(&mut self, written: Option<usize>, seen: &mut String) -> Result<(), Wrong> {
         match self {
             Subject::Nothing | Subject::Form(_) => Ok(()),

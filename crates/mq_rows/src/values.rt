@@ -37,7 +37,6 @@ fn add_digits(bytes: &mut Vec<u8>, digits: &[u8]) -> Result<(), Wrong> {
     Ok(())
 }
 
-// The digits of a word, and how often their bytes stand one after another.
 fn repeated(word: &str) -> Result<(&str, u16), Wrong> {
     match word.split_once('*') {
         Some((digits, times)) => Ok((digits, times.parse().ok().ok_or(Wrong::Words)?)),
@@ -45,7 +44,6 @@ fn repeated(word: &str) -> Result<(&str, u16), Wrong> {
     }
 }
 
-// Adds the bytes that a word stands for.
 fn add_bytes(bytes: &mut Vec<u8>, word: &str) -> Result<(), Wrong> {
     if word == "-" {
         return Ok(());
@@ -57,14 +55,14 @@ fn add_bytes(bytes: &mut Vec<u8>, word: &str) -> Result<(), Wrong> {
     Ok(())
 }
 
-/// The bytes that the next word stands for.
 pub(crate) fn bytes_of(alloc: Global, words: &mut Words<'_>) -> Result<Vec<u8>, Wrong> {
     let mut bytes = Vec::new(alloc);
     add_bytes(&mut bytes, words.word()?)?;
     Ok(bytes)
 }
 
-/// Adds bytes as hexadecimal digits; of more than a hundred of them, how many there are and the first ten.
+/// Adds bytes as hexadecimal digits; of more than a hundred of them, how many there are and the
+/// first ten.
 pub(crate) fn add_hex(text: &mut String, bytes: &[u8]) -> Result<(), AllocError> {
     let mut shown = bytes;
     if bytes.len() > 100 {
@@ -77,7 +75,6 @@ pub(crate) fn add_hex(text: &mut String, bytes: &[u8]) -> Result<(), AllocError>
     Ok(())
 }
 
-/// Adds bytes as a word that stands for them.
 pub(crate) fn add_word(text: &mut String, bytes: &[u8]) -> Result<(), AllocError> {
     if bytes.is_empty() {
         return text.push_str("-");
@@ -104,7 +101,6 @@ pub(crate) fn message(
     })
 }
 
-/// The packet of the bytes that the next word stands for.
 pub(crate) fn packet_of(alloc: Global, words: &mut Words<'_>) -> Result<Packet, Wrong> {
     let limits = Limits::new(64).ok_or(Wrong::Words)?;
     let bytes = bytes_of(alloc, words)?;

@@ -7,7 +7,8 @@ use crate::wrong::Wrong;
 use std::alloc::Global;
 use std::io;
 
-/// How far a walk has come: what the list is of, the last remark, and what the last row told and what was seen then.
+/// The state of a walk: the subject of the list, the last comment, and the last row's result and
+/// state.
 #[derive(Drop)]
 struct Walk<'a> {
     subject: Subject,
@@ -60,7 +61,6 @@ impl<'a> Walk<'a> {
         }
     }
 
-    // Does what a row asks for; answers whether that comes which stands there.
     fn come(&mut self, alloc: Global, row: Row<'_>) -> Result<bool, Wrong> {
         count(&mut self.counts.rows);
         self.told.clear();
@@ -77,7 +77,6 @@ impl<'a> Walk<'a> {
         Ok(self.told.as_str() == row.told && self.seen.as_str() == row.seen)
     }
 
-    // What comes of a line that is no remark: nothing is wrong, something else came, or the line is wrong.
     fn take(&mut self, alloc: Global, line: &str) -> Result<bool, Wrong> {
         match line.strip_prefix("new ") {
             Some(text) => {
@@ -88,14 +87,12 @@ impl<'a> Walk<'a> {
         }
     }
 
-    // Tells of a row of which something else came.
     fn tell_row(&self, rt: &impl Print, line: &str) -> io::Result<()> {
         let (number, remark) = (self.counts.lines, self.remark);
         println!(rt; "line {number}: {remark}\n  {line}")?;
         println!(rt; "  came: {} | {}", self.told.as_str(), self.seen.as_str())
     }
 
-    // Tells of a line of which nothing came.
     fn tell_wrong(&self, rt: &impl Print, line: &str, wrong: Wrong) -> io::Result<()> {
         let (number, remark) = (self.counts.lines, self.remark);
         println!(rt;
@@ -104,7 +101,6 @@ impl<'a> Walk<'a> {
         )
     }
 
-    // Takes a line, and tells of it where something else came.
     fn walk_line(&mut self, rt: &impl Print, alloc: Global, line: &'a str) -> io::Result<()> {
         count(&mut self.counts.lines);
         if line.is_empty() {
@@ -132,7 +128,6 @@ impl<'a> Walk<'a> {
     }
 }
 
-/// Walks over the lines of a text, and tells how many rows there are; answers whether none differs.
 pub(crate) fn walk_text(rt: &impl Print, alloc: Global, text: &str) -> io::Result<bool> {
     let mut walk = Walk::new(alloc);
     walk.walk_lines(rt, alloc, text)?;

@@ -33,7 +33,6 @@ impl<'a> Words<'a> {
         self.left.is_empty()
     }
 
-    /// The next word, where there is one.
     pub(crate) fn next(&mut self) -> Option<&'a str> {
         if self.left.is_empty() {
             return None;
@@ -59,7 +58,6 @@ impl<'a> Words<'a> {
         }
     }
 
-    /// The number behind a word, where the word is the next one.
     pub(crate) fn after(&mut self, word: &str) -> Result<Option<u64>, Wrong> {
         if !self.begin_with(word) {
             return Ok(None);
@@ -82,7 +80,6 @@ impl<'a> Words<'a> {
         self.word()?.parse().ok().ok_or(Wrong::Words)
     }
 
-    /// A number of two bytes, where a word is left.
     pub(crate) fn short_if_any(&mut self) -> Result<Option<u16>, Wrong> {
         if self.is_empty() {
             return Ok(None);

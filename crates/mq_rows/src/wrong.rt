@@ -12,7 +12,6 @@ pub(crate) enum Wrong {
 }
 
 impl Wrong {
-    /// Says what is wrong.
     pub(crate) fn text(self) -> &'static str {
         match self {
             Wrong::Words => "the line can't be read here",

@@ -1,14 +1,12 @@
-//! Texts that are as they are to be. Nothing else is held where they are compared, so that a walk over rows holds nothing either.
+//! Comparison of texts. Holds no other values, so that a loop over rows holds none either.
 
 use std::process::Abort;
 use std::test::Fail;
 
-/// The text is this one; where it isn't, what it is of is told.
 pub(crate) fn expect_text(rt: &impl Abort, told: &str, wanted: &str, of: &str) {
     assert_eq!(rt; told, wanted, "{of}");
 }
 
-/// The same of a text that a call answers.
 pub(crate) fn expect_told(
     rt: &impl Abort,
     told: Result<String, Fail>,

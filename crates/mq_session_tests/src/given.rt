@@ -1,4 +1,4 @@
-//! What comes of bytes at an end, given away as a vector: of no, one and several items.
+//! The events of bytes at an end as a vector: with no, one and several items.
 
 use crate::compare::expect_told;
 use crate::readme::new_client;
@@ -6,7 +6,6 @@ use mq_end::{ClientEnd, Happening};
 use std::alloc::Global;
 use std::test::Fail;
 
-// What happenings say, in order: that the end came up, or which topic name a message has.
 fn said(alloc: Global, happenings: &[Happening]) -> Result<String, Fail> {
     let mut told = String::new(alloc);
     for happening in happenings {
@@ -19,7 +18,6 @@ fn said(alloc: Global, happenings: &[Happening]) -> Result<String, Fail> {
     Ok(told)
 }
 
-// What comes of a piece at a client that connects.
 fn heard(alloc: Global, client: &mut ClientEnd, piece: &[u8]) -> Result<String, Fail> {
     client.connect(0, false)?;
     let progress = client.receive(0, piece);
@@ -32,7 +30,6 @@ fn given(alloc: Global, piece: &[u8]) -> Result<String, Fail> {
     heard(alloc, &mut client, piece)
 }
 
-// A piece, and what comes of it.
 const PIECES: [(&[u8], &str); 4] = [
     (b"", ""),
     (b"\x20\x02\x00\x00", "up "),

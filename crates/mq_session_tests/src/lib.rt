@@ -1,4 +1,5 @@
-//! Tests of sessions and of both ends that are no rows of `mq_rows`: sentences, the snippets of README, and lists that are given away.
+//! Tests of sessions and of both ends that are no rows of `mq_rows`: sentences, the snippets of
+//! README, and lists that are given away.
 #![tactic(auto)]
 
 #[cfg(test)]

@@ -1,4 +1,4 @@
-//! The snippets of README's part "The libraries": each of their calls is made, in functions whose answers are told.
+//! The snippets of the documents: each of their calls is made.
 
 use crate::compare::expect_told;
 use bytes::Bytes;
@@ -13,7 +13,6 @@ use std::io::Write;
 use std::process::Abort;
 use std::test::Fail;
 
-// What comes of a piece that is fed.
 fn fed(alloc: Global, piece: &[u8]) -> Result<String, Fail> {
     let limits = Limits::new(1_048_576).unwrap();
     let mut decoder = Decoder::new(alloc, limits);
@@ -65,7 +64,6 @@ fn a_client_is_found(rt: &impl Abort, alloc: Global) -> Result<(), Fail> {
     Ok(())
 }
 
-// The packet at the front of what a reader gives, encoded and written.
 fn read_again(alloc: Global, bytes: &[u8]) -> Result<Packet, Fail> {
     let limits = Limits::new(1_048_576).unwrap();
     let mut reader = bytes;
@@ -93,7 +91,6 @@ fn a_packet_is_read_and_written(rt: &impl Abort, alloc: Global) -> Result<(), Fa
     expect_told(rt, encoded_twice(alloc), wanted, "")
 }
 
-// What a view of bytes is.
 fn viewed(alloc: Global, bytes: &[u8]) -> Result<String, Fail> {
     let limits = Limits::new(1_048_576).unwrap();
     match view(bytes, limits) {
@@ -112,7 +109,6 @@ fn bytes_are_viewed(rt: &impl Abort, alloc: Global) -> Result<(), Fail> {
     expect_told(rt, viewed(alloc, b"\xf0"), "F1", "")
 }
 
-// What the user of a client `w` says of it: a limit of 64 and room for two messages.
 fn config(alloc: Global) -> Result<ClientConfig, Fail> {
     let limits = Limits::new(64).ok_or("no limits")?;
     let id = Text::new(alloc, "w")?;
@@ -166,7 +162,6 @@ fn subscribe(alloc: Global, client: &mut ClientEnd, socket: &mut Vec<u8>) -> Res
     Ok(())
 }
 
-// A client connects, publishes, comes up, subscribes, and loses its connection; answers how many happenings it told of.
 fn converse(alloc: Global, client: &mut ClientEnd, socket: &mut Vec<u8>) -> Result<usize, Fail> {
     client.connect(0, false)?;
     publish(alloc, client, socket)?;
@@ -177,14 +172,12 @@ fn converse(alloc: Global, client: &mut ClientEnd, socket: &mut Vec<u8>) -> Resu
     Ok(count)
 }
 
-// What a client tells, and how many bytes it wrote.
 fn conversation_of(alloc: Global, client: &mut ClientEnd) -> Result<String, Fail> {
     let mut socket = Vec::new(alloc);
     let count = converse(alloc, client, &mut socket)?;
     Ok(format!(in alloc; "{count} {}", socket.len())?)
 }
 
-// The same of a client that is made for it.
 fn conversation(alloc: Global) -> Result<String, Fail> {
     let mut client = new_client(alloc)?;
     conversation_of(alloc, &mut client)
@@ -206,7 +199,6 @@ fn loaded_capacity(alloc: Global, bytes: &[u8]) -> Result<u16, Fail> {
     Ok(session.sender.capacity())
 }
 
-// How many bytes the saved form of a new session has, and the capacity of what is loaded of it.
 fn saved(alloc: Global) -> Result<String, Fail> {
     let mut bytes = Vec::new(alloc);
     save_new(alloc, &mut bytes)?;

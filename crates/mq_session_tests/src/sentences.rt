@@ -10,12 +10,10 @@ use std::fmt::Display;
 use std::process::Abort;
 use std::test::Fail;
 
-// What an error displays as.
 fn said<E: Display + Drop>(alloc: Global, error: E) -> Result<String, Fail> {
     Ok(format!(in alloc; "{error}")?)
 }
 
-// Each refusal of a call, its code, and what it displays.
 static REFUSALS: [(PublishRefusal, &str, &str); 5] = [
     (PublishRefusal::NotConnected, "P1", "not connected"),
     (
@@ -46,7 +44,6 @@ const FAULT: DecodeFault = DecodeFault {
     place: 0,
 };
 
-// Each reason to close a connection, its code, and what it displays.
 static REASONS: [(CloseReason, &str, &str); 8] = [
     (
         CloseReason::Fault(FAULT),
@@ -90,7 +87,6 @@ fn reasons_to_close_display_as_sentences(rt: &impl Abort, alloc: Global) -> Resu
     Ok(())
 }
 
-// Each reason why a session is not loaded, and what it displays.
 static LOAD_ERRORS: [(LoadError, &str); 5] = [
     (
         LoadError::Version,

@@ -5,7 +5,7 @@ use mq_decode::{DecodeError, Decoder, Limits};
 use mq_packet::{Packet, encoded_len};
 use std::alloc::Global;
 
-/// A decoder, and what it answered.
+/// A decoder with its results.
 #[derive(Drop)]
 pub(crate) struct AtDecoder {
     decoder: Decoder,
@@ -53,7 +53,6 @@ impl AtDecoder {
         }
     }
 
-    /// It holds no more than the bound: five bytes and the limit.
     fn look_at_held(&mut self) {
         let held = self.decoder.held();
         self.most_held = self.most_held.max(held);
@@ -61,8 +60,8 @@ impl AtDecoder {
         self.expect(held as u64 <= most);
     }
 
-    /// The packets have as many bytes as came and were held before, less those that are held now; fewer where a length may have more bytes than
-    /// it needs.
+    /// The packets have as many bytes as arrived and were held before, minus those held now; fewer
+    /// if a remaining length has more bytes than necessary.
     fn look_at_bytes(&mut self, came: u64) {
         let size = size_of(self.packets.as_slice()).saturating_add(self.decoder.held() as u64);
         self.sound = self.sound.saturating_add(1);

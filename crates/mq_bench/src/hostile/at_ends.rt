@@ -29,7 +29,7 @@ fn message(alloc: Global, number: u32) -> anyhow::Result<Message> {
     })
 }
 
-/// A client end, and what it did.
+/// A client end with its results.
 #[derive(Drop)]
 pub(crate) struct AtClient {
     end: ClientEnd,
@@ -61,7 +61,6 @@ impl AtClient {
         self.end.state() != State::Connected
     }
 
-    /// What its user put out goes.
     fn write(&mut self) {
         let waits = self.end.output().len();
         self.end.take_output(waits);
@@ -98,7 +97,6 @@ impl AtClient {
         }
     }
 
-    /// Its user does something, by a number, or nothing, and connects where there is no connection.
     pub(crate) fn use_it(&mut self, alloc: Global, number: u32) -> anyhow::Result<()> {
         if let Some(why) = self.act(alloc, number)? {
             self.ledger.refused(why);
@@ -122,7 +120,7 @@ impl AtClient {
     }
 }
 
-/// A server end, and what it did.
+/// A server end with its results.
 #[derive(Drop)]
 pub(crate) struct AtServer {
     end: ServerEnd,
@@ -158,7 +156,6 @@ impl AtServer {
         }
     }
 
-    /// Its user does something, by a number, or nothing, and a connection is opened where there is none.
     pub(crate) fn use_it(&mut self, alloc: Global, number: u32) -> anyhow::Result<()> {
         match number {
             0 => self.end.dropped(),

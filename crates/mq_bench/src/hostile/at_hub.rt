@@ -11,7 +11,7 @@ use std::alloc::{AllocError, Global};
 /// How many connections there are.
 pub(crate) const CONNS: usize = 4;
 
-/// A broker, and what it did.
+/// A broker with its results.
 #[derive(Drop)]
 pub(crate) struct AtHub {
     alloc: Global,
@@ -27,7 +27,7 @@ pub(crate) struct AtHub {
     pub(crate) answered: u64,
     /// How many bytes went in all.
     pub(crate) went: u64,
-    /// What it did.
+    /// The acts by kind.
     pub(crate) acts: Tally,
     /// Why it closed connections.
     pub(crate) closes: Tally,
@@ -58,7 +58,6 @@ fn new_hub(alloc: Global, limits: Limits) -> Hub {
     Hub::new(alloc, config)
 }
 
-/// The number of what a broker did.
 fn number_of(act: &Act) -> usize {
     match act {
         Act::Up(_, _, _) => 1,
@@ -83,7 +82,6 @@ fn number_of_hub_close(why: HubClose) -> usize {
     }
 }
 
-/// How many bytes of answers a broker's output has: all but its messages, PUBLISH and PUBREL; `None` where it is no packets.
 fn answers_in(output: &[u8], limits: Limits) -> Option<u64> {
     let mut rest = output;
     let mut bytes = 0u64;
@@ -144,7 +142,6 @@ impl AtHub {
         }
     }
 
-    /// What the broker did.
     fn tell(&mut self, reply: &HubReply) {
         for act in reply.acts.as_slice() {
             self.acts.count(number_of(act));
@@ -159,7 +156,6 @@ impl AtHub {
         }
     }
 
-    /// An event comes; answers what came of it, where it was not refused.
     fn step(&mut self, event: &HubEvent) -> Option<HubReply> {
         match self.hub.step(event) {
             Ok(reply) => {
@@ -173,7 +169,6 @@ impl AtHub {
         }
     }
 
-    /// An event comes; what came of it is let go of.
     fn happens(&mut self, event: HubEvent) {
         self.step(&event);
     }
@@ -188,7 +183,6 @@ impl AtHub {
         self.expect(why != HubRefusal::Memory);
     }
 
-    /// What waits on a connection goes; answers how many bytes of answers that were. One that is closed is over.
     fn collect(&mut self, number: usize) -> u64 {
         if !self.hub.knows(conn(number)) {
             return 0;
@@ -206,7 +200,6 @@ impl AtHub {
         answers.unwrap_or(0)
     }
 
-    /// What waits anywhere goes; answers how many bytes of answers that were.
     fn collect_all(&mut self) -> u64 {
         let mut answers = 0u64;
         for number in 0..CONNS {
@@ -215,7 +208,6 @@ impl AtHub {
         answers
     }
 
-    /// So many bytes came on a connection, and answers of so many went.
     fn pass(&mut self, number: usize, came: u64, answers: u64) {
         self.came = self.came.saturating_add(came);
         self.answered = self.answered.saturating_add(answers);
@@ -227,7 +219,8 @@ impl AtHub {
         }
     }
 
-    /// Something happens, by a number, or nothing: it is later, a connection ends, or one is asked for that is not known.
+    /// Something happens, by a number, or nothing: it is later, a connection ends, or one is asked
+    /// for that is not known.
     pub(crate) fn use_it(&mut self, number: u32, on: usize) {
         match number {
             0..=2 => {

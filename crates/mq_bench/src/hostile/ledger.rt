@@ -7,12 +7,12 @@ use mq_flow::{Sender, Session};
 /// The receiving window of ends.
 pub(crate) const WINDOW: u16 = 3;
 
-/// What an end did with bytes that came, and how many it may still put out for them.
+/// The bytes that an end received and sent, and those that it may still send.
 #[derive(Clone, Copy, Debug)]
 pub(crate) struct Ledger {
     /// At least as many bytes as it holds, and may answer.
     credit: u64,
-    /// How many bytes it puts out at most where it closes before it is up.
+    /// The maximum output if it closes before it is connected.
     refusal: u64,
     /// How many bytes came and went.
     pub(crate) came: u64,
@@ -33,11 +33,12 @@ pub(crate) struct Ledger {
 #[derive(Clone, Copy, Debug)]
 pub(crate) struct Before {
     state: State,
-    /// How many bytes go out again where it comes up.
+    /// The size of the retransmissions when it connects.
     again: u64,
 }
 
-/// How many bytes the messages of a session have, sent again (4.4): all lengths are of one byte here.
+/// How many bytes the messages of a session have, sent again (4.4): all lengths are of one byte
+/// here.
 fn bytes_again(sender: &Sender) -> u64 {
     let mut bytes = 0u64;
     for entry in sender.entries() {
@@ -60,7 +61,6 @@ impl Before {
     }
 }
 
-/// The number of what a packet told.
 fn number_of(happening: &Happening) -> usize {
     match happening {
         Happening::Up { .. } => 1,
@@ -99,7 +99,6 @@ fn number_of_refusal(why: PublishRefusal) -> usize {
 }
 
 impl Ledger {
-    /// Nothing came to an end, which puts out so many bytes at most where it closes before it is up.
     pub(crate) fn new(refusal: u64) -> Ledger {
         Ledger {
             credit: 0,
@@ -137,7 +136,6 @@ impl Ledger {
         self.expect(why != CloseReason::Memory);
     }
 
-    /// Packets told something; answers whether the end came up.
     fn tell(&mut self, happenings: &[Happening]) -> bool {
         let mut up = false;
         for happening in happenings {
@@ -147,7 +145,6 @@ impl Ledger {
         up
     }
 
-    /// So many bytes came, and so many went.
     fn pass(&mut self, came: u64, again: u64, went: u64) {
         self.came = self.came.saturating_add(came);
         self.went = self.went.saturating_add(went);
@@ -156,7 +153,6 @@ impl Ledger {
         self.credit = most.saturating_sub(went);
     }
 
-    /// So many bytes came to an end that was this before, this came of it, and so many bytes went.
     pub(crate) fn note(&mut self, before: Before, came: usize, progress: &Progress, went: usize) {
         let went = went as u64;
         let up = self.tell(progress.happenings.as_slice());

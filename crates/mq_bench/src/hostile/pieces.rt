@@ -70,7 +70,6 @@ pub(crate) struct Pieces {
     piece: Vec<u8>,
 }
 
-/// One of some packets; none where there are none.
 fn packet_at<'a>(packets: &[&'a [u8]], number: u32) -> &'a [u8] {
     let number = number as usize % packets.len().max(1);
     match packets.get(number) {
@@ -137,7 +136,8 @@ impl Pieces {
         self.piece.truncate(place);
     }
 
-    /// Something is done to the piece, which is a packet of these, or nothing: to four of five packets nothing is.
+    /// Something is done to the piece, which is a packet of these, or nothing: to four of five
+    /// packets nothing is.
     fn treat(&mut self, packets: &[&[u8]]) -> Result<(), AllocError> {
         match self.below(40) {
             0 | 1 => {
@@ -164,7 +164,6 @@ impl Pieces {
         }
     }
 
-    /// The next piece of such packets: mostly of those that begin a connection where it is to begin, and of others where not.
     pub(crate) fn next(&mut self, packets: &[&[u8]], begins: bool) -> Result<&[u8], AllocError> {
         self.piece.clear();
         let kind = self.below(24);

@@ -1,4 +1,4 @@
-//! Counts of what has a name.
+//! Named counters.
 
 use std::fmt;
 
@@ -8,18 +8,14 @@ pub(crate) const FAULTS: [&str; 20] = [
     "F16", "F17", "F18", "F19", "F20",
 ];
 
-/// The codes of what closes a connection.
 pub(crate) const CLOSES: [&str; 11] = [
     "C1", "C2", "C3", "C4", "C5", "C6", "C7", "C8", "C9", "C10", "C11",
 ];
 
-/// The codes of what refuses a publication.
 pub(crate) const REFUSALS: [&str; 5] = ["P1", "P2", "P3", "P4", "P5"];
 
-/// The codes of what refuses an event of a broker.
 pub(crate) const HUB_REFUSALS: [&str; 3] = ["U1", "U2", "U3"];
 
-/// What packets tell an end's user.
 pub(crate) const HAPPENINGS: [&str; 7] = [
     "up",
     "handed",
@@ -30,7 +26,6 @@ pub(crate) const HAPPENINGS: [&str; 7] = [
     "pong",
 ];
 
-/// What a broker does.
 pub(crate) const ACTS: [&str; 9] = [
     "up",
     "took",
@@ -43,7 +38,8 @@ pub(crate) const ACTS: [&str; 9] = [
     "removed",
 ];
 
-/// How often each of some names came, by its number from 1 on. It displays as those that came, with their counts.
+/// How often each of some names came, by its number from 1 on. It displays as those that came, with
+/// their counts.
 #[derive(Clone, Copy, Debug)]
 pub(crate) struct Tally {
     names: &'static [&'static str],

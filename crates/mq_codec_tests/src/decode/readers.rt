@@ -10,7 +10,7 @@ use std::io::{ErrorKind, Read};
 use std::process::Abort;
 use std::test::Fail;
 
-// A reader of these bytes: each call gives so many at most, and after so many calls it fails. Every
+// A reader of these bytes that returns at most `most` at a time and fails after some calls. Every
 // other call is interrupted.
 #[derive(Drop)]
 struct Slow<'a> {
@@ -57,14 +57,12 @@ fn stream(alloc: Global) -> Result<Vec<u8>, Fail> {
     Ok(bytes)
 }
 
-// Whether a packet is spelled as these bytes.
 fn is_encoded(alloc: Global, packet: &Packet, bytes: &[u8]) -> Result<bool, Fail> {
     let mut out = Vec::new(alloc);
     encode_into(packet, &mut out)?;
     Ok(out.as_slice() == bytes)
 }
 
-// Whether the next packet is spelled as these bytes, and the reader gives no more of them.
 fn reads(alloc: Global, reader: &mut Slow<'_>, bytes: &[u8]) -> Result<bool, Fail> {
     let least = limits(64)?;
     let left = reader.bytes.len().checked_sub(bytes.len());
@@ -75,7 +73,6 @@ fn reads(alloc: Global, reader: &mut Slow<'_>, bytes: &[u8]) -> Result<bool, Fai
     }
 }
 
-// The same of a row.
 fn reads_row(alloc: Global, reader: &mut Slow<'_>, row: &str) -> Result<bool, Fail> {
     let bytes = bytes_of(alloc, row)?;
     reads(alloc, reader, bytes.as_slice())
@@ -106,7 +103,6 @@ fn reads_each_packet_and_no_more(rt: &impl Abort, alloc: Global) -> Result<(), F
     Ok(())
 }
 
-// How many bytes of a PUBLISH's payload are 7; nothing where the packet is another one.
 fn sevens_in(packet: &Packet) -> Option<usize> {
     match packet {
         Packet::Publish(publish) => {
@@ -117,7 +113,6 @@ fn sevens_in(packet: &Packet) -> Option<usize> {
     }
 }
 
-// How many there are in what is read, and how many bytes the reader has left.
 fn sevens_read(
     alloc: Global,
     bytes: &[u8],
@@ -219,7 +214,6 @@ fn begin_with(alloc: Global, bytes: &[u8], packets: &[Packet]) -> Result<bool, F
     Ok(bytes.starts_with(encoded.as_slice()))
 }
 
-// How a reader that fails after so many calls fails, and how many packets were whole before; nothing where they are others.
 fn failed_after(
     alloc: Global,
     bytes: &[u8],

@@ -29,7 +29,6 @@ impl Way {
         }
     }
 
-    /// The same of pieces of a size: how many bytes are held at the end.
     pub(crate) fn take_pieces(
         self,
         decoder: &mut Decoder,
@@ -76,7 +75,6 @@ fn step_through(
     Ok(decoder.held())
 }
 
-/// What a decoder answers to pieces whose packets are taken one at a time, and how many came.
 pub(crate) fn stepped(
     alloc: Global,
     limits: Limits,
@@ -88,7 +86,6 @@ pub(crate) fn stepped(
     (answer, out.len())
 }
 
-/// The same byte by byte.
 pub(crate) fn stepped_by_bytes(
     alloc: Global,
     limits: Limits,

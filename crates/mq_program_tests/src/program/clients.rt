@@ -50,8 +50,8 @@ fn reads_words_for_a_broker(rt: &impl Abort, alloc: Global) -> Result<(), Fail> 
     Ok(())
 }
 
-// What `publish` is given behind its port: the words, the client, the topic, the quality of service, whether it is retained, the
-// session's file, and the texts.
+// What `publish` is given behind its port: the words, the client, the topic, the quality of
+// service, whether it is retained, the session's file, and the texts.
 type Published<'a> = (
     &'a [&'a str],
     &'a str,
@@ -90,7 +90,8 @@ static PUBLISHED: [Published<'static>; 6] = [
         None,
         &["one", "two", "three"],
     ),
-    // No text, where a file keeps the session; what is no topic name, and texts that are empty or look like options, are taken as they are.
+    // No text, if a file stores the session. Invalid topic names, and texts that are empty or look
+    // like options, are accepted as they are.
     (
         &["--id=p", "--topic=t", "--qos=1", "--session", "s.bin"],
         "p",

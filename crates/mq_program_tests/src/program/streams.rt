@@ -36,7 +36,6 @@ impl Read for Slow<'_> {
 // Two packets and the first byte of a third one.
 const CUT: [u8; 7] = [0xc0, 0x00, 0x40, 0x02, 0x00, 0x01, 0xc0];
 
-/// What came before a read that failed is shown, and that it failed is told; a byte at a time is as good as all at once.
 pub(super) fn tells_of_failed_reads(rt: &impl Abort, alloc: Global) -> Result<(), Fail> {
     let slow = printed(alloc, &SHOWS, &mut Fallible(Slow(&CUT)));
     expect_printed(rt, slow, 1, b"PINGREQ\nPUBACK id=1\nheld 1\n", "slow")?;
@@ -75,7 +74,6 @@ static PRINTED: [(Job<'static>, usize); 4] = [
     (SHOWS, 0),
 ];
 
-// The job tells that its output failed, wherever in what it prints that is.
 fn expect_told_failures(rt: &impl Abort, alloc: Global, job: &Job<'_>, size: usize) {
     for room in 0..size {
         let answer = perform(alloc, job, &mut io::empty(), &mut Full(room));
@@ -85,7 +83,6 @@ fn expect_told_failures(rt: &impl Abort, alloc: Global, job: &Job<'_>, size: usi
     assert!(rt; answer.is_ok(), "{job:?} with room");
 }
 
-/// Each job tells that its output failed, wherever it does.
 pub(super) fn tells_of_failed_writes(rt: &impl Abort, alloc: Global) {
     for (hex, size) in [("c000", 8), ("c0", 7), ("f000", 29), ("zz", 8)] {
         expect_told_failures(rt, alloc, &shows(hex), size);
@@ -95,12 +92,10 @@ pub(super) fn tells_of_failed_writes(rt: &impl Abort, alloc: Global) {
     }
 }
 
-// What an error says.
 fn said<E: Display + Drop>(alloc: Global, error: E) -> Result<String, Fail> {
     Ok(format!(in alloc; "{error}")?)
 }
 
-/// What a failure comes to: its status, and what it says.
 pub(super) fn tells_of_failures(rt: &impl Abort, alloc: Global) -> Result<(), Fail> {
     for (kind, status, text) in [
         (ErrorKind::BrokenPipe, 4, "output closed"),

@@ -8,9 +8,9 @@ use std::alloc::{AllocError, Global};
 // What a row of a test asks of a world.
 #[derive(Clone, Copy)]
 pub(crate) enum Ask {
-    // What came of the event at this place.
+    // The answer at this index.
     Answer(usize),
-    // How many messages a side accepted and handed on.
+    // The number of messages that a side accepted and delivered.
     Counts(Side, Qos),
     // The places of the messages that were acknowledged to a side.
     Freed(Side),
@@ -92,7 +92,6 @@ fn yes_or_no(alloc: Global, answer: bool) -> Result<String, AllocError> {
     format!(in alloc; "{word}")
 }
 
-// What the world answers to a question.
 pub(crate) fn told(alloc: Global, world: &World, ask: Ask) -> Result<String, AllocError> {
     match ask {
         Ask::Answer(place) => answer(alloc, world, place),

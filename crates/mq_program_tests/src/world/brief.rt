@@ -13,7 +13,6 @@ pub(crate) fn add_hex(text: &mut String, bytes: &[u8]) -> Result<(), AllocError>
     Ok(())
 }
 
-// Adds the topic, the quality of service and the payload of a message that is handed on.
 fn add_message(text: &mut String, message: &Message) -> Result<(), AllocError> {
     let topic = message.topic.as_str();
     let qos = message.qos.number();
@@ -53,7 +52,6 @@ fn add_progress(text: &mut String, progress: &Progress) -> Result<(), AllocError
     }
 }
 
-// Adds the bytes of a delivery, and what came of them.
 fn add_delivery(text: &mut String, delivery: &Delivery) -> Result<(), AllocError> {
     add_hex(text, delivery.bytes.as_slice())?;
     if delivery.lost {
@@ -86,7 +84,6 @@ fn add_settling(text: &mut String, settling: &Settling) -> Result<(), AllocError
     write!(text, "; idle {}", settling.idle)
 }
 
-// Appends an answer in short.
 fn add_answer(text: &mut String, answer: &Answer) -> Result<(), AllocError> {
     match answer {
         Answer::Published(_, Ok(Some(id))) => write!(text, "published {}", id.get())?,
@@ -107,14 +104,12 @@ fn add_answer(text: &mut String, answer: &Answer) -> Result<(), AllocError> {
     Ok(())
 }
 
-// An answer in short.
 pub(crate) fn told(alloc: Global, answer: &Answer) -> Result<String, AllocError> {
     let mut text = String::new(alloc);
     add_answer(&mut text, answer)?;
     Ok(text)
 }
 
-// The same of a copy.
 pub(crate) fn told_of_copy(alloc: Global, answer: Answer) -> Result<String, AllocError> {
     let copy = answer.clone()?;
     told(alloc, &copy)

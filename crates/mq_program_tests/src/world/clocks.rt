@@ -1,4 +1,4 @@
-//! Moments that pass at a side.
+//! Passing time.
 
 use crate::world::Act::{Look, Make};
 use crate::world::Row;
@@ -29,7 +29,8 @@ pub(super) static ROWS: [Row; 4] = [
             (Make(Deliver(Client, 2)), "d000, pong"),
         ],
     },
-    // A server to which nothing comes for more than one and a half keep-alives closes, and what was on its way to it is lost.
+    // A server that receives nothing for more than one and a half keep-alives closes, and bytes in
+    // flight to it are lost.
     Row {
         name: "a late server closes",
         max_packet: 65_536,
@@ -71,7 +72,7 @@ pub(super) static ROWS: [Row; 4] = [
             (Make(Tick(Server, 1)), "ticked, closed KeepAlive"),
         ],
     },
-    // The greatest moment is the last, so that from then on nothing is due or late.
+    // The maximum of the clock is final: from then on nothing is due or late.
     Row {
         name: "clocks stop",
         max_packet: 65_536,

@@ -22,7 +22,7 @@ pub(super) static ROWS: [Row; 2] = [
             (Look(Wire(Server)), "100d00044d5154540400003c000177"),
         ],
     },
-    // DISCONNECT goes on its way, what was on its way to the client is lost, and both sessions stay.
+    // DISCONNECT is sent, bytes in flight to the client are lost, and both sessions stay.
     Row {
         name: "a client leaves",
         max_packet: 65_536,

@@ -36,7 +36,7 @@ pub(super) static ROWS: [Row; 7] = [
             (Look(IsIdle(Client)), "yes"),
         ],
     },
-    // PUBREC is lost: the message came, and is handed on once.
+    // PUBREC is lost: the message arrived, and is delivered once.
     Row {
         name: "a lost pubrec",
         max_packet: 65_536,
@@ -60,7 +60,7 @@ pub(super) static ROWS: [Row; 7] = [
             (Look(Counts(Server, Qos::Q2)), "accepted 0, handed 1"),
         ],
     },
-    // PUBACK is lost: the message is handed on twice, and then freed.
+    // PUBACK is lost: the message is delivered twice, and then freed.
     Row {
         name: "a lost puback",
         max_packet: 65_536,
@@ -86,7 +86,8 @@ pub(super) static ROWS: [Row; 7] = [
             (Look(Freed(Client)), "freed [0]"),
         ],
     },
-    // The first CONNACK is lost, and the client has room for one message: its first PUBLISH has DUP 0.
+    // The first CONNACK is lost, and the client has room for one message: its first PUBLISH has DUP
+    // 0.
     Row {
         name: "a full sender",
         max_packet: 65_536,
@@ -126,7 +127,7 @@ pub(super) static ROWS: [Row; 7] = [
             (Look(HasSession(Client)), "yes"),
         ],
     },
-    // Bytes that come where no connection is are lost (4.2), and a new connection ends what is left of the old one (3.1.4).
+    // Bytes without a connection are lost (4.2), and a new connection ends the old one (3.1.4).
     Row {
         name: "bytes without a connection are lost",
         max_packet: 65_536,
@@ -145,7 +146,8 @@ pub(super) static ROWS: [Row; 7] = [
             (Make(Open), "opened, client dropped, server dropped"),
         ],
     },
-    // What an end puts out toward a closed one stays on its way, also where the end itself is lost then.
+    // The output of an end toward a closed one stays in flight, also if the end itself is then
+    // lost.
     Row {
         name: "bytes toward a closed end stay",
         max_packet: 65_536,

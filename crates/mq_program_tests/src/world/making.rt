@@ -43,7 +43,6 @@ fn add_events(text: &mut String, events: &[Event]) -> Result<(), AllocError> {
     Ok(())
 }
 
-// So many events of a start.
 fn told(alloc: Global, start: u64, steps: u32) -> Result<String, Fail> {
     let mut text = String::new(alloc);
     let events = made_up(alloc, start, steps)?;
@@ -94,7 +93,6 @@ static MADE: [(u64, u32, &str); 4] = [
 // Starts, each with how many steps, and how many more or as many.
 static LONGER: [(u64, u32, u32); 4] = [(0, 0, 1), (0, 7, 7), (1, 20, 300), (u64::MAX, 1, 64)];
 
-// Events that are made up are these; the same start gives the same ones again, and a longer list begins with the shorter one.
 pub(super) fn expect_made_up(rt: &impl Abort, alloc: Global) -> Result<(), Fail> {
     for (start, steps, wanted) in MADE {
         expect_told(rt, told(alloc, start, steps), wanted, "made up")?;

@@ -8,7 +8,8 @@ use mq_topic::Qos;
 use mq_world::Side::{Client, Server};
 
 pub(super) static ROWS: [Row; 3] = [
-    // The greatest remaining length is 64, of which a payload with quality of service 2 has up to 59 bytes.
+    // The greatest remaining length is 64, of which a payload with quality of service 2 has up to
+    // 59 bytes.
     Row {
         name: "messages have a greatest length",
         max_packet: 64,

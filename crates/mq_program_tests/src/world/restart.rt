@@ -8,7 +8,8 @@ use mq_topic::Qos;
 use mq_world::Side::{Client, Server};
 
 pub(super) static ROWS: [Row; 2] = [
-    // What the client holds is there after its program ended, and the identifiers go on; what is on its way to the server stays.
+    // The client's messages survive its program, and its identifiers continue; bytes in flight to
+    // the server stay.
     Row {
         name: "a client goes on with its session",
         max_packet: 65_536,

@@ -12,8 +12,6 @@ use std::alloc::Global;
 use std::process::Abort;
 use std::test::Fail;
 
-// A connection comes up, the client publishes, all but the last byte of the message comes to the server, and the client's
-// connection is lost.
 const CUT: [Step; 6] = [
     Open,
     Deliver(Server, 15),
@@ -23,7 +21,6 @@ const CUT: [Step; 6] = [
     Lose(Client),
 ];
 
-// A connection comes up, the client publishes, asks and leaves, and before any of it comes to the server, that is late.
 const LATE: [Step; 7] = [
     Open,
     Deliver(Server, 15),
@@ -34,7 +31,6 @@ const LATE: [Step; 7] = [
     Tick(Server, 90_001),
 ];
 
-// A connection comes up, the client publishes two messages, and both come to the server.
 const TWO: [Step; 6] = [
     Open,
     Deliver(Server, 15),
@@ -52,7 +48,8 @@ fn events_of(alloc: Global, steps: &[Step]) -> Result<Vec<Event>, Fail> {
     Ok(events)
 }
 
-// A run: its name, the receiving window of its sides, if they have one, its steps, and what acts on its world tell then.
+// A run: its name, the receiving window of its sides, if they have one, its steps, and what acts on
+// its world tell then.
 struct Course {
     name: &'static str,
     window: Option<u16>,
@@ -158,7 +155,6 @@ fn expect_of_run(rt: &impl Abort, alloc: Global, row: &Course) -> Result<(), Fai
     expect(rt, alloc, row.name, &mut world, row.acts)
 }
 
-// The same of each run.
 pub(super) fn expect_of_runs(rt: &impl Abort, alloc: Global) -> Result<(), Fail> {
     for row in &RUNS {
         expect_of_run(rt, alloc, row)?;
