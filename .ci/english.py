@@ -51,16 +51,10 @@ NOUN_FILES = ["mq_hub"]
 NOUNS = {"retained"}
 # Crates, files and folders that are not rewritten yet.
 NOT_YET = {
-    "Makefile", "README.md", "docs/ARCHITECTURE.md", "docs/DECISIONS.md", "docs/INTEROP.md",
-    "docs/LOOPBACK.md", "docs/PERFORMANCE.md", "docs/PROMISES.md", "docs/SCHEDULES.md",
-    "docs/promises", "mq_bench", "mq_book", "mq_book_tests", "mq_bounds", "mq_chain_run",
-    "mq_changed_run", "mq_cli", "mq_client", "mq_client_tests", "mq_codec_tests", "mq_decode",
-    "mq_end", "mq_flow", "mq_hub", "mq_hub_tests", "mq_line", "mq_loopback", "mq_loopback_run",
-    "mq_packet", "mq_program_tests", "mq_programs", "mq_refusals", "mq_replay", "mq_route",
-    "mq_rows", "mq_schedule", "mq_serve", "mq_session_tests", "mq_stream", "mq_topic",
-    "mq_wire", "mq_world", "mqtt", "bench/loopback.sh", "bench/loopback_load.c",
-    "bench/refuse.c", "bench/same_tests.c", ".ci/interop", ".ci/printed.py", ".ci/program",
-    ".ci/refusals", ".ci/run",
+    "mq_book", "mq_book_tests", "mq_bounds", "mq_client", "mq_client_tests", "mq_hub",
+    "mq_programs", "mq_route", "mq_serve", "mq_stream", "bench/loopback.sh",
+    "bench/loopback_load.c", "bench/refuse.c", "bench/same_tests.c", ".ci/interop",
+    ".ci/printed.py", ".ci/refusals",
 }
 
 PARTICIPLES = set(

@@ -49,7 +49,7 @@ fn subscribe(requests: Vec<Request>) -> anyhow::Result<Packet> {
     })
 }
 
-/// A client comes; a clean session ends with the connection.
+/// A client arrives; a clean session ends with the connection.
 pub(crate) fn comes(
     alloc: Global,
     conn: Conn,
@@ -61,7 +61,7 @@ pub(crate) fn comes(
     sent(conn, bytes)
 }
 
-/// A client comes, whose session ends with the connection, and subscribes to this filter.
+/// A client arrives, whose session ends with the connection, and subscribes to this filter.
 pub(crate) fn subscribes(
     alloc: Global,
     conn: Conn,
@@ -86,7 +86,7 @@ fn ten_requests(alloc: Global, client: u32) -> anyhow::Result<Vec<Request>> {
     Ok(requests)
 }
 
-/// A client comes, whose session goes on, and subscribes to ten filters of its own.
+/// A client arrives, whose session continues, and subscribes to ten filters of its own.
 pub(crate) fn subscribes_to_ten(
     alloc: Global,
     conn: Conn,

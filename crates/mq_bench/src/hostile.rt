@@ -17,16 +17,16 @@ use mq_decode::Limits;
 use pieces::{OF_CLIENTS, OF_SERVERS, Pieces};
 use std::alloc::Global;
 
-/// The words for it, and how many pieces come to each.
+/// The words for it, and how many pieces reach each.
 pub(crate) const WORDS: [(&str, u64); 2] = [("hostile", 10_000_000), ("hostile_few", 20_000)];
 
 /// The greatest remaining length: small, so that pieces go beyond it.
 const LIMIT: u32 = 64;
 
-/// How many pieces come to a broker before it is made anew.
+/// How many pieces reach a broker before it is made anew.
 const RENEWED: u64 = 5_000;
 
-/// All to which pieces come.
+/// All to which pieces arrive.
 #[derive(Drop)]
 struct Targets {
     pieces: Pieces,

@@ -31,11 +31,11 @@ const ROUNDS: usize = 5;
 /// What acknowledges a message, and which.
 #[derive(Clone, Copy, Debug, PartialEq, Eq)]
 enum Answer {
-    /// PUBACK, for the message that went out first.
+    /// PUBACK, for the message that was sent first.
     PubAck,
-    /// PUBREC and PUBCOMP, for the message that went out first.
+    /// PUBREC and PUBCOMP, for the message that was sent first.
     PubComp,
-    /// PUBACK, for the message that went out last.
+    /// PUBACK, for the message that was sent last.
     LastPubAck,
 }
 
@@ -76,7 +76,7 @@ fn messages(alloc: Global, qos: Qos, count: u16) -> anyhow::Result<Vec<Message>>
 #[derive(Drop)]
 struct Flight {
     sender: Sender,
-    /// The number of the identifier of the one that went out first.
+    /// The number of the identifier of the one that was sent first.
     first: u16,
 }
 
@@ -99,14 +99,14 @@ impl Flight {
         Ok(id)
     }
 
-    /// The identifier of the message that went out first, which is acknowledged now.
+    /// The identifier of the message that was sent first, which is acknowledged now.
     fn take_first(&mut self) -> anyhow::Result<PacketId> {
         let first = PacketId::new(self.first).context("an identifier of 0")?;
         self.first = self.first % u16::MAX + 1;
         Ok(first)
     }
 
-    /// The message that went out with this identifier is acknowledged.
+    /// The message that was sent with this identifier is acknowledged.
     fn acknowledge(&mut self, qos: Qos, id: PacketId) -> bool {
         let sender = &mut self.sender;
         if qos == Qos::Q1 {

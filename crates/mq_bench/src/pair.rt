@@ -1,4 +1,4 @@
-//! A client end and a server end, whose bytes come to one another.
+//! A client end and a server end, whose bytes reach one another.
 
 use anyhow::{Context, ensure};
 use mq_decode::Limits;
@@ -12,7 +12,7 @@ fn limits() -> anyhow::Result<Limits> {
     Limits::new(1_048_576).context("no limits")
 }
 
-// A client end within these limits, to which nothing happened.
+// A client end within these limits, in its initial state.
 fn client_within(alloc: Global, limits: Limits) -> anyhow::Result<ClientEnd> {
     let config = ClientConfig {
         id: Text::new(alloc, "meter")?,
@@ -26,7 +26,7 @@ fn client_within(alloc: Global, limits: Limits) -> anyhow::Result<ClientEnd> {
     Ok(ClientEnd::new(alloc, config))
 }
 
-// A server end within these limits, to which nothing happened.
+// A server end within these limits, in its initial state.
 fn server_within(alloc: Global, limits: Limits) -> ServerEnd {
     let config = ServerConfig {
         limits,
@@ -36,12 +36,12 @@ fn server_within(alloc: Global, limits: Limits) -> ServerEnd {
     ServerEnd::new(alloc, config)
 }
 
-/// A client end to which nothing happened.
+/// A client end in its initial state.
 pub(crate) fn idle_client(alloc: Global) -> anyhow::Result<ClientEnd> {
     client_within(alloc, limits()?)
 }
 
-/// A server end to which nothing happened.
+/// A server end in its initial state.
 pub(crate) fn idle_server(alloc: Global) -> anyhow::Result<ServerEnd> {
     Ok(server_within(alloc, limits()?))
 }

@@ -15,7 +15,7 @@ pub(crate) const NAME: &str = "replays";
 pub(crate) const EXPLANATION: &str =
     "schedules of 10,000 and of 100,000 events, and of 6,000 and of 60,000 messages in flight";
 
-/// Ten events: a connection is opened, a message goes each way, one of them cut on its way.
+/// Ten events: a connection is opened, a message goes each way, one of them cut in flight.
 const EVENTS: &str =
     "open\nto s all\nto c all\npub c 2 t 78\npub s 1 t 79\nto s 3\nto s all\nto c all\nto s all\nto c all\n";
 

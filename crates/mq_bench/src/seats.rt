@@ -15,7 +15,7 @@ pub(crate) const EXPLANATION: &str =
 
 const COUNT: u32 = 50_000;
 
-/// The client of this number comes, on a connection of this number, and its session goes on after
+/// The client of this number comes, on a connection of this number, and its session continues after
 /// it.
 fn come(alloc: Global, hub: &mut Hub, nth: u32) -> anyhow::Result<()> {
     let conn = Conn { worker: 0, nth };

@@ -3,7 +3,7 @@
 /// A stream of packets that can be measured.
 #[derive(Clone, Copy, Debug, PartialEq, Eq)]
 pub(crate) enum Subject {
-    /// The kinds that carry nothing but an identifier, and those that carry nothing.
+    /// The kinds that carry only an identifier, and those that carry nothing.
     Small,
     /// What a busy connection might carry.
     Mixed,

@@ -8,7 +8,7 @@ use thiserror::Error;
 /// Why packets can't be walked over.
 #[derive(Clone, Copy, Debug, PartialEq, Eq, Error)]
 pub(crate) enum Fault {
-    /// A line is no packet.
+    /// A line is not a packet.
     #[error("a line is not read")]
     Line,
     /// The input or the output failed.

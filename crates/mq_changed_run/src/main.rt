@@ -1,7 +1,7 @@
 //! Reads packets from the standard input, one line of hexadecimal digits each, and decodes their
 //! mutations and prefixes.
 //!
-//! Each byte of a packet is set to each other value: then packets come, a rest that is held, or a
+//! Each byte of a packet is set to each other value: then packets arrive, a rest that is held, or a
 //! fault, and the packets have to be written as the bytes that were taken. And it is cut at each
 //! place: then all of it has to be held. Of each packet is printed how often it was changed, how
 //! often something else came of that, and whether it is held wherever it is cut. A line that begins

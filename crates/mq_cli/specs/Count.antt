@@ -12,7 +12,7 @@ use Rattle.mq_cli.specs.declared.front.Stop.{Stop}
 use Rattle.mq_cli.specs.declared.front.Stop.TheVariants as stops
 use Rattle.mq_cli.specs.Stops.{IsTooLong}
 
--- The bytes are these packets with this end: nothing, less than a packet, or a malformed packet
+-- The bytes are these packets with this end: nothing, an incomplete packet, or a malformed packet
 -- that begins where the packets end.
 abbrev pub EndsAt : Bounds → List ℕ → List Packet → CountEnd → Type 0
 EndsAt limits bytes packets Whole = Reading limits bytes packets [] None

@@ -1,4 +1,4 @@
--- The events that are made up, as they are printed.
+-- The events that are generated, as they are printed.
 use Rattle.std.specs.Prelude.{ℕ, List}
 use Rattle.mq_world.specs.declared.event.Event.{Event}
 use Rattle.mq_world.specs.declared.event.Event.TheVariants as events

@@ -119,7 +119,7 @@ pub record IsRandomText (start count : ℕ) (text : List ℕ) : Type 0 where
   pub written : (schedule : Schedule) → IsMadeUp start count schedule → text ≡ schedule_text schedule
   pub reads : (schedule : Schedule) → IsMadeUp start count schedule → IsSchedule (lines_of text) schedule
 
--- the status and the lines of `random`: those of a schedule that is made up
+-- the status and the lines of `random`: those of a schedule that is generated
 abbrev pub IsRandomDone : ℕ → ℕ → ℕ → List ℕ → Type 0
 IsRandomDone start count status text = (status ≡ 0) × IsRandomText start count text
 

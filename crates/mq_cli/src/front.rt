@@ -120,7 +120,7 @@ fn front_of(end: StreamEnd, len: usize) -> (usize, Option<DecodeFault>)
 }
 
 // Removes the complete packets at the front of the bytes. Returns the fault of the rest, or `None`
-// if it is less than a packet.
+// if it is an incomplete packet.
 pub(crate) fn take_front(
     alloc: Global,
     limits: Limits,

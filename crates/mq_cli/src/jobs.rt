@@ -112,7 +112,7 @@ pub enum Job<'a> {
         /// The file.
         source: Source<'a>,
     },
-    /// To print a schedule that is made up.
+    /// To print a schedule that is generated.
     Random {
         /// The start value of the generator: the same value gives the same schedule.
         start: u64,

@@ -29,9 +29,9 @@ use std::rt::Files;
 
 /// Nothing is wrong.
 pub(crate) const DONE: u8 = 0;
-/// A fault, less than a packet, or the result `no`.
+/// A fault, an incomplete packet, or the result `no`.
 const FAULT: u8 = 1;
-/// The digits or the file can't be read, or a text is no filter or no name.
+/// The digits or the file can't be read, or a text is not a filter or name.
 pub(crate) const BAD_INPUT: u8 = 2;
 /// Memory ran out.
 const NO_MEMORY: u8 = 3;
@@ -257,8 +257,8 @@ pub fn perform<R: JobInput, W: Write>(
 }
 
 /// Does a job over its file, which has this name and is opened here. A file that can't be opened is
-/// one that can't be read. An error is that of a write that failed, or says that there is no memory
-/// for a buffer.
+/// one that can't be read. An error is that of a write that failed, or says that an allocation
+/// fails for a buffer.
 pub fn perform_file<F: Files, W: Write>(
     files: &F,
     alloc: Global,

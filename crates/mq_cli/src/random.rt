@@ -1,4 +1,4 @@
-//! Schedules that are made up, printed as they are made.
+//! Schedules that are generated, printed as they are made.
 
 ghost use Rattle.std.specs.Prelude.{◌≡◌, ◌∷◌, [], ℕ, codes, decimal, IfOk, OnOk};
 ghost use Rattle.std.specs.List.{flat_map};
@@ -32,7 +32,7 @@ pub(crate) enum Made {
     Leave,
     /// A connection is opened.
     Open,
-    /// The clock of a side goes on.
+    /// The clock of a side continues.
     Tick(Side, u32),
 }
 
@@ -100,7 +100,7 @@ fn write_event<W: Write>(output: &mut W, event: Made, number: u32) -> io::Result
     }
 }
 
-// Writes the lines of events that are made up, each as it is made.
+// Writes the lines of events that are generated, each as it is made.
 fn write_events<W: Write>(output: &mut W, start: u64, count: u32) -> io::Result<()>
     ensures { OnOk result (Appends (W.contents output.old) (W.contents output.new)
         (flat_map (λ event. step_line (steps.Event event)) (made_up start count))) }

@@ -21,7 +21,7 @@ use std::io;
 use std::io::Write;
 
 // Prints the complete packets at the front of the bytes and removes them. Returns the fault of the
-// rest, or `None` if it is less than a packet.
+// rest, or `None` if it is an incomplete packet.
 fn print_front<W: Write>(
     alloc: Global,
     limits: Limits,

@@ -313,7 +313,7 @@ pub(crate) fn are_encoded(alloc: Global, packets: &[Packet], bytes: &[u8]) -> Re
     Ok(encoded.as_slice() == bytes)
 }
 
-// Whether all of the first piece is held, and one packet comes with the second.
+// Whether all of the first piece is held, and one packet arrives with the second.
 fn feeds_in_two(
     way: Way,
     decoder: &mut Decoder,
@@ -522,7 +522,7 @@ fn a_fault_lasts_until_reset(rt: &impl Abort, alloc: Global) -> Result<(), Fail>
         // The first half is forgotten too.
         ("reset", "0"),
         ("c0 00", "0 2"),
-        // Less than a packet of the greatest size.
+        // An incomplete packet of the greatest size.
         ("30 ff ff ff 7f", "5 2"),
         ("reset", "0"),
     ];

@@ -17,7 +17,7 @@ fn outcome(alloc: Global, limits: Limits, pieces: &[&[u8]]) -> Result<usize, Opt
     count_or_fault((answer, out.len()))
 }
 
-// How many packets came, or the fault.
+// How many packets arrived, or the fault.
 fn count_or_fault(
     outcome: (Result<usize, DecodeError>, usize),
 ) -> Result<usize, Option<DecodeFault>> {

@@ -339,7 +339,7 @@ fn publish_len(alloc: Global, bytes: Bytes) -> Result<Option<u32>, Fail> {
     Ok(encoded_len(&packet))
 }
 
-// Whether it is refused as too large in each way, and the vector is as it was.
+// Whether it is refused as too large in each way, and the vector is unchanged.
 fn is_too_large(alloc: Global, bytes: Bytes) -> Result<bool, Fail> {
     let mut out = vec![in alloc; 0xff]?;
     let packet = publish(alloc, "a", bytes)?;

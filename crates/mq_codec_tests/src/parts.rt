@@ -1,4 +1,4 @@
-//! Parts of packets that are given away or shared.
+//! Parts of packets that are moved out or shared.
 
 use crate::compare::expect_told;
 use bytes::Bytes;

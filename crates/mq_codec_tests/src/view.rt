@@ -11,7 +11,7 @@ use std::alloc::{AllocError, Global};
 use std::process::Abort;
 use std::test::Fail;
 
-/// How many bytes the packet at the front takes, or its fault, `None` for less than a packet.
+/// How many bytes the packet at the front takes, or its fault, `None` for an incomplete packet.
 pub(crate) fn size_in(limits: Limits, bytes: &[u8]) -> Result<usize, Option<DecodeFault>> {
     match view(bytes, limits) {
         View::Whole(_, size) => Ok(size),
@@ -20,7 +20,8 @@ pub(crate) fn size_in(limits: Limits, bytes: &[u8]) -> Result<usize, Option<Deco
     }
 }
 
-/// The fault of these bytes, which the last of them shows; before that they are less than a packet.
+/// The fault of these bytes, which the last of them shows; before that they are an incomplete
+/// packet.
 pub(crate) fn expect_view_fault(rt: &impl Abort, limits: Limits, bytes: &[u8], fault: DecodeFault) {
     for cut in 0..bytes.len() {
         let (front, _) = bytes.split_at(cut);

@@ -95,8 +95,8 @@ pub(crate) const REPLACED_IN_PLACE: [Row; 8] = [
     (Happens::Takes(1), "90030006023306000161000133310400016232"),
 ];
 
-/// A client comes on another connection: the old one is closed, its will published, and its session
-/// goes on (3.1.4, 3.1.2.5).
+/// A client arrives on another connection: the old one is closed, its will published, and its
+/// session continues (3.1.4, 3.1.2.5).
 pub(crate) const TAKEN_OVER: [Row; 10] = [
     (Happens::Opens(1), ""),
     (
@@ -171,7 +171,8 @@ pub(crate) const OWN_WILL: [Row; 6] = [
     (Happens::Takes(2), "200201003206000177000178"),
 ];
 
-/// A session that goes on ends at a CONNECT with clean session 1, with its subscriptions (3.1.2.4).
+/// A session that continues ends at a CONNECT with clean session 1, with its subscriptions
+/// (3.1.2.4).
 pub(crate) const REPLACED: [Row; 10] = [
     (Happens::Opens(1), ""),
     (
@@ -194,8 +195,8 @@ pub(crate) const REPLACED: [Row; 10] = [
     (Happens::Sends(3, "300400016131"), "took k2 a 0 31"),
 ];
 
-/// A session that goes on keeps messages of quality of service 1 and 2 for its client, and none of
-/// 0 (4.3, 3.1.2.4).
+/// A session that continues keeps messages of quality of service 1 and 2 for its client, and none
+/// of 0 (4.3, 3.1.2.4).
 pub(crate) const OFFLINE: [Row; 12] = [
     (Happens::Opens(1), ""),
     (
@@ -313,7 +314,7 @@ pub(crate) const MADE_UP: [Row; 7] = [
     (Happens::Takes(3), "20020002."),
 ];
 
-/// A packet comes in pieces, and two packets in one (4.2).
+/// A packet arrives in pieces, and two packets in one (4.2).
 pub(crate) const IN_PIECES: [Row; 4] = [
     (Happens::Opens(1), ""),
     (Happens::Sends(1, "100d00044d"), ""),

@@ -28,6 +28,6 @@ cut_off_before r old new end file h k = printed_one r (play_end_status end) old 
 pub cut_off_at_once : {E : Type 0} (r : Result ℕ E) (old new : Option (List ℕ)) (end : RunError) → IfOk r (λ status. status ≡ play_end_status end) → OnOk r (Appends old new (play_end_line end)) → IfOk r (λ status. Prints old new (IsInputRun status))
 cut_off_at_once r old new end h k = printed_one r (play_end_status end) old new (play_end_line end) IsInputRun h k (inl ([], inr (inr (end, refl, refl))))
 
--- there is no text
+-- there is not a text
 pub unread : {E : Type 0} (r : Result ℕ E) (old new : Option (List ℕ)) → IfOk r (λ status. status ≡ 2) → OnOk r (Appends old new unread_line) → IfOk r (λ status. Prints old new (IsInputRun status))
 unread r old new h k = printed_one r 2 old new unread_line IsInputRun h k (inr (refl, refl))

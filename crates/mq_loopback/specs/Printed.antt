@@ -52,7 +52,7 @@ abbrev pub play_end_status : RunError → ℕ
 play_end_status (ends.Broker end) = end_status end
 play_end_status (ends.Client halt) = halt_status halt
 
--- the first line with which a text is no loopback file
+-- the first line with which a text is not a loopback file
 abbrev pub bad_line : ℕ → List ℕ
 bad_line n = codes "line " ++ (decimal n ++ codes ": not a client\n")
 

@@ -53,7 +53,7 @@ IsRefusedAt file status text = (n : ℕ) × IsBadLine (lines_of file) n × (stat
 abbrev pub IsLoopback : List ℕ → ℕ → List ℕ → Type 0
 IsLoopback file status text = AreRun file status text ⊎ (IsRefusedAt file status text ⊎ IsCutOff status text)
 
--- there is no text
+-- there is not a text
 abbrev pub IsUnread : ℕ → List ℕ → Type 0
 IsUnread status text = (status ≡ 2) × (text ≡ unread_line)
 

@@ -21,7 +21,7 @@ use thiserror::Error;
 /// How many clients a file has at most.
 const MOST_CLIENTS: usize = 64;
 
-/// Why a text is no loopback file.
+/// Why a text is not a loopback file.
 #[derive(Clone, Copy, Debug, PartialEq, Eq, Error)]
 pub enum ClientsFault {
     /// With this line, counted from 1, it is none any more.

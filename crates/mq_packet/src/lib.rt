@@ -1,8 +1,7 @@
 //! The fourteen control packets of MQTT 3.1.1 as values (chapter 3), and their encoding.
 //!
-//! Only well-formed values can be constructed. A call that can fail for lack of memory says so in
-//! its return type; other calls never allocate. On `Err` the receiver is unchanged unless stated
-//! otherwise.
+//! Only well-formed values can be constructed. A call that may allocate says so in its return type;
+//! other calls never allocate. On `Err` the receiver is unchanged unless stated otherwise.
 #![tactic(auto)]
 
 mod binary;

@@ -31,7 +31,7 @@ enum Step {
     Deliver(Side, usize),
     // The connection of a side is lost.
     Lose(Side),
-    // The program of the client ends and goes on.
+    // The program of the client ends and continues.
     Restart,
     // The user of the client leaves.
     Leave,

@@ -10,10 +10,10 @@
 //! allocations before the sections.
 //!
 //! Prints for each section `the same`; `out of memory` if a world stopped and its previous results
-//! are the same; `asked again` if a call was refused, changed nothing, and was repeated; `goes on`
-//! if the first different result names the refusal, and a world is idle in the end with its
-//! promises kept, or a session publishes the messages of its file when it is asked again, each at
-//! most once; or `another answer`, which is a failure.
+//! are the same; `asked again` if a call was refused, changed nothing, and was repeated;
+//! `continues` if the first different result names the refusal, and a world is idle in the end with
+//! its promises kept, or a session publishes the messages of its file when it is asked again, each
+//! at most once; or `another answer`, which is a failure.
 #![tactic(auto)]
 
 mod brokers;

@@ -8,7 +8,7 @@ use std::alloc::{AllocError, Global};
 pub(crate) struct Ran {
     /// The answers, a line each.
     pub(crate) lines: String,
-    /// Whether it came to its end.
+    /// Whether it reached its end.
     pub(crate) whole: bool,
     /// How often a call was refused, and made again.
     pub(crate) again: u64,

@@ -89,7 +89,7 @@ fn put(room: &mut [u8], bytes: &[u8]) -> usize
     count
 }
 
-/// A clock that goes on by a millisecond whenever it is read.
+/// A clock that continues by a millisecond whenever it is read.
 #[derive(Clone, Copy)]
 pub(crate) struct Steps(u64);
 

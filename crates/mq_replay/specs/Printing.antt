@@ -55,7 +55,7 @@ abbrev pub dropped_line : Side → Bool → List ℕ
 dropped_line side false = []
 dropped_line side true = line_of side (codes "dropped")
 
--- the client goes on after its program ended, or memory ran out for that
+-- the client continues after its program ended, or memory ran out for that
 abbrev pub anew_line : Result ⊤ PublishRefusal → List ℕ
 anew_line (Ok done) = line_of Client (codes "restarted")
 anew_line (Err why) = line_of Client (codes "refused " ++ refusal_code why)

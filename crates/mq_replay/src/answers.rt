@@ -150,7 +150,7 @@ fn write_opening<W: Write>(output: &mut W, opening: Opening) -> io::Result<()>
     write_refused(output, opening.refused)
 }
 
-// That the client goes on after its program ended, or that memory ran out for that.
+// That the client continues after its program ended, or that memory ran out for that.
 fn write_anew<W: Write>(output: &mut W, outcome: Result<(), PublishRefusal>) -> io::Result<()>
     ensures { OnOk result
         (Appends (W.contents output.old) (W.contents output.new) (anew_line outcome)) }
@@ -162,7 +162,7 @@ fn write_anew<W: Write>(output: &mut W, outcome: Result<(), PublishRefusal>) -> 
     }
 }
 
-// The connection that is lost when the client's program ends, and whether the client goes on.
+// The connection that is lost when the client's program ends, and whether the client continues.
 fn write_restarted<W: Write>(
     output: &mut W,
     was_open: bool,

@@ -45,7 +45,7 @@ fn waiting(queue: &ByteQueue, words: &mut Words<'_>) -> Result<usize, Wrong>
     Ok(count)
 }
 
-// `give`: all bytes are given away, and told.
+// `give`: all bytes are moved out, and told.
 fn give(queue: &mut ByteQueue, told: &mut String) -> Result<(), Wrong> {
     let bytes = queue.take_bytes()?;
     Ok(add_word(told, bytes.as_slice())?)
@@ -70,7 +70,7 @@ pub(crate) fn tell(
     Ok(())
 }
 
-/// Adds the bytes that wait, how many there are, and whether there is none.
+/// Adds the bytes that wait, their number, and whether there is none.
 pub(crate) fn see(queue: &ByteQueue, seen: &mut String) -> Result<(), Wrong> {
     add_word(seen, queue.as_slice())?;
     Ok(write!(seen, " {} {}", queue.len(), queue.is_empty())?)

@@ -78,7 +78,7 @@ fn take(
     add_outcome(told, &server.take_packet(moment, packet)?)
 }
 
-// `hand BYTES`: the message of a PUBLISH comes, which stays here.
+// `hand BYTES`: the message of a PUBLISH arrives, which stays here.
 fn hand(
     alloc: Global,
     server: &mut ServerEnd,

@@ -134,7 +134,7 @@ fn received_message(alloc: Global, qos: Qos) -> Result<Message, Wrong>
     message(alloc, "t", qos, vec![in alloc; b'x']?)
 }
 
-// `receive ID QOS`: a message comes.
+// `receive ID QOS`: a message arrives.
 fn receive(
     alloc: Global,
     books: &mut Books,

@@ -81,7 +81,7 @@ fn resumed_server(alloc: Global, books: Books, words: &mut Words<'_>) -> Result<
 
 impl Subject {
     // `becomes client ROOM LIMIT` or `becomes server ROOM LIMIT` of a session: from here on the
-    // list is of the end that goes on with it.
+    // list is of the end that continues with it.
     fn go_on(
         &mut self,
         alloc: Global,

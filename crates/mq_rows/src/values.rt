@@ -61,7 +61,7 @@ pub(crate) fn bytes_of(alloc: Global, words: &mut Words<'_>) -> Result<Vec<u8>, 
     Ok(bytes)
 }
 
-/// Adds bytes as hexadecimal digits; of more than a hundred of them, how many there are and the
+/// Adds bytes as hexadecimal digits; of more than a hundred of them, their number and the
 /// first ten.
 pub(crate) fn add_hex(text: &mut String, bytes: &[u8]) -> Result<(), AllocError> {
     let mut shown = bytes;

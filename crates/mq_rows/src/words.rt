@@ -16,7 +16,7 @@ pub(crate) fn qos_of(word: &str) -> Result<Qos, Wrong> {
     }
 }
 
-/// The words that are left, with a space between each two.
+/// The words that remain, with a space between each two.
 #[derive(Clone, Copy)]
 pub(crate) struct Words<'a> {
     left: &'a str,
@@ -103,7 +103,7 @@ impl<'a> Words<'a> {
         Limits::new(most).ok_or(Wrong::Words)
     }
 
-    /// All that are left.
+    /// All that remain.
     pub(crate) fn rest(&mut self) -> SplitWhitespace<'a> {
         let left = self.left;
         self.left = "";

@@ -1,8 +1,8 @@
-//! Why a row tells nothing.
+//! Why a row reports nothing.
 
 use std::alloc::{AllocError, AllocFailed};
 
-/// Why a row tells nothing.
+/// Why a row reports nothing.
 #[derive(Clone, Copy)]
 pub(crate) enum Wrong {
     /// Its words can't be read, or ask for what the list's subject doesn't have.

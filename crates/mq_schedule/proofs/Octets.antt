@@ -39,7 +39,7 @@ char_bytes c small = by_length (ltb c 128) (ltb c 2048) (ltb c 65536) refl refl 
 scalar_small : (c : ℕ) → scalar c ≡ true → c < 1114112
 scalar_small c h = elim (scalar_cases c h) [ inl low ↦ omega (arith, low) | inr high ↦ high.1 ]
 
--- characters are spelled by bytes
+-- characters are encoded by bytes
 chars_bytes : (cs : List ℕ) → scalars cs ≡ true → IsBytes (encodes cs)
 chars_bytes [] h = bytes_nil
 chars_bytes (c ∷ cs) h =

@@ -14,7 +14,7 @@ use Rattle.mq_schedule.specs.Schedule.{IsNumber, Writes, words_of}
 abbrev pub parts : ℕ → List ℕ → List (List ℕ)
 parts by text = slice_split (λ b. b == by) text
 
--- the parts that are left of a text, none after its last
+-- the remaining parts of a text, none after its last
 abbrev pub parts_left : ℕ → Option (Bor (List ℕ)) → List (List ℕ)
 parts_left by None = []
 parts_left by (Some text) = parts by text.now

@@ -1,5 +1,5 @@
 //! Schedules of events between two ends as texts. Reading names the first invalid line. A call that
-//! can fail for lack of memory says so in its return type; other calls never allocate.
+//! may allocate says so in its return type; other calls never allocate.
 #![tactic(auto)]
 
 mod fields;

@@ -11,7 +11,7 @@ use crate::words::first_part;
 use std::alloc::{AllocError, Global};
 use thiserror::Error;
 
-/// Why a text is no schedule.
+/// Why a text is not a schedule.
 #[derive(Clone, Copy, Debug, PartialEq, Eq, Error)]
 pub enum ScheduleFault {
     /// This line is the first of no kind, counted from 1.

@@ -17,7 +17,7 @@ pub fn first_part(text: &str, by: char) -> (&str, Option<&str>)
     }
 }
 
-/// The words of a line that are left, parted by one space each. Contracts see the list of them.
+/// The words of a line that remain, parted by one space each. Contracts see the list of them.
 #[derive(Drop)]
 pub struct Words<'a> {
     left: Option<&'a str>,

@@ -1,5 +1,5 @@
 //! Tests of sessions and of both ends that are no rows of `mq_rows`: sentences, the snippets of
-//! README, and lists that are given away.
+//! README, and lists that are moved out.
 #![tactic(auto)]
 
 #[cfg(test)]

@@ -114,7 +114,7 @@ fn errors_of_loading_display_as_sentences(rt: &impl Abort, alloc: Global) -> Res
     Ok(())
 }
 
-// The copy of two items, as they are lent and as they are given away.
+// The copy of two items, as they are lent and as they are moved out.
 fn copied_items(alloc: Global) -> Result<String, Fail> {
     let items = BoxedList::from_vec(vec![in alloc; 1_u8, 2]?);
     let copy = items.clone()?;

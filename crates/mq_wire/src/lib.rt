@@ -1,7 +1,7 @@
 //! The data representations of MQTT: the remaining length of one to four bytes (2.2.3), two-byte
 //! integers in big-endian order (1.5.2), and UTF-8 strings with a two-byte length (1.5.3). A call
-//! that can fail for lack of memory says so in its return type; other calls never allocate. On
-//! `Err` the receiver is unchanged unless stated otherwise.
+//! that may allocate says so in its return type; other calls never allocate. On `Err` the receiver
+//! is unchanged unless stated otherwise.
 #![tactic(auto)]
 
 mod length;

@@ -23,7 +23,7 @@ pub(crate) struct AtDecoder {
     pub(crate) wrong: u64,
 }
 
-/// How many bytes packets have, spelled.
+/// How many bytes packets have, encoded.
 fn size_of(packets: &[Packet]) -> u64 {
     let mut size = 0u64;
     for packet in packets {
@@ -80,7 +80,7 @@ impl AtDecoder {
         self.decoder.reset();
     }
 
-    /// A piece comes.
+    /// A piece arrives.
     pub(crate) fn take(&mut self, piece: &[u8]) {
         let came = (self.decoder.held() as u64).saturating_add(piece.len() as u64);
         let answer = self.decoder.feed(piece, &mut self.packets);

@@ -109,7 +109,7 @@ impl AtClient {
         Ok(())
     }
 
-    /// A piece comes.
+    /// A piece arrives.
     pub(crate) fn take(&mut self, piece: &[u8]) {
         let before = Before::new(self.end.state(), self.end.session());
         let progress = self.end.receive(self.now, piece);
@@ -176,7 +176,7 @@ impl AtServer {
         Ok(())
     }
 
-    /// A piece comes.
+    /// A piece arrives.
     pub(crate) fn take(&mut self, piece: &[u8]) {
         let before = Before::new(self.end.state(), self.end.session());
         let progress = self.end.receive(self.now, piece);

@@ -22,7 +22,7 @@ pub(crate) struct AtHub {
     credits: [u64; CONNS],
     /// Whether each connection is to begin.
     begins: [bool; CONNS],
-    /// How many bytes came, and went in answers, messages aside.
+    /// How many bytes arrived, and went in answers, messages aside.
     pub(crate) came: u64,
     pub(crate) answered: u64,
     /// How many bytes went in all.
@@ -45,7 +45,7 @@ fn conn(number: usize) -> Conn {
     }
 }
 
-/// A broker to which nothing happened.
+/// A broker in its initial state.
 fn new_hub(alloc: Global, limits: Limits) -> Hub {
     let config = HubConfig {
         limits,
@@ -99,7 +99,7 @@ fn answers_in(output: &[u8], limits: Limits) -> Option<u64> {
 }
 
 impl AtHub {
-    /// A broker to which nothing happened.
+    /// A broker in its initial state.
     pub(crate) fn new(alloc: Global, limits: Limits) -> AtHub {
         AtHub {
             alloc,
@@ -118,7 +118,7 @@ impl AtHub {
         }
     }
 
-    /// The broker is another one, to which nothing happened.
+    /// The broker is another one, in its initial state.
     pub(crate) fn renew(&mut self) {
         self.hub = new_hub(self.alloc, self.limits);
         self.credits = [0; CONNS];
@@ -242,7 +242,7 @@ impl AtHub {
         self.collect_all();
     }
 
-    /// A piece comes on a connection.
+    /// A piece arrives on a connection.
     pub(crate) fn take(&mut self, number: usize, piece: &[u8]) -> Result<(), AllocError> {
         let bytes = Bytes::copy_from_slice(self.alloc, piece)?;
         self.happens(HubEvent::Bytes(conn(number), bytes));

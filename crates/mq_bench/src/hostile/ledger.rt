@@ -14,7 +14,7 @@ pub(crate) struct Ledger {
     credit: u64,
     /// The maximum output if it closes before it is connected.
     refusal: u64,
-    /// How many bytes came and went.
+    /// How many bytes arrived and went.
     pub(crate) came: u64,
     pub(crate) went: u64,
     /// The most identifiers that were stored.
@@ -29,7 +29,7 @@ pub(crate) struct Ledger {
     pub(crate) wrong: u64,
 }
 
-/// What an end was before bytes came.
+/// What an end was before bytes arrived.
 #[derive(Clone, Copy, Debug)]
 pub(crate) struct Before {
     state: State,

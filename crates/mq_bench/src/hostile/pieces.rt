@@ -1,4 +1,4 @@
-//! Pieces of bytes as a stranger might send them: made up, or packets that something was done to.
+//! Pieces of bytes as a stranger might send them: generated, or packets that something was done to.
 
 ghost use Rattle.std.specs.Prelude.{◌<◌};
 
@@ -60,7 +60,7 @@ pub(crate) const OF_SERVERS: [&[u8]; 19] = [
 /// How many packets at the end of a list begin a connection.
 const OPENING: usize = 4;
 
-/// How long a piece is that is made up, at most.
+/// How long a piece is that is generated, at most.
 const LONGEST: u32 = 80;
 
 /// What makes pieces, the same ones from the same start.
@@ -107,7 +107,7 @@ impl Pieces {
         self.below(length) as usize
     }
 
-    /// Bytes that are made up, behind the piece.
+    /// Bytes that are generated, behind the piece.
     fn add_bytes(&mut self, most: u32) -> Result<(), AllocError> {
         for _ in 0..=self.words.next_word() % most.max(1) {
             let byte = (self.words.next_word() % 256) as u8;

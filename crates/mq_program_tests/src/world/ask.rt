@@ -20,7 +20,7 @@ pub(crate) enum Ask {
     IsIdle(Side),
     // How many messages a side holds.
     Held(Side, Qos),
-    // The bytes that are on their way to a side.
+    // The bytes that are in flight to a side.
     Wire(Side),
     // Whether memory ran out.
     HasFailed,

@@ -1,4 +1,4 @@
-//! Events that are made up.
+//! Events that are generated.
 
 use crate::compare::expect_told;
 use crate::world::brief::add_hex;

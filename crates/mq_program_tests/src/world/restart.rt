@@ -1,4 +1,4 @@
-//! The client's program ends and goes on.
+//! The client's program ends and continues.
 
 use crate::world::Act::{Look, Make, Settle};
 use crate::world::Row;
@@ -44,7 +44,8 @@ pub(super) static ROWS: [Row; 2] = [
             (Look(Counts(Server, Qos::Q2)), "accepted 0, handed 1"),
         ],
     },
-    // A client that was never connected goes on as one; and so does one whose CONNACK did not come.
+    // A client that was never connected continues as one; and so does one whose CONNACK did not
+    // come.
     Row {
         name: "a client without a connection goes on",
         max_packet: 65_536,

@@ -102,7 +102,7 @@ static RUNS: [Course; 5] = [
             ),
         ],
     },
-    // The second message comes once the first is released.
+    // The second message arrives once the first is released.
     Course {
         name: "a window of one",
         window: Some(1),
