@@ -1,6 +1,6 @@
 //! Why the program ends without a result.
 
-ghost use Rattle.std.specs.Prelude.{◌≡◌, ◌≢◌};
+ghost use Rattle.std.specs.Prelude.{◌≡◌, ◌≢◌, IfErr, IfOk};
 ghost use Rattle.std.specs.IoError.{error_kind};
 ghost use Rattle.mq_cli.specs.Failure.{failure_status};
 
@@ -47,6 +47,17 @@ impl Failure {
             ErrorKind::OutOfMemory => Failure::Memory,
             _ => Failure::Words,
         }
+    }
+}
+
+/// The exit status of the program: that of its result, or of its failure.
+pub fn exit_status(done: &Result<u8, Failure>) -> u8
+    ensures done { IfOk done.now (λ status. result ≡ status) }
+    ensures failed { IfErr done.now (λ failure. result ≡ failure_status failure) }
+{
+    match done {
+        Ok(status) => *status,
+        Err(failure) => failure.status(),
     }
 }
 

@@ -17,10 +17,10 @@ mod streaming;
 mod words;
 
 pub use crate::count::{CountEnd, CountFault, PacketCount, count_packets};
-pub use crate::failure::Failure;
+pub use crate::failure::{Failure, exit_status};
 pub use crate::input::{Fallible, JobInput};
 pub use crate::jobs::{Collect, Command, Job, Publish, Serve, Source};
-pub use crate::output::{perform, perform_file};
+pub use crate::output::{perform, perform_file, perform_opened};
 pub use crate::show::{ShowFault, shown};
 pub use crate::stream::{Shown, StreamEnd};
-pub use crate::words::{WordsFault, command};
+pub use crate::words::{WordsFault, job};

@@ -1,6 +1,6 @@
 //! Jobs done over an input and a writer.
 
-ghost use Rattle.std.specs.Prelude.{◌≡◌, Some, None, true, IfOk, OnOk};
+ghost use Rattle.std.specs.Prelude.{◌≡◌, ℕ, List, Some, None, true, IfOk, IsErr, OnOk};
 ghost use Rattle.std.specs.List.{flat_map};
 ghost use Rattle.std.specs.Io.KnownBytes.{Appends};
 ghost use Rattle.mq_topic.specs.Matching.{is_match};
@@ -256,9 +256,31 @@ pub fn perform<R: JobInput, W: Write>(
     }
 }
 
-/// Does a job over its file, which has this name and is opened here. A file that can't be opened is
-/// one that can't be read. An error is that of a write that failed, or says that an allocation
-/// fails for a buffer.
+/// Runs a job over its file, which was opened with this result. If it could not be opened, writes
+/// that it can't be read. Errors are those of `perform`, and a failed allocation for a buffer.
+pub fn perform_opened<F: Files, W: Write>(
+    alloc: Global,
+    job: &Job<'_>,
+    opened: io::Result<F::File>,
+    output: &mut W,
+) -> io::Result<u8>
+    requires { (name : List ℕ) × (job_source job.now ≡ Some (Source.File name)) }
+    ensures done { IfOk result (λ status. Prints (W.contents output.old) (W.contents output.new)
+        (IsDone job.now None true status)) }
+    ensures status { IsErr opened → IfOk result (λ status. status ≡ BAD_INPUT) }
+    ensures unread { IsErr opened → OnOk result
+        (Appends (W.contents output.old) (W.contents output.new) file_not_read) }
+{
+    match opened {
+        Ok(file) => {
+            let mut input = Fallible(BufReader::new(alloc, file)?);
+            perform(alloc, job, &mut input, output)
+        }
+        Err(_) => file_not_read(output),
+    }
+}
+
+/// Opens the file with this name, and runs its job with `perform_opened`.
 pub fn perform_file<F: Files, W: Write>(
     files: &F,
     alloc: Global,
@@ -270,11 +292,5 @@ pub fn perform_file<F: Files, W: Write>(
     ensures { IfOk result (λ status. Prints (W.contents output.old) (W.contents output.new)
         (IsDone job.now None true status)) }
 {
-    match File::open(files, name) {
-        Ok(file) => {
-            let mut input = Fallible(BufReader::new(alloc, file)?);
-            perform(alloc, job, &mut input, output)
-        }
-        Err(_) => file_not_read(output),
-    }
+    perform_opened::<F, W>(alloc, job, File::open(files, name), output)
 }

@@ -354,7 +354,7 @@ fn complaint(matches: &ArgMatches<'_>) -> (ErrorKind, &'static str) {
 
 /// Parses the arguments of a command line; the first is the program's name. An error has the text
 /// for the user, or says that an allocation failed; the parser decides which arguments it refuses.
-pub fn command<'a>(alloc: Global, words: &'a [&'a str]) -> Result<Command<'a>, WordsFault>
+pub fn job<'a>(alloc: Global, words: &'a [&'a str]) -> Result<Command<'a>, WordsFault>
     ensures { IfOk result
         (IsCommandOf (subcommand_of program_words (map (λ word. word.now) words.entry.now))) }
 {

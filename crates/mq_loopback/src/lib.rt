@@ -7,6 +7,7 @@
 
 mod client;
 mod client_run;
+mod client_threads;
 mod idle_limit;
 mod laws;
 mod print;
@@ -15,10 +16,10 @@ mod read;
 mod rig;
 mod sort;
 mod start_barrier;
-mod threads;
 mod verdict;
 
 pub use crate::client::{Client, Collector, Publisher, Role};
+pub use crate::client_threads::{ClientStart, ClientThreads};
 pub use crate::idle_limit::IdleLimited;
 pub use crate::laws::file_laws;
 pub use crate::print::write_played;
@@ -27,5 +28,4 @@ pub use crate::read::{ClientsFault, read_clients};
 pub use crate::rig::{RunError, RunResult, play};
 pub use crate::sort::{all_ordered, ordered};
 pub use crate::start_barrier::StartBarrier;
-pub use crate::threads::{ClientStart, ClientThreads};
 pub use crate::verdict::{Verdict, judge};

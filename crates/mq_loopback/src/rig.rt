@@ -3,11 +3,11 @@
 ghost use Rattle.std.specs.Prelude.{◌≡◌, ◌<◌, ◌≤◌, length, vec_len, IfOk};
 
 use crate::client::Client;
-use crate::threads::ClientThreads;
+use crate::client_threads::ClientThreads;
 use mq_book::{Journal, Receipt};
 use mq_client::ClientError;
 use mq_packet::Message;
-use mq_serve::{Acceptor, Closed, Records, ServeEnd, Served, Server, man_both};
+use mq_serve::{Acceptor, Closed, Records, ServeEnd, WorkerResult, Server, man_both};
 use std::alloc::{AllocError, Global};
 use std::io;
 use std::io::ErrorKind;
@@ -159,7 +159,7 @@ fn collected_by(
 // The results of a broker and of clients that are done, or the reason why there are none.
 fn ended<L: Ledger>(
     hall: Server<L>,
-    served: Result<Vec<Served<L>>, AllocError>,
+    served: Result<Vec<WorkerResult<L>>, AllocError>,
     collected: Result<Vec<Vec<Message>>, RunError>,
 ) -> Result<RunResult, RunError>
     requires all { IfOk served (λ s. vec_len s ≡ L.parts) }

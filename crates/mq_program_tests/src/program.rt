@@ -5,8 +5,8 @@ mod clients;
 mod streams;
 
 use mq_cli::{
-    Command, CountEnd, Job, JobInput, ShowFault, Source, StreamEnd, command, count_packets,
-    perform, shown,
+    Command, CountEnd, Job, JobInput, ShowFault, Source, StreamEnd, count_packets, job, perform,
+    shown,
 };
 use mq_decode::{DecodeFault, FaultKind, Limits};
 use std::alloc::Global;
@@ -112,7 +112,7 @@ impl Read for Broken<'_> {
 }
 
 fn asks_for(alloc: Global, words: &[&str], wanted: Job<'_>) -> bool {
-    match command(alloc, words) {
+    match job(alloc, words) {
         Ok(Command::Job(read)) => read == wanted,
         _ => false,
     }

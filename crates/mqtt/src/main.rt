@@ -1,7 +1,9 @@
 //! The program `mqtt`: it does the job that its words ask for, and prints to the standard output.
 #![tactic(auto)]
 
-use mq_cli::{Command, Failure, Fallible, Job, Source, WordsFault, command, perform, perform_file};
+use mq_cli::{
+    Command, Failure, Fallible, Job, Source, WordsFault, exit_status, job, perform, perform_file,
+};
 use mq_programs::{run_client, run_loopback, run_serve};
 use std::io::{BufReader, BufWriter, Input, Write};
 use std::net::{Net, TcpListener, TcpStream};
@@ -61,7 +63,7 @@ where
     let alloc = rt.alloc();
     let words: Vec<String> = env::args(rt).map_err(Failure::of_words)?.collect(alloc)?;
     let words: Vec<&str> = words.iter().map(|word| word.as_str()).collect(alloc)?;
-    match command(alloc, words.as_slice()) {
+    match job(alloc, words.as_slice()) {
         Ok(Command::Job(job)) => perform_job(rt, &job),
         Ok(Command::Serve(words)) => run_serve(host, alloc, &words, &mut io::writer(rt)),
         Ok(Command::Loopback(source)) => run_looped(rt, host, source),
@@ -84,11 +86,9 @@ fn tell(rt: &HostRuntime, failure: Failure) {
 }
 
 fn main(rt: HostRuntime) -> ExitCode {
-    match run(&rt, &rt) {
-        Ok(status) => ExitCode::from(status),
-        Err(failure) => {
-            tell(&rt, failure);
-            ExitCode::from(failure.status())
-        }
+    let done = run(&rt, &rt);
+    if let Err(failure) = done {
+        tell(&rt, failure);
     }
+    ExitCode::from(exit_status(&done))
 }

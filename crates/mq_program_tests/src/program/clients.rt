@@ -1,6 +1,6 @@
 //! The words of the commands that open sockets.
 
-use mq_cli::{Collect, Command, Publish, Serve, Source, command};
+use mq_cli::{Collect, Command, Publish, Serve, Source, job};
 use mq_topic::Qos;
 use std::alloc::Global;
 use std::process::Abort;
@@ -35,7 +35,7 @@ static SERVED: [(&[&str], Serve); 3] = [
 
 // Whether the words of `serve` are read so.
 fn serves(alloc: Global, words: &[&str], wanted: &Serve) -> bool {
-    match command(alloc, words) {
+    match job(alloc, words) {
         Ok(Command::Serve(serve)) => serve == *wanted,
         _ => false,
     }
@@ -133,7 +133,7 @@ fn is_read(publish: &Publish<'_>, wanted: &Published<'_>) -> bool {
 
 // Whether the words of `publish` are read so.
 fn publishes(alloc: Global, words: &[&str], wanted: &Published<'_>) -> bool {
-    match command(alloc, words) {
+    match job(alloc, words) {
         Ok(Command::Publish(publish)) => is_read(&publish, wanted),
         _ => false,
     }
@@ -192,7 +192,7 @@ static COLLECTED: [(&[&str], Collect<'static>); 2] = [
 
 // Whether the words of `collect` are read so.
 fn collects(alloc: Global, words: &[&str], wanted: &Collect<'_>) -> bool {
-    match command(alloc, words) {
+    match job(alloc, words) {
         Ok(Command::Collect(collect)) => collect == *wanted,
         _ => false,
     }
@@ -209,7 +209,7 @@ fn reads_words_for_a_collector(rt: &impl Abort, alloc: Global) -> Result<(), Fai
 
 // Whether the words of `loopback` are read so.
 fn loops(alloc: Global, word: &str, wanted: Source<'_>) -> bool {
-    match command(alloc, &["mqtt", "loopback", word]) {
+    match job(alloc, &["mqtt", "loopback", word]) {
         Ok(Command::Loopback(source)) => source == wanted,
         _ => false,
     }
