@@ -21,7 +21,7 @@ note_unproved = $(is_proved) || echo 'bin/mqtt is not proved. It checks at run t
 all: bin/mqtt
 	@.ci/demo bin/mqtt
 	@if $(is_proved); then echo 'bin/mqtt is proved: bin/mqtt.proved has its checksum.'; \
-	else echo 'Nothing was proved: bin/mqtt is built as it is written. make test tests it, make prove proves it.'; fi
+	else echo 'Nothing was proved: bin/mqtt is built as it is written. `make test` tests it, and `make prove` proves it.'; fi
 
 bin/mqtt: $(shell .ci/build --sources mqtt)
 	$(need_kit)
@@ -69,7 +69,7 @@ refusals: bin/mq_refusals
 	.ci/refusals bin/mq_refusals bin/refuse.so
 
 install: $(if $(filter 1,$(UNPROVED)),bin/mqtt)
-	@$(is_proved) || test '$(UNPROVED)' = 1 || { echo 'make install installs only a proved program, and there is none in bin/. Run make prove first, or set UNPROVED=1 to install the program without a proof.' >&2; exit 1; }
+	@$(is_proved) || test '$(UNPROVED)' = 1 || { echo 'make install installs only a proved program, and there is none in bin/. Run `make prove` first, or set UNPROVED=1 to install the program without a proof.' >&2; exit 1; }
 	mkdir -p $(DESTDIR)$(PREFIX)/bin
 	install -m 755 bin/mqtt $(DESTDIR)$(PREFIX)/bin/mqtt
 
