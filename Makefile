@@ -1,65 +1,97 @@
-# The program `mqtt`. RT is the command of the kit that it is proved and built with.
+# `make` builds bin/mqtt and shows it at work, `make test` tests it, `make prove` proves it.
+# `make help` lists every target. RT names the kit's command, CC a C compiler.
 
 RT ?= rt
 PREFIX ?= /usr/local
 ARGS ?= --help
 STREAMS ?= small publish16 publish1024 publish65536 mixed
+export RT
 
-.PHONY: all bin/mqtt test program interop refusals install try bench-c bench-loopback clean
+.PHONY: all help test prove program interop refusals install try bench-c bench-loopback clean
 
-# Proves the program and everything below it, builds it, and runs it once.
+# Stops with one line if the kit's command, or a C compiler, is missing.
+need_kit = $(if $(shell command -v $(RT) 2>/dev/null),,$(error $(RT) is not on the path: README explains it under "Requirements"))
+need_cc = $(if $(shell command -v $(CC) 2>/dev/null),,$(error there is no C compiler $(CC): name one, as CC=clang))
+
+# bin/mqtt.proved exists only for a proved bin/mqtt, and has its checksum.
+is_proved = sha256sum --status -c bin/mqtt.proved 2>/dev/null
+note_unproved = $(is_proved) || echo 'bin/mqtt is not proved. It checks at run time what a proof shows, so it may be slower.' >&2
+
+# Builds bin/mqtt as it is written, which proves nothing, and runs a demonstration.
 all: bin/mqtt
-	bin/mqtt show c000
+	@.ci/demo bin/mqtt
+	@if $(is_proved); then echo 'bin/mqtt is proved: bin/mqtt.proved has its checksum.'; \
+	else echo 'Nothing was proved: bin/mqtt is built as it is written. `make test` tests it, and `make prove` proves it.'; fi
 
-# The program lies at bin/mqtt only once it is proved.
-bin/mqtt:
-	@echo 'Proves the program and all below it, and builds it. The first time that takes some 80 to 105 minutes of a processor; after that, what changed.' >&2
-	cd crates/mqtt && $(RT) run -- show c000
-	mkdir -p bin
-	cp crates/mqtt/out/mqtt bin/mqtt
+bin/mqtt: $(shell .ci/build --sources mqtt)
+	$(need_kit)
+	@.ci/build mqtt bin/mqtt
+	@rm -f bin/mqtt.proved
 
-# The merge gate: every proof from nothing, every test, every edit that must be refused, and each program.
-test:
-	@echo 'Proves every crate from nothing and tries each edit: one to two hours on four processors.' >&2
-	bash .ci/run
+help:
+	@echo 'make                  builds bin/mqtt without a proof, and runs a demonstration'
+	@echo 'make test             runs every test and stored run, and proves nothing'
+	@echo 'make prove            proves every crate, and leaves the proved program in bin/mqtt'
+	@echo 'make install          installs the proved program below PREFIX; with UNPROVED=1 any bin/mqtt'
+	@echo 'make program          runs bin/mqtt on the rows of .ci/printed.py and the snippets of README'
+	@echo 'make interop          runs bin/mqtt against mosquitto, if that is installed'
+	@echo 'make refusals         makes each allocation of worked sections fail in turn; needs a C compiler'
+	@echo 'make try ARGS=..      runs mqtt compiled with checks of each access to memory'
+	@echo 'make bench-c          measures plain C over the streams of mq_bench'
+	@echo 'make bench-loopback   measures the broker over 127.0.0.1'
+	@echo 'make clean            removes bin/'
 
-# Runs the program on what its stored run can't have, and the snippets of README.
+# Every test and stored run of the code as it is written.
+test: bin/mqtt
+	$(need_kit)
+	@.ci/test
+
+# Every proof, mutant, test and program; leaves the proved bin/mqtt and bin/mqtt.proved.
+prove:
+	$(need_kit)
+	@.ci/prove
+
 program: bin/mqtt
 	.ci/program bin/mqtt
 
-# Runs the program beside mosquitto's broker and clients, where they are installed.
 interop: bin/mqtt
 	.ci/interop bin/mqtt
 
-# Refuses each allocation of the sections of mq_refusals in turn, each in a run of its own, by a library that is loaded before the C library.
-refusals:
-	@command -v $(CC) >/dev/null || { echo 'There is no C compiler here called $(CC): name one, as make refusals CC=clang.' >&2; exit 1; }
-	cd crates/mq_refusals && $(RT) run < stdin
-	mkdir -p bin
-	$(CC) -std=gnu11 -O2 -shared -fPIC -o bin/refuse.so bench/refuse.c
-	.ci/refusals crates/mq_refusals/out/mq_refusals bin/refuse.so
+bin/mq_refusals: $(shell .ci/build --sources mq_refusals)
+	$(need_kit)
+	@.ci/build mq_refusals bin/mq_refusals
 
-install: bin/mqtt
+# Makes each allocation fail in turn, each in a run of its own, by a library that is loaded before
+# the C library.
+refusals: bin/mq_refusals
+	$(need_cc)
+	$(CC) -std=gnu11 -O2 -shared -fPIC -o bin/refuse.so bench/refuse.c
+	.ci/refusals bin/mq_refusals bin/refuse.so
+
+install: $(if $(filter 1,$(UNPROVED)),bin/mqtt)
+	@$(is_proved) || test '$(UNPROVED)' = 1 || { echo 'make install installs only a proved program, and there is none in bin/. Run `make prove` first, or set UNPROVED=1 to install the program without a proof.' >&2; exit 1; }
 	mkdir -p $(DESTDIR)$(PREFIX)/bin
 	install -m 755 bin/mqtt $(DESTDIR)$(PREFIX)/bin/mqtt
 
-# Runs the program before any proof, in a minute or two: make try ARGS='show c000'
+# Runs the program with checks of each access to memory: make try ARGS='show c000'
 try:
-	@echo 'This proves nothing: the program is built as it is written, which takes a minute or two, and runs.' >&2
+	$(need_kit)
+	@echo 'This proves nothing. It compiles the program with checks, in two minutes or so, and runs it.' >&2
 	cd crates/mqtt && $(RT) try -- $(ARGS)
 
-# Measures plain C that makes the same tests as `view`, and such that then owns what it found, as `feed` does, over the streams of mq_bench:
-# make bench-c STREAMS=small
+# Measures plain C that makes the tests of `view`, and plain C that also owns the parts of a packet,
+# as after `feed`: make bench-c STREAMS=small
 bench-c:
-	@command -v $(CC) >/dev/null || { echo 'There is no C compiler here called $(CC): name one, as make bench-c CC=clang.' >&2; exit 1; }
+	$(need_cc)
 	mkdir -p bin
 	$(CC) -std=c11 -O3 -o bin/same_tests bench/same_tests.c
 	bin/same_tests $(STREAMS)
 
-# Loads the program's broker, and mosquitto's where it is installed, with messages over 127.0.0.1, and prints how many a second each delivers and how long
-# one takes: make bench-loopback DELIVERIES=10000
+# Loads the program's broker, and mosquitto's if that is installed, over 127.0.0.1. Prints the
+# messages that each delivers in a second, and the latency: make bench-loopback DELIVERIES=10000
 bench-loopback: bin/mqtt
-	@command -v $(CC) >/dev/null || { echo 'There is no C compiler here called $(CC): name one, as make bench-loopback CC=clang.' >&2; exit 1; }
+	$(need_cc)
+	@$(note_unproved)
 	CC='$(CC)' bench/loopback.sh bin/mqtt $(DELIVERIES)
 
 clean:
