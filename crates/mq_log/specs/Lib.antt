@@ -1,0 +1,7 @@
+pub mod Blocks
+pub mod Checksum
+pub mod Disk
+pub mod Journal
+pub mod Laws
+pub mod Memory
+pub mod Past
