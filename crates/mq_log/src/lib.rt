@@ -2,13 +2,17 @@
 #![tactic(auto)]
 
 mod disk;
+mod freezing;
 mod journal;
 mod laws;
 mod memory;
 mod reader;
 mod sum;
+#[cfg(test)]
+mod tests;
 
 pub use crate::disk::{Disk, DiskError};
+pub use crate::freezing::FreezingDisk;
 pub use crate::journal::{Journal, begin};
 pub use crate::laws::journal_laws;
 pub use crate::memory::MemoryDisk;

@@ -16,11 +16,13 @@ pub struct MemoryDisk {
 }
 
 impl MemoryDisk {
-    ghost use Rattle.mq_log.specs.Memory.{memory_bytes};
+    ghost use Rattle.std.specs.Prelude.{[]};
+    ghost use Rattle.mq_log.specs.Memory.{memory_bytes, past_contents};
 
     /// A file with these bytes, all of them synced.
     pub fn new(alloc: Global, bytes: Vec<u8>) -> Self
-        ensures { memory_bytes result ≡ bytes.items }
+        ensures bytes { memory_bytes result ≡ bytes.items }
+        ensures past { past_contents result ≡ [] }
     {
         MemoryDisk {
             alloc,
@@ -34,6 +36,13 @@ impl MemoryDisk {
         ensures { result.now ≡ memory_bytes self.now }
     {
         &self.bytes
+    }
+
+    /// The earlier contents, oldest first.
+    pub fn past(&self) -> &[Vec<u8>]
+        ensures { result.now ≡ past_contents self.now }
+    {
+        &self.past
     }
 }
 

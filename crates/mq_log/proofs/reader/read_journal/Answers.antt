@@ -13,7 +13,7 @@ loop-entry-preserved c =
     let copied : c.in_ok-to_vec.field-0.items ≡ c.in-Some.entry.now = search rules in
     let pushed = c.in_ok-push.ensures.items in
     record {
-      read = subst (λ (l : List (Vec ℕ Global)). map (λ (v : Vec ℕ Global). v.items) l ++ entries c.in-Some.behind.now ≡ entries c.args.bytes.now) (sym pushed)
+      read = subst (λ (l : List (Vec ℕ Global)). map (λ (v : Vec ℕ Global). v.items) l ++ entries c.in-Some.behind.now ≡ entries c.args.bytes.now) (sym {A = List (Vec ℕ Global)} pushed)
           (read_step _ _ left _ c.args.bytes.now is (copied ∙ entry_is) behind_is kept.read);
       same_rest = rest_step left _ c.args.bytes.now is behind_is kept.same_rest;
       suffix = suffix_step _ left _ is behind_is kept.within kept.suffix;
