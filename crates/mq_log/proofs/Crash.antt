@@ -1,4 +1,4 @@
--- What a crash leaves in each of the two steps of a `put`.
+-- The outcomes of a crash in each of the two steps of a `put`.
 use Rattle.std.proofs.Common.{◌≡◌, ℕ, ◌+◌, ◌<◌, ◌^◌, List, [], ◌∷◌, ◌++◌, length, get_or, take, drop, sym, ◌∙◌, ap, subst, arith, append_assoc, length-append, take-append-drop}
 use Rattle.std.proofs.lemmas.List.{take_at, drop_at, drop_more, take_all, drop_all, append-nil}
 use Rattle.mq_log.specs.Disk.{Holds, Torn, Follows, Only}

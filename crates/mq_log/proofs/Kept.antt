@@ -29,7 +29,7 @@ drop_push zero past v le = refl
 drop_push (suc t) [] v le = absurd (omega arith)
 drop_push (suc t) (p ∷ past) v le = drop_push t past v (omega arith)
 
--- what a crash since t could have left
+-- the contents that a crash since t could have left
 abbrev Since : Contents → List ℕ → ℕ → List ℕ → Type 0
 Since past bytes t c = (c ≡ bytes) ⊎ HadBeen (drop t past) c
 

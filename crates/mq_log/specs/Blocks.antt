@@ -6,7 +6,7 @@ use Rattle.mq_log.specs.Checksum.{checksum}
 use Rattle.mq_log.specs.declared.reader.Tail.{Tail}
 use Rattle.mq_log.specs.declared.reader.Tail.TheVariants.{Closed, Torn, CutShort, Damaged}
 
--- what follows the gate in the block of an entry
+-- the block of an entry without its gate
 abbrev pub body : List ℕ → List ℕ
 body entry = to_be_bytes w32 (length entry) ++ (to_be_bytes w32 (checksum entry) ++ entry)
 

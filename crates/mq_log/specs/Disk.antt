@@ -1,4 +1,4 @@
--- What the calls of a disk do to its file, and what a crash may leave between two syncs.
+-- The effect of a disk's calls on its file, and the contents that a crash may leave.
 use Rattle.std.specs.Prelude.{◌<◌, ◌≡◌, ◌⊎◌, ℕ, ◌+◌, ◌≤◌, max, List, ◌++◌, length, take, drop, Result, IsErrOf}
 use Rattle.mq_log.specs.declared.disk.DiskError.{DiskError}
 use Rattle.mq_log.specs.declared.disk.DiskError.TheVariants.{Failed, Full}
@@ -7,8 +7,8 @@ use Rattle.mq_log.specs.declared.disk.DiskError.TheVariants.{Failed, Full}
 abbrev pub Holds : List ℕ → ℕ → List ℕ → List ℕ → Type 0
 Holds old at bytes new = new ≡ take at old ++ bytes ++ drop (at + length bytes) old
 
--- A crash cuts a write of n bytes short. The range and the bytes past the old end may hold anything.
--- Bytes outside of the range are unchanged.
+-- A crash during a write of n bytes, or before the next sync, leaves any bytes in the range. The bytes
+-- before it and behind it are unchanged, and the file ends anywhere from the old end to the new one.
 pub record Torn (at n : ℕ) (old new : List ℕ) : Type 0 where
   pub before : take at new ≡ take at old
   pub after : drop (at + n) new ≡ drop (at + n) old
@@ -24,7 +24,7 @@ Follows step old new = (c : List ℕ) → new c → (d : List ℕ) × old d × s
 abbrev pub Only : List ℕ → (List ℕ → Type 0) → Type 0
 Only file outcomes = (c : List ℕ) → outcomes c → c ≡ file
 
--- Time advances: the outcomes of a crash since t are the outcomes so far and the outcomes now.
+-- Time advances: the outcomes of a crash since t are the earlier outcomes and the present ones.
 pub record Elapses (before now : ℕ) (past since : ℕ → List ℕ → Type 0)
     (may_leave : List ℕ → Type 0) : Type 0 where
   pub later : before ≤ now

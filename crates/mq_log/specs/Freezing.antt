@@ -1,4 +1,4 @@
--- What a `FreezingDisk` shows.
+-- The parts of a `FreezingDisk`.
 use Rattle.std.specs.Prelude.{ℕ}
 use Rattle.mq_log.specs.declared.freezing.FreezingDisk.{FreezingDisk}
 

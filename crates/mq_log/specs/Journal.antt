@@ -1,4 +1,4 @@
--- When a journal is at rest, and what a crash during a `put` leaves.
+-- Journals at rest, and the files that a crash during a `put` may leave.
 use Rattle.std.specs.Prelude.{◌≡◌, ◌≢◌, ◌⊎◌, ℕ, List, [], ◌∷◌, ◌++◌, length}
 use Rattle.mq_log.specs.Blocks.{entries, rest, gate, blocks, at_rest, AreShort}
 use Rattle.mq_log.specs.Disk.{Only}

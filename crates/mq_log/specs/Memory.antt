@@ -1,4 +1,4 @@
--- What a `MemoryDisk` shows.
+-- The contents of a `MemoryDisk`.
 use Rattle.std.specs.Prelude.{ℕ, List, Vec}
 use Rattle.std.specs.declared.alloc.Global.{Global}
 use Rattle.mq_log.specs.declared.memory.MemoryDisk.{MemoryDisk}

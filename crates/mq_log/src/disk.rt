@@ -54,7 +54,7 @@ pub trait Disk {
     /// The contents that a crash at some time from the given one on could have left.
     ghost left_since: { Self → ℕ → List ℕ → Type 0 };
 
-    /// The number of failures of the device so far.
+    /// The number of failures of the device up to now.
     ghost faults: { Self → ℕ };
 
     /// Reads the whole file.

@@ -1,4 +1,22 @@
-//! A journal: a file of entries, each stored on disk before it is acknowledged.
+//! A journal: a file of entries, each of them durable before `put` returns `Ok`.
+//!
+//! An entry is any list of bytes shorter than 2^32. The file is a list of blocks. A block is a gate
+//! (1 open, 0 closed), the length and the checksum of the entry in four bytes each, high byte first,
+//! and the entry. A closed gate follows the last block.
+//!
+//! Order of calls:
+//!
+//! 1. [`begin`] prepares an empty file, and [`Journal::new`] opens it.
+//! 2. [`Journal::put`] appends an entry. Acknowledge the entry to others only after its `Ok`.
+//! 3. After a crash or an `Err`, [`read_journal`] returns the entries of the file. Append to a new
+//!    file, since a file with a torn end is not repaired.
+//!
+//! [`Disk`] is the model of a file on a device that can crash. That a real file meets its clauses
+//! can't be proved. The crash clauses assume nothing of the checksum: `put` opens the gate of a
+//! block only after the block is synced. The checksum detects damage that no crash causes.
+//!
+//! A call that allocates returns a `Result`; other calls never allocate. On `Err` the receiver is
+//! unchanged unless stated otherwise.
 #![tactic(auto)]
 
 mod disk;

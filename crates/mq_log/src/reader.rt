@@ -9,7 +9,7 @@ use std::alloc::{AllocError, Global};
 /// The number of bytes of a block in front of its entry.
 const HEADER_LEN: usize = 9;
 
-/// What follows the last entry of a journal.
+/// How a journal ends, behind its last entry.
 #[derive(Clone, Copy, Debug, PartialEq, Eq)]
 pub enum Tail {
     /// A closed gate, and nothing else: no `put` was interrupted.
@@ -29,7 +29,7 @@ pub struct Contents {
     pub entries: Vec<Vec<u8>>,
     /// The offset of the byte behind the last entry.
     pub end: usize,
-    /// What follows there.
+    /// How the file ends there.
     pub tail: Tail,
 }
 
