@@ -7,8 +7,8 @@ use Rattle.mq_log.specs.declared.disk.DiskError.TheVariants.{Failed, Full}
 abbrev pub Holds : List ℕ → ℕ → List ℕ → List ℕ → Type 0
 Holds old at bytes new = new ≡ take at old ++ bytes ++ drop (at + length bytes) old
 
--- A crash during a write of n bytes, or before the next sync, leaves any bytes in the range. The bytes
--- before it and behind it are unchanged, and the file ends anywhere from the old end to the new one.
+-- A crash during a write of n bytes, or before the next sync, leaves any bytes in the range. The
+-- bytes before and behind it are unchanged. The file ends anywhere from the old end to the new one.
 pub record Torn (at n : ℕ) (old new : List ℕ) : Type 0 where
   pub before : take at new ≡ take at old
   pub after : drop (at + n) new ≡ drop (at + n) old

@@ -1,8 +1,12 @@
 //! A journal: a file of entries, each of them durable before `put` returns `Ok`.
 //!
-//! An entry is any list of bytes shorter than 2^32. The file is a list of blocks. A block is a gate
-//! (1 open, 0 closed), the length and the checksum of the entry in four bytes each, high byte first,
-//! and the entry. A closed gate follows the last block.
+//! An entry is any list of bytes shorter than 2^32. The file is a list of blocks, and a closed gate
+//! behind the last one. A block has four parts:
+//!
+//! - the gate, one byte: 1 if open, 0 if closed
+//! - the length of the entry, in four bytes, high byte first
+//! - the checksum of the entry, in four bytes, high byte first
+//! - the entry
 //!
 //! Order of calls:
 //!

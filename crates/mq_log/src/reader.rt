@@ -14,7 +14,7 @@ const HEADER_LEN: usize = 9;
 pub enum Tail {
     /// A closed gate, and nothing else: no `put` was interrupted.
     Closed,
-    /// No open gate: a crash interrupted a `put`, or the file lacks its first gate.
+    /// No open gate, and not `Closed`: a crash interrupted a call. A damaged gate looks the same.
     Torn,
     /// An open gate, and a block that the file cuts short. No crash during a `put` leaves it.
     CutShort,
