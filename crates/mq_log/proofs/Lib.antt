@@ -1,0 +1,5 @@
+mod BlockLemmas
+mod Crash
+mod JournalLaws
+mod Kept
+mod Runs
