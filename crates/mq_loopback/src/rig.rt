@@ -7,7 +7,7 @@ use crate::client_threads::ClientThreads;
 use mq_book::{Journal, Receipt};
 use mq_client::ClientError;
 use mq_packet::Message;
-use mq_serve::{Acceptor, Closed, Records, ServeEnd, WorkerResult, Server, man_both};
+use mq_serve::{Acceptor, Closed, Records, ServeEnd, Server, WorkerResult, man_both};
 use std::alloc::{AllocError, Global};
 use std::io;
 use std::io::ErrorKind;
