@@ -861,27 +861,27 @@ REFUSED = [
 
 # Words that ask for help: the whole of what is printed, or how it ends; the status is 0.
 SHOW_HELP = """\
-Prints each packet of a stream of bytes on a line, and how the stream ends
+Prints the packets of a byte stream, one per line, and how the stream ends
 
 Usage: mqtt show [OPTIONS] [HEX]
 
 Arguments:
-  [HEX]  The bytes, two hexadecimal digits each; `-` takes them from the standard input
+  [HEX]  The bytes, two hexadecimal digits each; `-` reads them from standard input
 
 Options:
-      --file <FILE>  Shows the bytes of this file instead; `-` is the standard input
-      --lenient      Takes a remaining length with more bytes than it needs
+      --file <FILE>  Reads the bytes of this file instead; `-` is standard input
+      --lenient      Accepts remaining lengths with more bytes than necessary
   -h, --help         Print help
 
 Example: mqtt show 62020001c000
 """
 STATUSES = """
 Status:
-  0  done, and nothing is wrong
-  1  a fault, less than a whole packet, a no, or a connection that failed
-  2  words, digits, a file, a filter, a name or a line of a file that can't be read
+  0  success
+  1  a fault, an incomplete packet, `no`, a failed or closed connection, or an unsaved session
+  2  arguments, digits, a file, a filter, a name or a line of a file that can't be read
   3  out of memory
-  4  the output failed, or was closed
+  4  the output failed or was closed
 """
 HELPS = [
     ("show --help", SHOW_HELP),

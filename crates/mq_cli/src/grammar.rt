@@ -11,11 +11,11 @@ use std::alloc::{AllocError, Global};
 
 /// The exit statuses, for the help.
 const STATUSES: &str = "Status:
-  0  done, and nothing is wrong
-  1  a fault, less than a whole packet, a no, or a connection that failed
-  2  words, digits, a file, a filter, a name or a line of a file that can't be read
+  0  success
+  1  a fault, an incomplete packet, `no`, a failed or closed connection, or an unsaved session
+  2  arguments, digits, a file, a filter, a name or a line of a file that can't be read
   3  out of memory
-  4  the output failed, or was closed";
+  4  the output failed or was closed";
 
 // The help texts of a command.
 #[derive(Clone, Copy)]
@@ -25,7 +25,7 @@ struct Texts<'a> {
     example: &'a str,
 }
 
-// A command with one word, which has to be there.
+// A command with one required argument.
 fn word_command<'a>(
     alloc: Global,
     texts: Texts<'a>,
@@ -40,7 +40,7 @@ fn word_command<'a>(
     new_command(alloc, texts).arg(word)
 }
 
-// A command without words.
+// A command without arguments.
 fn new_command<'a>(alloc: Global, texts: Texts<'a>) -> Command<'a>
     ensures words { app_of result ≡ new_app texts.entry.name.now }
     ensures local { (out-Command result).has_globals ≡ false }
@@ -50,7 +50,7 @@ fn new_command<'a>(alloc: Global, texts: Texts<'a>) -> Command<'a>
         .after_help(texts.example)
 }
 
-// A command with one word more.
+// Adds an argument.
 fn with_arg<'a>(command: Command<'a>, arg: Arg<'a>) -> Result<Command<'a>, AllocError>
     requires { arg.global ≡ false }
     ensures words { IfOk result
@@ -92,11 +92,11 @@ fn lenient_flag<'a>(alloc: Global) -> Arg<'a>
     ensures rule { rule_of result ≡ lenient_rule }
     ensures local { result.global ≡ false }
 {
-    let help = "Takes a remaining length with more bytes than it needs";
+    let help = "Accepts remaining lengths with more bytes than necessary";
     flag(alloc, "LENIENT", "lenient", help)
 }
 
-// An option with the name of a file, which may be left out.
+// An optional file name.
 fn file_option<'a>(alloc: Global, word: &'a str, name: &'a str, help: &'a str) -> Arg<'a>
     ensures rule { rule_of result ≡ file_rule word.now name.now }
     ensures local { result.global ≡ false }
@@ -111,13 +111,13 @@ fn show_command<'a>(alloc: Global) -> Result<Command<'a>, AllocError>
 {
     let texts = Texts {
         name: "show",
-        about: "Prints each packet of a stream of bytes on a line, and how the stream ends",
+        about: "Prints the packets of a byte stream, one per line, and how the stream ends",
         example: "Example: mqtt show 62020001c000",
     };
     let digits = Arg::new(alloc, "HEX").help(
-        "The bytes, two hexadecimal digits each; `-` takes them from the standard input",
+        "The bytes, two hexadecimal digits each; `-` reads them from standard input",
     );
-    let name = "Shows the bytes of this file instead; `-` is the standard input";
+    let name = "Reads the bytes of this file instead; `-` is standard input";
     let command = with_arg(new_command(alloc, texts), digits)?;
     let command = with_arg(command, file_option(alloc, "FILE", "file", name))?;
     with_arg(command, lenient_flag(alloc))
@@ -130,10 +130,10 @@ fn check_command<'a>(alloc: Global) -> Result<Command<'a>, AllocError>
 {
     let texts = Texts {
         name: "check",
-        about: "Counts the packets of a file, and says how it ends",
+        about: "Counts the packets of a file, and prints how it ends",
         example: "Example: mqtt check stream.bin",
     };
-    let file = "The file that has the bytes; `-` is the standard input";
+    let file = "The file to read; `-` is standard input";
     let command = word_command(alloc, texts, "FILE", file)?;
     with_arg(command, lenient_flag(alloc))
 }
@@ -145,7 +145,7 @@ fn match_command<'a>(alloc: Global) -> Result<Command<'a>, AllocError>
 {
     let texts = Texts {
         name: "match",
-        about: "Says whether a topic filter matches a topic name",
+        about: "Prints whether a topic filter matches a topic name",
         example: "Example: mqtt match 'sport/#' sport",
     };
     let command = word_command(alloc, texts, "FILTER", "The topic filter")?;
@@ -163,14 +163,14 @@ fn replay_command<'a>(alloc: Global) -> Result<Command<'a>, AllocError>
 {
     let texts = Texts {
         name: "replay",
-        about: "Makes the events of a schedule between two ends, and prints what comes of each",
+        about: "Replays a schedule between a client and a server and prints the result of each event",
         example: "Example: mqtt replay schedule.txt",
     };
-    let file = "The file that has the schedule; `-` is the standard input";
+    let file = "The schedule; `-` is standard input";
     word_command(alloc, texts, "FILE", file)
 }
 
-// An option with a number of this kind, which has to be there.
+// A required number.
 fn number_option<'a>(
     alloc: Global,
     word: &'a str,
@@ -195,18 +195,18 @@ fn random_command<'a>(alloc: Global) -> Result<Command<'a>, AllocError>
 {
     let texts = Texts {
         name: "random",
-        about: "Prints a schedule that is made up, for `replay`",
+        about: "Prints a generated schedule for `replay`",
         example: "Example: mqtt random --start 7 --steps 300",
     };
-    let seeds = "What it is made up from: the same start, the same schedule";
+    let seeds = "The start value; the same value gives the same schedule";
     let start = number_option(alloc, "START", "start", seeds, value_parser!(u64));
     let command = with_arg(new_command(alloc, texts), start)?;
-    let counts = "How many events it has";
+    let counts = "The number of events";
     let steps = number_option(alloc, "STEPS", "steps", counts, value_parser!(u32));
     with_arg(command, steps)
 }
 
-// An option with a text, which has to be there.
+// A required text.
 fn text_option<'a>(alloc: Global, word: &'a str, name: &'a str, help: &'a str) -> Arg<'a>
     ensures rule { rule_of result ≡ text_rule word.now name.now }
     ensures local { result.global ≡ false }
@@ -238,16 +238,16 @@ fn serve_command<'a>(alloc: Global) -> Result<Command<'a>, AllocError>
 {
     let texts = Texts {
         name: "serve",
-        about: "Serves as a broker, and prints the sessions that it has at the end",
+        about: "Runs a broker on this machine, and prints its sessions at the end",
         example: "Example: mqtt serve --port 1883 --connections 3 --workers 1",
     };
-    let port = port_option(alloc, "The port that it listens on; 0 takes a free one");
+    let port = port_option(alloc, "The port to listen on; 0 picks a free one");
     let command = with_arg(new_command(alloc, texts), port)?;
-    let counts = "How many connections it serves before it ends";
+    let counts = "The number of connections to serve before it ends";
     let kind = value_parser!(u32);
     let connections = number_option(alloc, "CONNECTIONS", "connections", counts, kind);
     let command = with_arg(command, connections)?;
-    let threads = "How many threads serve, 1 to 64";
+    let threads = "The number of threads, 1 to 64";
     let kind = value_parser!(u8).range(1..=64);
     with_arg(
         command,
@@ -255,35 +255,35 @@ fn serve_command<'a>(alloc: Global) -> Result<Command<'a>, AllocError>
     )
 }
 
-// A command of a client, with the options that name the broker, the client, its topics, by this
-// word, and a quality of service.
+// A client command with the options for the broker, the client identifier, the topic and the QoS.
 fn client_command<'a>(
     alloc: Global,
     texts: Texts<'a>,
     word: &'a str,
     name: &'a str,
-    topics: &'a str,
+    helps: [&'a str; 2],
 ) -> Result<Command<'a>, AllocError>
     ensures words { IfOk result (λ command.
         app_of command ≡ client_words texts.entry.name.now (text_rule word.now name.now)) }
     ensures local { IfOk result (λ command. (out-Command command).has_globals ≡ false) }
 {
-    let port = port_option(alloc, "The port of the broker, on this machine");
+    let port = port_option(alloc, "The port of the broker on this machine");
     let command = with_arg(new_command(alloc, texts), port)?;
-    let id = "The client identifier, 65,535 bytes at most";
+    let id = "The client identifier, at most 65,535 bytes";
     let command = with_arg(command, text_option(alloc, "ID", "id", id))?;
+    let [topics, qos] = helps;
     let command = with_arg(command, text_option(alloc, word, name, topics))?;
-    let qos = qos_option(alloc, "The greatest quality of service of the messages");
+    let qos = qos_option(alloc, qos);
     with_arg(command, qos)
 }
 
-// Any number of words `TEXT`.
+// Any number of `TEXT` arguments.
 fn texts_word<'a>(alloc: Global) -> Arg<'a>
     ensures rule { rule_of result ≡ texts_rule }
     ensures local { result.global ≡ false }
 {
     Arg::new(alloc, "TEXT")
-        .help("The texts, one message each; with --session there may be none")
+        .help("The texts, one message each; optional with --session. `-` is the text `-`")
         .action(ArgAction::Append)
 }
 
@@ -297,11 +297,14 @@ fn publish_command<'a>(alloc: Global) -> Result<Command<'a>, AllocError>
         about: "Publishes texts as a client of a broker on this machine",
         example: "Example: mqtt publish --port 1883 --id p --topic a/b --qos 2 hi yo",
     };
-    let topic = "The topic name of the texts";
-    let command = client_command(alloc, texts, "TOPIC", "topic", topic)?;
-    let retain = "Asks the broker to keep the last text for clients that come later";
+    let helps = [
+        "The topic to publish to",
+        "The quality of service to publish with",
+    ];
+    let command = client_command(alloc, texts, "TOPIC", "topic", helps)?;
+    let retain = "Asks the broker to retain the last text for future subscribers";
     let command = with_arg(command, flag(alloc, "RETAIN", "retain", retain))?;
-    let kept = "Keeps the session in this file, and goes on with it where the file is there";
+    let kept = "Keeps the session in this file, and continues it if the file exists";
     let command = with_arg(command, file_option(alloc, "SESSION", "session", kept))?;
     with_arg(command, texts_word(alloc))
 }
@@ -313,15 +316,18 @@ fn collect_command<'a>(alloc: Global) -> Result<Command<'a>, AllocError>
 {
     let texts = Texts {
         name: "collect",
-        about: "Prints messages that a broker on this machine hands on to a client",
+        about: "Subscribes at a broker on this machine, and prints the messages",
         example: "Example: mqtt collect --port 1883 --id c --filter 'a/#' --qos 2 --count 2",
     };
-    let filter = "The topic filter of the messages";
-    let command = client_command(alloc, texts, "FILTER", "filter", filter)?;
-    let counts = "How many messages it waits for";
+    let helps = [
+        "The topic filter to subscribe to",
+        "The maximum quality of service of the messages",
+    ];
+    let command = client_command(alloc, texts, "FILTER", "filter", helps)?;
+    let counts = "The number of messages to wait for";
     let count = number_option(alloc, "COUNT", "count", counts, value_parser!(u32));
     let command = with_arg(command, count)?;
-    let clean = "Begins with a clean session, and keeps none";
+    let clean = "Starts with a clean session, which ends with the connection";
     with_arg(command, flag(alloc, "CLEAN", "clean", clean))
 }
 
@@ -333,10 +339,10 @@ fn loopback_command<'a>(alloc: Global) -> Result<Command<'a>, AllocError>
 {
     let texts = Texts {
         name: "loopback",
-        about: "Runs a broker and clients beside each other, and prints what the clients collect",
+        about: "Runs a broker and clients in one process, and prints the messages that clients collect",
         example: "Example: mqtt loopback clients.txt",
     };
-    let file = "The file that has a line for each client; `-` is the standard input";
+    let file = "The file with a line for each client; `-` is standard input";
     word_command(alloc, texts, "FILE", file)
 }
 
