@@ -1,14 +1,15 @@
-//! Texts and answers that are as they are to be. Nothing else is held where they are compared, so that a walk over rows holds nothing either.
+//! Comparisons of texts and results. These functions own no other values, so a loop over rows that
+//! calls them drops nothing.
 
 use std::process::Abort;
 use std::test::Fail;
 
-/// The text is this one; where it isn't, what it is of is told.
+/// Fails with a description of `of` if the text differs.
 pub(crate) fn expect_text(rt: &impl Abort, told: &str, wanted: &str, of: &str) {
     assert_eq!(rt; told, wanted, "{of}");
 }
 
-/// The same of a text that a call answers.
+/// Like `expect_text`, for the result of a call.
 pub(crate) fn expect_told(
     rt: &impl Abort,
     told: Result<String, Fail>,
@@ -20,7 +21,7 @@ pub(crate) fn expect_told(
     Ok(())
 }
 
-/// The same of a text of bytes.
+/// Like `expect_told`, described by bytes.
 pub(crate) fn expect_read(
     rt: &impl Abort,
     told: Result<String, Fail>,
@@ -32,7 +33,7 @@ pub(crate) fn expect_read(
     Ok(())
 }
 
-// The same of a text that was told.
+// Like `expect_text`, described by bytes.
 fn expect_text_of(rt: &impl Abort, told: &str, wanted: &str, of: &[u8]) {
     assert_eq!(rt; told, wanted, "{of:?}");
 }

@@ -9,7 +9,7 @@ use std::alloc::{AllocError, Global};
 use std::process::Abort;
 use std::test::Fail;
 
-// Numbers that look random.
+// A pseudorandom sequence of numbers.
 #[derive(Drop)]
 struct Numbers {
     words: Pcg32,
@@ -24,7 +24,6 @@ impl Numbers {
         self.words.next_word() % bound
     }
 
-    // A level of a filter.
     fn level(&mut self) -> &'static str {
         match self.below(6) {
             0 => "a",
@@ -36,7 +35,6 @@ impl Numbers {
         }
     }
 
-    // A quality of service.
     fn qos(&mut self) -> Qos {
         match self.below(3) {
             0 => Qos::Q0,
@@ -57,7 +55,7 @@ impl Numbers {
     }
 }
 
-// Both stores find the same.
+// Expects that both stores find the same.
 fn find_alike(
     rt: &impl Abort,
     alloc: Global,
@@ -88,7 +86,8 @@ fn set_alike(
     trie.set(client, filter.clone()?, qos)
 }
 
-// Both stores answer the same to a call with a filter, which the number picks.
+// Makes the same call, which the number selects, with a filter on both stores. Expects the same
+// result.
 fn call_with(
     rt: &impl Abort,
     numbers: &mut Numbers,
@@ -111,7 +110,7 @@ fn call_with(
     Ok(())
 }
 
-// The same with a filter that is made up, where the text is one.
+// Like `call_with`, with a generated filter if the text is a valid one.
 fn call_alike(
     rt: &impl Abort,
     numbers: &mut Numbers,
@@ -127,7 +126,7 @@ fn call_alike(
     Ok(())
 }
 
-// Both stores answer the same to so many calls, and names find the same in them.
+// Makes this number of calls on both stores, and compares the results and what names find.
 fn walk(
     rt: &impl Abort,
     alloc: Global,
@@ -146,7 +145,7 @@ fn walk(
     Ok(())
 }
 
-// A value that may go to another thread, and from there to others.
+// Requires that the type is `Send`.
 fn crosses<T: Send>(_value: &T) {}
 
 fn a_trie_crosses_threads(alloc: Global) {
