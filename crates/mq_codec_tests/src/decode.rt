@@ -21,7 +21,6 @@ use std::io::ErrorKind;
 use std::process::Abort;
 use std::test::Fail;
 
-// The value of a hexadecimal digit.
 fn digit(byte: u8) -> Option<u8> {
     match byte {
         b'0'..=b'9' => Some(byte - b'0'),
@@ -30,7 +29,7 @@ fn digit(byte: u8) -> Option<u8> {
     }
 }
 
-/// The bytes of a row, whose fields blanks part.
+/// The bytes of a row. Blanks separate its fields.
 pub(crate) fn bytes_of(alloc: Global, row: &str) -> Result<Vec<u8>, Fail> {
     let mut digits = Vec::new(alloc);
     for byte in row.as_bytes() {
@@ -47,11 +46,11 @@ pub(crate) fn bytes_of(alloc: Global, row: &str) -> Result<Vec<u8>, Fail> {
     Ok(bytes)
 }
 
-/// Strict limits.
 pub(crate) fn limits(max_packet: u32) -> Result<Limits, Fail> {
     Ok(Limits::new(max_packet).ok_or("no limits")?)
 }
 
+// The decoder's result for the pieces, and the number of packets.
 pub(crate) fn outcome(
     alloc: Global,
     limits: Limits,
@@ -62,8 +61,8 @@ pub(crate) fn outcome(
     (answer, out.len())
 }
 
-// The decoder's result for the last byte if they arrive one at a time; `None` if it does not hold
-// all previous bytes, or returns a packet.
+// The result for the last byte if the bytes are fed one at a time. `None` unless all bytes before
+// it are held and complete no packet.
 fn answer_to_last(
     decoder: &mut Decoder,
     out: &mut Vec<Packet>,
@@ -79,6 +78,7 @@ fn answer_to_last(
     if out.is_empty() { Some(answer) } else { None }
 }
 
+// Like `answer_to_last`, with a new decoder.
 fn answer_byte_by_byte(
     alloc: Global,
     limits: Limits,
@@ -89,7 +89,7 @@ fn answer_byte_by_byte(
     answer_to_last(&mut decoder, &mut out, bytes)
 }
 
-// The fault of these bytes, which the last of them shows: in place, as a whole, between two
+// Expects that the last byte of these shows this fault: in a view, in one piece, between two
 // packets, and one byte at a time.
 fn expect_fault(
     rt: &impl Abort,
@@ -111,6 +111,7 @@ fn expect_fault(
     expect_stepped_fault(rt, alloc, limits, bytes, fault);
 }
 
+// Expects the fault also from `next_packet`, for every cut into two pieces.
 fn expect_stepped_fault(
     rt: &impl Abort,
     alloc: Global,
@@ -151,7 +152,7 @@ fn fields_have_faults(rt: &impl Abort, alloc: Global) -> Result<(), Fail> {
     Ok(())
 }
 
-// A first byte of each type.
+// A valid first byte of each type.
 const FIRST_BYTES: [u8; 14] = [
     0x10, 0x20, 0x30, 0x40, 0x50, 0x62, 0x70, 0x82, 0x90, 0xa2, 0xb0, 0xc0, 0xd0, 0xe0,
 ];
@@ -179,7 +180,7 @@ fn first_bytes_have_faults(rt: &impl Abort, alloc: Global) -> Result<(), Fail> {
     Ok(())
 }
 
-// Lengths that have a fault whatever the type is, within the limit 64.
+// Lengths with a fault for every type, with the limit 64.
 static LENGTHS: [(&[u8], FaultKind, usize); 8] = [
     (&[0x80, 0x80, 0x80, 0x80], LengthTooLong, 4),
     (&[0xff, 0xff, 0xff, 0xff], LengthTooLong, 4),
@@ -191,7 +192,6 @@ static LENGTHS: [(&[u8], FaultKind, usize); 8] = [
     (&[0x80, 0x80, 0x80, 0x01], OverLimit, 1),
 ];
 
-// The fault of a first byte with a length behind it.
 fn expect_length_fault(
     rt: &impl Abort,
     alloc: Global,
@@ -217,7 +217,7 @@ fn lengths_have_faults(rt: &impl Abort, alloc: Global) -> Result<(), Fail> {
     expect_row_fault(rt, alloc, limit, "30 ffffff7f", OverLimit, 1)
 }
 
-// The types of a fixed size: one less, one more, the limit, two bytes of length.
+// The types with a fixed remaining length: one less, one more, the limit, a length of two bytes.
 fn sizes_have_faults(rt: &impl Abort, alloc: Global) -> Result<(), Fail> {
     let greatest = limits(268_435_455)?;
     let least = limits(64)?;
@@ -236,7 +236,7 @@ fn sizes_have_faults(rt: &impl Abort, alloc: Global) -> Result<(), Fail> {
     Ok(())
 }
 
-// The fault of a row with zeros behind it, up to this size.
+// Expects the fault of a row that is padded with zeros to each size.
 fn expect_padded_fault(
     rt: &impl Abort,
     alloc: Global,
@@ -252,7 +252,7 @@ fn expect_padded_fault(
     Ok(())
 }
 
-// The bytes of the length count in the place of a field: two of them, and three.
+// The place of a field counts the bytes of the length: two, and three.
 fn places_count_from_the_first_byte(rt: &impl Abort, alloc: Global) -> Result<(), Fail> {
     for (row, size, kind, place) in [
         ("30 8001", 3 + 128, NotTopicName, 3),
@@ -263,20 +263,19 @@ fn places_count_from_the_first_byte(rt: &impl Abort, alloc: Global) -> Result<()
     Ok(())
 }
 
-// The flags of a CONNECT that are allowed (3.1.2.3): the will, the user name and the password, and
-// the clean session each add one of these.
+// The allowed flags of a CONNECT (3.1.2.3): each of these is combined with the user name, the
+// password and the clean session.
 const WILL_FLAGS: [u8; 7] = [0, 0x04, 0x0c, 0x14, 0x24, 0x2c, 0x34];
 
 const LOGIN_FLAGS: [u8; 3] = [0, 0x80, 0xc0];
 
-// Whether a CONNECT may have these flags.
 fn are_allowed(flags: u8) -> bool {
     let will = flags & 0x3c;
     let login = flags & 0xc0;
     WILL_FLAGS.contains(&will) && LOGIN_FLAGS.contains(&login) && flags & 1 == 0
 }
 
-// A CONNECT that ends with its flags has a fault there, or its keep-alive is missing.
+// A CONNECT that ends after its flags has a fault there, or its keep-alive is missing.
 fn expect_flags(rt: &impl Abort, alloc: Global, limits: Limits, flags: u8) {
     let bytes = [0x10, 0x08, 0x00, 0x04, b'M', b'Q', b'T', b'T', 0x04, flags];
     let (kind, place) = if are_allowed(flags) {
@@ -298,7 +297,6 @@ fn connect_has_forbidden_flags(rt: &impl Abort, alloc: Global) -> Result<(), Fai
     Ok(())
 }
 
-// Packets as they are written.
 fn encoded(alloc: Global, packets: &[Packet]) -> Result<Vec<u8>, Fail> {
     let mut bytes = Vec::new(alloc);
     for packet in packets {
@@ -307,13 +305,12 @@ fn encoded(alloc: Global, packets: &[Packet]) -> Result<Vec<u8>, Fail> {
     Ok(bytes)
 }
 
-// Whether these are the packets as they are written.
 pub(crate) fn are_encoded(alloc: Global, packets: &[Packet], bytes: &[u8]) -> Result<bool, Fail> {
     let encoded = encoded(alloc, packets)?;
     Ok(encoded.as_slice() == bytes)
 }
 
-// Whether all of the first piece is held, and one packet arrives with the second.
+// Whether the first piece is held completely, and the second piece completes one packet.
 fn feeds_in_two(
     way: Way,
     decoder: &mut Decoder,
@@ -327,6 +324,7 @@ fn feeds_in_two(
     Ok(is_held && decoder.held() == 0 && out.len() == 1)
 }
 
+// Like `feeds_in_two`, with a new decoder. The packet must be encoded as both pieces.
 fn reads_in_two(
     way: Way,
     alloc: Global,
@@ -341,7 +339,8 @@ fn reads_in_two(
     Ok(is_read && are_encoded(alloc, out.as_slice(), bytes)?)
 }
 
-// In place it is whole with its last byte. Cut anywhere it is held, and then it comes out.
+// A view is complete with the last byte. Cut anywhere, the first piece is held, and the second
+// completes the packet.
 fn expect_packet(rt: &impl Abort, alloc: Global, bytes: &[u8], row: &str) -> Result<(), Fail> {
     let least = limits(64)?;
     expect_view(rt, alloc, least, bytes)?;
@@ -375,7 +374,7 @@ fn stream(alloc: Global) -> Result<Vec<u8>, Fail> {
     Ok(stream)
 }
 
-// Whether all packets are read in pieces of this size.
+// Whether all packets are read from pieces of this size.
 fn reads_pieces(way: Way, alloc: Global, stream: &[u8], size: usize) -> Result<bool, Fail> {
     let least = limits(64)?;
     let mut out = Vec::new(alloc);
@@ -385,7 +384,7 @@ fn reads_pieces(way: Way, alloc: Global, stream: &[u8], size: usize) -> Result<b
     Ok(is_read && are_encoded(alloc, out.as_slice(), stream)?)
 }
 
-// Whether they are in two pieces, with nothing between them.
+// Whether all packets are read from two pieces with an empty piece between them.
 fn reads_cut(alloc: Global, stream: &[u8], cut: usize) -> Result<bool, Fail> {
     let least = limits(64)?;
     let (front, rest) = stream.split_at_checked(cut).ok_or("too few bytes")?;
@@ -413,6 +412,7 @@ fn streams_are_read_in_pieces(rt: &impl Abort, alloc: Global) -> Result<(), Fail
     expect_stream(rt, alloc, stream.as_slice())
 }
 
+// The values of the fields, as a packet displays them.
 static LINES: [(&str, &str); 7] = [
     (
         "10 1a 00044d515454 04 ee 000a 000161 000177 000200ff 000175 000170",
@@ -432,7 +432,6 @@ static LINES: [(&str, &str); 7] = [
     ("a2 05 0002 000161", "UNSUBSCRIBE id=2 a"),
 ];
 
-// The line of the last packet.
 fn line_of_last(alloc: Global, packets: &[Packet]) -> Result<String, Fail> {
     match packets.last() {
         Some(packet) => Ok(format!(in alloc; "{}", Line(packet))?),
@@ -440,7 +439,7 @@ fn line_of_last(alloc: Global, packets: &[Packet]) -> Result<String, Fail> {
     }
 }
 
-// The line of the packet that these bytes are.
+// The line of the packet in a row.
 fn line_of(alloc: Global, row: &str) -> Result<String, Fail> {
     let greatest = limits(268_435_455)?;
     let bytes = bytes_of(alloc, row)?;
@@ -466,6 +465,7 @@ fn limits_are_from_64(rt: &impl Abort) -> Result<(), Fail> {
     Ok(())
 }
 
+// The decoder's result, the number of bytes held, and the total number of packets.
 fn answered(
     way: Way,
     alloc: Global,
@@ -482,6 +482,7 @@ fn answered(
     }
 }
 
+// The outcome of a piece, or of a reset.
 fn fed(
     way: Way,
     alloc: Global,
@@ -497,7 +498,7 @@ fn fed(
     answered(way, alloc, decoder, bytes.as_slice(), out)
 }
 
-// This comes of these pieces.
+// Expects these outcomes of the pieces.
 fn expect_fed(
     rt: &impl Abort,
     way: Way,
@@ -514,15 +515,15 @@ fn expect_fed(
 
 fn a_fault_lasts_until_reset(rt: &impl Abort, alloc: Global) -> Result<(), Fail> {
     let rows = [
-        // A PUBREL, and half a PINGREQ. Its length is wrong, and so it stays.
+        // A PUBREL, and half a PINGREQ. Its length is wrong, and the error stays.
         ("62 02 0001 c0", "1 1"),
         ("80 00", "F6 2 1"),
         ("c0 00", "F6 2 1"),
         ("", "F6 2 1"),
-        // The first half is forgotten too.
+        // The first half is dropped too.
         ("reset", "0"),
         ("c0 00", "0 2"),
-        // An incomplete packet of the greatest size.
+        // An incomplete packet of the maximum size.
         ("30 ff ff ff 7f", "5 2"),
         ("reset", "0"),
     ];
@@ -532,7 +533,7 @@ fn a_fault_lasts_until_reset(rt: &impl Abort, alloc: Global) -> Result<(), Fail>
     Ok(())
 }
 
-// This comes of these pieces of a new decoder: a PUBREL and a PINGREQ.
+// Expects these outcomes of the pieces from a new decoder: a PUBREL and a PINGREQ.
 fn expect_rows_fed(
     rt: &impl Abort,
     way: Way,
@@ -565,6 +566,7 @@ fn feed(
     Ok(())
 }
 
+// The number of bytes held, the total number of packets, and the number of bytes copied.
 fn copied(
     way: Way,
     alloc: Global,
@@ -576,7 +578,7 @@ fn copied(
     Ok(format!(in alloc; "{} {} {}", decoder.held(), out.len(), decoder.copied())?)
 }
 
-// This comes of these pieces.
+// Expects these counts after the pieces.
 fn expect_copied(
     rt: &impl Abort,
     way: Way,
@@ -601,7 +603,7 @@ fn only_what_is_left_over_is_copied(rt: &impl Abort, alloc: Global) -> Result<()
     let rows = [
         ("", "0 0 0"),
         ("c000 c000", "0 2 0"),
-        // Less than a PUBLISH; its end, a PINGREQ, and half of one.
+        // An incomplete PUBLISH; its end, a PINGREQ, and half of one.
         ("30 05 0003 61", "5 2 5"),
         ("2f62 c000 c0", "1 4 8"),
         ("", "1 4 8"),
@@ -618,7 +620,7 @@ fn only_what_is_left_over_is_copied(rt: &impl Abort, alloc: Global) -> Result<()
     Ok(())
 }
 
-// A fault at the front of these bytes, in place and as they are decoded, whatever follows it.
+// Expects a fault at the front of these bytes, in a view and from the decoder, whatever follows it.
 fn expect_front_fault(
     rt: &impl Abort,
     alloc: Global,
@@ -666,11 +668,13 @@ fn said<E: Display + Drop>(alloc: Global, error: E) -> Result<String, Fail> {
     Ok(format!(in alloc; "{error}")?)
 }
 
+// The fault of a forbidden type.
 const FIRST_BYTE: DecodeFault = DecodeFault {
     kind: ForbiddenType,
     place: 0,
 };
 
+// Errors of the decoder and their texts.
 static DECODE_ERRORS: [(DecodeError, &str); 2] = [
     (
         DecodeError::Fault(FIRST_BYTE),

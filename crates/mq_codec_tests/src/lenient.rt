@@ -1,4 +1,4 @@
-//! Remaining lengths with more bytes than they need.
+//! Remaining lengths with more bytes than necessary.
 
 use crate::decode::stepped;
 use crate::view::size_in;
@@ -10,14 +10,13 @@ use std::alloc::Global;
 use std::process::Abort;
 use std::test::Fail;
 
-// How many packets pieces have, or their fault.
+// The number of packets in the pieces, or their fault.
 fn outcome(alloc: Global, limits: Limits, pieces: &[&[u8]]) -> Result<usize, Option<DecodeFault>> {
     let mut out = Vec::new(alloc);
     let answer = decode_pieces(alloc, limits, pieces, &mut out);
     count_or_fault((answer, out.len()))
 }
 
-// How many packets arrived, or the fault.
 fn count_or_fault(
     outcome: (Result<usize, DecodeError>, usize),
 ) -> Result<usize, Option<DecodeFault>> {
@@ -28,6 +27,7 @@ fn count_or_fault(
     }
 }
 
+// The bytes after a packet of this size.
 fn behind(bytes: &[u8], size: usize) -> Result<&[u8], Option<DecodeFault>> {
     match bytes.split_at_checked(size) {
         Some((_, after)) => Ok(after),
@@ -35,7 +35,7 @@ fn behind(bytes: &[u8], size: usize) -> Result<&[u8], Option<DecodeFault>> {
     }
 }
 
-// How many packets lie whole in the bytes, or the fault that follows them.
+// The number of complete packets in the bytes, or the fault after them.
 fn viewed(limits: Limits, bytes: &[u8]) -> Result<usize, Option<DecodeFault>> {
     let mut rest = bytes;
     for count in 0..bytes.len() {
@@ -48,6 +48,7 @@ fn viewed(limits: Limits, bytes: &[u8]) -> Result<usize, Option<DecodeFault>> {
     Err(None)
 }
 
+// Expects the same outcome from views, from one piece and from every two pieces.
 fn expect(
     rt: &impl Abort,
     alloc: Global,
@@ -90,7 +91,7 @@ fn lenient_limits_take_a_last_byte_of_0(rt: &impl Abort, alloc: Global) -> Resul
     Ok(())
 }
 
-// How many bytes the next packet of a reader takes.
+// The size of a reader's next packet.
 fn size_read(alloc: Global, reader: &mut &[u8], limits: Limits) -> Option<usize> {
     match read_sized(alloc, reader, limits) {
         Ok(Some((_, size))) => Some(size),

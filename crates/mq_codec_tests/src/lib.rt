@@ -1,5 +1,4 @@
-//! Tests of the crates below the sessions: lengths and texts, topics, packets, and streams of
-//! packets.
+//! Tests of the crates below sessions: lengths and texts, topics, packets, streams of packets.
 #![tactic(auto)]
 
 #[cfg(test)]

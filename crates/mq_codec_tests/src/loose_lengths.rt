@@ -1,8 +1,9 @@
-//! Lengths with more bytes than they need.
+//! Lengths with more bytes than necessary.
 
 use mq_wire::{LengthReading, VarFault, VarStep, VarlenReader, loose_length_at};
 use std::process::Abort;
 
+// The last step of a lenient length reader over these bytes.
 fn pushed(bytes: &[u8]) -> VarStep {
     let mut reader = VarlenReader::lenient();
     for byte in bytes {

@@ -31,7 +31,7 @@ fn message(alloc: Global, topic: &str, payload: Bytes, qos: Qos) -> Result<Messa
     })
 }
 
-// A PUBLISH of quality of service 0.
+// A PUBLISH with QoS 0.
 fn publish(alloc: Global, topic: &str, payload: Bytes) -> Result<Packet, Fail> {
     let message = message(alloc, topic, payload, Qos::Q0)?;
     if message.qos != Qos::Q0 {
@@ -47,7 +47,7 @@ fn list<T: Drop>(items: Vec<T>) -> Result<NonEmpty<T>, Fail> {
     Ok(NonEmpty::from_vec(items))
 }
 
-// Whether these bytes are others behind the byte 0xff.
+// Whether `out` is the byte 0xff followed by these bytes.
 fn are_behind_a_byte(out: &[u8], bytes: &[u8]) -> bool {
     match out.split_first() {
         Some((0xff, added)) => added == bytes,
@@ -55,19 +55,21 @@ fn are_behind_a_byte(out: &[u8], bytes: &[u8]) -> bool {
     }
 }
 
-// Whether the packet adds these bytes to a byte that is there.
+// Whether the packet appends these bytes to a vector that already has one.
 fn adds(alloc: Global, packet: &Packet, bytes: &[u8]) -> Result<bool, Fail> {
     let mut out = vec![in alloc; 0xff]?;
     encode_into(packet, &mut out)?;
     Ok(are_behind_a_byte(out.as_slice(), bytes))
 }
 
+// Whether the packet has the size of these bytes, and a clone of it is encoded as them.
 fn is_encoded(alloc: Global, packet: &Packet, bytes: &[u8]) -> Result<bool, Fail> {
     let size = encoded_len(packet).ok_or("too large")?;
     let copy = packet.clone()?;
     Ok(size as usize == bytes.len() && adds(alloc, &copy, bytes)?)
 }
 
+// Like `is_encoded`, for the result of a call.
 fn is_encoded_as(alloc: Global, packet: Result<Packet, Fail>, bytes: &[u8]) -> Result<bool, Fail> {
     let packet = packet?;
     is_encoded(alloc, &packet, bytes)
@@ -101,7 +103,7 @@ fn login(alloc: Global) -> Result<Login, Fail> {
     })
 }
 
-// A CONNECT with all that it may have (3.1).
+// A CONNECT with all optional fields (3.1).
 fn whole_connect(alloc: Global) -> Result<Packet, Fail> {
     let client_id = Text::new(alloc, "a")?;
     let will = Some(will(alloc)?);
@@ -116,7 +118,7 @@ fn whole_connect(alloc: Global) -> Result<Packet, Fail> {
     Ok(Packet::Connect(BoxedConnect::new(alloc, connect)?))
 }
 
-// A CONNECT with the least.
+// A CONNECT without optional fields.
 fn least_connect(alloc: Global) -> Result<Packet, Fail> {
     let connect = Connect {
         client_id: Text::new(alloc, "a")?,
@@ -136,7 +138,7 @@ fn connect_is_encoded(rt: &impl Abort, alloc: Global) -> Result<(), Fail> {
     expect_encoded(rt, alloc, least_connect(alloc), least)
 }
 
-// A PUBLISH of quality of service 2, which may have come before.
+// A PUBLISH with QoS 2 and DUP.
 fn repeated_publish(alloc: Global) -> Result<Publish, Fail> {
     let (id, dup) = (id(1)?, true);
     let message = message(alloc, "a/b", Bytes::from_static(b"hi"), Qos::Q2)?;
@@ -157,6 +159,7 @@ fn publish_is_encoded(rt: &impl Abort, alloc: Global) -> Result<(), Fail> {
     expect_encoded(rt, alloc, repeated_packet(alloc), bytes)
 }
 
+// Whether `encode_publish_into` appends these bytes for a message with QoS 0.
 fn once_in_place(alloc: Global, bytes: &[u8]) -> Result<bool, Fail> {
     let mut out = vec![in alloc; 0xff]?;
     let message = message(alloc, "a/b", Bytes::from_static(b"hi"), Qos::Q0)?;
@@ -167,6 +170,7 @@ fn once_in_place(alloc: Global, bytes: &[u8]) -> Result<bool, Fail> {
     Ok(are_behind_a_byte(out.as_slice(), bytes))
 }
 
+// Whether it appends these bytes for a message with QoS 2 and DUP.
 fn repeated_in_place(alloc: Global, bytes: &[u8]) -> Result<bool, Fail> {
     let (id, dup) = (id(1)?, true);
     let mut out = vec![in alloc; 0xff]?;
@@ -184,7 +188,7 @@ fn a_message_that_stays_is_encoded(rt: &impl Abort, alloc: Global) -> Result<(),
     Ok(())
 }
 
-// Whether a PUBLISH shows its delivery and its message's topic.
+// Whether the accessors of a PUBLISH return its delivery and its message's topic.
 fn shows_its_parts(publish: &Publish) -> bool {
     let Some(delivery) = publish.delivery() else {
         return false;
@@ -193,14 +197,13 @@ fn shows_its_parts(publish: &Publish) -> bool {
     delivery.id.get() == 1 && delivery.dup && topic == "a/b"
 }
 
-// Whether a clone of a PUBLISH gives its message away.
+// Whether the message of a clone of a PUBLISH can be taken out.
 fn gives_its_message(publish: &Publish) -> Result<bool, Fail> {
     let copy = publish.clone()?;
     let message = copy.into_message();
     Ok(message.payload.as_slice() == b"hi".as_slice())
 }
 
-// Whether a PUBLISH has its parts in each way.
 fn has_its_parts(alloc: Global) -> Result<bool, Fail> {
     let publish = repeated_publish(alloc)?;
     Ok(shows_its_parts(&publish) && gives_its_message(&publish)?)
@@ -319,13 +322,14 @@ fn bounds_are_those_of_the_standard(rt: &impl Abort, alloc: Global) -> Result<()
     Ok(())
 }
 
+// The lengths of binary fields from 65,536 and from 65,535 bytes; `None` if the bytes are too long.
 fn binary_sizes(alloc: Global) -> Result<(Option<usize>, Option<usize>), Fail> {
     let bytes = Bytes::from_vec(vec![in alloc; 0; 65_536]?)?;
     let longest = binary_size(bytes.slice(..65_535)?);
     Ok((binary_size(bytes), longest))
 }
 
-// How many bytes a binary field of these has.
+// The length of a binary field from these bytes.
 fn binary_size(bytes: Bytes) -> Option<usize> {
     match Binary::new(bytes) {
         Some(binary) => Some(binary.as_slice().len()),
@@ -339,7 +343,7 @@ fn publish_len(alloc: Global, bytes: Bytes) -> Result<Option<u32>, Fail> {
     Ok(encoded_len(&packet))
 }
 
-// Whether it is refused as too large in each way, and the vector is unchanged.
+// Whether both encoders refuse it as too large, and the vector is unchanged.
 fn is_too_large(alloc: Global, bytes: Bytes) -> Result<bool, Fail> {
     let mut out = vec![in alloc; 0xff]?;
     let packet = publish(alloc, "a", bytes)?;
@@ -348,7 +352,7 @@ fn is_too_large(alloc: Global, bytes: Bytes) -> Result<bool, Fail> {
     Ok(encoded && written && out.as_slice() == [0xff].as_slice())
 }
 
-// The first bytes of some.
+// The first `count` bytes.
 fn first(bytes: &Bytes, count: usize) -> Result<Bytes, Fail> {
     if count > bytes.len() {
         return Err(Fail::new("too few bytes"));
@@ -356,13 +360,15 @@ fn first(bytes: &Bytes, count: usize) -> Result<Bytes, Fail> {
     Ok(bytes.slice(..count)?)
 }
 
-// The sizes of a PUBLISH with a payload that is as long as it can be, and of one with a byte more.
+// The sizes of a PUBLISH with the longest possible payload, and of one with a byte more.
 fn sizes_of_publish(alloc: Global, bytes: &Bytes) -> Result<[Option<u32>; 2], Fail> {
     let longest = publish_len(alloc, first(bytes, 268_435_452)?)?;
     let longer = publish_len(alloc, first(bytes, 268_435_453)?)?;
     Ok([longest, longer])
 }
 
+// The results for 268,435,456 bytes: both sizes, whether the second PUBLISH is refused, and whether
+// all bytes are a valid payload.
 fn greatest_in_short(alloc: Global) -> Result<String, Fail> {
     let bytes = Bytes::from_vec(vec![in alloc; 0; 268_435_456]?)?;
     let sizes = sizes_of_publish(alloc, &bytes)?;
@@ -379,7 +385,8 @@ fn a_remaining_length_has_28_bits(rt: HostRuntime) -> Result<(), Fail> {
     expect_told(rt, greatest_in_short(alloc), wanted, "")
 }
 
-// Takes a number of bytes, at most three at a time, each after an interruption, and then fails.
+// A writer with limited room. It takes at most three bytes a call, is interrupted before each, and
+// fails when it is full.
 #[derive(Drop)]
 struct Narrow {
     taken: Vec<u8>,
@@ -407,7 +414,7 @@ impl Write for Narrow {
     }
 }
 
-// How the writing of a packet ended.
+// The error of writing a packet.
 fn write_to(
     alloc: Global,
     packet: &Packet,
@@ -420,6 +427,8 @@ fn write_to(
     }
 }
 
+// The error of writing a PUBLISH to a writer with this room; `None` unless the writer took exactly
+// these bytes.
 fn written(alloc: Global, room: usize, bytes: &[u8]) -> Result<Option<ErrorKind>, Fail> {
     let mut writer = Narrow {
         taken: Vec::with_capacity(alloc, 16)?,

@@ -1,4 +1,4 @@
-//! Parts of packets that are moved out or shared.
+//! Parts of packets that are taken out or shared.
 
 use crate::compare::expect_told;
 use bytes::Bytes;
@@ -19,6 +19,7 @@ fn will(alloc: Global) -> Result<Will, Fail> {
     })
 }
 
+// Whether a will's message has the fields of the will.
 fn is_of_will(will: &Will, message: &Message) -> bool {
     let payload = message.payload.as_slice();
     message.topic == will.topic
@@ -38,6 +39,7 @@ fn a_will_is_a_message(rt: &impl Abort, alloc: Global) -> Result<(), Fail> {
     Ok(())
 }
 
+// Whether a binary field lends these bytes and returns them by value; `None` if they are too long.
 fn binary_is(bytes: &'static [u8]) -> Option<bool> {
     match Binary::new(Bytes::from_static(bytes)) {
         Some(binary) => {
@@ -48,6 +50,7 @@ fn binary_is(bytes: &'static [u8]) -> Option<bool> {
     }
 }
 
+// Like `binary_is`, for a payload.
 fn payload_is(bytes: &'static [u8]) -> Option<bool> {
     match Payload::new(Bytes::from_static(bytes)) {
         Some(payload) => {
@@ -75,6 +78,7 @@ fn boxed_connect(alloc: Global) -> Result<BoxedConnect, Fail> {
     Ok(BoxedConnect::new(alloc, connect)?)
 }
 
+// The fields of a CONNECT.
 fn connect_in_short(alloc: Global, connect: &Connect) -> Result<String, Fail> {
     let (id, clean) = (connect.client_id.as_str(), connect.clean_session);
     let (has_will, has_login) = (connect.will.is_some(), connect.login.is_some());
@@ -82,11 +86,13 @@ fn connect_in_short(alloc: Global, connect: &Connect) -> Result<String, Fail> {
     Ok(format!(in alloc; "{id} {clean} {keep_alive} {has_will} {has_login}")?)
 }
 
+// The fields of a CONNECT in a box.
 fn lent_in_short(alloc: Global) -> Result<String, Fail> {
     let boxed = boxed_connect(alloc)?;
     connect_in_short(alloc, boxed.as_connect())
 }
 
+// The fields of a CONNECT out of a cloned box.
 fn unboxed_in_short(alloc: Global) -> Result<String, Fail> {
     let boxed = boxed_connect(alloc)?;
     let connect = boxed.clone()?.into_connect();

@@ -19,11 +19,13 @@ fn filter_fault(alloc: Global, text: &str) -> Option<TopicFault> {
     TopicFilter::parse(alloc, text).err()
 }
 
+// A clone of the name, as text.
 fn copied_name(alloc: Global, name: &TopicName) -> Result<String, Fail> {
     let copy = name.clone()?;
     Ok(copy.as_str().to_string(alloc)?)
 }
 
+// The name as text, or its fault.
 fn name_in_short(alloc: Global, text: &str) -> Result<String, Fail> {
     match TopicName::parse(alloc, text) {
         Ok(name) => copied_name(alloc, &name),
@@ -31,6 +33,7 @@ fn name_in_short(alloc: Global, text: &str) -> Result<String, Fail> {
     }
 }
 
+// Texts, and the result of parsing each as a name.
 static NAMES: [(&str, &str); 13] = [
     ("a", "a"),
     ("/", "/"),
@@ -54,11 +57,13 @@ fn names_are_taken_or_refused(rt: &impl Abort, alloc: Global) -> Result<(), Fail
     Ok(())
 }
 
+// A clone of the filter, as text.
 fn copied_filter(alloc: Global, filter: &TopicFilter) -> Result<String, Fail> {
     let copy = filter.clone()?;
     Ok(copy.as_str().to_string(alloc)?)
 }
 
+// The filter as text, or its fault.
 fn filter_in_short(alloc: Global, text: &str) -> Result<String, Fail> {
     match TopicFilter::parse(alloc, text) {
         Ok(filter) => copied_filter(alloc, &filter),
@@ -66,6 +71,7 @@ fn filter_in_short(alloc: Global, text: &str) -> Result<String, Fail> {
     }
 }
 
+// Texts, and the result of parsing each as a filter.
 static FILTERS: [(&str, &str); 24] = [
     ("a", "a"),
     ("/", "/"),
@@ -107,7 +113,7 @@ fn texts_are_tested_without_memory(rt: &impl Abort) {
     assert!(rt; !is_topic_filter("") && !is_topic_filter("a+") && !is_topic_filter("#/"));
 }
 
-// The faults of 65,535 letters and then this as a name and as a filter.
+// The faults of 65,535 letters followed by this text, as a name and as a filter.
 fn faults_of_long(alloc: Global, last: &str) -> Result<[Option<TopicFault>; 2], Fail> {
     let mut text = "a".repeat(alloc, 65_535)?;
     text.push_str(last)?;
@@ -142,11 +148,13 @@ fn texts_that_pass_become_names_and_filters(rt: &impl Abort, alloc: Global) -> R
     expect_told(rt, name_and_filter(alloc), "a/b a/b", "")
 }
 
+// The code and the text of a fault.
 fn fault_in_short(alloc: Global, fault: TopicFault) -> Result<String, Fail> {
     let code = fault.code();
     Ok(format!(in alloc; "{code} {fault}")?)
 }
 
+// Each fault with its code and text.
 static FAULTS: [(TopicFault, &str); 7] = [
     (TopicFault::Empty, "N1 the text is empty"),
     (TopicFault::Nul, "N2 the text has the character U+0000"),
@@ -172,7 +180,6 @@ fn qualities_of_service_have_numbers(rt: &impl Abort) {
     assert_eq!(rt; Qos::Q1.greater(Qos::Q0), Qos::Q1);
 }
 
-// Whether a filter matches a name.
 fn is_match(alloc: Global, filter: &str, name: &str) -> Result<bool, Fail> {
     let filter = TopicFilter::parse(alloc, filter)?;
     let name = TopicName::parse(alloc, name)?;
@@ -207,13 +214,14 @@ fn filters_have_faults(rt: &impl Abort, alloc: Global) {
     assert_eq!(rt; name_fault(alloc, "a/+"), Some(TopicFault::Wildcard));
 }
 
+// The clients that a name finds in any store.
 fn found<S: FilterStore>(store: &S, name: &TopicName) -> Result<Vec<(ClientKey, Qos)>, AllocError>
     ensures { IfOk result (λ found. found.items ≡ matched name.now (S.rows store.now)) }
 {
     store.matching(name)
 }
 
-// Adds each client's number, and its quality of service.
+// Appends each client's key and QoS.
 fn add_clients(text: &mut String, clients: &[(ClientKey, Qos)]) -> Result<(), AllocError> {
     for (client, qos) in clients {
         write!(text, "{} {qos:?};", client.get())?;
@@ -221,6 +229,7 @@ fn add_clients(text: &mut String, clients: &[(ClientKey, Qos)]) -> Result<(), Al
     Ok(())
 }
 
+// The clients that a name finds in a store, in order.
 pub(crate) fn found_in_short<S: FilterStore>(
     alloc: Global,
     store: &S,
@@ -254,7 +263,7 @@ fn set<S: FilterStore>(
     Ok(())
 }
 
-// Whether there was a row to take away.
+// Whether a row was removed.
 fn remove<S: FilterStore>(
     alloc: Global,
     store: &mut S,
@@ -282,7 +291,7 @@ pub(crate) fn set_rows<S: FilterStore>(alloc: Global, store: &mut S) -> Result<(
     Ok(())
 }
 
-// These names find this.
+// Expects that these names find these clients.
 fn find<S: FilterStore>(
     rt: &impl Abort,
     alloc: Global,
@@ -295,6 +304,7 @@ fn find<S: FilterStore>(
     Ok(())
 }
 
+// Checks what names find in a store with the rows, and after one row is removed.
 fn finds_clients<S: FilterStore>(
     rt: &impl Abort,
     alloc: Global,
@@ -313,6 +323,7 @@ fn finds_clients<S: FilterStore>(
     find(rt, alloc, store, &rows)
 }
 
+// Checks a store after a row is set again, and after its client's rows are removed.
 fn sets_and_takes<S: FilterStore>(
     rt: &impl Abort,
     alloc: Global,
@@ -351,8 +362,8 @@ fn rows_are_set_and_taken_away_in_a_trie(rt: &impl Abort, alloc: Global) -> Resu
     sets_and_takes(rt, alloc, &mut store)
 }
 
-// How many nodes a trie has before its rows are set, then, and after its clients' rows are taken
-// away.
+// The number of nodes of a trie before its rows are set, with them, and after its clients' rows are
+// removed.
 fn node_counts(alloc: Global, store: &mut TrieStore) -> Result<[usize; 3], Fail> {
     let before = store.nodes();
     set_rows(alloc, store)?;
@@ -381,6 +392,8 @@ fn a_trie_has_the_nodes_of_its_rows(rt: &impl Abort, alloc: Global) -> Result<()
     Ok(())
 }
 
+// The number of nodes of a trie with this filter, the result of finding the filter's text as a
+// name, and the number of nodes after the filter is removed.
 fn levels_in_short(alloc: Global, store: &mut TrieStore, filter: &str) -> Result<String, Fail> {
     set(alloc, store, 7, filter, Qos::Q1)?;
     let nodes = store.nodes();
@@ -389,7 +402,7 @@ fn levels_in_short(alloc: Global, store: &mut TrieStore, filter: &str) -> Result
     Ok(format!(in alloc; "{nodes} {is_found} {is_removed} {}", store.nodes())?)
 }
 
-// Whether a name finds the client 7 alone, at quality of service 1.
+// Whether a name finds the client 7 alone, with QoS 1.
 fn is_found(alloc: Global, store: &TrieStore, name: &str) -> Result<bool, Fail> {
     let found = found_in_short(alloc, store, name)?;
     Ok(found.as_str() == "7 Q1;")

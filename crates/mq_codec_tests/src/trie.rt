@@ -9,7 +9,7 @@ use std::alloc::{AllocError, Global};
 use std::process::Abort;
 use std::test::Fail;
 
-// Numbers that look random.
+// A pseudorandom sequence of numbers.
 #[derive(Drop)]
 struct Numbers {
     words: Pcg32,
@@ -24,7 +24,6 @@ impl Numbers {
         self.words.next_word() % bound
     }
 
-    // A level of a filter.
     fn level(&mut self) -> &'static str {
         match self.below(6) {
             0 => "a",
@@ -36,7 +35,6 @@ impl Numbers {
         }
     }
 
-    // A quality of service.
     fn qos(&mut self) -> Qos {
         match self.below(3) {
             0 => Qos::Q0,
@@ -57,6 +55,7 @@ impl Numbers {
     }
 }
 
+// Expects that both stores find the same.
 fn find_alike(
     rt: &impl Abort,
     alloc: Global,
@@ -86,6 +85,8 @@ fn set_alike(
     trie.set(client, filter.clone()?, qos)
 }
 
+// Makes the same call, which the number selects, with a filter on both stores. Expects the same
+// result.
 fn call_with(
     rt: &impl Abort,
     numbers: &mut Numbers,
@@ -108,6 +109,7 @@ fn call_with(
     Ok(())
 }
 
+// Like `call_with`, with a generated filter if the text is a valid one.
 fn call_alike(
     rt: &impl Abort,
     numbers: &mut Numbers,
@@ -123,6 +125,7 @@ fn call_alike(
     Ok(())
 }
 
+// Makes this number of calls on both stores, and compares the results and what names find.
 fn walk(
     rt: &impl Abort,
     alloc: Global,
@@ -141,7 +144,7 @@ fn walk(
     Ok(())
 }
 
-// A value that may go to another thread, and from there to others.
+// Requires that the type is `Send`.
 fn crosses<T: Send>(_value: &T) {}
 
 fn a_trie_crosses_threads(alloc: Global) {

@@ -1,4 +1,4 @@
-//! Packets that lie in bytes.
+//! Packets borrowed from bytes.
 
 use crate::compare::expect_told;
 use crate::decode::{bytes_of, limits};
@@ -11,7 +11,7 @@ use std::alloc::{AllocError, Global};
 use std::process::Abort;
 use std::test::Fail;
 
-/// How many bytes the packet at the front takes, or its fault, `None` for an incomplete packet.
+/// The size of the packet at the front, its fault, or `None` if it is incomplete.
 pub(crate) fn size_in(limits: Limits, bytes: &[u8]) -> Result<usize, Option<DecodeFault>> {
     match view(bytes, limits) {
         View::Whole(_, size) => Ok(size),
@@ -20,8 +20,7 @@ pub(crate) fn size_in(limits: Limits, bytes: &[u8]) -> Result<usize, Option<Deco
     }
 }
 
-/// The fault of these bytes, which the last of them shows; before that they are an incomplete
-/// packet.
+/// Expects that the last of these bytes shows the fault, and that fewer bytes are incomplete.
 pub(crate) fn expect_view_fault(rt: &impl Abort, limits: Limits, bytes: &[u8], fault: DecodeFault) {
     for cut in 0..bytes.len() {
         let (front, _) = bytes.split_at(cut);
@@ -30,6 +29,7 @@ pub(crate) fn expect_view_fault(rt: &impl Abort, limits: Limits, bytes: &[u8], f
     assert!(rt; size_in(limits, bytes) == Err(Some(fault)), "{bytes:?}");
 }
 
+// Whether the owned packet of a view is encoded as the bytes.
 fn is_encoded_again(alloc: Global, limits: Limits, bytes: &[u8]) -> Result<bool, Fail> {
     let mut out = Vec::new(alloc);
     let View::Whole(lent, _) = view(bytes, limits) else {
@@ -40,13 +40,14 @@ fn is_encoded_again(alloc: Global, limits: Limits, bytes: &[u8]) -> Result<bool,
     Ok(out.as_slice() == bytes)
 }
 
+// The size of the packet at the front if other bytes follow.
 fn size_before_others(alloc: Global, limits: Limits, bytes: &[u8]) -> Result<Option<usize>, Fail> {
     let mut more = bytes.to_vec(alloc)?;
     more.extend_from_slice(b"\xc0\xff")?;
     Ok(size_in(limits, more.as_slice()).ok())
 }
 
-/// A packet, whatever follows it: its view is whole with its last byte, and gives it.
+/// Expects a packet, whatever follows it: its view is complete with its last byte.
 pub(crate) fn expect_view(
     rt: &impl Abort,
     alloc: Global,
@@ -64,6 +65,7 @@ pub(crate) fn expect_view(
     Ok(())
 }
 
+// Appends the fields of a CONNECT.
 fn add_connect(text: &mut String, fields: &ConnectFields<'_>) -> Result<(), AllocError> {
     let id = fields.client_id.as_str();
     write!(text, "{id} {} {}", fields.clean_session, fields.keep_alive)?;
@@ -82,6 +84,7 @@ fn add_connect(text: &mut String, fields: &ConnectFields<'_>) -> Result<(), Allo
     Ok(())
 }
 
+// Appends the fields of a PUBLISH.
 fn add_publish(text: &mut String, publish: &PublishView<'_>) -> Result<(), AllocError> {
     let (topic, payload) = (publish.topic(), publish.payload());
     let (qos, retain) = (publish.qos(), publish.retain());
@@ -92,6 +95,7 @@ fn add_publish(text: &mut String, publish: &PublishView<'_>) -> Result<(), Alloc
     Ok(())
 }
 
+// Appends the requests of a SUBSCRIBE.
 fn add_requests(text: &mut String, requests: &RequestsView<'_>) -> Result<(), AllocError> {
     for request in requests.iter() {
         write!(text, " {} {:?}", request.filter().as_str(), request.qos())?;
@@ -99,7 +103,7 @@ fn add_requests(text: &mut String, requests: &RequestsView<'_>) -> Result<(), Al
     Ok(())
 }
 
-// Adds the codes of a SUBACK.
+// Appends the codes of a SUBACK.
 fn add_codes(text: &mut String, codes: &CodesView<'_>) -> Result<(), AllocError> {
     for code in codes.iter() {
         write!(text, " {}", code.number())?;
@@ -107,7 +111,7 @@ fn add_codes(text: &mut String, codes: &CodesView<'_>) -> Result<(), AllocError>
     Ok(())
 }
 
-// Adds the filters of an UNSUBSCRIBE.
+// Appends the filters of an UNSUBSCRIBE.
 fn add_filters(text: &mut String, filters: &FiltersView<'_>) -> Result<(), AllocError> {
     for filter in filters.iter() {
         write!(text, " {}", filter.as_str())?;
@@ -115,6 +119,7 @@ fn add_filters(text: &mut String, filters: &FiltersView<'_>) -> Result<(), Alloc
     Ok(())
 }
 
+// Appends the borrowed parts of a view: its fields and the items of its list.
 fn add_view(text: &mut String, packet: &PacketView<'_>) -> Result<(), AllocError> {
     match packet {
         PacketView::Connect(connect) => add_connect(text, &connect.fields()),
@@ -139,6 +144,7 @@ fn add_view(text: &mut String, packet: &PacketView<'_>) -> Result<(), AllocError
     }
 }
 
+// The borrowed parts of a view of this row.
 fn lent_in(alloc: Global, row: &str) -> Result<String, Fail> {
     let greatest = limits(268_435_455)?;
     let bytes = bytes_of(alloc, row)?;
@@ -150,6 +156,7 @@ fn lent_in(alloc: Global, row: &str) -> Result<String, Fail> {
     Ok(text)
 }
 
+// The borrowed parts of views.
 static LENT: [(&str, &str); 12] = [
     ("10 0d 00044d515454 04 02 003c 000161", "a true 60"),
     (
@@ -181,7 +188,7 @@ fn views_lend_the_fields(rt: &impl Abort, alloc: Global) -> Result<(), Fail> {
     Ok(())
 }
 
-// The message of its own that a view of a PUBLISH gives.
+// The owned message of a view of a PUBLISH.
 fn message_in(alloc: Global, row: &str) -> Result<String, Fail> {
     let greatest = limits(268_435_455)?;
     let bytes = bytes_of(alloc, row)?;
@@ -194,6 +201,7 @@ fn message_in(alloc: Global, row: &str) -> Result<String, Fail> {
     Ok(format!(in alloc; "{topic} {payload:?} {qos:?} {retain}")?)
 }
 
+// The messages of PUBLISH packets.
 static MESSAGES: [(&str, &str); 3] = [
     ("31 07 0003612f62 6869", "a/b [104, 105] Q0 true"),
     ("3c 09 0003612f62 0001 6869", "a/b [104, 105] Q2 false"),
@@ -207,7 +215,7 @@ fn messages_are_owned(rt: &impl Abort, alloc: Global) -> Result<(), Fail> {
     Ok(())
 }
 
-// A request of its own, and its filter of its own.
+// An owned request, and its owned filter.
 fn owned_request(alloc: Global, request: &RequestView<'_>) -> Result<String, Fail> {
     let owned = request.owned(alloc)?;
     let filter = request.filter().owned(alloc)?;
@@ -215,7 +223,7 @@ fn owned_request(alloc: Global, request: &RequestView<'_>) -> Result<String, Fai
     Ok(format!(in alloc; "{own} {qos} {};", filter.as_str())?)
 }
 
-// The requests, each of its own.
+// The requests, each owned.
 fn owned_requests(alloc: Global, requests: &RequestsView<'_>) -> Result<String, Fail> {
     let mut text = String::new(alloc);
     for request in requests.iter() {
@@ -225,13 +233,13 @@ fn owned_requests(alloc: Global, requests: &RequestsView<'_>) -> Result<String, 
     Ok(text)
 }
 
-// How many there are in a list of its own.
+// The number of items of the owned list.
 fn owned_count(alloc: Global, requests: &RequestsView<'_>) -> Result<usize, Fail> {
     let owned = requests.owned(alloc)?;
     Ok(owned.as_slice().len())
 }
 
-// The items of a SUBSCRIBE and of a list, each a packet's part of its own.
+// The items of a SUBSCRIBE, each owned, and the number of items of the owned list.
 fn owned_in(alloc: Global, bytes: &[u8]) -> Result<String, Fail> {
     let least = limits(64)?;
     let View::Whole(PacketView::Subscribe { requests, .. }, 16) = view(bytes, least) else {

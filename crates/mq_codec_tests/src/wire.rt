@@ -7,6 +7,7 @@ use std::alloc::Global;
 use std::process::Abort;
 use std::test::Fail;
 
+// The last step of a length reader over these bytes, and the number of bytes taken.
 fn pushed(bytes: &[u8]) -> (VarStep, usize) {
     let mut reader = VarlenReader::new();
     for (i, byte) in bytes.iter().enumerate() {
@@ -18,6 +19,7 @@ fn pushed(bytes: &[u8]) -> (VarStep, usize) {
     (VarStep::More, bytes.len())
 }
 
+// Whether a length is encoded as these bytes. If it is too large, nothing may be appended.
 fn is_written_as(n: u32, bytes: &[u8]) -> bool {
     let mut out = [0xaa; 4];
     let size = put_varlen(n, &mut out);
@@ -30,8 +32,8 @@ fn is_written_as(n: u32, bytes: &[u8]) -> bool {
     }
 }
 
-// The first and the last number of each size, as the table of 2.2.3 has them, and the first one of
-// none.
+// The first and the last number of each size (the table of 2.2.3), and the first number that is too
+// large.
 fn lengths_take_one_to_four_bytes(rt: &impl Abort) {
     for (n, bytes) in [
         (0, b"\x00".as_slice()),
@@ -48,6 +50,7 @@ fn lengths_take_one_to_four_bytes(rt: &impl Abort) {
     }
 }
 
+// The results of reading an encoded length byte by byte and at once; `None` if it is too large.
 fn read_again(n: u32) -> Option<(VarStep, usize, LengthReading)> {
     let mut out = [0xaa; 4];
     let size = put_varlen(n, &mut out)?;
@@ -72,6 +75,7 @@ fn lengths_are_read_as_they_are_written(rt: &impl Abort) {
     }
 }
 
+// The results of reading the bytes one by one and at once.
 fn length_in_short(alloc: Global, bytes: &[u8]) -> Result<String, Fail> {
     let (step, taken) = pushed(bytes);
     Ok(format!(in alloc; "{step:?} {taken} {:?}", length_at(bytes))?)
@@ -97,7 +101,7 @@ fn lengths_that_are_none_are_told_apart(rt: &impl Abort, alloc: Global) -> Resul
     Ok(())
 }
 
-// The bytes of two numbers, and the second one as it is read again.
+// The bytes of two numbers, and the second number read back.
 fn numbers_in_short(alloc: Global) -> Result<String, Fail> {
     let mut out = Vec::new(alloc);
     put_number(&mut out, 10)?;
@@ -110,6 +114,7 @@ fn numbers_have_the_high_byte_first(rt: &impl Abort, alloc: Global) -> Result<()
     expect_told(rt, numbers_in_short(alloc), "[0, 10, 18, 52] 1234", "")
 }
 
+// The text at a place and the place after it, or its fault.
 fn read_at(alloc: Global, bytes: &[u8], at: usize) -> Result<String, Fail> {
     match text_at(bytes, at) {
         Ok((text, after)) => {
@@ -125,7 +130,7 @@ fn texts_are_read_where_they_stand(rt: &impl Abort, alloc: Global) -> Result<(),
         (b"\x00\x01a".as_slice(), 0, "a 3"),
         (b"\x00\x00".as_slice(), 0, " 2"),
         (b"\xff\x00\x01ab".as_slice(), 1, "a 4"),
-        // U+FEFF is a character as any other (1.5.3).
+        // U+FEFF is a valid character (1.5.3).
         (b"\x00\x03\xef\xbb\xbf".as_slice(), 0, "\u{feff} 5"),
         (b"\x00\x05A\xf0\xaa\x9b\x94".as_slice(), 0, "A\u{2a6d4} 7"),
         (b"\x00\x02a".as_slice(), 0, "Past"),
@@ -141,12 +146,14 @@ fn texts_are_read_where_they_stand(rt: &impl Abort, alloc: Global) -> Result<(),
     Ok(())
 }
 
+// The text of a clone, through its borrowed form.
 fn copied(alloc: Global, text: &Text) -> Result<String, Fail> {
     let copy = text.clone()?;
     let copy = copy.as_ref().to_text(alloc)?;
     Ok(copy.as_str().to_string(alloc)?)
 }
 
+// The text, or its fault.
 fn shown(alloc: Global, text: &str) -> Result<String, Fail> {
     match Text::new(alloc, text) {
         Ok(text) => copied(alloc, &text),
@@ -165,6 +172,7 @@ fn texts_have_no_nul(rt: &impl Abort, alloc: Global) -> Result<(), Fail> {
     Ok(())
 }
 
+// Whether a text of this number of letters, followed by this text, is returned unchanged.
 fn is_shown(alloc: Global, letters: usize, last: &str) -> Result<bool, Fail> {
     let mut text = String::new(alloc);
     for _ in 0..letters {

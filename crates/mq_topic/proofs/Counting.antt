@@ -120,7 +120,7 @@ clear_other (x ∷ xs) zero (suc i) ne = refl
 clear_other (x ∷ xs) (suc k) zero ne = refl
 clear_other (x ∷ xs) (suc k) (suc i) ne = clear_other xs k i (λ e. ne (ap (λ n. suc n) e))
 
-count_first : (x : Option Node) (xs : List (Option Node)) → count_by is_some (x ∷ xs) ≡ cond (is_some x) 1 0 + count_by is_some xs
+pub count_first : (x : Option Node) (xs : List (Option Node)) → count_by is_some (x ∷ xs) ≡ cond (is_some x) 1 0 + count_by is_some xs
 count_first x xs = sum_by-cons (λ (y : Option Node). cond (is_some y) 1 0) x xs
 
 count_clear : (xs : List (Option Node)) (k : ℕ) → count_by is_some xs ≤ 1 + count_by is_some (clear xs k)
@@ -136,10 +136,10 @@ none_count [] h = refl
 none_count (None ∷ xs) h = count_first None xs ∙ zero-add (count_by is_some xs) ∙ none_count xs (λ i. h (suc i))
 none_count (Some n ∷ xs) h = absurd (let e = h 0 in cc)
 
-abbrev number : ℕ → NodeId
+abbrev pub number : ℕ → NodeId
 number i = record { 0 = i }
 
-number_of : (k : NodeId) (i : ℕ) → Some k ≡ Some (number i) → i ≡ k.0
+pub number_of : (k : NodeId) (i : ℕ) → Some k ≡ Some (number i) → i ≡ k.0
 number_of k i e = let same : k ≡ record { 0 = i } = cc in sym (ap (λ (x : NodeId). x.0) same)
 
 counted : (t : Tree) (paths : List (List (List ℕ))) (xs : List (Option Node))

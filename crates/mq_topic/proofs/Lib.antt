@@ -21,4 +21,5 @@ pub mod StoreFacts
 pub mod Storing
 pub mod Outcomes
 pub mod Paths
+pub mod Prefixes
 pub mod Walking

@@ -6,6 +6,7 @@ pub mod LevelNumber
 pub mod Match
 pub mod Matching
 pub mod NodeView
+pub mod Prefixes
 pub mod Qos
 pub mod Rows
 pub mod StoreLaws

@@ -1,7 +1,8 @@
 //! Interned texts of levels.
 
-ghost use Rattle.std.specs.Prelude.{◌≡◌, IfOk};
+ghost use Rattle.std.specs.Prelude.{◌≡◌, ◌<◌, ◌≤◌, All, IfOk, length};
 ghost use Rattle.std.specs.Arc.{arc_str_bytes};
+ghost use Rattle.std.specs.HashMap.{hash_map_len, values};
 
 use crate::level_map::level_number;
 use std::alloc::{AllocError, Global};
@@ -20,6 +21,8 @@ const LONGEST: usize = 64;
 pub(crate) struct LevelTexts {
     alloc: Global,
     texts: HashMap<u64, ArcStr>,
+    ghost few: { hash_map_len texts ≤ 4096 },
+    ghost short: { All (λ text. length (arc_str_bytes text) ≤ 64) (values texts) },
 }
 
 impl LevelTexts {
@@ -48,12 +51,20 @@ impl LevelTexts {
         Ok(text)
     }
 
-    // Interns a text in place of another with the same number. Removes all others if there are too
-    // many.
-    fn keep(&mut self, number: u64, text: ArcStr) -> Result<(), AllocError> {
+    // Removes all interned texts if no further one may be kept.
+    fn make_room(&mut self)
+        ensures { hash_map_len self.new.texts < 4096 }
+    {
         if self.texts.len() >= MOST {
             self.texts.clear();
         }
+    }
+
+    // Interns a text in place of another with the same number.
+    fn keep(&mut self, number: u64, text: ArcStr) -> Result<(), AllocError>
+        requires { length (arc_str_bytes text) ≤ 64 }
+    {
+        self.make_room();
         self.texts.insert(number, text)?;
         Ok(())
     }

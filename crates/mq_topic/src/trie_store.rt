@@ -1,9 +1,10 @@
 //! The store of subscriptions that finds them by walking a name.
 
-ghost use Rattle.std.specs.Prelude.{◌≡◌, ◌+◌, ◌≤◌, ℕ, [], List, None, IfOk, OnOk, OnErr, is_some, length, sum_by, IsTrue};
+ghost use Rattle.std.specs.Prelude.{◌≡◌, ◌+◌, ◌-◌, ◌^◌, ◌≤◌, ℕ, [], List, None, IfOk, OnOk, OnErr, is_some, length, min, sum_by, IsTrue};
 ghost use Rattle.std.specs.Cmp.Lexicographic.{slice_cmp};
 ghost use Rattle.std.specs.FinMap.{find, is_sorted};
 ghost use Rattle.std.specs.Ordering.{nat_cmp};
+ghost use Rattle.mq_topic.specs.Prefixes.{PrefixCount};
 ghost use Rattle.mq_topic.specs.Rows.{IsAscending, IsMatched, Row, matched, row_qos, with_row, without_client, without_row};
 ghost use Rattle.mq_topic.specs.Topic.{levels};
 ghost use Rattle.mq_topic.specs.Tree.{IsLinked, IsTrieOf, Leads, RowMap, row_with, without, without_all};
@@ -57,9 +58,11 @@ impl TrieStore {
         }
     }
 
-    /// How many nodes the trie has: at most the root, and one for each level of each row's filter.
+    /// The number of nodes of the trie: the root, and one for each distinct prefix of the levels of
+    /// its rows' filters.
     pub fn nodes(&self) -> usize
-        ensures { result ≤ 1 + sum_by (λ row. length (levels row.0.1)) self.now }
+        ensures count { (count : ℕ) × PrefixCount self.now count × (result ≡ min (1 + count) (2 ^ 64 - 1)) }
+        ensures bound { result ≤ 1 + sum_by (λ row. length (levels row.0.1)) self.now }
     {
         self.trie.len().saturating_add(1)
     }

@@ -1,4 +1,4 @@
-//! Packets that are read from readers.
+//! Packets read from readers.
 
 use crate::decode::rows::PACKETS;
 use crate::decode::{bytes_of, encoded, limits};
@@ -10,8 +10,8 @@ use std::io::{ErrorKind, Read};
 use std::process::Abort;
 use std::test::Fail;
 
-// A reader of these bytes that returns at most `most` at a time and fails after some calls. Every
-// other call is interrupted.
+// A reader of these bytes. Each call returns a limited number of bytes, every other call is
+// interrupted, and all calls after a limited number fail.
 #[derive(Drop)]
 struct Slow<'a> {
     bytes: &'a [u8],
@@ -63,6 +63,7 @@ fn is_encoded(alloc: Global, packet: &Packet, bytes: &[u8]) -> Result<bool, Fail
     Ok(out.as_slice() == bytes)
 }
 
+// Whether the next packet is encoded as these bytes, and the reader has taken no further ones.
 fn reads(alloc: Global, reader: &mut Slow<'_>, bytes: &[u8]) -> Result<bool, Fail> {
     let least = limits(64)?;
     let left = reader.bytes.len().checked_sub(bytes.len());
@@ -73,18 +74,18 @@ fn reads(alloc: Global, reader: &mut Slow<'_>, bytes: &[u8]) -> Result<bool, Fai
     }
 }
 
+// Like `reads`, for a row.
 fn reads_row(alloc: Global, reader: &mut Slow<'_>, row: &str) -> Result<bool, Fail> {
     let bytes = bytes_of(alloc, row)?;
     reads(alloc, reader, bytes.as_slice())
 }
 
-// Whether the reader is at its end.
 fn is_at_end(alloc: Global, reader: &mut Slow<'_>) -> Result<bool, Fail> {
     let least = limits(64)?;
     Ok(matches!(read_packet(alloc, reader, least), Ok(None)))
 }
 
-// The reader gives each packet, and then none.
+// Expects each packet from the reader, and then its end.
 fn expect_packets(rt: &impl Abort, alloc: Global, reader: &mut Slow<'_>) -> Result<(), Fail> {
     for row in PACKETS {
         assert!(rt; reads_row(alloc, reader, row)?, "{row}");
@@ -103,6 +104,7 @@ fn reads_each_packet_and_no_more(rt: &impl Abort, alloc: Global) -> Result<(), F
     Ok(())
 }
 
+// The number of bytes 7 in a PUBLISH's payload; `None` for another packet.
 fn sevens_in(packet: &Packet) -> Option<usize> {
     match packet {
         Packet::Publish(publish) => {
@@ -113,6 +115,7 @@ fn sevens_in(packet: &Packet) -> Option<usize> {
     }
 }
 
+// The number of bytes 7 in the packet that is read, and the number of bytes left in the reader.
 fn sevens_read(
     alloc: Global,
     bytes: &[u8],
@@ -126,7 +129,7 @@ fn sevens_read(
     }
 }
 
-// PUBLISH with 20,000 bytes after its topic, and a byte behind it.
+// A PUBLISH with 20,000 bytes after its topic, and a byte behind it.
 fn large_publish(alloc: Global) -> Result<Vec<u8>, Fail> {
     let mut bytes = bytes_of(alloc, "30 a5 9c 01 0003 612f62")?;
     bytes.resize(9 + 20_000, 7)?;
@@ -143,14 +146,14 @@ fn a_large_payload_is_read(rt: &impl Abort, alloc: Global) -> Result<(), Fail> {
     Ok(())
 }
 
-// Whether a reader of these bytes ends within a packet.
+// Whether a reader of these bytes ends inside a packet.
 fn ends_within(alloc: Global, bytes: &[u8]) -> Result<bool, Fail> {
     let least = limits(64)?;
     let mut reader = Slow::new(bytes, 2, 1000);
     Ok(matches!(read_packet(alloc, &mut reader, least), Err(ReadError::Cut)))
 }
 
-// A reader of a row that is cut ends within its packet.
+// Expects that a reader of each proper prefix of a row ends inside its packet.
 fn expect_cuts(rt: &impl Abort, alloc: Global, row: &str) -> Result<(), Fail> {
     let bytes = bytes_of(alloc, row)?;
     for cut in 1..bytes.len() {
@@ -167,7 +170,7 @@ fn a_reader_may_end_within_a_packet(rt: &impl Abort, alloc: Global) -> Result<()
     Ok(())
 }
 
-// The fault that a reader of these bytes shows.
+// The fault of reading a row.
 fn fault_read(alloc: Global, row: &str) -> Result<DecodeFault, Fail> {
     let least = limits(64)?;
     let bytes = bytes_of(alloc, row)?;
@@ -190,7 +193,7 @@ fn a_reader_may_have_no_packet(rt: &impl Abort, alloc: Global) -> Result<(), Fai
     Ok(())
 }
 
-// Adds the packets that a reader gives, up to its error.
+// Appends the packets of a reader up to its error, and returns the error.
 fn read_up_to_error(
     alloc: Global,
     reader: &mut Slow<'_>,
@@ -208,12 +211,14 @@ fn read_up_to_error(
     Err("there are too many packets".into())
 }
 
-// Whether these bytes begin as the packets are written.
+// Whether these bytes begin with the encoding of the packets.
 fn begin_with(alloc: Global, bytes: &[u8], packets: &[Packet]) -> Result<bool, Fail> {
     let encoded = encoded(alloc, packets)?;
     Ok(bytes.starts_with(encoded.as_slice()))
 }
 
+// The error of a reader that fails after a number of calls, and the number of complete packets
+// before it; `None` if these are other packets.
 fn failed_after(
     alloc: Global,
     bytes: &[u8],
@@ -226,7 +231,7 @@ fn failed_after(
     Ok((kind, are_those.then_some(packets.len())))
 }
 
-// A reader that fails gives its error, or the packets that were whole before.
+// Expects that a failing reader returns its error, or the packets that were complete before.
 fn expect_failures(rt: &impl Abort, alloc: Global, all: &[u8]) -> Result<Option<usize>, Fail> {
     let mut whole = None;
     for calls in 0..all.len() {

@@ -31,10 +31,10 @@ pub(super) const CODES: &[(FaultKind, &str)] = &[
     (BytesLeft, "F20"),
 ];
 
-/// Packets that are right.
+/// Valid packets.
 pub(super) const PACKETS: &[&str] = &[
-    // CONNECT: the least, one as it is usual, and with all that there may be. A password and a
-    // message are any bytes.
+    // CONNECT: the shortest, a typical one, and one with all fields. A password and a message are
+    // arbitrary bytes.
     "10 0c 00044d515454 04 00 0000 0000",
     "10 0d 00044d515454 04 02 003c 000161",
     "10 1a 00044d515454 04 ee 000a 000161 000177 000200ff 000175 000170",
@@ -49,7 +49,7 @@ pub(super) const PACKETS: &[&str] = &[
     "20 02 00 03",
     "20 02 00 04",
     "20 02 00 05",
-    // PUBLISH: each quality of service, DUP, RETAIN, no payload, one that ends as a packet begins.
+    // PUBLISH: each QoS, DUP, RETAIN, no payload, and a payload that looks like a packet.
     "30 07 0003612f62 6869",
     "30 05 0003612f62",
     "31 03 000161",
@@ -58,7 +58,7 @@ pub(super) const PACKETS: &[&str] = &[
     "3a 06 000174 0100 c0",
     "3c 09 0003612f62 0001 6869",
     "3d 07 000174 0001 c000",
-    // A topic of U+FEFF, and of the last character before the surrogates.
+    // The topic U+FEFF, and the last character before the surrogates.
     "30 05 0003efbbbf",
     "30 05 0003ed9fbf",
     // Acknowledgements.
@@ -81,9 +81,9 @@ pub(super) const PACKETS: &[&str] = &[
     "e0 00",
 ];
 
-/// Packets whose last byte shows a fault of their fields: its kind and its place.
+/// Packets whose last byte shows a fault of their fields, with its kind and its place.
 pub(super) const FIELD_FAULTS: &[(&str, FaultKind, usize)] = &[
-    // ---- CONNECT: each field goes past the end.
+    // ---- CONNECT: each field extends past the end.
     ("10 00", PastEnd, 2),
     ("10 01 00", PastEnd, 2),
     ("10 02 0004", PastEnd, 2),
@@ -128,7 +128,7 @@ pub(super) const FIELD_FAULTS: &[(&str, FaultKind, usize)] = &[
         PastEnd,
         23,
     ),
-    // Texts that are not UTF-8: a byte of no kind, a surrogate, more bytes than needed, too few.
+    // Texts that are not UTF-8: an invalid byte, a surrogate, an overlong form, a truncated form.
     ("10 06 00044d5154ff", NotUtf8, 2),
     ("10 0d 00044d515454 04 02 003c 0001ff", NotUtf8, 12),
     ("10 0f 00044d515454 04 02 003c 0003eda080", NotUtf8, 12),
@@ -151,8 +151,7 @@ pub(super) const FIELD_FAULTS: &[(&str, FaultKind, usize)] = &[
     ("10 07 00044d515454 05", ProtocolLevel, 8),
     ("10 07 00044d515454 84", ProtocolLevel, 8),
     ("10 0d 00044d515454 05 02 003c 000161", ProtocolLevel, 8),
-    // The flags: bit 0; will bits without a will, one by one; quality of service 3; a password
-    // without a user name.
+    // The flags: bit 0; each will bit without a will; QoS 3; a password without a user name.
     ("10 0d 00044d515454 04 03 003c 000161", ForbiddenFlags, 9),
     ("10 08 00044d515454 04 01", ForbiddenFlags, 9),
     ("10 08 00044d515454 04 0a", ForbiddenFlags, 9),
@@ -178,7 +177,7 @@ pub(super) const FIELD_FAULTS: &[(&str, FaultKind, usize)] = &[
         NotTopicName,
         15,
     ),
-    // Bytes left over, after each last field.
+    // Bytes after each last field.
     ("10 0e 00044d515454 04 02 003c 000161 00", BytesLeft, 15),
     ("10 0f 00044d515454 04 02 003c 000161 0000", BytesLeft, 15),
     (
@@ -201,7 +200,7 @@ pub(super) const FIELD_FAULTS: &[(&str, FaultKind, usize)] = &[
         BytesLeft,
         25,
     ),
-    // The first bad field counts.
+    // The first invalid field counts.
     ("10 08 00044d515455 05 03", ProtocolName, 2),
     ("10 08 00044d515454 05 03", ProtocolLevel, 8),
     ("10 0d 00044d515454 04 01 003c 0001ff", ForbiddenFlags, 9),

@@ -1,4 +1,4 @@
-//! Packets that are taken out of pieces, all at once and one at a time.
+//! Packets taken out of pieces, all at once and one at a time.
 
 use mq_decode::{DecodeError, Decoder, Limits};
 use mq_packet::Packet;
@@ -29,6 +29,7 @@ impl Way {
         }
     }
 
+    /// Takes the packets of pieces of this size. Returns the number of bytes held at the end.
     pub(crate) fn take_pieces(
         self,
         decoder: &mut Decoder,
@@ -43,7 +44,7 @@ impl Way {
     }
 }
 
-// Takes the packets of a piece one after another; each takes a byte of it at least.
+// Takes the packets of a piece one after another. Each uses at least one byte of it.
 fn take_each(
     decoder: &mut Decoder,
     piece: &[u8],
@@ -63,7 +64,7 @@ fn take_each(
     Ok(())
 }
 
-// Takes the packets of each piece one after another: how many bytes are held at the end.
+// Takes the packets of each piece one after another. Returns the number of bytes held at the end.
 fn step_through(
     decoder: &mut Decoder,
     pieces: &[&[u8]],
@@ -75,6 +76,7 @@ fn step_through(
     Ok(decoder.held())
 }
 
+/// The result of taking the packets of the pieces one at a time, and their number.
 pub(crate) fn stepped(
     alloc: Global,
     limits: Limits,
@@ -86,6 +88,7 @@ pub(crate) fn stepped(
     (answer, out.len())
 }
 
+/// Like `stepped`, byte by byte.
 pub(crate) fn stepped_by_bytes(
     alloc: Global,
     limits: Limits,

@@ -1,9 +1,7 @@
-use Rattle.std.proofs.Common.{◌≡◌, ◌∷◌, [], Option, ap, subst, ◌∙◌, ◌↔◌}
-use Rattle.mq_topic.specs.Found.{Among, Finds, Gathers, IsAt, Steps}
+use Rattle.std.proofs.Common.{◌∷◌, [], ap, subst, ◌∙◌}
+use Rattle.mq_topic.specs.Found.{Finds}
 use Rattle.mq_topic.specs.Matching.{levels_left}
-use Rattle.mq_topic.specs.TrieView.{child_of, tree}
-use Rattle.mq_topic.specs.declared.trie_nodes.NodeId.{NodeId}
-use Rattle.mq_topic.proofs.Gathering.{Holds}
+use Rattle.mq_topic.specs.TrieView.{tree}
 use Rattle.mq_topic.proofs.Outcomes.{when_ok}
 use Rattle.mq_topic.proofs.Walking.{IsWalked, walk_begins, walk_ends, walk_level, walk_rest}
 use Rattle.mq_topic.proofs.trie_walk.walk.Goals as goal
