@@ -47,7 +47,7 @@ impl Model for TrieStore {
 }
 
 impl TrieStore {
-    /// A store without rows, which takes no memory until one is set.
+    /// A store without rows. Allocates when the first row is set.
     pub fn new(alloc: Global) -> TrieStore
         ensures { result ≡ [] }
     {
