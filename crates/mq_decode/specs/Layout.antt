@@ -1,9 +1,11 @@
 -- The fields of each type of packet in order (chapter 3), and the first invalid one.
-use Rattle.std.specs.Prelude.{◌≡◌, ℕ, zero, suc, ◌+◌, ◌*◌, ◌<◌, Bool, true, false, List, [], ◌∷◌, ◌++◌, length, Option, Some, None, Ok, ◌⊎◌}
+use Rattle.std.specs.Prelude.{◌≡◌, ℕ, zero, suc, ◌+◌, ◌*◌, ◌<◌, Bool, true, false, List, [], ◌∷◌, ◌++◌, length, Option, Some, None, Ok, ◌⊎◌, nat_lt, if◌then◌else◌}
+use Rattle.std.specs.Str.{is_utf8}
 use Rattle.mq_wire.specs.Bytes.{AreBytes}
 use Rattle.mq_wire.specs.Length.{LengthUnder}
 use Rattle.mq_wire.specs.Number.{number}
-use Rattle.mq_wire.specs.Text.{Text, counted}
+use Rattle.mq_wire.specs.Text.{Text, counted, has_nul}
+use Rattle.mq_wire.specs.TextReading.{text_bytes, text_end}
 use Rattle.mq_topic.specs.declared.qos.Qos.{Qos}
 use Rattle.mq_topic.specs.declared.qos.Qos.TheVariants.{Q0, Q1, Q2}
 use Rattle.mq_topic.specs.Qos.{qos_number}
@@ -15,6 +17,7 @@ use Rattle.mq_packet.specs.Identifier.{IsIdentifier}
 use Rattle.mq_packet.specs.Encoding.{bit}
 use Rattle.mq_packet.specs.Values.{IsBinary}
 use Rattle.mq_decode.specs.declared.fault.FaultKind.{FaultKind}
+use Rattle.mq_decode.specs.declared.fault.FaultKind.TheVariants.{PastEnd, NotUtf8, Nul, ProtocolName, ProtocolLevel, ForbiddenFlags, NotTopicName, NotTopicFilter, ZeroIdentifier, ForbiddenCode, EmptyList, BytesLeft}
 use Rattle.mq_decode.specs.declared.flags.ConnectFlags.{ConnectFlags}
 use Rattle.mq_decode.specs.declared.flags.WillFlags.{WillFlags}
 use Rattle.mq_decode.specs.declared.kind.Kind.{Kind}
@@ -154,19 +157,61 @@ Layout kinds.PingReq fields = fields ≡ End ∷ []
 Layout kinds.PingResp fields = fields ≡ End ∷ []
 Layout kinds.Disconnect fields = fields ≡ End ∷ []
 
+-- ---- The kind of a field's fault
+
+-- The fault of a text at the front of these bytes: it extends past the end, it is not UTF-8, it
+-- contains U+0000; otherwise this one.
+abbrev pub text_fault_or : FaultKind → List ℕ → FaultKind
+text_fault_or own after =
+    if nat_lt (length after) 2 then PastEnd else
+    (if nat_lt (length after) (text_end after 0) then PastEnd else
+    (if is_utf8 (text_bytes after 0) then (if has_nul (text_bytes after 0) then Nul else own) else NotUtf8))
+
+-- The fault of a field of one byte: the byte is missing; otherwise this one.
+abbrev pub byte_fault_or : FaultKind → List ℕ → FaultKind
+byte_fault_or own [] = PastEnd
+byte_fault_or own (b ∷ after) = own
+
+-- The fault of the first field of an item: the list has no item; otherwise this one.
+abbrev pub item_fault_or : FaultKind → List ℕ → FaultKind
+item_fault_or own [] = EmptyList
+item_fault_or own (b ∷ after) = own
+
+-- The fault of a field that is invalid at the front of these bytes. A payload always is valid.
+abbrev pub fault_of : Field → List ℕ → FaultKind
+fault_of Number after = PastEnd
+fault_of Identifier after = if nat_lt (length after) 2 then PastEnd else ZeroIdentifier
+fault_of AText after = text_fault_or Nul after
+fault_of Name after = text_fault_or NotTopicName after
+fault_of Filter after = item_fault_or (text_fault_or NotTopicFilter after) after
+fault_of Binary after = PastEnd
+fault_of Protocol after = text_fault_or ProtocolName after
+fault_of Level after = byte_fault_or ProtocolLevel after
+fault_of (Flags flags) after = byte_fault_or ForbiddenFlags after
+fault_of (Present present) after = byte_fault_or ForbiddenFlags after
+fault_of (Returned present) after = byte_fault_or ForbiddenCode after
+fault_of Requested after = byte_fault_or ForbiddenCode after
+fault_of Granted after = item_fault_or ForbiddenCode after
+fault_of Payload after = PastEnd
+fault_of End after = BytesLeft
+
 -- `front` is the fields before the first invalid one: some layout continues behind them, and none
--- with a field that is valid there.
-pub record FirstBad (layout : List Field → Type 0) (front after : List ℕ) : Type 0 where
+-- with a field that is valid there. The fault is that of the next field, which is the end only if
+-- no other field may come.
+pub record FirstBad (layout : List Field → Type 0) (front after : List ℕ) (kind : FaultKind) : Type 0 where
   pub before : List Field
   pub right : Laid before front
   pub next : Field
   pub more : List Field
   pub goes_on : layout (before ++ next ∷ more)
   pub wrong : (field : Field) (others : List Field) → layout (before ++ field ∷ others) → Stands field after → ⊥
+  pub fault : kind ≡ fault_of next after
+  pub only : next ≡ End
+      → (field : Field) (others : List Field) → layout (before ++ field ∷ others) → field ≡ End
 
--- a packet whose header is right and that is whole begins b, and at this place is the first of its
--- fields that is not of its kind
-pub record BadFieldAt (limits : Bounds) (b : List ℕ) (place : ℕ) : Type 0 where
+-- `b` begins with a complete packet whose header is valid. Its first invalid field is at this
+-- place, and has this kind of fault.
+pub record BadFieldAt (limits : Bounds) (b : List ℕ) (k : FaultKind) (place : ℕ) : Type 0 where
   pub first : ℕ
   pub len : List ℕ
   pub front : List ℕ
@@ -176,9 +221,11 @@ pub record BadFieldAt (limits : Bounds) (b : List ℕ) (place : ℕ) : Type 0 wh
   pub kind : Kind
   pub right : kind_at first ≡ Ok kind
   pub formed : LengthUnder limits.lenient (length (front ++ after)) len
-  pub bad : FirstBad (Layout kind) front after
+  pub bad : FirstBad (Layout kind) front after k
   pub here : place ≡ 1 + length len + length front
 
 -- The fault of a field is that of the first invalid field.
 abbrev pub FaultyFields : Type 0
-FaultyFields = (limits : Bounds) (b : List ℕ) (k : FaultKind) (place : ℕ) → AreBytes b → FieldFault limits b k place → BadFieldAt limits b place
+FaultyFields =
+    (limits : Bounds) (b : List ℕ) (k : FaultKind) (place : ℕ)
+    → AreBytes b → FieldFault limits b k place → BadFieldAt limits b k place

@@ -11,9 +11,10 @@ pub record State : Type 0 where
   pub failed : Option DecodeError
   pub copied : ℕ
 
--- The held bytes, a lower bound on the missing bytes of their packet (0 if unknown), and the number
--- of bytes copied.
+-- The held bytes, a lower bound on the missing bytes of their packet (0 if unknown), the number of
+-- bytes copied, and the capacity of the buffer.
 pub record HeldBytes : Type 0 where
   pub bytes : List ℕ
   pub wants : ℕ
   pub copied : ℕ
+  pub capacity : ℕ

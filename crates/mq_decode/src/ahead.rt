@@ -41,7 +41,8 @@ fn share_ahead(
     ahead: &mut Bytes,
 ) -> Result<Bytes, AllocError>
     requires { size ≤ length bytes.now }
-    ensures { IfOk result (λ b. b ≡ take size bytes.now) }
+    ensures front { IfOk result (λ b. b ≡ take size bytes.now) }
+    ensures few { length ahead.old ≤ 1024 → length ahead.new ≤ 1024 }
 {
     let (front, _) = bytes.split_at(size);
     if !begins_with(ahead, front) {
@@ -54,6 +55,7 @@ fn share_ahead(
 // Skips the first `size` bytes in the copy of the bytes ahead, if it begins with them.
 fn pass_ahead(size: usize, bytes: &[u8], ahead: &mut Bytes)
     requires { size ≤ length bytes.now }
+    ensures few { length ahead.old ≤ 1024 → length ahead.new ≤ 1024 }
 {
     let (front, _) = bytes.split_at(size);
     if begins_with(ahead, front) {
@@ -73,6 +75,7 @@ pub(crate) fn take_publish(
 ) -> Option<(Publish, usize)>
     ensures within { IfSome result (λ x. x.1 ≤ length bytes.now) }
     ensures packet { IfSome result (λ x. ReadsWithin limits (packets.Publish x.0) (take x.1 bytes.now)) }
+    ensures few { length ahead.old ≤ 1024 → length ahead.new ≤ 1024 }
 {
     number_laws();
     text_laws();
@@ -127,6 +130,7 @@ fn short_front(limits: Limits, bytes: &[u8]) -> Option<(PacketView<'_>, usize)>
 fn take_short(limits: Limits, bytes: &[u8], ahead: &mut Bytes) -> Option<(Packet, usize)>
     ensures within { IfSome result (λ x. x.1 ≤ length bytes.now) }
     ensures packet { IfSome result (λ x. ReadsWithin limits x.0 (take x.1 bytes.now)) }
+    ensures few { length ahead.old ≤ 1024 → length ahead.new ≤ 1024 }
 {
     number_laws();
     text_laws();
@@ -147,6 +151,8 @@ fn front_ahead(
 ) -> Result<Option<(Packet, usize)>, DecodeError>
     ensures front { IsFront limits bytes.now result }
     ensures some { IfOk result (λ o. IfSome o (λ x. 0 < x.1)) }
+    ensures few { length ahead.old ≤ 1024 → length ahead.new ≤ 1024 }
+    ensures gone { IfOk result (λ o. IfNone o (ahead.new ≡ [])) }
 {
     pending_is_short();
     reads_again();
@@ -189,8 +195,11 @@ fn take_found(
         (held.new.copied ≡ counted_more held.old.copied (length piece.now))) }
     ensures wants { OnOk result (Wants limits held.new.bytes held.new.wants) }
     ensures err { IfErr result (λ e. IsFront limits (held.old.bytes ++ piece.now) (Err e)) }
+    ensures few { length ahead.old ≤ 1024 → length ahead.new ≤ 1024 }
+    ensures gone { IfOk result (λ o. IfNone o (ahead.new ≡ [])) }
 {
     if !held.is_empty() {
+        *ahead = Bytes::new();
         return fill_up(alloc, limits, held, piece);
     }
     match front_ahead(alloc, limits, piece, ahead)? {
@@ -229,12 +238,15 @@ pub(crate) fn take_next(
         (held.new.copied ≡ counted_more held.old.copied (length piece.now))) }
     ensures wants { OnOk result (Wants limits held.new.bytes held.new.wants) }
     ensures err { IfErr result (λ e. IsFront limits (held.old.bytes ++ piece.now) (Err e)) }
+    ensures few { length ahead.old ≤ 1024 → length ahead.new ≤ 1024 }
+    ensures gone { IfOk result (λ o. IfNone o (ahead.new ≡ [])) }
 {
     if held.gets_nothing(piece) {
         *ahead = Bytes::new();
         return Ok(None);
     }
     if held.wants_over(piece) {
+        *ahead = Bytes::new();
         held.hold(piece)?;
         return Ok(None);
     }

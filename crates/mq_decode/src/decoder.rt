@@ -33,7 +33,7 @@ pub struct Decoder {
 }
 
 impl Model for Decoder {
-    ghost use Rattle.std.specs.Prelude.{◌≡◌, [], IfSome};
+    ghost use Rattle.std.specs.Prelude.{◌≡◌, ◌≤◌, [], length, IfSome};
     ghost use Rattle.mq_decode.specs.State.{State};
     ghost use Rattle.mq_decode.specs.Grammar.{Pending, Wants};
 
@@ -50,6 +50,9 @@ impl Model for Decoder {
       pending : Pending d.limits d.held.bytes;
       wants : Wants d.limits d.held.bytes d.held.wants;
       gone : IfSome d.failed (λ _. d.held.bytes ≡ []);
+      few : length d.ahead ≤ 1024;
+      dropped : IfSome d.failed (λ _. d.ahead ≡ []);
+      small : IfSome d.failed (λ _. d.held.capacity ≤ 4096);
     } };
 }
 
@@ -100,6 +103,7 @@ impl Decoder {
         match take_in(self.alloc, self.limits, &mut self.held, piece, out) {
             Ok(()) => Ok(()),
             Err(error) => {
+                self.ahead = Bytes::new();
                 stop(self.alloc, &mut self.held, &mut self.failed, error);
                 Err(error)
             }
@@ -219,6 +223,7 @@ fn stop(alloc: Global, held: &mut Held, failed: &mut Option<DecodeError>, error:
     ensures held { held.new.bytes ≡ [] }
     ensures wants { held.new.wants ≡ 0 }
     ensures copied { held.new.copied ≡ held.old.copied }
+    ensures small { held.new.capacity ≤ 4096 }
     ensures failed { failed.new ≡ Some error }
 {
     held.clear(alloc);

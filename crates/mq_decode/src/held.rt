@@ -14,8 +14,8 @@ use std::marker::Model;
 /// The most memory that a buffer without bytes keeps for the next packet.
 const KEPT: usize = 4096;
 
-/// The bytes of the packet that is not whole, how many more it wants at least, as far as that was
-/// asked, and how many bytes were ever put here. Contracts see all three.
+/// The bytes of the incomplete packet, a lower bound on the missing ones if it is known, and the
+/// number of bytes ever held. Contracts also see the capacity of the buffer.
 #[derive(Debug, Drop)]
 pub(crate) struct Held {
     bytes: Vec<u8>,
@@ -28,7 +28,14 @@ impl Model for Held {
 
     ghost Value = { HeldBytes };
 
-    ghost view = { λ h. record { bytes = h.bytes.items; wants = h.wants; copied = h.copied } };
+    ghost use Rattle.std.specs.Prelude.{vec_capacity};
+
+    ghost view = { λ h. record {
+      bytes = h.bytes.items;
+      wants = h.wants;
+      copied = h.copied;
+      capacity = vec_capacity h.bytes;
+    } };
 }
 
 impl Held {
@@ -37,6 +44,7 @@ impl Held {
         ensures bytes { result.bytes ≡ [] }
         ensures wants { result.wants ≡ 0 }
         ensures copied { result.copied ≡ 0 }
+        ensures small { result.capacity ≤ 4096 }
     {
         Held {
             bytes: Vec::new(alloc),
@@ -179,6 +187,7 @@ impl Held {
         ensures bytes { self.new.bytes ≡ [] }
         ensures wants { self.new.wants ≡ 0 }
         ensures copied { self.new.copied ≡ self.old.copied }
+        ensures small { self.new.capacity ≤ 4096 }
     {
         if self.bytes.capacity() > KEPT {
             self.bytes = Vec::new(alloc);
@@ -193,6 +202,7 @@ impl Held {
         ensures bytes { self.new.bytes ≡ [] }
         ensures wants { self.new.wants ≡ 0 }
         ensures copied { self.new.copied ≡ 0 }
+        ensures small { self.new.capacity ≤ 4096 }
     {
         self.clear(alloc);
         self.copied = 0;

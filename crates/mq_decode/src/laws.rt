@@ -49,7 +49,9 @@ pub fn reads_on()
 {}
 
 /// The fault of a field is that of the first invalid field: the fields before it are valid, in the
-/// order of the packet's type (chapter 3), and no field that may come next is valid there.
+/// order of the packet's type (chapter 3), and no field that may come next is valid there. Its kind
+/// is `PastEnd` if the field extends past the packet's end, `NotUtf8` or `Nul` if its text is
+/// invalid, and otherwise the kind of the field.
 pub fn faulty_fields()
     ensures { FaultyFields }
 {

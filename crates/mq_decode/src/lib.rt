@@ -30,7 +30,9 @@ pub use crate::decoder::{Decoder, decode_pieces};
 pub use crate::fault::{DecodeError, DecodeFault, FaultKind};
 pub use crate::fields::{BinaryView, FilterView};
 pub use crate::front::view;
-pub use crate::laws::{each_reads, one_reading, pending_is_short, reads_again, reads_on};
+pub use crate::laws::{
+    each_reads, faulty_fields, one_reading, pending_is_short, reads_again, reads_on,
+};
 pub use crate::limits::Limits;
 pub use crate::list_views::{Codes, CodesView, Filters, FiltersView, Requests, RequestsView};
 pub use crate::lists::RequestView;

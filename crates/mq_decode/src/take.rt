@@ -1,6 +1,6 @@
 //! Packets from the front of bytes, one after another.
 
-ghost use Rattle.std.specs.Prelude.{◌≡◌, ◌+◌, ◌<◌, ◌≤◌, ◌^◌, ◌++◌, [], ◌∷◌, length, take, drop, vec_len, vec_capacity, Err, IfOk, IfErr, IfNone, IfSome, IsFalse, IsTrue, OnOk};
+ghost use Rattle.std.specs.Prelude.{◌≡◌, ◌+◌, ◌<◌, ◌≤◌, ◌^◌, ◌++◌, [], ◌∷◌, length, take, drop, vec_len, vec_capacity, Err, IfOk, IfErr, IfNone, IfSome, IsFalse, IsTrue, OnOk, max};
 ghost use Rattle.mq_decode.specs.Copied.{Adds, Copies, counted_more, counted_next};
 ghost use Rattle.mq_decode.specs.Grammar.{Appends, Goes, IsAlone, IsFront, Pending, ReadsWithin, Stops, Takes, Wants};
 ghost use Rattle.mq_packet.specs.declared.packet.Packet.TheVariants as packets;
@@ -41,7 +41,12 @@ pub(crate) fn copy_len(most: usize, size: usize, len: usize) -> usize
     requires { size ≤ len }
     ensures whole { size ≤ result }
     ensures within { result ≤ len }
+    ensures most { result ≤ max most size }
+    ensures alone { most < size → result ≡ size }
 {
+    if most < size {
+        return size;
+    }
     let many = most - most % size.max(1);
     many.max(size).min(len)
 }
@@ -52,6 +57,7 @@ fn copy_front(alloc: Global, size: usize, bytes: &[u8], copy: &mut Bytes) -> Res
     requires copy { BeginsWith bytes.now copy.old }
     ensures copy { OnOk result (BeginsWith bytes.now copy.new) }
     ensures whole { OnOk result (size ≤ length copy.new) }
+    ensures most { length copy.new ≤ max (length copy.old) (max 4096 size) }
 {
     if size <= copy.len() {
         return Ok(());

@@ -1,6 +1,5 @@
 use Rattle.std.proofs.Common.{arith, ap}
 use Rattle.mq_packet.specs.declared.packet.Packet.TheVariants as packets
-use Rattle.mq_packet.specs.Publication.{Publication}
 use Rattle.mq_decode.specs.declared.packet_view.PacketView.TheVariants as lent
 use Rattle.mq_decode.proofs.WholeFound.{whole_reads}
 use Rattle.mq_decode.proofs.ahead.take_publish.Goals as goal
