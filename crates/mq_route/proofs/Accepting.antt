@@ -418,7 +418,7 @@ module _ (capacity : ℕ) (ids : IdentifierLaws) (next : NextLaws) (sound : Soun
   remove_kept key w h = record {
     is = h.is;
     books = λ c. subst (λ (e : End). IsSound capacity e.book) (sym (end_without key c w.hub.sessions))
-        (cond_both (eqb key c) no_end (end_of c w.hub.sessions) (λ e. IsSound capacity e.book) (λ t. ids.on_first_packet capacity) (λ t. h.books c));
+        (cond_both (eqb key c) no_end (end_of c w.hub.sessions) (λ e. IsSound capacity e.book) (λ t. ids.at_first capacity) (λ t. h.books c));
     rows = rowed_without key w.hub.rows w.hub.sessions h.rows;
   }
 
@@ -518,7 +518,7 @@ module _ (capacity : ℕ) (ids : IdentifierLaws) (next : NextLaws) (sound : Soun
         is = h.is;
         books = λ c. subst (λ (e : End). IsSound capacity e.book) (sym (end_new s c w.hub.sessions))
             (cond_both (has c w.hub.sessions) (end_of c w.hub.sessions) (cond (eqb n c) (new_end w.hub.config) no_end) (λ e. IsSound capacity e.book) (λ t. h.books c)
-            (λ t. cond_both (eqb n c) (new_end w.hub.config) no_end (λ e. IsSound capacity e.book) (λ t. ids.on_first_packet capacity) (λ t. ids.on_first_packet capacity)));
+            (λ t. cond_both (eqb n c) (new_end w.hub.config) no_end (λ e. IsSound capacity e.book) (λ t. ids.at_first capacity) (λ t. ids.at_first capacity)));
         rows = each_weaker (λ (r : Row). Stands w.hub.sessions r.0.0) (λ (r : Row). Stands (w.hub.sessions ++ s ∷ []) r.0.0)
             (λ r there. has_new s r.0.0 w.hub.sessions ∙ cond-true (has r.0.0 w.hub.sessions) true (eqb n r.0.0) there) w.hub.rows h.rows;
       }
@@ -650,7 +650,7 @@ told_acts h (Tick now) r w d = ap (λ (r : HubReply). r.acts) d.1
 told_acts h (Collect k) r w d = ap (λ (r : HubReply). r.acts) d.1 ∙ sym (ap (λ (w : Work). w.did) d.0)
 
 new_holds : (config : HubConfig) → IdentifierLaws → Holds config.capacity (new_hub config)
-new_holds config ids = record { is = refl; books = λ c. ids.on_first_packet config.capacity; rows = tt }
+new_holds config ids = record { is = refl; books = λ c. ids.at_first config.capacity; rows = tt }
 
 module _ (ids : IdentifierLaws) (next : NextLaws) (sound : SoundLaws) (config : HubConfig) (small : config.capacity ≤ 65535) where
   last_activity : (es : List Episode) (h : HubState) → Follows (new_hub config) es h → Holds config.capacity h
