@@ -15,3 +15,6 @@ mod Filling
 mod Losing
 mod Books
 mod Accepting
+mod History
+mod Names
+mod Reading
