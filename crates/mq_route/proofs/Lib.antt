@@ -17,4 +17,5 @@ mod Books
 mod Accepting
 mod History
 mod Names
+mod Logging
 mod Reading

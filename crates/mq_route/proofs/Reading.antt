@@ -38,6 +38,7 @@ use Rattle.mq_route.proofs.Frames.{Firm, stage_firm, closed_shut}
 use Rattle.mq_route.proofs.Steps.{comes_both, holding_both, ticks_both, ended_both}
 use Rattle.mq_route.proofs.Events.{sound_new, not_known, emptied}
 use Rattle.mq_route.proofs.Output.{leaves, sound_event, sound_run}
+use Rattle.mq_route.proofs.Logging.{logs_event}
 
 -- ---- the configuration
 
@@ -389,4 +390,5 @@ laws = record {
       let same = ap (λ (c : HubConfig). c.limits) (same_run before (new_hub config) h f (sound_new config)) in
       let r = reads_run k config.limits after h h2 g same stays (sound_run before (new_hub config) h f (sound_new config)) known in
       record { front = r.front; rest = r.rest; stream = r.stream; parts = r.parts; held = λ up. (r.held up).1 };
+  logged = logs_event;
 }

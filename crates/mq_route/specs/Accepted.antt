@@ -178,12 +178,12 @@ in_step h (Collect k) r w d = []
 pub record AcceptLaws : Type 0 where
   -- at each time in a run, the identifiers in use of a client are from 1 to 65,535, distinct, and
   -- at most the capacity
-  pub books : (config : HubConfig) → config.capacity ≤ 65535 → (es : List Episode) (h : HubState) → Follows (new_hub config) es h
-      → (key : ℕ) → IsSoundEnd config.capacity (end_of key h.sessions)
+  pub books : (config : HubConfig) → config.capacity ≤ 65535 → (episodes : List Episode) (hub : HubState) → Follows (new_hub config) episodes hub
+      → (key : ℕ) → IsSoundEnd config.capacity (end_of key hub.sessions)
   -- in each step of a run, each placed copy of QoS 1 or 2 is accepted
-  pub accepts : (config : HubConfig) → config.capacity ≤ 65535 → (before : List Episode) (h : HubState) → Follows (new_hub config) before h
-      → (e : HubEvent) (r : HubReply) (w : Work) → event_refusal e h ≡ None → (d : Does h e r w) → AreAccepts (in_step h e r w d)
+  pub accepts : (config : HubConfig) → config.capacity ≤ 65535 → (before : List Episode) (hub : HubState) → Follows (new_hub config) before hub
+      → (event : HubEvent) (reply : HubReply) (work : Work) → event_refusal event hub ≡ None → (does : Does hub event reply work) → AreAccepts (in_step hub event reply work does)
   -- these copies are those that the acts of the step report, in order
-  pub placed_are : (config : HubConfig) → config.capacity ≤ 65535 → (before : List Episode) (h : HubState) → Follows (new_hub config) before h
-      → (e : HubEvent) (r : HubReply) (w : Work) → event_refusal e h ≡ None → (d : Does h e r w)
-      → (c : ℕ) → placed c r.acts ≡ placed_for c (in_step h e r w d)
+  pub placed_are : (config : HubConfig) → config.capacity ≤ 65535 → (before : List Episode) (hub : HubState) → Follows (new_hub config) before hub
+      → (event : HubEvent) (reply : HubReply) (work : Work) → event_refusal event hub ≡ None → (does : Does hub event reply work)
+      → (client : ℕ) → placed client reply.acts ≡ placed_for client (in_step hub event reply work does)

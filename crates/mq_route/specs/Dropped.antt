@@ -89,6 +89,6 @@ IsLosingEvent client h (Collect k) r w d = ⊥
 pub record WillLaws : Type 0 where
   -- in each step of a run, a client whose will is dropped has a reason: a failed allocation, or a
   -- session without room for a copy
-  pub drops : (config : HubConfig) (before : List Episode) (h : HubState) → Follows (new_hub config) before h
-      → (e : HubEvent) (r : HubReply) (w : Work) → event_refusal e h ≡ None → (d : Does h e r w)
-      → (client : ℕ) → is_in client (dropped w.did) ≡ true → IsLosingEvent client h e r w d
+  pub drops : (config : HubConfig) (before : List Episode) (hub : HubState) → Follows (new_hub config) before hub
+      → (event : HubEvent) (reply : HubReply) (work : Work) → event_refusal event hub ≡ None → (does : Does hub event reply work)
+      → (client : ℕ) → is_in client (dropped work.did) ≡ true → IsLosingEvent client hub event reply work does

@@ -109,6 +109,6 @@ IsFullEvent log h (Collect k) r w d = ⊥
 pub record FullLaws : Type 0 where
   -- in each step of a run, no connection closes because a session is full, or one does at the
   -- packet that is too much
-  pub closes : (config : HubConfig) (before : List Episode) (h : HubState) → Follows (new_hub config) before h
-      → (e : HubEvent) (r : HubReply) (w : Work) → event_refusal e h ≡ None → (d : Does h e r w)
-      → (full_closes w.did ≡ []) ⊎ IsFullEvent (acts_of before) h e r w d
+  pub closes : (config : HubConfig) (before : List Episode) (hub : HubState) → Follows (new_hub config) before hub
+      → (event : HubEvent) (reply : HubReply) (work : Work) → event_refusal event hub ≡ None → (does : Does hub event reply work)
+      → (full_closes work.did ≡ []) ⊎ IsFullEvent (acts_of before) hub event reply work does

@@ -135,12 +135,13 @@ pub record HistoryLaws : Type 0 where
   -- a subscription has this QoS exactly if the last act on it gave it this QoS
   pub rows : (viewer client : ℕ) (topic_filter : List ℕ) (qos : Qos) (log : List Act)
       → (row_qos client topic_filter (seen viewer log).rows ≡ Some qos) ↔ Since (Subscribes client topic_filter qos) (changes_row client topic_filter) log
-  -- a client is connected on k exactly if its last `Up` was on k, and k has not closed since
-  pub connection : (client : ℕ) (k : Conn) (log : List Act)
-      → ((seen client log).up ≡ Some k) ↔ Since (Connects client k) (ends_connection client k) log
+  -- a client is connected on a connection exactly if its last `Up` was on it, and it has not closed
+  -- since
+  pub connection : (client : ℕ) (conn : Conn) (log : List Act)
+      → ((seen client log).up ≡ Some conn) ↔ Since (Connects client conn) (ends_connection client conn) log
   -- a message is retained exactly if an act published it with RETAIN and a payload, and no later
   -- act published to its topic name with RETAIN
-  pub retained : (viewer : ℕ) (m : Message) (log : List Act) → IsIn m (seen viewer log).retained ↔ Since (Retains m) (replaces m.topic) log
+  pub retained : (viewer : ℕ) (message : Message) (log : List Act) → IsIn message (seen viewer log).retained ↔ Since (Retains message) (replaces message.topic) log
   -- a topic name has at most one retained message
   pub once : (viewer : ℕ) (log : List Act) → AreApart (seen viewer log).retained
   -- retained messages are in the order in which their topic names got a message, since the act that

@@ -10,9 +10,9 @@ use Rattle.mq_route.specs.declared.event.HubEvent.{HubEvent}
 use Rattle.mq_route.specs.declared.event.HubEvent.TheVariants.{Opened, Bytes, Ended, Tick, Collect}
 use Rattle.mq_route.specs.declared.reply.HubReply.{HubReply}
 use Rattle.mq_route.specs.Routed.{same_conn}
-use Rattle.mq_route.specs.Hub.{HubState, new_hub, knows, stage_of, is_open, held_on}
+use Rattle.mq_route.specs.Hub.{HubState, new_hub, knows, stage_of, is_open, key_on, held_on}
 use Rattle.mq_route.specs.Work.{Work, begin}
-use Rattle.mq_route.specs.Arrives.{takes}
+use Rattle.mq_route.specs.Arrives.{noted, takes}
 use Rattle.mq_route.specs.Step.{holding, Comes, Arrives, Waits, Breaks, Starves, LetsGo, Does}
 use Rattle.mq_route.specs.Runs.{Episode, Follows, Stays}
 
@@ -38,6 +38,25 @@ abbrev pub read_on : (k : Conn) (h : HubState) (es : List Episode) (h2 : HubStat
 read_on k h [] h2 f = []
 read_on k h (e ∷ es) h2 f = read_by k h e.event e.reply e.work f.1 ++ read_on k e.work.hub es h2 f.2
 
+-- the packets that are logged from these bytes, each with its client: the client was connected
+-- before the packet, and the connection is open after it
+abbrev pub logged_in : (limits : Bounds) (k : Conn) (b : List ℕ) (w w2 : Work) → Comes limits k b w w2 → List (ℕ × Packet)
+logged_in limits k b w w2 (Arrives p first rest g v v2 on reads more) =
+    let now = takes k p g v in
+    noted (key_on (stage_of k v.hub.connections)) (is_open (stage_of k now.hub.connections)) p ++ logged_in limits k rest now v2 more
+logged_in limits k b w w2 (Waits c v on pending) = []
+logged_in limits k b w w2 (Breaks c fault fits v on faulty) = []
+logged_in limits k b w w2 (Starves c fits v on some) = []
+logged_in limits k b w w2 (LetsGo c v closed) = []
+
+-- the packets that are logged in an event
+abbrev pub logged_by : (h : HubState) (e : HubEvent) (r : HubReply) (w : Work) → Does h e r w → List (ℕ × Packet)
+logged_by h (Bytes k piece) r w d = logged_in h.config.limits k (held_on k h.connections ++ piece) (holding k [] (begin h)) w d.0
+logged_by h (Opened k) r w d = []
+logged_by h (Ended k) r w d = []
+logged_by h (Tick now) r w d = []
+logged_by h (Collect k) r w d = []
+
 -- the bytes that arrive on a connection
 abbrev pub bytes_to : Conn → HubEvent → List ℕ
 bytes_to k (Bytes j piece) = if same_conn j k then piece else []
@@ -60,9 +79,11 @@ pub record IsRead (k : Conn) (limits : Bounds) (packets : List Packet) (bytes : 
 
 pub record ReadLaws : Type 0 where
   -- a broker's configuration never changes
-  pub same_config : (config : HubConfig) (es : List Episode) (h : HubState) → Follows (new_hub config) es h → h.config ≡ config
+  pub same_config : (config : HubConfig) (episodes : List Episode) (hub : HubState) → Follows (new_hub config) episodes hub → hub.config ≡ config
   -- from any time in a run, until a connection ends: the packets that are read on it are those that
   -- its bytes encode
-  pub read : (config : HubConfig) (before : List Episode) (h : HubState) → Follows (new_hub config) before h
-      → (after : List Episode) (h2 : HubState) (f : Follows h after h2) (k : Conn) → Stays k after → knows k h.connections ≡ true
-      → IsRead k config.limits (read_on k h after h2 f) (held_on k h.connections ++ arrived k after) h2
+  pub read : (config : HubConfig) (before : List Episode) (hub : HubState) → Follows (new_hub config) before hub
+      → (after : List Episode) (later_hub : HubState) (follows : Follows hub after later_hub) (conn : Conn) → Stays conn after → knows conn hub.connections ≡ true
+      → IsRead conn config.limits (read_on conn hub after later_hub follows) (held_on conn hub.connections ++ arrived conn after) later_hub
+  -- in each event, the logged packets are those that are read of a connected client and leave its connection open
+  pub logged : (hub : HubState) (event : HubEvent) (reply : HubReply) (work : Work) (does : Does hub event reply work) → work.came ≡ logged_by hub event reply work does
