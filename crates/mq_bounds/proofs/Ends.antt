@@ -198,22 +198,22 @@ kept_while refusal limit s (IsOver shut few none) = (let nothing = ap length non
 
 receive_bounds : (refusal : ℕ) (gets : Packet → End → Reply) (faulted : DecodeFault → End → Reply) → Given refusal gets faulted → ReceiveBounds refusal (ReceivesBy gets faulted)
 receive_bounds refusal gets faulted g = record {
-  grows = λ piece old new happenings acknowledged closed h quiet. let all = grown refusal gets faulted g piece old new happenings acknowledged closed h false quiet in omega arith;
-  comes_up = λ piece old new happenings acknowledged closed h up. connects refusal gets faulted g piece old new happenings acknowledged closed h up;
-  once = λ piece old new happenings acknowledged closed h up.
-      received_once refusal gets faulted g.does g.on_malformed old.limit (old.held ++ piece) old.end h.0 new.held h.1 (sym (ap rises h.2.told) ∙ up);
-  waits = λ piece old new happenings acknowledged closed h is.
-      let still = received_still refusal gets faulted g.does g.on_malformed old.limit (old.held ++ piece) old.end h.0 new.held h.1 (sym (ap (λ (e : End). e.state) h.2.after) ∙ is) in
-      (still.before, still_output h.0.out old.output new.output (ap (λ (r : Reply). r.out) still.nothing) h.2.out);
-  refuses = λ piece old new happenings acknowledged closed h is quiet.
-      refused_output old.end h.0 new.held old.output new.output (received_stayed refusal gets faulted g.does g.on_malformed old.limit (old.held ++ piece) old.end h.0 new.held h.1 is (sym (ap rises h.2.told) ∙ quiet))
-      (put_size g.encoding h.0.out old.output new.output h.2.out);
-  held = λ piece old new happenings acknowledged closed h before bytes.
-      received_held g.short gets faulted old.limit (old.held ++ piece) old.end h.0 new.held h.1 (joined_bytes old.held piece before bytes);
-  stored = λ piece old new happenings acknowledged closed h.
-      let all = received_stored refusal gets faulted g.does g.on_malformed old.limit (old.held ++ piece) old.end h.0 new.held h.1 in
-      let same = ap (λ (e : End). len e.received) h.2.after in
-      let parts = length-append old.held piece in
+  grows = λ c quiet. let all = grown refusal gets faulted g c.piece c.old c.new c.happenings c.acknowledged c.closed c.received false quiet in omega arith;
+  comes_up = λ c up. connects refusal gets faulted g c.piece c.old c.new c.happenings c.acknowledged c.closed c.received up;
+  once = λ c up.
+      received_once refusal gets faulted g.does g.on_malformed c.old.limit (c.old.held ++ c.piece) c.old.end c.received.0 c.new.held c.received.1 (sym (ap rises c.received.2.told) ∙ up);
+  waits = λ c is.
+      let still = received_still refusal gets faulted g.does g.on_malformed c.old.limit (c.old.held ++ c.piece) c.old.end c.received.0 c.new.held c.received.1 (sym (ap (λ (e : End). e.state) c.received.2.after) ∙ is) in
+      (still.before, still_output c.received.0.out c.old.output c.new.output (ap (λ (r : Reply). r.out) still.nothing) c.received.2.out);
+  refuses = λ c is quiet.
+      refused_output c.old.end c.received.0 c.new.held c.old.output c.new.output (received_stayed refusal gets faulted g.does g.on_malformed c.old.limit (c.old.held ++ c.piece) c.old.end c.received.0 c.new.held c.received.1 is (sym (ap rises c.received.2.told) ∙ quiet))
+      (put_size g.encoding c.received.0.out c.old.output c.new.output c.received.2.out);
+  held = λ c before bytes.
+      received_held g.short gets faulted c.old.limit (c.old.held ++ c.piece) c.old.end c.received.0 c.new.held c.received.1 (joined_bytes c.old.held c.piece before bytes);
+  stored = λ c.
+      let all = received_stored refusal gets faulted g.does g.on_malformed c.old.limit (c.old.held ++ c.piece) c.old.end c.received.0 c.new.held c.received.1 in
+      let same = ap (λ (e : End). len e.received) c.received.2.after in
+      let parts = length-append c.old.held c.piece in
       omega arith;
   stranger = λ pieces old new waits nothing none h.
       kept_while refusal old.limit new (through refusal gets faulted g old.limit pieces old new h

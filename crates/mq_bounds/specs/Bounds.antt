@@ -24,12 +24,13 @@ use Rattle.mq_bounds.specs.Waiting.{WaitsThrough}
 pub record PacketBounds (gets : Packet → End → Reply) : Type 0 where
   -- the output has at most as many bytes as the packet, without what is sent again when the end
   -- connects (4.4)
-  pub answer : (lenient : Bool) (p : Packet) (b : List ℕ) (e : End) → Reads lenient p b → length (encodings (gets p e).out) ≤ length b + length (sent_again (rises (gets p e).happenings) (book_for p e.book))
+  pub answer : (lenient : Bool) (packet : Packet) (bytes : List ℕ) (end : End) → Reads lenient packet bytes
+      → length (encodings (gets packet end).out) ≤ length bytes + length (sent_again (rises (gets packet end).happenings) (book_for packet end.book))
   -- a PUBLISH of QoS 2 stores at most one identifier, any other packet none (4.3.3)
-  pub stored : (p : Packet) (e : End) → FinSet.len (gets p e).end.received ≤ FinSet.len e.received + (if is_exactly_once p then 1 else 0)
+  pub stored : (packet : Packet) (end : End) → FinSet.len (gets packet end).end.received ≤ FinSet.len end.received + (if is_exactly_once packet then 1 else 0)
   -- the receive window stays the same, and at most that many identifiers are stored, or as many as
   -- before
-  pub window : (p : Packet) (e : End) → KeepsWindow e (gets p e).end
+  pub window : (packet : Packet) (end : End) → KeepsWindow end (gets packet end).end
 
 -- The first packet of the held and the incoming bytes connects the end. The stored bytes grow by at
 -- most the length of the piece and of what is sent again from the book with which this packet
@@ -42,41 +43,48 @@ pub record Connects (piece : List ℕ) (old new : EndState) : Type 0 where
   pub reads : ReadsWithin old.limit first front
   pub grows : kept new ≤ (kept old + length piece) + length (encodings (resent (book_for first old.end.book)))
 
--- Bytes arrive at an end with a connection. `receives` is the contract of `receive`; `refusal` is
--- the maximum length of the answer to a refused first packet.
+-- A call of `receive` at an end with a connection, and its result.
+pub record ReceiveCall (receives : List ℕ → EndState → EndState → List Happening → List ℕ → Option CloseReason → Type 0) : Type 0 where
+  pub piece : List ℕ
+  pub old : EndState
+  pub new : EndState
+  pub happenings : List Happening
+  pub acknowledged : List ℕ
+  pub closed : Option CloseReason
+  pub received : receives piece old new happenings acknowledged closed
+
+-- `receives` is the contract of `receive`; `refusal` is the maximum length of the answer to a refused
+-- first packet.
 pub record ReceiveBounds (refusal : ℕ) (receives : List ℕ → EndState → EndState → List Happening → List ℕ → Option CloseReason → Type 0) : Type 0 where
   -- if the end does not connect, its stored bytes grow by at most the length of the piece
-  pub grows : (piece : List ℕ) (old new : EndState) (happenings : List Happening) (acknowledged : List ℕ) (closed : Option CloseReason) → receives piece old new happenings acknowledged closed
-      → rises happenings ≡ false → kept new ≤ kept old + length piece
-  -- if the end connects, they grow by at most that and the PUBRELs and PUBLISHes that are sent
-  -- again (4.4)
-  pub comes_up : (piece : List ℕ) (old new : EndState) (happenings : List Happening) (acknowledged : List ℕ) (closed : Option CloseReason) → receives piece old new happenings acknowledged closed
-      → rises happenings ≡ true → Connects piece old new
+  pub grows : (call : ReceiveCall receives) → rises call.happenings ≡ false → kept call.new ≤ kept call.old + length call.piece
+  -- if the end connects, they grow by at most that and the PUBRELs and PUBLISHes that are sent again
+  -- (4.4)
+  pub comes_up : (call : ReceiveCall receives) → rises call.happenings ≡ true → Connects call.piece call.old call.new
   -- only an end that waits for the first packet connects (3.1, 3.2)
-  pub once : (piece : List ℕ) (old new : EndState) (happenings : List Happening) (acknowledged : List ℕ) (closed : Option CloseReason) → receives piece old new happenings acknowledged closed
-      → rises happenings ≡ true → old.end.state ≡ Connecting
+  pub once : (call : ReceiveCall receives) → rises call.happenings ≡ true → call.old.end.state ≡ Connecting
   -- an end that still waits has sent nothing
-  pub waits : (piece : List ℕ) (old new : EndState) (happenings : List Happening) (acknowledged : List ℕ) (closed : Option CloseReason) → receives piece old new happenings acknowledged closed
-      → new.end.state ≡ Connecting → (old.end.state ≡ Connecting) × (new.output ≡ old.output)
+  pub waits : (call : ReceiveCall receives) → call.new.end.state ≡ Connecting
+      → (call.old.end.state ≡ Connecting) × (call.new.output ≡ call.old.output)
   -- if a waiting end does not connect, it sends at most its refusal
-  pub refuses : (piece : List ℕ) (old new : EndState) (happenings : List Happening) (acknowledged : List ℕ) (closed : Option CloseReason) → receives piece old new happenings acknowledged closed
-      → old.end.state ≡ Connecting → rises happenings ≡ false → length new.output ≤ length old.output + refusal
+  pub refuses : (call : ReceiveCall receives) → call.old.end.state ≡ Connecting → rises call.happenings ≡ false
+      → length call.new.output ≤ length call.old.output + refusal
   -- the held bytes are bytes if the incoming ones are, and at most five more than the maximum
   -- remaining length (2.2.3)
-  pub held : (piece : List ℕ) (old new : EndState) (happenings : List Happening) (acknowledged : List ℕ) (closed : Option CloseReason) → receives piece old new happenings acknowledged closed
-      → AreBytes old.held → AreBytes piece → AreBytes new.held × (length new.held ≤ 5 + old.limit.most)
+  pub held : (call : ReceiveCall receives) → AreBytes call.old.held → AreBytes call.piece
+      → AreBytes call.new.held × (length call.new.held ≤ 5 + call.old.limit.most)
   -- each stored identifier took at least seven bytes (4.3.3)
-  pub stored : (piece : List ℕ) (old new : EndState) (happenings : List Happening) (acknowledged : List ℕ) (closed : Option CloseReason) → receives piece old new happenings acknowledged closed
-      → 7 * FinSet.len new.end.received ≤ 7 * FinSet.len old.end.received + (length old.held + length piece)
+  pub stored : (call : ReceiveCall receives)
+      → 7 * FinSet.len call.new.end.received ≤ 7 * FinSet.len call.old.end.received + (length call.old.held + length call.piece)
   -- after any number of pieces, an end that has not connected holds at most five bytes and the
   -- maximum remaining length, and owes at most its refusal
-  pub stranger : (pieces : List (List ℕ)) (old new : EndState) → old.end.state ≡ Connecting → old.output ≡ [] → old.held ≡ [] → WaitsThrough receives pieces old new
-      → (length new.held ≤ 5 + old.limit.most) × (length new.output ≤ refusal)
+  pub stranger : (pieces : List (List ℕ)) (old new : EndState) → old.end.state ≡ Connecting → old.output ≡ [] → old.held ≡ []
+      → WaitsThrough receives pieces old new → (length new.held ≤ 5 + old.limit.most) × (length new.output ≤ refusal)
 
 -- A packet is processed by itself, and an allocation for it may fail.
 pub record TakeBounds (takes : ℕ → Packet → EndState → EndState → List Happening → List ℕ → Option CloseReason → Type 0) : Type 0 where
-  pub grows : (now : ℕ) (lenient : Bool) (p : Packet) (b : List ℕ) (old new : EndState) (happenings : List Happening) (acknowledged : List ℕ) (closed : Option CloseReason)
-      → takes now p old new happenings acknowledged closed → Reads lenient p b → kept new ≤ (kept old + length b) + length (sent_again (rises happenings) (book_for p old.end.book))
+  pub grows : (now : ℕ) (lenient : Bool) (packet : Packet) (bytes : List ℕ) (old new : EndState) (happenings : List Happening) (acknowledged : List ℕ) (closed : Option CloseReason)
+      → takes now packet old new happenings acknowledged closed → Reads lenient packet bytes → kept new ≤ (kept old + length bytes) + length (sent_again (rises happenings) (book_for packet old.end.book))
 
 pub record BoundsLaws : Type 0 where
   pub client_packet : PacketBounds client_gets
@@ -87,4 +95,5 @@ pub record BoundsLaws : Type 0 where
   pub client_takes : TakeBounds ClientTakes
   pub server_takes : TakeBounds TakesOne
   -- at most one packet for each identifier in use is sent again, each within the limit
-  pub again : (limit : ℕ) (b : SenderBook) → All (λ (x : Entry). length (fields (publish_packet x.id x.sent x.message)) ≤ limit) b.entries → length (encodings (resent b)) ≤ length (uses b) * (5 + limit)
+  pub again : (limit : ℕ) (book : SenderBook) → All (λ (x : Entry). length (fields (publish_packet x.id x.sent x.message)) ≤ limit) book.entries
+      → length (encodings (resent book)) ≤ length (uses book) * (5 + limit)

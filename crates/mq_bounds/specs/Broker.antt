@@ -24,8 +24,8 @@ answers_in sent = filter is_answer (map (λ x. x.1) sent)
 pub record BrokerBounds : Type 0 where
   -- In a step with bytes of a connection, the answers on all connections and the bytes that this
   -- one holds afterwards have at most the length of the bytes that it held and that arrived.
-  pub answers : (h : HubState) (k : Conn) (piece : List ℕ) (r : HubReply) (w : Work) → Does h (Bytes k piece) r w
-      → length (encodings (answers_in w.sent)) + length (held_on k w.hub.connections) ≤ length (held_on k h.connections) + length piece
+  pub answers : (hub : HubState) (conn : Conn) (piece : List ℕ) (reply : HubReply) (work : Work) → Does hub (Bytes conn piece) reply work
+      → length (encodings (answers_in work.sent)) + length (held_on conn work.hub.connections) ≤ length (held_on conn hub.connections) + length piece
   -- The connection holds at most five bytes more than the maximum remaining length (2.2.3).
-  pub held : (h : HubState) (k : Conn) (piece : List ℕ) (r : HubReply) (w : Work) → Does h (Bytes k piece) r w → AreBytes (held_on k h.connections) → AreBytes piece
-      → AreBytes (held_on k w.hub.connections) × (length (held_on k w.hub.connections) ≤ 5 + h.config.limits.most)
+  pub held : (hub : HubState) (conn : Conn) (piece : List ℕ) (reply : HubReply) (work : Work) → Does hub (Bytes conn piece) reply work → AreBytes (held_on conn hub.connections) → AreBytes piece
+      → AreBytes (held_on conn work.hub.connections) × (length (held_on conn work.hub.connections) ≤ 5 + hub.config.limits.most)
