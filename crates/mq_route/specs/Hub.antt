@@ -54,35 +54,35 @@ new_hub config = record { config = config; clock = 0; next_key = 0; rows = []; r
 -- ---- connections
 
 abbrev pub is_connection : Conn → HubConnection → Bool
-is_connection k x = same_conn x.conn k
+is_connection conn x = same_conn x.conn conn
 
 -- the connection is known: it was opened and has not ended
 abbrev pub knows : Conn → List HubConnection → Bool
-knows k xs = list_any (is_connection k) xs
+knows conn xs = list_any (is_connection conn) xs
 
 -- the state of a connection; an unknown connection is closed
 abbrev pub stage_of : Conn → List HubConnection → ConnectionState
-stage_of k [] = Closed
-stage_of k (x ∷ xs) = if is_connection k x then x.stage else stage_of k xs
+stage_of conn [] = Closed
+stage_of conn (x ∷ xs) = if is_connection conn x then x.stage else stage_of conn xs
 
 abbrev pub held_on : Conn → List HubConnection → List ℕ
-held_on k [] = []
-held_on k (x ∷ xs) = if is_connection k x then x.held else held_on k xs
+held_on conn [] = []
+held_on conn (x ∷ xs) = if is_connection conn x then x.held else held_on conn xs
 
 abbrev pub waiting_on : Conn → List HubConnection → List ℕ
-waiting_on k [] = []
-waiting_on k (x ∷ xs) = if is_connection k x then x.waiting else waiting_on k xs
+waiting_on conn [] = []
+waiting_on conn (x ∷ xs) = if is_connection conn x then x.waiting else waiting_on conn xs
 
 abbrev pub changed : (HubConnection → HubConnection) → Conn → HubConnection → HubConnection
-changed change k x = if is_connection k x then change x else x
+changed change conn x = if is_connection conn x then change x else x
 
 -- the connections with one changed
 abbrev pub with_connection : (HubConnection → HubConnection) → Conn → List HubConnection → List HubConnection
-with_connection change k xs = map (changed change k) xs
+with_connection change conn xs = map (changed change conn) xs
 
 -- the connections without one
 abbrev pub without_connection : Conn → List HubConnection → List HubConnection
-without_connection k xs = filter (λ x. not (is_connection k x)) xs
+without_connection conn xs = filter (λ x. not (is_connection conn x)) xs
 
 -- the connection is not closed
 abbrev pub is_open : ConnectionState → Bool
@@ -143,11 +143,11 @@ end_on Closed ss = no_end
 -- ---- copies
 
 abbrev pub for_key : ℕ → List Message → List (ℕ × Message)
-for_key key ms = map (λ m. (key, m)) ms
+for_key key ms = map (λ message. (key, message)) ms
 
 -- the copies of a message: one for each client with a matching subscription, by ascending key
 -- (3.3.5), and none for a topic name that begins with `$`
 unfoldable pub copies_of : Message → HubState → List (ℕ × Message)
-copies_of m h =
-    if is_hidden_name m.topic then [] else
-    flat_map (λ found. for_key found.0 (copy_by (is_some (up_on found.0 h.connections)) m (Some found.1))) (matched m.topic h.rows)
+copies_of message hub =
+    if is_hidden_name message.topic then [] else
+    flat_map (λ found. for_key found.0 (copy_by (is_some (up_on found.0 hub.connections)) message (Some found.1))) (matched message.topic hub.rows)
