@@ -75,36 +75,36 @@ IsAmong s (t ∷ ts) = (s ≡ t) ⊎ IsAmong s ts
 -- After these acts, a PUBLISH or SUBSCRIBE arrives on a connected connection and closes it. The
 -- messages that it routes to some client need more packet identifiers than the client's session has
 -- free (2.3.1, 3.3.5, 3.8.4).
-pub record IsTooMuch (log : List Act) (k : Conn) (p : Packet) (g : Growth) (w : Work) : Type 0 where
+pub record IsTooMuch (log : List Act) (conn : Conn) (packet : Packet) (growth : Growth) (work : Work) : Type 0 where
   pub key : ℕ
-  pub connected : key_on (stage_of k w.hub.connections) ≡ Some key
-  pub kind : IsPublishOrSubscribe p
+  pub connected : key_on (stage_of conn work.hub.connections) ≡ Some key
+  pub kind : IsPublishOrSubscribe packet
   pub session : HubSession
-  pub exists : IsAmong session w.hub.sessions
-  pub short : let now = seen session.key (log ++ w.did) in
-      let happenings = (server_gets p (end_of key w.hub.sessions)).happenings in
-      w.hub.config.capacity - length (uses session.end.book) < identifiers_for (routed_from session.key now (asked key happenings))
-  pub none_before : full_closes w.did ≡ []
-  pub closes : full_closes (takes k p g w).did ≡ k ∷ []
+  pub exists : IsAmong session work.hub.sessions
+  pub short : let now = seen session.key (log ++ work.did) in
+      let happenings = (server_gets packet (end_of key work.hub.sessions)).happenings in
+      work.hub.config.capacity - length (uses session.end.book) < identifiers_for (routed_from session.key now (asked key happenings))
+  pub none_before : full_closes work.did ≡ []
+  pub closes : full_closes (takes conn packet growth work).did ≡ conn ∷ []
 
 -- one of the packets in these bytes is too much
-abbrev pub ComesTooMuch : List Act → (limits : Bounds) (k : Conn) (b : List ℕ) (w w2 : Work) → Comes limits k b w w2 → Type 0
-ComesTooMuch log limits k b w w2 (Arrives p first rest g v v2 on reads more) =
-    IsTooMuch log k p g v ⊎ ComesTooMuch log limits k rest (takes k p g v) v2 more
-ComesTooMuch log limits k b w w2 (Waits c v on pending) = ⊥
-ComesTooMuch log limits k b w w2 (Breaks c fault fits v on faulty) = ⊥
-ComesTooMuch log limits k b w w2 (Starves c fits v on some) = ⊥
-ComesTooMuch log limits k b w w2 (LetsGo c v closed) = ⊥
+abbrev pub ComesTooMuch : List Act → (limits : Bounds) (conn : Conn) (bytes : List ℕ) (start stop : Work) → Comes limits conn bytes start stop → Type 0
+ComesTooMuch log limits conn bytes start stop (Arrives packet first rest growth work last on reads more) =
+    IsTooMuch log conn packet growth work ⊎ ComesTooMuch log limits conn rest (takes conn packet growth work) last more
+ComesTooMuch log limits conn bytes start stop (Waits rest work on pending) = ⊥
+ComesTooMuch log limits conn bytes start stop (Breaks rest fault fits work on faulty) = ⊥
+ComesTooMuch log limits conn bytes start stop (Starves rest fits work on some) = ⊥
+ComesTooMuch log limits conn bytes start stop (LetsGo rest work closed) = ⊥
 
 -- the event has bytes, one of their packets is too much, and its connection is the only one that
 -- closes for this reason
-abbrev pub IsFullEvent : List Act → (h : HubState) (e : HubEvent) (r : HubReply) (w : Work) → Does h e r w → Type 0
-IsFullEvent log h (Bytes k piece) r w d = (full_closes w.did ≡ k ∷ [])
-    × ComesTooMuch log h.config.limits k (held_on k h.connections ++ piece) (holding k [] (begin h)) w d.0
-IsFullEvent log h (Opened k) r w d = ⊥
-IsFullEvent log h (Ended k) r w d = ⊥
-IsFullEvent log h (Tick now) r w d = ⊥
-IsFullEvent log h (Collect k) r w d = ⊥
+abbrev pub IsFullEvent : List Act → (hub : HubState) (event : HubEvent) (reply : HubReply) (work : Work) → Does hub event reply work → Type 0
+IsFullEvent log hub (Bytes conn piece) reply work does = (full_closes work.did ≡ conn ∷ [])
+    × ComesTooMuch log hub.config.limits conn (held_on conn hub.connections ++ piece) (holding conn [] (begin hub)) work does.0
+IsFullEvent log hub (Opened conn) reply work does = ⊥
+IsFullEvent log hub (Ended conn) reply work does = ⊥
+IsFullEvent log hub (Tick now) reply work does = ⊥
+IsFullEvent log hub (Collect conn) reply work does = ⊥
 
 pub record FullLaws : Type 0 where
   -- in each step of a run, no connection closes because a session is full, or one does at the
