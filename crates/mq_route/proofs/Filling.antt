@@ -54,6 +54,8 @@ use Rattle.mq_route.proofs.Steps.{heard_mild, stage_heard, takes_both, breaks_bo
 use Rattle.mq_route.proofs.Events.{sound_new}
 use Rattle.mq_route.proofs.Output.{sound_run}
 use Rattle.mq_route.proofs.Routing as routing
+use Rattle.mq_route.proofs.Reading as reading
+use Rattle.mq_route.specs.declared.config.HubConfig.{HubConfig}
 
 -- ---- one more act
 
@@ -316,24 +318,25 @@ key_touched now Closed = refl
 
 -- ---- the bytes of an event
 
-module _ (store : StoreLaws) (log : List Act) where
+module _ (store : StoreLaws) (log : List Act) (config : HubConfig) where
+  -- the acts describe the work, and its configuration is this
   abbrev Told : Work → Type 0
-  Told w = routing.Tells store log nothing w
+  Told w = routing.Tells store log nothing w × (w.hub.config ≡ config)
 
-  too_much : (k : Conn) (p : Packet) (g : Growth) (w : Work) → Told w → IsFull k p (touched_on k w) → full_closes w.did ≡ [] → full_closes (takes k p g w).did ≡ k ∷ [] → IsTooMuch log k p g w
+  too_much : (k : Conn) (p : Packet) (g : Growth) (w : Work) → Told w → IsFull k p (touched_on k w) → full_closes w.did ≡ [] → full_closes (takes k p g w).did ≡ k ∷ [] → IsTooMuch log config.capacity k p g w
   too_much k p g w told x none closes =
       let u = touched_on k w in
       let happenings = (server_gets p (end_of x.key u.hub.sessions)).happenings in
       let kind = kind_up x.key u.hub p (end_of x.key u.hub.sessions) x.state x.short in
       let lack = not_room (due x.key u.hub happenings) u.hub x.short in
-      let after = (routing.outer store log).mild (λ x. record x { stage = touched w.hub.clock x.stage }) k nothing w (heard_mild w.hub.clock) told in
+      let after = (routing.outer store log).mild (λ x. record x { stage = touched w.hub.clock x.stage }) k nothing w (heard_mild w.hub.clock) told.0 in
       record {
         key = x.key;
         connected = sym (key_touched w.hub.clock (stage_of k w.hub.connections)) ∙ ap key_on (sym (stage_heard k w)) ∙ x.up;
         kind = kind.0;
         session = lack.0;
         exists = lack.1;
-        short = subst (λ (n : ℕ). w.hub.config.capacity - length (uses lack.0.end.book) < n)
+        short = subst₂ (λ (c : HubConfig) (n : ℕ). c.capacity - length (uses lack.0.end.book) < n) told.1
             (needs_for lack.0.key (due x.key u.hub happenings)
             ∙ ap identifiers_for (due_routed store log u.hub lack.0.key x.key happenings kind.1 (seen lack.0.key (log ++ w.did)) (after.0 lack.0.key))) lack.2;
         none_before = none;
@@ -341,29 +344,30 @@ module _ (store : StoreLaws) (log : List Act) where
       }
 
   few_comes : (limits : Bounds) (k : Conn) (b : List ℕ) (w w2 : Work) (c : Comes limits k b w w2) → Sound w.hub → Told w → full_closes w.did ≡ []
-      → (full_closes w2.did ≡ []) ⊎ ((full_closes w2.did ≡ k ∷ []) × ComesTooMuch log limits k b w w2 c)
+      → (full_closes w2.did ≡ []) ⊎ ((full_closes w2.did ≡ k ∷ []) × ComesTooMuch log config.capacity limits k b w w2 c)
   few_comes limits k b w w2 (Arrives p first rest g v v2 on reads more) s told none =
       let X : Type 0 = IsFull k p (touched_on k v) in
       let t = takes_both (Few [] X) (May [] X) Anywhere (inner [] X) (outer [] X) (ways [] X) anywhere k p g v tt
       (λ key up state short. inr (record { key = key; up = up; state = state; short = short })) (s, inl none) in
-      let a = takes_both (routing.Tells store log) Freely Anywhere (routing.inner store log) (routing.outer store log) freely anywhere k p g v tt (λ key up state short. tt) (s, told) in
-      go t.1 (λ none. few_comes limits k rest (takes k p g v) v2 more t.0 a.1 none)
+      let a = takes_both (routing.Tells store log) Freely Anywhere (routing.inner store log) (routing.outer store log) freely anywhere k p g v tt (λ key up state short. tt) (s, told.0) in
+      let same = takes_both (reading.Same config) Freely Anywhere (reading.same_inner config) (reading.same_outer config) freely anywhere k p g v tt (λ key up state short. tt) (s, told.1) in
+      go t.1 (λ none. few_comes limits k rest (takes k p g v) v2 more t.0 (a.1, same.1) none)
     where
       now : Work
       now = takes k p g v
 
       Ends : Type 0
-      Ends = (full_closes v2.did ≡ []) ⊎ ((full_closes v2.did ≡ k ∷ []) × (IsTooMuch log k p g v ⊎ ComesTooMuch log limits k rest now v2 more))
+      Ends = (full_closes v2.did ≡ []) ⊎ ((full_closes v2.did ≡ k ∷ []) × (IsTooMuch log config.capacity k p g v ⊎ ComesTooMuch log config.capacity limits k rest now v2 more))
 
-      later : (full_closes v2.did ≡ []) ⊎ ((full_closes v2.did ≡ k ∷ []) × ComesTooMuch log limits k rest now v2 more) → Ends
+      later : (full_closes v2.did ≡ []) ⊎ ((full_closes v2.did ≡ k ∷ []) × ComesTooMuch log config.capacity limits k rest now v2 more) → Ends
       later (inl e) = inl e
       later (inr x) = inr (x.0, inr x.1)
 
-      here : IsFull k p (touched_on k v) → Leaves k now → (full_closes now.did ≡ [] → (full_closes v2.did ≡ []) ⊎ ((full_closes v2.did ≡ k ∷ []) × ComesTooMuch log limits k rest now v2 more)) → Ends
+      here : IsFull k p (touched_on k v) → Leaves k now → (full_closes now.did ≡ [] → (full_closes v2.did ≡ []) ⊎ ((full_closes v2.did ≡ k ∷ []) × ComesTooMuch log config.capacity limits k rest now v2 more)) → Ends
       here x (inl e) ih = later (ih e)
       here x (inr e) ih = inr (ap (λ (w : Work). full_closes w.did) (lets_go limits k rest now v2 more e.1) ∙ e.0, inl (too_much k p g v told x none e.0))
 
-      go : (full_closes now.did ≡ []) ⊎ IsFull k p (touched_on k v) → (full_closes now.did ≡ [] → (full_closes v2.did ≡ []) ⊎ ((full_closes v2.did ≡ k ∷ []) × ComesTooMuch log limits k rest now v2 more)) → Ends
+      go : (full_closes now.did ≡ []) ⊎ IsFull k p (touched_on k v) → (full_closes now.did ≡ [] → (full_closes v2.did ≡ []) ⊎ ((full_closes v2.did ≡ k ∷ []) × ComesTooMuch log config.capacity limits k rest now v2 more)) → Ends
       go (inl e) ih = later (ih e)
       go (inr x) ih = here x (takes_full k p g v s none x) ih
   few_comes limits k b w w2 (Waits c v on pending) s told none = inl none
@@ -373,11 +377,12 @@ module _ (store : StoreLaws) (log : List Act) where
       inl (only (close_both (Few [] ⊥) (May [] ⊥) Anywhere (inner [] ⊥) (outer [] ⊥) (ways [] ⊥) anywhere k (Own reasons.Memory) fits v tt (inl (λ k. refl)) (s, inl none)).1)
   few_comes limits k b w w2 (LetsGo c v closed) s told none = inl none
 
+module _ (store : StoreLaws) (log : List Act) where
   few_event : (h : HubState) (e : HubEvent) (r : HubReply) (w : Work) (d : Does h e r w) → Sound h → routing.Agrees store log h [] → (full_closes w.did ≡ []) ⊎ IsFullEvent log h e r w d
   few_event h (Opened k) r w d s a = inl (ap (λ (w : Work). full_closes w.did) d.0)
   few_event h (Bytes k piece) r w d s a =
       let start = holding_both (routing.Tells store log) Freely Anywhere (routing.inner store log) (routing.outer store log) freely anywhere k [] (begin h) (λ t. routing.holds_tells store log k [] (begin h) t) (s, routing.starts store log h a) in
-      few_comes h.config.limits k (held_on k h.connections ++ piece) (holding k [] (begin h)) w d.0 start.0 start.1 refl
+      few_comes store log h.config h.config.limits k (held_on k h.connections ++ piece) (holding k [] (begin h)) w d.0 start.0 (start.1, refl) refl
   few_event h (Ended k) r w d s a =
       inl (ap (λ (w : Work). full_closes w.did) d.1
       ∙ only (ended_both (Few [] ⊥) (May [] ⊥) Anywhere (inner [] ⊥) (outer [] ⊥) (ways [] ⊥) anywhere k (is_open (stage_of k h.connections)) d.0 (begin h) tt (s, inl refl)).1)

@@ -43,10 +43,10 @@ use Rattle.mq_route.proofs.Logging.{logs_event}
 -- ---- the configuration
 
 module _ (c : HubConfig) where
-  abbrev Same : Debt → Work → Type 0
+  abbrev pub Same : Debt → Work → Type 0
   Same o w = w.hub.config ≡ c
 
-  same_inner : Inner Same
+  pub same_inner : Inner Same
   unfolding put_on
   same_inner = record {
     put = λ k ps o w r. r;
@@ -74,7 +74,7 @@ module _ (c : HubConfig) where
       let e = end_of key w.hub.sessions in
       put_where_keeps Same same_inner (up_on key v.hub.connections) (move e).out nothing (with_sessions (with_end key (move e).end) v) r
 
-  same_outer : Outer Same Freely Anywhere
+  pub same_outer : Outer Same Freely Anywhere
   same_outer = record {
     mild = λ f k o w m r. r;
     gets = λ key p w s there up g r. r;

@@ -75,7 +75,7 @@ IsAmong s (t ∷ ts) = (s ≡ t) ⊎ IsAmong s ts
 -- After these acts, a PUBLISH or SUBSCRIBE arrives on a connected connection and closes it. The
 -- messages that it routes to some client need more packet identifiers than the client's session has
 -- free (2.3.1, 3.3.5, 3.8.4).
-pub record IsTooMuch (log : List Act) (conn : Conn) (packet : Packet) (growth : Growth) (work : Work) : Type 0 where
+pub record IsTooMuch (log : List Act) (capacity : ℕ) (conn : Conn) (packet : Packet) (growth : Growth) (work : Work) : Type 0 where
   pub key : ℕ
   pub connected : key_on (stage_of conn work.hub.connections) ≡ Some key
   pub kind : IsPublishOrSubscribe packet
@@ -83,24 +83,25 @@ pub record IsTooMuch (log : List Act) (conn : Conn) (packet : Packet) (growth : 
   pub exists : IsAmong session work.hub.sessions
   pub short : let now = seen session.key (log ++ work.did) in
       let happenings = (server_gets packet (end_of key work.hub.sessions)).happenings in
-      work.hub.config.capacity - length (uses session.end.book) < identifiers_for (routed_from session.key now (asked key happenings))
+      capacity - length (uses session.end.book) < identifiers_for (routed_from session.key now (asked key happenings))
   pub none_before : full_closes work.did ≡ []
   pub closes : full_closes (takes conn packet growth work).did ≡ conn ∷ []
 
 -- one of the packets in these bytes is too much
-abbrev pub ComesTooMuch : List Act → (limits : Bounds) (conn : Conn) (bytes : List ℕ) (start stop : Work) → Comes limits conn bytes start stop → Type 0
-ComesTooMuch log limits conn bytes start stop (Arrives packet first rest growth work last on reads more) =
-    IsTooMuch log conn packet growth work ⊎ ComesTooMuch log limits conn rest (takes conn packet growth work) last more
-ComesTooMuch log limits conn bytes start stop (Waits rest work on pending) = ⊥
-ComesTooMuch log limits conn bytes start stop (Breaks rest fault fits work on faulty) = ⊥
-ComesTooMuch log limits conn bytes start stop (Starves rest fits work on some) = ⊥
-ComesTooMuch log limits conn bytes start stop (LetsGo rest work closed) = ⊥
+abbrev pub ComesTooMuch : List Act → ℕ → (limits : Bounds) (conn : Conn) (bytes : List ℕ) (start stop : Work)
+    → Comes limits conn bytes start stop → Type 0
+ComesTooMuch log capacity limits conn bytes start stop (Arrives packet first rest growth work last on reads more) =
+    IsTooMuch log capacity conn packet growth work ⊎ ComesTooMuch log capacity limits conn rest (takes conn packet growth work) last more
+ComesTooMuch log capacity limits conn bytes start stop (Waits rest work on pending) = ⊥
+ComesTooMuch log capacity limits conn bytes start stop (Breaks rest fault fits work on faulty) = ⊥
+ComesTooMuch log capacity limits conn bytes start stop (Starves rest fits work on some) = ⊥
+ComesTooMuch log capacity limits conn bytes start stop (LetsGo rest work closed) = ⊥
 
 -- the event has bytes, one of their packets is too much, and its connection is the only one that
 -- closes for this reason
 abbrev pub IsFullEvent : List Act → (hub : HubState) (event : HubEvent) (reply : HubReply) (work : Work) → Does hub event reply work → Type 0
 IsFullEvent log hub (Bytes conn piece) reply work does = (full_closes work.did ≡ conn ∷ [])
-    × ComesTooMuch log hub.config.limits conn (held_on conn hub.connections ++ piece) (holding conn [] (begin hub)) work does.0
+    × ComesTooMuch log hub.config.capacity hub.config.limits conn (held_on conn hub.connections ++ piece) (holding conn [] (begin hub)) work does.0
 IsFullEvent log hub (Opened conn) reply work does = ⊥
 IsFullEvent log hub (Ended conn) reply work does = ⊥
 IsFullEvent log hub (Tick now) reply work does = ⊥
