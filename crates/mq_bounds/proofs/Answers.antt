@@ -86,7 +86,7 @@ suback_size i n codes e =
         let big = ltb-false (length (fields (packets.SubAck i codes))) 128 ge in
         omega arith
 
--- ---- what a happening asks to be answered
+-- ---- answers to the reports of an end
 
 abbrev pub asked : Happening → ℕ
 asked (happens.Subscribe i requests) = weight (packets.SubAck i (granted requests) ∷ [])
@@ -97,11 +97,11 @@ abbrev pub asked_all : List Happening → ℕ
 asked_all [] = 0
 asked_all (told ∷ later) = asked told + asked_all later
 
--- a reply and what its happenings ask for put out answers of so many bytes at most
+-- the reply, and the answers to its reports, have at most n bytes
 abbrev pub CostWithin : ℕ → Reply → Type 0
 CostWithin n r = weight r.out + asked_all r.happenings ≤ n
 
--- ---- what is sent again is no answer
+-- ---- packets that are sent again are no answers
 
 releases_none : (ids : List ℕ) (ps : List Packet) → filter is_answer (map packets.PubRel ids ++ ps) ≡ filter is_answer ps
 releases_none [] ps = refl
@@ -114,7 +114,7 @@ publishes_none (x ∷ xs) = publishes_none xs
 resent_none : (b : SenderBook) → filter is_answer (resent b) ≡ []
 resent_none b = releases_none b.released (map (λ (x : Entry). publish_packet x.id x.sent x.message) b.entries) ∙ publishes_none b.entries
 
--- nor is what is published
+-- published packets are no answers
 pub published_none : (q : Qos) (i : ℕ) (m : Message) (e : End) → weight (publishes_at q i m e).out ≡ 0
 published_none Q0 i m e = refl
 published_none Q1 i m e = by (is_up e.state)

@@ -1,4 +1,4 @@
--- A step of a broker puts out no more answers than the bytes that came.
+-- A step of a broker sends at most as many bytes of answers as arrived.
 use Rattle.std.proofs.Common.{◌≡◌, ◌⊎◌, inl, inr, ℕ, ◌+◌, ◌≤◌, Bool, true, false, ◌&&◌, cond, List, [], ◌∷◌, ◌++◌, map, length, filter, Option, Some, None, refl, ap, ◌∙◌, arith}
 use Rattle.std.proofs.lemmas.Bool.{cond_both}
 use Rattle.std.proofs.lemmas.List.{length-append, map-append}
@@ -52,9 +52,9 @@ own_packets k (p ∷ ps) = ap (λ (l : List Packet). p ∷ l) (own_packets k ps)
 weight_joined : (ps qs : List Packet) → weight (ps ++ qs) ≡ weight ps + weight qs
 weight_joined ps qs = ap (λ (l : List Packet). length (encodings l)) (filter_joined is_answer ps qs) ∙ ap length (flat_map-append encoding (filter is_answer ps) (filter is_answer qs)) ∙ length-append (encodings (filter is_answer ps)) (encodings (filter is_answer qs))
 
--- ---- how far a step has come
+-- ---- a part of a step
 
--- what a connection holds is as it was, or nothing
+-- the held bytes are unchanged, or none
 abbrev pub Lets : List ℕ → List ℕ → Type 0
 Lets before after = (after ≡ before) ⊎ (after ≡ [])
 
@@ -67,7 +67,8 @@ module _ (k : Conn) where
   abbrev pub written : Work → ℕ
   written w = length (encodings (answers_in w.sent))
 
-  -- from one work to the next so many bytes of answers are put out at most, and the connection holds what it held, or nothing
+  -- from one work to the next, at most n bytes of answers are sent, and the held bytes are
+  -- unchanged or none
   pub record Spends (n : ℕ) (w v : Work) : Type 0 where
     pub out : written v ≤ written w + n
     pub held : Lets (held_on k w.hub.connections) (held_on k v.hub.connections)
@@ -75,7 +76,7 @@ module _ (k : Conn) where
   pub still : (w : Work) → Spends 0 w w
   still w = record { out = omega arith; held = inl refl }
 
-  -- one after the other
+  -- one part after the other
   pub then_ : (n m : ℕ) (u v w : Work) → Spends n u v → Spends m v w → Spends (n + m) u w
   then_ n m u v w a b = record {
     out = let x = a.out in let y = b.out in omega arith;
@@ -126,7 +127,7 @@ module _ (k : Conn) where
       let a = where_spends (up_on key w.hub.connections) (move (end_of key w.hub.sessions)).out (with_sessions (with_end key (move (end_of key w.hub.sessions)).end) w) in
       record { out = a.out; held = a.held }
 
-  -- ---- messages that are placed
+  -- ---- placed messages
 
   place_spends : (key : ℕ) (m : Message) (w : Work) → Spends 0 w (place key m w)
   unfolding place
@@ -183,7 +184,7 @@ module _ (k : Conn) where
       let a = shut_spends j w in
       then_ 0 0 w v (leaves_behind why fits (stage_of j w.hub.connections) v) (record { out = a.out; held = a.held }) (leaves_spends why fits (stage_of j w.hub.connections) v)
 
-  -- ---- what happenings ask for
+  -- ---- answers to reports
 
   subscribed_spends : (key : ℕ) (rs : List Request) (w : Work) → Spends 0 w (subscribed key rs w)
   subscribed_spends key [] w = still w
@@ -216,7 +217,7 @@ module _ (k : Conn) where
   answers_all_spends j key (x ∷ xs) w =
       then_ (asked x) (asked_all xs) w (answers j key x w) (answers_all j key xs (answers j key x w)) (answers_spends j key x w) (answers_all_spends j key xs (answers j key x w))
 
-  -- an end does something, and then what is told is answered
+  -- an end makes a move, and its reports are answered
   answered_spends : (j : Conn) (key n : ℕ) (move : End → Reply) (w : Work) → weight (move (end_of key w.hub.sessions)).out + asked_all (move (end_of key w.hub.sessions)).happenings ≤ n
       → Spends n w (answers_all j key (move (end_of key w.hub.sessions)).happenings (does key move w))
   answered_spends j key n move w le =
@@ -225,7 +226,7 @@ module _ (k : Conn) where
       more (weight r.out + asked_all r.happenings) n w (answers_all j key r.happenings v) le
       (then_ (weight r.out) (asked_all r.happenings) w v (answers_all j key r.happenings v) (does_spends key move w) (answers_all_spends j key r.happenings v))
 
-  -- ---- a connection that is up
+  -- ---- a packet on a connected connection
 
   replies_spends : (j : Conn) (key n : ℕ) (move : End → Reply) (closed : Option CloseReason) (fits : Bool) (w : Work)
       → weight (move (end_of key w.hub.sessions)).out + asked_all (move (end_of key w.hub.sessions)).happenings ≤ n → Spends n w (replies j key move closed fits w)

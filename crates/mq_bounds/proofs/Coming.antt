@@ -1,4 +1,4 @@
--- The step of bytes that come on a connection of a broker.
+-- A step with bytes of a connection.
 use Rattle.std.proofs.Common.{◌≡◌, inl, inr, ℕ, ◌+◌, ◌≤◌, Bool, true, false, not, ◌&&◌, cond, List, [], ◌∷◌, ◌++◌, length, Option, Some, None, refl, sym, ap, subst, ◌∙◌, arith}
 use Rattle.std.proofs.lemmas.Bool.{cond_both}
 use Rattle.std.proofs.lemmas.List.{length-append}
@@ -28,7 +28,7 @@ use Rattle.mq_bounds.proofs.Answers.{weight}
 use Rattle.mq_bounds.proofs.Broker.{Lets, Spends, written, takes_spends, close_spends, put_spends, then_, more, still}
 use Rattle.mq_bounds.proofs.Ends.{joined_bytes, both_true}
 
--- what is held there then, or nothing where the connection isn't known
+-- the held bytes, or none if the connection is not known
 holds : (k : Conn) (b : List ℕ) (xs : List HubConnection) → Lets b (held_on k (with_connection (λ x. record x { held = b }) k xs))
 holds k b [] = inr refl
 holds k b (x ∷ xs) = by (holds k b xs) (is_connection k x) refl
@@ -41,7 +41,7 @@ holds k b (x ∷ xs) = by (holds k b xs) (is_connection k x) refl
     by later true e = cond_both (is_connection k x) b (held_on k (with_connection (λ x. record x { held = b }) k xs)) (Lets b) (λ t. inl refl) (λ n. later)
     by later false e = cond_both (is_connection k x) x.held (held_on k (with_connection (λ x. record x { held = b }) k xs)) (Lets b) (λ t. absurd (clash (is_connection k x) t e)) (λ n. later)
 
--- ---- bytes that are no packet
+-- ---- malformed bytes
 
 level_weight : (e : End) → weight (level_refused e).out ≤ 4
 level_weight e = let size = connack_size (connacks.Refused UnacceptableProtocolVersion) in omega arith
@@ -73,7 +73,7 @@ lets_nothing : (a b : List ℕ) → a ≡ [] → Lets a b → b ≡ []
 lets_nothing a b none (inl same) = same ∙ none
 lets_nothing a b none (inr nothing) = nothing
 
--- what comes on a connection that holds nothing
+-- bytes on a connection that holds none
 comes_within : (limit : Bounds) (k : Conn) (b : List ℕ) (w v : Work) → held_on k w.hub.connections ≡ [] → Comes limit k b w v → written k v + length (held_on k v.hub.connections) ≤ written k w + length b
 comes_within limit k b w v none (Arrives p first rest g w2 v2 here reads later) =
     let a = takes_spends k k p g w in
@@ -95,7 +95,7 @@ comes_within limit k b w v none (Starves b2 fits w2 here some) =
     omega arith
 comes_within limit k b w v none (LetsGo b2 w2 shut) = let size = ap length none in omega arith
 
--- bytes, and five more than the limit at most
+-- they are bytes, and at most five more than the limit
 abbrev HeldWithin : Bounds → List ℕ → Type 0
 HeldWithin limit b = AreBytes b × (length b ≤ 5 + limit.most)
 
@@ -117,7 +117,7 @@ comes_held short limit k b w v bytes none (Starves b2 fits w2 here some) =
     (lets_nothing (held_on k w.hub.connections) (held_on k (close k (Own reasons.Memory) fits w).hub.connections) none (close_spends k k (Own reasons.Memory) fits w).held)
 comes_held short limit k b w v bytes none (LetsGo b2 w2 shut) = nothing_held limit (held_on k w.hub.connections) none
 
--- the step begins with nothing held
+-- the step begins with no held bytes
 emptied : (k : Conn) (h : HubState) → held_on k (holding k [] (begin h)).hub.connections ≡ []
 emptied k h = by (holds k [] h.connections)
   where

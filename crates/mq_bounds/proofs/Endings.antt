@@ -1,4 +1,4 @@
--- All that comes of bytes: the packets, and then the rest.
+-- The result of bytes: packets, and then the rest.
 use Rattle.std.proofs.Common.{◌≡◌, ℕ, ◌+◌, ◌*◌, ◌≤◌, Bool, true, false, List, [], ◌∷◌, length, Option, Some, None, refl, sym, ap, subst, ◌∙◌, arith}
 use Rattle.std.specs.FinSet.{len}
 use Rattle.std.proofs.lemmas.List.{length-append}
@@ -9,6 +9,7 @@ use Rattle.mq_decode.specs.declared.fault.DecodeFault.{DecodeFault}
 use Rattle.mq_decode.specs.Limits.{Bounds}
 use Rattle.mq_decode.specs.Laws.{PendingIsShort}
 use Rattle.mq_decode.proofs.FieldLaws.{AreBytes-rest}
+use Rattle.mq_flow.specs.Sender.{SenderBook}
 use Rattle.mq_end.specs.declared.state.State.{State}
 use Rattle.mq_end.specs.declared.state.State.TheVariants.{Disconnected, Connecting, Connected}
 use Rattle.mq_end.specs.declared.reason.CloseReason.{CloseReason}
@@ -19,55 +20,55 @@ use Rattle.mq_bounds.specs.Costs.{rises, sent_again}
 use Rattle.mq_bounds.proofs.Lengths.{joined_size}
 use Rattle.mq_bounds.proofs.Rises.{is_open}
 use Rattle.mq_bounds.proofs.Stored.{over_stores}
-use Rattle.mq_bounds.proofs.Walk.{Does, BreaksOff, Refused, Nothing, Closed, told_after, all_calm, all_out, all_stored, all_refused, settled}
+use Rattle.mq_bounds.proofs.Walk.{Does, BreaksOff, Refused, Nothing, Closed, told_after, all_calm, first_book, all_out, all_stored, all_refused, settled}
 
 not_both : (o : Option CloseReason) (reason : CloseReason) → o ≡ None → o ≡ Some reason → ⊥
 not_both o reason h k =
     let e : None ≡ Some reason = sym h ∙ k in
     cc
 
--- ---- how much is put out
+-- ---- output
 
--- after a reply that puts out within bytes, another that tells nothing
-after_out : (s t : Reply) (front rest : List ℕ) (e : End) → rises t.happenings ≡ false → length (encodings t.out) ≤ length rest
-    → length (encodings s.out) ≤ length front + length (sent_again (rises s.happenings) e.book)
-    → length (encodings (followed s t).out) ≤ (length front + length rest) + length (sent_again (rises (followed s t).happenings) e.book)
-after_out s t front rest e quiet few before =
+-- a reply within bytes, followed by one without reports
+after_out : (s t : Reply) (front rest : List ℕ) (book : SenderBook) → rises t.happenings ≡ false → length (encodings t.out) ≤ length rest
+    → length (encodings s.out) ≤ length front + length (sent_again (rises s.happenings) book)
+    → length (encodings (followed s t).out) ≤ (length front + length rest) + length (sent_again (rises (followed s t).happenings) book)
+after_out s t front rest book quiet few before =
     let parts = joined_size s.out t.out in
-    let same = ap (λ (b : Bool). length (sent_again b e.book)) (told_after s.happenings t.happenings quiet) in
+    let same = ap (λ (b : Bool). length (sent_again b book)) (told_after s.happenings t.happenings quiet) in
     omega arith
 
--- of a reply to the bytes of front and rest, with what is held then
-abbrev pub AllWithin : List ℕ → List ℕ → End → List ℕ → Reply → Type 0
-AllWithin front rest e held r = length (encodings r.out) + length held ≤ (length front + length rest) + length (sent_again (rises r.happenings) e.book)
+-- the output and the held bytes are within the incoming bytes and what is sent again
+abbrev pub AllWithin : List ℕ → List ℕ → SenderBook → List ℕ → Reply → Type 0
+AllWithin front rest book held r = length (encodings r.out) + length held ≤ (length front + length rest) + length (sent_again (rises r.happenings) book)
 
-ending_out : (refusal : ℕ) (faulted : DecodeFault → End → Reply) → BreaksOff refusal faulted → (limit : Bounds) (s : Reply) (front rest : List ℕ) (e : End) (r : Reply) (held : List ℕ)
-    → length (encodings s.out) ≤ length front + length (sent_again (rises s.happenings) e.book) → Ending limit faulted s rest r held → AllWithin front rest e held r
-ending_out refusal faulted on_malformed limit s front rest e r held before (Waits pending none same is_held) =
-    subst (AllWithin front rest e held) (sym same) (let size = ap length is_held in omega arith)
-ending_out refusal faulted on_malformed limit s front rest e r held before (Closes reason closed same is_held) =
-    subst (AllWithin front rest e held) (sym same) (let size = ap length is_held in omega arith)
-ending_out refusal faulted on_malformed limit s front rest e r held before (Breaks fault bad none same is_held) =
-    subst (AllWithin front rest e held) (sym same) (
+ending_out : (refusal : ℕ) (faulted : DecodeFault → End → Reply) → BreaksOff refusal faulted → (limit : Bounds) (s : Reply) (front rest : List ℕ) (book : SenderBook) (r : Reply) (held : List ℕ)
+    → length (encodings s.out) ≤ length front + length (sent_again (rises s.happenings) book) → Ending limit faulted s rest r held → AllWithin front rest book held r
+ending_out refusal faulted on_malformed limit s front rest book r held before (Waits pending none same is_held) =
+    subst (AllWithin front rest book held) (sym same) (let size = ap length is_held in omega arith)
+ending_out refusal faulted on_malformed limit s front rest book r held before (Closes reason closed same is_held) =
+    subst (AllWithin front rest book held) (sym same) (let size = ap length is_held in omega arith)
+ending_out refusal faulted on_malformed limit s front rest book r held before (Breaks fault bad none same is_held) =
+    subst (AllWithin front rest book held) (sym same) (
     let size = ap length is_held in
-    let all = after_out s (faulted fault s.end) front rest e (on_malformed.quiet fault s.end) (on_malformed.short limit rest fault s.end bad) before in
+    let all = after_out s (faulted fault s.end) front rest book (on_malformed.quiet fault s.end) (on_malformed.short limit rest fault s.end bad) before in
     omega arith)
-ending_out refusal faulted on_malformed limit s front rest e r held before (Starves more none same is_held) =
-    subst (AllWithin front rest e held) (sym same) (
+ending_out refusal faulted on_malformed limit s front rest book r held before (Starves more none same is_held) =
+    subst (AllWithin front rest book held) (sym same) (
     let size = ap length is_held in
-    let all = after_out s (closes reasons.Memory s.end) front rest e refl (omega arith) before in
+    let all = after_out s (closes reasons.Memory s.end) front rest book refl (omega arith) before in
     omega arith)
 
 pub received_out : (refusal : ℕ) (gets : Packet → End → Reply) (faulted : DecodeFault → End → Reply) → Does refusal gets → BreaksOff refusal faulted → (limit : Bounds) (b : List ℕ) (e : End) (r : Reply) (held : List ℕ)
-    → Receives limit gets faulted b e r held → length (encodings r.out) + length held ≤ length b + length (sent_again (rises r.happenings) e.book)
+    → (h : Receives limit gets faulted b e r held) → length (encodings r.out) + length held ≤ length b + length (sent_again (rises r.happenings) (first_book h.packets e.book))
 received_out refusal gets faulted does on_malformed limit b e r held h =
-    let all = ending_out refusal faulted on_malformed limit (one_by_one gets h.packets e) h.front h.rest e r held (all_out refusal gets does limit h.packets h.front e h.stream) h.ending in
+    let all = ending_out refusal faulted on_malformed limit (one_by_one gets h.packets e) h.front h.rest (first_book h.packets e.book) r held (all_out refusal gets does limit h.packets h.front e h.stream) h.ending in
     let whole = ap length h.parts ∙ length-append h.front h.rest in
     omega arith
 
--- ---- when it comes up
+-- ---- an end that connects
 
-ending_quiet : (refusal : ℕ) (faulted : DecodeFault → End → Reply) → BreaksOff refusal faulted → (limit : Bounds) (s : Reply) (rest : List ℕ) (r : Reply) (held : List ℕ)
+pub ending_quiet : (refusal : ℕ) (faulted : DecodeFault → End → Reply) → BreaksOff refusal faulted → (limit : Bounds) (s : Reply) (rest : List ℕ) (r : Reply) (held : List ℕ)
     → Ending limit faulted s rest r held → rises r.happenings ≡ rises s.happenings
 ending_quiet refusal faulted on_malformed limit s rest r held (Waits pending none same is_held) = ap (λ (t : Reply). rises t.happenings) same
 ending_quiet refusal faulted on_malformed limit s rest r held (Closes reason closed same is_held) = ap (λ (t : Reply). rises t.happenings) same
@@ -89,9 +90,9 @@ received_once refusal gets faulted does on_malformed limit b e r held h up = by 
     by Connecting is = refl
     by Connected is = absurd (none (ap is_open is))
 
--- ---- while it waits
+-- ---- an end that waits
 
--- what is said of an end that waits still
+-- an end that still waits
 pub record StillWaits (e : End) (r : Reply) : Type 0 where
   pub before : e.state ≡ Connecting
   pub nothing : r ≡ silent e
@@ -121,9 +122,10 @@ pub received_still : (refusal : ℕ) (gets : Packet → End → Reply) (faulted 
     → Receives limit gets faulted b e r held → r.end.state ≡ Connecting → StillWaits e r
 received_still refusal gets faulted does on_malformed limit b e r held h waits = ending_still refusal gets faulted does on_malformed limit h.packets h.rest e r held h.ending waits
 
--- ---- where it does not come up
+-- ---- an end that does not connect
 
--- What is said of an end that waited and did not come up: it waits still and put nothing out, or it is closed, and put out no more than a refusal.
+-- An end that waited and did not connect still waits without output, or is closed after at most a
+-- refusal.
 pub data Stayed (refusal : ℕ) (e : End) (r : Reply) (held : List ℕ) : Type 0 where
   StaysOpen : r ≡ silent e → Stayed refusal e r held
   IsShut : r.end.state ≡ Disconnected → length (encodings r.out) ≤ refusal → held ≡ [] → Stayed refusal e r held
@@ -158,7 +160,7 @@ received_stayed refusal gets faulted does on_malformed limit b e r held h waits 
     ending_stayed refusal gets faulted on_malformed limit s h.rest e r held
     (all_refused refusal gets does h.packets e waits (sym (ending_quiet refusal faulted on_malformed limit s h.rest r held h.ending) ∙ quiet)) h.ending
 
--- ---- what is held
+-- ---- held bytes
 
 ending_held : PendingIsShort → (faulted : DecodeFault → End → Reply) (limit : Bounds) (s : Reply) (rest : List ℕ) (r : Reply) (held : List ℕ) → AreBytes rest → Ending limit faulted s rest r held → AreBytes held × (length held ≤ 5 + limit.most)
 ending_held short faulted limit s rest r held bytes (Waits pending none same is_held) =
@@ -177,7 +179,7 @@ pub received_held : PendingIsShort → (gets : Packet → End → Reply) (faulte
 received_held short gets faulted limit b e r held h bytes =
     ending_held short faulted limit (one_by_one gets h.packets e) h.rest r held (AreBytes-rest h.front h.rest (subst AreBytes h.parts bytes)) h.ending
 
--- ---- what is stored
+-- ---- stored identifiers
 
 ending_stored : (refusal : ℕ) (faulted : DecodeFault → End → Reply) → BreaksOff refusal faulted → (limit : Bounds) (s : Reply) (rest : List ℕ) (r : Reply) (held : List ℕ)
     → Ending limit faulted s rest r held → len r.end.received ≤ len s.end.received

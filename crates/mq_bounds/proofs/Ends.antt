@@ -1,5 +1,5 @@
 -- The bounds of both ends.
-use Rattle.std.proofs.Common.{◌≡◌, ℕ, zero, suc, ◌+◌, ◌≤◌, Bool, true, false, not, ◌&&◌, ◌⊎◌, inl, inr, List, [], ◌∷◌, ◌++◌, length, Option, Some, None, refl, sym, ap, subst, ◌∙◌, append-nil, arith}
+use Rattle.std.proofs.Common.{◌≡◌, ℕ, zero, suc, ◌+◌, ◌≤◌, Bool, true, false, not, ◌&&◌, ◌⊎◌, inl, inr, List, [], ◌∷◌, ◌++◌, length, Option, Some, None, refl, sym, ap, subst, ◌∙◌, append_assoc, append-nil, arith}
 use Rattle.std.proofs.lemmas.Bool.{cond_both}
 use Rattle.std.proofs.lemmas.List.{length-append}
 use Rattle.std.specs.FinSet.{len}
@@ -9,30 +9,30 @@ use Rattle.mq_packet.specs.declared.packet.Packet.{Packet}
 use Rattle.mq_packet.specs.Encoding.{EncodingLaws, fields, encodings}
 use Rattle.mq_decode.specs.declared.fault.DecodeFault.{DecodeFault}
 use Rattle.mq_decode.specs.Limits.{Bounds}
-use Rattle.mq_decode.specs.Grammar.{Reads, Faulty}
+use Rattle.mq_decode.specs.Grammar.{Reads, Stream, Faulty}
 use Rattle.mq_decode.specs.Laws.{PendingIsShort}
 use Rattle.mq_end.specs.declared.state.State.{State}
 use Rattle.mq_end.specs.declared.state.State.TheVariants.{Disconnected, Connecting}
 use Rattle.mq_end.specs.declared.happening.Happening.{Happening}
 use Rattle.mq_end.specs.declared.reason.CloseReason.{CloseReason}
 use Rattle.mq_end.specs.declared.reason.CloseReason.TheVariants as reasons
-use Rattle.mq_end.specs.End.{End, Reply, closes, is_live, is_up}
+use Rattle.mq_end.specs.End.{End, Reply, closes, is_live, is_up, one_by_one}
 use Rattle.mq_end.specs.Client.{client_gets}
 use Rattle.mq_end.specs.Server.{server_gets, level_refused}
 use Rattle.mq_end.specs.State.{EndState, PutsOut, is_level, client_faulted, server_faulted}
 use Rattle.mq_end.specs.Receiving.{Receives, Shows, ClientTakes, TakesOne, held_after}
 use Rattle.mq_end.specs.Laws.{ClosingLaws, WindowLaws, KeepsWindow}
-use Rattle.mq_bounds.specs.Costs.{rises, sent_again, kept}
+use Rattle.mq_bounds.specs.Costs.{rises, book_for, sent_again, kept}
 use Rattle.mq_bounds.specs.Waiting.{WaitsOn, Hears, Ignores, WaitsThrough}
-use Rattle.mq_bounds.specs.Bounds.{PacketBounds, ReceiveBounds, TakeBounds, BoundsLaws}
+use Rattle.mq_bounds.specs.Bounds.{PacketBounds, Connects, ReceiveBounds, TakeBounds, BoundsLaws}
 use Rattle.mq_bounds.proofs.Again.{again_size}
 use Rattle.mq_bounds.proofs.Lengths.{read_size, put_size}
 use Rattle.mq_bounds.proofs.Packets.{OutWithin, client_answer, server_answer, refused_out}
 use Rattle.mq_bounds.proofs.Rises.{client_calm, server_calm, client_opens, server_opens}
 use Rattle.mq_bounds.proofs.Faults.{level_size}
 use Rattle.mq_bounds.proofs.Stored.{StoresWithin, client_stored, server_stored, over_stores}
-use Rattle.mq_bounds.proofs.Walk.{Does, BreaksOff}
-use Rattle.mq_bounds.proofs.Endings.{Stayed, StaysOpen, IsShut, received_out, received_once, received_still, received_stayed, received_held, received_stored}
+use Rattle.mq_bounds.proofs.Walk.{Does, BreaksOff, first_book}
+use Rattle.mq_bounds.proofs.Endings.{ending_quiet, Stayed, StaysOpen, IsShut, received_out, received_once, received_still, received_stayed, received_held, received_stored}
 
 -- ---- the two ends
 
@@ -97,7 +97,7 @@ ReceivesBy gets faulted piece old new happenings acknowledged closed = (r : Repl
     × Receives old.limit gets faulted (old.held ++ piece) old.end r new.held
     × Shows r old new happenings acknowledged closed
 
--- what the bounds of `receive` are proved from
+-- the lemmas from which the bounds of `receive` follow
 pub record Given (refusal : ℕ) (gets : Packet → End → Reply) (faulted : DecodeFault → End → Reply) : Type 0 where
   pub encoding : EncodingLaws
   pub short : PendingIsShort
@@ -110,14 +110,36 @@ joined_bytes (x ∷ a) b h k zero = h 0
 joined_bytes (x ∷ a) b h k (suc i) = joined_bytes a b (λ j. h (suc j)) k i
 
 grown : (refusal : ℕ) (gets : Packet → End → Reply) (faulted : DecodeFault → End → Reply) → Given refusal gets faulted
-    → (piece : List ℕ) (old new : EndState) (happenings : List Happening) (acknowledged : List ℕ) (closed : Option CloseReason) → ReceivesBy gets faulted piece old new happenings acknowledged closed
-    → (b : Bool) → rises happenings ≡ b → kept new ≤ (kept old + length piece) + length (sent_again b old.end.book)
+    → (piece : List ℕ) (old new : EndState) (happenings : List Happening) (acknowledged : List ℕ) (closed : Option CloseReason) → (h : ReceivesBy gets faulted piece old new happenings acknowledged closed)
+    → (b : Bool) → rises happenings ≡ b → kept new ≤ (kept old + length piece) + length (sent_again b (first_book h.1.packets old.end.book))
 grown refusal gets faulted g piece old new happenings acknowledged closed h b up =
     let all = received_out refusal gets faulted g.does g.on_malformed old.limit (old.held ++ piece) old.end h.0 new.held h.1 in
     let put = put_size g.encoding h.0.out old.output new.output h.2.out in
     let parts = length-append old.held piece in
-    let same = ap (λ (c : Bool). length (sent_again c old.end.book)) (sym (ap rises h.2.told) ∙ up) in
+    let same = ap (λ (c : Bool). length (sent_again c (first_book h.1.packets old.end.book))) (sym (ap rises h.2.told) ∙ up) in
     omega arith
+
+-- the first packet is the one that connects an end
+connects : (refusal : ℕ) (gets : Packet → End → Reply) (faulted : DecodeFault → End → Reply) → Given refusal gets faulted
+    → (piece : List ℕ) (old new : EndState) (happenings : List Happening) (acknowledged : List ℕ) (closed : Option CloseReason) → (h : ReceivesBy gets faulted piece old new happenings acknowledged closed)
+    → rises happenings ≡ true → Connects piece old new
+connects refusal gets faulted g piece old new happenings acknowledged closed h up = by h.1.packets refl h.1.stream
+  where
+    quiet : rises (one_by_one gets h.1.packets old.end).happenings ≡ true
+    quiet =
+        sym (ending_quiet refusal faulted g.on_malformed old.limit (one_by_one gets h.1.packets old.end) h.1.rest h.0 new.held h.1.ending) ∙ (sym (ap rises h.2.told) ∙ up)
+
+    by : (ps : List Packet) → h.1.packets ≡ ps → Stream old.limit ps h.1.front → Connects piece old new
+    by [] none stream = absurd (let e : false ≡ true = sym (ap (λ (ps : List Packet). rises (one_by_one gets ps old.end).happenings) none) ∙ quiet in cc)
+    by (p ∷ ps) is stream = record {
+      first = p;
+      front = stream.0;
+      rest = stream.1 ++ h.1.rest;
+      parts = h.1.parts ∙ (ap (λ (b : List ℕ). b ++ h.1.rest) stream.4 ∙ append_assoc stream.0 stream.1 h.1.rest);
+      reads = stream.2;
+      grows = subst (λ (ps : List Packet). kept new ≤ (kept old + length piece) + length (sent_again true (first_book ps old.end.book))) is
+          (grown refusal gets faulted g piece old new happenings acknowledged closed h true up);
+    }
 
 still_output : (ps : List Packet) (old new : List ℕ) → ps ≡ [] → PutsOut ps old new → new ≡ old
 still_output ps old new none out = by (subst (λ (ps : List Packet). PutsOut ps old new) none out)
@@ -127,7 +149,7 @@ still_output ps old new none out = by (subst (λ (ps : List Packet). PutsOut ps 
 
 -- ---- many pieces
 
--- an end that waits, or is closed, and what it keeps then
+-- an end that waits or is closed, and the bytes that it stores
 data Waiting (refusal : ℕ) (limit : Bounds) (s : EndState) : Type 0 where
   IsOpen : s.end.state ≡ Connecting → s.output ≡ [] → AreBytes s.held → length s.held ≤ 5 + limit.most → s.limit ≡ limit → Waiting refusal limit s
   IsOver : s.end.state ≡ Disconnected → length s.output ≤ refusal → s.held ≡ [] → Waiting refusal limit s
@@ -176,22 +198,22 @@ kept_while refusal limit s (IsOver shut few none) = (let nothing = ap length non
 
 receive_bounds : (refusal : ℕ) (gets : Packet → End → Reply) (faulted : DecodeFault → End → Reply) → Given refusal gets faulted → ReceiveBounds refusal (ReceivesBy gets faulted)
 receive_bounds refusal gets faulted g = record {
-  grows = λ piece old new happenings acknowledged closed h quiet. let all = grown refusal gets faulted g piece old new happenings acknowledged closed h false quiet in omega arith;
-  comes_up = λ piece old new happenings acknowledged closed h up. grown refusal gets faulted g piece old new happenings acknowledged closed h true up;
-  once = λ piece old new happenings acknowledged closed h up.
-      received_once refusal gets faulted g.does g.on_malformed old.limit (old.held ++ piece) old.end h.0 new.held h.1 (sym (ap rises h.2.told) ∙ up);
-  waits = λ piece old new happenings acknowledged closed h is.
-      let still = received_still refusal gets faulted g.does g.on_malformed old.limit (old.held ++ piece) old.end h.0 new.held h.1 (sym (ap (λ (e : End). e.state) h.2.after) ∙ is) in
-      (still.before, still_output h.0.out old.output new.output (ap (λ (r : Reply). r.out) still.nothing) h.2.out);
-  refuses = λ piece old new happenings acknowledged closed h is quiet.
-      refused_output old.end h.0 new.held old.output new.output (received_stayed refusal gets faulted g.does g.on_malformed old.limit (old.held ++ piece) old.end h.0 new.held h.1 is (sym (ap rises h.2.told) ∙ quiet))
-      (put_size g.encoding h.0.out old.output new.output h.2.out);
-  held = λ piece old new happenings acknowledged closed h before bytes.
-      received_held g.short gets faulted old.limit (old.held ++ piece) old.end h.0 new.held h.1 (joined_bytes old.held piece before bytes);
-  stored = λ piece old new happenings acknowledged closed h.
-      let all = received_stored refusal gets faulted g.does g.on_malformed old.limit (old.held ++ piece) old.end h.0 new.held h.1 in
-      let same = ap (λ (e : End). len e.received) h.2.after in
-      let parts = length-append old.held piece in
+  grows = λ c quiet. let all = grown refusal gets faulted g c.piece c.old c.new c.happenings c.acknowledged c.closed c.received false quiet in omega arith;
+  comes_up = λ c up. connects refusal gets faulted g c.piece c.old c.new c.happenings c.acknowledged c.closed c.received up;
+  once = λ c up.
+      received_once refusal gets faulted g.does g.on_malformed c.old.limit (c.old.held ++ c.piece) c.old.end c.received.0 c.new.held c.received.1 (sym (ap rises c.received.2.told) ∙ up);
+  waits = λ c is.
+      let still = received_still refusal gets faulted g.does g.on_malformed c.old.limit (c.old.held ++ c.piece) c.old.end c.received.0 c.new.held c.received.1 (sym (ap (λ (e : End). e.state) c.received.2.after) ∙ is) in
+      (still.before, still_output c.received.0.out c.old.output c.new.output (ap (λ (r : Reply). r.out) still.nothing) c.received.2.out);
+  refuses = λ c is quiet.
+      refused_output c.old.end c.received.0 c.new.held c.old.output c.new.output (received_stayed refusal gets faulted g.does g.on_malformed c.old.limit (c.old.held ++ c.piece) c.old.end c.received.0 c.new.held c.received.1 is (sym (ap rises c.received.2.told) ∙ quiet))
+      (put_size g.encoding c.received.0.out c.old.output c.new.output c.received.2.out);
+  held = λ c before bytes.
+      received_held g.short gets faulted c.old.limit (c.old.held ++ c.piece) c.old.end c.received.0 c.new.held c.received.1 (joined_bytes c.old.held c.piece before bytes);
+  stored = λ c.
+      let all = received_stored refusal gets faulted g.does g.on_malformed c.old.limit (c.old.held ++ c.piece) c.old.end c.received.0 c.new.held c.received.1 in
+      let same = ap (λ (e : End). len e.received) c.received.2.after in
+      let parts = length-append c.old.held c.piece in
       omega arith;
   stranger = λ pieces old new waits nothing none h.
       kept_while refusal old.limit new (through refusal gets faulted g old.limit pieces old new h
@@ -208,20 +230,20 @@ shut_holds : (c : Option CloseReason) (held : List ℕ) → length (held_after c
 shut_holds None held = omega arith
 shut_holds (Some reason) held = omega arith
 
-taken : EncodingLaws → (gets : Packet → End → Reply) → ((p : Packet) (e : End) → OutWithin (2 + length (fields p)) e.book (gets p e)) → (lenient : Bool) (p : Packet) (b : List ℕ) (old new : EndState) (happenings : List Happening) (reply : Reply)
+taken : EncodingLaws → (gets : Packet → End → Reply) → ((p : Packet) (e : End) → OutWithin (2 + length (fields p)) (book_for p e.book) (gets p e)) → (lenient : Bool) (p : Packet) (b : List ℕ) (old new : EndState) (happenings : List Happening) (reply : Reply)
     → Reads lenient p b → (reply ≡ gets p old.end) ⊎ (reply ≡ closes reasons.Memory old.end) → PutsOut reply.out old.output new.output → happenings ≡ reply.happenings → new.held ≡ held_after reply.close old.held
-    → kept new ≤ (kept old + length b) + length (sent_again (rises happenings) old.end.book)
+    → kept new ≤ (kept old + length b) + length (sent_again (rises happenings) (book_for p old.end.book))
 taken encoding gets answer lenient p b old new happenings reply reads does out told held =
     let put = put_size encoding reply.out old.output new.output out in
     let few = by does in
-    let same = ap (λ (hs : List Happening). length (sent_again (rises hs) old.end.book)) told in
+    let same = ap (λ (hs : List Happening). length (sent_again (rises hs) (book_for p old.end.book))) told in
     let left = ap length held in
     let less = shut_holds reply.close old.held in
     omega arith
   where
-    by : (reply ≡ gets p old.end) ⊎ (reply ≡ closes reasons.Memory old.end) → OutWithin (length b) old.end.book reply
-    by (inl is) = subst (OutWithin (length b) old.end.book) (sym is) (let one = answer p old.end in let size = read_size lenient p b reads in omega arith)
-    by (inr is) = subst (OutWithin (length b) old.end.book) (sym is) (omega arith)
+    by : (reply ≡ gets p old.end) ⊎ (reply ≡ closes reasons.Memory old.end) → OutWithin (length b) (book_for p old.end.book) reply
+    by (inl is) = subst (OutWithin (length b) (book_for p old.end.book)) (sym is) (let one = answer p old.end in let size = read_size lenient p b reads in omega arith)
+    by (inr is) = subst (OutWithin (length b) (book_for p old.end.book)) (sym is) (omega arith)
 
 client_takes : EncodingLaws → TakeBounds ClientTakes
 client_takes encoding = record {

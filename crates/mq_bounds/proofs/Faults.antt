@@ -1,4 +1,4 @@
--- A CONNECT of another level takes four bytes at least.
+-- A CONNECT with another protocol level takes at least four bytes.
 use Rattle.std.proofs.Common.{◌≡◌, ℕ, ◌/◌, ◌%◌, ◌≤◌, Bool, true, false, not, cond, eqb, ltb, List, [], ◌∷◌, ◌++◌, length, Option, Some, None, Result, Ok, Err, IfOk, refl, sym, ap, subst, ◌∙◌, arith}
 use Rattle.std.proofs.lemmas.List.{length-append}
 use Rattle.mq_wire.specs.TextReading.{read_text}
@@ -18,7 +18,7 @@ use Rattle.mq_bounds.proofs.Lengths.{some_length}
 
 -- ---- the first byte
 
--- a result is no fault of the level
+-- a result is no fault of the protocol level
 abbrev pub is_other : {A : Type 0} → Result A FaultKind → Bool
 is_other (Ok x) = true
 is_other (Err k) = not (is_level k)
@@ -34,7 +34,7 @@ published dup (Some q) retain = either (dup_fits dup q) _ (Err DupWithoutDeliver
 flagged : {A : Type 0} (flags low : ℕ) (x : A) → is_other (cond (eqb low flags) (Ok x) (Err WrongFlags)) ≡ true
 flagged flags low x = either (eqb low flags) (Ok x) (Err WrongFlags) refl refl
 
--- no first byte is one
+-- no first byte has this fault
 first_other : (upper low : ℕ) → is_other (type_and_flags upper low) ≡ true
 first_other upper low =
     either (eqb upper 1) _ _ (flagged 0 low _) (
@@ -62,14 +62,14 @@ wrong (Some size) n h = by (eqb n size) h
     by true h = cc
     by false h = cc
 
--- no size is one
+-- no size has this fault
 sized : (over : Bool) (o : Option ℕ) (n : ℕ) → cond over (Some OverLimit) (wrong_size o n) ≡ Some ProtocolLevel → ⊥
 sized true o n h = cc
 sized false o n h = wrong o n h
 
 -- ---- the fields
 
--- a reading stops at such a fault
+-- reading stops at this fault
 abbrev pub stops : {A B : Type 0} → Result A B → (B → Bool) → Bool
 stops (Ok x) f = false
 stops (Err bad) f = f bad
@@ -81,7 +81,7 @@ where_ok : {A : Type 0} (b : Bool) (x y : Result A FaultKind) (P : A → Type 0)
 where_ok true x y P h k = h
 where_ok false x y P h k = k
 
--- no body without a byte has it, of whatever type
+-- no body without a byte has this fault
 no_publish : (dup : Bool) (q : Option Qos) (retain : Bool) → IfOk (publish_of dup q retain) (λ kind. stops (body_at kind []) (λ bad. is_level bad.kind) ≡ false)
 unfolding connect_at protocol_at text_at read_text connack_at publish_at name_at only_identifier_at identifier_at number_at list_with
 no_publish dup None retain = tt
@@ -105,7 +105,7 @@ no_body upper low =
     where_ok (eqb upper 13) _ _ _ (where_ok (eqb low 0) _ _ _ refl tt) (
     where_ok (eqb upper 14) _ _ _ (where_ok (eqb low 0) _ _ _ refl tt) tt)))))))))))))
 
--- nor has one of a byte
+-- no body of one byte has it
 one_publish : (x : ℕ) (dup : Bool) (q : Option Qos) (retain : Bool) → IfOk (publish_of dup q retain) (λ kind. stops (body_at kind (x ∷ [])) (λ bad. is_level bad.kind) ≡ false)
 unfolding connect_at protocol_at text_at read_text connack_at publish_at name_at only_identifier_at identifier_at number_at list_with
 one_publish x dup None retain = tt
@@ -138,7 +138,7 @@ one_body x upper low =
     where_ok (eqb upper 13) _ _ _ (where_ok (eqb low 0) _ _ _ refl tt) (
     where_ok (eqb upper 14) _ _ _ (where_ok (eqb low 0) _ _ _ refl tt) tt)))))))))))))
 
--- ---- what begins with such a fault
+-- ---- bytes with this fault
 
 not_both : {A B : Type 0} (r : Result A B) (x : A) (f : A → Bool) → r ≡ Ok x → IfOk r (λ y. f y ≡ false) → f x ≡ true → ⊥
 not_both {A = A} {B = B} r x f is h k =

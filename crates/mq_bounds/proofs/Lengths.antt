@@ -1,4 +1,4 @@
--- How long spellings are, and the bytes that packets are read from.
+-- Lengths of encodings, and of the bytes of packets.
 use Rattle.std.proofs.Common.{◌≡◌, ℕ, ◌+◌, ◌≤◌, false, true, Bool, List, [], ◌∷◌, ◌++◌, length, refl, ap, ◌∙◌, arith}
 use Rattle.std.proofs.lemmas.List.{length-append}
 use Rattle.std.proofs.lemmas.Grind.{flat_map-append}
@@ -11,7 +11,7 @@ use Rattle.mq_packet.specs.Encoding.{EncodingLaws, fields, first_byte, encoding,
 use Rattle.mq_decode.specs.Grammar.{Reads}
 use Rattle.mq_end.specs.State.{EncodesAll, PutsOut}
 
--- a remaining length has a byte at least
+-- a remaining length has at least one byte
 some_digits : (n : ℕ) (b : List ℕ) → Digits n b → 1 ≤ length b
 some_digits n [] h = absurd h
 some_digits n (x ∷ xs) h = omega arith
@@ -26,7 +26,7 @@ sized p len b some e =
     let parts = length-append len (fields p) in
     omega arith
 
--- a packet is read from two bytes more than its fields take, or more (2.2)
+-- a packet has at least two bytes more than its fields (2.2)
 pub read_size : (lenient : Bool) (p : Packet) (b : List ℕ) → Reads lenient p b → 2 + length (fields p) ≤ length b
 read_size false p b h = sized p h.len b (some_length false (length (fields p)) h.len h.formed) h.bytes
 read_size true p b h = sized p h.len b (some_length true (length (fields p)) h.len h.formed) h.bytes
@@ -68,7 +68,7 @@ encoded_is laws [] b h = h
 encoded_is laws (p ∷ ps) b h =
     h.4 ∙ ap (λ (s : List ℕ). s ++ h.1) (laws.one p h.0 h.2) ∙ ap (λ (s : List ℕ). encoding p ++ s) (encoded_is laws ps h.1 h.3)
 
--- what waits to be written grows by the spellings
+-- the pending output grows by the encodings
 pub put_size : EncodingLaws → (ps : List Packet) (old new : List ℕ) → PutsOut ps old new → length new ≡ length old + length (encodings ps)
 put_size laws ps old new h =
     let all = ap length h.2 ∙ length-append old h.0 in

@@ -1,4 +1,4 @@
--- When an end comes up, and what it does before.
+-- Ends that connect, and their state before.
 use Rattle.std.proofs.Common.{◌≡◌, ℕ, ◌≤◌, Bool, true, false, not, ◌&&◌, eqb, cond, [], ◌∷◌, length, Option, Some, None, refl, sym, ap, subst, ◌∙◌, arith}
 use Rattle.std.proofs.lemmas.Bool.{cond_both}
 use Rattle.mq_topic.specs.declared.qos.Qos.{Qos}
@@ -28,23 +28,24 @@ use Rattle.mq_end.specs.Server.{connect_gets, refuses, server_open_gets, server_
 use Rattle.mq_bounds.specs.Costs.{rises}
 use Rattle.mq_bounds.proofs.Lengths.{connack_size}
 
--- it waits for CONNECT or CONNACK (3.1, 3.2)
+-- the end waits for CONNECT or CONNACK (3.1, 3.2)
 abbrev pub is_open : State → Bool
 is_open Disconnected = false
 is_open Connecting = true
 is_open Connected = false
 
--- a reply doesn't come up, and leaves no end that waits
+-- the reply doesn't connect the end, and the end doesn't wait afterwards
 pub record IsCalm (r : Reply) : Type 0 where
   pub quiet : rises r.happenings ≡ false
   pub gone : is_open r.end.state ≡ false
 
--- What an end does that waits: it waits no more, and where it doesn't come up, it closes and puts out so many bytes at most.
+-- A waiting end stops waiting at a packet. If it does not connect, it closes and sends at most a
+-- refusal.
 pub record Opens (refusal : ℕ) (r : Reply) : Type 0 where
   pub gone : is_open r.end.state ≡ false
   pub shut : rises r.happenings ≡ false → (reason : CloseReason) × (r.close ≡ Some reason) × (r.end.state ≡ Disconnected) × (length (encodings r.out) ≤ refusal)
 
--- ---- an end that is up
+-- ---- a connected end
 
 calm : (r : Reply) (e : End) → r.end.state ≡ e.state → is_open e.state ≡ false → rises r.happenings ≡ false → IsCalm r
 calm r e same not_open quiet = record { quiet = quiet; gone = ap is_open same ∙ not_open }
@@ -104,7 +105,7 @@ client_calm p e h = client_calm_in e.state p e h h
 pub server_calm : (p : Packet) (e : End) → is_open e.state ≡ false → IsCalm (server_gets p e)
 server_calm p e h = server_calm_in e.state p e h h
 
--- ---- an end that waits
+-- ---- a waiting end
 
 shuts : (refusal : ℕ) (reason : CloseReason) (e : End) → Opens refusal (closes reason e)
 shuts refusal reason e = record { gone = refl; shut = λ h. (reason, refl, refl, omega arith) }

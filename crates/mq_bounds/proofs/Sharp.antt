@@ -1,4 +1,4 @@
--- What answers by more breaks the bounds.
+-- A second answer breaks the bounds.
 use Rattle.std.specs.Str.{IsAscii}
 use Rattle.std.proofs.Common.{◌≡◌, ℕ, zero, suc, ◌<◌, ◌^◌, false, List, [], ◌∷◌, length, refl, subst, arith}
 use Rattle.std.proofs.lemmas.Str.{IsUtf8-from_ascii, is_utf8-from_IsUtf8}
@@ -10,6 +10,7 @@ use Rattle.mq_packet.specs.Identifier.{IsIdentifier}
 use Rattle.mq_packet.specs.Values.{IsPacket}
 use Rattle.mq_packet.specs.Encoding.{EncodingLaws, fields, encoding, encodings}
 use Rattle.mq_end.specs.End.{End, Reply, puts_out}
+use Rattle.mq_bounds.specs.Costs.{book_for}
 use Rattle.mq_bounds.specs.Bounds.{PacketBounds}
 use Rattle.mq_bounds.specs.Sharp.{duplicate, SharpLaws}
 use Rattle.mq_bounds.proofs.Packets.{OutWithin}
@@ -33,10 +34,10 @@ four : (i : ℕ) → length (encoding (packets.PubRel i)) ≡ 4
 unfolding encoding length_bytes
 four i = refl
 
--- so many bytes are more than the packet has
+-- the answer is longer than the packet
 broken : EncodingLaws → (gets : Packet → End → Reply) (p : Packet) (ps : List Packet) (e f : End) → IsPacket p → length (fields p) < 2 ^ 28 → gets p e ≡ puts_out ps f → length (encoding p) < length (encodings ps) → PacketBounds gets → ⊥
 broken laws gets p ps e f right small is more bounds =
-    let within : OutWithin (length (encoding p)) e.book (puts_out ps f) = subst (OutWithin (length (encoding p)) e.book) is (bounds.answer false p (encoding p) e (laws.exists p right small)) in
+    let within : OutWithin (length (encoding p)) (book_for p e.book) (puts_out ps f) = subst (OutWithin (length (encoding p)) (book_for p e.book)) is (bounds.answer false p (encoding p) e (laws.exists p right small)) in
     omega arith
 
 pub laws : EncodingLaws → SharpLaws

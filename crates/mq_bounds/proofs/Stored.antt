@@ -1,4 +1,4 @@
--- How many identifiers a packet stores, and how many bytes one that stores takes.
+-- The identifiers that a packet stores, and the length of such a packet.
 use Rattle.std.proofs.Common.{◌≡◌, ℕ, ◌+◌, ◌-◌, ◌*◌, ◌≤◌, Bool, true, false, not, ◌&&◌, eqb, cond, List, [], ◌∷◌, ◌++◌, length, Option, Some, None, refl, arith}
 use Rattle.std.proofs.lemmas.Bool.{cond_both}
 use Rattle.std.proofs.lemmas.List.{length-append}
@@ -35,7 +35,7 @@ use Rattle.mq_end.specs.Server.{connect_gets, refuses, server_open_gets, server_
 use Rattle.mq_end.specs.Ready.{is_exactly_once}
 use Rattle.mq_bounds.proofs.Lengths.{read_size}
 
--- from one end to the next so many identifiers are stored more, at most
+-- at most n more identifiers are stored
 abbrev pub StoresWithin : ℕ → End → End → Type 0
 StoresWithin n e f = len f.received ≤ len e.received + n
 
@@ -128,7 +128,7 @@ client_stored p e = client_stores e.state p e
 pub server_stored : (p : Packet) (e : End) → StoresWithin (cond (is_exactly_once p) 1 0) e (server_gets p e).end
 server_stored p e = server_stores e.state p e
 
--- ---- the bytes of one that stores
+-- ---- the length of a packet that stores an identifier
 
 read_value : (lenient : Bool) (p : Packet) (b : List ℕ) → Reads lenient p b → IsPacket p
 read_value false p b h = h.packet
@@ -152,7 +152,7 @@ published p is twice =
     let some = named p.message.topic is.message.topic.name in
     omega arith
 
--- a packet that stores takes seven bytes at least
+-- a packet that stores an identifier has at least seven bytes
 stored_fields : (p : Packet) → IsPacket p → 7 * cond (is_exactly_once p) 1 0 ≤ 2 + length (fields p)
 stored_fields (packets.Publish p) h = by (same_qos Q2 p.message.qos) refl
   where

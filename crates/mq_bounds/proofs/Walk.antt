@@ -1,4 +1,4 @@
--- Packets that come one after another, and what comes of the rest.
+-- Packets one after another.
 use Rattle.std.proofs.Common.{◌≡◌, ℕ, ◌+◌, ◌*◌, ◌≤◌, Bool, true, false, ◌||◌, cond, List, [], ◌∷◌, ◌++◌, length, Option, Some, refl, sym, ap, ◌∙◌, arith}
 use Rattle.std.specs.FinSet.{len}
 use Rattle.std.proofs.lemmas.List.{length-append}
@@ -14,21 +14,22 @@ use Rattle.mq_end.specs.declared.happening.Happening.{Happening}
 use Rattle.mq_end.specs.declared.reason.CloseReason.{CloseReason}
 use Rattle.mq_end.specs.End.{End, Reply, silent, one_by_one, first_reason}
 use Rattle.mq_end.specs.Ready.{is_exactly_once}
-use Rattle.mq_bounds.specs.Costs.{is_rise, rises, sent_again}
+use Rattle.mq_flow.specs.Sender.{SenderBook}
+use Rattle.mq_bounds.specs.Costs.{is_rise, rises, book_for, sent_again}
 use Rattle.mq_bounds.proofs.Lengths.{read_size, joined_size}
 use Rattle.mq_bounds.proofs.Packets.{OutWithin}
 use Rattle.mq_bounds.proofs.Rises.{is_open, IsCalm, Opens}
 use Rattle.mq_bounds.proofs.Stored.{StoresWithin, stored_size}
 
--- What is proved of each packet that comes to an end which does this with it.
+-- The lemmas about each packet at an end.
 pub record Does (refusal : ℕ) (gets : Packet → End → Reply) : Type 0 where
-  pub answer : (p : Packet) (e : End) → OutWithin (2 + length (fields p)) e.book (gets p e)
+  pub answer : (p : Packet) (e : End) → OutWithin (2 + length (fields p)) (book_for p e.book) (gets p e)
   pub calm : (p : Packet) (e : End) → is_open e.state ≡ false → IsCalm (gets p e)
   pub opens : (p : Packet) (e : End) → e.state ≡ Connecting → Opens refusal (gets p e)
   pub stores : (p : Packet) (e : End) → StoresWithin (cond (is_exactly_once p) 1 0) e (gets p e).end
   pub ignores : (ps : List Packet) (e : End) → e.state ≡ Disconnected → one_by_one gets ps e ≡ silent e
 
--- And of bytes that are no packet.
+-- The lemmas about malformed bytes.
 pub record BreaksOff (refusal : ℕ) (faulted : DecodeFault → End → Reply) : Type 0 where
   pub quiet : (fault : DecodeFault) (e : End) → rises (faulted fault e).happenings ≡ false
   pub closed : (fault : DecodeFault) (e : End) → (faulted fault e).end.state ≡ Disconnected
@@ -46,7 +47,7 @@ first_none : (a b : Bool) → (a || b) ≡ false → a ≡ false
 first_none true b h = absurd cc
 first_none false b h = refl
 
--- what is told after something that is no rise does not change that
+-- a report that is no connection doesn't change whether the end connects
 pub told_after : (first later : List Happening) → rises later ≡ false → rises (first ++ later) ≡ rises first
 told_after first later h = list_any-append is_rise first later ∙ or_none (rises first) (rises later) h
 
@@ -55,7 +56,7 @@ told_first first later h = first_none (rises first) (rises later) (sym (list_any
 
 -- ---- packets
 
--- after a packet an end does not wait for the first one
+-- after a packet, an end doesn't wait for the first one
 pub settled : (refusal : ℕ) (gets : Packet → End → Reply) → Does refusal gets → (p : Packet) (e : End) → is_open (gets p e).end.state ≡ false
 settled refusal gets does p e = by e.state refl
   where
@@ -74,8 +75,13 @@ all_calm refusal gets does (p ∷ ps) e h =
       gone = later.gone;
     }
 
+-- the book with which the first of these packets connects an end
+abbrev pub first_book : List Packet → SenderBook → SenderBook
+first_book [] book = book
+first_book (p ∷ ps) book = book_for p book
+
 pub all_out : (refusal : ℕ) (gets : Packet → End → Reply) → Does refusal gets → (limit : Bounds) (ps : List Packet) (front : List ℕ) (e : End) → Stream limit ps front
-    → length (encodings (one_by_one gets ps e).out) ≤ length front + length (sent_again (rises (one_by_one gets ps e).happenings) e.book)
+    → length (encodings (one_by_one gets ps e).out) ≤ length front + length (sent_again (rises (one_by_one gets ps e).happenings) (first_book ps e.book))
 all_out refusal gets does limit [] front e h = omega arith
 all_out refusal gets does limit (p ∷ ps) front e h =
     let r : Reply = gets p e in
@@ -84,8 +90,8 @@ all_out refusal gets does limit (p ∷ ps) front e h =
     let size = read_size limit.lenient p h.0 h.2.0 in
     let calm = all_calm refusal gets does ps r.end (settled refusal gets does p e) in
     let later = all_out refusal gets does limit ps h.1 r.end h.3 in
-    let none = ap (λ (b : Bool). length (sent_again b r.end.book)) calm.quiet in
-    let same = ap (λ (b : Bool). length (sent_again b e.book)) (told_after r.happenings s.happenings calm.quiet) in
+    let none = ap (λ (b : Bool). length (sent_again b (first_book ps r.end.book))) calm.quiet in
+    let same = ap (λ (b : Bool). length (sent_again b (book_for p e.book))) (told_after r.happenings s.happenings calm.quiet) in
     let parts = joined_size r.out s.out in
     let whole = ap length h.4 ∙ length-append h.0 h.1 in
     omega arith
@@ -101,7 +107,7 @@ all_stored refusal gets does limit (p ∷ ps) front e h =
     let whole = ap length h.4 ∙ length-append h.0 h.1 in
     omega arith
 
--- where an end waits and does not come up: nothing came, or it closed
+-- a waiting end that does not connect got nothing, or closed
 pub data Refused (refusal : ℕ) (s : Reply) (e : End) : Type 0 where
   Nothing : s ≡ silent e → Refused refusal s e
   Closed : (reason : CloseReason) → s.close ≡ Some reason → s.end.state ≡ Disconnected → length (encodings s.out) ≤ refusal → Refused refusal s e

@@ -1,4 +1,4 @@
--- What bytes that come on a connection cost a broker.
+-- The cost of incoming bytes to a broker.
 use Rattle.std.specs.Prelude.{ℕ, ◌+◌, ◌≤◌, Bool, true, false, List, length, map, filter}
 use Rattle.mq_wire.specs.Bytes.{AreBytes}
 use Rattle.mq_packet.specs.declared.packet.Packet.{Packet}
@@ -11,21 +11,21 @@ use Rattle.mq_route.specs.Hub.{HubState, held_on}
 use Rattle.mq_route.specs.Work.{Work}
 use Rattle.mq_route.specs.Step.{Does}
 
--- all that a broker sends but the packets of its messages (4.3): PUBLISH, and PUBREL
+-- every packet but PUBLISH and PUBREL, which carry the broker's own messages (4.3)
 abbrev pub is_answer : Packet → Bool
 is_answer (packets.Publish p) = false
 is_answer (packets.PubRel i) = false
 is_answer p = true
 
--- the answers among the packets that were put out, on whatever connection
+-- the answers among the sent packets, on any connection
 abbrev pub answers_in : List (Conn × Packet) → List Packet
 answers_in sent = filter is_answer (map (λ x. x.1) sent)
 
 pub record BrokerBounds : Type 0 where
-  -- In the step of bytes that come on a connection: the answers that are put out on all connections together, and what this one then
-  -- holds, have at most as many bytes as it held and as came.
-  pub answers : (h : HubState) (k : Conn) (piece : List ℕ) (r : HubReply) (w : Work) → Does h (Bytes k piece) r w
-      → length (encodings (answers_in w.sent)) + length (held_on k w.hub.connections) ≤ length (held_on k h.connections) + length piece
-  -- And it holds at most five bytes more than the greatest remaining length (2.2.3).
-  pub held : (h : HubState) (k : Conn) (piece : List ℕ) (r : HubReply) (w : Work) → Does h (Bytes k piece) r w → AreBytes (held_on k h.connections) → AreBytes piece
-      → AreBytes (held_on k w.hub.connections) × (length (held_on k w.hub.connections) ≤ 5 + h.config.limits.most)
+  -- In a step with bytes of a connection, the answers on all connections and the bytes that this
+  -- one holds afterwards have at most the length of the bytes that it held and that arrived.
+  pub answers : (hub : HubState) (conn : Conn) (piece : List ℕ) (reply : HubReply) (work : Work) → Does hub (Bytes conn piece) reply work
+      → length (encodings (answers_in work.sent)) + length (held_on conn work.hub.connections) ≤ length (held_on conn hub.connections) + length piece
+  -- The connection holds at most five bytes more than the maximum remaining length (2.2.3).
+  pub held : (hub : HubState) (conn : Conn) (piece : List ℕ) (reply : HubReply) (work : Work) → Does hub (Bytes conn piece) reply work → AreBytes (held_on conn hub.connections) → AreBytes piece
+      → AreBytes (held_on conn work.hub.connections) × (length (held_on conn work.hub.connections) ≤ 5 + hub.config.limits.most)

@@ -1,4 +1,4 @@
--- Bytes that come to an end which does not come up.
+-- Bytes for an end that does not connect.
 use Rattle.std.specs.Prelude.{◌≡◌, ℕ, false, true, List, [], ◌∷◌, Option}
 use Rattle.mq_wire.specs.Bytes.{AreBytes}
 use Rattle.mq_end.specs.declared.happening.Happening.{Happening}
@@ -7,14 +7,14 @@ use Rattle.mq_end.specs.End.{is_live}
 use Rattle.mq_end.specs.State.{EndState}
 use Rattle.mq_bounds.specs.Costs.{rises}
 
--- A piece comes to an end that does this with bytes while it has a connection (4.2), and the end does not come up: the first CONNECT or
--- CONNACK did not come whole, or was refused. Without a connection it ignores the piece.
+-- A piece arrives, and the end does not connect: the first CONNECT or CONNACK is incomplete or
+-- refused. An end without a connection ignores the piece (4.2).
 pub data WaitsOn (receives : List ℕ → EndState → EndState → List Happening → List ℕ → Option CloseReason → Type 0) (piece : List ℕ) (old new : EndState) : Type 0 where
   Hears : (happenings : List Happening) (acknowledged : List ℕ) (closed : Option CloseReason) → AreBytes piece → is_live old.end.state ≡ true → receives piece old new happenings acknowledged closed
       → rises happenings ≡ false → new.limit ≡ old.limit → WaitsOn receives piece old new
   Ignores : is_live old.end.state ≡ false → new ≡ old → WaitsOn receives piece old new
 
--- pieces come, one after another
+-- pieces arrive one after another
 abbrev pub WaitsThrough : (List ℕ → EndState → EndState → List Happening → List ℕ → Option CloseReason → Type 0) → List (List ℕ) → EndState → EndState → Type 0
 WaitsThrough receives [] old new = new ≡ old
 WaitsThrough receives (piece ∷ pieces) old new = (next : EndState) × WaitsOn receives piece old next × WaitsThrough receives pieces next new

@@ -1,4 +1,4 @@
-//! The laws of what bytes that come cost an end.
+//! Laws about the cost of incoming bytes.
 
 ghost use Rattle.mq_bounds.specs.Bounds.{BoundsLaws};
 ghost use Rattle.mq_bounds.specs.Broker.{BrokerBounds};
@@ -8,10 +8,10 @@ use mq_decode::pending_is_short;
 use mq_end::{closing_laws, window_laws};
 use mq_packet::encoding_laws;
 
-/// Whatever bytes come to an end, what waits to be written and what is held of a packet grow in one `receive` by at most the bytes
-/// that came; where the end comes up in it, by those and the packets that are sent again (4.4). What is put out for a packet
-/// is no longer than the packet, each identifier that is stored took seven bytes (4.3.3), and an end that is not up holds at most five
-/// bytes and the limit, and owes at most its refusal.
+/// In one `receive`, the pending output and the held bytes grow by at most the incoming bytes, and
+/// by what is sent again when the end connects (4.4). The output for a packet is no longer than the
+/// packet, and each stored identifier took at least seven bytes (4.3.3). An end that is not
+/// connected holds at most five bytes and the limit, and owes at most its refusal.
 pub fn bounds_laws()
     ensures { BoundsLaws }
 {
@@ -21,15 +21,17 @@ pub fn bounds_laws()
     window_laws();
 }
 
-/// An end that answers each PUBREL by two PUBCOMPs, or a PUBLISH that is sent again by two PUBRECs (4.3.3), breaks these bounds.
+/// An end that sends two PUBCOMPs for a PUBREL, or two PUBRECs for a PUBLISH that is sent again
+/// (4.3.3), breaks these bounds.
 pub fn sharp_laws()
     ensures { SharpLaws }
 {
     encoding_laws();
 }
 
-/// In the step of bytes that come on a connection of a broker, all that is put out, but for PUBLISH and PUBREL, and what the connection
-/// then holds, have together at most as many bytes as it held and as came; and it holds at most five bytes and the limit.
+/// In a step with bytes of a connection, the packets that a broker sends, without PUBLISH and
+/// PUBREL, and the bytes that the connection then holds have at most the length of the bytes that
+/// it held and that arrived. It holds at most five bytes and the limit.
 pub fn broker_laws()
     ensures { BrokerBounds }
 {

@@ -1,6 +1,6 @@
-//! Bounds on what bytes that come can make an end, or a broker, hold and owe.
+//! Bounds on the bytes that a peer can make an end or a broker store and send.
 //!
-//! The definitions are in `specs/`; there is nothing to call at run time.
+//! The definitions are in `specs/`. The functions are laws, and do nothing at run time.
 #![tactic(auto)]
 
 mod laws;

@@ -1,4 +1,4 @@
--- Each copy of quality of service 1 or 2 that a step places is accepted.
+-- Each copy of QoS 1 or 2 that a step places is accepted.
 use Rattle.std.proofs.Common.{◌≡◌, ℕ, ◌≤◌, Bool, true, false, cond, not, ◌&&◌, List, [], ◌∷◌, ◌++◌, length, max, Option, Some, None, is_some, refl, sym, ap, subst, ◌∙◌, eqb, eqb-true, eq-eqb, true≢false, append_assoc, append-nil}
 use Rattle.std.proofs.lemmas.Bool.{cond-true, cond-false, cond_both, false_from_ne_true}
 use Rattle.std.proofs.lemmas.List.Concat.{flat_map-append}
@@ -60,15 +60,16 @@ use Rattle.mq_route.proofs.Sessions.{has, has_with, has_without, end_without, ha
 use Rattle.mq_route.proofs.Changes.{names_grown, ups_grown, retaining}
 use Rattle.mq_route.proofs.Books.{Each, each_filter, each_weaker, each_put, Stands, Rowed, copies_stand, retained_stand, put_alike, does_alike, Holds, holds_alike, holds_with, holds_does, Room, room, room_with, accepting, and_both}
 
--- ---- what an end tells
+-- ---- reports of an end
 
--- nothing that makes copies due
+-- a report that makes no copies due
 abbrev Quiet : Happening → Type 0
 Quiet (happens.Handed m) = ⊥
 Quiet (happens.Subscribe i requests) = ⊥
 Quiet other = Unit {0}
 
--- An end that is so does this with a packet: it tells nothing that makes copies due; or one thing that does, and then its book is as it was.
+-- An end in this state reports nothing that makes copies due; or it reports one thing that does,
+-- and its book is unchanged.
 data Tells (e : End) (r : Reply) : Type 0 where
   Quietly : Each Quiet r.happenings → Tells e r
   Hands : (m : Message) → r.happenings ≡ happens.Handed m ∷ [] → r.end.book ≡ e.book → Tells e r
@@ -121,7 +122,7 @@ gets_tells p e = go e.state refl
 greeting_quiet : (c : Connect) (e : End) → Each Quiet (greeting c e).happenings
 greeting_quiet c e = connect_quiet c (opens e).end
 
--- ---- copies that are due are so still when the end has done what it does
+-- ---- copies that are due stay due after the end's move
 
 up_put : (c : ℕ) (to : Option Conn) (ps : List Packet) (w : Work) → up_on c (put_where to ps w).hub.connections ≡ up_on c w.hub.connections
 unfolding put_on
@@ -145,16 +146,16 @@ up_is_there key ss up = go (has key ss) refl
     go true k = refl
     go false k = absurd (let clash : Disconnected ≡ Connected = sym (ap (λ (e : End). e.state) (no_session key ss k)) ∙ up in cc)
 
--- ---- what acts place
+-- ---- placed copies in acts
 
 placed_more : (c : ℕ) (log : List Act) (act : Act) → placed c (log ++ act ∷ []) ≡ placed c log ++ placed_by c act
 placed_more c log act = flat_map-append (placed_by c) log (act ∷ []) ∙ ap (λ (l : List Message). placed c log ++ l) (append-nil (placed_by c act))
 
--- acts that follow place nothing
+-- the later acts place nothing
 abbrev Still : List Act → List Act → Type 0
 Still log new = (c : ℕ) → placed c new ≡ placed c log
 
--- acts that follow place these copies
+-- the later acts place these copies
 abbrev Places : List Act → List Placing → List Act → Type 0
 Places log ps new = (c : ℕ) → placed c new ≡ placed c log ++ placed_for c ps
 
@@ -246,7 +247,7 @@ module _ (capacity : ℕ) (ids : IdentifierLaws) (next : NextLaws) (sound : Soun
   abbrev Kept : Work → Type 0
   Kept w = Holds capacity w.hub
 
-  -- from one work to another these copies are placed and accepted, and the books stay sound
+  -- from one work to another, these copies are placed and accepted, and the books stay sound
   record Goes (w : Work) (ps : List Placing) (v : Work) : Type 0 where
     accepts : AreAccepts ps
     kept : Kept v
@@ -307,7 +308,7 @@ module _ (capacity : ℕ) (ids : IdentifierLaws) (next : NextLaws) (sound : Soun
       unsubscribed_still key fs (said (acts.Unsubscribed key f) (record w { hub = record w.hub { rows = without_row key f w.hub.rows } })) c
       ∙ still_more (acts.Unsubscribed key f) (unsubscribed_idle key f) w.did c
 
-  -- ---- what an end tells is answered
+  -- ---- reactions to the reports of an end
 
   quiet_one : (k : Conn) (key : ℕ) (one : Happening) (w : Work) → Quiet one → Kept w → Goes w [] (answers k key one w)
   unfolding answers
@@ -339,14 +340,14 @@ module _ (capacity : ℕ) (ids : IdentifierLaws) (next : NextLaws) (sound : Soun
       none (happens.Subscribe i requests) q = absurd q
       none other q = refl
 
-  -- ---- a packet on a connection that is up
+  -- ---- a packet on a connected connection
 
-  -- an end does what it does, and its book is as it was: copies have as much room as before
+  -- a move that leaves the end's book unchanged leaves the room for copies unchanged
   room_does : (copies : List (ℕ × Message)) (key : ℕ) (move : End → Reply) (w : Work) → (move (end_of key w.hub.sessions)).end.book ≡ (end_of key w.hub.sessions).book → Room capacity copies w.hub.sessions → Room capacity copies (does key move w).hub.sessions
   room_does copies key move w same r =
       subst (Room capacity copies) (sym (does_alike key move w).0) (room_with capacity copies key (move (end_of key w.hub.sessions)).end w.hub.sessions same r)
 
-  -- what the end tells makes these copies due, and there is room for them
+  -- the end's reports make these copies due, and there is room for them
   due_room : (key : ℕ) (all : List Happening) (copies : List (ℕ × Message)) (w : Work) → Kept w → due key w.hub all ≡ copies → have_room (due key w.hub all) w.hub ≡ true → Room capacity copies w.hub.sessions
   due_room key all copies w h same e = room capacity copies w.hub h (subst (λ (c : List (ℕ × Message)). have_room c w.hub ≡ true) same e)
 
@@ -401,7 +402,7 @@ module _ (capacity : ℕ) (ids : IdentifierLaws) (next : NextLaws) (sound : Soun
       subst (λ (all : List Happening). have_room (due key w.hub all) w.hub ≡ true → Goes (does key move w) (in_answers k key all (does key move w)) (answers_all k key all (does key move w))) (sym is)
       (asked_goes k key i rs move w same (up_is_there key w.hub.sessions up) h) e
 
-  -- ---- a session ends
+  -- ---- the end of a session
 
   not_same : (a b : ℕ) → not (eqb a b) ≡ true → eqb b a ≡ false
   not_same a b e = false_from_ne_true (eqb b a) (λ t. true≢false (sym e ∙ ap not (eq-eqb a b (sym (eqb-true b a t)))))
@@ -473,7 +474,7 @@ module _ (capacity : ℕ) (ids : IdentifierLaws) (next : NextLaws) (sound : Soun
   put_kept : (k : Conn) (ps : List Packet) (w : Work) → Kept w → Kept (put_on k ps w)
   put_kept k ps w h = holds_alike capacity (put_on k ps w).hub w.hub (put_alike k ps w) h
 
-  -- packets are put out, and then a connection is closed
+  -- packets are queued, and then a connection is closed
   put_close : (k : Conn) (ps : List Packet) (why : HubClose) (fits : Bool) (w : Work) → Kept w → Goes w (in_close k why fits (put_on k ps w)) (close k why fits (put_on k ps w))
   put_close k ps why fits w h =
       let v = put_on k ps w in
@@ -641,7 +642,7 @@ module _ (capacity : ℕ) (ids : IdentifierLaws) (next : NextLaws) (sound : Soun
   run_kept [] h h2 f s = subst (Holds capacity) (sym f) s
   run_kept (e ∷ es) h h2 f s = run_kept es e.work.hub h2 f.2 (event_goes h e.event e.reply e.work f.1 s).kept
 
--- the acts that are told are those of the step
+-- the acts of the reply are those of the step
 told_acts : (h : HubState) (e : HubEvent) (r : HubReply) (w : Work) → Does h e r w → r.acts ≡ w.did
 told_acts h (Opened k) r w d = ap (λ (r : HubReply). r.acts) d.1
 told_acts h (Bytes k piece) r w d = ap (λ (r : HubReply). r.acts) d.1

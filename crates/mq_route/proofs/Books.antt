@@ -1,4 +1,5 @@
--- What is kept true of the senders' books of a broker's sessions, and that copies for which there is room are accepted.
+-- The senders' books of a broker's sessions stay sound, and copies for which there is room are
+-- accepted.
 use Rattle.std.proofs.Common.{◌≡◌, ℕ, ◌+◌, ◌-◌, ◌≤◌, nat_le, Bool, true, false, cond, ◌&&◌, ◌||◌, List, [], ◌∷◌, ◌++◌, length, filter, Option, Some, None, is_some, refl, sym, ap, subst, ◌∙◌, eqb, eqb-true, eq-eqb, leb-true, arith}
 use Rattle.std.proofs.lemmas.Bool.{cond-true, cond-false, cond_both, false_from_ne_true}
 use Rattle.std.proofs.lemmas.List.Sums.{sum_by-cons}
@@ -47,7 +48,7 @@ pub each_weaker : {X : Type 0} (P Q : X → Type 0) → ((x : X) → P x → Q x
 each_weaker P Q h [] f = tt
 each_weaker P Q h (x ∷ xs) f = (h x f.0, each_weaker P Q h xs f.1)
 
--- what is put into a list is of its key
+-- a property of the key and value that are put into a map, and of all others
 pub each_put : {K V : Type 0} (order : K → K → Ordering) (P : K → Type 0) (k : K) (v : V) (xs : List (K × V)) → P k → Each (λ x. P x.0) xs → Each (λ x. P x.0) (put order k v xs)
 each_put order P k v [] p f = (p, tt)
 each_put order P k v (x ∷ xs) p f = go (order k x.0) (each_put order P k v xs p f.1)
@@ -61,13 +62,13 @@ pub and_both : (x y : Bool) → (x && y) ≡ true → (x ≡ true) × (y ≡ tru
 and_both true y e = (refl, e)
 and_both false y e = absurd cc
 
--- ---- whose copies are due
+-- ---- clients with due copies
 
 -- the client has a session
 abbrev pub Stands : List HubSession → ℕ → Type 0
 Stands ss c = has c ss ≡ true
 
--- each subscription is of a client that has a session
+-- each subscription is of a client with a session
 abbrev pub Rowed : List Row → List HubSession → Type 0
 Rowed rows ss = Each (λ r. Stands ss r.0.0) rows
 
@@ -107,7 +108,7 @@ retained_stand P key [] ms p = tt
 retained_stand P key (r ∷ rs) ms p =
     each_append (λ x. P x.0) (for_key key (retained_for r.filter r.qos ms)) (retained_copies key rs ms) (for_one P key (retained_for r.filter r.qos ms) p) (retained_stand P key rs ms p)
 
--- ---- what putting packets out leaves
+-- ---- sent packets leave the sessions unchanged
 
 pub put_on_keeps : (k : Conn) (ps : List Packet) (w : Work) → (put_on k ps w).hub.sessions ≡ w.hub.sessions
 unfolding put_on
@@ -147,7 +148,8 @@ module _ (capacity : ℕ) where
   abbrev pub Sounds : List HubSession → Type 0
   Sounds ss = (c : ℕ) → IsSound capacity (end_of c ss).book
 
-  -- A broker's books are sound, its subscriptions are of clients that have sessions, and this is its capacity.
+  -- A broker's books are sound, its subscriptions are of clients with sessions, and its capacity is
+  -- this.
   pub record Holds (h : HubState) : Type 0 where
     pub is : h.config.capacity ≡ capacity
     pub books : Sounds h.sessions
@@ -220,15 +222,15 @@ module _ (capacity : ℕ) where
   room copies h hold e =
       room_in copies h.sessions (subst (λ (n : ℕ). list_all (λ s. nat_le (needs s.key copies) (n - length (uses s.end.book))) h.sessions ≡ true) hold.is e) hold.books
 
-  -- where a session's book is as it was there is as much room
+  -- a session whose book is unchanged has as much room as before
   pub room_with : (copies : List (ℕ × Message)) (key : ℕ) (e : End) (ss : List HubSession) → e.book ≡ (end_of key ss).book → Room copies ss → Room copies (with_end key e ss)
   room_with copies key e ss same r =
       each_with (Fits copies) key e ss r (λ there t. subst (λ (b : SenderBook). needs key copies + length (uses b) ≤ capacity) (sym same) (r key there))
 
-  -- ---- copies that are placed
+  -- ---- placed copies
 
   module _ (ids : IdentifierLaws) (next : NextLaws) (small : capacity ≤ 65535) where
-    -- what a client's end is to fit, before and after a copy is placed
+    -- the room that a client's end must have, before and after a copy is placed
     abbrev Ready : List (ℕ × Message) → ℕ → Bool → End → Type 0
     Ready copies c there e = IsSound capacity e.book × Fits copies c there e
 
@@ -238,7 +240,7 @@ module _ (capacity : ℕ) where
     one_more : (n used new : ℕ) → new ≡ used + 1 → (1 + n) + used ≤ capacity → n + new ≤ capacity
     one_more n used new more le = omega arith
 
-    -- the identifier that comes next is accepted
+    -- the next identifier is accepted
     abbrev Takes : End → Type 0
     Takes e = (is_full capacity e.book ≡ false) × IsFirstFree e.last e.book (next_identifier e.last e.book)
 
@@ -257,7 +259,7 @@ module _ (capacity : ℕ) where
           one_more n (length (uses e.book)) (length (uses new)) (ids.accepted capacity i m sent e.book t.0 t.1.free).more le,
         )
 
-    -- an end that publishes a message for which it has room
+    -- an end with room publishes a message
     published : (q : Qos) (n : ℕ) (m : Message) (e : End) → IsSound capacity e.book → (cond (has_identifier q) 1 0 + n) + length (uses e.book) ≤ capacity
         → IsSound capacity (publishes_at q (next_identifier e.last e.book) m e).end.book × Roomy n (publishes_at q (next_identifier e.last e.book) m e).end
     published Q0 n m e sound le = (sound, omega arith)
@@ -272,14 +274,14 @@ module _ (capacity : ℕ) where
     needs_cons : (c : ℕ) (x : ℕ × Message) (copies : List (ℕ × Message)) → needs c (x ∷ copies) ≡ cond (eqb x.0 c && has_identifier x.1.qos) 1 0 + needs c copies
     needs_cons c x copies = sum_by-cons (λ (y : ℕ × Message). cond (eqb y.0 c && has_identifier y.1.qos) 1 0) x copies
 
-    -- what the first of several copies needs
+    -- the identifiers that the first of several copies needs
     need_here : (key : ℕ) (m : Message) (copies : List (ℕ × Message)) → needs key ((key, m) ∷ copies) ≡ cond (has_identifier m.qos) 1 0 + needs key copies
     need_here key m copies = needs_cons key (key, m) copies ∙ ap (λ (b : Bool). cond (b && has_identifier m.qos) 1 0 + needs key copies) (eq-eqb key key refl)
 
     need_less : (c : ℕ) (x : ℕ × Message) (copies : List (ℕ × Message)) → needs c copies ≤ needs c (x ∷ copies)
     need_less c x copies = let more = needs_cons c x copies in omega arith
 
-    -- what is left after a copy is placed
+    -- the room after a copy is placed
     module _ (key : ℕ) (m : Message) (copies : List (ℕ × Message)) (w : Work) (hold : Holds w.hub) (there : has key w.hub.sessions ≡ true) (r : Room ((key, m) ∷ copies) w.hub.sessions) where
       abbrev e : End
       e = end_of key w.hub.sessions

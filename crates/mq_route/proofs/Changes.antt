@@ -1,4 +1,4 @@
--- The changes of which a step of a broker is made, one by one; and what they keep true of its sessions and connections.
+-- The elementary changes of a step, and the invariants of sessions and connections that they keep.
 use Rattle.std.proofs.Common.{◌≡◌, ℕ, ◌≤◌, Bool, true, false, ◌&&◌, List, [], ◌∷◌, ◌++◌, map, Option, Some, None, refl, sym, ap, subst, ◌∙◌, eqb, eq-eqb, ne_eqb, arith, le_refl}
 use Rattle.std.proofs.lemmas.Bool.{cond-true, cond-false, cond_both}
 use Rattle.mq_topic.specs.declared.qos.Qos.{Qos}
@@ -16,23 +16,23 @@ use Rattle.mq_route.specs.declared.act.Act.TheVariants as acts
 use Rattle.mq_end.specs.declared.reason.CloseReason.{CloseReason}
 use Rattle.mq_route.specs.declared.close.HubClose.{HubClose}
 use Rattle.mq_route.specs.declared.close.HubClose.TheVariants.{Own, TakenOver, PeerEnded}
-use Rattle.mq_route.specs.declared.connection_state.ConnectionState.TheVariants.{ConnectedAs, Closed}
+use Rattle.mq_route.specs.declared.connection_state.ConnectionState.TheVariants.{AwaitingConnect, ConnectedAs, Closed}
 use Rattle.mq_route.specs.declared.connection_state.ConnectionTerms.{ConnectionTerms}
 use Rattle.mq_route.specs.Routed.{same_conn}
 use Rattle.mq_route.specs.Copies.{kept, retained_for, will_message}
 use Rattle.mq_route.specs.Hub.{HubState, HubSession, HubConnection, no_end, new_end, end_of, with_end, changed, with_connection, without_session, is_for, for_key, knows, stage_of, up_on, copies_of}
 use Rattle.mq_route.specs.Work.{Work, said, with_connections, with_sessions, staged, shut, put_on, put_where, does, have_room, remove, remove_if, will_after}
-use Rattle.mq_route.specs.Arrives.{new_session}
+use Rattle.mq_route.specs.Arrives.{new_session, touched_on}
 use Rattle.mq_route.specs.Dropped.{when_over}
 use Rattle.mq_route.proofs.Lines.{Mild, Names, Ups, upper, names_changed, ups_changed, upper_map, grown, same_conn-itself}
 use Rattle.mq_route.proofs.Uppers.{Apart, IsIdle, apart_map, unless, upper_closed, apart_closed, upper_at, unless_other, upper_risen, apart_risen}
 use Rattle.mq_route.proofs.Sessions.{has, has_with, has_without, has_new, each_there, each_with, each_without, each_new}
 use Rattle.mq_route.proofs.Ends.{Alike, GoesOn, takings}
 
--- ---- what is still to be done in a step
+-- ---- open obligations in a step
 
--- The copies that are due and not placed; the messages that an end handed on and that are not taken; and the packets that came and are
--- not written down.
+-- The copies that are due but not placed, the messages that an end delivered but that are not
+-- taken, and the packets that are not logged.
 pub record Debt : Type 0 where
   pub copies : List (ℕ × Message)
   pub taken : List (ℕ × Message)
@@ -46,7 +46,7 @@ nothing = owes [] [] []
 
 -- ---- changes
 
--- the retained messages with one more, after an act that says so
+-- a message is retained after its act
 abbrev pub retaining : Act → Message → Work → Work
 retaining act m w = said act (record w { hub = record w.hub { retained = kept m w.hub.retained } })
 
@@ -56,15 +56,15 @@ subscribing key f q w = said (acts.Subscribed key f q) (record w { hub = record 
 abbrev pub unsubscribing : ℕ → List ℕ → Work → Work
 unsubscribing key f w = said (acts.Unsubscribed key f) (record w { hub = record w.hub { rows = without_row key f w.hub.rows } })
 
--- a connection that is up is closed, and its session ends where it is to
+-- a connected connection is closed, and its session is disconnected or removed
 abbrev pub closing : Conn → HubClose → ℕ → ConnectionTerms → Work → Work
 closing k why key terms w = when_over k why key terms w
 
--- a connection is up for a session, which does this
+-- a connection becomes connected, and its session's end makes a move
 abbrev pub rising : Conn → ℕ → ConnectionTerms → ℕ → (End → Reply) → Bool → Work → Work
 rising k key terms last_activity move present w = said (acts.Up k key present) (does key move (staged k (ConnectedAs key terms last_activity) w))
 
--- What is kept while copies are placed and subscriptions change.
+-- The changes when copies are placed and subscriptions change.
 pub record Inner (R : Debt → Work → Type 0) : Type 0 where
   pub put : (k : Conn) (ps : List Packet) (o : Debt) (w : Work) → R o w → R o (put_on k ps w)
   pub moves : (key : ℕ) (e : End) (o : Debt) (w : Work) → Alike e (end_of key w.hub.sessions) → R o w → R o (with_sessions (with_end key e) w)
@@ -75,14 +75,15 @@ pub record Inner (R : Debt → Work → Type 0) : Type 0 where
       → R (owes c t n) w → R (owes (c ++ for_key key (retained_for f q w.hub.retained)) t n) (subscribing key f q w)
   pub unsubscribed : (key : ℕ) (f : List ℕ) (o : Debt) (w : Work) → R o w → R o (unsubscribing key f w)
 
--- ---- what sessions and connections keep
+-- ---- invariants of sessions and connections
 
--- a client's session, its end, and the connection on which it is up
+-- a client's connection, whether it has a session, and its end agree
 abbrev pub Tied : Option (Conn × Bool) → Bool → End → Type 0
 Tied None there e = e.clean ≡ false
 Tied (Some u) there e = (there ≡ true) × (e.state ≡ Connected) × (e.clean ≡ u.1)
 
--- names stand once, keys that were not given have no session, and a client is up where its end is
+-- names are distinct, keys that were not assigned have no session, and a client is connected
+-- exactly if its end is
 pub record Orderly (connections : List HubConnection) (next : ℕ) (sessions : List HubSession) : Type 0 where
   pub apart : Apart connections
   pub keyless : (c : ℕ) → next ≤ c → has c sessions ≡ false
@@ -91,11 +92,12 @@ pub record Orderly (connections : List HubConnection) (next : ℕ) (sessions : L
 abbrev pub Sound : HubState → Type 0
 Sound h = Orderly h.connections h.next_key h.sessions
 
--- A will that there is no memory for, or no room for its copies.
+-- An allocation for a will fails, or a session lacks room for its copies.
 abbrev pub IsShort : Will → Bool → Work → Type 0
 IsShort m fits w = (fits && have_room (copies_of (will_message m) w.hub) w.hub) ≡ false
 
--- What is kept where packets and connections come and go, and a connection is closed only for what may close it, and only near a work.
+-- The changes when packets arrive and connections open and close. `May` restricts the reasons for a
+-- close, and `Near` the works at which it happens.
 pub record Outer (R : Debt → Work → Type 0) (May : HubClose → Type 0) (Near : Bool → Work → Type 0) : Type 0 where
   pub mild : (f : HubConnection → HubConnection) (k : Conn) (o : Debt) (w : Work) → Mild f → R o w → R o (with_connections (with_connection f k) w)
   pub gets : (key : ℕ) (p : Packet) (w : Work) → Sound w.hub → has key w.hub.sessions ≡ true → (end_of key w.hub.sessions).state ≡ Connected → GoesOn key p (end_of key w.hub.sessions) (server_gets p (end_of key w.hub.sessions))
@@ -107,38 +109,38 @@ pub record Outer (R : Debt → Work → Type 0) (May : HubClose → Type 0) (Nea
       → (m : Will) → will_after why terms.will ≡ Some m → IsShort m fits (closing k why key terms w) → R nothing (closing k why key terms w) → R nothing (said (acts.WillDropped key) (closing k why key terms w))
   pub removes : (key : ℕ) (w : Work) → Sound w.hub → upper key w.hub.connections ≡ None → R nothing w → R nothing (remove key w)
   pub begins : (client : List ℕ) (w : Work) → Sound w.hub → R nothing w → R nothing (new_session client w)
-  pub rises : (k : Conn) (key : ℕ) (terms : ConnectionTerms) (last_activity : ℕ) (move : End → Reply) (present : Bool) (w : Work) → Sound w.hub → knows k w.hub.connections ≡ true → IsIdle (stage_of k w.hub.connections)
+  pub rises : (k : Conn) (key : ℕ) (terms : ConnectionTerms) (last_activity : ℕ) (move : End → Reply) (present : Bool) (w : Work) → Sound w.hub → knows k w.hub.connections ≡ true → stage_of k w.hub.connections ≡ AwaitingConnect
       → upper key w.hub.connections ≡ None → has key w.hub.sessions ≡ true → (move (end_of key w.hub.sessions)).end.state ≡ Connected → (move (end_of key w.hub.sessions)).end.clean ≡ terms.clean_session → (move (end_of key w.hub.sessions)).end.received ≡ (end_of key w.hub.sessions).received
       → R nothing w → R nothing (rising k key terms last_activity move present w)
 
--- All but a session that is full may close a connection.
+-- Each reason but a full session may close a connection.
 pub record Ways (May : HubClose → Type 0) : Type 0 where
   pub own : (reason : CloseReason) → May (Own reason)
   pub over : May TakenOver
   pub peer : May PeerEnded
 
--- anything may
+-- no restriction on reasons
 abbrev pub Freely : HubClose → Type 0
 Freely why = Unit {0}
 
--- anywhere
+-- no restriction on works
 abbrev pub Anywhere : Bool → Work → Type 0
 Anywhere fits w = Unit {0}
 
--- What is near stays near where packets are put out and where connections change.
+-- Sent packets and a packet that arrives keep a work near.
 pub record Nearby (Near : Bool → Work → Type 0) : Type 0 where
   pub put : (fits : Bool) (k : Conn) (ps : List Packet) (w : Work) → Near fits w → Near fits (put_on k ps w)
-  pub connections : (fits : Bool) (change : List HubConnection → List HubConnection) (w : Work) → Near fits w → Near fits (with_connections change w)
+  pub touches : (fits : Bool) (k : Conn) (w : Work) → Near fits w → Near fits (touched_on k w)
 
 pub anywhere : Nearby Anywhere
-anywhere = record { put = λ fits k ps w n. tt; connections = λ fits change w n. tt }
+anywhere = record { put = λ fits k ps w n. tt; touches = λ fits k w n. tt }
 
 pub freely : Ways Freely
 freely = record { own = λ reason. tt; over = tt; peer = tt }
 
--- ---- and that they keep it
+-- ---- the changes keep the invariants
 
--- a connection that is closed
+-- a closed connection
 abbrev pub closed_line : HubConnection → HubConnection
 closed_line x = record x { stage = Closed; held = [] }
 
@@ -154,7 +156,7 @@ names_grown b x = refl
 pub ups_grown : (b : List ℕ) → Ups (grown b)
 ups_grown b x = (λ c. refl, refl)
 
--- a change that leaves names and on which connection a client is up
+-- a change that keeps names and clients
 pub mapped : (g : HubConnection → HubConnection) (xs : List HubConnection) (n : ℕ) (ss : List HubSession) → Names g → Ups g → Orderly xs n ss → Orderly (map g xs) n ss
 mapped g xs n ss h u s = record {
   apart = apart_map g h u xs s.apart;
@@ -162,7 +164,7 @@ mapped g xs n ss h u s = record {
   tied = λ c. subst (λ (o : Option (Conn × Bool)). Tied o (has c ss) (end_of c ss)) (sym (upper_map g h u c xs)) (s.tied c);
 }
 
--- the end of a session is another that is as tied
+-- a session gets another end that agrees with its connection
 ended_as : (key : ℕ) (e : End) (xs : List HubConnection) (n : ℕ) (ss : List HubSession) → (has key ss ≡ true → Tied (upper key xs) true e) → Orderly xs n ss → Orderly xs n (with_end key e ss)
 ended_as key e xs n ss new s = record {
   apart = s.apart;
@@ -174,7 +176,7 @@ alike_tied : (o : Option (Conn × Bool)) (there : Bool) (e f : End) → Alike e 
 alike_tied None there e f a h t = a.1 ∙ t
 alike_tied (Some u) there e f a h t = (refl, a.0 ∙ t.1, a.1 ∙ t.2)
 
--- a client without a session is not up
+-- a client without a session is not connected
 pub not_up : (c : ℕ) (h : HubState) → Sound h → has c h.sessions ≡ false → upper c h.connections ≡ None
 not_up c h s none = go (upper c h.connections) (subst (λ (b : Bool). Tied (upper c h.connections) b (end_of c h.sessions)) none (s.tied c))
   where
@@ -182,11 +184,11 @@ not_up c h s none = go (upper c h.connections) (subst (λ (b : Bool). Tied (uppe
     go None t = refl
     go (Some u) t = absurd (let clash = t.0 in cc)
 
--- a client that is up has a session, and its end is up
+-- a connected client has a session, and its end is connected
 pub is_tied : (c : ℕ) (u : Conn × Bool) (h : HubState) → Sound h → upper c h.connections ≡ Some u → Tied (Some u) (has c h.sessions) (end_of c h.sessions)
 is_tied c u h s e = subst (λ (o : Option (Conn × Bool)). Tied o (has c h.sessions) (end_of c h.sessions)) e (s.tied c)
 
--- the end of a client that is not up
+-- the end of a client that is not connected
 pub is_idle : (c : ℕ) (h : HubState) → Sound h → upper c h.connections ≡ None → (end_of c h.sessions).clean ≡ false
 is_idle c h s e = subst (λ (o : Option (Conn × Bool)). Tied o (has c h.sessions) (end_of c h.sessions)) e (s.tied c)
 
@@ -215,6 +217,10 @@ pub sound_mild : (f : HubConnection → HubConnection) (k : Conn) (w : Work) →
 sound_mild f k w m s =
     mapped (changed f k) w.hub.connections w.hub.next_key w.hub.sessions (names_changed f k (λ x. (m x).0)) (ups_changed f k (λ x. ((m x).2, (m x).3))) s
 
+pub sound_holding : (k : Conn) (b : List ℕ) (w : Work) → Sound w.hub → Sound (with_connections (with_connection (λ x. record x { held = b }) k) w).hub
+sound_holding k b w s =
+    mapped (changed (λ x. record x { held = b }) k) w.hub.connections w.hub.next_key w.hub.sessions (names_changed (λ x. record x { held = b }) k (λ x. refl)) (ups_changed (λ x. record x { held = b }) k (λ x. (λ c. refl, refl))) s
+
 pub sound_gets : (key : ℕ) (e : End) (w : Work) → e.state ≡ (end_of key w.hub.sessions).state → e.clean ≡ (end_of key w.hub.sessions).clean → Sound w.hub → Sound (with_sessions (with_end key e) w).hub
 sound_gets key e w state clean s =
     ended_as key e w.hub.connections w.hub.next_key w.hub.sessions (λ there. go (upper key w.hub.connections) (has key w.hub.sessions) (s.tied key)) s
@@ -231,7 +237,7 @@ sound_shuts k w s free = record {
       (sym (upper_closed closed_line k names_shut idle_shut w.hub.connections s.apart c ∙ unless_other k c w.hub.connections s.apart (free c))) (s.tied c);
 }
 
--- the connection on which a client is up, after it is closed
+-- a client's connection, after a connection closed
 pub upper_shut : (k : Conn) (c : ℕ) (w : Work) → Apart w.hub.connections → upper c (shut k w).hub.connections ≡ unless k (upper c w.hub.connections)
 upper_shut k c w a = upper_closed closed_line k names_shut idle_shut w.hub.connections a c
 
@@ -241,7 +247,7 @@ unless_itself k b = cond-true (same_conn k k) None (Some (k, b)) (same_conn-itse
 over_clean : (e : End) → (over e).clean ≡ false
 over_clean e = refl
 
--- a session's end is over, and its connection closed
+-- a session's end is disconnected, and its connection closed
 module _ (k : Conn) (key : ℕ) (terms : ConnectionTerms) (last_activity : ℕ) (w : Work) (s : Sound w.hub) (stage : stage_of k w.hub.connections ≡ ConnectedAs key terms last_activity) where
   pub upper_was : upper key w.hub.connections ≡ Some (k, terms.clean_session)
   upper_was = upper_at k key terms last_activity w.hub.connections s.apart stage

@@ -1,4 +1,4 @@
--- What the end of a session does with a packet, as far as the broker goes by it.
+-- The moves of a session's end at a packet, as far as the broker depends on them.
 use Rattle.std.proofs.Common.{◌≡◌, ℕ, Bool, true, false, not, ◌&&◌, cond, List, [], ◌∷◌, ◌++◌, length, Option, Some, None, refl, sym, subst, ◌∙◌, eqb}
 use Rattle.std.proofs.lemmas.Bool.{cond-false}
 use Rattle.mq_topic.specs.declared.qos.Qos.{Qos}
@@ -26,7 +26,7 @@ use Rattle.mq_route.specs.Hub.{for_key}
 use Rattle.mq_route.specs.Arrives.{greeting}
 use Rattle.mq_route.specs.Taken.{hands, stores, handed_by, book_after}
 
--- one end is as another, but for what it sends
+-- two ends agree except for their outgoing packets
 abbrev pub Alike : End → End → Type 0
 Alike e f = (e.state ≡ f.state) × (e.clean ≡ f.clean) × (e.received ≡ f.received)
 
@@ -34,9 +34,9 @@ pub publishes_alike : (q : Qos) (i : ℕ) (m : Message) (e : End) → Alike (pub
 publishes_alike Q0 i m e = (refl, refl, refl)
 publishes_alike q i m e = (refl, refl, refl)
 
--- ---- what is told
+-- ---- reports
 
--- the messages of a client that something told hands on
+-- the messages of a client that a report delivers
 abbrev pub taking : ℕ → Happening → List (ℕ × Message)
 taking key (happens.Handed m) = (key, m) ∷ []
 taking key told = []
@@ -45,7 +45,7 @@ abbrev pub takings : ℕ → List Happening → List (ℕ × Message)
 takings key [] = []
 takings key (told ∷ later) = taking key told ++ takings key later
 
--- it isn't that the connection is up
+-- the report is not that the client is connected
 abbrev pub NoUp : Happening → Type 0
 NoUp (happens.Up present) = ⊥
 NoUp told = Unit {0}
@@ -54,7 +54,7 @@ abbrev pub NoUps : List Happening → Type 0
 NoUps [] = Unit {0}
 NoUps (told ∷ later) = NoUp told × NoUps later
 
--- ---- an end that is up takes a packet in, and goes on
+-- ---- a connected end takes a packet and stays connected
 
 pub record GoesOn (key : ℕ) (p : Packet) (e : End) (r : Reply) : Type 0 where
   pub state : r.end.state ≡ e.state
@@ -85,7 +85,7 @@ module _ (key : ℕ) where
   publish_goes Q1 (Some d) m e h = (refl, refl, refl, refl, (tt, tt))
   publish_goes Q2 (Some d) m e h = within (fits_window e.window d.id e.received) h
     where
-      -- what comes of it where it fits the window or not
+      -- the result, by whether the packet fits the receive window
       comes : Bool → Reply
       comes fits = cond fits (both.stores d.id m e) (closes reasons.Window e)
 
@@ -116,7 +116,7 @@ module _ (key : ℕ) where
   pub stays_up : (p : Packet) (e : End) → e.state ≡ Connected → (server_gets p e).close ≡ None → GoesOn key p e (server_gets p e)
   stays_up p e up = subst (λ (s : State). (server_gets_in s p e).close ≡ None → GoesOn key p e (server_gets_in s p e)) (sym up) (up_goes p e)
 
--- ---- CONNECT is accepted
+-- ---- an accepted CONNECT
 
 pub record Greets (c : Connect) (e : End) (r : Reply) : Type 0 where
   pub state : r.end.state ≡ Connected
@@ -125,7 +125,7 @@ pub record Greets (c : Connect) (e : End) (r : Reply) : Type 0 where
   pub present : Bool
   pub told : r.happenings ≡ happens.Up present ∷ []
 
--- an end that comes up with a CONNECT, clean session aside
+-- the end that an accepted CONNECT leaves, apart from clean session
 greeted : (c : Connect) (e : End) (clean : Bool) → c.clean_session ≡ clean → (clean ≡ true → e.received ≡ (renewed true e).received) → (renewed clean e).received ≡ e.received
 greeted c e true same new = sym (new refl)
 greeted c e false same new = refl

@@ -1,4 +1,4 @@
--- What events keep true of sessions and connections.
+-- Events keep the invariants of sessions and connections.
 use Rattle.std.proofs.Common.{◌≡◌, Bool, true, false, cond, [], Option, Some, None, refl, sym, subst}
 use Rattle.mq_route.specs.declared.conn.Conn.{Conn}
 use Rattle.mq_route.specs.declared.config.HubConfig.{HubConfig}
@@ -19,7 +19,7 @@ use Rattle.mq_route.proofs.Frames.{closed_shut}
 pub sound_new : (config : HubConfig) → Sound (new_hub config)
 sound_new config = record { apart = tt; keyless = λ c le. refl; tied = λ c. refl }
 
--- what the refusals say
+-- a consequence of no refusal
 pub not_known : (k : Conn) (h : HubState) → event_refusal (Opened k) h ≡ None → knows k h.connections ≡ false
 not_known k h e = go (knows k h.connections) e
   where
@@ -34,7 +34,7 @@ sound_opened k h none s = record {
   tied = λ c. subst (λ (o : Option (Conn × Bool)). Tied o (has c h.sessions) (end_of c h.sessions)) (sym (upper_opened k c h.connections)) (s.tied c);
 }
 
--- a connection of which the bytes are taken
+-- a connection whose output is taken
 abbrev pub emptied : HubConnection → HubConnection
 emptied x = record x { waiting = [] }
 
@@ -54,7 +54,7 @@ sound_without k w free s = record {
   tied = λ c. subst (λ (o : Option (Conn × Bool)). Tied o (has c w.hub.sessions) (end_of c w.hub.sessions)) (sym (upper_without k w.hub.connections s.apart free c)) (s.tied c);
 }
 
--- a connection that is over is up for nobody
+-- a connection that ended has no client
 pub ended_idle : (k : Conn) (fits : Bool) (w : Work) → IsIdle (stage_of k (ended_open k (is_open (stage_of k w.hub.connections)) fits w).hub.connections)
 ended_idle k fits w = go (stage_of k w.hub.connections) refl
   where

@@ -1,9 +1,17 @@
--- A connection is closed for a full session only where a packet is too much.
-use Rattle.std.proofs.Common.{◌≡◌, ◌⊎◌, inl, inr, ℕ, Bool, true, false, List, [], ◌∷◌, ◌++◌, max, refl, sym, ap, subst, ◌∙◌, true≢false, append-nil, nat_le, ◌-◌, length, arith, le-leb}
-use Rattle.std.proofs.lemmas.Bool.{and_from}
+-- A connection closes for a full session only at a packet that is too much.
+use Rattle.std.proofs.Common.{◌≡◌, ◌⊎◌, inl, inr, ℕ, ◌+◌, ◌<◌, Bool, true, false, ◌&&◌, cond, List, [], ◌∷◌, ◌++◌, map, max, Option, Some, None, refl, sym, ap, ap₂, subst, subst₂, ◌∙◌, true≢false, append_assoc, append-nil, nat_le, ◌-◌, length, arith, le-leb, eqb}
+use Rattle.std.proofs.lemmas.Bool.{and_from, cond_both, leb-false}
 use Rattle.mq_flow.specs.Sender.{uses}
 use Rattle.std.proofs.lemmas.List.Concat.{flat_map-append}
-use Rattle.std.specs.List.{list_all}
+use Rattle.std.proofs.lemmas.List.Sums.{sum_by-cons}
+use Rattle.std.specs.List.{list_all, flat_map, count_by}
+use Rattle.mq_topic.specs.declared.qos.Qos.{Qos}
+use Rattle.mq_topic.specs.declared.qos.Qos.TheVariants.{Q0, Q1, Q2}
+use Rattle.mq_topic.specs.Rows.{with_row}
+use Rattle.mq_topic.specs.StoreLaws.{StoreLaws}
+use Rattle.mq_packet.specs.declared.message.Message.{Message}
+use Rattle.mq_packet.specs.declared.publish.Delivery.{Delivery}
+use Rattle.mq_packet.specs.declared.packet.Request.{Request}
 use Rattle.mq_packet.specs.declared.packet.Packet.{Packet}
 use Rattle.mq_packet.specs.declared.packet.Packet.TheVariants as packets
 use Rattle.mq_decode.specs.Limits.{Bounds}
@@ -11,51 +19,67 @@ use Rattle.mq_end.specs.declared.reason.CloseReason.TheVariants as reasons
 use Rattle.mq_end.specs.declared.state.State.{State}
 use Rattle.mq_end.specs.declared.state.State.TheVariants.{Connected}
 use Rattle.mq_end.specs.End.{End, Reply, over}
+use Rattle.mq_flow.specs.Receiver.{is_new}
+use Rattle.mq_flow.specs.Window.{fits_window}
+use Rattle.mq_end.specs.declared.happening.Happening.{Happening}
+use Rattle.mq_end.specs.declared.happening.Happening.TheVariants as happens
+use Rattle.mq_end.specs.declared.reason.CloseReason.{CloseReason}
+use Rattle.mq_end.specs.End.{closes}
+use Rattle.mq_end.specs.Both.{has_identifier, stores, publish_gets}
 use Rattle.mq_end.specs.Server.{server_gets, server_gets_in, server_up_gets}
 use Rattle.mq_route.specs.declared.act.Act.{Act}
 use Rattle.mq_route.specs.declared.act.Act.TheVariants as acts
 use Rattle.mq_route.specs.declared.close.HubClose.{HubClose}
-use Rattle.mq_route.specs.declared.close.HubClose.TheVariants.{Own}
+use Rattle.mq_route.specs.declared.close.HubClose.TheVariants.{Own, TargetFull}
 use Rattle.mq_route.specs.declared.conn.Conn.{Conn}
 use Rattle.mq_route.specs.declared.event.HubEvent.{HubEvent}
 use Rattle.mq_route.specs.declared.event.HubEvent.TheVariants.{Opened, Bytes, Ended, Tick, Collect}
 use Rattle.mq_route.specs.declared.reply.HubReply.{HubReply}
-use Rattle.mq_route.specs.declared.connection_state.ConnectionState.TheVariants.{ConnectedAs}
+use Rattle.mq_route.specs.declared.connection_state.ConnectionState.{ConnectionState}
+use Rattle.mq_route.specs.declared.connection_state.ConnectionState.TheVariants.{AwaitingConnect, ConnectedAs, Closed}
 use Rattle.mq_route.specs.declared.connection_state.ConnectionTerms.{ConnectionTerms}
-use Rattle.mq_route.specs.Hub.{HubState, HubSession, new_hub, stage_of, is_open, held_on, up_on, end_of, with_end}
-use Rattle.mq_route.specs.Work.{Work, begin, said, with_sessions, staged, shut, put_on, put_where, does, needs, have_room, remove, remove_if}
-use Rattle.mq_route.specs.Arrives.{due, new_session, touched_on, takes}
+use Rattle.mq_route.specs.Copies.{retained_for}
+use Rattle.mq_route.specs.Routed.{Seen, seen, seen_after, routes, routed_from, copies_for}
+use Rattle.mq_route.specs.Hub.{HubState, HubSession, HubConnection, new_hub, stage_of, is_open, key_on, held_on, up_on, end_of, with_end, for_key, copies_of}
+use Rattle.mq_route.specs.Work.{Work, begin, said, with_sessions, staged, shut, put_on, put_where, does, needs, have_room, remove, remove_if, retained_copies, will_after, leaves_behind, close}
+use Rattle.mq_route.specs.Arrives.{Growth, due, due_by, new_session, touched, touched_on, answers_all, replies, dispatch_packet, arrives, takes}
 use Rattle.mq_route.specs.Step.{holding, Comes, Arrives, Waits, Breaks, Starves, LetsGo, Does, told}
-use Rattle.mq_route.specs.Full.{if_full, full_by, full_closes, IsRouted, IsTooMuch, ComesTooMuch, IsFullEvent, FullLaws}
-use Rattle.mq_route.proofs.Changes.{Anywhere, anywhere, Debt, nothing, Inner, Outer, Ways, Sound, closing, rising}
-use Rattle.mq_route.proofs.Walk.{put_where_keeps}
-use Rattle.mq_route.proofs.Steps.{takes_both, breaks_both, close_both, holding_both, ticks_both, ended_both}
+use Rattle.mq_route.specs.Runs.{Episode, Follows, acts_of}
+use Rattle.mq_route.specs.Laws.{for_client}
+use Rattle.mq_route.specs.Full.{if_full, full_by, full_closes, IsPublishOrSubscribe, asked_by, asked, identifiers_for, IsAmong, IsTooMuch, ComesTooMuch, IsFullEvent, FullLaws}
+use Rattle.mq_route.proofs.Changes.{Anywhere, anywhere, Freely, freely, Debt, nothing, Inner, Outer, Ways, Sound, closing, rising, sound_put, sound_mild}
+use Rattle.mq_route.proofs.Walk.{put_where_keeps, last_will_keeps}
+use Rattle.mq_route.proofs.Frames.{closed_shut}
+use Rattle.mq_route.proofs.Steps.{heard_mild, stage_heard, takes_both, breaks_both, close_both, holding_both, ticks_both, ended_both}
 use Rattle.mq_route.proofs.Events.{sound_new}
 use Rattle.mq_route.proofs.Output.{sound_run}
+use Rattle.mq_route.proofs.Routing as routing
+use Rattle.mq_route.proofs.Reading as reading
+use Rattle.mq_route.specs.declared.config.HubConfig.{HubConfig}
 
--- ---- one act more
+-- ---- one more act
 
 -- an act that closes no connection for a full session
 more : (did : List Act) (act : Act) → full_by act ≡ [] → full_closes (did ++ act ∷ []) ≡ full_closes did
 more did act none = flat_map-append full_by did (act ∷ []) ∙ ap (λ (l : List Conn). full_closes did ++ (l ++ [])) none ∙ append-nil (full_closes did)
 
--- nothing of what was done closes a connection for a full session, or there is a reason for it
-module _ (X : Type 0) where
-  abbrev SmallList : Debt → Work → Type 0
-  SmallList o w = (full_closes w.did ≡ []) ⊎ X
+-- these connections closed for a full session, or there is a reason for more
+module _ (L : List Conn) (X : Type 0) where
+  abbrev Few : Debt → Work → Type 0
+  Few o w = (full_closes w.did ≡ L) ⊎ X
 
   abbrev May : HubClose → Type 0
   May why = ((k : Conn) → if_full why k ≡ []) ⊎ X
 
-  few_more : (did : List Act) (act : Act) → full_by act ≡ [] → (full_closes did ≡ []) ⊎ X → (full_closes (did ++ act ∷ []) ≡ []) ⊎ X
+  few_more : (did : List Act) (act : Act) → full_by act ≡ [] → (full_closes did ≡ L) ⊎ X → (full_closes (did ++ act ∷ []) ≡ L) ⊎ X
   few_more did act none (inl e) = inl (more did act none ∙ e)
   few_more did act none (inr x) = inr x
 
-  put_few : (k : Conn) (ps : List Packet) (o : Debt) (w : Work) → SmallList o w → SmallList o (put_on k ps w)
+  put_few : (k : Conn) (ps : List Packet) (o : Debt) (w : Work) → Few o w → Few o (put_on k ps w)
   unfolding put_on
   put_few k ps o w r = r
 
-  inner : Inner SmallList
+  inner : Inner Few
   unfolding full_by
   inner = record {
     put = put_few;
@@ -67,37 +91,37 @@ module _ (X : Type 0) where
     unsubscribed = λ key f o w r. few_more w.did (acts.Unsubscribed key f) refl r;
   }
 
-  closed_few : (k : Conn) (why : HubClose) (did : List Act) → May why → (full_closes did ≡ []) ⊎ X → (full_closes (did ++ acts.Closed k why ∷ []) ≡ []) ⊎ X
+  closed_few : (k : Conn) (why : HubClose) (did : List Act) → May why → (full_closes did ≡ L) ⊎ X → (full_closes (did ++ acts.Closed k why ∷ []) ≡ L) ⊎ X
   unfolding full_by
   closed_few k why did (inl none) r = few_more did (acts.Closed k why) (none k) r
   closed_few k why did (inr x) r = inr x
 
-  drops_few : (key : ℕ) (w : Work) → SmallList nothing w → SmallList nothing (said (acts.WillDropped key) w)
+  drops_few : (key : ℕ) (w : Work) → Few nothing w → Few nothing (said (acts.WillDropped key) w)
   unfolding full_by
   drops_few key w r = few_more w.did (acts.WillDropped key) refl r
 
-  removes_few : (key : ℕ) (w : Work) → SmallList nothing w → SmallList nothing (remove key w)
+  removes_few : (key : ℕ) (w : Work) → Few nothing w → Few nothing (remove key w)
   unfolding remove full_by
   removes_few key w r = few_more w.did (acts.Removed key) refl r
 
-  remove_if_few : (b : Bool) (key : ℕ) (w : Work) → SmallList nothing w → SmallList nothing (remove_if b key w)
+  remove_if_few : (b : Bool) (key : ℕ) (w : Work) → Few nothing w → Few nothing (remove_if b key w)
   remove_if_few true key w r = removes_few key w r
   remove_if_few false key w r = r
 
-  begins_few : (client : List ℕ) (w : Work) → SmallList nothing w → SmallList nothing (new_session client w)
+  begins_few : (client : List ℕ) (w : Work) → Few nothing w → Few nothing (new_session client w)
   unfolding new_session
   begins_few client w r = r
 
-  rises_few : (k : Conn) (key : ℕ) (terms : ConnectionTerms) (last_activity : ℕ) (move : End → Reply) (present : Bool) (w : Work) → SmallList nothing w → SmallList nothing (rising k key terms last_activity move present w)
+  rises_few : (k : Conn) (key : ℕ) (terms : ConnectionTerms) (last_activity : ℕ) (move : End → Reply) (present : Bool) (w : Work) → Few nothing w → Few nothing (rising k key terms last_activity move present w)
   unfolding does full_by
   rises_few k key terms last_activity move present w r =
       let v = staged k (ConnectedAs key terms last_activity) w in
       let e = end_of key w.hub.sessions in
       let u = with_sessions (with_end key (move e).end) v in
       let d = put_where (up_on key v.hub.connections) (move e).out u in
-      few_more d.did (acts.Up k key present) refl (put_where_keeps SmallList inner (up_on key v.hub.connections) (move e).out nothing u r)
+      few_more d.did (acts.Up k key present) refl (put_where_keeps Few inner (up_on key v.hub.connections) (move e).out nothing u r)
 
-  outer : Outer SmallList May Anywhere
+  outer : Outer Few May Anywhere
   outer = record {
     mild = λ f k o w m r. r;
     gets = λ key p w s there up g r. r;
@@ -114,7 +138,7 @@ module _ (X : Type 0) where
   ways : Ways May
   ways = record { own = λ reason. inl (λ k. refl); over = inl (λ k. refl); peer = inl (λ k. refl) }
 
--- ---- a packet that is too much
+-- ---- room
 
 all_room : (capacity : ℕ) (ss : List HubSession) → list_all (λ s. nat_le (needs s.key []) (capacity - length (uses s.end.book))) ss ≡ true
 all_room capacity [] = refl
@@ -127,46 +151,248 @@ room_none : (h : HubState) → have_room [] h ≡ true
 unfolding have_room
 room_none h = all_room h.config.capacity h.sessions
 
--- only a PUBLISH or a SUBSCRIBE makes copies due
-routed : (key : ℕ) (h : HubState) (p : Packet) (e : End) → have_room (due key h (server_up_gets p e).happenings) h ≡ false → IsRouted p
-routed key h (packets.Publish p) e short = tt
-routed key h (packets.Subscribe i requests) e short = tt
-routed key h p e short = absurd (true≢false (sym (room_none h) ∙ short))
+-- a session has fewer identifiers free than these copies need
+abbrev LacksRoom : List (ℕ × Message) → ℕ → List HubSession → Type 0
+LacksRoom copies capacity ss = (s : HubSession) × IsAmong s ss × (capacity - length (uses s.end.book) < needs s.key copies)
 
-routed_up : (key : ℕ) (h : HubState) (p : Packet) (e : End) → e.state ≡ Connected → have_room (due key h (server_gets p e).happenings) h ≡ false → IsRouted p
-routed_up key h p e up short = routed key h p e (subst (λ (s : State). have_room (due key h (server_gets_in s p e).happenings) h ≡ false) up short)
-
-few_comes : (limits : Bounds) (k : Conn) (b : List ℕ) (w w2 : Work) (c : Comes limits k b w w2) → Sound w.hub → full_closes w.did ≡ [] → (full_closes w2.did ≡ []) ⊎ ComesTooMuch limits k b w w2 c
-few_comes limits k b w w2 (Arrives p first rest g v v2 on reads more) s none =
-    let X : Type 0 = IsTooMuch k p (touched_on k v) in
-    let u = touched_on k v in
-    let t = takes_both (SmallList X) (May X) Anywhere (inner X) (outer X) (ways X) anywhere k p g v tt
-    (λ key up state short. inr (record { key = key; up = up; routed = routed_up key u.hub p (end_of key u.hub.sessions) state short; short = short })) (s, inl none) in
-    go t.0 t.1 (λ s2 none. few_comes limits k rest (takes k p g v) v2 more s2 none)
+lacks : (copies : List (ℕ × Message)) (capacity : ℕ) (ss : List HubSession) → list_all (λ s. nat_le (needs s.key copies) (capacity - length (uses s.end.book))) ss ≡ false → LacksRoom copies capacity ss
+lacks copies capacity [] h = absurd (true≢false h)
+lacks copies capacity (s ∷ ss) h = go (nat_le (needs s.key copies) (capacity - length (uses s.end.book))) refl h (lacks copies capacity ss)
   where
-    go : Sound (takes k p g v).hub → (full_closes (takes k p g v).did ≡ []) ⊎ IsTooMuch k p (touched_on k v)
-        → (Sound (takes k p g v).hub → full_closes (takes k p g v).did ≡ [] → (full_closes v2.did ≡ []) ⊎ ComesTooMuch limits k rest (takes k p g v) v2 more)
-        → (full_closes v2.did ≡ []) ⊎ (IsTooMuch k p (touched_on k v) ⊎ ComesTooMuch limits k rest (takes k p g v) v2 more)
-    go s2 (inr x) ih = inr (inl x)
-    go s2 (inl none) ih = later (ih s2 none)
-      where
-        later : (full_closes v2.did ≡ []) ⊎ ComesTooMuch limits k rest (takes k p g v) v2 more → (full_closes v2.did ≡ []) ⊎ (IsTooMuch k p (touched_on k v) ⊎ ComesTooMuch limits k rest (takes k p g v) v2 more)
-        later (inl e) = inl e
-        later (inr x) = inr (inr x)
-few_comes limits k b w w2 (Waits c v on pending) s none = inl none
-few_comes limits k b w w2 (Breaks c fault fits v on faulty) s none = (breaks_both (SmallList ⊥) (May ⊥) Anywhere (inner ⊥) (outer ⊥) (ways ⊥) anywhere k fault fits v tt (s, inl none)).1
-few_comes limits k b w w2 (Starves c fits v on some) s none = (close_both (SmallList ⊥) (May ⊥) Anywhere (inner ⊥) (outer ⊥) (ways ⊥) anywhere k (Own reasons.Memory) fits v tt (inl (λ k. refl)) (s, inl none)).1
-few_comes limits k b w w2 (LetsGo c v closed) s none = inl none
+    go : (b : Bool) → nat_le (needs s.key copies) (capacity - length (uses s.end.book)) ≡ b
+        → (b && list_all (λ s. nat_le (needs s.key copies) (capacity - length (uses s.end.book))) ss) ≡ false
+        → (list_all (λ s. nat_le (needs s.key copies) (capacity - length (uses s.end.book))) ss ≡ false → LacksRoom copies capacity ss) → LacksRoom copies capacity (s ∷ ss)
+    go true e h ih = let r = ih h in (r.0, inr r.1, r.2)
+    go false e h ih = (s, inl refl, leb-false (needs s.key copies) (capacity - length (uses s.end.book)) e)
 
-few_event : (h : HubState) (e : HubEvent) (r : HubReply) (w : Work) (d : Does h e r w) → Sound h → (full_closes w.did ≡ []) ⊎ IsFullEvent h e r w d
-few_event h (Opened k) r w d s = inl (ap (λ (w : Work). full_closes w.did) d.0)
-few_event h (Bytes k piece) r w d s =
-    let start = holding_both (SmallList ⊥) (May ⊥) Anywhere (inner ⊥) (outer ⊥) (ways ⊥) anywhere k [] (begin h) (s, inl refl) in
-    few_comes h.config.limits k (held_on k h.connections ++ piece) (holding k [] (begin h)) w d.0 start.0 refl
-few_event h (Ended k) r w d s =
-    subst (λ (w : Work). (full_closes w.did ≡ []) ⊎ ⊥) (sym d.1) (ended_both (SmallList ⊥) (May ⊥) Anywhere (inner ⊥) (outer ⊥) (ways ⊥) anywhere k (is_open (stage_of k h.connections)) d.0 (begin h) tt (s, inl refl)).1
-few_event h (Tick now) r w d s = (ticks_both (SmallList ⊥) (May ⊥) Anywhere (inner ⊥) (outer ⊥) (ways ⊥) anywhere (λ fits w. tt) (max h.clock now) h.connections (begin (told now h)) w d.0 (s, inl refl)).1
-few_event h (Collect k) r w d s = inl (ap (λ (w : Work). full_closes w.did) d.0)
+not_room : (copies : List (ℕ × Message)) (h : HubState) → have_room copies h ≡ false → LacksRoom copies h.config.capacity h.sessions
+unfolding have_room
+not_room copies h short = lacks copies h.config.capacity h.sessions short
 
-pub laws : FullLaws
-laws = record { closes = λ config before h f e r w right d. few_event h e r w d (sound_run before (new_hub config) h f (sound_new config)) }
+needs_for : (key : ℕ) (copies : List (ℕ × Message)) → needs key copies ≡ identifiers_for (for_client key copies)
+needs_for key [] = refl
+needs_for key (x ∷ xs) = sum_by-cons (λ x. cond (eqb x.0 key && has_identifier x.1.qos) 1 0) x xs ∙ go (eqb x.0 key) (needs_for key xs)
+  where
+    go : (a : Bool) → needs key xs ≡ identifiers_for (for_client key xs)
+        → cond (a && has_identifier x.1.qos) 1 0 + needs key xs ≡ identifiers_for (cond a (x.1 ∷ for_client key xs) (for_client key xs))
+    go true ih =
+        ap (λ (n : ℕ). cond (has_identifier x.1.qos) 1 0 + n) ih ∙ sym (sum_by-cons (λ (m : Message). cond (has_identifier m.qos) 1 0) x.1 (for_client key xs))
+    go false ih = omega (arith, ih)
+
+-- ---- the due copies are those that the acts route
+
+-- an end reports one thing at most
+abbrev IsLone : List Happening → Type 0
+IsLone happenings = (happenings ≡ []) ⊎ ((told : Happening) × (happenings ≡ told ∷ []))
+
+handed_lone : (b : Bool) (m : Message) → IsLone (cond b (happens.Handed m ∷ []) [])
+handed_lone true m = inr (happens.Handed m, refl)
+handed_lone false m = inl refl
+
+publish_lone : (q : Qos) (d : Option Delivery) (m : Message) (e : End) → IsLone (publish_gets q d m e).happenings
+publish_lone Q0 None m e = inr (happens.Handed m, refl)
+publish_lone Q1 (Some d) m e = inr (happens.Handed m, refl)
+publish_lone Q2 (Some d) m e =
+    cond_both (fits_window e.window d.id e.received) (stores d.id m e) (closes reasons.Window e) (λ (r : Reply). IsLone r.happenings) (λ t. handed_lone (is_new d.id e.received) m) (λ f. inl refl)
+publish_lone q d m e = inl refl
+
+-- only a PUBLISH or a SUBSCRIBE makes copies due
+kind_of : (key : ℕ) (h : HubState) (p : Packet) (e : End) → have_room (due key h (server_up_gets p e).happenings) h ≡ false → IsPublishOrSubscribe p × IsLone (server_up_gets p e).happenings
+kind_of key h (packets.Publish p) e short = (tt, publish_lone p.message.qos p.delivery p.message e)
+kind_of key h (packets.Subscribe i requests) e short = (tt, inr (happens.Subscribe i requests, refl))
+kind_of key h p e short = absurd (true≢false (sym (room_none h) ∙ short))
+
+kind_up : (key : ℕ) (h : HubState) (p : Packet) (e : End) → e.state ≡ Connected → have_room (due key h (server_gets p e).happenings) h ≡ false → IsPublishOrSubscribe p × IsLone (server_gets p e).happenings
+kind_up key h p e up short =
+    subst (λ (s : State). IsPublishOrSubscribe p × IsLone (server_gets_in s p e).happenings) (sym up)
+    (kind_of key h p e (subst (λ (s : State). have_room (due key h (server_gets_in s p e).happenings) h ≡ false) up short))
+
+subscribe_routed : (c key : ℕ) (rs : List Request) (s : Seen) → for_client c (retained_copies key rs s.retained) ≡ routed_from c s (map (λ r. acts.Subscribed key r.filter r.qos) rs)
+unfolding routes seen_after
+subscribe_routed c key [] s = refl
+subscribe_routed c key (r ∷ rs) s =
+    let first = retained_for r.filter r.qos s.retained in
+    routing.for_client-append c (for_key key first) (retained_copies key rs s.retained)
+    ∙ ap₂ (λ (a b : List Message). a ++ b) (routing.for_client-key c key first) (subscribe_routed c key rs (record s { rows = with_row key r.filter r.qos s.rows }))
+
+module _ (store : StoreLaws) (log : List Act) where
+  told_routed : (h : HubState) (c key : ℕ) (told : Happening) (s : Seen) → s ≡ routing.view store c h → for_client c (due_by key h told) ≡ routed_from c s (asked_by key told)
+  unfolding routes
+  told_routed h c key (happens.Handed m) s e = routing.due_is store h c m ∙ ap (λ (s : Seen). copies_for c s m) (sym e) ∙ sym (append-nil (copies_for c s m))
+  told_routed h c key (happens.Subscribe i requests) s e =
+      ap (λ (ms : List Message). for_client c (retained_copies key requests ms)) (ap (λ (s : Seen). s.retained) (sym e)) ∙ subscribe_routed c key requests s
+  told_routed h c key (happens.Up present) s e = refl
+  told_routed h c key (happens.Unsubscribe i filters) s e = refl
+  told_routed h c key (happens.SubAck i codes) s e = refl
+  told_routed h c key (happens.UnsubAck i) s e = refl
+  told_routed h c key happens.Pong s e = refl
+
+  due_routed : (h : HubState) (c key : ℕ) (happenings : List Happening) → IsLone happenings → (s : Seen) → s ≡ routing.view store c h → for_client c (due key h happenings) ≡ routed_from c s (asked key happenings)
+  due_routed h c key happenings (inl none) s e =
+      ap (λ (l : List Happening). for_client c (due key h l)) none ∙ ap (λ (l : List Happening). routed_from c s (asked key l)) (sym none)
+  due_routed h c key happenings (inr one) s e =
+      ap (λ (l : List Happening). for_client c (due key h l)) one.1
+      ∙ ap (for_client c) (append-nil (due_by key h one.0))
+      ∙ told_routed h c key one.0 s e
+      ∙ ap (routed_from c s) (sym (append-nil (asked_by key one.0)))
+      ∙ ap (λ (l : List Happening). routed_from c s (asked key l)) (sym one.1)
+
+-- ---- a packet for which a session has no room
+
+-- a packet on a connected connection makes copies due for which a session has no room
+pub record IsFull (k : Conn) (p : Packet) (w : Work) : Type 0 where
+  pub key : ℕ
+  pub up : key_on (stage_of k w.hub.connections) ≡ Some key
+  pub state : (end_of key w.hub.sessions).state ≡ Connected
+  pub short : have_room (due key w.hub (server_gets p (end_of key w.hub.sessions)).happenings) w.hub ≡ false
+
+only : {A : Type 0} → A ⊎ ⊥ → A
+only (inl a) = a
+only (inr x) = absurd x
+
+-- the connections that are closed for a full session stay these while a connection closes
+left_full : (L : List Conn) (why : HubClose) (fits : Bool) (s : ConnectionState) (w : Work) → full_closes w.did ≡ L → full_closes (leaves_behind why fits s w).did ≡ L
+unfolding leaves_behind
+left_full L why fits AwaitingConnect w e = e
+left_full L why fits (ConnectedAs key terms last_activity) w e =
+    let u = with_sessions (with_end key (over (end_of key w.hub.sessions))) w in
+    only (last_will_keeps (Few L ⊥) (inner L ⊥) key (will_after why terms.will) fits (remove_if terms.clean_session key u)
+    (λ m is short h. drops_few L ⊥ key (remove_if terms.clean_session key u) h) (remove_if_few L ⊥ terms.clean_session key u (inl e)))
+left_full L why fits Closed w e = e
+
+full_close : (k : Conn) (fits : Bool) (w : Work) → full_closes w.did ≡ [] → full_closes (close k TargetFull fits w).did ≡ k ∷ []
+unfolding close full_by
+full_close k fits w none =
+    left_full (k ∷ []) TargetFull fits (stage_of k w.hub.connections) (said (acts.Closed k TargetFull) (shut k w))
+    (flat_map-append full_by w.did (acts.Closed k TargetFull ∷ []) ∙ ap (λ (l : List Conn). l ++ k ∷ []) none)
+
+-- a packet closes no connection for a full session, or its own
+abbrev Leaves : Conn → Work → Type 0
+Leaves k w = (full_closes w.did ≡ []) ⊎ ((full_closes w.did ≡ k ∷ []) × (stage_of k w.hub.connections ≡ Closed))
+
+own_close : (k : Conn) (reason : CloseReason) (fits : Bool) (w : Work) → Sound w.hub → full_closes w.did ≡ [] → Leaves k (close k (Own reason) fits w)
+own_close k reason fits w s none =
+    inl (only (close_both (Few [] ⊥) (May [] ⊥) Anywhere (inner [] ⊥) (outer [] ⊥) (ways [] ⊥) anywhere k (Own reason) fits w tt (inl (λ k. refl)) (s, inl none)).1)
+
+replies_full : (k : Conn) (key : ℕ) (p : Packet) (fits : Bool) (w : Work) → Sound w.hub → full_closes w.did ≡ []
+    → have_room (due key w.hub (server_gets p (end_of key w.hub.sessions)).happenings) w.hub ≡ false → (c : Option CloseReason) → Leaves k (replies k key (server_gets p) c fits w)
+unfolding replies put_on
+replies_full k key p fits w s none short (Some reason) =
+    let out = (server_gets p (end_of key w.hub.sessions)).out in own_close k reason fits (put_on k out w) (sound_put k out w s) none
+replies_full k key p fits w s none short None =
+    cond_both (have_room (due key w.hub (server_gets p (end_of key w.hub.sessions)).happenings) w.hub)
+    (answers_all k key (server_gets p (end_of key w.hub.sessions)).happenings (does key (server_gets p) w)) (close k TargetFull fits w) (Leaves k)
+    (λ room. absurd (true≢false (sym room ∙ short))) (λ full. inr (full_close k fits w none, closed_shut k TargetFull fits w))
+
+dispatch_full : (k : Conn) (p : Packet) (fits : Bool) (s : ConnectionState) (now : ℕ) (w : Work) → Sound w.hub → full_closes w.did ≡ [] → (x : IsFull k p w) → key_on (touched now s) ≡ Some x.key
+    → Leaves k (dispatch_packet k p fits s w)
+unfolding dispatch_packet
+dispatch_full k p fits AwaitingConnect now w s none x e = absurd cc
+dispatch_full k p fits (ConnectedAs key terms last_activity) now w s none x e =
+    let same : x.key ≡ key = cc in
+    let short = subst (λ (key : ℕ). have_room (due key w.hub (server_gets p (end_of key w.hub.sessions)).happenings) w.hub ≡ false) same x.short in
+    replies_full k key p fits w s none short (server_gets p (end_of key w.hub.sessions)).close
+dispatch_full k p fits Closed now w s none x e = absurd cc
+
+takes_full : (k : Conn) (p : Packet) (g : Growth) (w : Work) → Sound w.hub → full_closes w.did ≡ [] → IsFull k p (touched_on k w) → Leaves k (takes k p g w)
+unfolding takes arrives
+takes_full k p g w s none x =
+    cond_both g.fits (dispatch_packet k p g.will_fits (stage_of k w.hub.connections) (touched_on k w)) (close k (Own reasons.Memory) g.will_fits w) (Leaves k)
+    (λ fits. dispatch_full k p g.will_fits (stage_of k w.hub.connections) w.hub.clock (touched_on k w)
+    (sound_mild (λ x. record x { stage = touched w.hub.clock x.stage }) k w (heard_mild w.hub.clock) s) none x (ap key_on (sym (stage_heard k w)) ∙ x.up))
+    (λ starved. own_close k reasons.Memory g.will_fits w s none)
+
+-- a closed connection ignores the bytes that follow
+lets_go : (limits : Bounds) (k : Conn) (b : List ℕ) (w w2 : Work) → Comes limits k b w w2 → stage_of k w.hub.connections ≡ Closed → w2 ≡ w
+lets_go limits k b w w2 (Arrives p first rest g v v2 on reads more) e = absurd (true≢false (sym on ∙ ap is_open e))
+lets_go limits k b w w2 (Waits c v on pending) e = absurd (true≢false (sym on ∙ ap is_open e))
+lets_go limits k b w w2 (Breaks c fault fits v on faulty) e = absurd (true≢false (sym on ∙ ap is_open e))
+lets_go limits k b w w2 (Starves c fits v on some) e = absurd (true≢false (sym on ∙ ap is_open e))
+lets_go limits k b w w2 (LetsGo c v closed) e = refl
+
+-- the time of activity doesn't change the client of a connection
+key_touched : (now : ℕ) (s : ConnectionState) → key_on (touched now s) ≡ key_on s
+key_touched now AwaitingConnect = refl
+key_touched now (ConnectedAs key terms last_activity) = refl
+key_touched now Closed = refl
+
+-- ---- the bytes of an event
+
+module _ (store : StoreLaws) (log : List Act) (config : HubConfig) where
+  -- the acts describe the work, and its configuration is this
+  abbrev Told : Work → Type 0
+  Told w = routing.Tells store log nothing w × (w.hub.config ≡ config)
+
+  too_much : (k : Conn) (p : Packet) (g : Growth) (w : Work) → Told w → IsFull k p (touched_on k w) → full_closes w.did ≡ [] → full_closes (takes k p g w).did ≡ k ∷ [] → IsTooMuch log config.capacity k p g w
+  too_much k p g w told x none closes =
+      let u = touched_on k w in
+      let happenings = (server_gets p (end_of x.key u.hub.sessions)).happenings in
+      let kind = kind_up x.key u.hub p (end_of x.key u.hub.sessions) x.state x.short in
+      let lack = not_room (due x.key u.hub happenings) u.hub x.short in
+      let after = (routing.outer store log).mild (λ x. record x { stage = touched w.hub.clock x.stage }) k nothing w (heard_mild w.hub.clock) told.0 in
+      record {
+        key = x.key;
+        connected = sym (key_touched w.hub.clock (stage_of k w.hub.connections)) ∙ ap key_on (sym (stage_heard k w)) ∙ x.up;
+        kind = kind.0;
+        session = lack.0;
+        exists = lack.1;
+        short = subst₂ (λ (c : HubConfig) (n : ℕ). c.capacity - length (uses lack.0.end.book) < n) told.1
+            (needs_for lack.0.key (due x.key u.hub happenings)
+            ∙ ap identifiers_for (due_routed store log u.hub lack.0.key x.key happenings kind.1 (seen lack.0.key (log ++ w.did)) (after.0 lack.0.key))) lack.2;
+        none_before = none;
+        closes = closes;
+      }
+
+  few_comes : (limits : Bounds) (k : Conn) (b : List ℕ) (w w2 : Work) (c : Comes limits k b w w2) → Sound w.hub → Told w → full_closes w.did ≡ []
+      → (full_closes w2.did ≡ []) ⊎ ((full_closes w2.did ≡ k ∷ []) × ComesTooMuch log config.capacity limits k b w w2 c)
+  few_comes limits k b w w2 (Arrives p first rest g v v2 on reads more) s told none =
+      let X : Type 0 = IsFull k p (touched_on k v) in
+      let t = takes_both (Few [] X) (May [] X) Anywhere (inner [] X) (outer [] X) (ways [] X) anywhere k p g v tt
+      (λ key up state short. inr (record { key = key; up = up; state = state; short = short })) (s, inl none) in
+      let a = takes_both (routing.Tells store log) Freely Anywhere (routing.inner store log) (routing.outer store log) freely anywhere k p g v tt (λ key up state short. tt) (s, told.0) in
+      let same = takes_both (reading.Same config) Freely Anywhere (reading.same_inner config) (reading.same_outer config) freely anywhere k p g v tt (λ key up state short. tt) (s, told.1) in
+      go t.1 (λ none. few_comes limits k rest (takes k p g v) v2 more t.0 (a.1, same.1) none)
+    where
+      now : Work
+      now = takes k p g v
+
+      Ends : Type 0
+      Ends = (full_closes v2.did ≡ []) ⊎ ((full_closes v2.did ≡ k ∷ []) × (IsTooMuch log config.capacity k p g v ⊎ ComesTooMuch log config.capacity limits k rest now v2 more))
+
+      later : (full_closes v2.did ≡ []) ⊎ ((full_closes v2.did ≡ k ∷ []) × ComesTooMuch log config.capacity limits k rest now v2 more) → Ends
+      later (inl e) = inl e
+      later (inr x) = inr (x.0, inr x.1)
+
+      here : IsFull k p (touched_on k v) → Leaves k now → (full_closes now.did ≡ [] → (full_closes v2.did ≡ []) ⊎ ((full_closes v2.did ≡ k ∷ []) × ComesTooMuch log config.capacity limits k rest now v2 more)) → Ends
+      here x (inl e) ih = later (ih e)
+      here x (inr e) ih = inr (ap (λ (w : Work). full_closes w.did) (lets_go limits k rest now v2 more e.1) ∙ e.0, inl (too_much k p g v told x none e.0))
+
+      go : (full_closes now.did ≡ []) ⊎ IsFull k p (touched_on k v) → (full_closes now.did ≡ [] → (full_closes v2.did ≡ []) ⊎ ((full_closes v2.did ≡ k ∷ []) × ComesTooMuch log config.capacity limits k rest now v2 more)) → Ends
+      go (inl e) ih = later (ih e)
+      go (inr x) ih = here x (takes_full k p g v s none x) ih
+  few_comes limits k b w w2 (Waits c v on pending) s told none = inl none
+  few_comes limits k b w w2 (Breaks c fault fits v on faulty) s told none =
+      inl (only (breaks_both (Few [] ⊥) (May [] ⊥) Anywhere (inner [] ⊥) (outer [] ⊥) (ways [] ⊥) anywhere k fault fits v tt (s, inl none)).1)
+  few_comes limits k b w w2 (Starves c fits v on some) s told none =
+      inl (only (close_both (Few [] ⊥) (May [] ⊥) Anywhere (inner [] ⊥) (outer [] ⊥) (ways [] ⊥) anywhere k (Own reasons.Memory) fits v tt (inl (λ k. refl)) (s, inl none)).1)
+  few_comes limits k b w w2 (LetsGo c v closed) s told none = inl none
+
+module _ (store : StoreLaws) (log : List Act) where
+  few_event : (h : HubState) (e : HubEvent) (r : HubReply) (w : Work) (d : Does h e r w) → Sound h → routing.Agrees store log h [] → (full_closes w.did ≡ []) ⊎ IsFullEvent log h e r w d
+  few_event h (Opened k) r w d s a = inl (ap (λ (w : Work). full_closes w.did) d.0)
+  few_event h (Bytes k piece) r w d s a =
+      let start = holding_both (routing.Tells store log) Freely Anywhere (routing.inner store log) (routing.outer store log) freely anywhere k [] (begin h) (λ t. routing.holds_tells store log k [] (begin h) t) (s, routing.starts store log h a) in
+      few_comes store log h.config h.config.limits k (held_on k h.connections ++ piece) (holding k [] (begin h)) w d.0 start.0 (start.1, refl) refl
+  few_event h (Ended k) r w d s a =
+      inl (ap (λ (w : Work). full_closes w.did) d.1
+      ∙ only (ended_both (Few [] ⊥) (May [] ⊥) Anywhere (inner [] ⊥) (outer [] ⊥) (ways [] ⊥) anywhere k (is_open (stage_of k h.connections)) d.0 (begin h) tt (s, inl refl)).1)
+  few_event h (Tick now) r w d s a =
+      inl (only (ticks_both (Few [] ⊥) (May [] ⊥) Anywhere (inner [] ⊥) (outer [] ⊥) (ways [] ⊥) anywhere (λ fits w. tt) (max h.clock now) h.connections (begin (told now h)) w d.0 (s, inl refl)).1)
+  few_event h (Collect k) r w d s a = inl (ap (λ (w : Work). full_closes w.did) d.0)
+
+pub laws : StoreLaws → FullLaws
+laws store = record {
+  closes = λ config before h f e r w right d.
+      few_event store (acts_of before) h e r w d (sound_run before (new_hub config) h f (sound_new config))
+      (routing.tells_run store before [] (new_hub config) h f (sound_new config) (λ c. refl, λ c. refl));
+}

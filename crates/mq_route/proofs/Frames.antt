@@ -1,4 +1,4 @@
--- What placing copies and closing a connection leave of the connections and of the sessions.
+-- Placing copies and closing a connection leave other connections and sessions unchanged.
 use Rattle.std.proofs.Common.{◌≡◌, ℕ, Bool, true, false, cond, List, [], refl, sym, subst, ◌∙◌}
 use Rattle.mq_packet.specs.Encoding.{encodings}
 use Rattle.mq_end.specs.End.{over}
@@ -15,7 +15,7 @@ use Rattle.mq_route.proofs.Sessions.{has, has_with}
 use Rattle.mq_route.proofs.Changes.{Inner, names_grown, ups_grown}
 use Rattle.mq_route.proofs.Walk.{last_will_keeps}
 
--- something of the connections that bytes which are put out don't change
+-- a function of the connections that doesn't depend on pending output
 abbrev pub Firm : {A : Type 0} → (List HubConnection → A) → Type 0
 Firm F = (b : List ℕ) (k : Conn) (xs : List HubConnection) → F (with_connection (grown b) k xs) ≡ F xs
 
@@ -58,18 +58,18 @@ module _ {A : Type 0} (F : List HubConnection → A) (firm : Firm F) (v : A) whe
       last_will_keeps (λ o w. F w.hub.connections ≡ v) lines_inner key (will_after why terms.will) fits (remove_if terms.clean_session key u) (λ m is short h. h) (lines_removed terms.clean_session key u h)
   lines_left why fits Closed w h = h
 
-  -- what a close leaves
+  -- a function of the connections after a close
   pub lines_closed : (k : Conn) (why : HubClose) (fits : Bool) (w : Work) → F (shut k w).hub.connections ≡ v → F (close k why fits w).hub.connections ≡ v
   unfolding close
   lines_closed k why fits w h = lines_left why fits (stage_of k w.hub.connections) (said (acts.Closed k why) (shut k w)) h
 
--- a connection that is closed is closed
+-- a closed connection has the state Closed
 pub closed_shut : (k : Conn) (why : HubClose) (fits : Bool) (w : Work) → stage_of k (close k why fits w).hub.connections ≡ Closed
 closed_shut k why fits w =
     lines_closed (stage_of k) (stage_firm k) Closed k why fits w
     (stage_here (λ x. record x { stage = Closed; held = [] }) (λ s. Closed) k w.hub.connections (λ x. refl) (λ x. refl) refl)
 
--- another one is as it was
+-- the state of another connection is unchanged
 pub closed_other : (k n : Conn) (why : HubClose) (fits : Bool) (w : Work) → same_conn k n ≡ false → stage_of n (close k why fits w).hub.connections ≡ stage_of n w.hub.connections
 closed_other k n why fits w apart =
     lines_closed (stage_of n) (stage_firm n) (stage_of n w.hub.connections) k why fits w
@@ -100,7 +100,7 @@ module _ (c : ℕ) (b : Bool) where
       (subst (λ (t : Bool). has c (remove_if t key u).hub.sessions ≡ b) (sym clean) kept)
   has_left why fits Closed w clean h = h
 
-  -- a session that doesn't end with the connection is there after it
+  -- a session that doesn't end with the connection still exists
   pub has_closed : (k : Conn) (why : HubClose) (fits : Bool) (w : Work) → is_clean (stage_of k w.hub.connections) ≡ false → has c w.hub.sessions ≡ b → has c (close k why fits w).hub.sessions ≡ b
   unfolding close
   has_closed k why fits w clean h = has_left why fits (stage_of k w.hub.connections) (said (acts.Closed k why) (shut k w)) clean h

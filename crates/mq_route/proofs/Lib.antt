@@ -15,3 +15,7 @@ mod Filling
 mod Losing
 mod Books
 mod Accepting
+mod History
+mod Names
+mod Logging
+mod Reading

@@ -1,4 +1,4 @@
--- What is written on a connection is the spellings of the packets that were put out on it.
+-- The bytes written on a connection are the encodings of the packets that were sent on it.
 use Rattle.std.proofs.Common.{◌≡◌, ℕ, Bool, true, false, not, cond, ◌||◌, List, [], ◌∷◌, ◌++◌, map, max, None, refl, sym, ap, ap₂, subst, ◌∙◌, append_assoc, append-nil}
 use Rattle.std.proofs.lemmas.Bool.{cond-true, cond-false}
 use Rattle.std.proofs.lemmas.List.Concat.{flat_map-append}
@@ -45,11 +45,12 @@ on_conn-other k n [] e = refl
 on_conn-other k n (p ∷ ps) e = cond-false (same_conn k n) (p ∷ on_conn n (map (λ p. (k, p)) ps)) (on_conn n (map (λ p. (k, p)) ps)) e ∙ on_conn-other k n ps e
 
 module _ (n : Conn) (base : List ℕ) where
-  -- what waits on the connection is what waited, and the spellings of what was put out on it
+  -- the pending output is the earlier pending output and the encodings of the packets that were
+  -- sent
   abbrev pub Grows : Debt → Work → Type 0
   Grows o w = (knows n w.hub.connections ≡ true) × (waiting_on n w.hub.connections ≡ base ++ encodings (on_conn n w.sent))
 
-  -- a change that leaves names and bytes
+  -- a change that keeps names and pending output
   quiet : (g : HubConnection → HubConnection) (w : Work) → Names g → BytesStay g → (o : Debt) → Grows o w → (knows n (map g w.hub.connections) ≡ true) × (waiting_on n (map g w.hub.connections) ≡ base ++ encodings (on_conn n w.sent))
   quiet g w h b o r = (knows_map g h n w.hub.connections ∙ r.0, waiting_map g h b n w.hub.connections ∙ r.1)
 
@@ -108,6 +109,9 @@ module _ (n : Conn) (base : List ℕ) where
       put_where_keeps Grows inner (up_on key v.hub.connections) (move e).out nothing (with_sessions (with_end key (move e).end) v)
       (quiet (changed (risen k key terms last_activity) k) w (names_changed (risen k key terms last_activity) k (λ x. refl)) (bytes_changed (risen k key terms last_activity) k (λ x. refl)) nothing r)
 
+  pub holds_grows : (k : Conn) (b : List ℕ) (w : Work) → Grows nothing w → Grows nothing (holding k b w)
+  holds_grows k b w r = quiet (changed (λ x. record x { held = b }) k) w (names_changed (λ x. record x { held = b }) k (λ x. refl)) (bytes_changed (λ x. record x { held = b }) k (λ x. refl)) nothing r
+
   pub outer : Outer Grows Freely Anywhere
   outer = record {
     mild = λ f k o w m r. quiet (changed f k) w (names_changed f k (λ x. (m x).0)) (bytes_changed f k (λ x. (m x).1)) o r;
@@ -121,7 +125,7 @@ module _ (n : Conn) (base : List ℕ) where
     rises = λ k key terms last_activity move present w s known free none there up clean received r. rises_grows k key terms last_activity move w r;
   }
 
--- the connection's bytes are taken
+-- the connection's output is taken
 emptied_here : (n : Conn) (xs : List HubConnection) → waiting_on n (with_connection emptied n xs) ≡ []
 emptied_here n [] = refl
 emptied_here n (x ∷ xs) = go (is_connection n x) refl (emptied_here n xs)
@@ -135,7 +139,7 @@ emptied_here n (x ∷ xs) = go (is_connection n x) refl (emptied_here n xs)
         ∙ cond-false (is_connection n x) x.waiting (waiting_on n (with_connection emptied n xs)) e
         ∙ ih
 
--- nothing in particular
+-- no property
 abbrev pub Any : Debt → Work → Type 0
 Any o w = Unit {0}
 
@@ -165,8 +169,8 @@ any_outer = record {
 
 -- ---- events
 
--- what an event leaves
-abbrev Leaves : Conn → HubState → HubEvent → HubReply → Work → Type 0
+-- the state after an event
+abbrev pub Leaves : Conn → HubState → HubEvent → HubReply → Work → Type 0
 Leaves n h e r w = Sound w.hub × (knows n w.hub.connections ≡ true) × (cond (collects n e) r.output [] ++ waiting_on n w.hub.connections ≡ waiting_on n h.connections ++ encodings (on_conn n w.sent))
 
 waiting_opened : (n k : Conn) (xs : List HubConnection) → knows n xs ≡ true → waiting_on n (xs ++ newcomer k ∷ []) ≡ waiting_on n xs
@@ -187,7 +191,7 @@ knows_opened n k (x ∷ xs) h = go (is_connection n x) (knows_opened n k xs) h
     go true ih e = refl
     go false ih e = ih e
 
--- a connection that is over takes no other along
+-- the end of a connection leaves the others unchanged
 kept_line : (n k : Conn) → same_conn k n ≡ false → (xs : List HubConnection) → (knows n (without_connection k xs) ≡ knows n xs) × (waiting_on n (without_connection k xs) ≡ waiting_on n xs)
 kept_line n k apart [] = (refl, refl)
 kept_line n k apart (x ∷ xs) = go (is_connection k x) refl (kept_line n k apart xs)
@@ -209,7 +213,7 @@ kept_line n k apart (x ∷ xs) = go (is_connection k x) refl (kept_line n k apar
 begins_at : (n : Conn) (h : HubState) → knows n h.connections ≡ true → Grows n (waiting_on n h.connections) nothing (begin h)
 begins_at n h known = (known, sym (append-nil (waiting_on n h.connections)))
 
--- nothing is taken, and what waits grew
+-- no output is taken, and the pending output grew
 grew : (n : Conn) (h : HubState) (e : HubEvent) (r : HubReply) (w : Work) → cond (collects n e) r.output [] ≡ [] → Sound w.hub → Grows n (waiting_on n h.connections) nothing w → Leaves n h e r w
 grew n h e r w none s g = (s, g.0, ap (λ (b : List ℕ). b ++ waiting_on n w.hub.connections) none ∙ g.1)
 
@@ -223,15 +227,15 @@ collected_leaves n k h r out s known = (sound_collected k h s, knows_map (change
     go false e =
         ap₂ (λ (a b : List ℕ). a ++ b) (cond-false (same_conn k n) r.output [] e) (put_there k n emptied h.connections (λ x. refl) e) ∙ sym (append-nil (waiting_on n h.connections))
 
-leaves : (n : Conn) (h : HubState) (e : HubEvent) (r : HubReply) (w : Work) → event_refusal e h ≡ None → Does h e r w → ends_it n e ≡ false → Sound h → knows n h.connections ≡ true → Leaves n h e r w
+pub leaves : (n : Conn) (h : HubState) (e : HubEvent) (r : HubReply) (w : Work) → event_refusal e h ≡ None → Does h e r w → ends_it n e ≡ false → Sound h → knows n h.connections ≡ true → Leaves n h e r w
 leaves n h (Opened k) r w right d stays s known =
     subst (Leaves n h (Opened k) r) (sym d.0)
     (grew n h (Opened k) r (begin (opened k h)) refl (sound_opened k h (not_known k h right) s)
     (knows_opened n k h.connections known, waiting_opened n k h.connections known ∙ sym (append-nil (waiting_on n h.connections))))
 leaves n h (Bytes k piece) r w right d stays s known =
     let base = waiting_on n h.connections in
-    let start = holding_both (Grows n base) Freely Anywhere (inner n base) (outer n base) freely anywhere k [] (begin h) (s, begins_at n h known) in
-    let end = comes_both (Grows n base) Freely Anywhere (inner n base) (outer n base) freely anywhere (λ fits w. tt) tt h.config.limits k (held_on k h.connections ++ piece) (holding k [] (begin h)) w d.0 start in
+    let start = holding_both (Grows n base) Freely Anywhere (inner n base) (outer n base) freely anywhere k [] (begin h) (λ r. holds_grows n base k [] (begin h) r) (s, begins_at n h known) in
+    let end = comes_both (Grows n base) Freely Anywhere (inner n base) (outer n base) freely anywhere (λ fits w. tt) tt h.config.limits k (holds_grows n base k) (held_on k h.connections ++ piece) (holding k [] (begin h)) w d.0 start in
     grew n h (Bytes k piece) r w refl end.0 end.1
 leaves n h (Ended k) r w right d stays s known =
     let base = waiting_on n h.connections in
@@ -250,10 +254,10 @@ leaves n h (Collect k) r w right d stays s known =
 
 -- ---- runs
 
--- what a run keeps of sessions and connections
+-- a run keeps the invariants of sessions and connections
 pub sound_event : (h : HubState) (e : HubEvent) (r : HubReply) (w : Work) → event_refusal e h ≡ None → Does h e r w → Sound h → Sound w.hub
 sound_event h (Opened k) r w right d s = subst (λ (w : Work). Sound w.hub) (sym d.0) (sound_opened k h (not_known k h right) s)
-sound_event h (Bytes k piece) r w right d s = (comes_both Any Freely Anywhere any_inner any_outer freely anywhere (λ fits w. tt) tt h.config.limits k (held_on k h.connections ++ piece) (holding k [] (begin h)) w d.0 (holding_both Any Freely Anywhere any_inner any_outer freely anywhere k [] (begin h) (s, tt))).0
+sound_event h (Bytes k piece) r w right d s = (comes_both Any Freely Anywhere any_inner any_outer freely anywhere (λ fits w. tt) tt h.config.limits k (λ b v r. tt) (held_on k h.connections ++ piece) (holding k [] (begin h)) w d.0 (holding_both Any Freely Anywhere any_inner any_outer freely anywhere k [] (begin h) (λ r. tt) (s, tt))).0
 sound_event h (Ended k) r w right d s =
     let v = ended_open k (is_open (stage_of k h.connections)) d.0 (begin h) in
     subst (λ (w : Work). Sound w.hub) (sym d.1) (sound_without k v (ended_idle k d.0 (begin h)) (ended_both Any Freely Anywhere any_inner any_outer freely anywhere k (is_open (stage_of k h.connections)) d.0 (begin h) tt (s, tt)).0)

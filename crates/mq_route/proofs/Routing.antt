@@ -1,4 +1,4 @@
--- What was placed for a client is what is routed to it.
+-- The messages placed for a client are those that the acts route to it.
 use Rattle.std.proofs.Common.{◌≡◌, ℕ, Bool, true, false, cond, ◌&&◌, List, [], ◌∷◌, ◌++◌, fold, max, Option, Some, None, is_some, T, refl, sym, ap, ap₂, subst, ◌∙◌, append_assoc, append-nil, eqb, eqb-true, eq-eqb, ne_eqb, ltb, ltb-true, ◌<◌, arith}
 use Rattle.std.proofs.lemmas.Bool.{eqb-false, cond-true, cond-false}
 use Rattle.std.proofs.lemmas.List.Concat.{flat_map-append}
@@ -90,7 +90,7 @@ nat_ties-by a b true false p q = refl
 nat_ties-by a b false true p q = refl
 nat_ties-by a b false false p q = refl
 
-nat_ties : (a b : ℕ) → eqb a b ≡ is_eq (nat_cmp a b)
+pub nat_ties : (a b : ℕ) → eqb a b ≡ is_eq (nat_cmp a b)
 nat_ties a b = nat_ties-by a b (ltb a b) (eqb a b) refl refl
 
 tied : (c d : ℕ) → eqb d c ≡ true → eq_by_cmp nat_cmp c d ≡ true
@@ -99,14 +99,14 @@ tied c d e = sym (nat_ties c d) ∙ eq-eqb c d (sym (eqb-true d c e))
 untied : (c d : ℕ) → eqb d c ≡ false → eq_by_cmp nat_cmp c d ≡ false
 untied c d e = sym (nat_ties c d) ∙ ne_eqb c d (λ same. eqb-false d c e (sym same))
 
--- ---- what a message makes due
+-- ---- the copies that a message makes due
 
 -- the copies for the clients of a list
 module _ (connections : List HubConnection) (m : Message) where
   abbrev copies_for_entry : ℕ × Qos → List (ℕ × Message)
   copies_for_entry found = for_key found.0 (copy_by (is_some (up_on found.0 connections)) m (Some found.1))
 
-  -- a client above which all of a list stand has none of them
+  -- a client whose key is below all of a list is not in the list
   none_below : (c : ℕ) (es : List (ℕ × Qos)) → T (below_all nat_cmp c es) → for_client c (flat_map copies_for_entry es) ≡ []
   none_below c [] h = refl
   none_below c (e ∷ es) h =
@@ -151,9 +151,9 @@ module _ (store : StoreLaws) where
       go true = refl
       go false = all
 
-  -- ---- one act more
+  -- ---- one more act
 
-  -- what the acts say is what the broker is, and what they route is what was placed, and what is due
+  -- the acts describe the broker, and they route the placed messages and the due ones
   abbrev pub Agrees : List Act → HubState → List (ℕ × Message) → Type 0
   Agrees log h due = ((c : ℕ) → seen c log ≡ view c h) × ((c : ℕ) → routed c log ≡ placed c log ++ for_client c due)
 
@@ -187,17 +187,17 @@ module _ (store : StoreLaws) where
     abbrev pub Tells : Debt → Work → Type 0
     Tells o w = Agrees (log ++ w.did) w.hub o.copies
 
-    -- one act more in a step
+    -- one more act in a step
     says : (act : Act) (w : Work) (h2 : HubState) (due due2 : List (ℕ × Message)) → Agrees (log ++ w.did) w.hub due → ((c : ℕ) → seen_after c (view c w.hub) act ≡ view c h2)
         → ((c : ℕ) → for_client c due ++ routes c (view c w.hub) act ≡ placed_by c act ++ for_client c due2) → Agrees (log ++ (w.did ++ act ∷ [])) h2 due2
     says act w h2 due due2 a sees pays =
         subst (λ (l : List Act). Agrees l h2 due2) (append_assoc log w.did (act ∷ [])) (say (log ++ w.did) act w.hub h2 due due2 a sees pays)
 
-    -- another broker of which acts say the same
+    -- another broker with the same view
     looks : (l : List Act) (h h2 : HubState) (due : List (ℕ × Message)) → ((c : ℕ) → view c h ≡ view c h2) → Agrees l h due → Agrees l h2 due
     looks l h h2 due same a = (λ c. a.0 c ∙ same c, a.1)
 
-    -- the client is up on the same connection
+    -- connections that keep each client's connection keep the view
     lines_as : (h : HubState) (xs : List HubConnection) → ((c : ℕ) → up_on c xs ≡ up_on c h.connections) → (c : ℕ) → view c h ≡ view c (record h { connections = xs })
     lines_as h xs same c = ap (λ (o : Option Conn). record { rows = h.rows; up = o; retained = h.retained }) (sym (same c))
 
@@ -276,7 +276,7 @@ module _ (store : StoreLaws) where
     unfolding new_session
     begins_tells client w a = a
 
-    -- what is put out changes neither what was done nor what is seen
+    -- sent packets change neither the acts nor the view
     put_where_same : (to : Option Conn) (ps : List Packet) (w : Work) → ((put_where to ps w).did ≡ w.did) × ((c : ℕ) → view c (put_where to ps w).hub ≡ view c w.hub)
     unfolding put_on
     put_where_same None ps w = (refl, λ c. refl)
@@ -310,6 +310,12 @@ module _ (store : StoreLaws) where
             ∙ ap (λ (o : Option (Conn × Bool)). record { rows = w.hub.rows; up = conn_in o; retained = w.hub.retained }) (sym (upper_risen k key terms last_activity w.hub.connections s.apart known free none c))
             ∙ ap (λ (o : Option Conn). record { rows = w.hub.rows; up = o; retained = w.hub.retained }) (sym (up_is c (staged k (ConnectedAs key terms last_activity) w).hub.connections))
 
+    pub holds_tells : (k : Conn) (b : List ℕ) (w : Work) → Tells nothing w → Tells nothing (holding k b w)
+    holds_tells k b w a =
+        let f : HubConnection → HubConnection = λ x. record x { held = b } in
+        looks (log ++ w.did) w.hub (record w.hub { connections = with_connection f k w.hub.connections }) []
+        (lines_as w.hub (with_connection f k w.hub.connections) (λ c. up_map (changed f k) (names_changed f k (λ x. refl)) (ups_changed f k (λ x. (λ c. refl, refl))) c w.hub.connections)) a
+
     pub outer : Outer Tells Freely Anywhere
     outer = record {
       mild = λ f k o w m a. looks (log ++ w.did) w.hub (record w.hub { connections = with_connection f k w.hub.connections }) o.copies
@@ -321,12 +327,12 @@ module _ (store : StoreLaws) where
       drops = λ k why key terms last_activity fits w near stage m has short a. dropped_tells key (closing k why key terms w) a;
       removes = λ key w s none a. removes_tells key w a;
       begins = λ client w s a. begins_tells client w a;
-      rises = λ k key terms last_activity move present w s known free none there up clean received a. rises_tells k key terms last_activity move present w s known free none a;
+      rises = λ k key terms last_activity move present w s known fresh none there up clean received a. rises_tells k key terms last_activity move present w s known (subst IsIdle (sym fresh) (λ c. refl)) none a;
     }
 
   -- ---- events
 
-  starts : (log : List Act) (h : HubState) → Agrees log h [] → Agrees (log ++ []) h []
+  pub starts : (log : List Act) (h : HubState) → Agrees log h [] → Agrees (log ++ []) h []
   starts log h a = subst (λ (l : List Act). Agrees l h []) (sym (append-nil log)) a
 
   acted : (log : List Act) (h : HubState) (r : HubReply) (w : Work) → r.acts ≡ w.did → Agrees (log ++ w.did) w.hub [] → Agrees (log ++ r.acts) w.hub []
@@ -342,8 +348,8 @@ module _ (store : StoreLaws) where
       acted log h r w (acts_in _ _ d.1)
       (subst (λ (w : Work). Agrees (log ++ w.did) w.hub []) (sym d.0) (looks [] (log ++ []) h (opened k h) [] (lines_as [] h (opened k h).connections same) (starts log h a)))
   tells_event log h (Bytes k piece) r w right d s a =
-      let start = holding_both (Tells log) Freely Anywhere (inner log) (outer log) freely anywhere k [] (begin h) (s, starts log h a) in
-      let end = comes_both (Tells log) Freely Anywhere (inner log) (outer log) freely anywhere (λ fits w. tt) tt h.config.limits k (held_on k h.connections ++ piece) (holding k [] (begin h)) w d.0 start in
+      let start = holding_both (Tells log) Freely Anywhere (inner log) (outer log) freely anywhere k [] (begin h) (λ t. holds_tells log k [] (begin h) t) (s, starts log h a) in
+      let end = comes_both (Tells log) Freely Anywhere (inner log) (outer log) freely anywhere (λ fits w. tt) tt h.config.limits k (holds_tells log k) (held_on k h.connections ++ piece) (holding k [] (begin h)) w d.0 start in
       acted log h r w (acts_in _ _ d.1) end.1
   tells_event log h (Ended k) r w right d s a =
       let v = ended_open k (is_open (stage_of k h.connections)) d.0 (begin h) in
@@ -360,7 +366,7 @@ module _ (store : StoreLaws) where
       subst (λ (l : List Act). Agrees (log ++ l) w.hub []) (sym (acts_in _ _ d.1))
       (subst (λ (w : Work). Agrees (log ++ []) w.hub []) (sym d.0) (looks [] (log ++ []) h (collected k h) [] (lines_as [] h (collected k h).connections same) (starts log h a)))
 
-  tells_run : (es : List Episode) (log : List Act) (h h2 : HubState) → Follows h es h2 → Sound h → Agrees log h [] → Agrees (log ++ acts_of es) h2 []
+  pub tells_run : (es : List Episode) (log : List Act) (h h2 : HubState) → Follows h es h2 → Sound h → Agrees log h [] → Agrees (log ++ acts_of es) h2 []
   tells_run [] log h h2 f s a = subst (λ (h : HubState). Agrees (log ++ []) h []) (sym f) (starts log h a)
   tells_run (e ∷ es) log h h2 f s a =
       subst (λ (l : List Act). Agrees l h2 []) (append_assoc log e.reply.acts (acts_of es))

@@ -1,11 +1,11 @@
--- Sessions that change, and what holds of each.
+-- Changes of the sessions, and lookups after them.
 use Rattle.std.proofs.Common.{◌≡◌, ℕ, Bool, true, false, not, cond, List, [], ◌∷◌, ◌++◌, Some, refl, sym, ap, subst, ◌∙◌, eqb, eqb-true, eq-eqb, true≢false}
 use Rattle.std.proofs.lemmas.Bool.{cond_both, cond-true, cond-false}
 use Rattle.std.specs.Str.{bytes_eq}
 use Rattle.mq_end.specs.End.{End}
 use Rattle.mq_route.specs.Hub.{HubSession, no_end, end_of, ending_in, with_end, without_session, key_of}
 
--- a session of this key stands
+-- there is a session of this key
 abbrev pub has : ℕ → List HubSession → Bool
 has c [] = false
 has c (s ∷ ss) = cond (eqb s.key c) true (has c ss)
@@ -13,7 +13,7 @@ has c (s ∷ ss) = cond (eqb s.key c) true (has c ss)
 pub other_key : (a b c : ℕ) → eqb a b ≡ true → eqb b c ≡ false → eqb a c ≡ false
 other_key a b c e f = subst (λ (n : ℕ). eqb n c ≡ false) (sym (eqb-true a b e)) f
 
--- ---- an end is another one
+-- ---- a session gets another end
 
 key_kept : (key : ℕ) (e : End) (s : HubSession) → (ending_in key e s).key ≡ s.key
 key_kept key e s = cond_both (eqb s.key key) (record s { end = e }) s (λ (t : HubSession). t.key ≡ s.key) (λ h. refl) (λ h. refl)
@@ -59,7 +59,8 @@ end_with_none key e (s ∷ ss) h = go (eqb s.key key) refl (end_with_none key e 
     go false k ih =
         λ i. cond-false (eqb s.key key) (record s { end = e }) s k i ∷ ih (sym (cond-false (eqb s.key key) true (has key ss) k) ∙ h) i
 
--- What holds of each session's end, where the new end keeps it. P speaks of a client, whether it has a session, and of its end.
+-- A property P of a client, of whether it has a session, and of its end holds of all if it holds of
+-- the new end.
 pub each_there : (P : ℕ → Bool → End → Type 0) (key : ℕ) (e : End) (ss : List HubSession) → has key ss ≡ true → P key true e → ((c : ℕ) → eqb key c ≡ false → P c (has c ss) (end_of c ss))
     → (c : ℕ) → P c (has c (with_end key e ss)) (end_of c (with_end key e ss))
 each_there P key e ss there new others c = go (eqb key c) refl
@@ -81,7 +82,7 @@ each_with P key e ss all new c = go (has key ss) refl
     go true t = each_there P key e ss t (new t) (λ d k. all d) c
     go false t = subst (λ (l : List HubSession). P c (has c l) (end_of c l)) (sym (end_with_none key e ss t)) (all c)
 
--- ---- a session ends
+-- ---- a session is removed
 
 pub has_without : (key c : ℕ) (ss : List HubSession) → has c (without_session key ss) ≡ cond (eqb key c) false (has c ss)
 has_without key c [] = go (eqb key c)

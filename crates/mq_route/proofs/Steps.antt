@@ -1,4 +1,4 @@
--- What packets, connections that begin and end, and time keep.
+-- Properties that packets, opened and ended connections, and ticks keep.
 use Rattle.std.proofs.Common.{◌≡◌, ℕ, Bool, true, false, not, ◌&&◌, cond, List, [], ◌∷◌, ◌++◌, length, Option, Some, None, refl, sym, ap, subst, ◌∙◌, eqb, eq-eqb, true≢false, le_refl}
 use Rattle.std.proofs.lemmas.Bool.{cond-true, cond-false, cond_both, false_from_ne_true}
 use Rattle.std.specs.Option.{option_or}
@@ -33,14 +33,14 @@ use Rattle.mq_route.proofs.Lines.{one_conn, upper, up_is, upper_none, conn_in, M
 use Rattle.mq_route.proofs.Uppers.{IsIdle, unless, upper_at, upper_stage}
 use Rattle.mq_route.proofs.Sessions.{has, has_new, end_new, key_there}
 use Rattle.mq_route.proofs.Ends.{stays_up, greets, takings}
-use Rattle.mq_route.proofs.Changes.{Debt, owes, nothing, Inner, Outer, Ways, Nearby, Sound, closing, not_up, is_tied, is_idle, sound_inner, sound_mild, sound_gets, sound_shuts, sound_closes, sound_removes, sound_begins, sound_rises, upper_shut, unless_itself}
+use Rattle.mq_route.proofs.Changes.{Debt, owes, nothing, Inner, Outer, Ways, Nearby, Sound, closing, not_up, is_tied, is_idle, sound_inner, sound_mild, sound_holding, sound_gets, sound_shuts, sound_closes, sound_removes, sound_begins, sound_rises, upper_shut, unless_itself}
 use Rattle.mq_route.proofs.Walk.{put_where_keeps, last_will_keeps, answers_all_keeps}
 use Rattle.mq_route.proofs.Frames.{stage_firm, upper_firm, lines_inner, lines_closed, closed_shut, closed_other, has_closed}
 
 -- ---- connections
 
 pub heard_mild : (now : ℕ) → Mild (λ x. record x { stage = touched now x.stage })
-heard_mild now x = (refl, refl, λ c. go c x.stage, clean x.stage)
+heard_mild now x = (refl, refl, λ c. go c x.stage, clean x.stage, refl, opens x.stage)
   where
     go : (c : ℕ) (s : ConnectionState) → is_for c (touched now s) ≡ is_for c s
     go c AwaitingConnect = refl
@@ -52,11 +52,13 @@ heard_mild now x = (refl, refl, λ c. go c x.stage, clean x.stage)
     clean (ConnectedAs key terms last_activity) = refl
     clean Closed = refl
 
-pub holding_mild : (b : List ℕ) → Mild (λ x. record x { held = b })
-holding_mild b x = (refl, refl, λ c. refl, refl)
+    opens : (s : ConnectionState) → is_open (touched now s) ≡ is_open s
+    opens AwaitingConnect = refl
+    opens (ConnectedAs key terms last_activity) = refl
+    opens Closed = refl
 
--- a connection on which a packet comes is as far as it was
-stage_heard : (k : Conn) (w : Work) → stage_of k (touched_on k w).hub.connections ≡ touched w.hub.clock (stage_of k w.hub.connections)
+-- the state of a connection after a packet arrived on it
+pub stage_heard : (k : Conn) (w : Work) → stage_of k (touched_on k w).hub.connections ≡ touched w.hub.clock (stage_of k w.hub.connections)
 stage_heard k w = stage_here (λ x. record x { stage = touched w.hub.clock x.stage }) (touched w.hub.clock) k w.hub.connections (λ x. refl) (λ x. refl) refl
 
 -- ---- CONNECT
@@ -74,7 +76,7 @@ accepted c h none = go (eqb (length c.client_id) 0) c.clean_session none
     go false false e = refl
     go true false e = absurd cc
 
--- a packet that comes on a connection that is up, for which a session is too full, may close it
+-- a packet on a connected connection may close it if a session has no room
 abbrev pub Fills : (HubClose → Type 0) → Conn → Packet → Work → Type 0
 Fills May k p w = (key : ℕ) → key_on (stage_of k w.hub.connections) ≡ Some key → (end_of key w.hub.sessions).state ≡ Connected
     → have_room (due key w.hub (server_gets p (end_of key w.hub.sessions)).happenings) w.hub ≡ false → May TargetFull
@@ -97,7 +99,7 @@ module _ (R : Debt → Work → Type 0) (May : HubClose → Type 0) (Near : Bool
   mild_both : (f : HubConnection → HubConnection) (k : Conn) (o : Debt) (w : Work) → Mild f → Both o w → Both o (with_connections (with_connection f k) w)
   mild_both f k o w m h = (sound_mild f k w m h.0, outer.mild f k o w m h.1)
 
-  -- ---- a connection is closed
+  -- ---- a close
 
   leaves_both : (k : Conn) (why : HubClose) (fits : Bool) (s : ConnectionState) (w : Work) → Near fits w → May why → stage_of k w.hub.connections ≡ s → Both nothing w → Both nothing (leaves_behind why fits s (said (acts.Closed k why) (shut k w)))
   unfolding leaves_behind
@@ -116,9 +118,10 @@ module _ (R : Debt → Work → Type 0) (May : HubClose → Type 0) (Near : Bool
   unfolding close
   close_both k why fits w near may h = leaves_both k why fits (stage_of k w.hub.connections) w near may refl h
 
-  -- ---- a packet on a connection that is up
+  -- ---- a packet on a connected connection
 
-  -- what is kept after a packet, which is to be written down where it was taken in and the connection is open
+  -- the property after a packet, which is logged if its client was connected and its connection is
+  -- open
   abbrev After : Option ℕ → Conn → Packet → Work → Type 0
   After on k p v = Both (owes [] [] (noted on (is_open (stage_of k v.hub.connections)) p)) v
 
@@ -178,7 +181,7 @@ module _ (R : Debt → Work → Type 0) (May : HubClose → Type 0) (Near : Bool
       let free : IsIdle (stage_of k w.hub.connections) = subst IsIdle (sym fresh) (λ c. refl) in
       subst (λ (told : List Happening). Both nothing (answers_all k key told (does key (greeting c) (staged k (ConnectedAs key (terms_of c) now) w)))) (sym g.told) (
         sound_rises k key (terms_of c) now (greeting c) g.present w h.0 known free none there g.state g.clean,
-        outer.rises k key (terms_of c) now (greeting c) g.present w h.0 known free none there g.state g.clean g.received h.1,
+        outer.rises k key (terms_of c) now (greeting c) g.present w h.0 known fresh none there g.state g.clean g.received h.1,
       )
 
   greet_new_both : (k : Conn) (c : Connect) (client : List ℕ) (w : Work) → stage_of k w.hub.connections ≡ AwaitingConnect → (not c.clean_session && eqb (length c.client_id) 0) ≡ false → Both nothing w → Both nothing (start_session k c client w)
@@ -253,7 +256,7 @@ module _ (R : Debt → Work → Type 0) (May : HubClose → Type 0) (Near : Bool
       let on = key_on (stage_of k w.hub.connections) in
       cond_both g.fits (dispatch_packet k p g.will_fits (stage_of k w.hub.connections) (touched_on k w)) (close k (Own reasons.Memory) g.will_fits w) (After on k p)
       (λ fits. comes_in_both w.hub.clock k p g.will_fits (stage_of k w.hub.connections) (touched_on k w)
-      (nearby.connections g.will_fits (with_connection (λ x. record x { stage = touched w.hub.clock x.stage }) k) w near) full (stage_heard k w) (mild_both (λ x. record x { stage = touched w.hub.clock x.stage }) k nothing w (heard_mild w.hub.clock) h))
+      (nearby.touches g.will_fits k w near) full (stage_heard k w) (mild_both (λ x. record x { stage = touched w.hub.clock x.stage }) k nothing w (heard_mild w.hub.clock) h))
       (λ starved. after_closed on k p (Own reasons.Memory) g.will_fits w near (ways.own reasons.Memory) h)
 
   pub takes_both : (k : Conn) (p : Packet) (g : Growth) (w : Work) → Near g.will_fits w → Fills May k p (touched_on k w) → Both nothing w → Both nothing (takes k p g w)
@@ -271,17 +274,17 @@ module _ (R : Debt → Work → Type 0) (May : HubClose → Type 0) (Near : Bool
       go None = both.put k (broken k fault w).out nothing w h
       go (Some reason) = close_both k (Own reason) fits (put_on k (broken k fault w).out w) (nearby.put fits k (broken k fault w).out w near) (ways.own reason) (both.put k (broken k fault w).out nothing w h)
 
-  -- ---- bytes, time, the end of a connection
+  -- ---- bytes, ticks, and the end of a connection
 
-  pub comes_both : ((fits : Bool) (w : Work) → Near fits w) → May TargetFull → (limits : Bounds) (k : Conn) (b : List ℕ) (w w2 : Work) → Comes limits k b w w2 → Both nothing w → Both nothing w2
-  comes_both near full limits k b w w2 (Arrives p first rest g v v2 on reads more) h = comes_both near full limits k rest (takes k p g v) v2 more (takes_both k p g v (near g.will_fits v) (λ key up state short. full) h)
-  comes_both near full limits k b w w2 (Waits c v on pending) h = mild_both (λ x. record x { held = c }) k nothing v (holding_mild c) h
-  comes_both near full limits k b w w2 (Breaks c fault fits v on faulty) h = breaks_both k fault fits v (near fits v) h
-  comes_both near full limits k b w w2 (Starves c fits v on some) h = close_both k (Own reasons.Memory) fits v (near fits v) (ways.own reasons.Memory) h
-  comes_both near full limits k b w w2 (LetsGo c v closed) h = h
+  pub comes_both : ((fits : Bool) (w : Work) → Near fits w) → May TargetFull → (limits : Bounds) (k : Conn) → ((b : List ℕ) (v : Work) → R nothing v → R nothing (holding k b v)) → (b : List ℕ) (w w2 : Work) → Comes limits k b w w2 → Both nothing w → Both nothing w2
+  comes_both near full limits k holds b w w2 (Arrives p first rest g v v2 on reads more) h = comes_both near full limits k holds rest (takes k p g v) v2 more (takes_both k p g v (near g.will_fits v) (λ key up state short. full) h)
+  comes_both near full limits k holds b w w2 (Waits c v on pending) h = (sound_holding k c v h.0, holds c v h.1)
+  comes_both near full limits k holds b w w2 (Breaks c fault fits v on faulty) h = breaks_both k fault fits v (near fits v) h
+  comes_both near full limits k holds b w w2 (Starves c fits v on some) h = close_both k (Own reasons.Memory) fits v (near fits v) (ways.own reasons.Memory) h
+  comes_both near full limits k holds b w w2 (LetsGo c v closed) h = h
 
-  pub holding_both : (k : Conn) (b : List ℕ) (w : Work) → Both nothing w → Both nothing (holding k b w)
-  holding_both k b w h = mild_both (λ x. record x { held = b }) k nothing w (holding_mild b) h
+  pub holding_both : (k : Conn) (b : List ℕ) (w : Work) → (R nothing w → R nothing (holding k b w)) → Both nothing w → Both nothing (holding k b w)
+  holding_both k b w holds h = (sound_holding k b w h.0, holds h.1)
 
   pub ticks_both : ((fits : Bool) (w : Work) → Near fits w) → (now : ℕ) (xs : List HubConnection) (w w2 : Work) → Ticks now xs w w2 → Both nothing w → Both nothing w2
   ticks_both near now xs w w2 (Done v) h = h

@@ -1,4 +1,4 @@
--- What was taken from a client is what a receiver's book hands on over the packets that came from it.
+-- The messages taken from a client are those that a receiver's book delivers from its packets.
 use Rattle.std.proofs.Common.{◌≡◌, ℕ, ◌≤◌, Bool, true, false, cond, List, [], ◌∷◌, ◌++◌, max, None, refl, sym, ap, ap₂, subst, subst₂, ◌∙◌, true≢false, append_assoc, append-nil, eqb, eqb-true, eq-eqb, le_refl, arith}
 use Rattle.std.proofs.lemmas.Bool.{cond-true, cond-false, false_from_ne_true}
 use Rattle.std.proofs.lemmas.List.Concat.{flat_map-append}
@@ -66,18 +66,19 @@ book_more : (r : ReceiverBook) (ps : List Packet) (p : Packet) → book_from r (
 book_more r [] p = refl
 book_more r (q ∷ ps) p = book_more (book_after q r) ps p
 
--- ---- what is taken
+-- ---- taken messages
 
 taken_more : (c : ℕ) (log : List Act) (act : Act) → taken c (log ++ act ∷ []) ≡ taken c log ++ taken_by c act
 taken_more c log act = flat_map-append (taken_by c) log (act ∷ []) ∙ ap (λ (l : List Message). taken c log ++ l) (append-nil (taken_by c act))
 
--- what was taken is handed on over these packets, but for what is still to be taken; each receiver's book is the one after them
+-- the taken messages, and those to take, are delivered from these packets; each receiver's book is
+-- the one after them
 abbrev HandsAt : List Act → List (ℕ × Packet) → List (ℕ × Message) → HubState → Type 0
 HandsAt log xs t h = ((c : ℕ) → taken c log ++ for_client c t ≡ handed_from none_received (of_client c xs))
     × ((c : ℕ) → has c h.sessions ≡ true → (end_of c h.sessions).received ≡ book_from none_received (of_client c xs))
     × ((c : ℕ) → h.next_key ≤ c → of_client c xs ≡ [])
 
--- sessions of which the others are as they were
+-- the other sessions are unchanged
 without_sets : (B : ℕ → ReceiverBook) (key : ℕ) (ss : List HubSession) → ((c : ℕ) → eqb key c ≡ false → has c ss ≡ true → (end_of c ss).received ≡ B c)
     → (c : ℕ) → has c (without_session key ss) ≡ true → (end_of c (without_session key ss)).received ≡ B c
 without_sets B key ss others c there = go (eqb key c) refl
@@ -127,7 +128,7 @@ module _ (log : List Act) (before : List (ℕ × Packet)) where
   unfolding put_on
   put_hands k ps o w r = r
 
-  -- an end that received the same
+  -- an end with the same receiver's book
   ends_hands : (key : ℕ) (e : End) (l : List (ℕ × Packet)) (t : List (ℕ × Message)) (a : List Act) (h : HubState) → e.received ≡ (end_of key h.sessions).received → HandsAt a l t h → HandsAt a l t (record h { sessions = with_end key e h.sessions })
   ends_hands key e l t a h same r = (
     r.0,
@@ -147,7 +148,7 @@ module _ (log : List Act) (before : List (ℕ × Packet)) where
     unsubscribed = λ key f o w r. idle_act (acts.Unsubscribed key f) ((before ++ w.came) ++ o.came) o.taken w.did w.hub (λ c. refl) r;
   }
 
-  -- a packet is taken in
+  -- an end takes a packet
   module _ (key : ℕ) (p : Packet) (w : Work) (s : Sound w.hub) (there : has key w.hub.sessions ≡ true) (g : GoesOn key p (end_of key w.hub.sessions) (server_gets p (end_of key w.hub.sessions))) (r : Hands nothing w) where
     abbrev xs : List (ℕ × Packet)
     xs = before ++ w.came
@@ -221,7 +222,7 @@ module _ (log : List Act) (before : List (ℕ × Packet)) where
   unfolding taken_by
   shut_hands k why w r = idle_act (acts.Closed k why) ((before ++ w.came) ++ []) [] w.did w.hub (λ c. refl) r
 
-  -- a connection that is up is closed
+  -- a connected connection is closed
   closes_hands : (k : Conn) (why : HubClose) (key : ℕ) (terms : ConnectionTerms) (last_activity : ℕ) (w : Work) → Sound w.hub → stage_of k w.hub.connections ≡ ConnectedAs key terms last_activity → Hands nothing w → Hands nothing (closing k why key terms w)
   closes_hands k why key terms last_activity w s stage r = go terms.clean_session refl
     where
@@ -278,7 +279,7 @@ module _ (log : List Act) (before : List (ℕ × Packet)) where
 
 -- ---- events
 
--- what was taken so far is handed on over the packets that came
+-- the taken messages are delivered from the logged packets
 abbrev Kept : List Act → List (ℕ × Packet) → HubState → Type 0
 Kept log before h = HandsAt log before [] h
 
@@ -298,8 +299,8 @@ hands_event log before h (Opened k) r w right d s a =
     subst (λ (w : Work). r.acts ≡ w.did → Kept (log ++ r.acts) (before ++ w.came) w.hub) (sym d.0) (λ same. ends log before r (begin (opened k h)) same (starts log before h a)) (acts_in _ _ d.1)
 hands_event log before h (Bytes k piece) r w right d s a =
     let R = Hands log before in
-    let start = holding_both R Freely Anywhere (inner log before) (outer log before) freely anywhere k [] (begin h) (s, starts log before h a) in
-    let end = comes_both R Freely Anywhere (inner log before) (outer log before) freely anywhere (λ fits w. tt) tt h.config.limits k (held_on k h.connections ++ piece) (holding k [] (begin h)) w d.0 start in
+    let start = holding_both R Freely Anywhere (inner log before) (outer log before) freely anywhere k [] (begin h) (λ r. r) (s, starts log before h a) in
+    let end = comes_both R Freely Anywhere (inner log before) (outer log before) freely anywhere (λ fits w. tt) tt h.config.limits k (λ b v r. r) (held_on k h.connections ++ piece) (holding k [] (begin h)) w d.0 start in
     ends log before r w (acts_in _ _ d.1) end.1
 hands_event log before h (Ended k) r w right d s a =
     let end = ended_both (Hands log before) Freely Anywhere (inner log before) (outer log before) freely anywhere k (is_open (stage_of k h.connections)) d.0 (begin h) tt (s, starts log before h a) in

@@ -1,4 +1,5 @@
--- On which connection a client is up, where names stand once and a client is up on one connection at most.
+-- The connection of a client, given that names are distinct and a client has at most one
+-- connection.
 use Rattle.std.proofs.Common.{◌≡◌, ℕ, Bool, true, false, not, cond, List, [], ◌∷◌, ◌++◌, map, Option, Some, None, refl, sym, ap, ap₂, subst, ◌∙◌, eqb, eqb-true, eq-eqb, true≢false, ◌||◌}
 use Rattle.std.proofs.lemmas.Bool.{cond_both, cond-true, cond-false, or_parts, or_from, false_from_ne_true}
 use Rattle.mq_route.specs.declared.conn.Conn.{Conn}
@@ -9,7 +10,7 @@ use Rattle.mq_route.specs.Routed.{same_conn, unless_on}
 use Rattle.mq_route.specs.Hub.{HubConnection, is_connection, knows, stage_of, changed, with_connection, without_connection, key_on, is_clean, is_for}
 use Rattle.mq_route.proofs.Lines.{one_conn, same_conn-itself, upper_than, upper, conn_in, Names, Ups, names_changed, knows_map, upper_map, unknown, unknown_shut}
 
--- each name stands once, and each client is up on one connection at most
+-- names are distinct, and each client is connected on at most one connection
 abbrev pub Apart : List HubConnection → Type 0
 Apart [] = Unit {0}
 Apart (x ∷ xs) = (knows x.conn xs ≡ false) × ((c : ℕ) → is_for c x.stage ≡ true → upper c xs ≡ None) × Apart xs
@@ -22,7 +23,7 @@ apart_map g h u (x ∷ xs) a = (
   apart_map g h u xs a.2,
 )
 
--- not for any client
+-- the connection has no client
 abbrev pub IsIdle : ConnectionState → Type 0
 IsIdle s = (c : ℕ) → is_for c s ≡ false
 
@@ -31,7 +32,7 @@ idle AwaitingConnect e = λ c. refl
 idle (ConnectedAs key terms last_activity) e = absurd cc
 idle Closed e = λ c. refl
 
--- ---- a connection that is closed
+-- ---- a connection is closed
 
 abbrev pub unless : Conn → Option (Conn × Bool) → Option (Conn × Bool)
 unless k None = None
@@ -49,7 +50,7 @@ unless_is k (Some u) = go (same_conn u.0 k)
     go true = refl
     go false = refl
 
--- a client is not up on a connection that isn't known
+-- a client is not connected on an unknown connection
 unless_unknown : (k : Conn) (c : ℕ) (xs : List HubConnection) → knows k xs ≡ false → unless k (upper c xs) ≡ upper c xs
 unless_unknown k c [] h = refl
 unless_unknown k c (x ∷ xs) h = go (is_for c x.stage) (unless_unknown k c xs p.1)
@@ -96,7 +97,7 @@ apart_closed f k h s (x ∷ xs) a = (
   apart_closed f k h s xs a.2,
 )
 
--- ---- a connection that is up
+-- ---- a connected connection
 
 pub upper_at : (k : Conn) (key : ℕ) (terms : ConnectionTerms) (last_activity : ℕ) (xs : List HubConnection) → Apart xs → stage_of k xs ≡ ConnectedAs key terms last_activity → upper key xs ≡ Some (k, terms.clean_session)
 upper_at k key terms last_activity [] a e = absurd cc
@@ -116,7 +117,7 @@ upper_at k key terms last_activity (x ∷ xs) a e = go (is_connection k x) refl 
         let stage : stage_of k xs ≡ ConnectedAs key terms last_activity = sym (cond-false (is_connection k x) x.stage (stage_of k xs) l) ∙ e in
         below (ih stage) (is_for key x.stage) refl
 
--- the client that is up on a connection
+-- the client of a connection
 pub upper_stage : (c : ℕ) (u : Conn × Bool) (xs : List HubConnection) → Apart xs → upper c xs ≡ Some u → is_for c (stage_of u.0 xs) ≡ true
 upper_stage c u [] a e = absurd cc
 upper_stage c u (x ∷ xs) a e = go (is_for c x.stage) refl (upper_stage c u xs a.2) e
@@ -134,7 +135,7 @@ upper_stage c u (x ∷ xs) a e = go (is_for c x.stage) refl (upper_stage c u xs 
         (ap (is_for c) (cond-true (same_conn x.conn x.conn) x.stage (stage_of x.conn xs) (same_conn-itself x.conn)) ∙ f)
     go false f ih h = below (ih h) (is_connection u.0 x) refl
 
--- closing a connection that isn't up for a client changes nothing for it
+-- closing a connection changes nothing for other clients
 pub unless_other : (k : Conn) (c : ℕ) (xs : List HubConnection) → Apart xs → is_for c (stage_of k xs) ≡ false → unless k (upper c xs) ≡ upper c xs
 unless_other k c xs a f = go (upper c xs) refl
   where
@@ -144,7 +145,7 @@ unless_other k c xs a f = go (upper c xs) refl
         cond-false (same_conn u.0 k) None (Some u)
         (false_from_ne_true (same_conn u.0 k) (λ same. true≢false (sym (subst (λ (n : Conn). is_for c (stage_of n xs) ≡ true) (one_conn u.0 k same) (upper_stage c u xs a e)) ∙ f)))
 
--- the connection is up for a client from now on
+-- the connection gets a client
 module _ (k : Conn) (key : ℕ) (terms : ConnectionTerms) (last_activity : ℕ) where
   abbrev pub risen : HubConnection → HubConnection
   risen x = record x { stage = ConnectedAs key terms last_activity }
@@ -216,7 +217,7 @@ module _ (k : Conn) (key : ℕ) (terms : ConnectionTerms) (last_activity : ℕ) 
             ih known2 free2 r.1,
           )
 
--- ---- a connection that is not known any more, and a new one
+-- ---- connections that end, and new ones
 
 unknown_without : (k : Conn) (xs : List HubConnection) → knows k xs ≡ false → without_connection k xs ≡ xs
 unknown_without k [] h = refl

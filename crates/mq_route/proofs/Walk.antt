@@ -1,4 +1,4 @@
--- What the changes of a step keep, a step keeps.
+-- A step keeps the properties that its changes keep.
 use Rattle.std.proofs.Common.{◌≡◌, ℕ, Bool, ◌&&◌, List, [], ◌∷◌, ◌++◌, Option, Some, None, refl, sym, subst, append_assoc, append-nil}
 use Rattle.std.proofs.lemmas.Bool.{cond_both}
 use Rattle.mq_packet.specs.declared.connect.Will.{Will}
@@ -49,7 +49,7 @@ module _ (R : Debt → Work → Type 0) (inner : Inner R) where
   unfolding deliver
   willed_keeps key m w h = place_all_keeps (copies_of m w.hub) [] [] (retaining (acts.Will key m) m w) (inner.willed key m w h)
 
-  -- what a will that is dropped keeps
+  -- the property after a will was dropped
   abbrev pub Drops : ℕ → Option Will → Bool → Work → Type 0
   Drops key will fits w = (m : Will) → will ≡ Some m → IsShort m fits w → R nothing w → R nothing (said (acts.WillDropped key) w)
 

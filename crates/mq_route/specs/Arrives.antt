@@ -1,4 +1,4 @@
--- A whole packet comes to a broker on a connection (3.1 to 3.14).
+-- A packet arrives on a connection (3.1 to 3.14).
 use Rattle.std.specs.Prelude.{ℕ, ◌+◌, Bool, true, false, List, [], ◌∷◌, ◌++◌, map, Option, Some, None, if◌then◌else◌}
 use Rattle.std.specs.List.{flat_map}
 use Rattle.mq_packet.specs.declared.connack.ConnAck.TheVariants as connacks
@@ -28,156 +28,167 @@ use Rattle.mq_route.specs.Hub.{HubState, new_end, with_connection, stage_of, up_
 use Rattle.mq_route.specs.Welcome.{client_of, ends_with, refusal}
 use Rattle.mq_route.specs.Work.{Work, said, with_connections, staged, put_on, does, place_all, have_room, deliver, remove, close, subscribed, unsubscribed, retained_copies}
 
--- Whether memory is there for a packet, and for the will that it sets free. A packet sets at most one will free: that of its
--- connection where it closes that, or of the connection that it takes over.
+-- Whether allocations succeed for a packet, and for the will that it publishes. A packet publishes
+-- at most one will: that of its own connection if it closes, or that of the connection that it
+-- takes over.
 pub record Growth : Type 0 where
   pub fits : Bool
   pub will_fits : Bool
 
--- ---- what an end tells the broker
+-- ---- what a session's end reports
 
--- each request is granted the quality of service that it asks for (3.9.3)
+-- each request is granted the QoS that it asks for (3.9.3)
 abbrev pub granted : List Request → List SubAckCode
 granted rs = map (λ r. Granted r.qos) rs
 
--- the copies that something told of client `key` makes due
+-- the copies that a report of the client's end makes due
 abbrev pub due_by : ℕ → HubState → Happening → List (ℕ × Message)
-due_by key h (happens.Handed m) = copies_of m h
-due_by key h (happens.Subscribe i requests) = retained_copies key requests h.retained
-due_by key h told = []
+due_by key hub (happens.Handed message) = copies_of message hub
+due_by key hub (happens.Subscribe i requests) = retained_copies key requests hub.retained
+due_by key hub told = []
 
 abbrev pub due : ℕ → HubState → List Happening → List (ℕ × Message)
-due key h told = flat_map (due_by key h) told
+due key hub told = flat_map (due_by key hub) told
 
--- The broker does what something told of client `key`, on connection k, asks for.
+-- The broker acts on a report of the client's end, on connection `conn`.
 unfoldable pub answers : Conn → ℕ → Happening → Work → Work
--- the connection is up (3.2)
-answers k key (happens.Up present) w = said (acts.Up k key present) w
--- a message is handed on: it is taken, retained and placed (3.3.1.3, 3.3.5)
-answers k key (happens.Handed m) w = deliver (acts.Took key m) m w
--- SUBSCRIBE: the subscriptions stand, SUBACK answers, and then the retained messages go out (3.8.4)
-answers k key (happens.Subscribe i requests) w =
-    place_all (retained_copies key requests w.hub.retained) (does key (subacks i (granted requests)) (subscribed key requests w))
--- UNSUBSCRIBE: the subscriptions are gone, UNSUBACK answers, always (3.10.4)
-answers k key (happens.Unsubscribe i filters) w = does key (unsubacks i) (unsubscribed key filters w)
--- nothing else is told by a server end
-answers k key (happens.SubAck i codes) w = w
-answers k key (happens.UnsubAck i) w = w
-answers k key happens.Pong w = w
+-- the client is connected (3.2)
+answers conn key (happens.Up present) work = said (acts.Up conn key present) work
+-- a message is published: it is taken, retained and placed (3.3.1.3, 3.3.5)
+answers conn key (happens.Handed message) work = deliver (acts.Took key message) message work
+-- SUBSCRIBE: the subscriptions are stored, then SUBACK is sent, then the retained messages (3.8.4)
+answers conn key (happens.Subscribe i requests) work =
+    place_all (retained_copies key requests work.hub.retained) (does key (subacks i (granted requests)) (subscribed key requests work))
+-- UNSUBSCRIBE: the subscriptions are removed, and UNSUBACK is sent even if there were none (3.10.4)
+answers conn key (happens.Unsubscribe i filters) work = does key (unsubacks i) (unsubscribed key filters work)
+-- a server end reports nothing else
+answers conn key (happens.SubAck i codes) work = work
+answers conn key (happens.UnsubAck i) work = work
+answers conn key happens.Pong work = work
 
 abbrev pub answers_all : Conn → ℕ → List Happening → Work → Work
-answers_all k key [] w = w
-answers_all k key (told ∷ later) w = answers_all k key later (answers k key told w)
+answers_all conn key [] work = work
+answers_all conn key (told ∷ later) work = answers_all conn key later (answers conn key told work)
 
--- ---- a connection that is up
+-- ---- a packet on a connected connection
 
--- Its end does what it does with the packet: it closes, and so does the connection; or a session is too full for what is due, and
--- the packet changes nothing but that its connection closes; or the broker does what the end tells.
+-- Three outcomes: the end closes the connection; a session has no room for the due copies, and the
+-- packet does nothing but close its connection; or the end takes the packet, and the broker acts on
+-- its reports.
 unfoldable pub replies : Conn → ℕ → (End → Reply) → Option CloseReason → Bool → Work → Work
-replies k key move (Some reason) fits w = close k (Own reason) fits (put_on k (move (end_of key w.hub.sessions)).out w)
-replies k key move None fits w =
-    if have_room (due key w.hub (move (end_of key w.hub.sessions)).happenings) w.hub
-    then answers_all k key (move (end_of key w.hub.sessions)).happenings (does key move w)
-    else close k TargetFull fits w
+replies conn key move (Some reason) fits work =
+    close conn (Own reason) fits (put_on conn (move (end_of key work.hub.sessions)).out work)
+replies conn key move None fits work =
+    if have_room (due key work.hub (move (end_of key work.hub.sessions)).happenings) work.hub
+    then answers_all conn key (move (end_of key work.hub.sessions)).happenings (does key move work)
+    else close conn TargetFull fits work
 
 abbrev pub on_connected_packet : Conn → ℕ → Packet → Bool → Work → Work
-on_connected_packet k key p fits w = replies k key (server_gets p) (server_gets p (end_of key w.hub.sessions)).close fits w
+on_connected_packet conn key packet fits work =
+    replies conn key (server_gets packet) (server_gets packet (end_of key work.hub.sessions)).close fits work
 
 -- ---- CONNECT
 
--- the end of the session takes the CONNECT in, on this connection (3.1.4, 3.2)
+-- the session's end takes the CONNECT on a new connection (3.1.4, 3.2)
 abbrev pub greeting : Connect → End → Reply
-greeting c e = server_gets (packets.Connect c) (opens e).end
+greeting connect e = server_gets (packets.Connect connect) (opens e).end
 
--- what of it matters as long as the connection is up
+-- the part of a CONNECT that applies while its connection is connected
 abbrev pub terms_of : Connect → ConnectionTerms
-terms_of c = record { clean_session = c.clean_session; keep_alive = c.keep_alive; will = c.will }
+terms_of connect = record { clean_session = connect.clean_session; keep_alive = connect.keep_alive; will = connect.will }
 
 unfoldable pub resume_session : Conn → Connect → ℕ → Work → Work
-resume_session k c key w =
-    answers_all k key (greeting c (end_of key w.hub.sessions)).happenings
-    (does key (greeting c) (staged k (ConnectedAs key (terms_of c) w.hub.clock) w))
+resume_session conn connect key work =
+    answers_all conn key (greeting connect (end_of key work.hub.sessions)).happenings
+    (does key (greeting connect) (staged conn (ConnectedAs key (terms_of connect) work.hub.clock) work))
 
--- a new session, with the next key (3.1.2.4)
+-- a new session gets the next key (3.1.2.4)
 unfoldable pub new_session : List ℕ → Work → Work
-new_session client w = record w {
-  hub = record w.hub {
-    next_key = w.hub.next_key + 1;
-    sessions = w.hub.sessions ++ record { client = client; key = w.hub.next_key; end = new_end w.hub.config } ∷ [];
+new_session client work = record work {
+  hub = record work.hub {
+    next_key = work.hub.next_key + 1;
+    sessions = work.hub.sessions ++ record { client = client; key = work.hub.next_key; end = new_end work.hub.config } ∷ [];
   };
 }
 
 abbrev pub start_session : Conn → Connect → List ℕ → Work → Work
-start_session k c client w = resume_session k c w.hub.next_key (new_session client w)
+start_session conn connect client work = resume_session conn connect work.hub.next_key (new_session client work)
 
--- the connection on which the client is up is closed first (3.1.4)
+-- the previous connection of the client is closed first (3.1.4)
 abbrev pub take_over : Option Conn → Bool → Work → Work
-take_over None fits w = w
-take_over (Some k) fits w = close k TakenOver fits w
+take_over None fits work = work
+take_over (Some conn) fits work = close conn TakenOver fits work
 
--- The session of this key goes on, unless it ended with the connection that was taken over, or clean session discards it (3.1.2.4).
+-- The session continues, unless it ended with the connection that was taken over, or the CONNECT
+-- has clean session 1 (3.1.2.4).
 unfoldable pub goes_on : Conn → Connect → List ℕ → ℕ → Bool → Work → Work
-goes_on k c client key true w = start_session k c client w
-goes_on k c client key false w = if c.clean_session then start_session k c client (remove key w) else resume_session k c key w
+goes_on conn connect client key true work = start_session conn connect client work
+goes_on conn connect client key false work =
+    if connect.clean_session then start_session conn connect client (remove key work)
+    else resume_session conn connect key work
 
 abbrev pub accept_connect : Conn → Connect → List ℕ → Option ℕ → Bool → Work → Work
-accept_connect k c client None fits w = start_session k c client w
-accept_connect k c client (Some key) fits w = goes_on k c client key (ends_with key w.hub) (take_over (up_on key w.hub.connections) fits w)
+accept_connect conn connect client None fits work = start_session conn connect client work
+accept_connect conn connect client (Some key) fits work =
+    goes_on conn connect client key (ends_with key work.hub) (take_over (up_on key work.hub.connections) fits work)
 
--- a CONNECT is refused, with CONNACK and a close (3.2.2.3), or accepted
+-- a refused CONNECT is answered by CONNACK, and its connection is closed (3.2.2.3)
 unfoldable pub on_connect : Conn → Connect → Option RefusalCode → Bool → Work → Work
-on_connect k c (Some code) fits w = close k (Own (reasons.Refused code)) fits (put_on k (packets.ConnAck (connacks.Refused code) ∷ []) w)
-on_connect k c None fits w = accept_connect k c (client_of c w.hub.sessions) (key_of (client_of c w.hub.sessions) w.hub.sessions) fits w
+on_connect conn connect (Some code) fits work =
+    close conn (Own (reasons.Refused code)) fits (put_on conn (packets.ConnAck (connacks.Refused code) ∷ []) work)
+on_connect conn connect None fits work =
+    accept_connect conn connect (client_of connect work.hub.sessions) (key_of (client_of connect work.hub.sessions) work.hub.sessions) fits work
 
--- the first packet has to be CONNECT (3.1)
+-- the first packet must be CONNECT (3.1)
 unfoldable pub on_first_packet : Conn → Packet → Bool → Work → Work
-on_first_packet k (packets.Connect c) fits w = on_connect k c (refusal c w.hub) fits w
-on_first_packet k p fits w = close k (Own reasons.Unexpected) fits w
+on_first_packet conn (packets.Connect connect) fits work = on_connect conn connect (refusal connect work.hub) fits work
+on_first_packet conn packet fits work = close conn (Own reasons.Unexpected) fits work
 
 -- ---- any packet
 
--- a packet comes on a connection that is so far
+-- a packet in each state of its connection
 unfoldable pub dispatch_packet : Conn → Packet → Bool → ConnectionState → Work → Work
-dispatch_packet k p fits AwaitingConnect w = on_first_packet k p fits w
-dispatch_packet k p fits (ConnectedAs key terms last_activity) w = on_connected_packet k key p fits w
-dispatch_packet k p fits Closed w = w
+dispatch_packet conn packet fits AwaitingConnect work = on_first_packet conn packet fits work
+dispatch_packet conn packet fits (ConnectedAs key terms last_activity) work = on_connected_packet conn key packet fits work
+dispatch_packet conn packet fits Closed work = work
 
--- the moment of its last whole packet is now (3.1.2.10)
+-- the time of the last packet is now (3.1.2.10)
 abbrev pub touched : ℕ → ConnectionState → ConnectionState
 touched now AwaitingConnect = AwaitingConnect
 touched now (ConnectedAs key terms last_activity) = ConnectedAs key terms now
 touched now Closed = Closed
 
 abbrev pub touched_on : Conn → Work → Work
-touched_on k w = with_connections (with_connection (λ x. record x { stage = touched w.hub.clock x.stage }) k) w
+touched_on conn work = with_connections (with_connection (λ x. record x { stage = touched work.hub.clock x.stage }) conn) work
 
--- A whole packet comes; where there is no memory for it, the connection is closed.
+-- A packet is processed; if an allocation for it fails, its connection is closed.
 unfoldable pub arrives : Conn → Packet → Growth → Work → Work
-arrives k p g w =
-    if g.fits then dispatch_packet k p g.will_fits (stage_of k w.hub.connections) (touched_on k w)
-    else close k (Own reasons.Memory) g.will_fits w
+arrives conn packet growth work =
+    if growth.fits then dispatch_packet conn packet growth.will_fits (stage_of conn work.hub.connections) (touched_on conn work)
+    else close conn (Own reasons.Memory) growth.will_fits work
 
--- it came from a client that is up, and didn't close the connection
+-- the packet is logged if its client was connected and its connection is still open
 abbrev pub noted : Option ℕ → Bool → Packet → List (ℕ × Packet)
-noted (Some key) true p = (key, p) ∷ []
-noted (Some key) false p = []
-noted None still p = []
+noted (Some key) true packet = (key, packet) ∷ []
+noted (Some key) false packet = []
+noted None still packet = []
 
--- and it is written down (in the log alone) where it came from a client that is up, and didn't close the connection
+-- a packet is processed and logged
 unfoldable pub takes : Conn → Packet → Growth → Work → Work
-takes k p g w = record (arrives k p g w) {
-  came = (arrives k p g w).came ++ noted (key_on (stage_of k w.hub.connections)) (is_open (stage_of k (arrives k p g w).hub.connections)) p;
+takes conn packet growth work = record (arrives conn packet growth work) {
+  came = (arrives conn packet growth work).came
+      ++ noted (key_on (stage_of conn work.hub.connections)) (is_open (stage_of conn (arrives conn packet growth work).hub.connections)) packet;
 }
 
--- the connection closes where its end does
+-- the connection closes if its end closes
 abbrev pub closes_by : Conn → Option CloseReason → Bool → Work → Work
-closes_by k None fits w = w
-closes_by k (Some reason) fits w = close k (Own reason) fits w
+closes_by conn None fits work = work
+closes_by conn (Some reason) fits work = close conn (Own reason) fits work
 
--- what the end that takes in what comes on a connection does with bytes that are no packet (3.1.2.2, 4.8)
+-- how the connection's end reacts to malformed bytes (3.1.2.2, 4.8)
 abbrev pub broken : Conn → DecodeFault → Work → Reply
-broken k fault w = server_faulted fault (end_on (stage_of k w.hub.connections) w.hub.sessions)
+broken conn fault work = server_faulted fault (end_on (stage_of conn work.hub.connections) work.hub.sessions)
 
--- Bytes that are no packet come (4.8): the end says whether they are answered, and why it closes.
+-- Malformed bytes arrive (4.8). The end decides on an answer and on the reason for the close.
 unfoldable pub on_malformed : Conn → DecodeFault → Bool → Work → Work
-on_malformed k fault fits w = closes_by k (broken k fault w).close fits (put_on k (broken k fault w).out w)
+on_malformed conn fault fits work = closes_by conn (broken conn fault work).close fits (put_on conn (broken conn fault work).out work)

@@ -1,4 +1,4 @@
--- The codes by which closes and refusals of a broker are printed.
+-- The printed codes of a broker's closes and refusals.
 use Rattle.std.specs.Prelude.{ℕ, List, codes}
 use Rattle.mq_end.specs.Codes.{close_code}
 use Rattle.mq_route.specs.declared.close.HubClose.{HubClose}
@@ -6,7 +6,7 @@ use Rattle.mq_route.specs.declared.close.HubClose.TheVariants.{Own, TargetFull, 
 use Rattle.mq_route.specs.declared.refusal.HubRefusal.{HubRefusal}
 use Rattle.mq_route.specs.declared.refusal.HubRefusal.TheVariants as refusals
 
--- an end's reason has the end's code
+-- a close by a session's end has the end's code
 abbrev pub hub_close_code : HubClose → List ℕ
 hub_close_code (Own reason) = close_code reason
 hub_close_code TargetFull = codes "C8"

@@ -1,4 +1,4 @@
--- Runs that a broker has, and what comes of them: acts, and the bytes that wait.
+-- Worked runs of a broker, with their acts and pending output.
 use Rattle.std.specs.Prelude.{◌≡◌, ℕ, Bool, true, false, List, [], ◌∷◌, Option, Some, None}
 use Rattle.mq_topic.specs.declared.qos.Qos.{Qos}
 use Rattle.mq_topic.specs.declared.qos.Qos.TheVariants.{Q0, Q1, Q2}
@@ -20,9 +20,9 @@ use Rattle.mq_route.specs.Work.{Work, begin}
 use Rattle.mq_route.specs.Arrives.{Growth, takes}
 use Rattle.mq_route.specs.Step.{opened, ended_open}
 
--- ---- words
+-- ---- abbreviations
 
--- memory is there
+-- each allocation succeeds
 abbrev pub fine : Growth
 fine = record { fits = true; will_fits = true }
 
@@ -32,7 +32,7 @@ conn n = record { worker = 0; nth = n }
 abbrev pub config : HubConfig
 config = record { limits = strict 1000; capacity = 10; window = None; max_conns = 10; max_sessions = 10; users = None }
 
--- a CONNECT, with this clean session
+-- a CONNECT
 abbrev pub hello : List ℕ → Bool → Option Will → Packet
 hello client clean will = packets.Connect (record { client_id = client; clean_session = clean; keep_alive = 0; will = will; login = None })
 
@@ -48,7 +48,7 @@ publish i m = packets.Publish (record { message = m; delivery = Some (record { i
 abbrev pub ask : List ℕ → Qos → Request
 ask f q = record { filter = f; qos = q }
 
--- these packets come, each on its connection
+-- packets arrive, each on its connection
 abbrev pub run : List (ℕ × Packet) → Work → Work
 run [] w = w
 run (x ∷ xs) w = run xs (takes (conn x.0) x.1 fine w)
@@ -59,19 +59,20 @@ open_three c = begin (opened (conn 3) (opened (conn 2) (opened (conn 1) (new_hub
 
 -- ---- runs
 
--- `c` subscribes to `a/+` and `a/#`, `p` publishes to `a/b` and leaves
+-- `c` subscribes to `a/+` and `a/#`; `p` publishes to `a/b` and disconnects
 abbrev pub mixed : Work
 mixed = run ((1, hello (99 ∷ []) true None) ∷ (1, packets.Subscribe 1 (ask (97 ∷ 47 ∷ 43 ∷ []) Q1 ∷ ask (97 ∷ 47 ∷ 35 ∷ []) Q2 ∷ []))
     ∷ (2, hello (112 ∷ []) true None) ∷ (2, publish 1 (msg (97 ∷ 47 ∷ 98 ∷ []) (104 ∷ 105 ∷ []) Q1 false)) ∷ (2, packets.Disconnect)
     ∷ []) (open_three config)
 
--- `p` publishes with RETAIN; `c` subscribes to `#`, twice, and again after an empty message took the retained one away
+-- `p` publishes with RETAIN; `c` subscribes to `#` twice, and again after an empty message removed
+-- the retained one
 abbrev pub retained : Work
 retained = run ((1, hello (112 ∷ []) true None) ∷ (1, publish0 (msg (97 ∷ []) (49 ∷ []) Q0 true)) ∷ (2, hello (99 ∷ []) true None)
     ∷ (2, packets.Subscribe 1 (ask (35 ∷ []) Q1 ∷ [])) ∷ (2, packets.Subscribe 2 (ask (35 ∷ []) Q1 ∷ [])) ∷ (1, publish0 (msg (97 ∷ []) [] Q0 true))
     ∷ (2, packets.Subscribe 3 (ask (35 ∷ []) Q1 ∷ [])) ∷ (2, packets.Unsubscribe 4 ((35 ∷ []) ∷ [])) ∷ []) (open_three config)
 
--- `v` has a will; `c` subscribes to `#`; `v` comes on another connection
+-- `v` has a will; `c` subscribes to `#`; `v` connects again
 abbrev pub over_taken : Work
 over_taken = run ((1, hello (118 ∷ []) false (Some (record { topic = 119 ∷ []; message = 120 ∷ []; qos = Q0; retain = false }))) ∷ (
   2,
@@ -80,13 +81,14 @@ over_taken = run ((1, hello (118 ∷ []) false (Some (record { topic = 119 ∷ [
 )
     ∷ (2, packets.Subscribe 1 (ask (35 ∷ []) Q1 ∷ [])) ∷ (3, hello (118 ∷ []) false None) ∷ []) (open_three config)
 
--- `c` subscribes, its connection ends, and it comes again with clean session 1; then `p` publishes
+-- `c` subscribes, its connection ends, and it connects again with clean session 1; then `p`
+-- publishes
 abbrev pub replaced : Work
 replaced = run ((2, hello (99 ∷ []) true None) ∷ (3, hello (112 ∷ []) true None) ∷ (3, publish 7 (msg (97 ∷ []) (120 ∷ []) Q1 false)) ∷ [])
     (ended_open (conn 1) true true (run ((1, hello (99 ∷ []) false None) ∷ (1, packets.Subscribe 1 (ask (35 ∷ []) Q1 ∷ []))
     ∷ []) (open_three config)))
 
--- one user, and one identifier in use at most
+-- one user, and at most one identifier in use
 abbrev pub tight : HubConfig
 tight = record {
   limits = strict 1000;
@@ -104,19 +106,20 @@ tight = record {
 abbrev pub user : List ℕ → Option Will → List ℕ → Packet
 user client will password = packets.Connect (record { client_id = client; clean_session = true; keep_alive = 10; will = will; login = Some (record { name = 117 ∷ []; password = Some password }) })
 
--- a CONNECT without a user name, and one with another password
+-- a CONNECT without a user name, and one with a wrong password
 abbrev pub strangers : Work
 strangers = run ((1, hello (99 ∷ []) true None) ∷ (2, user (99 ∷ []) None (113 ∷ [])) ∷ []) (open_three tight)
 
--- `c` has an identifier in use, and `p` publishes again
+-- `c` has an identifier in use when `p` publishes again
 abbrev pub full : Work
 full = run ((1, user (99 ∷ []) None (112 ∷ [])) ∷ (1, packets.Subscribe 1 (ask (35 ∷ []) Q2 ∷ []))
     ∷ (2, user (112 ∷ []) (Some (record { topic = 119 ∷ []; message = []; qos = Q1; retain = false })) (112 ∷ []))
     ∷ (2, publish 1 (msg (97 ∷ []) [] Q1 false)) ∷ (2, publish 2 (msg (97 ∷ []) [] Q1 false)) ∷ []) (open_three tight)
 
--- That a broker has these runs, and what comes of them.
+-- The results of these runs.
 pub record Examples : Type 0 where
-  -- one copy, of the greatest quality of service; the client that leaves is removed, with no will (3.3.5, 3.14.4)
+  -- one copy, of the highest QoS; the client that disconnects is removed without a will (3.3.5,
+  -- 3.14.4)
   pub mixed_acts : mixed.did
       ≡ acts.Up (conn 1) 0 false ∷ acts.Subscribed 0 (97 ∷ 47 ∷ 43 ∷ []) Q1 ∷ acts.Subscribed 0 (97 ∷ 47 ∷ 35 ∷ []) Q2 ∷ acts.Up (conn 2) 1 false
       ∷ acts.Took 1 (msg (97 ∷ 47 ∷ 98 ∷ []) (104 ∷ 105 ∷ []) Q1 false) ∷ acts.Placed 0 (msg (97 ∷ 47 ∷ 98 ∷ []) (104 ∷ 105 ∷ []) Q1 false)
@@ -128,14 +131,16 @@ pub record Examples : Type 0 where
       ∷ acts.Up (conn 2) 1 false
       ∷ acts.Took 1 (msg (97 ∷ 47 ∷ 98 ∷ []) (104 ∷ []) Q1 false) ∷ [])
       ≡ msg (97 ∷ 47 ∷ 98 ∷ []) (104 ∷ []) Q1 false ∷ []
-  -- each new subscription is sent the retained message, with RETAIN; the empty one is placed, and not retained (3.3.1.3)
+  -- each new subscription gets the retained message, with RETAIN; an empty message is placed and
+  -- not retained (3.3.1.3)
   pub retained_bytes : waiting_on (conn 2) retained.hub.connections
       ≡ 32 ∷ 2 ∷ 0 ∷ 0 ∷ 144 ∷ 3 ∷ 0 ∷ 1 ∷ 1 ∷ 49 ∷ 4 ∷ 0 ∷ 1 ∷ 97 ∷ 49 ∷ 144 ∷ 3 ∷ 0 ∷ 2 ∷ 1 ∷ 49 ∷ 4 ∷ 0 ∷ 1 ∷ 97 ∷ 49 ∷ 48 ∷ 3 ∷ 0 ∷ 1 ∷ 97 ∷ 144
       ∷ 3 ∷ 0 ∷ 3 ∷ 1 ∷ 176 ∷ 2 ∷ 0 ∷ 4 ∷ []
   pub retained_routed : routed 1 (acts.Took 0 (msg (97 ∷ []) (49 ∷ []) Q0 true) ∷ acts.Up (conn 2) 1 false ∷ acts.Subscribed 1 (35 ∷ []) Q1
       ∷ acts.Took 0 (msg (97 ∷ []) [] Q0 true) ∷ acts.Subscribed 1 (35 ∷ []) Q1 ∷ [])
       ≡ msg (97 ∷ []) (49 ∷ []) Q0 true ∷ msg (97 ∷ []) [] Q0 false ∷ []
-  -- the connection before is closed, its will is published, and the session goes on (3.1.4, 3.1.2.5)
+  -- the previous connection is closed, its will is published, and the session continues (3.1.4,
+  -- 3.1.2.5)
   pub over_taken_acts : over_taken.did
       ≡ acts.Up (conn 1) 0 false ∷ acts.Up (conn 2) 1 false ∷ acts.Subscribed 1 (35 ∷ []) Q1 ∷ acts.Closed (conn 1) TakenOver
       ∷ acts.Will 0 (msg (119 ∷ []) (120 ∷ []) Q0 false) ∷ acts.Placed 1 (msg (119 ∷ []) (120 ∷ []) Q0 false) ∷ acts.Up (conn 3) 0 true ∷ []
@@ -144,11 +149,12 @@ pub record Examples : Type 0 where
   pub replaced_acts : replaced.did
       ≡ acts.Up (conn 1) 0 false ∷ acts.Subscribed 0 (35 ∷ []) Q1 ∷ acts.Closed (conn 1) PeerEnded ∷ acts.Removed 0 ∷ acts.Up (conn 2) 1 false
       ∷ acts.Up (conn 3) 2 false ∷ acts.Took 2 (msg (97 ∷ []) (120 ∷ []) Q1 false) ∷ []
-  -- who isn't a user is refused (3.2.2.3)
+  -- a client that is not a user is refused (3.2.2.3)
   pub strangers_acts : strangers.did ≡ acts.Closed (conn 1) (Own (Refused NotAuthorized))
       ∷ acts.Closed (conn 2) (Own (Refused BadUserNameOrPassword)) ∷ []
   pub strangers_bytes : waiting_on (conn 1) strangers.hub.connections ≡ 32 ∷ 2 ∷ 0 ∷ 5 ∷ []
-  -- a session is full: the publisher's connection is closed, its session is removed, and its will is dropped
+  -- a session is full: the publisher's connection is closed, its session removed and its will
+  -- dropped
   pub full_acts : full.did
       ≡ acts.Up (conn 1) 0 false ∷ acts.Subscribed 0 (35 ∷ []) Q2 ∷ acts.Up (conn 2) 1 false ∷ acts.Took 1 (msg (97 ∷ []) [] Q1 false)
       ∷ acts.Placed 0 (msg (97 ∷ []) [] Q1 false)

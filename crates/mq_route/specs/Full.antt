@@ -1,9 +1,15 @@
--- When a connection is closed since a session is too full for what is due (2.3.1).
-use Rattle.std.specs.Prelude.{◌≡◌, ◌⊎◌, ℕ, false, List, [], ◌∷◌, ◌++◌, Some, None}
-use Rattle.std.specs.List.{flat_map}
+-- A PUBLISH or SUBSCRIBE that needs more packet identifiers than a session has free closes its
+-- connection (2.3.1).
+use Rattle.std.specs.Prelude.{◌≡◌, ◌⊎◌, ℕ, ◌-◌, ◌<◌, List, [], ◌∷◌, ◌++◌, length, map, Some, None}
+use Rattle.std.specs.List.{flat_map, count_by}
 use Rattle.mq_packet.specs.declared.packet.Packet.{Packet}
 use Rattle.mq_packet.specs.declared.packet.Packet.TheVariants as packets
+use Rattle.mq_packet.specs.declared.message.Message.{Message}
 use Rattle.mq_decode.specs.Limits.{Bounds}
+use Rattle.mq_flow.specs.Sender.{uses}
+use Rattle.mq_end.specs.declared.happening.Happening.{Happening}
+use Rattle.mq_end.specs.declared.happening.Happening.TheVariants as happens
+use Rattle.mq_end.specs.Both.{has_identifier}
 use Rattle.mq_end.specs.Server.{server_gets}
 use Rattle.mq_route.specs.declared.act.Act.{Act}
 use Rattle.mq_route.specs.declared.act.Act.TheVariants as acts
@@ -14,13 +20,14 @@ use Rattle.mq_route.specs.declared.conn.Conn.{Conn}
 use Rattle.mq_route.specs.declared.event.HubEvent.{HubEvent}
 use Rattle.mq_route.specs.declared.event.HubEvent.TheVariants.{Opened, Bytes, Ended, Tick, Collect}
 use Rattle.mq_route.specs.declared.reply.HubReply.{HubReply}
-use Rattle.mq_route.specs.Hub.{HubState, new_hub, stage_of, held_on, key_on, end_of}
-use Rattle.mq_route.specs.Work.{Work, begin, have_room}
-use Rattle.mq_route.specs.Arrives.{due, touched_on, takes}
+use Rattle.mq_route.specs.Routed.{seen, routed_from}
+use Rattle.mq_route.specs.Hub.{HubState, HubSession, new_hub, stage_of, held_on, key_on, end_of}
+use Rattle.mq_route.specs.Work.{Work, begin}
+use Rattle.mq_route.specs.Arrives.{Growth, takes}
 use Rattle.mq_route.specs.Step.{holding, Comes, Arrives, Waits, Breaks, Starves, LetsGo, Does, event_refusal}
-use Rattle.mq_route.specs.Runs.{Episode, Follows}
+use Rattle.mq_route.specs.Runs.{Episode, Follows, acts_of}
 
--- the connection, where it is closed for a full session
+-- the connection, if this is the reason for its close
 abbrev pub if_full : HubClose → Conn → List Conn
 if_full TargetFull k = k ∷ []
 if_full (Own reason) k = []
@@ -38,41 +45,71 @@ full_by (acts.Will c m) = []
 full_by (acts.WillDropped c) = []
 full_by (acts.Removed c) = []
 
--- the connections that are closed for a full session
+-- the connections that close because a session is full
 abbrev pub full_closes : List Act → List Conn
 full_closes log = flat_map full_by log
 
--- PUBLISH or SUBSCRIBE
-abbrev pub IsRouted : Packet → Type 0
-IsRouted (packets.Publish p) = Unit {0}
-IsRouted (packets.Subscribe i requests) = Unit {0}
-IsRouted p = ⊥
+abbrev pub IsPublishOrSubscribe : Packet → Type 0
+IsPublishOrSubscribe (packets.Publish p) = Unit {0}
+IsPublishOrSubscribe (packets.Subscribe i requests) = Unit {0}
+IsPublishOrSubscribe p = ⊥
 
--- The packet, a PUBLISH or a SUBSCRIBE, has come on a connection that is up, and makes copies due for which some session has too few
--- identifiers free (2.3.1).
-pub record IsTooMuch (k : Conn) (p : Packet) (w : Work) : Type 0 where
+-- the acts that a client's end asks for: its message is taken, or it subscribes to each filter
+abbrev pub asked_by : ℕ → Happening → List Act
+asked_by key (happens.Handed m) = acts.Took key m ∷ []
+asked_by key (happens.Subscribe i requests) = map (λ r. acts.Subscribed key r.filter r.qos) requests
+asked_by key other = []
+
+abbrev pub asked : ℕ → List Happening → List Act
+asked key happenings = flat_map (asked_by key) happenings
+
+-- the number of packet identifiers that these messages need (2.3.1)
+abbrev pub identifiers_for : List Message → ℕ
+identifiers_for ms = count_by (λ m. has_identifier m.qos) ms
+
+-- the session is one of these
+abbrev pub IsAmong : HubSession → List HubSession → Type 0
+IsAmong s [] = ⊥
+IsAmong s (t ∷ ts) = (s ≡ t) ⊎ IsAmong s ts
+
+-- After these acts, a PUBLISH or SUBSCRIBE arrives on a connected connection and closes it. The
+-- messages that it routes to some client need more packet identifiers than the client's session has
+-- free (2.3.1, 3.3.5, 3.8.4).
+pub record IsTooMuch (log : List Act) (capacity : ℕ) (conn : Conn) (packet : Packet) (growth : Growth) (work : Work) : Type 0 where
   pub key : ℕ
-  pub up : key_on (stage_of k w.hub.connections) ≡ Some key
-  pub routed : IsRouted p
-  pub short : have_room (due key w.hub (server_gets p (end_of key w.hub.sessions)).happenings) w.hub ≡ false
+  pub connected : key_on (stage_of conn work.hub.connections) ≡ Some key
+  pub kind : IsPublishOrSubscribe packet
+  pub session : HubSession
+  pub exists : IsAmong session work.hub.sessions
+  pub short : let now = seen session.key (log ++ work.did) in
+      let happenings = (server_gets packet (end_of key work.hub.sessions)).happenings in
+      capacity - length (uses session.end.book) < identifiers_for (routed_from session.key now (asked key happenings))
+  pub none_before : full_closes work.did ≡ []
+  pub closes : full_closes (takes conn packet growth work).did ≡ conn ∷ []
 
--- one of the packets that come is so
-abbrev pub ComesTooMuch : (limits : Bounds) (k : Conn) (b : List ℕ) (w w2 : Work) → Comes limits k b w w2 → Type 0
-ComesTooMuch limits k b w w2 (Arrives p first rest g v v2 on reads more) = IsTooMuch k p (touched_on k v) ⊎ ComesTooMuch limits k rest (takes k p g v) v2 more
-ComesTooMuch limits k b w w2 (Waits c v on pending) = ⊥
-ComesTooMuch limits k b w w2 (Breaks c fault fits v on faulty) = ⊥
-ComesTooMuch limits k b w w2 (Starves c fits v on some) = ⊥
-ComesTooMuch limits k b w w2 (LetsGo c v closed) = ⊥
+-- one of the packets in these bytes is too much
+abbrev pub ComesTooMuch : List Act → ℕ → (limits : Bounds) (conn : Conn) (bytes : List ℕ) (start stop : Work)
+    → Comes limits conn bytes start stop → Type 0
+ComesTooMuch log capacity limits conn bytes start stop (Arrives packet first rest growth work last on reads more) =
+    IsTooMuch log capacity conn packet growth work ⊎ ComesTooMuch log capacity limits conn rest (takes conn packet growth work) last more
+ComesTooMuch log capacity limits conn bytes start stop (Waits rest work on pending) = ⊥
+ComesTooMuch log capacity limits conn bytes start stop (Breaks rest fault fits work on faulty) = ⊥
+ComesTooMuch log capacity limits conn bytes start stop (Starves rest fits work on some) = ⊥
+ComesTooMuch log capacity limits conn bytes start stop (LetsGo rest work closed) = ⊥
 
--- one of the packets of an event is so
-abbrev pub IsFullEvent : (h : HubState) (e : HubEvent) (r : HubReply) (w : Work) → Does h e r w → Type 0
-IsFullEvent h (Bytes k piece) r w d = ComesTooMuch h.config.limits k (held_on k h.connections ++ piece) (holding k [] (begin h)) w d.0
-IsFullEvent h (Opened k) r w d = ⊥
-IsFullEvent h (Ended k) r w d = ⊥
-IsFullEvent h (Tick now) r w d = ⊥
-IsFullEvent h (Collect k) r w d = ⊥
+-- the event has bytes, one of their packets is too much, and its connection is the only one that
+-- closes for this reason
+abbrev pub IsFullEvent : List Act → (hub : HubState) (event : HubEvent) (reply : HubReply) (work : Work) → Does hub event reply work → Type 0
+IsFullEvent log hub (Bytes conn piece) reply work does = (full_closes work.did ≡ conn ∷ [])
+    × ComesTooMuch log hub.config.capacity hub.config.limits conn (held_on conn hub.connections ++ piece) (holding conn [] (begin hub)) work does.0
+IsFullEvent log hub (Opened conn) reply work does = ⊥
+IsFullEvent log hub (Ended conn) reply work does = ⊥
+IsFullEvent log hub (Tick now) reply work does = ⊥
+IsFullEvent log hub (Collect conn) reply work does = ⊥
 
 pub record FullLaws : Type 0 where
-  -- at each step of a run: a connection is closed for a full session only where one of the packets that come in it is too much
-  pub closes : (config : HubConfig) (before : List Episode) (h : HubState) → Follows (new_hub config) before h
-      → (e : HubEvent) (r : HubReply) (w : Work) → event_refusal e h ≡ None → (d : Does h e r w) → (full_closes w.did ≡ []) ⊎ IsFullEvent h e r w d
+  -- in each step of a run, no connection closes because a session is full, or one does at the
+  -- packet that is too much
+  pub closes : (config : HubConfig) (before : List Episode) (hub : HubState) → Follows (new_hub config) before hub
+      → (event : HubEvent) (reply : HubReply) (work : Work) → event_refusal event hub ≡ None → (does : Does hub event reply work)
+      → (full_closes work.did ≡ []) ⊎ IsFullEvent (acts_of before) hub event reply work does

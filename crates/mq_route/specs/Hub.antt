@@ -1,4 +1,4 @@
--- A broker as plain records: its sessions and connections, and what is looked up in them.
+-- A broker as plain records, and lookups in them.
 use Rattle.std.specs.Prelude.{ℕ, Bool, true, false, not, ◌==◌, List, [], ◌∷◌, map, filter, Option, Some, None, is_some, if◌then◌else◌}
 use Rattle.std.specs.List.{flat_map, list_any}
 use Rattle.std.specs.Str.{bytes_eq}
@@ -13,23 +13,23 @@ use Rattle.mq_route.specs.declared.connection_state.ConnectionState.TheVariants.
 use Rattle.mq_route.specs.Copies.{is_hidden_name, copy_by}
 use Rattle.mq_route.specs.Routed.{same_conn}
 
--- A session (3.1.2.4): the client's identifier, the key that it was given, and its server end, which has the sender's and the
--- receiver's book and the identifier given last.
+-- A session (3.1.2.4): the client identifier, the key, and the server end, which has the sender's
+-- book, the receiver's book and the last assigned packet identifier.
 pub record HubSession : Type 0 where
   pub client : List ℕ
   pub key : ℕ
   pub end : End
 
--- A connection: its name, how far it is, the bytes of the packet that isn't whole, and the bytes that wait to be written.
+-- A connection: its name, its state, the bytes of an incomplete packet, and the pending output.
 pub record HubConnection : Type 0 where
   pub conn : Conn
   pub stage : ConnectionState
   pub held : List ℕ
   pub waiting : List ℕ
 
--- A broker. clock: the moment, in milliseconds. next_key: the key that the next new session gets. rows: the subscriptions (3.8.4).
--- retained: the retained messages (3.3.1.3), the name that came first in front. sessions: by ascending key. lines: the connections,
--- in the order in which they were opened.
+-- A broker. clock: the time in milliseconds. next_key: the key of the next new session. rows: the
+-- subscriptions (3.8.4). retained: the retained messages (3.3.1.3), oldest topic name first.
+-- sessions: by ascending key. connections: in the order in which they were opened.
 pub record HubState : Type 0 where
   pub config : HubConfig
   pub clock : ℕ
@@ -43,7 +43,7 @@ pub record HubState : Type 0 where
 abbrev pub new_end : HubConfig → End
 new_end config = blank_end config.window
 
--- what stands for an end where there is none
+-- the end of a key without a session
 abbrev pub no_end : End
 no_end = blank_end None
 
@@ -54,49 +54,49 @@ new_hub config = record { config = config; clock = 0; next_key = 0; rows = []; r
 -- ---- connections
 
 abbrev pub is_connection : Conn → HubConnection → Bool
-is_connection k x = same_conn x.conn k
+is_connection conn x = same_conn x.conn conn
 
--- a connection of this name is known: it was opened, and is not over
+-- the connection is known: it was opened and has not ended
 abbrev pub knows : Conn → List HubConnection → Bool
-knows k xs = list_any (is_connection k) xs
+knows conn xs = list_any (is_connection conn) xs
 
--- how far a connection is; one that isn't known is closed
+-- the state of a connection; an unknown connection is closed
 abbrev pub stage_of : Conn → List HubConnection → ConnectionState
-stage_of k [] = Closed
-stage_of k (x ∷ xs) = if is_connection k x then x.stage else stage_of k xs
+stage_of conn [] = Closed
+stage_of conn (x ∷ xs) = if is_connection conn x then x.stage else stage_of conn xs
 
 abbrev pub held_on : Conn → List HubConnection → List ℕ
-held_on k [] = []
-held_on k (x ∷ xs) = if is_connection k x then x.held else held_on k xs
+held_on conn [] = []
+held_on conn (x ∷ xs) = if is_connection conn x then x.held else held_on conn xs
 
 abbrev pub waiting_on : Conn → List HubConnection → List ℕ
-waiting_on k [] = []
-waiting_on k (x ∷ xs) = if is_connection k x then x.waiting else waiting_on k xs
+waiting_on conn [] = []
+waiting_on conn (x ∷ xs) = if is_connection conn x then x.waiting else waiting_on conn xs
 
 abbrev pub changed : (HubConnection → HubConnection) → Conn → HubConnection → HubConnection
-changed change k x = if is_connection k x then change x else x
+changed change conn x = if is_connection conn x then change x else x
 
--- the connections with that one changed
+-- the connections with one changed
 abbrev pub with_connection : (HubConnection → HubConnection) → Conn → List HubConnection → List HubConnection
-with_connection change k xs = map (changed change k) xs
+with_connection change conn xs = map (changed change conn) xs
 
--- and without it
+-- the connections without one
 abbrev pub without_connection : Conn → List HubConnection → List HubConnection
-without_connection k xs = filter (λ x. not (is_connection k x)) xs
+without_connection conn xs = filter (λ x. not (is_connection conn x)) xs
 
--- it isn't closed
+-- the connection is not closed
 abbrev pub is_open : ConnectionState → Bool
 is_open AwaitingConnect = true
 is_open (ConnectedAs key terms last_activity) = true
 is_open Closed = false
 
--- the key of the session for which it is up
+-- the key of the connected client
 abbrev pub key_on : ConnectionState → Option ℕ
 key_on AwaitingConnect = None
 key_on (ConnectedAs key terms last_activity) = Some key
 key_on Closed = None
 
--- its session ends with it (3.1.2.4)
+-- the session ends with the connection (3.1.2.4)
 abbrev pub is_clean : ConnectionState → Bool
 is_clean AwaitingConnect = false
 is_clean (ConnectedAs key terms last_activity) = terms.clean_session
@@ -107,7 +107,7 @@ is_for key AwaitingConnect = false
 is_for key (ConnectedAs other terms last_activity) = other == key
 is_for key Closed = false
 
--- the connection on which a client is up
+-- the connection of a client
 abbrev pub up_on : ℕ → List HubConnection → Option Conn
 up_on key [] = None
 up_on key (x ∷ xs) = if is_for key x.stage then Some x.conn else up_on key xs
@@ -122,19 +122,19 @@ end_of key (s ∷ ss) = if s.key == key then s.end else end_of key ss
 abbrev pub ending_in : ℕ → End → HubSession → HubSession
 ending_in key e s = if s.key == key then record s { end = e } else s
 
--- the sessions with that end
+-- the sessions with one end replaced
 abbrev pub with_end : ℕ → End → List HubSession → List HubSession
 with_end key e ss = map (ending_in key e) ss
 
 abbrev pub without_session : ℕ → List HubSession → List HubSession
 without_session key ss = filter (λ s. not (s.key == key)) ss
 
--- the key of the session of a client (3.1.3.1)
+-- the key of a client's session (3.1.3.1)
 abbrev pub key_of : List ℕ → List HubSession → Option ℕ
 key_of client [] = None
 key_of client (s ∷ ss) = if bytes_eq s.client client then Some s.key else key_of client ss
 
--- the end that takes in what comes on a connection: before CONNECT one without a session
+-- the end that takes the packets of a connection; before CONNECT it has no session
 abbrev pub end_on : ConnectionState → List HubSession → End
 end_on AwaitingConnect ss = (opens no_end).end
 end_on (ConnectedAs key terms last_activity) ss = end_of key ss
@@ -143,10 +143,11 @@ end_on Closed ss = no_end
 -- ---- copies
 
 abbrev pub for_key : ℕ → List Message → List (ℕ × Message)
-for_key key ms = map (λ m. (key, m)) ms
+for_key key ms = map (λ message. (key, message)) ms
 
--- the copies of a message, for each client with a row that matches, by ascending key (3.3.5); none of a name that begins with `$`
+-- the copies of a message: one for each client with a matching subscription, by ascending key
+-- (3.3.5), and none for a topic name that begins with `$`
 unfoldable pub copies_of : Message → HubState → List (ℕ × Message)
-copies_of m h =
-    if is_hidden_name m.topic then [] else
-    flat_map (λ found. for_key found.0 (copy_by (is_some (up_on found.0 h.connections)) m (Some found.1))) (matched m.topic h.rows)
+copies_of message hub =
+    if is_hidden_name message.topic then [] else
+    flat_map (λ found. for_key found.0 (copy_by (is_some (up_on found.0 hub.connections)) message (Some found.1))) (matched message.topic hub.rows)

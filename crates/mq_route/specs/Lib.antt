@@ -13,3 +13,6 @@ pub mod Examples
 pub mod Full
 pub mod Dropped
 pub mod Accepted
+pub mod History
+pub mod Names
+pub mod Reading

@@ -1,4 +1,4 @@
--- Events that come to a new broker one after another, and what it then holds.
+-- Runs of a broker: events one after another, and the result of each.
 use Rattle.std.specs.Prelude.{◌≡◌, ℕ, ◌+◌, Bool, false, List, [], ◌∷◌, length, map, None, if◌then◌else◌}
 use Rattle.std.specs.List.{flat_map}
 use Rattle.mq_packet.specs.declared.packet.Packet.{Packet}
@@ -15,71 +15,73 @@ use Rattle.mq_route.specs.Hub.{HubState, new_hub}
 use Rattle.mq_route.specs.Work.{Work}
 use Rattle.mq_route.specs.Step.{Does, event_refusal}
 
--- An event with what came of it: the reply, and the step with its logs.
+-- An event with its reply, and the step with its logs.
 pub record Episode : Type 0 where
   pub event : HubEvent
   pub reply : HubReply
   pub work : Work
 
--- Episodes follow one another, from one broker to another.
+-- Each episode begins with the broker that the one before leaves.
 abbrev pub Follows : HubState → List Episode → HubState → Type 0
-Follows h [] h2 = h2 ≡ h
-Follows h (e ∷ es) h2 = (event_refusal e.event h ≡ None) × Does h e.event e.reply e.work × Follows e.work.hub es h2
+Follows hub [] later_hub = later_hub ≡ hub
+Follows hub (episode ∷ episodes) later_hub =
+    (event_refusal episode.event hub ≡ None) × Does hub episode.event episode.reply episode.work × Follows episode.work.hub episodes later_hub
 
--- all acts, all packets that were put out, all that came from clients that were up
+-- all acts; all packets that were sent; all packets that were logged of connected clients
 abbrev pub acts_of : List Episode → List Act
-acts_of es = flat_map (λ e. e.reply.acts) es
+acts_of episodes = flat_map (λ episode. episode.reply.acts) episodes
 
 abbrev pub sent_in : List Episode → List (Conn × Packet)
-sent_in es = flat_map (λ e. e.work.sent) es
+sent_in episodes = flat_map (λ episode. episode.work.sent) episodes
 
 abbrev pub came_in : List Episode → List (ℕ × Packet)
-came_in es = flat_map (λ e. e.work.came) es
+came_in episodes = flat_map (λ episode. episode.work.came) episodes
 
--- the packets among these that were put out on a connection
+-- the packets that were sent on one connection
 abbrev pub on_conn : Conn → List (Conn × Packet) → List Packet
-on_conn k [] = []
-on_conn k (x ∷ xs) = if same_conn x.0 k then x.1 ∷ on_conn k xs else on_conn k xs
+on_conn conn [] = []
+on_conn conn (x ∷ xs) = if same_conn x.0 conn then x.1 ∷ on_conn conn xs else on_conn conn xs
 
--- an event takes the bytes that wait to be written on a connection
+-- the event takes the pending output of a connection
 abbrev pub collects : Conn → HubEvent → Bool
-collects k (Collect j) = same_conn j k
-collects k (Opened j) = false
-collects k (Bytes j piece) = false
-collects k (Ended j) = false
-collects k (Tick now) = false
+collects conn (Collect other) = same_conn other conn
+collects conn (Opened other) = false
+collects conn (Bytes other piece) = false
+collects conn (Ended other) = false
+collects conn (Tick now) = false
 
--- those bytes
+-- the output that it takes
 abbrev pub written_by : Conn → Episode → List ℕ
-written_by k e = if collects k e.event then e.reply.output else []
+written_by conn episode = if collects conn episode.event then episode.reply.output else []
 
 abbrev pub written : Conn → List Episode → List ℕ
-written k es = flat_map (written_by k) es
+written conn episodes = flat_map (written_by conn) episodes
 
--- the connection is over with the event, or begins with it
+-- the event ends a connection
 abbrev pub ends_it : Conn → HubEvent → Bool
-ends_it k (Ended j) = same_conn j k
-ends_it k (Opened j) = false
-ends_it k (Bytes j piece) = false
-ends_it k (Tick now) = false
-ends_it k (Collect j) = false
+ends_it conn (Ended other) = same_conn other conn
+ends_it conn (Opened other) = false
+ends_it conn (Bytes other piece) = false
+ends_it conn (Tick now) = false
+ends_it conn (Collect other) = false
 
--- none of these events ends the connection
+-- no event ends the connection
 abbrev pub Stays : Conn → List Episode → Type 0
-Stays k [] = Unit {0}
-Stays k (e ∷ es) = (ends_it k e.event ≡ false) × Stays k es
+Stays conn [] = Unit {0}
+Stays conn (episode ∷ episodes) = (ends_it conn episode.event ≡ false) × Stays conn episodes
 
--- the accounts of the clients from this key on, where acts placed and took these messages
+-- the logs of the clients from this key on, by these acts
 abbrev pub AreAccounts : ℕ → List Act → List ClientLog → Type 0
-AreAccounts c log [] = Unit {0}
-AreAccounts c log (a ∷ more) = (a.taken ≡ taken c log) × (a.placed ≡ placed c log) × AreAccounts (c + 1) log more
+AreAccounts client log [] = Unit {0}
+AreAccounts client log (account ∷ more) =
+    (account.taken ≡ taken client log) × (account.placed ≡ placed client log) × AreAccounts (client + 1) log more
 
--- Events came to a new broker one after another: these replies, and this broker, came of them.
+-- From a new broker, these events result in these replies and this broker.
 pub record IsRun (config : HubConfig) (events : List HubEvent) (hub : HubState) (trace : HubTrace) : Type 0 where
   pub episodes : List Episode
-  pub came : map (λ e. e.event) episodes ≡ events
-  pub replied : map (λ e. e.reply) episodes ≡ trace.replies
+  pub came : map (λ episode. episode.event) episodes ≡ events
+  pub replied : map (λ episode. episode.reply) episodes ≡ trace.replies
   pub follows : Follows (new_hub config) episodes hub
-  -- one account for each key that was given
+  -- one log for each key that was assigned
   pub keys : length trace.accounts ≡ hub.next_key
   pub accounts : AreAccounts 0 (acts_of episodes) trace.accounts

@@ -1,50 +1,74 @@
-//! The laws of every run of a broker.
+//! Laws of every run of a broker.
 
 ghost use Rattle.mq_route.specs.Accepted.{AcceptLaws};
 ghost use Rattle.mq_route.specs.Dropped.{WillLaws};
 ghost use Rattle.mq_route.specs.Examples.{Examples};
 ghost use Rattle.mq_route.specs.Full.{FullLaws};
+ghost use Rattle.mq_route.specs.History.{HistoryLaws};
 ghost use Rattle.mq_route.specs.Laws.{OutputLaws, RoutingLaws, TakingLaws};
+ghost use Rattle.mq_route.specs.Names.{NameLaws};
+ghost use Rattle.mq_route.specs.Reading.{ReadLaws};
 
 use mq_end::sound_laws;
 use mq_flow::{identifier_laws, next_laws};
 use mq_topic::store_laws;
 
-/// Over every run, what is written on a connection, and then waits, are the spellings of the packets that are put out on
-/// it (4.6).
+/// The bytes written on a connection, and its pending output, are the encodings of the packets that
+/// are sent on it (4.6).
 pub fn output_laws()
     ensures { OutputLaws }
 {}
 
-/// Over every run, the messages that are placed for a client are those that are routed to it: by its subscriptions
-/// (3.3.5, 3.8.4), while it is up or not (4.3), and those that are retained (3.3.1.3).
+/// The messages placed for a client are those that are routed to it by its subscriptions (3.3.5,
+/// 3.8.4), whether it is connected or not (4.3), and the retained messages (3.3.1.3).
 pub fn routing_laws()
     ensures { RoutingLaws }
 {
     store_laws();
 }
 
-/// Over every run, the messages that are taken from a client are those that a receiver's book hands on over the packets
-/// that came from it (4.3).
+/// What a list of acts says of subscriptions, connections and retained messages, by the last act
+/// that matters (3.3.1.3, 3.8.4, 3.10.4).
+pub fn history_laws()
+    ensures { HistoryLaws }
+{
+    store_laws();
+}
+
+/// A client without an identifier gets `auto-` and the least number that is free (3.1.3.1).
+pub fn name_laws()
+    ensures { NameLaws }
+{}
+
+/// The packets read on a connection are those that its bytes encode (4.2). The configuration never
+/// changes.
+pub fn read_laws()
+    ensures { ReadLaws }
+{}
+
+/// The messages taken from a client are those that a receiver's book delivers from its packets
+/// (4.3).
 pub fn taking_laws()
     ensures { TakingLaws }
 {}
 
-/// At each step of a run, a connection is closed for a full session only where a PUBLISH or a SUBSCRIBE comes on one that is up
-/// and makes copies due for which some session has too few identifiers free (2.3.1).
+/// A connection closes because a session is full only at its own PUBLISH or SUBSCRIBE, whose routed
+/// messages need more identifiers than a session has free (2.3.1).
 pub fn full_laws()
     ensures { FullLaws }
-{}
+{
+    store_laws();
+}
 
-/// At each step of a run, a will is dropped only where memory runs out for it, or where a session that a copy of it is due for has
-/// too few identifiers free (3.1.2.5, 2.3.1).
+/// A client's will is dropped only if an allocation for it fails, or if a session has too few
+/// identifiers free for its copies (3.1.2.5, 2.3.1).
 pub fn will_laws()
     ensures { WillLaws }
 {}
 
-/// At each step of a run, each copy of quality of service 1 or 2 that is placed, as the acts say, is an accept of the sender's
-/// book (4.3): the client has a session, its book is not full, and the identifier given is the first one that is free (2.3.1). So at
-/// each moment the identifiers in use in a session are from 1 to 65,535, each is in use once, and they are within the capacity.
+/// Each placed copy of QoS 1 or 2 is accepted by the sender's book of its client (4.3), with the
+/// first free identifier (2.3.1). So the identifiers in use are from 1 to 65,535, distinct, and at
+/// most the capacity.
 pub fn accept_laws()
     ensures { AcceptLaws }
 {
@@ -53,7 +77,7 @@ pub fn accept_laws()
     sound_laws();
 }
 
-/// Worked runs, with their acts and the bytes that wait.
+/// Worked runs, with their acts and pending output.
 pub fn examples()
     ensures { Examples }
 {}

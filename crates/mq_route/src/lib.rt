@@ -1,6 +1,8 @@
-//! What a broker does, in words: who gets a message, and what comes of each event (3.1 to 3.14, 4.3).
+//! The rules of an MQTT broker as definitions and laws: who gets a message, and the result of each
+//! event (3.1 to 3.14, 4.3).
 //!
-//! The definitions are in `specs/`; this crate has the words that they share with the code.
+//! The definitions are in `specs/`. The crate has the types that they share with the code, and one
+//! function for each set of laws.
 #![tactic(auto)]
 
 mod act;
@@ -21,7 +23,8 @@ pub use crate::conn::Conn;
 pub use crate::connection_state::{ConnectionState, ConnectionTerms};
 pub use crate::event::HubEvent;
 pub use crate::laws::{
-    accept_laws, examples, full_laws, output_laws, routing_laws, taking_laws, will_laws,
+    accept_laws, examples, full_laws, history_laws, name_laws, output_laws, read_laws,
+    routing_laws, taking_laws, will_laws,
 };
 pub use crate::refusal::HubRefusal;
 pub use crate::reply::HubReply;
