@@ -38,7 +38,7 @@ after_out s t front rest book quiet few before =
     let same = ap (λ (b : Bool). length (sent_again b book)) (told_after s.happenings t.happenings quiet) in
     omega arith
 
--- the output and the held bytes are within the incoming bytes and what is sent again
+-- the output and the held bytes are within the incoming bytes and the retransmissions
 abbrev pub AllWithin : List ℕ → List ℕ → SenderBook → List ℕ → Reply → Type 0
 AllWithin front rest book held r = length (encodings r.out) + length held ≤ (length front + length rest) + length (sent_again (rises r.happenings) book)
 
@@ -90,7 +90,7 @@ received_once refusal gets faulted does on_malformed limit b e r held h up = by 
     by Connecting is = refl
     by Connected is = absurd (none (ap is_open is))
 
--- ---- an end that waits
+-- ---- a waiting end
 
 -- an end that still waits
 pub record StillWaits (e : End) (r : Reply) : Type 0 where

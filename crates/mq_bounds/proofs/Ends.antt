@@ -149,7 +149,7 @@ still_output ps old new none out = by (subst (λ (ps : List Packet). PutsOut ps 
 
 -- ---- many pieces
 
--- an end that waits or is closed, and the bytes that it stores
+-- a waiting or closed end, and the bytes that it stores
 data Waiting (refusal : ℕ) (limit : Bounds) (s : EndState) : Type 0 where
   IsOpen : s.end.state ≡ Connecting → s.output ≡ [] → AreBytes s.held → length s.held ≤ 5 + limit.most → s.limit ≡ limit → Waiting refusal limit s
   IsOver : s.end.state ≡ Disconnected → length s.output ≤ refusal → s.held ≡ [] → Waiting refusal limit s

@@ -1,4 +1,4 @@
--- The output for a packet is at most as long as the packet, without what is sent again.
+-- The output for a packet is at most as long as the packet, without retransmissions.
 use Rattle.std.proofs.Common.{ℕ, ◌+◌, ◌/◌, ◌%◌, ◌≤◌, Bool, true, false, not, ◌&&◌, eqb, cond, [], ◌∷◌, ◌++◌, length, Option, Some, None, arith}
 use Rattle.std.proofs.lemmas.Bool.{cond_both}
 use Rattle.std.proofs.lemmas.List.{length-append}
@@ -29,7 +29,7 @@ use Rattle.mq_end.specs.Server.{connect_gets, refuses, server_open_gets, server_
 use Rattle.mq_bounds.specs.Costs.{rises, book_for, sent_again}
 use Rattle.mq_bounds.proofs.Lengths.{connack_size, puback_size, pubrec_size, pubrel_size, pubcomp_size, pingresp_size, joined_size}
 
--- the reply sends at most n bytes, without what is sent again
+-- the reply sends at most n bytes, without retransmissions
 abbrev pub OutWithin : ℕ → SenderBook → Reply → Type 0
 OutWithin n book r = length (encodings r.out) ≤ n + length (sent_again (rises r.happenings) book)
 

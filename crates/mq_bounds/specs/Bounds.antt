@@ -22,18 +22,18 @@ use Rattle.mq_bounds.specs.Waiting.{WaitsThrough}
 
 -- An end processes a packet by `gets`.
 pub record PacketBounds (gets : Packet → End → Reply) : Type 0 where
-  -- the output has at most as many bytes as the packet, without what is sent again when the end
+  -- the output has at most as many bytes as the packet, without retransmissions when the end
   -- connects (4.4)
   pub answer : (lenient : Bool) (packet : Packet) (bytes : List ℕ) (end : End) → Reads lenient packet bytes
       → length (encodings (gets packet end).out) ≤ length bytes + length (sent_again (rises (gets packet end).happenings) (book_for packet end.book))
   -- a PUBLISH of QoS 2 stores at most one identifier, any other packet none (4.3.3)
   pub stored : (packet : Packet) (end : End) → FinSet.len (gets packet end).end.received ≤ FinSet.len end.received + (if is_exactly_once packet then 1 else 0)
-  -- the receive window stays the same, and at most that many identifiers are stored, or as many as
-  -- before
+  -- the receive window stays the same, and at most that many identifiers are stored, or the number
+  -- before the packet
   pub window : (packet : Packet) (end : End) → KeepsWindow end (gets packet end).end
 
 -- The first packet of the held and the incoming bytes connects the end. The stored bytes grow by at
--- most the length of the piece and of what is sent again from the book with which this packet
+-- most the length of the piece and of the retransmissions from the book with which this packet
 -- connects the end (4.4).
 pub record Connects (piece : List ℕ) (old new : EndState) : Type 0 where
   pub first : Packet
@@ -53,13 +53,13 @@ pub record ReceiveCall (receives : List ℕ → EndState → EndState → List H
   pub closed : Option CloseReason
   pub received : receives piece old new happenings acknowledged closed
 
--- `receives` is the contract of `receive`; `refusal` is the maximum length of the answer to a refused
--- first packet.
+-- `receives` is the contract of `receive`; `refusal` is the maximum length of the answer to a
+-- refused first packet.
 pub record ReceiveBounds (refusal : ℕ) (receives : List ℕ → EndState → EndState → List Happening → List ℕ → Option CloseReason → Type 0) : Type 0 where
   -- if the end does not connect, its stored bytes grow by at most the length of the piece
   pub grows : (call : ReceiveCall receives) → rises call.happenings ≡ false → kept call.new ≤ kept call.old + length call.piece
-  -- if the end connects, they grow by at most that and the PUBRELs and PUBLISHes that are sent again
-  -- (4.4)
+  -- if the end connects, they grow by at most that and the PUBRELs and PUBLISHes that are sent
+  -- again (4.4)
   pub comes_up : (call : ReceiveCall receives) → rises call.happenings ≡ true → Connects call.piece call.old call.new
   -- only an end that waits for the first packet connects (3.1, 3.2)
   pub once : (call : ReceiveCall receives) → rises call.happenings ≡ true → call.old.end.state ≡ Connecting

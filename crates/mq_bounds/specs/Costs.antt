@@ -1,4 +1,4 @@
--- What incoming bytes cost an end.
+-- The cost of incoming bytes for an end.
 use Rattle.std.specs.Prelude.{ℕ, ◌+◌, Bool, true, false, if◌then◌else◌, List, [], length}
 use Rattle.std.specs.List.{list_any}
 use Rattle.mq_packet.specs.declared.packet.Packet.{Packet}

@@ -105,7 +105,7 @@ same_run : (es : List Episode) (h h2 : HubState) → Follows h es h2 → Sound h
 same_run [] h h2 f s = ap (λ (h : HubState). h.config) f
 same_run (e ∷ es) h h2 f s = same_run es e.work.hub h2 f.2 (sound_event h e.event e.reply e.work f.0 f.1 s) ∙ same_event h e.event e.reply e.work f.1 s
 
--- ---- a connection on which nothing is read
+-- ---- a connection without input
 
 held_firm : (n : Conn) → Firm (held_on n)
 held_firm n b k xs = held_map (changed (grown b) k) (names_changed (grown b) k (names_grown b)) (helds_changed (grown b) k (λ x. refl)) n xs

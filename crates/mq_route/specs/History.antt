@@ -1,4 +1,4 @@
--- What a list of acts says of subscriptions (3.8.4, 3.10.4), connections and retained messages
+-- The effect of a list of acts on subscriptions (3.8.4, 3.10.4), connections and retained messages
 -- (3.3.1.3), by the last act that matters.
 use Rattle.std.specs.Prelude.{◌≡◌, ◌⊎◌, ◌↔◌, ℕ, Bool, true, false, not, ◌&&◌, ◌||◌, ◌==◌, List, [], ◌∷◌, ◌++◌, length, Option, Some, None}
 use Rattle.std.specs.List.{list_any}

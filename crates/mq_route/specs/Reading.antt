@@ -88,6 +88,7 @@ pub record ReadLaws : Type 0 where
   pub read : (config : HubConfig) (before : List Episode) (hub : HubState) → Follows (new_hub config) before hub
       → (after : List Episode) (later_hub : HubState) (follows : Follows hub after later_hub) (conn : Conn) → Stays conn after → knows conn hub.connections ≡ true
       → IsRead conn config.limits (read_on conn hub after later_hub follows) (held_on conn hub.connections ++ arrived conn after) later_hub
-  -- in each event, the logged packets are those that are read of a connected client and leave its connection open
+  -- in each event, the logged packets are those that are read of a connected client and leave its
+  -- connection open
   pub logged : (hub : HubState) (event : HubEvent) (reply : HubReply) (work : Work) (does : Does hub event reply work)
       → work.came ≡ logged_by hub event reply work does

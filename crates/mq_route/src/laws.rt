@@ -27,7 +27,7 @@ pub fn routing_laws()
     store_laws();
 }
 
-/// What a list of acts says of subscriptions, connections and retained messages, by the last act
+/// The effect of a list of acts on subscriptions, connections and retained messages, by the last act
 /// that matters (3.3.1.3, 3.8.4, 3.10.4).
 pub fn history_laws()
     ensures { HistoryLaws }
