@@ -1,6 +1,7 @@
 //! Jobs done over an input and a writer.
 
 ghost use Rattle.std.specs.Prelude.{◌≡◌, ℕ, List, Some, None, true, IfOk, IsErr, OnOk};
+ghost use Rattle.std.specs.Borrow.{Bor};
 ghost use Rattle.std.specs.List.{flat_map};
 ghost use Rattle.std.specs.Io.KnownBytes.{Appends};
 ghost use Rattle.mq_topic.specs.Matching.{is_match};
@@ -264,7 +265,7 @@ pub fn perform_opened<F: Files, W: Write>(
     opened: io::Result<F::File>,
     output: &mut W,
 ) -> io::Result<u8>
-    requires { (name : List ℕ) × (job_source job.now ≡ Some (Source.File name)) }
+    requires { (name : Bor (List ℕ)) × (job_source job.now ≡ Some (Source.File name)) }
     ensures done { IfOk result (λ status. Prints (W.contents output.old) (W.contents output.new)
         (IsDone job.now None true status)) }
     ensures status { IsErr opened → IfOk result (λ status. status ≡ BAD_INPUT) }
