@@ -74,7 +74,7 @@ passed_none item bytes =
     let all : length bytes - 0 ≡ length bytes = omega arith in
     record { items = []; room = omega arith; told = rw all (front_nil (items_at item (length bytes) bytes)) }
 
--- the item before the bytes that are left
+-- the item before the remaining bytes
 pub rest_found : {A : Type 0} (r : Result (A × List ℕ) BadField) (after : List ℕ) → rest_of r ≡ Ok after → (x : A) × (r ≡ Ok (x, after))
 rest_found (Ok x) after e = (x.0, ap (λ (t : List ℕ). Ok (x.0, t)) (ok_is x.1 after e))
 rest_found (Err bad) after e = absurd cc

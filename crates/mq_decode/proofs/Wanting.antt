@@ -24,7 +24,7 @@ use Rattle.mq_decode.proofs.FrontFound.{FrontFound, front_found}
 empty : (rest : List ℕ) → length rest ≤ 0 → rest ≡ []
 empty rest le = nil_from_length rest (omega arith)
 
--- less than one byte is none
+-- at least one byte is missing
 pub wants_one : (limit : Bounds) (b : List ℕ) → Wants limit b 1
 wants_one limit b pending more few = subst (Pending limit) (sym (ap (λ (t : List ℕ). b ++ t) (empty more (omega arith)) ∙ append-nil b)) pending
 

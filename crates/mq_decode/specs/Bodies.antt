@@ -54,7 +54,7 @@ unfoldable pub publish_at : PublishFlags → List ℕ → Result Publication Bad
 publish_at flags bytes = name_at bytes >>= λ topic. delivery_at flags topic.1 >>= λ delivery.
     Ok (record { message = record { topic = topic.0; payload = delivery.1; qos = flags.qos; retain = flags.retain }; delivery = delivery.0 })
 
--- nothing but an identifier (3.4 to 3.7, 3.11)
+-- only an identifier (3.4 to 3.7, 3.11)
 unfoldable pub only_identifier_at : List ℕ → Result ℕ BadField
 only_identifier_at bytes = identifier_at bytes >>= λ id. end_at id.1 >>= λ end. Ok id.0
 

@@ -1,4 +1,4 @@
--- Reading the front of a buffer: a packet, less than a packet, or the first fault.
+-- Reading the front of a buffer: a packet, an incomplete packet, or the first fault.
 use Rattle.std.specs.Prelude.{ℕ, ◌+◌, ◌-◌, List, [], ◌∷◌, length, take, drop, Option, Some, None, Result, Ok, Err, nat_lt, if◌then◌else◌}
 use Rattle.mq_wire.specs.declared.length_reading.LengthReading.{LengthReading}
 use Rattle.mq_wire.specs.declared.length_reading.LengthReading.TheVariants.{Whole, Unfinished, TooLong, Overlong}

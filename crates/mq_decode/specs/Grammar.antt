@@ -44,8 +44,8 @@ pub record FirstFault (b : List ℕ) (k : FaultKind) (place : ℕ) : Type 0 wher
   pub fault : kind_at first ≡ Err k
   pub here : place ≡ 0
 
--- the remaining length is none (2.2.3): a fourth byte says that a fifth follows, or, under strict
--- limits, a last byte of 0 is not alone
+-- the remaining length is invalid (2.2.3): a fourth byte says that a fifth follows, or, under
+-- strict limits, a last byte of 0 is not alone
 abbrev pub BadLength : Bounds → List ℕ → FaultKind → ℕ → Type 0
 BadLength limits rest LengthTooLong place = IsTooLong rest × (place ≡ 4)
 BadLength limits rest LengthOverlong place = (limits.lenient ≡ false) × IsOverlong rest place
@@ -109,12 +109,12 @@ pub data Faulty (limits : Bounds) (b : List ℕ) (k : FaultKind) (place : ℕ) :
   AtSize : SizeFault limits b k place → Faulty limits b k place
   AtField : FieldFault limits b k place → Faulty limits b k place
 
--- b is less than a whole packet, and nothing is wrong with it
+-- b is an incomplete packet, and nothing is wrong with it
 pub record Pending (limits : Bounds) (b : List ℕ) : Type 0 where
   pub not_whole : (p : Packet) (first rest : List ℕ) → ReadsWithin limits p first → b ≡ first ++ rest → ⊥
   pub not_faulty : (k : FaultKind) (place : ℕ) → Faulty limits b k place → ⊥
 
--- how the packets of b end: with less than a whole one, or with a fault
+-- how the packets of b end: with an incomplete one, or with a fault
 abbrev pub Ends : Bounds → List ℕ → Option DecodeFault → Type 0
 Ends limits rest None = Pending limits rest
 Ends limits rest (Some fault) = Faulty limits rest fault.kind fault.place
@@ -144,7 +144,7 @@ abbrev pub Stops : Bounds → List ℕ → List Packet → List Packet → Decod
 Stops limits b old new (errors.Fault fault) = (ps : List Packet) × (rest : List ℕ) × (new ≡ old ++ ps) × Reading limits b ps rest (Some fault)
 Stops limits b old new errors.Memory = (ps : List Packet) × (new ≡ old ++ ps) × Begins limits b ps
 
--- The front of the buffer: less than a packet, a packet with its size, or a fault.
+-- The front of the buffer: an incomplete packet, a packet with its size, or a fault.
 abbrev pub IsFront : Bounds → List ℕ → Result (Option (Packet × ℕ)) DecodeError → Type 0
 IsFront limits b (Ok None) = Pending limits b
 IsFront limits b (Ok (Some x)) = (x.1 ≤ length b) × ReadsWithin limits x.0 (take x.1 b)

@@ -13,7 +13,7 @@ abbrev pub items_of : {A : Type 0} → Result (List A) BadField → List A
 items_of (Ok items) = items
 items_of (Err bad) = []
 
--- the items that are left at the end of a list, and that they were tested
+-- the remaining items at the end of a list, and that they were tested
 abbrev pub left_in : {A : Type 0} → (List ℕ → Result (A × List ℕ) BadField) → List ℕ → List A
 left_in item rest = items_of (items_at item (length rest) rest)
 

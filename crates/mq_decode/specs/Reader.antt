@@ -9,14 +9,14 @@ use Rattle.mq_decode.specs.declared.read.ReadError.TheVariants as errors
 use Rattle.mq_decode.specs.Limits.{Bounds}
 use Rattle.mq_decode.specs.Grammar.{ReadsWithin, Faulty, Pending}
 
--- why no packet was read: less than a whole one was left, or something else than a packet
+-- why no packet was read: an incomplete one was left, or something else than a packet
 abbrev pub ReadStops : Bounds → Option (List ℕ) → ReadError → Type 0
 ReadStops limits left errors.Cut = IfSome left (λ b. Pending limits b × (0 < length b))
 ReadStops limits left (errors.Io error) = Unit {0}
 ReadStops limits left (errors.Fault fault) = IfSome left (λ b. Faulty limits b fault.kind fault.place)
 ReadStops limits left errors.Memory = IfSome left (λ b. 0 < length b)
 
--- The bytes taken before an error belong to one packet: each proper prefix of them is less than a
+-- The bytes taken before an error belong to one packet: each proper prefix of them is an incomplete
 -- packet and has no fault.
 abbrev pub TakesWithin : Bounds → Option (List ℕ) → Option (List ℕ) → Type 0
 TakesWithin limits old new = (taken : List ℕ) × Consumes old new taken × ((n : ℕ) → n < length taken → Pending limits (take n taken))

@@ -34,7 +34,7 @@ packet_of lent.PingReq = packets.PingReq
 packet_of lent.PingResp = packets.PingResp
 packet_of lent.Disconnect = packets.Disconnect
 
--- The front of `b`: a packet with its size, less than a packet, or a fault.
+-- The front of `b`: a packet with its size, an incomplete packet, or a fault.
 abbrev pub IsView : Bounds → List ℕ → View → Type 0
 IsView limits b (views.Whole packet n) = (n ≤ length b) × ReadsWithin limits (packet_of packet) (take n b)
 IsView limits b views.More = Pending limits b

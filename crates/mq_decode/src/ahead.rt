@@ -142,7 +142,7 @@ fn take_short(limits: Limits, bytes: &[u8], ahead: &mut Bytes) -> Option<(Packet
 }
 
 // The owned packet at the front with its size, `None` if it is incomplete, or its first fault.
-// Skips it in the copy of the bytes ahead; drops the copy if there is no packet.
+// Skips it in the copy of the bytes ahead; drops the copy if no packet is complete.
 fn front_ahead(
     alloc: Global,
     limits: Limits,
@@ -213,7 +213,7 @@ fn take_found(
 }
 
 /// Takes the next packet of the held bytes and a piece behind them. Returns it with the number of
-/// bytes used of the piece, or `None` if they hold less than a packet; then the whole piece is
+/// bytes used of the piece, or `None` if they hold an incomplete packet; then the whole piece is
 /// held. A piece shorter than the known number of missing bytes is only appended. A message that is
 /// complete in the piece shares a copy of the bytes ahead, which is kept for the next call.
 #[inline(never)]

@@ -127,10 +127,10 @@ impl Decoder {
     }
 
     /// Takes the next complete packet of the stream. Returns it with the number of bytes used of
-    /// the piece, or `None` if the held bytes and the piece are less than a packet; then the whole
-    /// piece is held. Messages that are complete in the piece share copies of its bytes, of which
-    /// one that is kept keeps up to 1 KiB in memory; so does the decoder, until a call returns
-    /// `None` or an error.
+    /// the piece, or `None` if the held bytes and the piece are an incomplete packet; then the
+    /// whole piece is held. Messages that are complete in the piece share copies of its bytes, of
+    /// which one that is kept keeps up to 1 KiB in memory; so does the decoder, until a call
+    /// returns `None` or an error.
     #[inline(always)]
     pub fn next_packet(&mut self, piece: &[u8]) -> Result<Option<(Packet, usize)>, DecodeError>
         // The held bytes and the front of the piece are the packet, and nothing is held afterwards.
@@ -138,7 +138,7 @@ impl Decoder {
         ensures packet { IfOk result (λ o. IfSome o
             (λ x. ReadsWithin self.old.limit x.0 (self.old.held ++ take x.1 piece.now))) }
         ensures taken { IfOk result (λ o. IfSome o (λ x. self.new.held ≡ [])) }
-        // The held bytes and the piece are less than a packet, and are held.
+        // The held bytes and the piece are an incomplete packet, and are held.
         ensures less { IfOk result (λ o. IfNone o
             (Pending self.old.limit (self.old.held ++ piece.now))) }
         ensures holds { IfOk result (λ o. IfNone o
@@ -230,7 +230,7 @@ fn stop(alloc: Global, held: &mut Held, failed: &mut Option<DecodeError>, error:
     *failed = Some(error);
 }
 
-// The number of held bytes, which is small if they are less than a packet.
+// The number of held bytes, which is small if they are an incomplete packet.
 fn len_of(limits: Limits, held: &[u8]) -> usize
     ensures value { result ≡ length held.now }
     ensures most { Pending limits held.now → result ≤ 5 + limits.most }

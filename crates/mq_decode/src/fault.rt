@@ -38,9 +38,9 @@ pub enum FaultKind {
     ProtocolLevel,
     /// Flags of CONNECT (3.1.2.3) or of CONNACK (3.2.2.1) that are forbidden.
     ForbiddenFlags,
-    /// A text is no topic name (4.7).
+    /// A text is not a topic name (4.7).
     NotTopicName,
-    /// A text is no topic filter (4.7).
+    /// A text is not a topic filter (4.7).
     NotTopicFilter,
     /// A packet identifier of 0 (2.3.1).
     ZeroIdentifier,
@@ -106,7 +106,7 @@ pub struct DecodeFault {
 /// Why no further packet is read.
 #[derive(Clone, Copy, Debug, PartialEq, Eq, Error)]
 pub enum DecodeError {
-    /// The bytes are no packet.
+    /// The bytes are not a packet.
     #[error("{0}")]
     Fault(DecodeFault),
     /// Memory ran out.

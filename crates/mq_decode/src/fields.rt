@@ -1,5 +1,5 @@
 //! Single fields at the front of the bytes of a packet (1.5). Each reader gives the value and the
-//! bytes after it, and takes no memory.
+//! bytes after it. Never allocates.
 
 ghost use Rattle.std.specs.Prelude.{◌≡◌, ◌+◌, ◌<◌, ◌≤◌, slice_range, ℕ, Option, true, length, drop, IfOk, Ok};
 ghost use Rattle.mq_topic.specs.Topic.{is_topic_name, is_topic_filter};

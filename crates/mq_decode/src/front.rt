@@ -137,7 +137,7 @@ fn read_front(limits: Limits, bytes: &[u8]) -> View<'_>
     read_any(limits, bytes)
 }
 
-/// Looks at the front of a buffer: a borrowed packet with its size, less than a packet, or the
+/// Looks at the front of a buffer: a borrowed packet with its size, an incomplete packet, or the
 /// first fault.
 pub fn view<'a>(bytes: &'a [u8], limits: Limits) -> View<'a>
     ensures front { IsView limits bytes.now result }

@@ -106,7 +106,7 @@ impl Held {
         }
     }
 
-    /// Whether the packet is less than a whole one by its header; then it is noted how many bytes
+    /// Whether the packet is an incomplete one by its header; then it is noted how many bytes
     /// it wants.
     pub(crate) fn lacks(&mut self, limits: Limits) -> bool
         ensures less { IsTrue result → Pending limits self.old.bytes }

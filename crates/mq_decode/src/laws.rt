@@ -23,7 +23,7 @@ pub fn each_reads()
     length_laws();
 }
 
-/// Less than a whole packet is at most five bytes and the bound on the remaining length.
+/// An incomplete packet is at most five bytes and the bound on the remaining length.
 pub fn pending_is_short()
     ensures { PendingIsShort }
 {

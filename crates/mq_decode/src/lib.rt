@@ -1,6 +1,6 @@
 //! Control packets out of an ordered stream of bytes, cut anywhere (chapters 2 and 3).
 //!
-//! A call that can fail for lack of memory says so in its return type; other calls never allocate.
+//! A call that may allocate says so in its return type; other calls never allocate.
 //! On `Err` the receiver is unchanged unless stated otherwise.
 #![tactic(auto)]
 

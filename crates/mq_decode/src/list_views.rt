@@ -94,7 +94,7 @@ impl<'a> Iterator for Requests<'a> {
     }
 }
 
-// The first of the requests that are left, and the bytes after it.
+// The first of the remaining requests, and the bytes after it.
 fn first_request(bytes: &[u8]) -> Option<(RequestView<'_>, &[u8])>
     requires { IsLeft request_at bytes.now }
     ensures items { MatchOption result (left_in request_at bytes.now ≡ [])
@@ -191,7 +191,7 @@ impl<'a> Iterator for Codes<'a> {
     }
 }
 
-// The first of the codes that are left, and the bytes after it.
+// The first of the remaining codes, and the bytes after it.
 fn first_code(bytes: &[u8]) -> Option<(SubAckCode, &[u8])>
     requires { IsLeft suback_code_at bytes.now }
     ensures items { MatchOption result (left_in suback_code_at bytes.now ≡ [])
@@ -284,7 +284,7 @@ impl<'a> Iterator for Filters<'a> {
     }
 }
 
-// The first of the filters that are left, and the bytes after it.
+// The first of the remaining filters, and the bytes after it.
 fn first_filter(bytes: &[u8]) -> Option<(FilterView<'_>, &[u8])>
     requires { IsLeft filter_at bytes.now }
     ensures items { MatchOption result (left_in filter_at bytes.now ≡ [])

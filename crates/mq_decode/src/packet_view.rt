@@ -16,7 +16,7 @@ use std::alloc::{AllocError, Global};
 pub enum View<'a> {
     /// A packet, and how many bytes it takes.
     Whole(PacketView<'a>, usize),
-    /// Less than a whole packet, and nothing is wrong with it.
+    /// An incomplete packet, and nothing is wrong with it.
     More,
     /// The first fault.
     Fault(DecodeFault),

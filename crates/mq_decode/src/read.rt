@@ -26,7 +26,7 @@ pub enum ReadError {
     /// The reader failed.
     #[error("the reader failed: {0}")]
     Io(io::Error),
-    /// The bytes are no packet.
+    /// The bytes are not a packet.
     #[error("{0}")]
     Fault(DecodeFault),
     /// Memory ran out.

@@ -212,7 +212,7 @@ pub under_gone : (ps : List (ℕ × Held)) → AreUnder ps → AreUnder (map (λ
 under_gone [] u = tt
 under_gone (p ∷ ps) u = (id_gone p.1 ∙ u.0, under_gone ps u.1)
 
--- ---- all have gone out
+-- ---- all have sent
 
 pub messages_gone : (ps : List (ℕ × Held)) → messages (map (λ p. (p.0, gone_out p.1)) ps) ≡ map (λ e. record { id = e.id; message = e.message; sent = true }) (messages ps)
 messages_gone [] = refl

@@ -172,7 +172,7 @@ keeps_pubcomp s i k = keeps_same s (on_pubcomp i s.book) k (laws.pubcomp s.capac
 pub claim_out : (s : Sending) (i at : ℕ) → Keeps s → at < length s.book.claimed → HoldsAt (λ c. c.id ≡ i) s.book.claimed at → remove s.book.claimed at ≡ without_claim i s.book.claimed
 claim_out s i at k l h = remove_is (λ (c : Claimed). c.id) i s.book.claimed at l h (once_claimed s.capacity i s.book k.sound)
 
--- nothing is released or claimed that is not there
+-- an identifier that is not released or claimed changes nothing
 pub absent_released : (i : ℕ) (b : SenderBook) → list_any (λ j. eqb j i) b.released ≡ false → without i b.released ≡ b.released
 absent_released i b h =
     let t = any_times (λ (j : ℕ). j) i b.released in

@@ -11,7 +11,7 @@ use Rattle.mq_flow.specs.Receiver.{ReceiverBook, AreIdentifiers}
 use Rattle.mq_flow.specs.Sending.{Sending, Keeps}
 use Rattle.mq_flow.specs.Saved.{AreWithin, HaveTopics, IsKept, IsSenderWithin}
 
--- the messages that a sender holds are such as are kept
+-- the messages of a sender meet `IsKept`
 pub all_kept : (limit : ℕ) (es : List Entry) → list_any (λ e. same_qos Q0 e.message.qos) es ≡ false → HaveTopics es → AreWithin limit es → AllByRecursion (IsKept limit) es
 all_kept limit [] h topics within = tt
 all_kept limit (e ∷ es) h topics within =

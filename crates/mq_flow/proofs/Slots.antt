@@ -352,7 +352,7 @@ turn_placed xs f g n m i k h p e id t c =
         both true = ap Some (sym (length-set xs k None))
         both false = refl
 
--- ---- how many there are
+-- ---- their number
 
 pub length_removed : (i : ℕ) (ps : List (ℕ × Held)) → length (remove_entry (eqb i) ps) ≤ length ps
 length_removed i [] = omega arith
@@ -421,7 +421,7 @@ module _ (xs : List (Option Held)) (n : ℕ) (x : Option Held) (lt : n < length 
   pub passed_by : (f : ℕ → Option ℕ) (c : ℕ) → x ≡ None → IsPlaced (take n xs) f c → IsPlaced (take (n + 1) xs) f c
   passed_by f c none p = subst (λ (l : List (Option Held)). IsPlaced l f c) (sym (next ∙ ap (λ (y : Option Held). take n xs ++ y ∷ []) none)) (empty_placed (take n xs) f c p)
 
--- ---- all have gone out
+-- ---- all have sent
 
 from_marked : (at i : ℕ) (xs : List (Option Held)) → place_from at i (map (option_map gone_out) xs) ≡ place_from at i xs
 from_marked at i [] = refl

@@ -40,7 +40,7 @@ id_in (Released i) = i
 abbrev pub AreUnder : List (ℕ × Held) → Type 0
 AreUnder = AllByRecursion (λ p. id_in p.1 ≡ p.0)
 
--- the same, and its PUBLISH has gone out (3.3.1.1)
+-- the same, and its PUBLISH was sent (3.3.1.1)
 abbrev pub gone_out : Held → Held
 gone_out (Waiting e) = Waiting (record { id = e.id; message = e.message; sent = true })
 gone_out (Released i) = Released i

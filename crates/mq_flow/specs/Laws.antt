@@ -37,7 +37,7 @@ pub record IdentifierLaws : Type 0 where
   pub drops : (capacity : ℕ) (b : SenderBook) → IsSound capacity b → IsSound capacity (no_claims b)
   pub sends : (capacity : ℕ) (b : SenderBook) → IsSound capacity b → IsSound capacity (all_sent b)
 
--- An acknowledgement removes from the book what it acknowledges; a stray one changes nothing
+-- An acknowledgement removes the acknowledged message or identifier; a stray one changes nothing
 -- (4.3.2, 4.3.3).
 pub record StrayLaws : Type 0 where
   pub puback_stray : (i : ℕ) (b : SenderBook) → is_awaited Q1 i b.entries ≡ false → on_puback i b ≡ b

@@ -120,7 +120,7 @@ released_at (suc more) b bytes = with_released_at b bytes >>= λ r. released_at 
 abbrev pub released_within : ℕ → SenderBook → List ℕ → Result (SenderBook × List ℕ) ℕ
 released_within room b bytes = number_within room bytes >>= λ m. released_at m.0 b m.1
 
--- how many entries there are, and they; and the same of the identifiers that are released
+-- The entries and the released identifiers, each list behind its length.
 abbrev pub book_at : (limit : ℕ) → ℕ → List ℕ → Result (SenderBook × List ℕ) ℕ
 book_at limit capacity bytes = number_within capacity bytes >>= λ n. entries_at limit n.0 blank_book n.1 >>= λ entries. released_within (capacity - n.0) entries.0 entries.1
 
@@ -162,7 +162,7 @@ abbrev pub placed : {A : Type 0} → ℕ → Result A ℕ → Result A LoadError
 placed total (Ok x) = Ok x
 placed total (Err left) = Err (errors.Malformed (total - left))
 
--- The session in a saved form, or the reason why the bytes are none.
+-- The session in a saved form, or why there is no session.
 unfoldable pub read_session : List ℕ → Result Session LoadError
 read_session bytes = if has_version bytes then placed (length bytes) (session_at 268435455 (drop 4 bytes)) else Err errors.Version
 

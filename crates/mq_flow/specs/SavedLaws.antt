@@ -12,7 +12,7 @@ use Rattle.mq_flow.specs.Loading.{read_session}
 pub record SavedLaws : Type 0 where
   -- A written form is read back.
   pub again : (s : Session) → IsSession s → s.sender.book.claimed ≡ [] → s.sender.room ≡ 0 → read_session (saved_form s) ≡ Ok s
-  -- What is read was written so.
+  -- A form that is read was written so.
   pub found : (b : List ℕ) (s : Session) → AreBytes b → read_session b ≡ Ok s → Saved s b × IsSession s
   -- bytes are the saved form of at most one session, whatever the limit
   pub one : (limit : ℕ) (b : List ℕ) (s t : Session) → IsSessionWithin limit s → IsSessionWithin limit t → Saved s b → Saved t b → s ≡ t
@@ -23,5 +23,5 @@ pub record SavedTwoLaws : Type 0 where
   pub first : (s : Session) → IsSession s → s.sender.book.claimed ≡ [] → s.sender.room ≡ 0 → read_saved (saved_form s) ≡ Ok (record { client = None; established = false; session = s })
   pub again : (client : List ℕ) (established : Bool) (s : Session) → IsText client → IsSession s → s.sender.book.claimed ≡ [] → s.sender.room ≡ 0
       → read_saved (saved_form_two client established s) ≡ Ok (record { client = Some client; established = established; session = s })
-  -- What is read was written so.
+  -- A form that is read was written so.
   pub found : (b : List ℕ) (v : value.Saved) → AreBytes b → read_saved b ≡ Ok v → IsSavedAs v b × IsSession v.session

@@ -61,7 +61,7 @@ second_at limit bytes = text_at bytes >>= λ client. flag_at client.1 >>= λ est
 abbrev pub has_version_two : List ℕ → Bool
 has_version_two bytes = starts_with nat_eq bytes signature_two
 
--- The session in a saved form of either version, or the reason why the bytes are none.
+-- The session in a saved form of either version, or why there is no session.
 unfoldable pub read_saved : List ℕ → Result value.Saved LoadError
 read_saved bytes =
     if has_version bytes then placed (length bytes) (first_at 268435455 (drop 4 bytes)) else

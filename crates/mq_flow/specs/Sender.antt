@@ -61,7 +61,7 @@ is_full capacity b = nat_le capacity (length (uses b))
 abbrev pub same_qos : Qos → Qos → Bool
 same_qos q r = qos_number q == qos_number r
 
--- a message of this quality of service went out with this identifier, and waits for its
+-- a message of this quality of service was sent with this identifier, and waits for its
 -- acknowledgement (4.3.2, 4.3.3)
 abbrev pub is_awaited : Qos → ℕ → List Entry → Bool
 is_awaited q i es = list_any (λ e. same_qos q e.message.qos && (e.id == i && e.sent)) es

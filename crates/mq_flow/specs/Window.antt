@@ -16,7 +16,7 @@ abbrev pub Spans : Option ℕ → ℕ → Type 0
 Spans None capacity = Unit {0}
 Spans (Some window) capacity = capacity ≤ window
 
--- The number of stored identifiers is at most the window, or at most what it was before.
+-- The number of stored identifiers is at most the window, or at most the number before.
 abbrev pub IsWithin : Option ℕ → ReceiverBook → ReceiverBook → Type 0
 IsWithin None before after = Unit {0}
 IsWithin (Some window) before after = FinSet.len after ≤ max window (FinSet.len before)

@@ -10,9 +10,8 @@ use mq_packet::PacketId;
 use mq_topic::Qos;
 
 impl Sender {
-    /// Takes a PUBACK: the message of quality of service 1 that went out with this identifier is
-    /// acknowledged, and the identifier is free (4.3.2). If there is none, nothing changes. Takes
-    /// no memory.
+    /// Takes a PUBACK: the message of quality of service 1 that was sent with this identifier is
+    /// acknowledged, and the identifier is free (4.3.2). If there is none, nothing changes.
     pub fn on_puback(&mut self, id: PacketId) -> Reaction
         ensures book { self.new.book ≡ on_puback id self.old.book }
         ensures result { result ≡ puback_reaction id self.old.book }
@@ -45,7 +44,7 @@ impl Sender {
     }
 
     /// Takes a PUBCOMP: the released identifier is free (4.3.3). If it isn't released, nothing
-    /// changes. Takes no memory.
+    /// changes.
     pub fn on_pubcomp(&mut self, id: PacketId) -> Reaction
         ensures book { self.new.book ≡ on_pubcomp id self.old.book }
         ensures result { result ≡ pubcomp_reaction id self.old.book }

@@ -9,6 +9,6 @@ pub struct Entry {
     pub id: PacketId,
     /// The message, of quality of service 1 or 2.
     pub message: Message,
-    /// Its PUBLISH has gone out before, so the next one has DUP 1 (3.3.1.1).
+    /// Its PUBLISH was sent before, so the next one has DUP 1 (3.3.1.1).
     pub sent: bool,
 }

@@ -6,7 +6,7 @@ ghost use Rattle.mq_flow.specs.SavedLaws.{SavedLaws, SavedTwoLaws};
 
 use mq_wire::text_laws;
 
-/// Identifiers in use are 1 to 65,535, each is used once, and there are at most as many as the
+/// Identifiers in use are 1 to 65,535, each is used once, and their number is at most the
 /// capacity, after any list of moves. A sender that is not full has a free identifier (2.3.1).
 pub fn identifier_laws()
     ensures { IdentifierLaws }

@@ -4,7 +4,7 @@
 //! The definitions are in `specs/`: the sender's book and its moves, the receiver's book and its
 //! moves.
 //!
-//! A call that can fail for lack of memory says so in its return type; other calls never allocate.
+//! A call that may allocate says so in its return type; other calls never allocate.
 //! On `Err` the receiver is unchanged unless stated otherwise.
 #![tactic(auto)]
 

@@ -40,7 +40,7 @@ pub enum LoadError {
     /// The session was saved for another client (3.1.3.1).
     #[error("the session is that of another client")]
     AnotherClient,
-    /// A message of the session is over the limit of the end that is to go on with it (2.2.3).
+    /// A message of the session is over the limit of the end that is to continue with it (2.2.3).
     #[error("a message of the session is over the limit")]
     TooLarge,
 }
@@ -426,7 +426,7 @@ fn capacity(bytes: &[u8]) -> Result<(u16, &[u8]), BadField>
     Ok((capacity, rest))
 }
 
-// Reads how many there are, for which there has to be room.
+// Reads their number, for which there has to be room.
 #[tactic(auto, unfolding(crate::specs::Loading::number_within))]
 fn number_within(room: u16, bytes: &[u8]) -> Result<(u16, &[u8]), BadField>
     ensures read { Same (λ x. (x.0, x.1.now)) result (number_within room bytes.now) }

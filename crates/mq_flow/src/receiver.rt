@@ -37,7 +37,7 @@ impl Model for Receiver {
 }
 
 impl Receiver {
-    /// Makes a receiver that has stored no identifier. Takes no memory.
+    /// Makes a receiver that has stored no identifier.
     pub fn new(alloc: Global) -> Receiver
         ensures { result ≡ none_received }
     {
@@ -54,7 +54,7 @@ impl Receiver {
         self.stored.contains(&id.get())
     }
 
-    /// Returns how many identifiers are stored. Takes no memory.
+    /// Returns how many identifiers are stored.
     pub fn identifiers(&self) -> usize
         ensures { result ≡ set.len self.now }
     {
@@ -62,8 +62,7 @@ impl Receiver {
     }
 
     /// Returns whether a PUBLISH of quality of service 2 with this identifier fits a window: its
-    /// identifier is stored, or fewer are stored than the window has; `None` is no window. Takes no
-    /// memory.
+    /// identifier is stored, or fewer are stored than the window has; `None` is no window.
     pub fn fits(&self, id: PacketId, window: Option<u16>) -> bool
         ensures { result ≡ fits_window window id self.now }
     {
@@ -127,14 +126,14 @@ impl Receiver {
         Packet::PubComp(id)
     }
 
-    /// Forgets all identifiers. Takes no memory.
+    /// Forgets all identifiers.
     pub(crate) fn discard(&mut self)
         ensures { self.new ≡ none_received }
     {
         self.stored.clear();
     }
 
-    /// Returns whether no identifier is stored. Takes no memory.
+    /// Returns whether no identifier is stored.
     pub fn is_empty(&self) -> bool
         ensures { IsTrue result ↔ (self.now ≡ none_received) }
     {

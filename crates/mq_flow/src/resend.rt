@@ -36,7 +36,7 @@ impl Sender {
         put_messages(self.table.entries(), out)
     }
 
-    /// Marks each message as sent: the next PUBLISH of each has DUP (3.3.1.1). Takes no memory.
+    /// Marks each message as sent: the next PUBLISH of each has DUP (3.3.1.1).
     pub fn mark_sent(&mut self)
         ensures book { self.new.book ≡ all_sent self.old.book }
         ensures capacity { self.new.capacity ≡ self.old.capacity }

@@ -15,7 +15,7 @@ use std::alloc::{AllocError, Global};
 /// `MQS`, and version 2 of the form.
 pub(crate) const SIGNATURE_TWO: [u8; 4] = [0x4d, 0x51, 0x53, 2];
 
-/// A session as it was saved.
+/// A session as it was saved (4.1).
 #[derive(Debug, Drop)]
 pub struct Saved {
     /// The identifier of the client that it belongs to (3.1.3.1). Version 1 of the form names none.

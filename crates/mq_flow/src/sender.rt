@@ -52,7 +52,7 @@ impl Model for Sender {
 
 impl Sender {
     /// Makes a sender that has no message and gave no identifier, and in which at most `capacity`
-    /// identifiers may be in use (2.3.1). Takes no memory.
+    /// identifiers may be in use (2.3.1).
     pub fn new(alloc: Global, capacity: u16) -> Sender
         requires { 0 < capacity }
         ensures book { result.book ≡ blank_book }
@@ -104,9 +104,8 @@ impl Sender {
         self.capacity as usize - used
     }
 
-    /// Returns the identifier that the next packet gets: the first free one after the one that was
-    /// given last, counted round, or `None` if as many are in use as there is room for (2.3.1).
-    /// Takes no memory.
+    /// Returns the identifier of the next packet: the first free one after the one assigned last,
+    /// going round, or `None` if the capacity is in use (2.3.1).
     pub fn next_id(&self) -> Option<PacketId>
         ensures some { IsSome result ↔ (is_full self.now.capacity self.now.book ≡ false) }
         ensures first { IfSome result (IsFirstFree self.now.last self.now.book) }
@@ -214,7 +213,7 @@ impl Sender {
     }
 
     /// Frees an identifier that is in use by a SUBSCRIBE or an UNSUBSCRIBE; nothing changes if it
-    /// isn't (2.3.1). Takes no memory.
+    /// isn't (2.3.1).
     pub fn release_id(&mut self, id: PacketId)
         ensures book { self.new.book ≡ release id self.old.book }
         ensures capacity { self.new.capacity ≡ self.old.capacity }
@@ -228,7 +227,6 @@ impl Sender {
     }
 
     /// Frees all identifiers that are in use by SUBSCRIBE and UNSUBSCRIBE: a connection is over.
-    /// Takes no memory.
     pub fn free_claims(&mut self)
         ensures book { self.new.book ≡ no_claims self.old.book }
         ensures capacity { self.new.capacity ≡ self.old.capacity }
@@ -288,7 +286,7 @@ impl Sender {
         self.table.len() == 0
     }
 
-    /// Returns whether a message of quality of service 1 went out with this identifier and waits
+    /// Returns whether a message of quality of service 1 was sent with this identifier and waits
     /// for PUBACK (4.3.2).
     pub fn awaits_puback(&self, id: PacketId) -> bool
         ensures { result ≡ is_awaited Q1 id self.now.book.entries }
@@ -296,7 +294,7 @@ impl Sender {
         self.awaits(Qos::Q1, id)
     }
 
-    /// Returns whether a message of quality of service 2 went out with this identifier and waits
+    /// Returns whether a message of quality of service 2 was sent with this identifier and waits
     /// for PUBREC (4.3.3).
     pub fn awaits_pubrec(&self, id: PacketId) -> bool
         ensures { result ≡ is_awaited Q2 id self.now.book.entries }
@@ -304,7 +302,7 @@ impl Sender {
         self.awaits(Qos::Q2, id)
     }
 
-    /// Returns whether a message of this quality of service went out with this identifier.
+    /// Returns whether a message of this quality of service was sent with this identifier.
     pub(crate) fn awaits(&self, qos: Qos, id: PacketId) -> bool
         ensures { result ≡ is_awaited qos id self.now.book.entries }
     {
@@ -341,7 +339,7 @@ impl Sender {
     }
 }
 
-/// Returns whether a message is of this quality of service and went out.
+/// Returns whether a message is of this quality of service and was sent.
 fn is_sent(entry: &Entry, qos: Qos) -> bool
     ensures { result ≡ (same_qos qos entry.now.message.qos && entry.now.sent) }
 {

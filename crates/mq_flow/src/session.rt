@@ -22,8 +22,7 @@ pub struct Session {
 }
 
 impl Session {
-    /// Makes a session in which nothing was sent or received, and in which at most `capacity`
-    /// identifiers may be in use (2.3.1). Takes no memory.
+    /// An empty session, in which at most `capacity` identifiers may be in use (2.3.1).
     pub fn new(alloc: Global, capacity: u16) -> Session
         requires { 0 < capacity }
         ensures book { result.sender.book ≡ blank_book }
@@ -61,7 +60,7 @@ impl Session {
     }
 
     /// Frees an identifier that is in use by a SUBSCRIBE or an UNSUBSCRIBE; nothing changes if it
-    /// isn't (2.3.1). Takes no memory.
+    /// isn't (2.3.1).
     pub fn release_id(&mut self, id: PacketId)
         ensures book { self.new.sender.book ≡ release id self.old.sender.book }
         ensures capacity { self.new.sender.capacity ≡ self.old.sender.capacity }
@@ -73,7 +72,7 @@ impl Session {
     }
 
     /// Discards the session (3.1.2.4): nothing was sent or received. Its capacity stays, and the
-    /// room that is reserved. Takes no memory.
+    /// room that is reserved.
     pub fn discard(&mut self)
         ensures sender { self.new.sender ≡ record self.old.sender { book = blank_book; last = 0 } }
         ensures received { self.new.receiver ≡ none_received }

@@ -61,7 +61,7 @@ impl Model for Table {
 }
 
 impl Table {
-    /// Makes a table in which nothing is kept. Takes no memory.
+    /// An empty table.
     pub(crate) fn new(alloc: Global) -> Table
         ensures { result.pairs ≡ [] }
     {
@@ -179,7 +179,7 @@ impl Table {
         ensures err_spare { OnErr result (self.old.spare ≤ self.new.spare) }
     {
         if self.is_crowded() {
-            // If there is no memory for more, one place may still be free.
+            // If an allocation fails for more, one place may still be free.
             let _ = self.grow(self.len() / 4 + 4);
         }
         self.reserve(1)?;
@@ -204,7 +204,7 @@ impl Table {
         take_out(&mut self.slots, &mut self.places, id);
     }
 
-    /// Removes everything. Takes no memory.
+    /// Removes everything.
     pub(crate) fn clear(&mut self)
         ensures pairs { self.new.pairs ≡ [] }
         ensures spare { self.old.spare ≤ self.new.spare }
@@ -345,7 +345,7 @@ fn drop_empty(slots: &mut Vec<Option<Held>>)
     slots.retain(|slot| slot.is_some());
 }
 
-/// Records anew in which place each identifier is. As many were there before.
+/// Records the slot of each identifier again.
 fn renumber(slots: &[Option<Held>], places: &mut HashMap<u16, usize>)
     requires once { (i : ℕ) → times i (keys_of (pairs_in slots.now)) ≤ 1 }
     requires many { length (pairs_in slots.now) ≤ hash_map_len places.old }

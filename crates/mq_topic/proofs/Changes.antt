@@ -264,7 +264,7 @@ module _ (at : Option NodeId) (level : List ℕ) (k : NodeId) (old new : Tree) (
 
 -- ---- a node that is needed
 
--- below the root nothing was on its way to another place
+-- below the root, no other place was on the path
 pub trie_at_root : (row : RowMap) (t : Tree) → IsTrieUpTo None row t → IsTrieOf row t
 trie_at_root row t h = record {
   linked = h.linked;
@@ -282,7 +282,7 @@ trie_at_root row t h = record {
     nowhere k (l ∷ path) rest h g = not_root t g.0 (path ++ rest) g.2
 
 module _ (k : NodeId) (row : RowMap) (t : Tree) (h : IsTrieUpTo (Some k) row t) where
-  -- the levels of a row go on from the node
+  -- the levels of a row continue from the node
   on_the_way : IsUsed t k → (tail : List (List ℕ)) × IsRowPath row (h.leads.0 ++ tail)
   on_the_way (inl w) = below w.0 (t.child (Some k) w.0) refl w.1
     where

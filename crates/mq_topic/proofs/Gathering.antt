@@ -182,7 +182,7 @@ push_none xs at none to = (
   ],
 )
 
--- ---- the entries that are left
+-- ---- the remaining entries
 
 unfoldable pub HasEntry : ℕ → Qos → Entries → Type 0
 HasEntry c q [] = ⊥

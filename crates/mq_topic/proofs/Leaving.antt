@@ -13,7 +13,7 @@ use Rattle.mq_topic.proofs.Keys.{nat_ties}
 use Rattle.mq_topic.proofs.Nodes.{is_client}
 use Rattle.mq_topic.proofs.Placing.{first, less, second}
 
--- the rows of the others, and those of the client that are left
+-- the rows of the others, and those of the remaining client
 abbrev pub left_of : RowMap → ℕ → List (List ℕ × Qos) → RowMap
 left_of row c rest d g = cond (is_client c d) (find (slice_cmp nat_cmp) g rest) (row d g)
 

@@ -30,7 +30,7 @@ absent-first key r rows false e none rest =
     let tail : is_some (find key_cmp key rows) ≡ false = rw e at none in
     rw e (ap (λ (l : List Row). r ∷ l) (rest tail))
 
--- a row that is not there is not missed
+-- removing a missing row changes nothing
 pub without_absent : (key : Key) (rows : List Row) → is_some (find key_cmp key rows) ≡ false → filter (λ s. not (eq_by_cmp key_cmp key s.0)) rows ≡ rows
 without_absent key [] none = refl
 without_absent key (r ∷ rows) none = absent-first key r rows _ refl none (without_absent key rows)

@@ -36,7 +36,7 @@ module _ (t : Tree) (c : ℕ) (q : Qos) where
       subst (λ o. IsAt t o c q) (sym h.2 ∙ sym h.1 ∙ ap (t.child at) level) is
   from_hash at to l (m ∷ ls) e h is = absurd cc
 
-  -- below a place the name's first level is stood for by a child, or all of it by `#`
+  -- below a place, a child matches the name's first level, or `#` matches all of it
   pub finds_level : (at : Option NodeId) (n : List ℕ) (ns : List (List ℕ)) → Finds t at (n ∷ ns) c q → AtHash at ⊎ ((k : NodeId) × Steps t n (Some k) at × Finds t (Some k) ns c q)
   finds_level at n ns w = by_path w.0 w.2 w.3
     where

@@ -1,7 +1,7 @@
 //! Topic names and topic filters (4.7), which filters match a name, stores of subscriptions, and
 //! the quality of service (4.3).
 //!
-//! A call that can fail for lack of memory says so in its return type; other calls never allocate.
+//! A call that may allocate says so in its return type; other calls never allocate.
 //! On `Err` the receiver is unchanged unless stated otherwise.
 #![tactic(auto)]
 

@@ -42,7 +42,7 @@ pub(crate) struct Trie {
 }
 
 impl Trie {
-    /// A trie of the root alone, which takes no memory.
+    /// A trie of the root alone, which
     pub(crate) fn new(alloc: Global) -> Trie
         ensures { IsTrieOf (λ c f. None) (tree result) }
     {

@@ -7,7 +7,7 @@ use Rattle.mq_topic.proofs.matching.levels_fit.Given as goal
 abbrev pub invariant-levels : goal.invariant-levels
 invariant-levels l = fits (levels_left l.filter_left) (levels_left l.name_left) ≡ fits (levels l.fn.filter) (levels l.fn.name)
 
--- one more than the bytes that are left
+-- one more than the remaining bytes
 abbrev pub count_left : Option (Bor (List ℕ)) → ℕ
 count_left None = 0
 count_left (Some t) = length t.now + 1

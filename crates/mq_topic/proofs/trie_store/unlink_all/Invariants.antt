@@ -7,7 +7,7 @@ use Rattle.mq_topic.specs.TrieView.{tree}
 use Rattle.mq_topic.proofs.Leaving.{left_of}
 use Rattle.mq_topic.proofs.trie_store.unlink_all.Given as goal
 
--- the rows of the others are there, and the client's that are left
+-- the rows of the others are there, and the client's that remain
 abbrev pub invariant-rows : goal.invariant-rows
 invariant-rows l = record {
   ascending : T (is_sorted (slice_cmp nat_cmp) l.filter-iterator);

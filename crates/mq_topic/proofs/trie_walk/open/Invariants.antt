@@ -16,7 +16,7 @@ invariant-levels l = record {
   done : (path : List (List ℕ)) × (levels l.fn.filter ≡ path ++ levels_left l.left) × Leads (tree l.trie) None path l.at;
 }
 
--- one more than the bytes that are left
+-- one more than the remaining bytes
 abbrev pub count_left : Option (Bor (List ℕ)) → ℕ
 count_left None = 0
 count_left (Some t) = length t.now + 1

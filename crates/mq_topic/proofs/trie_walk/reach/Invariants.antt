@@ -10,7 +10,7 @@ use Rattle.mq_topic.proofs.trie_walk.reach.Given as goal
 abbrev pub invariant-levels : goal.invariant-levels
 invariant-levels l = (to : Option NodeId) → Leads (tree l.trie) None (levels l.fn.filter) to ↔ Leads (tree l.trie) l.at (levels_left l.left) to
 
--- one more than the bytes that are left
+-- one more than the remaining bytes
 abbrev pub count_left : Option (Bor (List ℕ)) → ℕ
 count_left None = 0
 count_left (Some t) = length t.now + 1

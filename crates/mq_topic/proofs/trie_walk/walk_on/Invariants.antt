@@ -8,7 +8,7 @@ use Rattle.mq_topic.proofs.trie_walk.walk_on.Given as goal
 abbrev pub invariant-levels : goal.invariant-levels
 invariant-levels l = IsWalked (tree l.trie) (λ c q. Among (λ at. Finds (tree l.trie) at (levels_left l.fn.name) c q) l.fn.from.items) l.initial.found.entries l.found.entries l.nodes.items (levels_left l.left)
 
--- one more than the bytes that are left
+-- one more than the remaining bytes
 abbrev pub count_left : Option (Bor (List ℕ)) → ℕ
 count_left None = 0
 count_left (Some t) = length t.now + 1
