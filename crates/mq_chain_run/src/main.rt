@@ -1,11 +1,12 @@
-//! Runs the broker and the client programs against each other, over sockets of this machine, as their words say.
+//! Runs the broker and the client programs against each other, over sockets of this machine.
 //!
-//! The standard input has rounds, with an empty line between each two. A round is the line of a broker, and then lines of programs that are run
-//! one after another while it serves; each is as a person types it. `PORT` stands for the port on which the broker listens, which is a free one, `''` for an empty
-//! word, and `xxd -p FILE` prints a file's bytes. A line that begins with `#` is a remark. What each program prints is printed under its line, with its status; the
-//! broker's comes last.
+//! The standard input has rounds, separated by empty lines. A round is the command line of a broker,
+//! and then command lines of programs, which run one after another while the broker serves. In a
+//! line, `PORT` is the port of the broker, `''` is an empty argument, and `xxd -p FILE` prints the
+//! bytes of a file. A line that begins with `#` is a comment. The output of a program is printed
+//! under its line, with its exit status. The output of the broker comes last.
 //!
-//! No round waits for good: where a client made no connection, others are made in its place, and the broker ends all the same.
+//! A round always ends: if a client made no connection, other connections are made in its place.
 #![tactic(auto)]
 
 mod fault;
@@ -23,7 +24,7 @@ use std::sync::Wait;
 use std::thread::Threads;
 use std::time::Clock;
 
-/// Runs the rounds of the standard input. `host` is the runtime too, which starts the threads.
+/// Runs the rounds of the standard input. `host` is the same runtime, and starts the threads.
 fn run<R>(rt: &HostRuntime, host: &R) -> Result<(), Fault>
 where
     R: Net<Listener = TcpListener, Stream = TcpStream> + Files + Threads + Wait + Clock + Sync,

@@ -1,4 +1,4 @@
-//! The programs that the lines ask for.
+//! The programs of command lines.
 
 use crate::fault::Fault;
 use mq_cli::{Command, Serve, command};
@@ -15,13 +15,13 @@ use std::time::Clock;
 /// A program that has run.
 #[derive(Drop)]
 pub(crate) struct Ran {
-    /// What it printed.
+    /// Its output.
     pub(crate) printed: Vec<u8>,
-    /// Its status.
+    /// Its exit status.
     pub(crate) status: u8,
 }
 
-// What stands for a word of a line.
+// The argument that a word of a line means.
 fn word_of<'a>(word: &'a str, port: &'a str) -> &'a str {
     match word {
         "PORT" => port,
@@ -30,14 +30,14 @@ fn word_of<'a>(word: &'a str, port: &'a str) -> &'a str {
     }
 }
 
-// The words of a line.
+// The arguments of a line.
 fn words_of<'a>(alloc: Global, line: &'a str, port: &'a str) -> Result<Vec<&'a str>, AllocError> {
     line.split(' ')
         .map(|word| word_of(word, port))
         .collect(alloc)
 }
 
-/// The broker that a line asks for.
+/// The broker of a command line.
 pub(crate) fn serve_of(alloc: Global, line: &str) -> Result<Serve, Fault> {
     let words = words_of(alloc, line, "0")?;
     match command(alloc, words.as_slice())? {
@@ -46,7 +46,7 @@ pub(crate) fn serve_of(alloc: Global, line: &str) -> Result<Serve, Fault> {
     }
 }
 
-/// The broker of these words, at a listener that is there.
+/// Runs the broker of these arguments on a listener.
 pub(crate) fn run_broker<R>(
     rt: &R,
     alloc: Global,
@@ -61,7 +61,7 @@ where
     Ok(Ran { printed, status })
 }
 
-// The bytes of a file, as digits.
+// The bytes of a file as hexadecimal digits.
 fn run_dump<R: Files>(rt: &R, alloc: Global, name: &str) -> Result<Ran, Fault> {
     let mut file = fs::open(rt, name)?;
     let mut bytes = Vec::new(alloc);
@@ -72,7 +72,7 @@ fn run_dump<R: Files>(rt: &R, alloc: Global, name: &str) -> Result<Ran, Fault> {
     Ok(Ran { printed, status: 0 })
 }
 
-/// The program that a line asks for, with the broker at this port.
+/// Runs the program of a command line, with a broker on this port.
 pub(crate) fn run_line<R: Net + Clock + Files>(
     rt: &R,
     alloc: Global,

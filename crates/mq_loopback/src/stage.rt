@@ -7,7 +7,7 @@ use crate::client::Client;
 use mq_book::{Journal, Receipt};
 use mq_client::ClientError;
 use mq_packet::Message;
-use mq_serve::{Acceptor, Closed, Records, ServeEnd, Served, Server, man_both};
+use mq_serve::{Acceptor, FinishedServer, Retention, ServeEnd, Server, WorkerResult, run_both};
 use std::alloc::{AllocError, Global};
 use std::io;
 use std::io::ErrorKind;
@@ -52,7 +52,7 @@ pub enum RunError {
 
 impl From<AllocError> for RunError {
     ghost use Rattle.std.specs.Prelude.{◌≡◌};
-    ghost use Rattle.mq_serve.specs.declared.ending.ServeEnd.TheVariants.{Memory};
+    ghost use Rattle.mq_serve.specs.declared.serve_end.ServeEnd.TheVariants.{Memory};
     ghost use Rattle.mq_loopback.specs.declared.stage.RunError.TheVariants.{Broker};
 
     ghost from_gives = { λ _ end. end ≡ Broker Memory };
@@ -137,11 +137,11 @@ where
         return Err(RunError::Broker(ServeEnd::Net));
     };
     let Stage { gate, streams } = stage;
-    let records = Records::Kept(JOURNAL);
+    let records = Retention::Kept(JOURNAL);
     let (hall, stations) = Server::<L>::open(rt, alloc, blank, workers, gate, start, records)?;
     let cast = Cast::new(alloc, clients);
     let acts = cast.acts(streams)?;
-    let (served, collected) = man_both(rt, &hall, stations, &cast, acts);
+    let (served, collected) = run_both(rt, &hall, stations, &cast, acts);
     ended(hall, served, collected_by(cast.into_fault(), collected))
 }
 
@@ -159,7 +159,7 @@ fn collected_by(
 // What is left of a broker and of clients that are done, or why there is nothing.
 fn ended<L: Ledger>(
     hall: Server<L>,
-    served: Result<Vec<Served<L>>, AllocError>,
+    served: Result<Vec<WorkerResult<L>>, AllocError>,
     collected: Result<Vec<Vec<Message>>, RunError>,
 ) -> Result<RunResult, RunError>
     requires all { IfOk served (λ s. vec_len s ≡ L.parts) }
@@ -171,10 +171,10 @@ fn ended<L: Ledger>(
 
 // What a broker leaves, and what was collected, or why nothing was.
 fn left<L: Ledger>(
-    closed: Closed<L>,
+    closed: FinishedServer<L>,
     collected: Result<Vec<Vec<Message>>, RunError>,
 ) -> Result<RunResult, RunError> {
-    let Closed { mut book, receipts } = closed;
+    let FinishedServer { mut book, receipts } = closed;
     match collected {
         Ok(collected) => Ok(RunResult {
             collected,

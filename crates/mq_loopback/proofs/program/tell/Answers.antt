@@ -1,4 +1,4 @@
-use Rattle.mq_serve.specs.declared.ending.ServeEnd.TheVariants.{Memory}
+use Rattle.mq_serve.specs.declared.serve_end.ServeEnd.TheVariants.{Memory}
 use Rattle.mq_loopback.specs.declared.stage.RunError.TheVariants.{Broker}
 use Rattle.mq_loopback.proofs.Telling.{cut_off}
 use Rattle.mq_loopback.proofs.program.tell.Goals as goal
