@@ -1,4 +1,5 @@
-pub mod Desks
-pub mod Replaying
-pub mod Serving
-pub mod Working
+pub mod Chains
+pub mod Connections
+pub mod Replayed
+pub mod Steps
+pub mod WorkerCounts

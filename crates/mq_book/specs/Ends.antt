@@ -1,10 +1,10 @@
--- Why a worker stops.
+-- Reasons of a worker to stop.
 use Rattle.mq_book.specs.declared.refusal.BookRefusal.{BookRefusal}
 use Rattle.mq_book.specs.declared.refusal.BookRefusal.TheVariants as refusals
-use Rattle.mq_book.specs.declared.stop.WorkEnd.{WorkEnd}
-use Rattle.mq_book.specs.declared.stop.WorkEnd.TheVariants as ends
+use Rattle.mq_book.specs.declared.work_end.WorkEnd.{WorkEnd}
+use Rattle.mq_book.specs.declared.work_end.WorkEnd.TheVariants as ends
 
--- it stops for what a book refuses it for
+-- the reason of a worker whose step a book refused
 abbrev pub end_of : BookRefusal → WorkEnd
 end_of refusals.JournalFull = ends.JournalFull
 end_of refusals.Memory = ends.Memory

@@ -2,5 +2,5 @@ pub mod Ends
 pub mod Pages
 pub mod Receipts
 pub mod Replays
-pub mod Works
-pub mod Serving
+pub mod Workers
+pub mod Connection

@@ -1,18 +1,20 @@
-//! A broker with the journal of its steps.
+//! A broker with a journal of its steps.
 
-ghost use Rattle.std.specs.Prelude.{◌≡◌, ◌+◌, ◌<◌, ◌∷◌, [], ◌++◌, length, None, Ok, Err, IfOk, IfErr, OnOk, OnErr};
+ghost use Rattle.std.specs.Prelude.{◌≡◌, ◌+◌, ◌<◌, ◌∷◌, [], ◌++◌, ◌↔◌, length, None, IfOk, IfErr, IfSome, IsSome, IsTrue, OnOk, OnErr};
 ghost use Rattle.mq_route.specs.Step.{HubStep, event_refusal};
-ghost use Rattle.mq_book.specs.Pages.{RefusedAs};
+ghost use Rattle.mq_book.specs.declared.work_end.OnFull.TheVariants.{Checkpoint};
+ghost use Rattle.mq_book.specs.Pages.{IsDue, JournalledStep, RefusedAs, RefusedOn, after_checkpoint, checkpointed, journal_of};
 ghost use Rattle.mq_book.specs.Replays.{Replay};
 
 use crate::entry::{Entry, Receipt};
+use crate::entry_log::EntryLog;
 use crate::journal::Journal;
 use crate::refusal::BookRefusal;
 use crate::reply::{refusal, step_twice};
 use crate::share::Share;
-use crate::stop::OnFull;
+use crate::work_end::OnFull;
 use mq_hub::Hub;
-use mq_route::{HubEvent, HubReply};
+use mq_route::HubEvent;
 use std::alloc::Global;
 use std::marker::Model;
 use std::mem;
@@ -20,26 +22,20 @@ use std::snapshot::Snapshot;
 use std::sync::ledger::Ledger;
 use std::sync::{Wait, ledger};
 
-/// How much a journal that is handed out when it is full gets before it is handed out: its bytes, with `ACT` for each act and `ENTRY` for each
-/// entry.
+/// The size in bytes at which a worker with `OnFull::Checkpoint` replaces the journal.
 const MOST_WEIGHT: usize = 16_777_216;
 
-/// What an act counts.
-const ACT: usize = 128;
-
-/// What an entry counts.
-const ENTRY: usize = 256;
-
-/// A broker with the journal of its steps since its base: by these entries the base, which contracts alone see, became the broker.
+/// A broker with the journal of its steps since a base.
+///
+/// The steps that the entries record lead from the base to the broker. Only contracts see the base.
 #[derive(Drop)]
 pub struct Book<L: Ledger> {
     alloc: Global,
     base: Snapshot<Hub>,
     first: u64,
-    entries: Vec<Entry>,
+    log: EntryLog,
     hub: Hub,
     limit: usize,
-    weight: usize,
     steps: ledger::Book<L>,
 }
 
@@ -55,14 +51,14 @@ impl<L: Ledger> Model for Book<L> {
 
     ghost coded = { Prim.hlevel (codes, set.code {R = nat_cmp} coded_ℕ) };
 
-    ghost view = { λ b. record { base = b.base.value; first = b.first; entries = b.entries.items; hub = b.hub; limit = b.limit } };
+    ghost view = { λ b. record { base = b.base.value; first = b.first; entries = b.log.items; hub = b.hub; limit = b.limit } };
 
-    ghost invariant = { λ b. Replay b.base.value b.entries.items b.hub
-        × (b.first + length b.entries.items ≡ b.steps.total) × (b.first + length b.entries.items < 2 ^ 64) };
+    ghost invariant = { λ b. Replay b.base.value b.log.items b.hub
+        × (b.first + length b.log.items ≡ b.steps.total) × (b.first + length b.log.items < 2 ^ 64) };
 }
 
 impl<L: Ledger> Book<L> {
-    /// A book without entries, over a broker and the count of no steps. Its journal gets at most so many entries. It takes no memory.
+    /// A book with an empty journal of at most `limit` entries. `steps` counts its steps.
     pub fn new(alloc: Global, hub: Hub, limit: usize, steps: ledger::Book<L>) -> Book<L>
         requires { steps.total ≡ 0 }
         ensures { result ≡ record { base = hub; first = 0; entries = []; hub = hub; limit = limit } }
@@ -71,24 +67,27 @@ impl<L: Ledger> Book<L> {
             alloc,
             base: Snapshot::of(&hub),
             first: 0,
-            entries: Vec::new(alloc),
+            log: EntryLog::new(alloc),
             hub,
             limit,
-            weight: 0,
             steps,
         }
     }
 
-    /// The broker as it is. It takes no memory.
+    /// The broker now.
     pub fn hub(&self) -> &Hub
         ensures { result.now ≡ self.now.hub }
     {
         &self.hub
     }
 
-    /// A worker's event comes to the broker, and goes into the journal with its reply. It is refused where the broker refuses it, where the
-    /// journal is full, or where memory runs out; then nothing changes, and the event is handed back.
-    #[tactic(auto, using(crate::proofs::Replaying::replay_snoc))]
+    /// Makes the broker's step for a worker's event and adds an entry to the journal.
+    ///
+    /// Errors, of which the first that applies is returned with the event:
+    /// - `Hub` if the broker refuses the event;
+    /// - `JournalFull` if the journal is full, or if no further place fits into a `u64`;
+    /// - `Memory` if an allocation fails.
+    #[tactic(auto, using(crate::proofs::Replayed::replay_snoc))]
     pub fn step<R: Wait>(
         &mut self,
         rt: &R,
@@ -109,28 +108,26 @@ impl<L: Ledger> Book<L> {
         if let Some(why) = refusal(&self.hub, &event) {
             return Err((BookRefusal::Hub(why), event));
         }
-        let length = self.entries.len();
+        let length = self.log.len();
         let Ok(count) = u64::try_from(length) else {
             return Err((BookRefusal::JournalFull, event));
         };
         if length >= self.limit || count >= u64::MAX - self.first {
             return Err((BookRefusal::JournalFull, event));
         }
-        if self.entries.reserve(1).is_err() {
+        if self.log.reserve().is_err() {
             return Err((BookRefusal::Memory, event));
         }
         match step_twice(rt, self.alloc, &mut self.hub, &event) {
             Ok((reply, again)) => {
                 let place = self.first + count;
                 let number = worker.worker;
-                let weight = weight_of(&event, reply.as_reply());
                 let entry = Entry {
                     worker: number,
                     event,
                     reply: again,
                 };
-                let _ = self.entries.push(entry);
-                self.weight = self.weight.saturating_add(weight);
+                self.log.push(entry);
                 self.steps.add(&mut worker.part, 1);
                 Ok(Receipt {
                     worker: number,
@@ -142,7 +139,8 @@ impl<L: Ledger> Book<L> {
         }
     }
 
-    /// Makes a step. A journal that is full, or heavy, is handed out first, with the answer, where it is told so.
+    /// Makes a step. With `OnFull::Checkpoint`, a journal that is full or larger than 16 MiB is
+    /// first replaced by a new one, and returned.
     pub(crate) fn step_on<R: Wait>(
         &mut self,
         rt: &R,
@@ -150,47 +148,53 @@ impl<L: Ledger> Book<L> {
         event: HubEvent,
         on_full: OnFull,
     ) -> (Result<Receipt, BookRefusal>, Option<Journal>)
-        ensures own { IfOk result.0 (λ r. r.worker ≡ worker.old.worker) }
-        ensures counted { OnOk result.0 (worker.new ≡ record { worker = worker.old.worker; count = worker.old.count + 1 }) }
-        ensures unchanged { OnErr result.0 (worker.new ≡ worker.old) }
+        ensures step { IfOk result.0 (λ receipt.
+            JournalledStep worker.old.worker event (checkpointed self.old result.1) receipt self.new) }
+        ensures counted { OnOk result.0 (worker.new
+            ≡ record { worker = worker.old.worker; count = worker.old.count + 1 }) }
+        ensures refused { IfErr result.0 (λ why. RefusedOn on_full self.old event why) }
+        ensures unchanged { OnErr result.0
+            ((self.new ≡ checkpointed self.old result.1) × (worker.new ≡ worker.old)) }
+        ensures handed { IfSome result.1 (λ journal.
+            (on_full ≡ Checkpoint) × IsDue self.old × (journal ≡ journal_of self.old)) }
+        ensures kept { on_full ≡ Checkpoint → IsDue self.old → IsSome result.1 }
     {
-        if on_full == OnFull::Stop {
-            return (told(self.step(rt, worker, event)), None);
-        }
-        let heavy = self.lighten();
+        let journal = self.checkpoint_on(on_full);
         match self.step(rt, worker, event) {
-            Err((BookRefusal::JournalFull, event)) => {
-                let full = self.checkpoint();
-                (told(self.step(rt, worker, event)), Some(full))
-            }
-            answer => (told(answer), heavy),
+            Ok(receipt) => (Ok(receipt), journal),
+            Err((why, _)) => (Err(why), journal),
         }
     }
 
-    // Hands out a journal that is heavy.
-    fn lighten(&mut self) -> Option<Journal> {
-        if self.weight < MOST_WEIGHT {
-            return None;
-        }
-        Some(self.checkpoint())
-    }
-
-    /// Makes the broker as it is the base, and hands out the journal up to it.
-    pub fn checkpoint(&mut self) -> Journal
-        ensures sealed { result ≡ record { base = self.old.base; first = self.old.first; entries = self.old.entries; end = self.old.hub } }
-        ensures replays { Replay result.base result.entries result.end }
-        ensures fresh { self.new ≡ record {
-          base = self.old.hub;
-          first = self.old.first + length self.old.entries;
-          entries = [];
-          hub = self.old.hub;
-          limit = self.old.limit;
-        } }
+    // Replaces the journal if the worker makes checkpoints, and the journal is full or too large.
+    fn checkpoint_on(&mut self, on_full: OnFull) -> Option<Journal>
+        ensures book { self.new ≡ checkpointed self.old result }
+        ensures handed { IfSome result (λ journal.
+            (on_full ≡ Checkpoint) × IsDue self.old × (journal ≡ journal_of self.old)) }
+        ensures kept { on_full ≡ Checkpoint → IsDue self.old → IsSome result }
     {
-        let entries = mem::replace(&mut self.entries, Vec::new(self.alloc));
+        if on_full == OnFull::Checkpoint && self.is_due() {
+            Some(self.checkpoint())
+        } else {
+            None
+        }
+    }
+
+    fn is_due(&self) -> bool
+        ensures { IsTrue result ↔ IsDue self.now }
+    {
+        self.log.len() >= self.limit || self.log.size() >= MOST_WEIGHT
+    }
+
+    /// Replaces the journal by an empty one, whose base is the broker now, and returns it.
+    pub fn checkpoint(&mut self) -> Journal
+        ensures sealed { result ≡ journal_of self.old }
+        ensures replays { Replay result.base result.entries result.end }
+        ensures fresh { self.new ≡ after_checkpoint self.old }
+    {
+        let entries = self.log.take(self.alloc);
         let first = self.first;
         self.first += entries.len() as u64;
-        self.weight = 0;
         Journal {
             base: mem::replace(&mut self.base, Snapshot::of(&self.hub)),
             first,
@@ -199,7 +203,7 @@ impl<L: Ledger> Book<L> {
         }
     }
 
-    /// With all parts of the count, the entries since the beginning are as many as were counted.
+    // Compares the number of entries since the beginning with the count of all shares.
     pub(crate) fn settle(&mut self, all: &mut ledger::Share<L>)
         requires { all.old.parts ≡ L.parts }
         ensures same { self.new ≡ self.old }
@@ -207,28 +211,4 @@ impl<L: Ledger> Book<L> {
     {
         self.steps.audit(all);
     }
-}
-
-// The answer to a worker, which has no use for an event that is handed back.
-fn told(answer: Result<Receipt, (BookRefusal, HubEvent)>) -> Result<Receipt, BookRefusal>
-    ensures ok { IfOk answer (λ r. result ≡ Ok r) }
-    ensures err { IfErr answer (λ e. result ≡ Err e.0) }
-{
-    match answer {
-        Ok(receipt) => Ok(receipt),
-        Err((why, _)) => Err(why),
-    }
-}
-
-// What a step adds to what a journal keeps.
-fn weight_of(event: &HubEvent, reply: &HubReply) -> usize {
-    let came = match event {
-        HubEvent::Bytes(_, piece) => piece.len(),
-        _ => 0,
-    };
-    let went = reply.output.len();
-    let acts = reply.acts.as_slice().len().saturating_mul(ACT);
-    came.saturating_add(went)
-        .saturating_add(acts)
-        .saturating_add(ENTRY)
 }

@@ -1,26 +1,26 @@
-//! What is written down of a step, and what its worker gets of it.
+//! The record of a step in the journal, and the receipt for its worker.
 
 use crate::reply::SharedReply;
 use mq_route::HubEvent;
 
-/// A step, as a journal has it.
+/// The record of a step in a journal.
 #[derive(Debug, Drop)]
 pub struct Entry {
-    /// The worker that made it.
+    /// The worker that made the step.
     pub worker: u16,
-    /// The event that came to the broker.
+    /// The event.
     pub event: HubEvent,
-    /// What came of it.
+    /// The broker's reply.
     pub reply: SharedReply,
 }
 
-/// What a worker gets of a step that it made.
+/// A worker's receipt for a step that it made.
 #[derive(Debug, Drop)]
 pub struct Receipt {
     /// The worker.
     pub worker: u16,
-    /// The place of the step's entry, counted from 0 over the whole life of the book.
+    /// The place of the entry in the journal, counted from 0 over the whole life of the book.
     pub place: u64,
-    /// What came of the event.
+    /// The broker's reply.
     pub reply: SharedReply,
 }

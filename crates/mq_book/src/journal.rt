@@ -1,4 +1,4 @@
-//! A journal that was handed out.
+//! Journals that were handed out.
 
 ghost use Rattle.std.specs.Prelude.{◌≡◌};
 
@@ -7,7 +7,9 @@ use mq_hub::Hub;
 use std::marker::Model;
 use std::snapshot::Snapshot;
 
-/// The entries of a book between two brokers, which contracts alone see: by these entries the one became the other.
+/// The entries of a book between two states of its broker.
+///
+/// The steps that they record lead from the one state to the other. Only contracts see the states.
 #[derive(Drop)]
 pub struct Journal {
     pub(crate) base: Snapshot<Hub>,
@@ -33,14 +35,14 @@ impl Model for Journal {
 }
 
 impl Journal {
-    /// The place of the first entry, counted from 0 over the whole life of the book. It takes no memory.
+    /// The place of the first entry. Places are counted from 0 over the whole life of the book.
     pub fn first(&self) -> u64
         ensures { result ≡ self.now.first }
     {
         self.first
     }
 
-    /// The entries, in order. It takes no memory.
+    /// The entries, in order.
     pub fn entries(&self) -> &[Entry]
         ensures { result.now ≡ self.now.entries }
     {

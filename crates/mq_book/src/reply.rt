@@ -1,4 +1,4 @@
-//! A reply that a journal and a worker share.
+//! Replies that a journal and a worker share.
 
 ghost use Rattle.std.specs.Prelude.{◌≡◌, IfOk, IfErr, IfSome, OnOk, OnErr, None, Err};
 ghost use Rattle.mq_route.specs.Step.{HubStep, event_refusal};
@@ -12,7 +12,7 @@ use std::alloc::{AllocError, Global};
 use std::marker::Model;
 use std::sync::{Arc, Wait};
 
-/// What came of an event, with several owners. Contracts see it as the reply.
+/// A broker's reply with several owners.
 #[derive(Debug, Drop)]
 pub struct SharedReply {
     cell: Arc<HubReply>,
@@ -28,7 +28,7 @@ impl Model for SharedReply {
 }
 
 impl SharedReply {
-    /// A reply with one owner. Fails if memory runs out.
+    /// A reply with one owner.
     pub fn new(alloc: Global, reply: HubReply) -> Result<SharedReply, AllocError>
         ensures { IfOk result (λ s. s ≡ reply) }
     {
@@ -45,7 +45,7 @@ impl SharedReply {
         &self.cell
     }
 
-    // Room for a reply that is still to come. Fails if memory runs out.
+    // A blank reply, to be replaced by that of a step.
     fn room(alloc: Global) -> Result<SharedReply, AllocError> {
         let blank = HubReply {
             acts: BoxedList::from_vec(Vec::new(alloc)),
@@ -55,7 +55,7 @@ impl SharedReply {
         SharedReply::new(alloc, blank)
     }
 
-    // An event comes to a broker, and this becomes its reply. It is refused as the broker refuses it, and then the broker stays.
+    // Makes a step of a broker, and stores its reply here. `self` must have one owner.
     fn take_step<S: FilterStore>(
         &mut self,
         hub: &mut HubOver<S>,
@@ -73,7 +73,7 @@ impl SharedReply {
         Ok(())
     }
 
-    /// Another owner of the reply. It takes no memory, and waits only while the reply has as many owners as can be counted, 2^63.
+    /// Another owner of the reply. Waits while the reply has 2^63 owners, the maximum.
     pub(crate) fn another<R: Wait>(&self, rt: &R) -> SharedReply
         ensures { result ≡ self.now }
     {
@@ -86,7 +86,7 @@ impl SharedReply {
     }
 }
 
-/// Why a broker refuses an event, memory aside. It takes no memory.
+// Why a broker refuses an event, unless an allocation fails.
 pub(crate) fn refusal<S: FilterStore>(hub: &HubOver<S>, event: &HubEvent) -> Option<HubRefusal>
     ensures { result ≡ event_refusal event.now hub.now }
 {
@@ -103,8 +103,10 @@ pub(crate) fn refusal<S: FilterStore>(hub: &HubOver<S>, event: &HubEvent) -> Opt
     }
 }
 
-/// An event comes to a broker, as by `HubOver::step`, and its reply is given twice. The two share one place in memory, which is taken before
-/// the step, so nothing changes where it is refused.
+/// Makes a step as [`HubOver::step`] does, and returns its reply twice.
+///
+/// The two replies share one allocation, which is made before the step. On error the broker is
+/// unchanged.
 pub fn step_twice<S: FilterStore, R: Wait>(
     rt: &R,
     alloc: Global,

@@ -1,4 +1,4 @@
-//! A worker's number, with its part of the count of all steps.
+//! Shares: a worker's number, and its part of the count of all steps.
 
 ghost use Rattle.std.specs.Prelude.{◌≡◌};
 
@@ -6,7 +6,9 @@ use std::marker::Model;
 use std::sync::ledger;
 use std::sync::ledger::Ledger;
 
-/// A worker's number, and its part of the count of all steps of a book. Contracts see the number and how many steps it made.
+/// A worker's number, and the number of steps that it made.
+///
+/// The counts of all shares add up to the number of entries of the book ([`gather`](crate::gather)).
 #[derive(Drop)]
 pub struct Share<L: Ledger> {
     pub(crate) worker: u16,
@@ -25,7 +27,7 @@ impl<L: Ledger> Model for Share<L> {
 }
 
 impl<L: Ledger> Share<L> {
-    /// The share of a worker, of one part.
+    /// The share of a worker. `part` is one part of the book's count.
     pub fn new(worker: u16, part: ledger::Share<L>) -> Share<L>
         requires { part.parts ≡ 1 }
         ensures { result ≡ record { worker = worker; count = part.amount } }
@@ -40,7 +42,6 @@ impl<L: Ledger> Share<L> {
         self.worker
     }
 
-    /// The part of the count.
     pub(crate) fn into_part(self) -> ledger::Share<L>
         ensures parts { result.parts ≡ 1 }
         ensures amount { result.amount ≡ self.count }

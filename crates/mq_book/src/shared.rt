@@ -1,25 +1,30 @@
 //! A book that several workers share, under one lock.
 
-ghost use Rattle.std.specs.Prelude.{◌≡◌, ◌+◌, ◌<◌, ◌≤◌, All, IfOk, IfSome, length, vec_len};
+ghost use Rattle.std.specs.Prelude.{◌≡◌, ◌+◌, ◌<◌, ◌≤◌, [], All, IfOk, IfSome, length, map, vec_len};
 ghost use Rattle.std.specs.List.{sum_by};
+ghost use Rattle.mq_route.specs.Hub.{new_hub};
+ghost use Rattle.mq_book.specs.Pages.{below};
 
 use crate::book::Book;
 use crate::share::Share;
 use mq_hub::Hub;
 use mq_route::HubConfig;
 use std::alloc::{AllocError, Global};
-use std::sync::Mutex;
 use std::sync::ledger::{Blank, Ledger};
+use std::sync::{Mutex, ledger};
 
-/// A book that several workers share: whoever has the lock may make a step.
+/// A book that several workers share. A worker makes a step while it holds the lock.
 #[derive(Drop)]
 pub struct SharedHub<L: Ledger> {
-    /// The book. Whenever the lock is free, its journal leads from its base to its broker.
+    /// The book. Whenever the lock is free, the steps of its journal lead from its base to its
+    /// broker.
     pub book: Mutex<Book<L>>,
 }
 
 impl<L: Ledger> SharedHub<L> {
-    /// A book over a new broker, and a share for each of so many workers, which have the numbers from 0 on. Fails if memory runs out.
+    /// A book over a new broker, and a share for each worker. The workers are numbered from 0.
+    ///
+    /// The journal holds at most `limit` entries.
     pub fn new(
         alloc: Global,
         blank: Blank,
@@ -35,6 +40,7 @@ impl<L: Ledger> SharedHub<L> {
         requires capacity { 0 < config.capacity }
         requires window { IfSome config.window (λ window. 0 < window) }
         ensures count { IfOk result (λ r. vec_len r.1 ≡ workers) }
+        ensures numbers { IfOk result (λ r. map (λ s. s.worker) r.1.items ≡ below workers) }
         ensures fresh { IfOk result (λ r. All (λ s. s.count ≡ 0) r.1.items) }
     {
         let (steps, mut rest) = blank.open::<L>();
@@ -42,7 +48,7 @@ impl<L: Ledger> SharedHub<L> {
         for worker in 0..workers {
             shares.push(Share::new(worker, rest.split_off(1, 0)))?;
         }
-        let book = Book::new(alloc, Hub::new(alloc, config), limit, steps);
+        let book = new_book(alloc, config, limit, steps);
         Ok((
             SharedHub {
                 book: Mutex::new(book),
@@ -52,8 +58,31 @@ impl<L: Ledger> SharedHub<L> {
     }
 }
 
-/// The book, once all shares are back: its entries since the beginning, those that were handed out too, are as many as the shares count. It
-/// takes no memory.
+// A book with an empty journal over a new broker.
+fn new_book<L: Ledger>(
+    alloc: Global,
+    config: HubConfig,
+    limit: usize,
+    steps: ledger::Book<L>,
+) -> Book<L>
+    requires steps { steps.total ≡ 0 }
+    requires capacity { 0 < config.capacity }
+    requires window { IfSome config.window (λ window. 0 < window) }
+    ensures { result ≡ record {
+      base = new_hub config;
+      first = 0;
+      entries = [];
+      hub = new_hub config;
+      limit = limit;
+    } }
+{
+    Book::new(alloc, Hub::new(alloc, config), limit, steps)
+}
+
+/// The book, once all shares are back.
+///
+/// The number of its entries since the beginning, handed out or not, is the sum of the shares'
+/// counts.
 pub fn gather<L: Ledger>(mut shares: Vec<Share<L>>, shared: SharedHub<L>) -> Book<L>
     requires all { vec_len shares ≡ L.parts }
     requires some { 0 < vec_len shares }

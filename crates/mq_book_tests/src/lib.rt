@@ -1,9 +1,14 @@
-//! Tests of the book of a broker: rows of steps, and of receipts that stand in a journal.
+//! Tests of `mq_book`: steps of a book, receipts, connections whose writes fail, a journal that is
+//! full.
 #![tactic(auto)]
 
 #[cfg(test)]
-mod audited;
+mod full_journal;
 #[cfg(test)]
-mod gone;
+mod line;
+#[cfg(test)]
+mod lost_writes;
+#[cfg(test)]
+mod receipts;
 #[cfg(test)]
 mod steps;

@@ -1,11 +1,11 @@
-//! Steps of one worker, whose journal gets one entry.
+//! Steps of one worker, on a journal of at most one entry.
 
-ghost use Rattle.std.specs.Prelude.{◌≡◌, ◌<◌, None, IfOk};
+ghost use Rattle.std.specs.Prelude.{◌≡◌};
 
+use crate::line::config;
 use bytes::Bytes;
 use mq_book::{Book, BookRefusal, Journal, Receipt, Share};
-use mq_decode::Limits;
-use mq_hub::{Conn, Hub, HubConfig, HubEvent};
+use mq_hub::{Conn, Hub, HubEvent};
 use std::alloc::Global;
 use std::marker::Brand;
 use std::process::Abort;
@@ -13,20 +13,21 @@ use std::sync::Wait;
 use std::sync::ledger::{Blank, Ledger};
 use std::test::Fail;
 
-/// What happens to a book.
+/// An event of a book.
 #[derive(Clone, Copy, Debug)]
 pub(crate) enum Happens {
-    /// A connection of this number is opened.
+    /// A connection with this number is opened.
     Opens(u32),
-    /// Bytes come on it.
+    /// Bytes come on a connection.
     Says(u32),
-    /// It is this moment.
+    /// The time.
     Ticks(u64),
     /// The journal is handed out.
     Seals,
 }
 
-// A journal that is full refuses each step but those that the broker refuses, and the next one goes on at the next place.
+// A full journal refuses each step that the broker doesn't refuse. The next journal goes on at the
+// next place.
 const ROWS: [(Happens, &str); 9] = [
     (Happens::Says(9), "the connection is not known"),
     (Happens::Opens(0), "place 0"),
@@ -39,17 +40,9 @@ const ROWS: [(Happens, &str); 9] = [
     (Happens::Seals, "1 from 1"),
 ];
 
-/// A broker of a test.
+/// A new broker.
 pub(crate) fn hub(alloc: Global) -> Result<Hub, Fail> {
-    let config = HubConfig {
-        limits: Limits::new(1_048_576).ok_or("no limits")?,
-        capacity: 100,
-        window: None,
-        max_conns: 100,
-        max_sessions: 100,
-        users: None,
-    };
-    Ok(Hub::new(alloc, config))
+    Ok(Hub::new(alloc, config()?))
 }
 
 fn event(happens: Happens) -> Option<HubEvent> {
@@ -61,7 +54,7 @@ fn event(happens: Happens) -> Option<HubEvent> {
     }
 }
 
-// The place of an event's step, or why there is none.
+// The place of the entry of a step, or the reason of its refusal.
 fn step<L: Ledger, R: Wait>(
     rt: &R,
     book: &mut Book<L>,
@@ -74,13 +67,13 @@ fn step<L: Ledger, R: Wait>(
     }
 }
 
-// How many entries a journal has, and from which place on.
+// The number of entries of a journal, and the place of the first one.
 fn counted(alloc: Global, journal: &Journal) -> Result<String, Fail> {
     let count = journal.entries().len();
     Ok(format!(in alloc; "{count} from {}", journal.first())?)
 }
 
-// What a book answers to what happens.
+// The text of a book's answer to an event.
 fn answer<L: Ledger, R: Wait>(
     rt: &R,
     alloc: Global,
@@ -97,7 +90,7 @@ fn answer<L: Ledger, R: Wait>(
     }
 }
 
-// A book answers each of the events so.
+// Compares the answers of a book with the rows.
 fn walk_by<L: Ledger, R: Wait + Abort>(
     rt: &R,
     alloc: Global,

@@ -1,4 +1,4 @@
-//! Why rounds can't be run.
+//! Faults of rounds.
 
 use mq_cli::{Failure, WordsFault};
 use std::alloc::AllocError;
@@ -6,16 +6,16 @@ use std::io;
 use std::io::ErrorKind;
 use thiserror::Error;
 
-/// Why rounds can't be run.
+/// Why a round can't be run.
 #[derive(Clone, Copy, Debug, PartialEq, Eq, Error)]
 pub(crate) enum Fault {
-    /// A line is not a command, or not in its place.
+    /// A line is no command, or not a command for its place.
     #[error("a line is not read")]
     Line,
-    /// A file or a socket failed, or the output.
+    /// A file, a socket or the output failed.
     #[error("input or output failed")]
     System,
-    /// Memory ran out.
+    /// An allocation failed.
     #[error("out of memory")]
     Memory,
 }

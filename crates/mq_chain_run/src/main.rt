@@ -1,15 +1,12 @@
-//! Runs the broker and the client programs against each other, over sockets of this machine, as
-//! their words say.
+//! Runs the broker and the client programs against each other, over sockets of this machine.
 //!
-//! The standard input consists of rounds, separated by empty lines. A round is the command line of
-//! a broker, followed by those of programs that run one after another while it serves, as a person
-//! types them. `PORT` is replaced by the port of the broker, which is a free one; `''` is an empty
-//! argument; and `xxd -p FILE` prints the bytes of a file. A line that begins with `#` is a
-//! comment. The output of each program follows its command line, with its status; that of the
-//! broker comes last.
+//! The standard input has rounds, separated by empty lines. A round is the command line of a broker,
+//! and then command lines of programs, which run one after another while the broker serves. In a
+//! line, `PORT` is the port of the broker, `''` is an empty argument, and `xxd -p FILE` prints the
+//! bytes of a file. A line that begins with `#` is a comment. The output of a program is printed
+//! under its line, with its exit status. The output of the broker comes last.
 //!
-//! No round waits forever: if a client makes no connection, others are made in its place, so the
-//! broker ends.
+//! A round always ends: if a client made no connection, other connections are made in its place.
 #![tactic(auto)]
 
 mod fault;
@@ -27,7 +24,7 @@ use std::sync::Wait;
 use std::thread::Threads;
 use std::time::Clock;
 
-/// Runs the rounds of the standard input. `host` is the runtime too, which starts the threads.
+/// Runs the rounds of the standard input. `host` is the same runtime, and starts the threads.
 fn run<R>(rt: &HostRuntime, host: &R) -> Result<(), Fault>
 where
     R: Net<Listener = TcpListener, Stream = TcpStream> + Files + Threads + Wait + Clock + Sync,

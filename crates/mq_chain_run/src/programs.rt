@@ -1,7 +1,7 @@
-//! The programs that the lines ask for.
+//! The programs of command lines.
 
 use crate::fault::Fault;
-use mq_cli::{Command, Serve, job};
+use mq_cli::{Command, Serve, command};
 use mq_programs::{run_client, run_serve_on};
 use std::alloc::{AllocError, Global};
 use std::fs;
@@ -17,11 +17,11 @@ use std::time::Clock;
 pub(crate) struct Ran {
     /// Its output.
     pub(crate) printed: Vec<u8>,
-    /// Its status.
+    /// Its exit status.
     pub(crate) status: u8,
 }
 
-// The argument in place of a word.
+// The argument that a word of a line means.
 fn word_of<'a>(word: &'a str, port: &'a str) -> &'a str {
     match word {
         "PORT" => port,
@@ -30,23 +30,23 @@ fn word_of<'a>(word: &'a str, port: &'a str) -> &'a str {
     }
 }
 
-// The words of a line.
+// The arguments of a line.
 fn words_of<'a>(alloc: Global, line: &'a str, port: &'a str) -> Result<Vec<&'a str>, AllocError> {
     line.split(' ')
         .map(|word| word_of(word, port))
         .collect(alloc)
 }
 
-/// The broker that a line asks for.
+/// The broker of a command line.
 pub(crate) fn serve_of(alloc: Global, line: &str) -> Result<Serve, Fault> {
     let words = words_of(alloc, line, "0")?;
-    match job(alloc, words.as_slice())? {
+    match command(alloc, words.as_slice())? {
         Command::Serve(serve) => Ok(serve),
         _ => Err(Fault::Line),
     }
 }
 
-/// The broker of these words, at a listener that is there.
+/// Runs the broker of these arguments on a listener.
 pub(crate) fn run_broker<R>(
     rt: &R,
     alloc: Global,
@@ -61,7 +61,7 @@ where
     Ok(Ran { printed, status })
 }
 
-// The bytes of a file, as digits.
+// The bytes of a file as hexadecimal digits.
 fn run_dump<R: Files>(rt: &R, alloc: Global, name: &str) -> Result<Ran, Fault> {
     let mut file = fs::open(rt, name)?;
     let mut bytes = Vec::new(alloc);
@@ -72,7 +72,7 @@ fn run_dump<R: Files>(rt: &R, alloc: Global, name: &str) -> Result<Ran, Fault> {
     Ok(Ran { printed, status: 0 })
 }
 
-/// The program that a line asks for, with the broker at this port.
+/// Runs the program of a command line, with a broker on this port.
 pub(crate) fn run_line<R: Net + Clock + Files>(
     rt: &R,
     alloc: Global,
@@ -84,7 +84,7 @@ pub(crate) fn run_line<R: Net + Clock + Files>(
     }
     let port = format!(in alloc; "{port}")?;
     let words = words_of(alloc, line, port.as_str())?;
-    let command = job(alloc, words.as_slice())?;
+    let command = command(alloc, words.as_slice())?;
     let mut printed = Vec::new(alloc);
     let status = run_client(rt, alloc, &command, &mut printed)?;
     Ok(Ran { printed, status })

@@ -1,4 +1,4 @@
-//! Rounds: a broker, and the programs that are run while it serves.
+//! Rounds: a broker, and the programs that run while it serves.
 
 use crate::fault::Fault;
 use crate::programs::{Ran, run_broker, run_line, serve_of};
@@ -11,32 +11,32 @@ use std::thread::Threads;
 use std::time::{Clock, Duration};
 use std::{io, thread};
 
-/// How long a substitute connection waits for a response, in milliseconds.
+/// The time limit for opening a connection in place of a client, in milliseconds.
 const KNOCK_LIMIT: u64 = 1_000;
 
-// Writes what a program printed, and its status.
+// Writes the output and the exit status of a program.
 fn write_ran<W: Write>(output: &mut W, printed: &[u8], status: u8) -> io::Result<()> {
     output.write_all(printed)?;
     writeln!(output, "status {status}")
 }
 
-// Runs the programs of the lines one after another, and writes their output.
-fn tell_lines<R: Net + Clock + Files>(
+// Runs the programs of the lines one after another, and returns their outputs.
+fn run_lines<R: Net + Clock + Files>(
     rt: &R,
     alloc: Global,
     lines: &str,
     port: u16,
 ) -> Result<Vec<u8>, Fault> {
-    let mut told = Vec::new(alloc);
+    let mut outputs = Vec::new(alloc);
     for line in lines.lines() {
-        writeln!(told, "$ {line}")?;
+        writeln!(outputs, "$ {line}")?;
         let ran = run_line(rt, alloc, line, port)?;
-        write_ran(&mut told, ran.printed.as_slice(), ran.status)?;
+        write_ran(&mut outputs, ran.printed.as_slice(), ran.status)?;
     }
-    Ok(told)
+    Ok(outputs)
 }
 
-// Makes `connections` connections, if the port is open, and closes them at once.
+// Opens this number of connections, while the broker listens, and closes them at once.
 fn knock<R: Net>(rt: &R, port: u16, connections: u32) {
     let address = SocketAddr::from(([127, 0, 0, 1], port));
     for _ in 0..connections {
@@ -44,21 +44,20 @@ fn knock<R: Net>(rt: &R, port: u16, connections: u32) {
     }
 }
 
-// Runs the programs of the lines, and sees to it that the broker has as many connections as it
-// waits for.
-fn tell_clients<R: Net + Clock + Files>(
+// Runs the programs of the lines. Then opens the connections that the broker still waits for.
+fn run_clients<R: Net + Clock + Files>(
     rt: &R,
     alloc: Global,
     lines: &str,
     port: u16,
     connections: u32,
 ) -> Result<Vec<u8>, Fault> {
-    let told = tell_lines(rt, alloc, lines, port);
+    let outputs = run_lines(rt, alloc, lines, port);
     knock(rt, port, connections);
-    told
+    outputs
 }
 
-// Writes what the broker printed: of the first line it is only told that it names the port.
+// Writes the output of the broker. Its first line is replaced, because the port differs each time.
 fn write_broker<W: Write>(
     output: &mut W,
     alloc: Global,
@@ -77,7 +76,7 @@ fn write_broker<W: Write>(
     Ok(())
 }
 
-// Runs a round and writes its output.
+// Runs a round and writes its outputs.
 fn write_round<R, W: Write>(
     rt: &R,
     alloc: Global,
@@ -91,17 +90,17 @@ where
     let words = serve_of(alloc, broker)?;
     let listener = TcpListener::bind(rt, (Ipv4Addr::LOCALHOST, words.port))?;
     let port = listener.local_addr()?.port();
-    let (served, told) = thread::join(
+    let (served, outputs) = thread::join(
         rt,
         || run_broker(rt, alloc, listener, &words),
-        || tell_clients(rt, alloc, lines, port, words.connections),
+        || run_clients(rt, alloc, lines, port, words.connections),
     );
-    output.write_all(told?.as_slice())?;
+    output.write_all(outputs?.as_slice())?;
     writeln!(output, "$ {broker}")?;
     write_broker(output, alloc, &served?, port)
 }
 
-/// Runs each round of a text and writes its output.
+/// Runs each round of a text and writes its outputs.
 pub(crate) fn write_rounds<R, W: Write>(
     rt: &R,
     alloc: Global,

@@ -1,13 +1,13 @@
-//! A broker and the clients of a loopback file, in threads.
+//! A broker and the clients of a loopback file, beside each other.
 
 ghost use Rattle.std.specs.Prelude.{◌≡◌, ◌<◌, ◌≤◌, length, vec_len, IfOk};
 
+use crate::cast::Cast;
 use crate::client::Client;
-use crate::client_threads::ClientThreads;
 use mq_book::{Journal, Receipt};
 use mq_client::ClientError;
 use mq_packet::Message;
-use mq_serve::{Acceptor, Closed, Records, ServeEnd, Server, WorkerResult, man_both};
+use mq_serve::{Acceptor, FinishedServer, Retention, ServeEnd, Server, WorkerResult, run_both};
 use std::alloc::{AllocError, Global};
 use std::io;
 use std::io::ErrorKind;
@@ -25,13 +25,13 @@ const JOURNAL: usize = 1_000_000;
 /// How long a client's read waits for bytes, in milliseconds.
 const READ_LIMIT: u64 = 100;
 
-/// How long a connection waits for its response, and a client's write for room, in seconds.
+/// How long a connection waits for its answer, and a client's write for room, in seconds.
 const LIMIT: u64 = 30;
 
-/// The result of all clients.
+/// What is left when all clients are done.
 #[derive(Drop)]
 pub struct RunResult {
-    /// The messages that each client collected, in the order of the clients and of their delivery.
+    /// What each client collected, in the order of the clients and as it was handed on.
     pub collected: Vec<Vec<Message>>,
     /// The journal of the broker.
     pub journal: Journal,
@@ -52,8 +52,8 @@ pub enum RunError {
 
 impl From<AllocError> for RunError {
     ghost use Rattle.std.specs.Prelude.{◌≡◌};
-    ghost use Rattle.mq_serve.specs.declared.ending.ServeEnd.TheVariants.{Memory};
-    ghost use Rattle.mq_loopback.specs.declared.rig.RunError.TheVariants.{Broker};
+    ghost use Rattle.mq_serve.specs.declared.serve_end.ServeEnd.TheVariants.{Memory};
+    ghost use Rattle.mq_loopback.specs.declared.stage.RunError.TheVariants.{Broker};
 
     ghost from_gives = { λ _ end. end ≡ Broker Memory };
 
@@ -64,7 +64,7 @@ impl From<AllocError> for RunError {
 
 impl From<ServeEnd> for RunError {
     ghost use Rattle.std.specs.Prelude.{◌≡◌};
-    ghost use Rattle.mq_loopback.specs.declared.rig.RunError.TheVariants.{Broker};
+    ghost use Rattle.mq_loopback.specs.declared.stage.RunError.TheVariants.{Broker};
 
     ghost from_gives = { λ why end. end ≡ Broker why };
 
@@ -73,9 +73,9 @@ impl From<ServeEnd> for RunError {
     }
 }
 
-// The listener of the broker, and a connection to it for each client.
+// Where clients and broker meet: the gate of the broker, and a connection to it for each client.
 #[derive(Drop)]
-struct Rig {
+struct Stage {
     gate: Acceptor,
     streams: Vec<TcpStream>,
 }
@@ -92,8 +92,8 @@ where
     Ok(stream)
 }
 
-// Opens `count` connections to a free port of this machine.
-fn open_rig<R>(rt: &R, alloc: Global, count: u16) -> io::Result<Rig>
+// So many connections to a free port of this machine.
+fn open_stage<R>(rt: &R, alloc: Global, count: u16) -> io::Result<Stage>
 where
     R: Net<Listener = TcpListener, Stream = TcpStream>,
 {
@@ -103,13 +103,13 @@ where
     for _ in 0..count {
         streams.push(connect(rt, address)?)?;
     }
-    Ok(Rig {
+    Ok(Stage {
         gate: Acceptor::new(listener, u32::from(count)),
         streams,
     })
 }
 
-// Why the rig could not be opened.
+// Why there is no stage.
 fn end_of(error: &io::Error) -> ServeEnd {
     match error.kind() {
         ErrorKind::OutOfMemory => ServeEnd::Memory,
@@ -117,13 +117,13 @@ fn end_of(error: &io::Error) -> ServeEnd {
     }
 }
 
-// Runs the workers and the clients in threads, and returns their results.
+// Runs so many workers beside the clients, and gives what they leave.
 fn play_by<L: Ledger + Send + Sync + 'static, R>(
     rt: &R,
     alloc: Global,
     blank: Blank,
     workers: u16,
-    rig: Rig,
+    stage: Stage,
     clients: &[Client],
 ) -> Result<RunResult, RunError>
 where
@@ -136,16 +136,16 @@ where
     let Ok(start) = Instant::now(rt) else {
         return Err(RunError::Broker(ServeEnd::Net));
     };
-    let Rig { gate, streams } = rig;
-    let records = Records::Kept(JOURNAL);
+    let Stage { gate, streams } = stage;
+    let records = Retention::Kept(JOURNAL);
     let (hall, stations) = Server::<L>::open(rt, alloc, blank, workers, gate, start, records)?;
-    let threads = ClientThreads::new(alloc, clients);
-    let starts = threads.starts(streams)?;
-    let (served, collected) = man_both(rt, &hall, stations, &threads, starts);
-    ended(hall, served, collected_by(threads.into_fault(), collected))
+    let cast = Cast::new(alloc, clients);
+    let acts = cast.acts(streams)?;
+    let (served, collected) = run_both(rt, &hall, stations, &cast, acts);
+    ended(hall, served, collected_by(cast.into_fault(), collected))
 }
 
-// The messages that the clients collected, or the first fault.
+// What the clients collected, or why they did not.
 fn collected_by(
     fault: Option<ClientError>,
     collected: Result<Vec<Vec<Message>>, AllocError>,
@@ -156,7 +156,7 @@ fn collected_by(
     }
 }
 
-// The results of a broker and of clients that are done, or the reason why there are none.
+// What is left of a broker and of clients that are done, or why there is nothing.
 fn ended<L: Ledger>(
     hall: Server<L>,
     served: Result<Vec<WorkerResult<L>>, AllocError>,
@@ -169,12 +169,12 @@ fn ended<L: Ledger>(
     left(closed, collected)
 }
 
-// The result of a broker and the collected messages, or the reason why there are none.
+// What a broker leaves, and what was collected, or why nothing was.
 fn left<L: Ledger>(
-    closed: Closed<L>,
+    closed: FinishedServer<L>,
     collected: Result<Vec<Vec<Message>>, RunError>,
 ) -> Result<RunResult, RunError> {
-    let Closed { mut book, receipts } = closed;
+    let FinishedServer { mut book, receipts } = closed;
     match collected {
         Ok(collected) => Ok(RunResult {
             collected,
@@ -185,18 +185,18 @@ fn left<L: Ledger>(
     }
 }
 
-/// Runs a broker with one worker for each client, 1 to 64, and the clients. Fails if the port can't
-/// be opened, the broker ends, a client has a fault, or an allocation fails.
+/// Runs a broker with as many workers as there are clients, 1 to 64, beside the clients. Fails where the port can't be opened, where the
+/// broker ends, where a client has a fault, and where memory runs out.
 pub fn play<R>(rt: &R, alloc: Global, clients: &[Client]) -> Result<RunResult, RunError>
 where
     R: Net<Listener = TcpListener, Stream = TcpStream> + Threads + Wait + Clock + Sync,
     requires { (0 < length clients.now) × (length clients.now ≤ 64) }
 {
     let workers = clients.len() as u16;
-    let rig = match open_rig(rt, alloc, workers) {
-        Ok(rig) => rig,
+    let stage = match open_stage(rt, alloc, workers) {
+        Ok(stage) => stage,
         Err(error) => return Err(RunError::Broker(end_of(&error))),
     };
     let blank = Blank::new(u64::from(workers));
-    play_by::<Brand, R>(rt, alloc, blank, workers, rig, clients)
+    play_by::<Brand, R>(rt, alloc, blank, workers, stage, clients)
 }

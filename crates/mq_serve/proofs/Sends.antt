@@ -11,11 +11,11 @@ use Rattle.std.specs.contracts.sync.ledger.Book as Count
 use Rattle.std.specs.contracts.sync.Mutex as Mutex
 use Rattle.mq_topic.proofs.trie_store.TrieStore.TheSendSync as tries
 use Rattle.mq_book.specs.contracts.book.Book as Book
-use Rattle.mq_book.proofs.entry.Entry.TheSendSync as entries
+use Rattle.mq_book.proofs.entry_log.EntryLog.TheSendSync as logs
 use Rattle.mq_hub.proofs.hub.HubOver.TheSendSync as hubs
 use Rattle.mq_book.specs.contracts.shared.SharedHub as SharedHub
-use Rattle.mq_serve.specs.contracts.gate.Acceptor as Acceptor
-use Rattle.mq_serve.specs.contracts.hall.Server as Server
+use Rattle.mq_serve.specs.contracts.acceptor.Acceptor as Acceptor
+use Rattle.mq_serve.specs.contracts.server.Server as Server
 
 chain_keyless : (xs : List (ℕ × ℕ)) (γ : ℕ) → Keyless (chain xs γ)
 chain_keyless [] γ = (tt, tt)
@@ -37,14 +37,14 @@ pub count_send : (L : RattleType) (g : Ghosts L.Denot) → IsSend (Count.the_row
 count_send L g = record { owned = λ d vs. ((λ vss. (tt, ((λ uss. (tt, tt)), tt))), book_keyless g.name g.parts d.total); leaving = λ k f vs. tt }
 
 pub book_send : (L : RattleType) (g : Ghosts L.Denot) → IsSend (Book.the_row L g)
-book_send L g = search (sendable, crosses, count_send, hubs.the_send, tries.the_send, entries.the_send) depth 60
+book_send L g = search (sendable, crosses, count_send, hubs.the_send, tries.the_send, logs.the_send) depth 60
 
 -- the same as the field of a struct
 pub hub_field_sync : (L : RattleType) (g : Ghosts L.Denot) → IsSync (SharedHub.the_field L g).row
 hub_field_sync L g = search (sendable, crosses, book_send) depth 40
 
-pub gate_sync : IsSync (Mutex.the_row Acceptor.the_row)
-gate_sync = search (sendable, crosses) depth 40
+pub acceptor_sync : IsSync (Mutex.the_row Acceptor.the_row)
+acceptor_sync = search (sendable, crosses) depth 40
 
-pub hall_sync : (L : RattleType) (g : Ghosts L.Denot) → IsSync (Server.the_row L g)
-hall_sync L g = search (sendable, crosses, hub_field_sync, gate_sync) depth 60
+pub server_sync : (L : RattleType) (g : Ghosts L.Denot) → IsSync (Server.the_row L g)
+server_sync L g = search (sendable, crosses, hub_field_sync, acceptor_sync) depth 60

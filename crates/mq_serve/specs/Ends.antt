@@ -1,26 +1,38 @@
--- How a broker over sockets ends.
-use Rattle.std.specs.Prelude.{ℕ}
-use Rattle.mq_book.specs.declared.stop.WorkEnd.{WorkEnd}
-use Rattle.mq_book.specs.declared.stop.WorkEnd.TheVariants as works
-use Rattle.mq_serve.specs.declared.ending.ServeEnd.{ServeEnd}
-use Rattle.mq_serve.specs.declared.ending.ServeEnd.TheVariants.{Net, JournalFull, Refused, Memory}
-use Rattle.mq_serve.specs.declared.hall.Records.{Records}
-use Rattle.mq_serve.specs.declared.hall.Records.TheVariants.{Passing, Kept}
+-- The end of a broker over sockets.
+use Rattle.std.specs.Prelude.{ℕ, zero, suc, List, [], ◌∷◌, Option, Some, None, Result, Ok, Err}
+use Rattle.mq_book.specs.declared.work_end.WorkEnd.{WorkEnd}
+use Rattle.mq_book.specs.declared.work_end.WorkEnd.TheVariants as works
+use Rattle.mq_serve.specs.declared.serve_end.ServeEnd.{ServeEnd}
+use Rattle.mq_serve.specs.declared.serve_end.ServeEnd.TheVariants.{Net, JournalFull, Refused, Memory}
+use Rattle.mq_serve.specs.declared.server.Retention.{Retention}
+use Rattle.mq_serve.specs.declared.server.Retention.TheVariants.{Passing, Kept}
 
--- the most entries of the journal
-abbrev pub record_limit : Records → ℕ
-record_limit (Passing limit) = limit
-record_limit (Kept limit) = limit
+-- the maximum number of entries of the journal
+abbrev pub retention_limit : Retention → ℕ
+retention_limit (Passing limit) = limit
+retention_limit (Kept limit) = limit
 
--- 3 where memory ran out
+-- the exit status of a program that ends early
 abbrev pub end_status : ServeEnd → ℕ
 end_status Net = 1
 end_status JournalFull = 1
 end_status Refused = 1
 end_status Memory = 3
 
--- it ends for what a worker stops for
+-- the end of a server, of which a worker stopped early
 abbrev pub end_of_work : WorkEnd → ServeEnd
 end_of_work works.JournalFull = JournalFull
 end_of_work works.Memory = Memory
 end_of_work (works.Hub why) = Refused
+
+-- the reason of the first worker that stopped early
+abbrev pub first_stop : List (Result ℕ WorkEnd) → Option WorkEnd
+first_stop [] = None
+first_stop (Ok count ∷ ends) = first_stop ends
+first_stop (Err why ∷ ends) = Some why
+
+-- why a server is not finished: a worker stopped early, or connections were not accepted
+abbrev pub stop_of : Option WorkEnd → ℕ → Option ServeEnd
+stop_of (Some why) left = Some (end_of_work why)
+stop_of None zero = None
+stop_of None (suc left) = Some Net

@@ -1,4 +1,4 @@
--- What `serve` prints: lines, each with its end.
+-- The lines that `serve` prints.
 use Rattle.std.specs.Prelude.{◌≡◌, ℕ, List, ◌++◌, codes, decimal, map}
 use Rattle.std.specs.Cmp.Lexicographic.{slice_cmp}
 use Rattle.std.specs.List.{flat_map}
@@ -6,10 +6,10 @@ use Rattle.std.specs.List.Sorted.{IsPermutation, IsSorted}
 use Rattle.std.specs.Ordering.{nat_cmp}
 use Rattle.mq_line.specs.Lines.{escaped}
 use Rattle.mq_route.specs.Hub.{HubState}
-use Rattle.mq_serve.specs.declared.ending.ServeEnd.{ServeEnd}
-use Rattle.mq_serve.specs.declared.ending.ServeEnd.TheVariants.{Net, JournalFull, Refused, Memory}
+use Rattle.mq_serve.specs.declared.serve_end.ServeEnd.{ServeEnd}
+use Rattle.mq_serve.specs.declared.serve_end.ServeEnd.TheVariants.{Net, JournalFull, Refused, Memory}
 
--- why it ends before all connections were served
+-- the reason of an early end
 abbrev pub end_line : ServeEnd → List ℕ
 end_line Net = codes "connection failed\n"
 end_line JournalFull = codes "journal full\n"
@@ -20,11 +20,11 @@ end_line Memory = codes "out of memory\n"
 abbrev pub session_line : List ℕ → List ℕ
 session_line name = codes "session " ++ (escaped name ++ codes "\n")
 
--- how many connections were served
+-- the number of connections that were served
 abbrev pub served_line : ℕ → List ℕ
 served_line count = codes "served " ++ (decimal count ++ codes "\n")
 
--- what is printed at the end
+-- the lines at the end
 abbrev pub end_lines : List (List ℕ) → ℕ → List ℕ
 end_lines names count = flat_map session_line names ++ served_line count
 

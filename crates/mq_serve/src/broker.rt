@@ -1,4 +1,4 @@
-//! The broker that the programs run.
+//! The configuration of the programs' broker.
 
 ghost use Rattle.std.specs.Prelude.{◌≡◌, None};
 ghost use Rattle.mq_decode.specs.Limits.{strict};
@@ -6,17 +6,19 @@ ghost use Rattle.mq_decode.specs.Limits.{strict};
 use mq_decode::Limits;
 use mq_route::HubConfig;
 
-/// The bound on the remaining length of packets (2.2.3).
+/// The maximum remaining length of a packet, in bytes (2.2.3).
 const MOST: u32 = 1_048_576;
 
-/// The most packet identifiers in use in a session (2.3.1).
+/// The maximum number of packet identifiers in use in a session (2.3.1).
 const CAPACITY: u16 = 100;
 
-/// The most connections that are up, and the most sessions.
+/// The maximum number of connections, and of sessions.
 const PLACES: usize = 1_000;
 
-/// What the programs say of their broker: packets of at most 1 MiB, a hundred identifiers in use in a session, no window, a thousand
-/// connections and sessions, and anybody may connect.
+/// The configuration of the programs' broker.
+///
+/// Packets have at most 1 MiB, and a session has at most 100 identifiers in use. There is no
+/// receive window. At most 1,000 connections and 1,000 sessions exist. Anybody may connect.
 pub fn broker_config() -> HubConfig
     ensures { result ≡ record {
       limits = strict 1048576;

@@ -1,24 +1,28 @@
-//! A broker over sockets: workers in threads share it, and each serves one connection after another (4.2).
+//! A broker over sockets: workers in threads share it, and each serves one connection after another
+//! (4.2).
+//!
+//! A call that can fail for lack of memory says so in its return type; other calls never allocate.
+//! On `Err` the receiver is unchanged unless stated otherwise.
 #![tactic(auto)]
 
+mod acceptor;
+mod audited_connections;
 mod broker;
-mod calls;
-mod crew;
-mod ending;
-mod gate;
-mod hall;
-mod printing;
-mod serving;
-mod staying;
-mod watched;
+mod lines;
+mod polled_stream;
+mod program;
+mod serve_end;
+mod server;
+mod wakers;
+mod workers;
 
+pub use crate::acceptor::{Acceptor, WorkerAcceptor};
+pub use crate::audited_connections::serve_connections_audited;
 pub use crate::broker::broker_config;
-pub use crate::calls::Wakers;
-pub use crate::crew::{Workers, man_both, run_all};
-pub use crate::ending::ServeEnd;
-pub use crate::gate::{Acceptor, WorkerAcceptor};
-pub use crate::hall::{Closed, Records, Server, WorkerResult, WorkerStart};
-pub use crate::printing::write_end;
-pub use crate::serving::{ServeOptions, serve, serve_on};
-pub use crate::staying::stay;
-pub use crate::watched::{PolledStream, WorkerPoll};
+pub use crate::lines::write_end;
+pub use crate::polled_stream::{PolledStream, WorkerPoll};
+pub use crate::program::{ServeOptions, serve, serve_on};
+pub use crate::serve_end::ServeEnd;
+pub use crate::server::{FinishedServer, Retention, Server, WorkerResult, WorkerStart};
+pub use crate::wakers::{WakeOthers, Wakers};
+pub use crate::workers::{Workers, run_all, run_both};

@@ -1,12 +1,31 @@
--- What a read of a stream does, where the bytes that are to come are known.
-use Rattle.std.specs.Prelude.{ℕ, ◌≤◌, List, length, take, Option}
+-- What a read of a stream does.
+use Rattle.std.specs.Prelude.{ℕ, zero, suc, ◌≤◌, List, length, take, Option, ⊤}
 use Rattle.std.specs.Io.KnownBytes.{Consumes, Keeps}
 use Rattle.mq_stream.specs.declared.stream.ReadOutcome.{ReadOutcome}
 use Rattle.mq_stream.specs.declared.stream.ReadOutcome.TheVariants.{Bytes, Nothing, End, Failed}
 
--- the first bytes came into the room, or none did
+-- `Bytes n`: the next n bytes of the stream are in the buffer. Otherwise no byte was read.
 abbrev pub Arrives : Option (List ℕ) → Option (List ℕ) → List ℕ → ReadOutcome → Type 0
-Arrives old new room (Bytes n) = (n ≤ length room) × Consumes old new (take n room)
-Arrives old new room Nothing = Keeps old new
-Arrives old new room End = Keeps old new
-Arrives old new room Failed = Keeps old new
+Arrives old new buffer (Bytes n) = (n ≤ length buffer) × Consumes old new (take n buffer)
+Arrives old new buffer Nothing = Keeps old new
+Arrives old new buffer End = Keeps old new
+Arrives old new buffer Failed = Keeps old new
+
+-- nothing more can be read
+abbrev pub IsOver : ReadOutcome → Type 0
+IsOver (Bytes n) = ⊥
+IsOver Nothing = ⊥
+IsOver End = ⊤
+IsOver Failed = ⊤
+
+-- the outcome of a read of n bytes into a buffer that has room: no byte means the end
+abbrev pub outcome_of : ℕ → ReadOutcome
+outcome_of zero = End
+outcome_of (suc n) = Bytes (suc n)
+
+-- no byte was read, and the end was not seen
+abbrev pub IsUnread : ReadOutcome → Type 0
+IsUnread (Bytes n) = ⊥
+IsUnread Nothing = ⊤
+IsUnread End = ⊥
+IsUnread Failed = ⊤

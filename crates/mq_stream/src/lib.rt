@@ -1,8 +1,12 @@
-//! Streams of bytes, both ways, and clocks: what a connection is served or used over (4.2).
+//! Streams of bytes in both directions, and clocks: the surroundings of a connection (4.2).
+//!
+//! No call of this crate allocates.
 #![tactic(auto)]
 
 mod clock;
 mod stream;
 
 pub use crate::clock::{Clock, Elapsed};
-pub use crate::stream::{Broken, ReadOutcome, Socket, SocketStream, Stream};
+pub use crate::stream::{
+    Broken, OnInterrupt, ReadOutcome, Retry, Socket, SocketStream, Stream, write_bytes,
+};

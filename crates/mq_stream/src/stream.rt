@@ -1,20 +1,20 @@
-//! Streams of bytes, both ways.
+//! Streams of bytes in both directions.
 
-ghost use Rattle.std.specs.Prelude.{◌≤◌, ℕ, List, Option, None, length, take, MatchOption, OnOk, OnErr};
+ghost use Rattle.std.specs.Prelude.{◌≡◌, ◌≤◌, ℕ, List, Option, None, Bool, true, length, take, MatchOption, IfOk, IfErr, IfSome, IfNone, OnOk, OnErr, Some};
 ghost use Rattle.std.specs.Io.KnownBytes.{Appends, Consumes, Keeps};
 ghost use Rattle.mq_packet.specs.Writing.{AppendsFront};
-ghost use Rattle.mq_stream.specs.Stream.{Arrives};
+ghost use Rattle.mq_stream.specs.Stream.{Arrives, IsOver, IsUnread, outcome_of};
 
 use std::io;
 use std::io::{ErrorKind, Read, Write};
 use thiserror::Error;
 
-/// What a read of a stream gives.
+/// The outcome of a read.
 #[derive(Clone, Copy, Debug, PartialEq, Eq)]
 pub enum ReadOutcome {
-    /// So many bytes came.
+    /// This number of bytes was read, at least one.
     Bytes(usize),
-    /// None came within the limit.
+    /// No byte came within the time limit.
     Nothing,
     /// The stream has ended.
     End,
@@ -23,10 +23,11 @@ pub enum ReadOutcome {
 }
 
 impl ReadOutcome {
-    /// How many bytes came, `None` where the stream can't be read on.
+    /// The number of bytes that were read. Returns `None` if the stream can't be read any more.
     pub fn count(self) -> Option<usize>
-        ensures { (old new : Option (List ℕ)) (room : List ℕ) → Arrives old new room self
-            → MatchOption result (Keeps old new) (λ n. (n ≤ length room) × Consumes old new (take n room)) }
+        ensures read { (old new : Option (List ℕ)) (buffer : List ℕ) → Arrives old new buffer self
+            → MatchOption result (Keeps old new) (λ n. (n ≤ length buffer) × Consumes old new (take n buffer)) }
+        ensures over { IfNone result (IsOver self) }
     {
         match self {
             ReadOutcome::Bytes(count) => Some(count),
@@ -36,39 +37,48 @@ impl ReadOutcome {
     }
 }
 
-/// The stream failed; a beginning of the bytes was written, of some or of none.
+/// A write failed. The stream took only a part of the bytes, possibly none.
 #[derive(Clone, Copy, Debug, PartialEq, Eq, Error)]
 #[error("the stream failed")]
 pub struct Broken;
 
-/// A stream of bytes, both ways. Where it knows which bytes are to come and which were written, its contracts say so.
+/// A stream of bytes in both directions.
+///
+/// Contracts see which bytes are to come, which were written and whether the stream is closed, as
+/// far as an implementation says so. Of a socket nothing is known.
 pub trait Stream {
-    /// The bytes that are to come, where they are known.
+    /// The bytes that are to come, if they are known.
     ghost coming: { Self → Option (List ℕ) } = { λ _. None };
 
-    /// The bytes that were written, where they are known.
+    /// The bytes that were written, if they are known.
     ghost written: { Self → Option (List ℕ) } = { λ _. None };
 
-    /// Reads some bytes, and waits for the first of them no longer than its limit.
-    fn read(&mut self, room: &mut [u8]) -> ReadOutcome
-        ensures comes { Arrives (coming self.old) (coming self.new) room.new result }
-        ensures written { Keeps (written self.old) (written self.new) };
+    /// False if the stream is known to be open: nothing ended and nothing failed.
+    ghost closed: { Self → Bool } = { λ _. true };
 
-    /// Writes all of these bytes.
+    /// Reads some bytes into `buffer`. Waits for the first one up to the stream's own time limit.
+    fn read(&mut self, buffer: &mut [u8]) -> ReadOutcome
+        ensures comes { Arrives (coming self.old) (coming self.new) buffer.new result }
+        ensures written { Keeps (written self.old) (written self.new) }
+        ensures over { IsOver result → closed self.new ≡ true };
+
+    /// Writes all of `bytes`.
     fn write_all(&mut self, bytes: &[u8]) -> Result<(), Broken>
         ensures ok { OnOk result (Appends (written self.old) (written self.new) bytes.now) }
         ensures err { OnErr result
             (AppendsFront (written self.old) (written self.new) bytes.now) }
+        ensures broken { OnErr result (closed self.new ≡ true) }
         ensures coming { Keeps (coming self.old) (coming self.new) };
 }
 
-/// A stream of a reader and a writer, as the two halves of a socket (`&stream` twice). The reader's limit is its own: where a read is
-/// not done within it, it fails with `WouldBlock` or `TimedOut`.
+/// A stream made of a reader and a writer, such as the two halves of a socket (`&stream` twice).
+///
+/// A read that fails with `WouldBlock` or `TimedOut` counts as one in which no byte came.
 #[derive(Drop)]
 pub struct Socket<R: Read, W: Write> {
-    /// Where the bytes come from.
+    /// The source of the bytes that are read.
     pub reader: R,
-    /// Where they go.
+    /// The destination of the bytes that are written.
     pub writer: W,
 }
 
@@ -77,51 +87,83 @@ impl<R: Read, W: Write> Stream for Socket<R, W> {
 
     ghost written = { λ s. W.contents s.writer };
 
-    fn read(&mut self, room: &mut [u8]) -> ReadOutcome {
-        read_some(&mut self.reader, room)
+    fn read(&mut self, buffer: &mut [u8]) -> ReadOutcome {
+        read_some(&mut self.reader, buffer)
     }
 
     fn write_all(&mut self, bytes: &[u8]) -> Result<(), Broken> {
-        write_bytes(&mut self.writer, bytes)
+        write_bytes(&mut self.writer, bytes, &mut OnInterrupt)
     }
 }
 
-/// A stream of one thing that reads and writes, as a socket. Its limits are its own: where a read or a write is not done within one, it
-/// fails with `WouldBlock` or `TimedOut`. A read that does so brings nothing, and a write that does so has failed. Nothing is known of its
-/// bytes: no contract says what a read of such a thing does to what was written to it.
+/// A stream made of one value that reads and writes, such as a socket.
+///
+/// A read that fails with `WouldBlock` or `TimedOut` counts as one in which no byte came; a write
+/// that does so has failed. Nothing is known of its bytes, because no contract says what a write to
+/// such a value does to its reads.
 #[derive(Drop)]
 pub struct SocketStream<T: Read + Write>(pub T);
 
 impl<T: Read + Write> Stream for SocketStream<T> {
-    fn read(&mut self, room: &mut [u8]) -> ReadOutcome {
-        read_some(&mut self.0, room)
+    fn read(&mut self, buffer: &mut [u8]) -> ReadOutcome {
+        read_some(&mut self.0, buffer)
     }
 
     fn write_all(&mut self, bytes: &[u8]) -> Result<(), Broken> {
-        write_bytes(&mut self.0, bytes)
+        write_bytes(&mut self.0, bytes, &mut OnInterrupt)
     }
 }
 
-// One read, again where a signal interrupts it.
-fn read_some<R: Read>(reader: &mut R, room: &mut [u8]) -> ReadOutcome
-    ensures { Arrives (R.remaining reader.old) (R.remaining reader.new) room.new result }
+// The outcome of a read into a buffer with room. `None` means that a signal interrupted it.
+fn outcome(read: io::Result<usize>) -> Option<ReadOutcome>
+    ensures ok { IfOk read (λ n. result ≡ Some (outcome_of n)) }
+    ensures err { OnErr read (IfSome result IsUnread) }
+{
+    match read {
+        Ok(0) => Some(ReadOutcome::End),
+        Ok(count) => Some(ReadOutcome::Bytes(count)),
+        Err(error) => match error.kind() {
+            ErrorKind::Interrupted => None,
+            ErrorKind::WouldBlock | ErrorKind::TimedOut => Some(ReadOutcome::Nothing),
+            _ => Some(ReadOutcome::Failed),
+        },
+    }
+}
+
+// Reads once, and again if a signal interrupts the read.
+fn read_some<R: Read>(reader: &mut R, buffer: &mut [u8]) -> ReadOutcome
+    ensures { Arrives (R.remaining reader.old) (R.remaining reader.new) buffer.new result }
 {
     for _ in 0..u64::MAX {
-        match reader.read(room) {
-            Ok(0) => return ReadOutcome::End,
-            Ok(count) => return ReadOutcome::Bytes(count),
-            Err(error) => match error.kind() {
-                ErrorKind::Interrupted => {}
-                ErrorKind::WouldBlock | ErrorKind::TimedOut => return ReadOutcome::Nothing,
-                _ => return ReadOutcome::Failed,
-            },
+        if let Some(outcome) = outcome(reader.read(buffer)) {
+            return outcome;
         }
     }
     ReadOutcome::Failed
 }
 
-// Writes the bytes, again where a signal interrupts it.
-fn write_bytes<W: Write>(writer: &mut W, bytes: &[u8]) -> Result<(), Broken>
+/// Decides which failed writes are tried again.
+pub trait Retry {
+    /// Returns whether to try again after this error. May wait until the writer has room.
+    fn again(&mut self, error: &io::Error) -> bool;
+}
+
+/// Tries again only after a signal interrupted a write.
+#[derive(Clone, Copy, Debug, PartialEq, Eq)]
+pub struct OnInterrupt;
+
+impl Retry for OnInterrupt {
+    fn again(&mut self, error: &io::Error) -> bool {
+        error.kind() == ErrorKind::Interrupted
+    }
+}
+
+/// Writes all of `bytes`, with as many writes as it takes.
+pub fn write_bytes<W: Write, P: Retry>(
+    writer: &mut W,
+    bytes: &[u8],
+    retry: &mut P,
+) -> Result<(), Broken>
     ensures ok { OnOk result (Appends (W.contents writer.old) (W.contents writer.new) bytes.now) }
     ensures err { OnErr result
         (AppendsFront (W.contents writer.old) (W.contents writer.new) bytes.now) }
@@ -134,7 +176,7 @@ fn write_bytes<W: Write>(writer: &mut W, bytes: &[u8]) -> Result<(), Broken>
         match writer.write(rest) {
             Ok(0) => return Err(Broken),
             Ok(count) => rest = &rest[count..],
-            Err(error) if error.kind() != ErrorKind::Interrupted => return Err(Broken),
+            Err(error) if !retry.again(&error) => return Err(Broken),
             Err(_) => {}
         }
     }

@@ -1,0 +1,76 @@
+-- The steps of workers.
+use Rattle.std.specs.Prelude.{◌≡◌, ℕ, ◌+◌, ◌≤◌, ◌⊎◌, ⊤, List, [], ◌∷◌, ◌++◌, length, Option, Some, None}
+use Rattle.std.specs.List.{AllByRecursion}
+use Rattle.mq_route.specs.declared.event.HubEvent.{HubEvent}
+use Rattle.mq_route.specs.declared.reply.HubReply.{HubReply}
+use Rattle.mq_book.specs.declared.entry.Receipt.{Receipt}
+use Rattle.mq_book.specs.declared.refusal.BookRefusal.{BookRefusal}
+use Rattle.mq_book.specs.declared.work_end.OnFull.{OnFull}
+use Rattle.mq_book.specs.declared.work_end.WorkEnd.{WorkEnd}
+use Rattle.mq_book.specs.declared.work_end.WorkEnd.TheVariants.{Memory}
+use Rattle.mq_book.specs.Ends.{end_of}
+use Rattle.mq_book.specs.Pages.{JournalledStep, Pages, RefusedOn}
+
+-- an observer saw one more reply, if it is known which ones it saw
+abbrev pub Observes : Option (List HubReply) → Option (List HubReply) → HubReply → Type 0
+Observes None new reply = ⊤
+Observes (Some old) None reply = ⊥
+Observes (Some old) (Some new) reply = new ≡ old ++ reply ∷ []
+
+-- a receipt for a worker's event, which made a step of some book
+abbrev pub IsReceipt : ℕ → HubEvent → Receipt → Type 0
+IsReceipt worker event receipt =
+    (before : Pages) × (after : Pages) × JournalledStep worker event before receipt after
+
+-- why a worker stops at an event: it is out of memory, or the book refuses the event
+abbrev pub StopsFor : OnFull → HubEvent → WorkEnd → Type 0
+StopsFor on_full event why = (why ≡ Memory)
+    ⊎ ((book : Pages) × (refusal : BookRefusal) × RefusedOn on_full book event refusal
+    × (why ≡ end_of refusal))
+
+-- A worker: its number, the number of steps that it made, its choice for a full journal, and the
+-- replies that its observer saw.
+pub record WorkerState : Type 0 where
+  pub worker : ℕ
+  pub count : ℕ
+  pub on_full : OnFull
+  pub observed : Option (List HubReply)
+
+-- A step of a worker: its event made a step of the shared book, and its observer saw the reply.
+pub record WorkerStep (w : WorkerState) (event : HubEvent) (reply : HubReply) (w2 : WorkerState)
+    : Type 0 where
+  pub receipt : Receipt
+  pub made : IsReceipt w.worker event receipt
+  pub said : receipt.reply ≡ reply
+  pub worker : w2.worker ≡ w.worker
+  pub count : w2.count ≡ w.count + 1
+  pub on_full : w2.on_full ≡ w.on_full
+  pub observed : Observes w.observed w2.observed reply
+
+-- The same for a worker that keeps receipts.
+pub record AuditedWorkerState : Type 0 where
+  pub worker : ℕ
+  pub count : ℕ
+  pub on_full : OnFull
+  pub observed : Option (List HubReply)
+  pub receipts : List Receipt
+
+pub record AuditedStep (w : AuditedWorkerState) (event : HubEvent) (reply : HubReply)
+    (w2 : AuditedWorkerState) : Type 0 where
+  pub receipt : Receipt
+  pub made : IsReceipt w.worker event receipt
+  pub said : receipt.reply ≡ reply
+  pub worker : w2.worker ≡ w.worker
+  pub count : w2.count ≡ w.count + 1
+  pub on_full : w2.on_full ≡ w.on_full
+  pub observed : Observes w.observed w2.observed reply
+  pub receipts : w2.receipts ≡ w.receipts ++ receipt ∷ []
+
+-- A worker made steps, at least this number. It counted each one and kept a receipt for it.
+pub record Worked (least : ℕ) (w w2 : AuditedWorkerState) : Type 0 where
+  pub more : List Receipt
+  pub added : w2.receipts ≡ w.receipts ++ more
+  pub own : AllByRecursion (λ r. r.worker ≡ w.worker) more
+  pub same : w2.worker ≡ w.worker
+  pub counted : w2.count ≡ w.count + length more
+  pub enough : least ≤ length more

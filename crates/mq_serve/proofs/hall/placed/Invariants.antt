@@ -1,5 +1,0 @@
-use Rattle.std.proofs.Common.{◌≡◌, map}
-use Rattle.mq_serve.proofs.hall.placed.Given as goal
-
-abbrev pub invariant-loop-share : goal.invariant-loop-share
-invariant-loop-share g l = map (λ s. s.share) l.stations.items ≡ l.yielded

@@ -1,6 +1,0 @@
-use denote.Param.Send.{sendable}
-use Rattle.mq_serve.proofs.Sends.{hall_sync}
-use Rattle.mq_serve.proofs.serving.serve_by.Goals as goal
-
-pub run_all-requires-sync-H : goal.run_all-requires-sync-H
-run_all-requires-sync-H g c κs within = search (sendable, hall_sync) depth 20

@@ -1,0 +1,143 @@
+//! The program `serve`.
+
+ghost use Rattle.std.specs.Prelude.{◌≡◌, ◌<◌, ◌≤◌, IfOk};
+ghost use Rattle.mq_route.specs.Hub.{HubState};
+ghost use Rattle.mq_serve.specs.Printed.{AreSessions};
+
+use crate::acceptor::Acceptor;
+use crate::lines::{write_end, write_served};
+use crate::serve_end::ServeEnd;
+use crate::server::{Retention, Server};
+use crate::workers::run_all;
+use mq_wire::Text;
+use std::alloc::Global;
+use std::io;
+use std::io::Write;
+use std::marker::Brand;
+use std::net::{Ipv4Addr, Net, TcpListener, TcpStream};
+use std::sync::Wait;
+use std::sync::ledger::{Blank, Ledger};
+use std::thread::Threads;
+use std::time::{Clock, Instant};
+
+/// The maximum number of entries of the journal. A full journal is dropped.
+const JOURNAL: usize = 10_000;
+
+/// Options of `serve`.
+#[derive(Clone, Copy, Debug)]
+pub struct ServeOptions {
+    /// The number of connections to serve.
+    pub connections: u32,
+    /// The number of workers that run concurrently, 1 to 64.
+    pub workers: u16,
+}
+
+// Serves the connections of a listener. Returns the client identifiers of the remaining sessions.
+#[tactic(auto, using(crate::proofs::Sends::server_sync))]
+fn serve_by<L: Ledger + Send + Sync + 'static, R>(
+    rt: &R,
+    alloc: Global,
+    blank: Blank,
+    listener: TcpListener,
+    options: ServeOptions,
+) -> Result<Vec<Text>, ServeEnd>
+where
+    R: Net + Threads + Wait + Clock + Sync,
+    requires name { blank.name ≡ L.name }
+    requires parts { blank.parts ≡ L.parts }
+    requires each { blank.parts ≡ options.workers }
+    requires some { (0 < options.workers) × (options.workers ≤ 64) }
+    ensures { IfOk result (λ names. (hub : HubState) × AreSessions hub names.items) }
+{
+    let Ok(start) = Instant::now(rt) else {
+        return Err(ServeEnd::Net);
+    };
+    let acceptor = Acceptor::new(listener, options.connections);
+    let (server, starts) = Server::<L>::open(
+        rt,
+        alloc,
+        blank,
+        options.workers,
+        acceptor,
+        start,
+        Retention::Passing(JOURNAL),
+    )?;
+    let results = match run_all(rt, &server, starts) {
+        Ok(results) => results,
+        Err(why) => {
+            drop(server);
+            return Err(why.into());
+        }
+    };
+    let finished = server.close(results)?;
+    let names = finished.book.hub().sessions();
+    drop(finished);
+    Ok(names?)
+}
+
+// The same, with a new count of steps.
+fn serve_all<R>(
+    rt: &R,
+    alloc: Global,
+    listener: TcpListener,
+    options: ServeOptions,
+) -> Result<Vec<Text>, ServeEnd>
+where
+    R: Net + Threads + Wait + Clock + Sync,
+    requires { (0 < options.workers) × (options.workers ≤ 64) }
+{
+    let blank = Blank::new(u64::from(options.workers));
+    serve_by::<Brand, R>(rt, alloc, blank, listener, options)
+}
+
+/// Serves the connections of a listener, with workers in threads.
+///
+/// A free worker takes the next connection. Prints the address of the listener; after all
+/// connections were served, the remaining sessions and the number of connections; or the reason of
+/// an early end. Returns the status of the program. `Err` means that the output failed.
+pub fn serve_on<R, W>(
+    rt: &R,
+    alloc: Global,
+    listener: TcpListener,
+    options: ServeOptions,
+    output: &mut W,
+) -> io::Result<u8>
+where
+    R: Net + Threads + Wait + Clock + Sync,
+    W: Write,
+    requires { (0 < options.workers) × (options.workers ≤ 64) }
+{
+    let Ok(address) = listener.local_addr() else {
+        return write_end(output, ServeEnd::Net);
+    };
+    writeln!(output, "listening {address}")?;
+    output.flush()?;
+    match serve_all(rt, alloc, listener, options) {
+        Ok(names) => {
+            write_served(output, names.as_slice(), options.connections)?;
+            Ok(0)
+        }
+        Err(end) => write_end(output, end),
+    }
+}
+
+/// Listens on this port of 127.0.0.1, and serves its connections as [`serve_on`] does.
+///
+/// Port 0 means any free port.
+pub fn serve<R, W>(
+    rt: &R,
+    alloc: Global,
+    port: u16,
+    options: ServeOptions,
+    output: &mut W,
+) -> io::Result<u8>
+where
+    R: Net<Listener = TcpListener, Stream = TcpStream> + Threads + Wait + Clock + Sync,
+    W: Write,
+    requires { (0 < options.workers) × (options.workers ≤ 64) }
+{
+    match TcpListener::bind(rt, (Ipv4Addr::LOCALHOST, port)) {
+        Ok(listener) => serve_on(rt, alloc, listener, options, output),
+        Err(_) => write_end(output, ServeEnd::Net),
+    }
+}

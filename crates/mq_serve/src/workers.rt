@@ -1,0 +1,64 @@
+//! Workers that run concurrently, each in a thread.
+
+ghost use Rattle.std.specs.Prelude.{◌≡◌, IfOk, vec_len};
+
+use std::alloc::AllocError;
+use std::sync::Wait;
+use std::thread;
+use std::thread::Threads;
+use std::time::Clock;
+
+/// A job that is divided into parts, which workers do concurrently.
+pub trait Workers {
+    /// The part of one worker.
+    type Part;
+
+    /// The result of a part.
+    type Outcome;
+
+    /// Does one part.
+    fn run_one<R: Wait + Clock>(&self, rt: &R, part: Self::Part) -> Self::Outcome;
+}
+
+/// Runs two jobs concurrently, each as [`run_all`] does.
+pub fn run_both<H: Workers + Sync, K: Workers + Sync, R: Threads + Wait + Clock + Sync>(
+    rt: &R,
+    one: &H,
+    parts: Vec<H::Part>,
+    other: &K,
+    others: Vec<K::Part>,
+) -> (
+    Result<Vec<H::Outcome>, AllocError>,
+    Result<Vec<K::Outcome>, AllocError>,
+)
+where
+    H::Part: Send + Drop,
+    H::Outcome: Send + Drop,
+    K::Part: Send + Drop,
+    K::Outcome: Send + Drop,
+    ensures one { IfOk result.0 (λ outcomes. vec_len outcomes ≡ vec_len parts) }
+    ensures other { IfOk result.1 (λ outcomes. vec_len outcomes ≡ vec_len others) }
+{
+    thread::join(
+        rt,
+        move || run_all(rt, one, parts),
+        move || run_all(rt, other, others),
+    )
+}
+
+/// Runs each part in its own thread. Returns the outcomes in the order of the parts.
+///
+/// If a thread can't be created, parts run one after another. Parts that wait for each other then
+/// deadlock.
+pub fn run_all<H: Workers + Sync, R: Threads + Wait + Clock + Sync>(
+    rt: &R,
+    job: &H,
+    parts: Vec<H::Part>,
+) -> Result<Vec<H::Outcome>, AllocError>
+where
+    H::Part: Send + Drop,
+    H::Outcome: Send + Drop,
+    ensures { IfOk result (λ outcomes. vec_len outcomes ≡ vec_len parts) }
+{
+    thread::map_vec(rt, parts, &|part| job.run_one(rt, part))
+}
