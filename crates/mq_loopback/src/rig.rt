@@ -1,9 +1,9 @@
-//! A broker and the clients of a loopback file, beside each other.
+//! A broker and the clients of a loopback file, in threads.
 
 ghost use Rattle.std.specs.Prelude.{◌≡◌, ◌<◌, ◌≤◌, length, vec_len, IfOk};
 
-use crate::cast::Cast;
 use crate::client::Client;
+use crate::client_threads::ClientThreads;
 use mq_book::{Journal, Receipt};
 use mq_client::ClientError;
 use mq_packet::Message;
@@ -25,13 +25,13 @@ const JOURNAL: usize = 1_000_000;
 /// How long a client's read waits for bytes, in milliseconds.
 const READ_LIMIT: u64 = 100;
 
-/// How long a connection waits for its answer, and a client's write for room, in seconds.
+/// How long a connection waits for its response, and a client's write for room, in seconds.
 const LIMIT: u64 = 30;
 
-/// What is left when all clients are done.
+/// The result of all clients.
 #[derive(Drop)]
 pub struct RunResult {
-    /// What each client collected, in the order of the clients and as it was handed on.
+    /// The messages that each client collected, in the order of the clients and of their delivery.
     pub collected: Vec<Vec<Message>>,
     /// The journal of the broker.
     pub journal: Journal,
@@ -53,7 +53,7 @@ pub enum RunError {
 impl From<AllocError> for RunError {
     ghost use Rattle.std.specs.Prelude.{◌≡◌};
     ghost use Rattle.mq_serve.specs.declared.serve_end.ServeEnd.TheVariants.{Memory};
-    ghost use Rattle.mq_loopback.specs.declared.stage.RunError.TheVariants.{Broker};
+    ghost use Rattle.mq_loopback.specs.declared.rig.RunError.TheVariants.{Broker};
 
     ghost from_gives = { λ _ end. end ≡ Broker Memory };
 
@@ -64,7 +64,7 @@ impl From<AllocError> for RunError {
 
 impl From<ServeEnd> for RunError {
     ghost use Rattle.std.specs.Prelude.{◌≡◌};
-    ghost use Rattle.mq_loopback.specs.declared.stage.RunError.TheVariants.{Broker};
+    ghost use Rattle.mq_loopback.specs.declared.rig.RunError.TheVariants.{Broker};
 
     ghost from_gives = { λ why end. end ≡ Broker why };
 
@@ -73,9 +73,9 @@ impl From<ServeEnd> for RunError {
     }
 }
 
-// Where clients and broker meet: the gate of the broker, and a connection to it for each client.
+// The listener of the broker, and a connection to it for each client.
 #[derive(Drop)]
-struct Stage {
+struct Rig {
     gate: Acceptor,
     streams: Vec<TcpStream>,
 }
@@ -92,8 +92,8 @@ where
     Ok(stream)
 }
 
-// So many connections to a free port of this machine.
-fn open_stage<R>(rt: &R, alloc: Global, count: u16) -> io::Result<Stage>
+// Opens `count` connections to a free port of this machine.
+fn open_rig<R>(rt: &R, alloc: Global, count: u16) -> io::Result<Rig>
 where
     R: Net<Listener = TcpListener, Stream = TcpStream>,
 {
@@ -103,13 +103,13 @@ where
     for _ in 0..count {
         streams.push(connect(rt, address)?)?;
     }
-    Ok(Stage {
+    Ok(Rig {
         gate: Acceptor::new(listener, u32::from(count)),
         streams,
     })
 }
 
-// Why there is no stage.
+// Why the rig could not be opened.
 fn end_of(error: &io::Error) -> ServeEnd {
     match error.kind() {
         ErrorKind::OutOfMemory => ServeEnd::Memory,
@@ -117,13 +117,13 @@ fn end_of(error: &io::Error) -> ServeEnd {
     }
 }
 
-// Runs so many workers beside the clients, and gives what they leave.
+// Runs the workers and the clients in threads, and returns their results.
 fn play_by<L: Ledger + Send + Sync + 'static, R>(
     rt: &R,
     alloc: Global,
     blank: Blank,
     workers: u16,
-    stage: Stage,
+    rig: Rig,
     clients: &[Client],
 ) -> Result<RunResult, RunError>
 where
@@ -136,16 +136,16 @@ where
     let Ok(start) = Instant::now(rt) else {
         return Err(RunError::Broker(ServeEnd::Net));
     };
-    let Stage { gate, streams } = stage;
+    let Rig { gate, streams } = rig;
     let records = Retention::Kept(JOURNAL);
     let (hall, stations) = Server::<L>::open(rt, alloc, blank, workers, gate, start, records)?;
-    let cast = Cast::new(alloc, clients);
-    let acts = cast.acts(streams)?;
-    let (served, collected) = run_both(rt, &hall, stations, &cast, acts);
-    ended(hall, served, collected_by(cast.into_fault(), collected))
+    let threads = ClientThreads::new(alloc, clients);
+    let starts = threads.starts(streams)?;
+    let (served, collected) = run_both(rt, &hall, stations, &threads, starts);
+    ended(hall, served, collected_by(threads.into_fault(), collected))
 }
 
-// What the clients collected, or why they did not.
+// The messages that the clients collected, or the first fault.
 fn collected_by(
     fault: Option<ClientError>,
     collected: Result<Vec<Vec<Message>>, AllocError>,
@@ -156,7 +156,7 @@ fn collected_by(
     }
 }
 
-// What is left of a broker and of clients that are done, or why there is nothing.
+// The results of a broker and of clients that are done, or the reason why there are none.
 fn ended<L: Ledger>(
     hall: Server<L>,
     served: Result<Vec<WorkerResult<L>>, AllocError>,
@@ -169,7 +169,7 @@ fn ended<L: Ledger>(
     left(closed, collected)
 }
 
-// What a broker leaves, and what was collected, or why nothing was.
+// The result of a broker and the collected messages, or the reason why there are none.
 fn left<L: Ledger>(
     closed: FinishedServer<L>,
     collected: Result<Vec<Vec<Message>>, RunError>,
@@ -185,18 +185,18 @@ fn left<L: Ledger>(
     }
 }
 
-/// Runs a broker with as many workers as there are clients, 1 to 64, beside the clients. Fails where the port can't be opened, where the
-/// broker ends, where a client has a fault, and where memory runs out.
+/// Runs a broker with one worker for each client, 1 to 64, and the clients. Fails if the port can't
+/// be opened, the broker ends, a client has a fault, or an allocation fails.
 pub fn play<R>(rt: &R, alloc: Global, clients: &[Client]) -> Result<RunResult, RunError>
 where
     R: Net<Listener = TcpListener, Stream = TcpStream> + Threads + Wait + Clock + Sync,
     requires { (0 < length clients.now) × (length clients.now ≤ 64) }
 {
     let workers = clients.len() as u16;
-    let stage = match open_stage(rt, alloc, workers) {
-        Ok(stage) => stage,
+    let rig = match open_rig(rt, alloc, workers) {
+        Ok(rig) => rig,
         Err(error) => return Err(RunError::Broker(end_of(&error))),
     };
     let blank = Blank::new(u64::from(workers));
-    play_by::<Brand, R>(rt, alloc, blank, workers, stage, clients)
+    play_by::<Brand, R>(rt, alloc, blank, workers, rig, clients)
 }

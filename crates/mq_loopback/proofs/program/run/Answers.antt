@@ -1,5 +1,5 @@
 use Rattle.mq_serve.specs.declared.serve_end.ServeEnd.TheVariants.{Memory}
-use Rattle.mq_loopback.specs.declared.stage.RunError.TheVariants.{Broker}
+use Rattle.mq_loopback.specs.declared.rig.RunError.TheVariants.{Broker}
 use Rattle.mq_loopback.proofs.Telling.{cut_off_before}
 use Rattle.mq_loopback.proofs.program.run.Goals as goal
 
