@@ -1,4 +1,4 @@
--- A replay goes on by a step.
+-- A replay continues by a step.
 use Rattle.std.proofs.Common.{List, [], ◌∷◌, ◌++◌, sym, subst, refl}
 use Rattle.mq_route.specs.Hub.{HubState}
 use Rattle.mq_route.specs.Step.{HubStep}

@@ -170,8 +170,8 @@ pub record Makes {X : Type 0} (steps_to : X → HubEvent → HubReply → X → 
   pub are : map (λ m. m.event) made ≡ events
   pub hands : flat_map handed made ≡ []
 
--- Output was collected and written. The connection goes on if all of it was written and the broker
--- keeps the connection open; otherwise the broker closed it, or the stream is closed.
+-- Output was collected and written. The connection continues if all of it was written and the
+-- broker keeps the connection open; otherwise the broker closed it, or the stream is closed.
 pub record Collects {X : Type 0} (steps_to : X → HubEvent → HubReply → X → Type 0) (conn : Conn)
     (goes_on closed : Bool) (x y : X) (a b : Option (List ℕ)) : Type 0 where
   pub reply : HubReply

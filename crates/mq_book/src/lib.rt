@@ -2,7 +2,7 @@
 //!
 //! Each worker makes its steps under one lock, and a journal records every step of the broker.
 //!
-//! A call that can fail for lack of memory says so in its return type; other calls never allocate.
+//! A call that may allocate says so in its return type; other calls never allocate.
 //! On `Err` the receiver is unchanged unless stated otherwise. The definitions of the contracts are
 //! in `specs/`: `Pages` (a book and its journal), `Replays` (what a journal says), `Receipts`,
 //! `Connection` (the events of a connection) and `Workers` (the steps of a worker).

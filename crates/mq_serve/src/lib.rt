@@ -1,7 +1,7 @@
 //! A broker over sockets: workers in threads share it, and each serves one connection after another
 //! (4.2).
 //!
-//! A call that can fail for lack of memory says so in its return type; other calls never allocate.
+//! A call that may allocate says so in its return type; other calls never allocate.
 //! On `Err` the receiver is unchanged unless stated otherwise.
 #![tactic(auto)]
 

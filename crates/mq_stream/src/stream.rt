@@ -14,7 +14,7 @@ use thiserror::Error;
 pub enum ReadOutcome {
     /// This number of bytes was read, at least one.
     Bytes(usize),
-    /// No byte came within the time limit.
+    /// No byte arrived within the time limit.
     Nothing,
     /// The stream has ended.
     End,
@@ -73,7 +73,7 @@ pub trait Stream {
 
 /// A stream made of a reader and a writer, such as the two halves of a socket (`&stream` twice).
 ///
-/// A read that fails with `WouldBlock` or `TimedOut` counts as one in which no byte came.
+/// A read that fails with `WouldBlock` or `TimedOut` counts as one in which no byte arrived.
 #[derive(Drop)]
 pub struct Socket<R: Read, W: Write> {
     /// The source of the bytes that are read.
@@ -98,9 +98,9 @@ impl<R: Read, W: Write> Stream for Socket<R, W> {
 
 /// A stream made of one value that reads and writes, such as a socket.
 ///
-/// A read that fails with `WouldBlock` or `TimedOut` counts as one in which no byte came; a write
-/// that does so has failed. Nothing is known of its bytes, because no contract says what a write to
-/// such a value does to its reads.
+/// A read that fails with `WouldBlock` or `TimedOut` counts as one in which no byte arrived; a
+/// write that does so has failed. Nothing is known of its bytes, because no contract says what a
+/// write to such a value does to its reads.
 #[derive(Drop)]
 pub struct SocketStream<T: Read + Write>(pub T);
 
