@@ -136,7 +136,7 @@ hears_starved role now piece old mid new h t u v r ps begins taken m none k =
     (received_starved old.limit (gets_as role) (faulted_as role) ps (old.held ++ piece) old.end r begins taken (sym none)))
     both refl (heard_shut role now (old.held ++ piece) reasons.Memory old new (moment_is old new h t v (followed r x) both)) (close_is r x reasons.Memory none refl)
 
--- bytes that are no packet tell nothing
+-- bytes that are not a packet tell nothing
 faulted_quiet : (role : Role) (fault : DecodeFault) (e : End) → ((faulted_as role fault e).happenings ≡ []) × ((faulted_as role fault e).freed ≡ [])
 faulted_quiet Client fault e = (refl, refl)
 faulted_quiet Server fault e = by (not (is_up e.state) && is_level fault.kind)

@@ -8,7 +8,7 @@ use Rattle.mq_end.specs.State.{EndState, PutsOut}
 use Rattle.mq_end.specs.Receiving.{Acts, Gives, Makes, no_outcome}
 use Rattle.mq_end.proofs.Replies.{puts_nothing}
 
--- a reply that tells nothing
+-- a reply that reports nothing
 pub quiet : (r : Reply) (o : PacketOutcome) (old new : EndState) → Acts r old new → o ≡ no_outcome → r.happenings ≡ [] → r.freed ≡ [] → r.close ≡ None → Gives r o old new
 quiet r o old new h is none no_id going = record {
   out = h.out;

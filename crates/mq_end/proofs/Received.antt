@@ -34,7 +34,7 @@ faulty_some limit b k place (AtLength h) = subst (λ (t : List ℕ). 0 < length 
 faulty_some limit b k place (AtSize h) = subst (λ (t : List ℕ). 0 < length t) (sym h.bytes) (omega arith)
 faulty_some limit b k place (AtField h) = subst (λ (t : List ℕ). 0 < length t) (sym h.bytes) (omega arith)
 
--- no bytes are less than a packet
+-- no bytes are an incomplete packet
 pub pending_nil : (limit : Bounds) → ReadsAgain → Pending limit []
 pending_nil limit again = record {
   not_whole = λ p first rest h parts. absurd (omega (arith, again.some limit p first h, ap length parts, length-append first rest));
@@ -92,7 +92,7 @@ received_shut limit gets faulted ps b front rest e r reason held again stream pa
       ending = Starves (stream_some limit p last s.rest rest again s.second) going all none;
     }
 
--- All packets were processed, and less than a packet is held.
+-- All packets were processed, and an incomplete one is held.
 pub received_all : (limit : Bounds) (gets : Packet → End → Reply) (faulted : DecodeFault → End → Reply) (ps : List Packet) (b rest : List ℕ) (e : End) (r : Reply) (held : List ℕ)
     → Reading limit b ps rest None → Taken gets ps e r → r.close ≡ None → held ≡ rest → Receives limit gets faulted b e r held
 received_all limit gets faulted ps b rest e r held reading taken none same =

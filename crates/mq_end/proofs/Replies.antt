@@ -88,7 +88,7 @@ makes_then r s old mid new t u v going h k = record {
 pub makes_end : (r : Reply) (old new : EndState) (t u : ProgressBuilder) → Makes r old new t u → new.end ≡ r.end
 makes_end r old new t u h = ap (λ (s : EndState). s.end) h.state
 
--- a reply that tells nothing
+-- a reply that reports nothing
 pub quiet : (r : Reply) (old new : EndState) (t : ProgressBuilder) → Acts r old new → r.happenings ≡ [] → r.freed ≡ [] → Makes r old new t t
 quiet r old new t h none no_id = record {
   out = h.out;

@@ -217,7 +217,7 @@ first_size e es all is none =
     let free = either_none (same_qos Q0 e.message.qos) (list_any (λ (e : Entry). same_qos Q0 e.message.qos) es) (ap (list_any (λ (e : Entry). same_qos Q0 e.message.qos)) (sym is) ∙ none) in
     laws.publish e.message (Some (record { id = e.id; dup = e.sent })) (fits_kept e.message.qos (record { id = e.id; dup = e.sent }) free)
 
--- ---- a packet that a server takes in
+-- ---- a packet that a server processes
 
 pub packet_room : {E : Type 0} (r : Result PacketOutcome E) (now : ℕ) (p : Packet) (old new : EndState) (ms : List Message) (more : ℕ) → (is_live old.end.state ≡ true → IfOk r (λ o. TakesPacket now p o old new)) → OnErr r (new ≡ old) → is_up old.end.state ≡ true
     → HasRoom ms (packets_size (server_gets p old.end).out + more) old → HasRoom ms more new

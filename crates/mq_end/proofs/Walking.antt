@@ -84,9 +84,9 @@ next_of role piece old now mid told after came p n rest w reads state none =
       along = subst (λ (s : EndState). Along (gets_as role) (with_held old []) s told after w.packets) (sym same) (along_held (gets_as role) old now now.held [] told after w.packets w.along);
     }
 
--- ---- how the walk goes on, and how it ends
+-- ---- how the walk continues, and how it ends
 
--- it came to the end, or there was no memory for it
+-- it reached the end, or an allocation failed for it
 abbrev pub Came : Role → Packet → EndState → EndState → ProgressBuilder → ProgressBuilder → Option CloseReason → Type 0
 Came role p mid new u v closed = (r : Reply) × ((r ≡ gets_as role p mid.end) ⊎ (r ≡ closes reasons.Memory mid.end)) × (closed ≡ r.close) × Makes r mid new u v
 
@@ -150,7 +150,7 @@ walked_shut role now piece old mid new t u v p rest reason again x came = by cam
         let k = taken_starved (gets_as role) (with_held old []) mid new t u v x.packets [] ps p x.along refl (subst (λ (r : Reply). Makes r mid new u v) e came.3) in
         hears_shut role now piece old new [] t v k.0 ps x.front rest reason again x.stream x.parts k.1 k.3 (memory ∙ k.2)
 
--- less than a packet is left, and is held
+-- An incomplete packet is left, and is held
 pub walked_all : (role : Role) (now : ℕ) (piece : List ℕ) (old last mid new : EndState) (t u : ProgressBuilder) (came : Bool) (rest : List ℕ)
     → Walked role piece old last t u came rest → Pending last.limit (last.held ++ rest) → mid.held ≡ last.held ++ rest → mid ≡ record last { held = mid.held }
     → new ≡ record mid { last_activity = heard_as role came now mid.last_activity } → Hears role now piece old new t u None

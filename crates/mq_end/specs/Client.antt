@@ -64,7 +64,7 @@ client_gets_in Connected p e = client_up_gets p e
 abbrev pub client_gets : Packet → End → Reply
 client_gets p e = client_gets_in e.state p e
 
--- packets come at once, one after another (4.6)
+-- packets arrive at once, one after another (4.6)
 abbrev pub client_gets_all : List Packet → End → Reply
 client_gets_all ps e = one_by_one client_gets ps e
 

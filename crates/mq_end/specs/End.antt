@@ -94,7 +94,7 @@ abbrev pub closes : CloseReason → End → Reply
 closes reason e = closes_after [] reason e
 
 -- A connection begins to which clean session applies or not: with 1 the session before is
--- discarded, with 0 it goes on (3.1.2.4).
+-- discarded, with 0 it continues (3.1.2.4).
 abbrev pub renewed : Bool → End → End
 renewed clean e = record e {
   book = if clean then blank_book else e.book;
@@ -136,7 +136,7 @@ followed r s = record {
   close = first_reason r.close s.close;
 }
 
--- packets come one after another (4.6) to an end that does this with each
+-- packets arrive one after another (4.6) to an end that does this with each
 abbrev pub one_by_one : (Packet → End → Reply) → List Packet → End → Reply
 one_by_one does [] e = silent e
 one_by_one does (p ∷ ps) e = followed (does p e) (one_by_one does ps (does p e).end)

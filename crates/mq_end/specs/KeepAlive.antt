@@ -5,7 +5,7 @@ use Rattle.mq_end.specs.declared.reason.CloseReason.TheVariants as reasons
 use Rattle.mq_end.specs.End.{End, Reply, silent, puts_out, closes, is_up}
 
 -- Late: the keep-alive is not 0, and since the last whole packet more than one and a half times of
--- it has gone by (3.1.2.10).
+-- it has elapsed (3.1.2.10).
 abbrev pub Late : ℕ → ℕ → ℕ → Type 0
 Late last keep_alive now = (0 < keep_alive) × (last + 1500 * keep_alive < now)
 
@@ -13,7 +13,7 @@ Late last keep_alive now = (0 < keep_alive) × (last + 1500 * keep_alive < now)
 abbrev pub is_late : ℕ → ℕ → ℕ → Bool
 is_late last keep_alive now = nat_lt 0 keep_alive && nat_lt (last + 1500 * keep_alive) now
 
--- a keep-alive has gone by since the CONNECT or the last PINGREQ (3.1.2.10)
+-- a keep-alive has elapsed since the CONNECT or the last PINGREQ (3.1.2.10)
 abbrev pub is_due : ℕ → ℕ → ℕ → Bool
 is_due since keep_alive now = nat_lt 0 keep_alive && nat_le (since + 1000 * keep_alive) now
 

@@ -25,7 +25,7 @@ MayHave false e i = Unit {0}
 abbrev pub IsSoundEnd : ℕ → End → Type 0
 IsSoundEnd capacity e = IsSound capacity e.book
 
--- Whatever an end takes in and whatever its user asks, its identifiers in use stay sound (2.3.1).
+-- Whatever an end processes and whatever its user asks, its identifiers in use stay sound (2.3.1).
 pub record SoundLaws : Type 0 where
   pub client : (capacity : ℕ) (p : Packet) (e : End) → IsSoundEnd capacity e → IsSoundEnd capacity (client_gets p e).end
   pub server : (capacity : ℕ) (p : Packet) (e : End) → IsSoundEnd capacity e → IsSoundEnd capacity (server_gets p e).end

@@ -44,7 +44,7 @@ abbrev pub is_exactly_once : Packet → Bool
 is_exactly_once (packets.Publish p) = same_qos Q2 p.message.qos
 is_exactly_once p = false
 
--- each of these packets has a remaining length that can be spelled (2.2.3)
+-- each of these packets has a remaining length that can be encoded (2.2.3)
 abbrev pub AreEncodable : List Packet → Type 0
 AreEncodable [] = Unit {0}
 AreEncodable (p ∷ ps) = (length (fields p) < 2 ^ 28) × AreEncodable ps

@@ -1,4 +1,5 @@
--- An end that is ready for messages accepts them one after another, whatever packets come between.
+-- An end that is ready for messages accepts them one after another, whatever packets arrive
+-- between.
 use Rattle.std.specs.Prelude.{◌≡◌, ℕ, true, List, ◌∷◌, None}
 use Rattle.mq_packet.specs.declared.message.Message.{Message}
 use Rattle.mq_packet.specs.declared.packet.Packet.{Packet}

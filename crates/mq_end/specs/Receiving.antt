@@ -23,13 +23,13 @@ use Rattle.mq_end.specs.State.{EndState, PutsOut, is_level, client_faulted, serv
 -- How it ends. `s` is the reply to the complete packets, `rest` the bytes behind them, `r` the
 -- whole reply, and `held` the bytes that the end then holds.
 pub data Ending (limit : Bounds) (faulted : DecodeFault → End → Reply) (s : Reply) (rest : List ℕ) (r : Reply) (held : List ℕ) : Type 0 where
-  -- the rest is less than a whole packet, and is held
+  -- the rest is an incomplete packet, and is held
   Waits : Pending limit rest → s.close ≡ None → r ≡ s → held ≡ rest → Ending limit faulted s rest r held
   -- the end closed at the last of these packets
   Closes : (reason : CloseReason) → s.close ≡ Some reason → r ≡ s → held ≡ [] → Ending limit faulted s rest r held
-  -- the rest is no packet (4.8)
+  -- the rest is not a packet (4.8)
   Breaks : (fault : DecodeFault) → Faulty limit rest fault.kind fault.place → s.close ≡ None → r ≡ followed s (faulted fault s.end) → held ≡ [] → Ending limit faulted s rest r held
-  -- memory ran out before all was taken in
+  -- memory ran out before all was processed
   Starves : 0 < length rest → s.close ≡ None → r ≡ followed s (closes reasons.Memory s.end) → held ≡ [] → Ending limit faulted s rest r held
 
 -- The bytes held before and the new ones are whole packets, which come one after another, up to the
@@ -182,19 +182,19 @@ abbrev pub heard_one_as : Role → Option CloseReason → ℕ → ℕ → ℕ
 heard_one_as Client closed now last = last
 heard_one_as Server closed now last = heard_one closed now last
 
--- A whole packet came to an end of this role with a connection: this came of it, or there was no
--- memory for it and the end closed.
+-- A whole packet reached an end of this role with a connection: this came of it, or an allocation
+-- failed for it and the end closed.
 pub record TakesAs (role : Role) (now : ℕ) (p : Packet) (old new : EndState) (happenings : List Happening) (acknowledged : List ℕ) (closed : Option CloseReason) : Type 0 where
   pub reply : Reply
   pub does : (reply ≡ gets_as role p old.end) ⊎ (reply ≡ closes reasons.Memory old.end)
   pub shows : Shows reply old new happenings acknowledged closed
   pub state : new ≡ record old { end = reply.end; output = new.output; held = held_after reply.close old.held; last_activity = heard_one_as role reply.close now old.last_activity }
 
--- it came to the client
+-- it reached the client
 abbrev pub ClientTakes : ℕ → Packet → EndState → EndState → List Happening → List ℕ → Option CloseReason → Type 0
 ClientTakes now p old new happenings acknowledged closed = TakesAs Client now p old new happenings acknowledged closed
 
--- it came to the server
+-- it reached the server
 abbrev pub TakesOne : ℕ → Packet → EndState → EndState → List Happening → List ℕ → Option CloseReason → Type 0
 TakesOne now p old new happenings acknowledged closed = TakesAs Server now p old new happenings acknowledged closed
 

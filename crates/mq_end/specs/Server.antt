@@ -72,7 +72,7 @@ server_gets_in Connected p e = server_up_gets p e
 abbrev pub server_gets : Packet → End → Reply
 server_gets p e = server_gets_in e.state p e
 
--- packets come at once, one after another (4.6)
+-- packets arrive at once, one after another (4.6)
 abbrev pub server_gets_all : List Packet → End → Reply
 server_gets_all ps e = one_by_one server_gets ps e
 

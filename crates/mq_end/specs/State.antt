@@ -54,7 +54,7 @@ EncodesAll (p ∷ ps) b = (first : List ℕ) × (rest : List ℕ) × Encodes p f
 abbrev pub PutsOut : List Packet → List ℕ → List ℕ → Type 0
 PutsOut ps old new = (b : List ℕ) × EncodesAll ps b × (new ≡ old ++ b)
 
--- ---- bytes that are no packet
+-- ---- bytes that are not a packet
 
 -- a CONNECT is of another level of the protocol (3.1.2.2)
 abbrev pub is_level : FaultKind → Bool

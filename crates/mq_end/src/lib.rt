@@ -1,6 +1,6 @@
 //! The two ends of an MQTT connection as state machines without I/O: [`ClientEnd`] and
-//! [`ServerEnd`]. A call that can fail for lack of memory says so in its return type; other calls
-//! never allocate. On `Err` the receiver is unchanged unless stated otherwise.
+//! [`ServerEnd`]. A call that may allocate says so in its return type; other calls never allocate.
+//! On `Err` the receiver is unchanged unless stated otherwise.
 //!
 //! The definitions are in `specs/`; this crate has the words that they share with the code.
 #![tactic(auto)]

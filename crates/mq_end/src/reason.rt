@@ -10,7 +10,7 @@ use thiserror::Error;
 /// Why an end closed its connection.
 #[derive(Clone, Copy, Debug, PartialEq, Eq, Error)]
 pub enum CloseReason {
-    /// Bytes that are no packet (4.8).
+    /// Bytes that are not a packet (4.8).
     #[error("bytes came that are no packet")]
     Fault(DecodeFault),
     /// A packet that may not come there (4.8).

@@ -27,8 +27,8 @@ use std::alloc::AllocError;
 
 impl Endpoint {
     /// Takes the next complete packet from the held bytes and a piece. Returns it with the number
-    /// of bytes used of the piece, or `None` if they hold less than a packet; then the whole piece
-    /// is held. After an error nothing is held.
+    /// of bytes used of the piece, or `None` if they hold an incomplete packet; then the whole
+    /// piece is held. After an error nothing is held.
     fn next_packet(&mut self, piece: &[u8]) -> Result<Option<(Packet, usize)>, DecodeError>
         ensures within { IfOk result (λ o. IfSome o (λ x. x.1 ≤ length piece.now)) }
         ensures packet { IfOk result (λ o. IfSome o
@@ -61,7 +61,7 @@ impl Endpoint {
         }
     }
 
-    /// Bytes that are no packet came (4.8).
+    /// Bytes that are not a packet arrived (4.8).
     fn break_off(&mut self, role: Role, fault: DecodeFault) -> CloseReason
         ensures { (r : Reply) × IsBreak role fault self.old.end r × (Some result ≡ r.close) × Acts r self.old self.new }
     {
@@ -108,8 +108,8 @@ impl Endpoint {
     }
 
     /// Processes the next complete packet of the held bytes and a piece. Returns the number of
-    /// bytes used of the piece, and the reason if the end closed. Returns `None` if they hold less
-    /// than a packet; then the whole piece is held. After an error nothing is held.
+    /// bytes used of the piece, and the reason if the end closed. Returns `None` if they hold an
+    /// incomplete packet; then the whole piece is held. After an error nothing is held.
     fn take_next(
         &mut self,
         role: Role,

@@ -197,7 +197,7 @@ impl Endpoint {
         Ok(())
     }
 
-    /// Whether a keep-alive has gone by (3.1.2.10).
+    /// Whether a keep-alive has elapsed (3.1.2.10).
     fn is_due(&self, now: u64) -> bool
         ensures { result ≡ is_due self.now.last_activity self.now.end.keep_alive now }
     {
@@ -218,7 +218,7 @@ impl Endpoint {
         Ok(())
     }
 
-    /// Whether more than one and a half times the keep-alive has gone by (3.1.2.10).
+    /// Whether more than one and a half times the keep-alive has elapsed (3.1.2.10).
     fn is_late(&self, now: u64) -> bool
         ensures { result ≡ is_late self.now.last_activity self.now.end.keep_alive now }
     {

@@ -33,7 +33,7 @@ pub(crate) fn names_another(client: &Option<Text>, id: &Text) -> bool
 }
 
 impl Endpoint {
-    /// An end without a connection that goes on with a session, its claimed identifiers freed;
+    /// An end without a connection that continues with a session, its claimed identifiers freed;
     /// `known` is its mark.
     pub(crate) fn with_session(
         alloc: Global,

@@ -56,7 +56,7 @@ alike_later : (x : WiredSide) (now : ℕ) → Alike x (record x { clock = now })
 alike_later x now =
     record { end = refl; bytes = λ live. refl; output = refl; reserved = refl; bounds = (refl, refl); accepted = refl; handed = refl; freed = refl }
 
--- the world after the client's clock went on
+-- the world after the client's clock advanced
 abbrev asked : Wired → ℕ → EndState → Wired
 asked w now new = record { client = record w.client { state = written new; clock = now }; server = with_more new.output w.server }
 
@@ -113,7 +113,7 @@ asked_at law limit capacity w v more new quiet t e =
 
 -- ---- The server's `tick`
 
--- the world after the server's clock went on
+-- the world after the server's clock advanced
 abbrev told : Wired → ℕ → Option CloseReason → EndState → Wired
 told w now closed new = record { client = w.client; server = record w.server { state = new; clock = now; wire = left_on closed w.server.wire } }
 

@@ -69,7 +69,7 @@ fits_all limit capacity Client m r spans ps rest h = all_other capacity Client p
 fits_all limit capacity Server m r spans ps rest h =
     all_other capacity Server ps rest m.server m.client (turned capacity m.client m.server (holds limit capacity r.0 r.1 m r.2)) spans h
 
--- ---- the side to which bytes come
+-- ---- the side to which bytes arrive
 
 kept_live : (st : State) (q : List Packet) → is_live st ≡ true → q ≡ kept st q
 kept_live Disconnected q live = cc
@@ -131,7 +131,7 @@ lost limit capacity Server m moves h y run =
     chains.joins limit capacity m (face Server h y) (face Server (moved Server Drops h).half y) moves (By Server Drops ∷ []) run
     (tt, ap (face Server (moved Server Drops h).half) (sym (put_none y)))
 
--- ---- bytes come
+-- ---- bytes arrive
 
 -- The facts after bytes arrived: the complete packets, the queue behind them, and the visible
 -- effect.

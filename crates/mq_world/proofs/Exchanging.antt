@@ -36,7 +36,7 @@ use Rattle.mq_world.proofs.Moving.{same_state}
 use Rattle.mq_world.proofs.Standing.{put_none, side_near, unheard}
 use Rattle.mq_world.proofs.Delivering.{closes_all, deliver}
 
--- ---- nothing is on its way to a side without a connection
+-- ---- nothing is in flight to a side without a connection
 
 abbrev Quiet : Half → Type 0
 Quiet h = h.end.state ≡ Disconnected → h.coming ≡ []

@@ -16,8 +16,8 @@ use Rattle.mq_world.proofs.Lists.{Each, each_append, ids}
 use Rattle.mq_world.proofs.Places.{reach, walk_more, reach_more, at_more, at_grown, get_seam, each_later, among_more, among_last, last_place_at}
 use Rattle.mq_world.proofs.Places.{part_more, part_both, part_front}
 
--- entries: the messages of quality of service 1 that x holds; pubacks: on their way to x;
--- publishes: on their way to y; accepted, handed: by x, and on by y; places_freed: of those that
+-- entries: the messages of quality of service 1 that x holds; pubacks: in flight to x;
+-- publishes: in flight to y; accepted, handed: by x, and on by y; places_freed: of those that
 -- were acknowledged
 pub record First (x y : State) (entries : List (ℕ × Message)) (pubacks : List ℕ) (publishes accepted : List (ℕ × Message)) (handed : List Message)
     (places_freed : List ℕ) : Type 0 where
@@ -119,7 +119,7 @@ accepts {entries = entries} {accepted = accepted} {handed = handed} i m publishe
   all_freed = h.all_freed;
 }
 
--- ---- a PUBLISH comes
+-- ---- a PUBLISH arrives
 
 -- The messages behind some of the accepted ones.
 pub stands : (accepted before after : List (ℕ × Message)) (i : ℕ) (m : Message) → accepted ≡ before ++ (i, m) ∷ after
@@ -183,7 +183,7 @@ takes_publish {x} {entries} {pubacks} {rest} {accepted} {handed} {places_freed} 
           }
     ]
 
--- ---- a PUBACK comes
+-- ---- a PUBACK arrives
 
 -- The acknowledged message is the first stored one.
 pub data Acknowledged (y : State) (entries : List (ℕ × Message)) (i : ℕ) (rest : List ℕ) (publishes accepted : List (ℕ × Message))

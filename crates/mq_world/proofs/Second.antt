@@ -191,7 +191,7 @@ pub split_times : {x y : State} {entries : List (ℕ × Message)} {released : Li
     → times j (ids entries) ≡ times j (ids h.taken) + times j (ids h.waiting)
 split_times h j = ap (λ (q : List (ℕ × Message)). times j (ids q)) h.parts ∙ times_ids j h.taken h.waiting
 
--- a PUBCOMP on its way is for a released identifier
+-- a PUBCOMP in flight is for a released identifier
 pub done_released : {x y : State} {entries : List (ℕ × Message)} {released : List ℕ} {stored : FinSet.FinSet nat_cmp} {pubrecs pubcomps : List ℕ}
     {publishes : List (ℕ × Message)} {pubrels : List ℕ} {accepted handed : List Message}
     (h : Second x y entries released stored pubrecs pubcomps publishes pubrels accepted handed) (j : ℕ) → times j pubcomps ≤ times j released
@@ -248,7 +248,7 @@ accepts {x} {y} {entries} {released} {stored} i m publishes_now h fresh e = reco
     not_stored true n = absurd (n refl)
     not_stored false n = refl
 
--- ---- a PUBLISH comes
+-- ---- a PUBLISH arrives
 
 pub takes_publish : {x : State} {entries : List (ℕ × Message)} {released : List ℕ} {stored : FinSet.FinSet nat_cmp} {pubrecs pubcomps : List ℕ}
     {rest : List (ℕ × Message)} {pubrels : List ℕ} {accepted handed : List Message} (i : ℕ) (m : Message)

@@ -127,7 +127,7 @@ up_server c s = record s {
   coming = resent c.end.book;
 }
 
--- CONNECT came to the server
+-- CONNECT reached the server
 abbrev pub after_connect : Half → Half → Machine
 after_connect c s = after (after (pair c s) Opens) (By Server Arrives)
 

@@ -25,7 +25,7 @@ use Rattle.mq_world.proofs.Worlds.{live_or_not, stands_opened}
 abbrev pub IsFed : Delivery → Type 0
 IsFed d = d.progress.closed ≢ Some reasons.Memory
 
--- the machine, after all came that was on its way to each of these sides
+-- the machine, after all came that was in flight to each of these sides
 abbrev pub turned : List Side → Machine → Machine
 turned [] m = m
 turned (side ∷ sides) m = turned sides (delivered side m)

@@ -234,7 +234,7 @@ delivered_at law limit capacity side w v m count d new s to bytes lost live dead
       ignores = λ off. ignored limit capacity side w v m left d new s (dead off) (none off) e;
     }
 
--- bytes come, and each part of the world is as it says
+-- bytes arrive, and each part of the world is as it says
 pub heard_at : OverBytes → (limit : Bounds) (capacity : ℕ) (side : Side) (w v : Wired) (m : Machine) (count : ℕ) (d : Delivery) (piece : List ℕ)
     (new : EndState) (out : List ℕ) → Stands limit capacity w m
     → d.side ≡ side → d.bytes ≡ take count (near side w).wire → piece ≡ d.bytes

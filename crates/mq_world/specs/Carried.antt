@@ -41,7 +41,7 @@ IsCarried test p = ⊥
 abbrev pub IsEntry : (Message → Bool) → Entry → Type 0
 IsEntry test e = (test e.message ≡ true) × (has_identifier e.message.qos ≡ true) × IsIdentifier e.id
 
--- a side holds only such messages, and only such packets are on their way to it
+-- a side holds only such messages, and only such packets are in flight to it
 pub record CarriesOnly (test : Message → Bool) (h : Half) : Type 0 where
   pub entries : Each (IsEntry test) h.end.book.entries
   pub released : Each IsIdentifier h.end.book.released

@@ -14,7 +14,7 @@ use Rattle.mq_world.specs.declared.side.Side.{Side}
 use Rattle.mq_world.specs.Half.{Accepted, HandedOn, Half, Arrives, Drops}
 use Rattle.mq_world.specs.Machine.{Machine, Move, By, Run, blank_machine}
 
--- A side of the world: its end, its clock in milliseconds, the bytes on their way to it, the oldest
+-- A side of the world: its end, its clock in milliseconds, the bytes in flight to it, the oldest
 -- first (4.6), and the lists of the run.
 pub record WiredSide : Type 0 where
   pub state : EndState

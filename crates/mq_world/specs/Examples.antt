@@ -14,7 +14,7 @@ abbrev pub after_all : Machine → List Move → Machine
 after_all w [] = w
 after_all w (move ∷ moves) = after_all (after w move) moves
 
--- a connection is opened, CONNECT comes, CONNACK comes (3.1, 3.2), and these moves follow
+-- a connection is opened, CONNECT arrives, CONNACK arrives (3.1, 3.2), and these moves follow
 abbrev pub handshake : List Move → List Move
 handshake moves = Opens ∷ By Server Arrives ∷ By Client Arrives ∷ moves
 
@@ -36,7 +36,7 @@ pubrec_lost = handshake (By Client (Publishes 1 word_2) ∷ By Server Arrives �
 abbrev pub puback_lost : List Move
 puback_lost = handshake (By Client (Publishes 1 word_1) ∷ By Server Arrives ∷ By Client Drops ∷ [])
 
--- the server takes CONNECT in, and the client drops before CONNACK comes (3.2)
+-- the server takes CONNECT in, and the client drops before CONNACK arrives (3.2)
 abbrev pub dropped_inside : List Move
 dropped_inside = Opens ∷ By Server Arrives ∷ By Client Drops ∷ []
 
@@ -51,7 +51,7 @@ pub record Examples : Type 0 where
   pub puback_lost_before : (after_all (blank_machine None) puback_lost).server.handed.at_least_once ≡ word_1 ∷ []
   pub puback_lost_after : (settled (after_all (blank_machine None) puback_lost)).server.handed.at_least_once ≡ word_1 ∷ word_1 ∷ []
   -- a drop inside the handshake: the server has a session, the client has none that is established;
-  -- it goes on all the same
+  -- it continues all the same
   pub dropped_inside_runs : Run 100 4 (blank_machine None) dropped_inside (after_all (blank_machine None) dropped_inside)
   pub dropped_inside_server : (after_all (blank_machine None) dropped_inside).server.end.known ≡ true
   pub dropped_inside_client : (after_all (blank_machine None) dropped_inside).client.end.known ≡ false

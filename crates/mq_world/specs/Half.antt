@@ -145,7 +145,7 @@ publication i m h = record {
 pub data Action : Type 0 where
   -- Its user publishes a message, under this identifier if it has one.
   Publishes : (id : ℕ) (message : Message) → Action
-  -- the oldest packet of the queue toward it comes
+  -- the oldest packet of the queue toward it arrives
   Arrives : Action
   -- its connection is lost
   Drops : Action

@@ -24,7 +24,7 @@ abbrev pub first_packet : Connect
 first_packet = record { client_id = 119 ∷ []; clean_session = false; keep_alive = 60; will = None; login = None }
 
 -- A move: a side does something; or a new connection is opened; or the client's program ends, and
--- goes on with the session that it saved (3.1.2.4, 4.1).
+-- continues with the session that it saved (3.1.2.4, 4.1).
 pub data Move : Type 0 where
   By : Side → Action → Move
   Opens : Move

@@ -1,4 +1,4 @@
--- Events that are made up for tests, each from a word of 32 bits and its number.
+-- Events that are generated for tests, each from a word of 32 bits and its number.
 use Rattle.std.specs.Prelude.{ℕ, zero, suc, ◌/◌, ◌%◌, ◌==◌, false, if◌then◌else◌, nat_lt, List, [], ◌∷◌}
 use Rattle.std.specs.Int.{w32, to_be_bytes}
 use Rattle.rand_pcg.specs.Lcg.{Lcg, started, increment_of}

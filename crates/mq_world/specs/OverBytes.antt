@@ -65,12 +65,12 @@ written state = record state { output = []; room = no_bytes state.room }
 abbrev pub SameBounds : EndState → EndState → Type 0
 SameBounds old new = (new.limit ≡ old.limit) × (new.capacity ≡ old.capacity)
 
--- the end of a program that ended, made anew: it goes on with the session that the end without a
+-- the end of a program that ended, made anew: it continues with the session that the end without a
 -- connection had (3.1.2.4, 4.1)
 abbrev pub made_anew : End → End
 made_anew e = resumed e.window (over e).known (over e).book (over e).received (over e).last
 
--- bytes go on their way to a side, behind all others (4.6)
+-- bytes are sent to a side, behind all others (4.6)
 abbrev pub with_more : List ℕ → WiredSide → WiredSide
 with_more b y = record y { wire = y.wire ++ b }
 
@@ -99,7 +99,7 @@ abbrev pub left_on : Option CloseReason → List ℕ → List ℕ
 left_on None left = left
 left_on (Some reason) left = []
 
--- it took in bytes, and these were left behind them
+-- it processed bytes, and these were left behind them
 abbrev pub hearing : List ℕ → EndState → List Happening → List ℕ → Option CloseReason → WiredSide → WiredSide
 hearing left new happenings acknowledged closed x = record x {
   state = written new;
@@ -183,7 +183,7 @@ pub record OverBytes : Type 0 where
       → c.end ≡ over w.client.state.end → SameBounds w.client.state c
       → s.end ≡ over w.server.state.end → SameBounds w.server.state s
       → Follows limit capacity m (By Client Drops ∷ By Server Drops ∷ []) (record { client = cut_off c w.client; server = cut_off s w.server })
-  -- the client's program ends, and goes on with its session
+  -- the client's program ends, and continues with its session
   pub restart : (limit : Bounds) (capacity : ℕ) (w : Wired) (m : Machine) (new : EndState) → Stands limit capacity w m
       → new.end ≡ made_anew w.client.state.end → SameBounds w.client.state new
       → Follows limit capacity m (Restarts ∷ []) (record { client = cut_off new w.client; server = w.server })

@@ -3,7 +3,7 @@ use Rattle.mq_world.specs.declared.pair.Pair.{Pair}
 use Rattle.mq_world.specs.Carries.{Wired}
 use Rattle.mq_world.specs.Listed.{accepted_in, handed_in}
 
--- the sides, each with its end, the bytes on their way to it, and its lists
+-- the sides, each with its end, the bytes in flight to it, and its lists
 abbrev pub wired_of : Pair → Wired
 wired_of p = record {
   client = record {

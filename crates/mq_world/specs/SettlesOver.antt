@@ -44,7 +44,7 @@ pub record SettlesOver : Type 0 where
       → ReceivesAt side (near side w).wire (near side w).state new happenings acknowledged closed → SameBounds (near side w).state new
       → closed ≢ Some reasons.Memory
       → Stands limit capacity (facing side (hearing [] new happenings acknowledged closed (near side w)) (with_more new.output (far side w))) (delivered side m)
-  -- all the bytes on their way to a side without a connection are lost
+  -- all the bytes in flight to a side without a connection are lost
   pub lose_all : (limit : Bounds) (capacity : ℕ) (side : Side) (w : Wired) (m : Machine) → Stands limit capacity w m
       → is_live (near side w).state.end.state ≡ false
       → Stands limit capacity (facing side (record (near side w) { wire = [] }) (far side w)) (delivered side m)

@@ -97,7 +97,7 @@ pub record Ignores (side : Side) (left : List ℕ) (d : Delivery) (old new : Wir
 pub record IsDelivered (limit : Bounds) (capacity : ℕ) (side : Side) (count : ℕ) (d : Delivery) (old new : Wired) : Type 0 where
   pub to : d.side ≡ side
   pub bytes : d.bytes ≡ take count (near side old).wire
-  -- they are no longer on their way, and an end that closes leaves nothing there
+  -- they are no longer in flight, and an end that closes leaves nothing there
   pub left : (near side new).wire ≡ left_on d.progress.closed (drop count (near side old).wire)
   -- Reported messages are delivered, and acknowledged ones freed.
   pub handed : (near side new).handed ≡ handed_with d.progress.happenings (near side old).handed
@@ -199,7 +199,7 @@ Leads limit capacity (e ∷ es) [] old new = ⊥
 
 -- ---- settling
 
--- All bytes that are on their way to each of these sides come, one side after another.
+-- All bytes that are in flight to each of these sides come, one side after another.
 abbrev pub InTurn : Bounds → ℕ → List Side → List Delivery → Wired → Wired → Type 0
 InTurn limit capacity [] [] old new = new ≡ old
 InTurn limit capacity (side ∷ sides) (d ∷ rest) old new =

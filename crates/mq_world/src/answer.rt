@@ -10,7 +10,7 @@ use std::alloc::AllocError;
 /// Bytes that arrived at a side, and their effect.
 #[derive(Debug, Drop)]
 pub struct Delivery {
-    /// The side to which the bytes came.
+    /// The side to which the bytes arrived.
     pub side: Side,
     /// The bytes that came.
     pub bytes: BoxedList<u8>,
@@ -51,7 +51,7 @@ pub enum Answer {
     Delivered(Delivery),
     /// The connection of a side is lost. The flag says whether it was open.
     Dropped(Side, bool),
-    /// The client was dropped, and made anew from its session as it was saved; or memory ran out
+    /// The client was dropped, and made anew from its session as saved; or memory ran out
     /// for that, and the client that was dropped stays. The flag says whether it was open.
     Restarted(bool, Result<(), PublishRefusal>),
     /// The client left, or leaving was refused.
@@ -61,7 +61,7 @@ pub enum Answer {
     /// A side's `tick`: the reason if it closed, or a refusal if an allocation for its output
     /// failed.
     Ticked(Side, Result<Option<CloseReason>, PublishRefusal>),
-    /// A connection was opened, and three times all bytes on their way were delivered.
+    /// A connection was opened, and three times all bytes in flight were delivered.
     Settled(Settling),
 }
 

@@ -11,7 +11,7 @@ pub enum Event {
     /// This many bytes arrive at a side: the oldest of those in flight to it, or all if there are
     /// fewer (4.2).
     Deliver(Side, usize),
-    /// The connection of a side is lost, with all bytes on their way to it (4.2).
+    /// The connection of a side is lost, with all bytes in flight to it (4.2).
     Drop(Side),
     /// The client's program ends and its connection is lost. It continues with its session, which
     /// is saved and loaded (3.1.2.4, 4.1).

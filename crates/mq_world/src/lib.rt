@@ -1,6 +1,5 @@
 //! Two ends that are joined by two wires of bytes, under a list of events, and the promise of every
-//! run. A call that can fail for lack of memory says so in its return type; other calls never
-//! allocate.
+//! run. A call that may allocate says so in its return type; other calls never allocate.
 //!
 //! The definitions are in `specs/`: the machine of two ends and two queues of packets, its moves,
 //! the headline, settling, and the world over bytes that carries such a machine.

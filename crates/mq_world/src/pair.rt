@@ -22,7 +22,7 @@ use mq_end::{BoxedList, ByteQueue, ClientEnd, CloseReason, PublishRefusal, Serve
 use mq_packet::Message;
 use std::alloc::{AllocError, Global};
 
-// The three exchanges after an opening: to each of these sides, in turn, all bytes on their way are
+// The three exchanges after an opening: to each of these sides, in turn, all bytes in flight are
 // delivered.
 const EXCHANGES: [Side; 6] = [
     Side::Server,
@@ -179,7 +179,7 @@ impl Pair {
         }
     }
 
-    // Drops the connection of a side, with all bytes on their way to it.
+    // Drops the connection of a side, with all bytes in flight to it.
     fn lose(&mut self, side: Side) -> Answer
         ensures does { (limit : Bounds) (capacity : ℕ) (m : Machine) → Stands limit capacity (wired_of self.old) m
             → Does limit capacity (Event.Drop side) result (wired_of self.old) (wired_of self.new) }
@@ -404,7 +404,7 @@ fn is_live(state: State) -> bool
     }
 }
 
-// Returns whether bytes came to an end that could not take them in.
+// Returns whether bytes reached an end that could not take them in.
 fn is_lost(live: bool, bytes: &[u8]) -> bool
     ensures { result ≡ (not live && nat_lt 0 (length bytes.now)) }
 {

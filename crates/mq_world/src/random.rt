@@ -1,4 +1,4 @@
-//! Events that are made up for tests.
+//! Events that are generated for tests.
 
 ghost use Rattle.std.specs.Prelude.{◌≡◌, ◌<◌, IfOk};
 ghost use Rattle.mq_world.specs.MadeUp.{made_event, made_message, made_qos, made_side, made_up};

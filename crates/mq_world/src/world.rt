@@ -199,8 +199,8 @@ impl World {
         Ok(answer)
     }
 
-    /// Opens a connection and makes three exchanges, in each of which all bytes on their way to the
-    /// server are delivered, then all on their way to the client (4.4).
+    /// Opens a connection and makes three exchanges, in each of which all bytes in flight to the
+    /// server are delivered, then all in flight to the client (4.4).
     ///
     /// If no end closed for lack of memory, and the capacity is at most the window, both sides are
     /// idle afterwards, and each accepted QoS 1 or 2 message was delivered, QoS 2 exactly once and
@@ -362,7 +362,7 @@ impl World {
         }
     }
 
-    /// Returns the bytes on their way to a side, oldest first.
+    /// Returns the bytes in flight to a side, oldest first.
     pub fn wire(&self, side: Side) -> &[u8]
         ensures { result.now ≡ (near side self.now.wired).wire }
     {
