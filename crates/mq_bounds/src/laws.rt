@@ -9,8 +9,8 @@ use mq_end::{closing_laws, window_laws};
 use mq_packet::encoding_laws;
 
 /// In one `receive`, the pending output and the held bytes grow by at most the incoming bytes, and
-/// by the retransmissions when the end connects (4.4). The output for a packet is no longer than the
-/// packet, and each stored identifier took at least seven bytes (4.3.3). An end that is not
+/// by the retransmissions when the end connects (4.4). The output for a packet is no longer than
+/// the packet, and each stored identifier took at least seven bytes (4.3.3). An end that is not
 /// connected holds at most five bytes and the limit, and owes at most its refusal.
 pub fn bounds_laws()
     ensures { BoundsLaws }

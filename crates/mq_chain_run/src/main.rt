@@ -1,10 +1,10 @@
 //! Runs the broker and the client programs against each other, over sockets of this machine.
 //!
-//! The standard input has rounds, separated by empty lines. A round is the command line of a broker,
-//! and then command lines of programs, which run one after another while the broker serves. In a
-//! line, `PORT` is the port of the broker, `''` is an empty argument, and `xxd -p FILE` prints the
-//! bytes of a file. A line that begins with `#` is a comment. The output of a program is printed
-//! under its line, with its exit status. The output of the broker comes last.
+//! The standard input has rounds, separated by empty lines. A round is the command line of a
+//! broker, and then command lines of programs, which run one after another while the broker serves.
+//! In a line, `PORT` is the port of the broker, `''` is an empty argument, and `xxd -p FILE` prints
+//! the bytes of a file. A line that begins with `#` is a comment. The output of a program is
+//! printed under its line, with its exit status. The output of the broker comes last.
 //!
 //! A round always ends: if a client made no connection, other connections are made in its place.
 #![tactic(auto)]

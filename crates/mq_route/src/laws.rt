@@ -27,8 +27,8 @@ pub fn routing_laws()
     store_laws();
 }
 
-/// The effect of a list of acts on subscriptions, connections and retained messages, by the last act
-/// that matters (3.3.1.3, 3.8.4, 3.10.4).
+/// The effect of a list of acts on subscriptions, connections and retained messages, by the last
+/// act that matters (3.3.1.3, 3.8.4, 3.10.4).
 pub fn history_laws()
     ensures { HistoryLaws }
 {
