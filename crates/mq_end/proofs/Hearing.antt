@@ -175,6 +175,7 @@ shown : (role : Role) (now : ℕ) (piece : List ℕ) (old new : EndState) (t u :
 shown role now piece old new t u closed hs acked shut h none no_id same same_ids same_close = record {
   after = ap (λ (s : EndState). s.end) h.state;
   out = h.out;
+  room = ap (λ (s : EndState). s.room) h.state;
   told = same ∙ h.happenings ∙ ap (λ xs. xs ++ h.reply.happenings) none;
   freed = same_ids ∙ h.acknowledged ∙ ap (λ (xs : List ℕ). xs ++ h.reply.freed) no_id;
   close = same_close ∙ h.close;

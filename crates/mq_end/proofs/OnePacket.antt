@@ -11,10 +11,23 @@ use Rattle.mq_end.specs.declared.progress_builder.ProgressBuilder.{ProgressBuild
 use Rattle.mq_end.specs.End.{Reply, closes}
 use Rattle.mq_end.specs.Server.{server_gets}
 use Rattle.mq_end.specs.State.{EndState, PutsOut}
-use Rattle.mq_end.specs.Receiving.{Gives, Makes, TakesAs, TakesPacket, gets_as, heard_as, heard_one, heard_one_as, held_after}
+use Rattle.mq_end.specs.Receiving.{Gives, Makes, Shows, TakesAs, TakesPacket, gets_as, heard_as, heard_one, heard_one_as, held_after}
 use Rattle.mq_end.proofs.Walking.{Came}
 
--- The visible effect of a reply that was made.
+-- The visible effect of a reply that was made, and of a packet whose reply it is.
+pub shows_one : (r : Reply) (last : ℕ) (old mid new : EndState) (told after : ProgressBuilder) (happenings : List Happening) (acknowledged : List ℕ) (closed : Option CloseReason)
+    → Makes r old mid told after → new ≡ record mid { last_activity = last }
+    → told.happenings.items ≡ [] → told.acknowledged.items ≡ [] → happenings ≡ after.happenings.items → acknowledged ≡ after.acknowledged.items → closed ≡ r.close
+    → Shows r old new happenings acknowledged closed
+shows_one r last old mid new told after happenings acknowledged closed made is no_h no_a is_h is_a is_c = record {
+  after = ap (λ (s : EndState). s.end) is ∙ ap (λ (s : EndState). s.end) made.state;
+  out = subst (PutsOut r.out old.output) (sym (ap (λ (s : EndState). s.output) is)) made.out;
+  room = ap (λ (s : EndState). s.room) is ∙ ap (λ (s : EndState). s.room) made.state;
+  told = is_h ∙ made.happenings ∙ ap (λ (hs : List Happening). hs ++ r.happenings) no_h;
+  freed = is_a ∙ made.acknowledged ∙ ap (λ (is : List ℕ). is ++ r.freed) no_a;
+  close = is_c;
+}
+
 pub takes_one : (role : Role) (now : ℕ) (p : Packet) (old mid new : EndState) (told after : ProgressBuilder) (r : Reply) (happenings : List Happening) (acknowledged : List ℕ) (closed : Option CloseReason)
     → (r ≡ gets_as role p old.end) ⊎ (r ≡ closes reasons.Memory old.end) → Makes r old mid told after → new ≡ record mid { last_activity = heard_one_as role r.close now old.last_activity }
     → told.happenings.items ≡ [] → told.acknowledged.items ≡ [] → happenings ≡ after.happenings.items → acknowledged ≡ after.acknowledged.items → closed ≡ r.close
@@ -24,13 +37,7 @@ takes_one role now p old mid new told after r happenings acknowledged closed doe
     record {
       reply = r;
       does = does;
-      shows = record {
-        after = ap (λ (s : EndState). s.end) last ∙ ap (λ (s : EndState). s.end) made.state;
-        out = subst (PutsOut r.out old.output) out_same made.out;
-        told = is_h ∙ made.happenings ∙ ap (λ (hs : List Happening). hs ++ r.happenings) no_h;
-        freed = is_a ∙ made.acknowledged ∙ ap (λ (is : List ℕ). is ++ r.freed) no_a;
-        close = is_c;
-      };
+      shows = shows_one r (heard_one_as role r.close now old.last_activity) old mid new told after happenings acknowledged closed made last no_h no_a is_h is_a is_c;
       state =
           last
           ∙ ap (λ (s : EndState). record s { last_activity = heard_one_as role r.close now old.last_activity }) made.state

@@ -1,6 +1,9 @@
 -- Room for one more item.
 use Rattle.std.proofs.Common.{◌≡◌, ℕ, ◌+◌, ◌-◌, ◌==◌, ◌<◌, ◌≤◌, Bool, true, false, true≢false, cond, List, [], ◌∷◌, ◌++◌, length, Option, Some, None, refl, sym, ap, subst, ◌∙◌, arith}
 use Rattle.std.specs.Prelude.{unwrap_or}
+use Rattle.std.specs.Iterator.{YieldsFirst}
+use Rattle.std.specs.Iterator.Runs.{YieldsInOrder}
+use Rattle.std.proofs.iter.runs.Sources.{from_front, as_is}
 use Rattle.mq_end.specs.SmallList.{room_of}
 
 room_at : (none : Bool) (n more capacity : ℕ) → 0 < more → n + more ≤ capacity → 0 < (cond none 1 (capacity - n))
@@ -33,3 +36,8 @@ pub moved : {T : Type 0} (before after : Option (List T)) (kept reserved more on
 moved before after [] reserved more one list item is was alone none empty same now =
     ap (λ o. unwrap_or o [] ++ more) none ∙ now ∙ ap (λ xs. xs ++ item ∷ []) same ∙ sym (is ∙ ap (λ o. unwrap_or o [] ++ []) was ∙ ap (λ xs. xs ++ []) alone)
 moved before after (x ∷ xs) reserved more one list item is was alone none empty same now = absurd (omega arith)
+
+-- An iterator that is seen as the list of what is left gives that list.
+module _ {T : Type 0} where
+  pub rest_runs : YieldsInOrder (YieldsFirst {A = T} (λ rest. rest)) (λ rest. rest)
+  rest_runs p s = as_is p p.from (from_front (YieldsFirst {A = T} (λ rest. rest)) (λ x. x) (λ rest. rest) (λ s t h. ap length h.0) (λ s x t h. h) p s)

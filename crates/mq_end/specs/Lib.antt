@@ -6,6 +6,7 @@ pub mod Both
 pub mod Client
 pub mod Server
 pub mod KeepAlive
+pub mod Deadline
 pub mod Waiting
 pub mod State
 pub mod Ready

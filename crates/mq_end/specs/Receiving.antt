@@ -43,10 +43,11 @@ pub record Receives (limit : Bounds) (gets : Packet → End → Reply) (faulted 
   pub ending : Ending limit faulted (one_by_one gets packets e) rest r held
 
 -- A reply as the user of an end sees it: the end after it, its output, its events, the acknowledged
--- identifiers, and the reason if it closed.
+-- identifiers, and the reason if it closed. The reserved room stays.
 pub record Shows (r : Reply) (old new : EndState) (happenings : List Happening) (acknowledged : List ℕ) (closed : Option CloseReason) : Type 0 where
   pub after : new.end ≡ r.end
   pub out : PutsOut r.out old.output new.output
+  pub room : new.room ≡ old.room
   pub told : happenings ≡ r.happenings
   pub freed : acknowledged ≡ r.freed
   pub close : closed ≡ r.close

@@ -10,6 +10,7 @@ ghost use Rattle.mq_end.specs.State.{PutsOut, bytes_less, no_bytes, no_room};
 ghost use Rattle.mq_end.specs.Receiving.{Acts, ClientReceives, ClientTakes};
 ghost use Rattle.mq_end.specs.Publishing.{Accepts, connect_of};
 ghost use Rattle.mq_end.specs.KeepAlive.{pings};
+ghost use Rattle.mq_end.specs.Deadline.{IsDeadline};
 ghost use Rattle.mq_end.specs.Requests.{Requests, Ticks};
 ghost use Rattle.mq_end.specs.Laws.{KeepsWindow};
 ghost use Rattle.mq_end.specs.Resuming.{FitsWithin, NamesAnother, kept_session};
@@ -177,6 +178,7 @@ impl ClientEnd {
         ensures output { OnOk result (PutsOut (packets.Connect (connect_of self.old.config clean) ∷ []) [] self.new.link.output) }
         ensures held { OnOk result (self.new.link.held ≡ []) }
         ensures last_activity { OnOk result (self.new.link.last_activity ≡ now) }
+        ensures room { OnOk result (self.new.link.room ≡ no_bytes self.old.link.room) }
         ensures limit { self.new.link.limit ≡ self.old.link.limit }
         ensures capacity { self.new.link.capacity ≡ self.old.link.capacity }
         ensures config { self.new.config ≡ self.old.config }
@@ -297,6 +299,14 @@ impl ClientEnd {
     {
         self.link.tick_client(now)?;
         Ok(None)
+    }
+
+    /// The time of the next PINGREQ: before it [`tick`](ClientEnd::tick) does nothing. `None` if
+    /// none is due before the connection ends (3.1.2.10). Ask again after each other call.
+    pub fn next_deadline(&self) -> Option<u64>
+        ensures { IsDeadline (λ now. pings self.now.link.last_activity now self.now.link.end) result }
+    {
+        self.link.ping_deadline()
     }
 
     /// Reports that the connection is lost (4.2). Discards pending output.

@@ -8,6 +8,7 @@
 mod boxed_list;
 mod client;
 mod config;
+mod deadline;
 mod endpoint;
 mod first_packet;
 mod flows;
@@ -49,5 +50,5 @@ pub use crate::queue::ByteQueue;
 pub use crate::reason::CloseReason;
 pub use crate::refusal::PublishRefusal;
 pub use crate::server::ServerEnd;
-pub use crate::small_list::SmallList;
+pub use crate::small_list::{SmallList, SmallListIntoIter};
 pub use crate::state::State;

@@ -1,6 +1,6 @@
 //! Packets, one after another (4.6).
 
-ghost use Rattle.std.specs.Prelude.{◌≡◌, ◌⊎◌, true, false, IsOk, IfOk, OnOk, OnErr};
+ghost use Rattle.std.specs.Prelude.{◌≡◌, ◌<◌, ◌⊎◌, true, false, IsOk, IfOk, OnOk, OnErr};
 ghost use Rattle.mq_end.specs.declared.reason.CloseReason.TheVariants as reasons;
 ghost use Rattle.mq_end.specs.declared.state.State.TheVariants as states;
 ghost use Rattle.mq_end.specs.End.{Reply, closes, is_up};
@@ -111,6 +111,8 @@ impl Endpoint {
     /// Processes a packet. On `Err` nothing changes.
     fn take_one(&mut self, role: Role, packet: Packet) -> Result<PacketOutcome, AllocError>
         ensures ok { IfOk result (λ outcome. Gives (gets_as role packet self.old.end) outcome self.old self.new) }
+        ensures within { role ≡ Role.Server → is_up self.old.end.state ≡ true → is_exactly_once packet ≡ false
+            → FitsRoom (server_gets packet self.old.end).out self.old → IsOk result }
         ensures err { OnErr result (self.new ≡ self.old) }
     {
         match role {
@@ -130,6 +132,9 @@ impl Endpoint {
     ) -> Result<Option<CloseReason>, AllocError>
         ensures closed { IfOk result (λ closed. closed ≡ (gets_as role packet self.old.end).close) }
         ensures ok { OnOk result (Makes (gets_as role packet self.old.end) self.old self.new told.old told.new) }
+        ensures within { role ≡ Role.Server → is_up self.old.end.state ≡ true → is_exactly_once packet ≡ false
+            → FitsRoom (server_gets packet self.old.end).out self.old
+            → 0 < told.old.happenings.room → 0 < told.old.acknowledged.room → IsOk result }
         ensures err { OnErr result (Stays self.old self.new told.old told.new) }
     {
         told.reserve()?;
@@ -145,8 +150,13 @@ impl Endpoint {
         packet: Packet,
         told: &mut ProgressBuilder,
     ) -> Option<CloseReason>
-        ensures { (r : Reply) × ((r ≡ gets_as role packet self.old.end) ⊎ (r ≡ closes reasons.Memory self.old.end))
+        ensures made { (r : Reply) × ((r ≡ gets_as role packet self.old.end) ⊎ (r ≡ closes reasons.Memory self.old.end))
             × (result ≡ r.close) × Makes r self.old self.new told.old told.new }
+        ensures within { role ≡ Role.Server → is_up self.old.end.state ≡ true → is_exactly_once packet ≡ false
+            → FitsRoom (server_gets packet self.old.end).out self.old
+            → 0 < told.old.happenings.room → 0 < told.old.acknowledged.room
+            → (result ≡ (server_gets packet self.old.end).close)
+            × Makes (server_gets packet self.old.end) self.old self.new told.old told.new }
     {
         match self.take(role, packet, told) {
             Ok(closed) => closed,

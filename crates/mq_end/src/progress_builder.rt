@@ -1,6 +1,6 @@
 //! Collects the results of packets.
 
-ghost use Rattle.std.specs.Prelude.{◌≡◌, ◌<◌, ◌++◌, [], option_to_list, OnOk};
+ghost use Rattle.std.specs.Prelude.{◌≡◌, ◌<◌, ◌++◌, [], option_to_list, IsOk, OnOk};
 
 use crate::happening::Happening;
 use crate::packet_outcome::PacketOutcome;
@@ -22,6 +22,8 @@ impl ProgressBuilder {
     pub(crate) fn new(alloc: Global) -> ProgressBuilder
         ensures happenings { result.happenings.items ≡ [] }
         ensures acknowledged { result.acknowledged.items ≡ [] }
+        ensures happening_room { 0 < result.happenings.room }
+        ensures acknowledged_room { 0 < result.acknowledged.room }
     {
         ProgressBuilder {
             happenings: SmallListBuilder::new(alloc),
@@ -35,6 +37,7 @@ impl ProgressBuilder {
         ensures acknowledged { self.new.acknowledged.items ≡ self.old.acknowledged.items }
         ensures happening_room { OnOk result (0 < self.new.happenings.room) }
         ensures acknowledged_room { OnOk result (0 < self.new.acknowledged.room) }
+        ensures within { 0 < self.old.happenings.room → 0 < self.old.acknowledged.room → IsOk result }
     {
         self.happenings.reserve()?;
         self.acknowledged.reserve()

@@ -11,7 +11,7 @@ ghost use Rattle.mq_end.specs.End.{Reply, is_live, is_up};
 ghost use Rattle.mq_end.specs.Laws.{KeepsWindow};
 ghost use Rattle.mq_end.specs.Ready.{AreEncodable, FitsRoom, is_exactly_once};
 ghost use Rattle.mq_end.specs.Server.{server_gets};
-ghost use Rattle.mq_end.specs.Receiving.{Acts, HeardAs, Hears, IsBreak, ReceivesAs, TakesAs, TakesNext, TakesPacket, heard_as, is_answered, no_outcome, outcome_of};
+ghost use Rattle.mq_end.specs.Receiving.{Acts, HeardAs, Hears, IsBreak, ReceivesAs, Shows, TakesAs, TakesNext, TakesPacket, heard_as, is_answered, no_outcome, outcome_of};
 
 use crate::endpoint::Endpoint;
 use crate::packet_outcome::PacketOutcome;
@@ -232,6 +232,9 @@ impl Endpoint {
         ensures closed { is_live self.old.end.state ≡ false → self.new ≡ self.old }
         ensures nothing { is_live self.old.end.state ≡ false
             → (result.happenings ≡ []) × (result.acknowledged ≡ []) × (result.closed ≡ None) }
+        ensures within { role ≡ Role.Server → is_up self.old.end.state ≡ true → is_exactly_once packet ≡ false
+            → FitsRoom (server_gets packet self.old.end).out self.old
+            → Shows (server_gets packet self.old.end) self.old self.new result.happenings result.acknowledged result.closed }
     {
         let mut told = ProgressBuilder::new(self.alloc);
         if self.state == State::Disconnected {
@@ -242,7 +245,7 @@ impl Endpoint {
         told.into_progress(closed)
     }
 
-    /// Processes a complete borrowed packet like `on_packet`; allocates its own copy if necessary.
+    /// Processes a complete borrowed packet like `on_packet`. An acknowledgement is not copied.
     pub(crate) fn on_view(&mut self, role: Role, now: u64, view: &PacketView<'_>) -> Progress
         ensures open { is_live self.old.end.state ≡ true → TakesAs role now (packet_of view.now) self.old self.new
             result.happenings result.acknowledged result.closed }
@@ -250,17 +253,13 @@ impl Endpoint {
         ensures nothing { is_live self.old.end.state ≡ false
             → (result.happenings ≡ []) × (result.acknowledged ≡ []) × (result.closed ≡ None) }
     {
-        let told = ProgressBuilder::new(self.alloc);
+        let mut told = ProgressBuilder::new(self.alloc);
         if self.state == State::Disconnected {
             return told.into_progress(None);
         }
-        match view.owned(self.alloc) {
-            Ok(packet) => self.on_packet(role, now, packet),
-            Err(_) => {
-                let reason = self.close(CloseReason::Memory);
-                told.into_progress(Some(reason))
-            }
-        }
+        let closed = self.take_lent_or_close(role, view, &mut told);
+        self.hear(role, now, closed.is_none());
+        told.into_progress(closed)
     }
 
     /// Processes received bytes. Ignores them without a connection.

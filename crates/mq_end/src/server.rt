@@ -7,12 +7,13 @@ ghost use Rattle.mq_decode.specs.Views.{packet_of};
 ghost use Rattle.mq_flow.specs.Sender.{same_qos};
 ghost use Rattle.mq_end.specs.End.{blank_end, is_live, is_up, over, resumed};
 ghost use Rattle.mq_end.specs.Server.{would_hand, opens, ready_refusal, server_gets, server_publish_refusal, subacks, suback_refusal, unsubacks, unsuback_refusal};
-ghost use Rattle.mq_end.specs.Receiving.{Acts, HearsAt, ServerReceives, TakesOne, TakesPacket, no_outcome, outcome_of};
+ghost use Rattle.mq_end.specs.Receiving.{Acts, HearsAt, ServerReceives, Shows, TakesOne, TakesPacket, no_outcome, outcome_of};
 ghost use Rattle.mq_end.specs.Publishing.{Accepts};
 ghost use Rattle.mq_end.specs.Ready.{CanRise, FitsRoom, HasRise, HasRoom, is_exactly_once, packets_size, whole_size};
 ghost use Rattle.mq_end.specs.Sizes.{suback_size, unsuback_size};
 ghost use Rattle.mq_end.specs.State.{bytes_less, no_bytes, no_room};
 ghost use Rattle.mq_end.specs.KeepAlive.{server_ticks};
+ghost use Rattle.mq_end.specs.Deadline.{IsDeadline, is_overdue};
 ghost use Rattle.mq_end.specs.Laws.{KeepsWindow};
 ghost use Rattle.mq_end.specs.Resuming.{FitsWithin};
 
@@ -133,13 +134,17 @@ impl ServerEnd {
 
     /// Processes a complete packet from the client, received at time `now`; `receive` decodes
     /// packets and does this with each. Ignores it without a connection. Closes the end if an
-    /// allocation fails.
+    /// allocation fails; within the reserved room of a connected end that happens only for the
+    /// stored identifier of a QoS 2 message (4.3.3).
     pub fn on_packet(&mut self, now: u64, packet: Packet) -> Progress
         ensures open { is_live self.old.end.state ≡ true → TakesOne now packet self.old self.new
             result.happenings result.acknowledged result.closed }
         ensures closed { is_live self.old.end.state ≡ false → self.new ≡ self.old }
         ensures nothing { is_live self.old.end.state ≡ false
             → (result.happenings ≡ []) × (result.acknowledged ≡ []) × (result.closed ≡ None) }
+        ensures within { is_up self.old.end.state ≡ true → is_exactly_once packet ≡ false
+            → FitsRoom (server_gets packet self.old.end).out self.old
+            → Shows (server_gets packet self.old.end) self.old self.new result.happenings result.acknowledged result.closed }
         ensures kept { is_up self.old.end.state ≡ true → (ms : List Message) (more : ℕ)
             → HasRoom ms (packets_size (server_gets packet self.old.end).out + more) self.old → HasRoom ms more self.new }
     {
@@ -207,8 +212,9 @@ impl ServerEnd {
 
     /// Reserves room to connect by this CONNECT on a new connection: for CONNACK and all
     /// retransmissions, then for publishing `messages` and for `more` bytes (3.2, 4.4). Afterwards
-    /// `opened` and `take_packet` of the CONNECT don't fail. On `Err` no room that was reserved
-    /// earlier is lost.
+    /// `opened` and `take_packet` of the CONNECT don't fail. Fails if an allocation fails, if the
+    /// bytes in all exceed `usize`, or if a stored message is too large to send. On `Err` no room
+    /// that was reserved earlier is lost.
     pub fn reserve_connect(
         &mut self,
         connect: &Connect,
@@ -250,8 +256,8 @@ impl ServerEnd {
 
     /// Reserves room for publishing `messages` and for sending `more` other bytes, which then can't
     /// fail for lack of memory. Errors: the first refusal of one of the messages, `Full` if fewer
-    /// identifiers are free than they need, `Memory` if an allocation fails. No room that was
-    /// reserved earlier is lost.
+    /// identifiers are free than they need, `Memory` if an allocation fails or the bytes in all
+    /// exceed `usize`. No room that was reserved earlier is lost.
     pub fn ready(&mut self, messages: &[Message], more: usize) -> Result<(), PublishRefusal>
         ensures refused { IfSome (ready_refusal self.old.limit.most self.old.capacity messages.now self.old.end)
             (λ why. result ≡ Err why) }
@@ -325,6 +331,14 @@ impl ServerEnd {
         ensures state { Acts (server_ticks self.old.last_activity now self.old.end) self.old self.new }
     {
         self.link.tick_server(now)
+    }
+
+    /// The time from which on [`tick`](ServerEnd::tick) closes the end; before it `tick` does
+    /// nothing. `None` if it closes the end at no time (3.1.2.10). Ask again after each other call.
+    pub fn next_deadline(&self) -> Option<u64>
+        ensures { IsDeadline (λ now. is_overdue self.now.last_activity now self.now.end) result }
+    {
+        self.link.close_deadline()
     }
 
     /// Reports that the connection is lost (4.2). Discards pending output.

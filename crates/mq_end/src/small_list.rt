@@ -1,10 +1,13 @@
 //! Lists that are short for the most part: one item needs no memory of its own.
 
-ghost use Rattle.std.specs.Prelude.{◌≡◌, ◌<◌, ◌∷◌, ◌++◌, [], length, OnOk, OnErr, IfOk};
+ghost use Rattle.std.specs.Prelude.{◌≡◌, ◌<◌, ◌∷◌, ◌++◌, [], length, IsOk, OnOk, OnErr, IfOk};
 ghost use Rattle.std.specs.List.{AllZip};
+ghost use Rattle.std.specs.Iterator.{YieldsFirst, item_count};
+ghost use Rattle.std.specs.Iterator.Runs.{YieldsInOrder};
 
 use std::alloc::{AllocError, Global};
 use std::marker::Model;
+use std::vec;
 
 /// Collects items: a single one in `first`, several in `more`.
 #[derive(Debug, Drop)]
@@ -38,7 +41,8 @@ impl<T> Model for SmallListBuilder<T> {
 impl<T: Drop> SmallListBuilder<T> {
     /// No items.
     pub(crate) fn new(alloc: Global) -> SmallListBuilder<T>
-        ensures { result.items ≡ [] }
+        ensures items { result.items ≡ [] }
+        ensures room { 0 < result.room }
     {
         SmallListBuilder {
             first: None,
@@ -51,6 +55,7 @@ impl<T: Drop> SmallListBuilder<T> {
     pub(crate) fn reserve(&mut self) -> Result<(), AllocError>
         ensures items { self.new.items ≡ self.old.items }
         ensures room { OnOk result (0 < self.new.room) }
+        ensures within { 0 < self.old.room → IsOk result }
     {
         if self.first.is_some() {
             self.more.reserve(2)?;
@@ -151,6 +156,54 @@ impl<T: Drop> SmallList<T> {
     {
         let SmallList { gathered } = self;
         gathered.into_vec()
+    }
+}
+
+impl<T: Drop> IntoIterator for SmallList<T> {
+    type Item = T;
+
+    type IntoIter = SmallListIntoIter<T>;
+
+    ghost into_iter_gives = { λ list it. (it ≡ list) × YieldsInOrder (YieldsFirst {A = T} (λ rest. rest)) (λ rest. rest) };
+
+    fn into_iter(self) -> SmallListIntoIter<T> {
+        let SmallList { gathered } = self;
+        let SmallListBuilder { first, more } = gathered;
+        SmallListIntoIter {
+            first,
+            more: more.into_iter(),
+        }
+    }
+}
+
+/// The items of a [`SmallList`] by value, in order. Contracts see those that are left.
+#[derive(Drop)]
+pub struct SmallListIntoIter<T> {
+    first: Option<[T; 1]>,
+    more: vec::IntoIter<T, Global>,
+}
+
+impl<T> Model for SmallListIntoIter<T> {
+    ghost use Rattle.std.specs.Prelude.{◌++◌, List, [], unwrap_or};
+    ghost use Rattle.std.specs.Vec.Iter.{into_iter_items};
+
+    ghost Value = { List T };
+
+    ghost view = { λ it. unwrap_or it.first [] ++ into_iter_items it.more };
+}
+
+impl<T: Drop> Iterator for SmallListIntoIter<T> {
+    type Item = T;
+
+    ghost next_gives = { YieldsFirst (λ rest. rest) };
+
+    ghost remaining = { item_count (λ rest. rest) };
+
+    fn next(&mut self) -> Option<T> {
+        match self.first.take() {
+            Some(one) => Some(only(one)),
+            None => self.more.next(),
+        }
     }
 }
 

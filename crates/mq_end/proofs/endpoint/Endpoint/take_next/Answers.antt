@@ -17,6 +17,6 @@ returns-in-Ok-Some-clause-packet c =
     let within : n ≤ length piece = rw c.in-Ok-Some.field-0-is at c.in-Ok-Some.ensures.within in
     let reads : ReadsWithin was.limit p (was.held ++ take n piece) = rw c.in-Ok-Some.field-0-is at c.in-Ok-Some.ensures.packet in
     let empty : mid.held ≡ [] = rw c.in-Ok-Some.field-0-is at c.in-Ok-Some.ensures.taken in
-    let x = came_next c.args.role piece n c.take_or_close.result was mid c.take_or_close.new.self told c.take_or_close.new.told p within reads c.next_packet.ensures.state empty c.take_or_close.ensures in
+    let x = came_next c.args.role piece n c.take_or_close.result was mid c.take_or_close.new.self told c.take_or_close.new.told p within reads c.next_packet.ensures.state empty c.take_or_close.ensures.made in
     subst (λ (s : EndState). TakesNext c.args.role piece n c.take_or_close.result s c.take_or_close.new.self c.args.told.now c.take_or_close.new.told) c.in_default.ensures.none
     (subst (λ (t : ProgressBuilder). TakesNext c.args.role piece n c.take_or_close.result was c.take_or_close.new.self t c.take_or_close.new.told) c.in_default.ensures.told x)
