@@ -31,3 +31,4 @@ pub mod Clocks
 pub mod Settled
 pub mod Fitting
 pub mod Accounts
+pub mod Growing

@@ -308,6 +308,7 @@ opened_at law limit capacity w v o c s cd sd fine ce co ch cb se sh sb cm sm e =
   client_dropped = cd;
   server_dropped = sd;
   to_client = ap (λ (u : Wired). u.client.wire) e;
+  out = λ said. subst (λ (u : Wired). PutsOut (packets.Connect first_packet ∷ []) [] u.server.wire) (sym e) co;
   begins = λ said. subst (λ (u : Wired). BeginsNow w u) (sym e) (record { client_clock = refl; server_clock = refl; client_moment = cm; server_moment = sm });
   opens = λ said n t. subst (λ (u : Wired). Follows limit capacity n (Opens ∷ []) u) (sym e) (law.opened limit capacity w n c s t ce co ch cb se sh sb);
   refused = λ said. absurd (true_not o.refused said fine);
@@ -322,6 +323,7 @@ refused_open law limit capacity w v o c s cd sd failed ce cb se sb cm sm e = rec
   client_dropped = cd;
   server_dropped = sd;
   to_client = ap (λ (u : Wired). u.client.wire) e;
+  out = λ said. absurd (true_not o.refused failed said);
   begins = λ said. absurd (true_not o.refused failed said);
   opens = λ said. absurd (true_not o.refused failed said);
   refused = λ _. (

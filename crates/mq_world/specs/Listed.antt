@@ -1,7 +1,8 @@
 -- The lists of a side as contracts see them.
-use Rattle.std.specs.Prelude.{ℕ, length}
+use Rattle.std.specs.Prelude.{ℕ, ◌≡◌, List, ◌++◌, length}
 use Rattle.mq_topic.specs.declared.qos.Qos.{Qos}
 use Rattle.mq_topic.specs.declared.qos.Qos.TheVariants.{Q0, Q1, Q2}
+use Rattle.mq_packet.specs.declared.message.Message.{Message}
 use Rattle.mq_world.specs.declared.account.Account.{Account}
 use Rattle.mq_world.specs.Half.{Accepted, HandedOn}
 
@@ -25,3 +26,9 @@ abbrev pub handed_count : Qos → HandedOn → ℕ
 handed_count Q0 h = length h.at_most_once
 handed_count Q1 h = length h.at_least_once
 handed_count Q2 h = length h.exactly_once
+
+-- Each list of accepted messages is as it was, perhaps with more messages behind.
+pub record AcceptedGrows (old new : Accepted) : Type 0 where
+  pub at_most_once : (more : List Message) × (new.at_most_once ≡ old.at_most_once ++ more)
+  pub at_least_once : (more : List (ℕ × Message)) × (new.at_least_once ≡ old.at_least_once ++ more)
+  pub exactly_once : (more : List Message) × (new.exactly_once ≡ old.exactly_once ++ more)

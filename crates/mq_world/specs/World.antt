@@ -2,6 +2,7 @@
 use Rattle.std.specs.Prelude.{ℕ, ◌≡◌, ◌≢◌, ◌↔◌, Bool, true, false, not, ◌&&◌, Option, None, Some, Ok, Err, List, [], ◌∷◌, ◌++◌, length, take, drop}
 use Rattle.std.specs.Prelude.{nat_lt, All, IsTrue}
 use Rattle.mq_packet.specs.declared.message.Message.{Message}
+use Rattle.mq_packet.specs.declared.packet.Packet.TheVariants as packets
 use Rattle.mq_decode.specs.Limits.{Bounds}
 use Rattle.mq_end.specs.declared.reason.CloseReason.{CloseReason}
 use Rattle.mq_end.specs.declared.reason.CloseReason.TheVariants as reasons
@@ -23,7 +24,7 @@ use Rattle.mq_world.specs.declared.answer.Delivery.{Delivery}
 use Rattle.mq_world.specs.declared.answer.Opening.{Opening}
 use Rattle.mq_world.specs.declared.answer.Settling.{Settling}
 use Rattle.mq_world.specs.Half.{Publishes, Drops, Leaves, refusal, freed_with}
-use Rattle.mq_world.specs.Machine.{Machine, Move, By, Opens, Restarts, blank_machine}
+use Rattle.mq_world.specs.Machine.{Machine, Move, By, Opens, Restarts, blank_machine, first_packet}
 use Rattle.mq_world.specs.Carries.{Wired, IsSpanned}
 use Rattle.mq_world.specs.OverBytes.{Stands, Follows, Delivers, ReceivesAt, SameBounds, near, far, facing, with_more, hearing, handed_with, left_on}
 use Rattle.mq_world.specs.SettlesOver.{HoldsNothing}
@@ -131,12 +132,13 @@ pub record IsNotRestarted (limit : Bounds) (capacity : ℕ) (was_open : Bool) (w
   pub reason : why ≡ refusals.Memory
   pub lost : IsLost limit capacity Client was_open old new
 
--- A connection is opened (3.1), and earlier ones are lost. If an allocation for CONNECT fails, both
--- ends are closed.
+-- A connection is opened (3.1), and earlier ones are lost: just the encoding of its CONNECT is in
+-- flight. If an allocation for CONNECT fails, both ends are closed.
 pub record IsOpened (limit : Bounds) (capacity : ℕ) (o : Opening) (old new : Wired) : Type 0 where
   pub client_dropped : o.client_dropped ≡ is_live old.client.state.end.state
   pub server_dropped : o.server_dropped ≡ is_live old.server.state.end.state
   pub to_client : new.client.wire ≡ []
+  pub out : o.refused ≡ false → PutsOut (packets.Connect first_packet ∷ []) [] new.server.wire
   pub begins : o.refused ≡ false → BeginsNow old new
   pub opens : o.refused ≡ false → Moves limit capacity old (Opens ∷ []) new
   pub refused : o.refused ≡ true → (new.server.wire ≡ []) × SameTimes old new × Moves limit capacity old (By Client Drops ∷ By Server Drops ∷ []) new

@@ -1,6 +1,6 @@
 //! The messages that a side accepted and delivered.
 
-ghost use Rattle.std.specs.Prelude.{◌≡◌, ◌∷◌, ℕ, [], OnOk, nat_eq};
+ghost use Rattle.std.specs.Prelude.{◌≡◌, ◌∷◌, ℕ, [], OnOk, OnErr, nat_eq};
 ghost use Rattle.std.specs.HashMap.{get};
 ghost use Rattle.std.specs.Option.{unwrap_or};
 ghost use Rattle.mq_end.specs.Both.{answered_identifier};
@@ -90,6 +90,7 @@ impl Account {
             → accepted_in self.new ≡ accepted_with message.qos i message (accepted_in self.old)) }
         ensures handed { OnOk result (handed_in self.new ≡ handed_in self.old) }
         ensures freed { OnOk result (self.new.freed.items ≡ self.old.freed.items) }
+        ensures err { OnErr result (accepted_in self.new ≡ accepted_in self.old) }
     {
         match (message.qos, id) {
             (Qos::Q0, _) => self.accepted_at_most_once.push(message)?,
@@ -108,7 +109,7 @@ impl Account {
     // Records that the side delivered `message`.
     fn hand(&mut self, message: Message) -> Result<(), AllocError>
         ensures handed { OnOk result (handed_in self.new ≡ handed_with (Happening.Handed message ∷ []) (handed_in self.old)) }
-        ensures accepted { OnOk result (accepted_in self.new ≡ accepted_in self.old) }
+        ensures accepted { accepted_in self.new ≡ accepted_in self.old }
         ensures freed { OnOk result (self.new.freed.items ≡ self.old.freed.items) }
     {
         match message.qos {
@@ -122,7 +123,7 @@ impl Account {
     // Records the messages that `happenings` deliver.
     fn hand_all(&mut self, happenings: &[Happening]) -> Result<(), AllocError>
         ensures handed { OnOk result (handed_in self.new ≡ handed_with happenings.now (handed_in self.old)) }
-        ensures accepted { OnOk result (accepted_in self.new ≡ accepted_in self.old) }
+        ensures accepted { accepted_in self.new ≡ accepted_in self.old }
         ensures freed { OnOk result (self.new.freed.items ≡ self.old.freed.items) }
     {
         for happening in happenings {
@@ -137,7 +138,7 @@ impl Account {
     fn free_all(&mut self, acknowledged: &[PacketId]) -> Result<(), AllocError>
         ensures freed { OnOk result (self.new.freed.items
             ≡ freed_with self.old.accepted_at_least_once.items acknowledged.now self.old.freed.items) }
-        ensures accepted { OnOk result (accepted_in self.new ≡ accepted_in self.old) }
+        ensures accepted { accepted_in self.new ≡ accepted_in self.old }
         ensures handed { OnOk result (handed_in self.new ≡ handed_in self.old) }
     {
         for id in acknowledged {
@@ -152,7 +153,7 @@ impl Account {
         ensures handed { OnOk result (handed_in self.new ≡ handed_with progress.now.happenings (handed_in self.old)) }
         ensures freed { OnOk result (self.new.freed.items
             ≡ freed_with (accepted_in self.old).at_least_once progress.now.acknowledged self.old.freed.items) }
-        ensures accepted { OnOk result (accepted_in self.new ≡ accepted_in self.old) }
+        ensures accepted { accepted_in self.new ≡ accepted_in self.old }
     {
         self.hand_all(progress.happenings.as_slice())?;
         self.free_all(progress.acknowledged.as_slice())

@@ -5,6 +5,7 @@ ghost use Rattle.mq_decode.specs.Limits.{Bounds};
 ghost use Rattle.mq_end.specs.End.{is_live};
 ghost use Rattle.mq_end.specs.Publishing.{connect_of};
 ghost use Rattle.mq_world.specs.Carries.{IsSpanned};
+ghost use Rattle.mq_world.specs.Listed.{AcceptedGrows, accepted_in};
 ghost use Rattle.mq_world.specs.Machine.{Machine, first_packet};
 ghost use Rattle.mq_world.specs.OverBytes.{Stands, near, left_on};
 ghost use Rattle.mq_world.specs.Pairs.{wired_of};
@@ -47,11 +48,14 @@ pub(crate) struct Pair {
 
 impl Pair {
     // Publishes a message at the client.
+    #[tactic(auto, using(crate::proofs::Growing::grows_none))]
     fn publish_at_client(&mut self, message: &Message) -> Result<Answer, AllocError>
         ensures does { IfOk result (λ answer. (limit : Bounds) (capacity : ℕ) (m : Machine) → Stands limit capacity (wired_of self.old) m
             → Does limit capacity (Event.Publish Side.Client message.now) answer (wired_of self.old) (wired_of self.new)) }
         ensures config { self.new.client.config ≡ self.old.client.config }
         ensures answers { self.new.trace.answers ≡ self.old.trace.answers }
+        ensures at_client { AcceptedGrows (accepted_in self.old.trace.client) (accepted_in self.new.trace.client) }
+        ensures at_server { accepted_in self.new.trace.server ≡ accepted_in self.old.trace.server }
     {
         over_bytes();
         match self.client.publish(message.clone()?) {
@@ -66,11 +70,14 @@ impl Pair {
     }
 
     // Publishes a message at the server.
+    #[tactic(auto, using(crate::proofs::Growing::grows_none))]
     fn publish_at_server(&mut self, message: &Message) -> Result<Answer, AllocError>
         ensures does { IfOk result (λ answer. (limit : Bounds) (capacity : ℕ) (m : Machine) → Stands limit capacity (wired_of self.old) m
             → Does limit capacity (Event.Publish Side.Server message.now) answer (wired_of self.old) (wired_of self.new)) }
         ensures config { self.new.client.config ≡ self.old.client.config }
         ensures answers { self.new.trace.answers ≡ self.old.trace.answers }
+        ensures at_client { accepted_in self.new.trace.client ≡ accepted_in self.old.trace.client }
+        ensures at_server { AcceptedGrows (accepted_in self.old.trace.server) (accepted_in self.new.trace.server) }
     {
         over_bytes();
         match self.server.publish(message.clone()?) {
@@ -90,6 +97,8 @@ impl Pair {
             → IsDelivered limit capacity Side.Client count delivery (wired_of self.old) (wired_of self.new)) }
         ensures config { self.new.client.config ≡ self.old.client.config }
         ensures answers { self.new.trace.answers ≡ self.old.trace.answers }
+        ensures at_client { accepted_in self.new.trace.client ≡ accepted_in self.old.trace.client }
+        ensures at_server { accepted_in self.new.trace.server ≡ accepted_in self.old.trace.server }
     {
         over_bytes();
         let live = is_live(self.client.state());
@@ -114,6 +123,8 @@ impl Pair {
             → IsDelivered limit capacity Side.Server count delivery (wired_of self.old) (wired_of self.new)) }
         ensures config { self.new.client.config ≡ self.old.client.config }
         ensures answers { self.new.trace.answers ≡ self.old.trace.answers }
+        ensures at_client { accepted_in self.new.trace.client ≡ accepted_in self.old.trace.client }
+        ensures at_server { accepted_in self.new.trace.server ≡ accepted_in self.old.trace.server }
     {
         over_bytes();
         let live = is_live(self.server.state());
@@ -138,6 +149,8 @@ impl Pair {
             → IsDelivered limit capacity side count delivery (wired_of self.old) (wired_of self.new)) }
         ensures config { self.new.client.config ≡ self.old.client.config }
         ensures answers { self.new.trace.answers ≡ self.old.trace.answers }
+        ensures at_client { accepted_in self.new.trace.client ≡ accepted_in self.old.trace.client }
+        ensures at_server { accepted_in self.new.trace.server ≡ accepted_in self.old.trace.server }
     {
         match side {
             Side::Client => self.deliver_to_client(count),
@@ -151,6 +164,8 @@ impl Pair {
             → IsDelivered limit capacity side (length (near side (wired_of self.old)).wire) delivery (wired_of self.old) (wired_of self.new)) }
         ensures config { self.new.client.config ≡ self.old.client.config }
         ensures answers { self.new.trace.answers ≡ self.old.trace.answers }
+        ensures at_client { accepted_in self.new.trace.client ≡ accepted_in self.old.trace.client }
+        ensures at_server { accepted_in self.new.trace.server ≡ accepted_in self.old.trace.server }
     {
         match side {
             Side::Client => {
@@ -170,6 +185,8 @@ impl Pair {
             → Does limit capacity (Event.Drop side) result (wired_of self.old) (wired_of self.new) }
         ensures config { self.new.client.config ≡ self.old.client.config }
         ensures answers { self.new.trace.answers ≡ self.old.trace.answers }
+        ensures at_client { accepted_in self.new.trace.client ≡ accepted_in self.old.trace.client }
+        ensures at_server { accepted_in self.new.trace.server ≡ accepted_in self.old.trace.server }
     {
         over_bytes();
         match side {
@@ -199,6 +216,8 @@ impl Pair {
             → Does limit capacity Event.Restart result (wired_of self.old) (wired_of self.new) }
         ensures config { connect_of self.new.client.config false ≡ first_packet }
         ensures answers { self.new.trace.answers ≡ self.old.trace.answers }
+        ensures at_client { accepted_in self.new.trace.client ≡ accepted_in self.old.trace.client }
+        ensures at_server { accepted_in self.new.trace.server ≡ accepted_in self.old.trace.server }
     {
         over_bytes();
         let _most = terms.limits.max_packet();
@@ -223,6 +242,8 @@ impl Pair {
             → Does limit capacity Event.Leave answer (wired_of self.old) (wired_of self.new)) }
         ensures config { self.new.client.config ≡ self.old.client.config }
         ensures answers { self.new.trace.answers ≡ self.old.trace.answers }
+        ensures at_client { accepted_in self.new.trace.client ≡ accepted_in self.old.trace.client }
+        ensures at_server { accepted_in self.new.trace.server ≡ accepted_in self.old.trace.server }
     {
         over_bytes();
         if let Err(why) = self.client.disconnect() {
@@ -240,6 +261,8 @@ impl Pair {
             → Does limit capacity (Event.Tick Side.Client more) answer (wired_of self.old) (wired_of self.new)) }
         ensures config { self.new.client.config ≡ self.old.client.config }
         ensures answers { self.new.trace.answers ≡ self.old.trace.answers }
+        ensures at_client { accepted_in self.new.trace.client ≡ accepted_in self.old.trace.client }
+        ensures at_server { accepted_in self.new.trace.server ≡ accepted_in self.old.trace.server }
     {
         over_bytes();
         self.client_clock = self.client_clock.saturating_add(more);
@@ -257,6 +280,8 @@ impl Pair {
             → Does limit capacity (Event.Tick Side.Server more) result (wired_of self.old) (wired_of self.new) }
         ensures config { self.new.client.config ≡ self.old.client.config }
         ensures answers { self.new.trace.answers ≡ self.old.trace.answers }
+        ensures at_client { accepted_in self.new.trace.client ≡ accepted_in self.old.trace.client }
+        ensures at_server { accepted_in self.new.trace.server ≡ accepted_in self.old.trace.server }
     {
         over_bytes();
         self.server_clock = self.server_clock.saturating_add(more);
@@ -272,6 +297,8 @@ impl Pair {
             → IsOpened limit capacity result (wired_of self.old) (wired_of self.new) }
         ensures config { self.new.client.config ≡ self.old.client.config }
         ensures answers { self.new.trace.answers ≡ self.old.trace.answers }
+        ensures at_client { accepted_in self.new.trace.client ≡ accepted_in self.old.trace.client }
+        ensures at_server { accepted_in self.new.trace.server ≡ accepted_in self.old.trace.server }
     {
         over_bytes();
         let client_dropped = is_live(self.client.state());
@@ -297,6 +324,7 @@ impl Pair {
     }
 
     /// Processes an event.
+    #[tactic(auto, using(crate::proofs::Growing::grows_none))]
     pub(crate) fn make(&mut self, event: &Event, terms: Terms) -> Result<Answer, AllocError>
         requires config { connect_of self.old.client.config false ≡ first_packet }
         requires stands { (m : Machine) × Stands terms.limits terms.capacity (wired_of self.old) m }
@@ -306,6 +334,8 @@ impl Pair {
             → Does limit capacity event.now answer (wired_of self.old) (wired_of self.new)) }
         ensures config { connect_of self.new.client.config false ≡ first_packet }
         ensures answers { self.new.trace.answers ≡ self.old.trace.answers }
+        ensures at_client { AcceptedGrows (accepted_in self.old.trace.client) (accepted_in self.new.trace.client) }
+        ensures at_server { AcceptedGrows (accepted_in self.old.trace.server) (accepted_in self.new.trace.server) }
     {
         match event {
             Event::Publish(Side::Client, message) => self.publish_at_client(message),
@@ -330,6 +360,8 @@ impl Pair {
             → IsSpanned capacity (wired_of self.old) → MetNoWant (Answer.Settled s) → SettledFrom (wired_of self.old) (wired_of self.new)) }
         ensures config { self.new.client.config ≡ self.old.client.config }
         ensures answers { self.new.trace.answers ≡ self.old.trace.answers }
+        ensures at_client { accepted_in self.new.trace.client ≡ accepted_in self.old.trace.client }
+        ensures at_server { accepted_in self.new.trace.server ≡ accepted_in self.old.trace.server }
     {
         over_bytes();
         settles_over_bytes();

@@ -6,7 +6,7 @@ ghost use Rattle.mq_world.specs.Carries.{Wired, HaveWindow, seen};
 ghost use Rattle.mq_world.specs.Headline.{Headline};
 ghost use Rattle.mq_world.specs.Machine.{Machine};
 ghost use Rattle.mq_world.specs.OverBytes.{Stands, near};
-ghost use Rattle.mq_world.specs.Listed.{accepted_in, handed_in};
+ghost use Rattle.mq_world.specs.Listed.{AcceptedGrows, accepted_in, handed_in};
 ghost use Rattle.mq_world.specs.SettlesOver.{SettledFrom};
 ghost use Rattle.mq_world.specs.World.{Does, IsNeverFull, IsNew, Leads, MetNoWant, Settles};
 
@@ -177,6 +177,8 @@ impl World {
         ensures before { self.old.failed ≡ true → IsErr result }
         ensures stays { self.old.failed ≡ true → self.new ≡ self.old }
         ensures kept { OnErr result (self.new.answers ≡ self.old.answers) }
+        ensures at_client { AcceptedGrows self.old.wired.client.accepted self.new.wired.client.accepted }
+        ensures at_server { AcceptedGrows self.old.wired.server.accepted self.new.wired.server.accepted }
         ensures limit { self.new.limit ≡ self.old.limit }
         ensures capacity { self.new.capacity ≡ self.old.capacity }
         ensures window { self.new.window ≡ self.old.window }
@@ -214,6 +216,8 @@ impl World {
         ensures before { self.old.failed ≡ true → IsErr result }
         ensures stays { self.old.failed ≡ true → self.new ≡ self.old }
         ensures kept { OnErr result (self.new.answers ≡ self.old.answers) }
+        ensures at_client { self.new.wired.client.accepted ≡ self.old.wired.client.accepted }
+        ensures at_server { self.new.wired.server.accepted ≡ self.old.wired.server.accepted }
         ensures limit { self.new.limit ≡ self.old.limit }
         ensures capacity { self.new.capacity ≡ self.old.capacity }
         ensures window { self.new.window ≡ self.old.window }
@@ -347,6 +351,8 @@ impl World {
     pub fn session(&self, side: Side) -> Option<&Session>
         ensures book { IfSome result (λ session. session.now.sender.book ≡ (near side self.now.wired).state.end.book) }
         ensures received { IfSome result (λ session. session.now.receiver ≡ (near side self.now.wired).state.end.received) }
+        ensures last { IfSome result (λ session. session.now.sender.last ≡ (near side self.now.wired).state.end.last) }
+        ensures capacity { IfSome result (λ session. session.now.sender.capacity ≡ (near side self.now.wired).state.capacity) }
         ensures client { side ≡ Side.Client → IsSome result }
         ensures server { side ≡ Side.Server → (IsSome result ↔ (self.now.wired.server.state.end.known ≡ true)) }
     {

@@ -38,5 +38,5 @@ returns-clause-delivered c = λ limit capacity m s.
     ))
     (c.receive-progress.ensures.limit, c.receive-progress.ensures.capacity)
     c.take_all_output-output.ensures.left refl (c.cut_off.ensures ∙ ap (left_on c.receive-progress.result.closed) c.in_ok-bytes.ensures.left)
-    c.in_ok-tell.ensures.accepted c.in_ok-tell.ensures.handed c.in_ok-tell.ensures.freed
+    c.tell.ensures.accepted c.in_ok-tell.ensures.handed c.in_ok-tell.ensures.freed
     c.take_all_output-output.ensures.bytes c.in_ok-carry.ensures.ok refl

@@ -5,6 +5,7 @@ use Rattle.mq_world.specs.Carries.{Wired}
 use Rattle.mq_world.specs.Pairs.{wired_of}
 use Rattle.mq_world.specs.Listed.{accepted_in, handed_in}
 use Rattle.mq_world.proofs.Worlds.{published_at}
+use Rattle.mq_world.proofs.Growing.{grows_accepted, grows_none}
 use Rattle.mq_world.proofs.pair.Pair.publish_at_client.Goals as goal
 
 pub returns-in_ok-carry-in-Ok-clause-does : goal.returns-in_ok-carry-in-Ok-clause-does
@@ -30,3 +31,16 @@ returns-in_ok-carry-in-Ok-clause-does c = λ limit capacity m s.
           c.in_ok-accept-in-Ok.ensures.handed c.in_ok-accept-in-Ok.ensures.freed
           c.take_all_output-output.ensures.bytes c.in_ok-carry-in-Ok.ensures.ok refl,
     )
+
+pub returns-in_err-carry-in-Ok-clause-at_client : goal.returns-in_err-carry-in-Ok-clause-at_client
+returns-in_err-carry-in-Ok-clause-at_client c =
+    grows_accepted c.in-Ok.id c.args.message.now c.in_ok-clone.field-0 c.in_ok-clone-in-Ok.field-0 c.args.self.now.client.link c.publish.new.self.link (accepted_in c.args.self.now.trace.client) (accepted_in c.accept.new.self)
+    c.in_ok-clone.ensures.cases c.in_ok-clone-in-Ok.ensures.cases c.in-Ok.ensures.ok c.in_ok-accept-in-Ok.ensures.accepted
+
+pub returns-in_ok-carry-in-Ok-clause-at_client : goal.returns-in_ok-carry-in-Ok-clause-at_client
+returns-in_ok-carry-in-Ok-clause-at_client c =
+    grows_accepted c.in-Ok.id c.args.message.now c.in_ok-clone.field-0 c.in_ok-clone-in-Ok.field-0 c.args.self.now.client.link c.publish.new.self.link (accepted_in c.args.self.now.trace.client) (accepted_in c.accept.new.self)
+    c.in_ok-clone.ensures.cases c.in_ok-clone-in-Ok.ensures.cases c.in-Ok.ensures.ok c.in_ok-accept-in-Ok.ensures.accepted
+
+pub returns-in_err-accept-in-Ok-clause-at_client : goal.returns-in_err-accept-in-Ok-clause-at_client
+returns-in_err-accept-in-Ok-clause-at_client c = grows_none (accepted_in c.args.self.now.trace.client) (accepted_in c.accept.new.self) c.in_err-accept-in-Ok.ensures.err

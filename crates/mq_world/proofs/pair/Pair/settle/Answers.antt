@@ -20,6 +20,8 @@ loop-side-preserved c = record {
       (wired_of c.deliver_all.new.self) (omega arith) refl before come);
   config = c.deliver_all.ensures.config ∙ c.loop-side.invariant.config;
   answers = c.deliver_all.ensures.answers ∙ c.loop-side.invariant.answers;
+  at_client = c.deliver_all.ensures.at_client ∙ c.loop-side.invariant.at_client;
+  at_server = c.deliver_all.ensures.at_server ∙ c.loop-side.invariant.at_server;
 }
 
 pub returns-clause-settled : goal.returns-clause-settled

@@ -3,6 +3,7 @@ use Rattle.mq_decode.specs.Limits.{Bounds}
 use Rattle.mq_world.specs.Machine.{Machine}
 use Rattle.mq_world.specs.OverBytes.{Stands}
 use Rattle.mq_world.specs.Pairs.{wired_of}
+use Rattle.mq_world.specs.Listed.{accepted_in}
 use Rattle.mq_world.specs.World.{InTurn, exchanges}
 use Rattle.mq_world.proofs.pair.Pair.settle.Given as goal
 
@@ -12,4 +13,6 @@ invariant-loop-side l = record {
       → InTurn limit capacity (take l.side-index exchanges) l.deliveries.items (wired_of l.initial.self) (wired_of l.self);
   config : l.self.client.config ≡ l.initial.self.client.config;
   answers : l.self.trace.answers ≡ l.initial.self.trace.answers;
+  at_client : accepted_in l.self.trace.client ≡ accepted_in l.initial.self.trace.client;
+  at_server : accepted_in l.self.trace.server ≡ accepted_in l.initial.self.trace.server;
 }
