@@ -2,7 +2,7 @@
 
 use crate::values::add_word;
 use crate::wrong::Wrong;
-use mq_end::{CloseReason, Happening, Outcome, Progress, PublishRefusal, State};
+use mq_end::{CloseReason, Happening, PacketOutcome, Progress, PublishRefusal, State};
 use mq_flow::Session;
 use mq_packet::{Message, PacketId};
 use std::alloc::AllocError;
@@ -78,7 +78,7 @@ pub(crate) fn add_progress(told: &mut String, progress: &Progress) -> Result<(),
     Ok(add_parts(told, &copy)?)
 }
 
-pub(crate) fn add_outcome(told: &mut String, outcome: &Outcome) -> Result<(), Wrong> {
+pub(crate) fn add_outcome(told: &mut String, outcome: &PacketOutcome) -> Result<(), Wrong> {
     if let Some(happening) = &outcome.happening {
         add_happening(told, happening)?;
     }
@@ -130,6 +130,10 @@ pub(crate) fn add_done(told: &mut String, answer: Result<(), PublishRefusal>) ->
 
 pub(crate) fn add_late(told: &mut String, closed: Option<CloseReason>) -> Result<(), Wrong> {
     Ok(write!(told, "{closed:?}")?)
+}
+
+pub(crate) fn add_deadline(told: &mut String, deadline: Option<u64>) -> Result<(), Wrong> {
+    Ok(write!(told, "{deadline:?}")?)
 }
 
 /// Adds a session: whether it is idle, for how many identifiers it has room, and how many of them

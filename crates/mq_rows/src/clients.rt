@@ -3,10 +3,11 @@
 ghost use Rattle.std.specs.Prelude.{◌≡◌, IfOk, None};
 
 use crate::brief::{
-    add_asked, add_done, add_late, add_progress, add_published, add_session, add_state,
+    add_asked, add_deadline, add_done, add_late, add_progress, add_published, add_session,
+    add_state,
 };
 use crate::sessions::Books;
-use crate::values::{add_hex, bytes_of, message};
+use crate::values::{add_hex, bytes_of, message, view_of};
 use crate::words::Words;
 use crate::wrong::Wrong;
 use mq_decode::Limits;
@@ -91,6 +92,19 @@ fn open(
     let clean = words.next() == Some("clean");
     client.connect(moment, clean)?;
     add_state(told, client.state())
+}
+
+// `view BYTES`: receives a packet that is borrowed from these bytes.
+fn take_view(
+    alloc: Global,
+    client: &mut ClientEnd,
+    moment: u64,
+    words: &mut Words<'_>,
+    told: &mut String,
+) -> Result<(), Wrong> {
+    let bytes = bytes_of(alloc, words)?;
+    let packet = view_of(bytes.as_slice())?;
+    add_progress(told, &client.on_view(moment, &packet))
 }
 
 // `receive BYTES`: these come.
@@ -197,6 +211,7 @@ pub(crate) fn tell(
     match words.word()? {
         "open" => open(client, moment, words, told),
         "receive" => receive(alloc, client, moment, words, told),
+        "view" => take_view(alloc, client, moment, words, told),
         "publish" => publish(alloc, client, words, told),
         "subscribe" => subscribe(alloc, client, words, told),
         "unsubscribe" => unsubscribe(alloc, client, words, told),
@@ -206,6 +221,7 @@ pub(crate) fn tell(
             client.dropped();
             add_state(told, client.state())
         }
+        "deadline" => add_deadline(told, client.next_deadline()),
         "save" => save(alloc, client, told),
         "session" => add_session(told, client.session()),
         "swap" => swap(alloc, client, words, told),

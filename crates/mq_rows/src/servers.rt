@@ -1,10 +1,11 @@
 //! Server ends: the result and the output of each call.
 
 use crate::brief::{
-    add_done, add_late, add_outcome, add_progress, add_published, add_session, add_state,
+    add_deadline, add_done, add_late, add_outcome, add_progress, add_published, add_session,
+    add_state,
 };
 use crate::sessions::Books;
-use crate::values::{add_hex, bytes_of, message, packet_of};
+use crate::values::{add_hex, bytes_of, message, packet_of, view_of};
 use crate::words::{Words, qos_of};
 use crate::wrong::Wrong;
 use mq_end::{ByteQueue, ServerConfig, ServerEnd};
@@ -41,6 +42,19 @@ pub(crate) fn resume(
         return Err(Wrong::Words);
     }
     Ok(ServerEnd::with_session(alloc, config, books.session))
+}
+
+// `view BYTES`: receives a packet that is borrowed from these bytes.
+fn take_view(
+    alloc: Global,
+    server: &mut ServerEnd,
+    moment: u64,
+    words: &mut Words<'_>,
+    told: &mut String,
+) -> Result<(), Wrong> {
+    let bytes = bytes_of(alloc, words)?;
+    let packet = view_of(bytes.as_slice())?;
+    add_progress(told, &server.on_view(moment, &packet))
 }
 
 // `receive BYTES`: these come.
@@ -180,7 +194,7 @@ fn add_ready(
     Ok(())
 }
 
-// `connect_end MORE PACKET BYTES QOS ..`
+// `reserve_connect MORE PACKET BYTES QOS ..`
 fn reserve_connect(
     alloc: Global,
     server: &mut ServerEnd,
@@ -217,8 +231,9 @@ fn tell_of_server(
     match act {
         "suback" => suback(alloc, server, words, told),
         "unsuback" => unsuback(server, words, told),
+        "deadline" => add_deadline(told, server.next_deadline()),
         "ready" => ready(alloc, server, words, told),
-        "connect_end" => reserve_connect(alloc, server, words, told),
+        "reserve_connect" => reserve_connect(alloc, server, words, told),
         _ => Err(Wrong::Words),
     }
 }
@@ -237,6 +252,7 @@ pub(crate) fn tell(
             add_state(told, server.state())
         }
         "receive" => receive(alloc, server, moment, words, told),
+        "view" => take_view(alloc, server, moment, words, told),
         "packet" => take_whole(alloc, server, moment, words, told),
         "take" => take(alloc, server, moment, words, told),
         "hand" => hand(alloc, server, moment, words, told),

@@ -5,7 +5,7 @@ ghost use Rattle.std.specs.Prelude.{◌≡◌, ◌<◌, IfOk};
 use crate::words::Words;
 use crate::wrong::Wrong;
 use bytes::Bytes;
-use mq_decode::{Limits, read_packet};
+use mq_decode::{Limits, PacketView, View, read_packet, view};
 use mq_packet::{Message, Packet, Payload};
 use mq_topic::{Qos, TopicName};
 use std::alloc::{AllocError, Global};
@@ -107,5 +107,14 @@ pub(crate) fn packet_of(alloc: Global, words: &mut Words<'_>) -> Result<Packet, 
     match read_packet(alloc, &mut bytes.as_slice(), limits) {
         Ok(Some(packet)) => Ok(packet),
         _ => Err(Wrong::Words),
+    }
+}
+
+/// The packet at the front of bytes, borrowed from them.
+pub(crate) fn view_of(bytes: &[u8]) -> Result<PacketView<'_>, Wrong> {
+    let limits = Limits::new(64).ok_or(Wrong::Words)?;
+    match view(bytes, limits) {
+        View::Whole(packet, _) => Ok(packet),
+        View::More | View::Fault(_) => Err(Wrong::Words),
     }
 }
