@@ -1,4 +1,4 @@
-//! Lists that are short for the most part: one item needs no allocation.
+//! Lists that are short for the most part: one item needs no memory of its own.
 
 ghost use Rattle.std.specs.Prelude.{◌≡◌, ◌<◌, ◌∷◌, ◌++◌, [], length, IsOk, OnOk, OnErr, IfOk};
 ghost use Rattle.std.specs.List.{AllZip};
@@ -50,7 +50,7 @@ impl<T: Drop> SmallListBuilder<T> {
         }
     }
 
-    /// Makes room for one more item. The first one does not allocate.
+    /// Makes room for one more item. The first one needs no memory.
     #[tactic(auto, using(crate::proofs::SmallLists::room_for_one, crate::proofs::SmallLists::room_behind, crate::proofs::SmallLists::moved))]
     pub(crate) fn reserve(&mut self) -> Result<(), AllocError>
         ensures items { self.new.items ≡ self.old.items }
@@ -176,7 +176,7 @@ impl<T: Drop> IntoIterator for SmallList<T> {
     }
 }
 
-/// The items of a [`SmallList`] by value, in order. Contracts see those that remain.
+/// The items of a [`SmallList`] by value, in order. Contracts see those that are left.
 #[derive(Drop)]
 pub struct SmallListIntoIter<T> {
     first: Option<[T; 1]>,

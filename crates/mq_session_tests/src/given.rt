@@ -1,33 +1,50 @@
-//! The events of bytes at an end as a vector: with no, one and several items.
+//! The events of bytes at an end by value: with no, one and several items, as a vector and one by
+//! one.
 
 use crate::compare::expect_told;
 use crate::readme::new_client;
-use mq_end::{ClientEnd, Happening};
+use mq_end::{Happening, SmallList};
 use std::alloc::Global;
 use std::test::Fail;
+
+fn say(told: &mut String, happening: &Happening) -> Result<(), Fail> {
+    match happening {
+        Happening::Up { .. } => told.push_str("up ")?,
+        Happening::Handed(message) => write!(told, "{} ", message.topic.as_str())?,
+        _ => told.push_str("other ")?,
+    }
+    Ok(())
+}
 
 fn said(alloc: Global, happenings: &[Happening]) -> Result<String, Fail> {
     let mut told = String::new(alloc);
     for happening in happenings {
-        match happening {
-            Happening::Up { .. } => told.push_str("up ")?,
-            Happening::Handed(message) => write!(told, "{} ", message.topic.as_str())?,
-            _ => told.push_str("other ")?,
-        }
+        say(&mut told, happening)?;
     }
     Ok(told)
 }
 
-fn heard(alloc: Global, client: &mut ClientEnd, piece: &[u8]) -> Result<String, Fail> {
+fn said_one_by_one(alloc: Global, happenings: SmallList<Happening>) -> Result<String, Fail> {
+    let mut told = String::new(alloc);
+    for happening in happenings {
+        say(&mut told, &happening)?;
+    }
+    Ok(told)
+}
+
+fn happenings_of(alloc: Global, piece: &[u8]) -> Result<SmallList<Happening>, Fail> {
+    let mut client = new_client(alloc)?;
     client.connect(0, false)?;
-    let progress = client.receive(0, piece);
-    let happenings = progress.happenings.into_vec()?;
-    said(alloc, happenings.as_slice())
+    Ok(client.receive(0, piece).happenings)
 }
 
 fn given(alloc: Global, piece: &[u8]) -> Result<String, Fail> {
-    let mut client = new_client(alloc)?;
-    heard(alloc, &mut client, piece)
+    let happenings = happenings_of(alloc, piece)?.into_vec()?;
+    said(alloc, happenings.as_slice())
+}
+
+fn given_one_by_one(alloc: Global, piece: &[u8]) -> Result<String, Fail> {
+    said_one_by_one(alloc, happenings_of(alloc, piece)?)
 }
 
 const PIECES: [(&[u8], &str); 4] = [
@@ -44,6 +61,7 @@ const PIECES: [(&[u8], &str); 4] = [
 fn happenings_are_given_away(rt: HostRuntime) -> Result<(), Fail> {
     for (piece, wanted) in &PIECES {
         expect_told(&rt, given(rt.alloc(), *piece), *wanted, "")?;
+        expect_told(&rt, given_one_by_one(rt.alloc(), *piece), *wanted, "")?;
     }
     Ok(())
 }

@@ -27,7 +27,7 @@ handed_count Q0 h = length h.at_most_once
 handed_count Q1 h = length h.at_least_once
 handed_count Q2 h = length h.exactly_once
 
--- Each list of accepted messages is unchanged, perhaps with more messages behind.
+-- Each list of accepted messages is as it was, perhaps with more messages behind.
 pub record AcceptedGrows (old new : Accepted) : Type 0 where
   pub at_most_once : (more : List Message) × (new.at_most_once ≡ old.at_most_once ++ more)
   pub at_least_once : (more : List (ℕ × Message)) × (new.at_least_once ≡ old.at_least_once ++ more)
