@@ -256,7 +256,7 @@ done step conn last bs t r x y z w p q is =
       hands = flat_map-append handed before end ∙ ap (λ l. l ++ flat_map handed end) (hands_none p.made q.made p.hands q.hands) ∙ append-nil r.output;
     }
 
--- A read of these bytes, and the time after it: b is the state outside after the read, c after the turn.
+-- A read of these bytes, and the time after it: b is the state after the read, c after the turn.
 pub record Read (bs : List ℕ) (t : ℕ) (a b c : Outside) : Type 0 where
   pub comes : Consumes a.coming b.coming bs
   pub stays : Keeps b.coming c.coming

@@ -83,7 +83,8 @@ fn take_in<S: Stepper>(
     Ok(())
 }
 
-// Collects the pending output of a connection and writes it. Returns whether the connection goes on.
+// Collects the pending output of a connection and writes it. Returns whether the connection goes
+// on.
 #[tactic(auto, using(crate::proofs::Connections::collected, crate::proofs::Connections::collected_cut))]
 fn give_out<S: Stepper, T: Stream>(
     stepper: &mut S,
