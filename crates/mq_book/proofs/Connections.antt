@@ -63,7 +63,7 @@ events_then conn ts us ms ns rest p q =
 
 -- ---- turns follow one another
 
--- The connection continues after at least this number of turns, with this last time.
+-- The connection goes on after at least this number of turns, with this last time.
 pub record Going {X : Type 0} (step : X → HubEvent → HubReply → X → Type 0) (conn : Conn) (count : ℕ) (told : Option ℕ) (x y : X) (a b : Outside)
     : Type 0 where
   pub turns : List Turn
@@ -256,8 +256,7 @@ done step conn last bs t r x y z w p q is =
       hands = flat_map-append handed before end ∙ ap (λ l. l ++ flat_map handed end) (hands_none p.made q.made p.hands q.hands) ∙ append-nil r.output;
     }
 
--- A read of these bytes, and the time after it: b is the state outside after the read, c after the
--- turn.
+-- A read of these bytes, and the time after it: b is the state after the read, c after the turn.
 pub record Read (bs : List ℕ) (t : ℕ) (a b c : Outside) : Type 0 where
   pub comes : Consumes a.coming b.coming bs
   pub stays : Keeps b.coming c.coming

@@ -83,8 +83,8 @@ fn take_in<S: Stepper>(
     Ok(())
 }
 
-// Collects the pending output of a connection and writes it. Returns whether the connection
-// continues.
+// Collects the pending output of a connection and writes it. Returns whether the connection goes
+// on.
 #[tactic(auto, using(crate::proofs::Connections::collected, crate::proofs::Connections::collected_cut))]
 fn give_out<S: Stepper, T: Stream>(
     stepper: &mut S,
@@ -106,7 +106,7 @@ fn give_out<S: Stepper, T: Stream>(
 }
 
 // One turn: reads, passes the time and the bytes to the broker, and writes its output. Returns
-// whether the connection continues.
+// whether the connection goes on.
 fn turn<S: Stepper, T: Stream, C: Clock>(
     stepper: &mut S,
     alloc: Global,

@@ -8,8 +8,8 @@ use std::sync::ledger::Ledger;
 
 /// A worker's number, and the number of steps that it made.
 ///
-/// The counts of all shares add up to the number of entries of the book
-/// ([`gather`](crate::gather)).
+/// The counts of all shares add up to the number of entries of the book; see
+/// [`gather`](crate::gather).
 #[derive(Drop)]
 pub struct Share<L: Ledger> {
     pub(crate) worker: u16,
