@@ -3,8 +3,8 @@ use Rattle.std.proofs.Common.{◌≡◌, List, [], ◌++◌, refl, sym, ap, subs
 use Rattle.std.specs.Bool.{⊤}
 use Rattle.mq_end.specs.declared.happening.Happening.{Happening}
 use Rattle.mq_end.specs.declared.reason.CloseReason.{CloseReason}
-use Rattle.mq_client.specs.declared.halt.ClientError.{ClientError}
-use Rattle.mq_client.specs.declared.halt.ClientError.TheVariants.{Closed, Lost, Refused, NotSubscribed, SaveError, Memory}
+use Rattle.mq_client.specs.declared.error.ClientError.{ClientError}
+use Rattle.mq_client.specs.declared.error.ClientError.TheVariants.{Closed, Lost, Refused, NotSubscribed, SaveError, Memory}
 use Rattle.mq_client.specs.Course.{Ask, Moment, Went, WentFirst}
 use Rattle.mq_client.specs.Collecting.{Keeps, KeepsFirst, Misses}
 use Rattle.mq_client.specs.Halts.{closes_of, halt_closes}

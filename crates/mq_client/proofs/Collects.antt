@@ -8,8 +8,8 @@ use Rattle.mq_line.specs.Lines.{Prints}
 use Rattle.mq_end.specs.declared.happening.Happening.{Happening}
 use Rattle.mq_end.specs.declared.reason.CloseReason.{CloseReason}
 use Rattle.mq_flow.specs.Receiver.{none_received}
-use Rattle.mq_client.specs.declared.halt.ClientError.{ClientError}
-use Rattle.mq_client.specs.declared.collecting.CollectGoal.{CollectGoal}
+use Rattle.mq_client.specs.declared.error.ClientError.{ClientError}
+use Rattle.mq_client.specs.declared.collector.CollectGoal.{CollectGoal}
 use Rattle.mq_client.specs.Course.{Ask, Leaves, Moment, Opening, Subscription, Went}
 use Rattle.mq_client.specs.Halts.{halt_closes, halt_status}
 use Rattle.mq_client.specs.Printed.{halt_line, subscribed_line, told_line}

@@ -1,7 +1,7 @@
 pub mod Courses
 pub mod Published
 pub mod Collected
-pub mod SmallListBuilder
+pub mod Gathers
 pub mod Collects
 pub mod Resumed
 pub mod Wholes

@@ -5,8 +5,8 @@ use Rattle.std.proofs.lemmas.List.{take_all, take_more, take-append-drop, take-m
 use Rattle.mq_end.specs.declared.happening.Happening.{Happening}
 use Rattle.mq_end.specs.declared.reason.CloseReason.{CloseReason}
 use Rattle.mq_end.specs.End.{is_up}
-use Rattle.mq_client.specs.declared.halt.ClientError.{ClientError}
-use Rattle.mq_client.specs.declared.publishing.Texts.{Texts}
+use Rattle.mq_client.specs.declared.error.ClientError.{ClientError}
+use Rattle.mq_client.specs.declared.publisher.Publications.{Publications}
 use Rattle.mq_client.specs.Course.{Ask, IsIdle, Leaves, Moment, Opening, Publication, Went, WentFirst}
 use Rattle.mq_client.specs.Halts.{closes_of, halt_closes}
 use Rattle.mq_client.specs.Publishing.{AskedAll, AskedFirst, AskedMore, PublishHalts, Published, asks_of, publishes, text_message}
@@ -57,7 +57,7 @@ pub first_stops : (a b : Moment) (all : List Ask) (n : ℕ) (h : ClientError) �
 first_stops a b all n h none f = first_halts a b all n h (subst (λ rs. AskedFirst a b all n rs) (sym none) f)
 
 -- all were
-pub all_asked : (a b : Moment) (t : Texts) (n : ℕ) → n ≡ length t.texts.now → AskedFirst a b (asks_of t) n [] → is_up b.client.link.end.state ≡ true → IsIdle b.client.link.end
+pub all_asked : (a b : Moment) (t : Publications) (n : ℕ) → n ≡ length t.texts.now → AskedFirst a b (asks_of t) n [] → is_up b.client.link.end.state ≡ true → IsIdle b.client.link.end
     → AskedAll a b (asks_of t)
 all_asked a b t n full f up idle =
     let whole : take n (asks_of t) ≡ asks_of t = ap (λ z. take z (asks_of t)) full ∙ take-map (λ text. Publication (text_message t text.now)) (length t.texts.now) t.texts.now ∙ ap (map (λ text. Publication (text_message t text.now))) (take_all (length t.texts.now) t.texts.now (omega arith)) in
@@ -66,7 +66,7 @@ all_asked a b t n full f up idle =
 -- ---- behind the opening of a connection
 
 -- it stopped before a text was published
-pub opens_halts : (a b : Moment) (clean : Bool) (t : Texts) (h : ClientError) → halt_closes h ≡ [] → WentFirst a b (Opening clean ∷ []) [] [] → PublishHalts a b (publishes clean t) h
+pub opens_halts : (a b : Moment) (clean : Bool) (t : Publications) (h : ClientError) → halt_closes h ≡ [] → WentFirst a b (Opening clean ∷ []) [] [] → PublishHalts a b (publishes clean t) h
 opens_halts a b clean t h none f = (
   [],
   record {
@@ -78,7 +78,7 @@ opens_halts a b clean t h none f = (
 )
 
 -- it stopped later
-pub opened_halts : (a b c : Moment) (clean : Bool) (t : Texts) (h : ClientError) → Went a b (Opening clean ∷ []) [] [] → PublishHalts b c (asks_of t) h → PublishHalts a c (publishes clean t) h
+pub opened_halts : (a b c : Moment) (clean : Bool) (t : Publications) (h : ClientError) → Went a b (Opening clean ∷ []) [] [] → PublishHalts b c (asks_of t) h → PublishHalts a c (publishes clean t) h
 opened_halts a b c clean t h w p = (
   p.0,
   record {
@@ -89,11 +89,11 @@ opened_halts a b c clean t h w p = (
   },
 )
 
-pub opened_all : (a b c : Moment) (clean : Bool) (t : Texts) → Went a b (Opening clean ∷ []) [] [] → AskedAll b c (asks_of t) → AskedAll a c (publishes clean t)
+pub opened_all : (a b c : Moment) (clean : Bool) (t : Publications) → Went a b (Opening clean ∷ []) [] [] → AskedAll b c (asks_of t) → AskedAll a c (publishes clean t)
 opened_all a b c clean t w f = record { told = f.told; went = went_then a b c (Opening clean ∷ []) (asks_of t) [] f.told [] [] w f.went; up = f.up; idle = f.idle }
 
 -- the client leaves then, or can't
-pub left_then : (r : Result ⊤ ClientError) (a b c : Moment) (clean : Bool) (t : Texts) → AskedAll a b (publishes clean t) → OnOk r (Leaves b c) → OnOk r (Published a c clean t)
+pub left_then : (r : Result ⊤ ClientError) (a b c : Moment) (clean : Bool) (t : Publications) → AskedAll a b (publishes clean t) → OnOk r (Leaves b c) → OnOk r (Published a c clean t)
 left_then (Ok x) a b c clean t f p = record { last = b; asked = f; leaves = p }
 left_then (Err e) a b c clean t f p = tt
 

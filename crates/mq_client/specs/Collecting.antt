@@ -11,9 +11,9 @@ use Rattle.mq_end.specs.declared.happening.Happening.{Happening}
 use Rattle.mq_end.specs.declared.happening.Happening.TheVariants as happens
 use Rattle.mq_end.specs.declared.reason.CloseReason.{CloseReason}
 use Rattle.mq_end.specs.End.{is_up}
-use Rattle.mq_client.specs.declared.halt.ClientError.{ClientError}
-use Rattle.mq_client.specs.declared.halt.ClientError.TheVariants.{Memory}
-use Rattle.mq_client.specs.declared.collecting.CollectGoal.{CollectGoal}
+use Rattle.mq_client.specs.declared.error.ClientError.{ClientError}
+use Rattle.mq_client.specs.declared.error.ClientError.TheVariants.{Memory}
+use Rattle.mq_client.specs.declared.collector.CollectGoal.{CollectGoal}
 use Rattle.mq_client.specs.Course.{Ask, Leaves, Moment, Opening, Subscription, Went}
 use Rattle.mq_client.specs.Halts.{closes_of, halt_status}
 use Rattle.mq_client.specs.Printed.{halt_line, subscribed_line, told_line}

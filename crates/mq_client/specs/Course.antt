@@ -14,7 +14,7 @@ use Rattle.mq_end.specs.State.{PutsOut, no_bytes}
 use Rattle.mq_end.specs.Publishing.{Accepts, ClientState, connect_of}
 use Rattle.mq_end.specs.Receiving.{Acts, ClientReceives}
 use Rattle.mq_end.specs.Requests.{Requests, Ticks}
-use Rattle.mq_client.specs.declared.halt.ClientError.{ClientError}
+use Rattle.mq_client.specs.declared.error.ClientError.{ClientError}
 use Rattle.mq_client.specs.Keeping.{Holds, saved_of}
 
 -- a client end at a stream, with the bytes that are to come and those that went, and with what is kept of its session, where these are known

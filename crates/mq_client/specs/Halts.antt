@@ -1,10 +1,10 @@
 -- How the client programs end before they are done.
 use Rattle.std.specs.Prelude.{ℕ, List, [], ◌∷◌, Result, Ok, Err}
 use Rattle.mq_end.specs.declared.reason.CloseReason.{CloseReason}
-use Rattle.mq_client.specs.declared.loading.LoadFailure.{LoadFailure}
-use Rattle.mq_client.specs.declared.loading.LoadFailure.TheVariants as unloaded
-use Rattle.mq_client.specs.declared.halt.ClientError.{ClientError}
-use Rattle.mq_client.specs.declared.halt.ClientError.TheVariants.{Closed, Lost, Refused, NotSubscribed, SaveError, Memory}
+use Rattle.mq_client.specs.declared.client.LoadFailure.{LoadFailure}
+use Rattle.mq_client.specs.declared.client.LoadFailure.TheVariants as unloaded
+use Rattle.mq_client.specs.declared.error.ClientError.{ClientError}
+use Rattle.mq_client.specs.declared.error.ClientError.TheVariants.{Closed, Lost, Refused, NotSubscribed, SaveError, Memory}
 
 -- 3 where memory ran out
 abbrev pub halt_status : ClientError → ℕ

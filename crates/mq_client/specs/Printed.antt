@@ -8,10 +8,10 @@ use Rattle.mq_end.specs.declared.happening.Happening.{Happening}
 use Rattle.mq_end.specs.declared.happening.Happening.TheVariants as happens
 use Rattle.mq_end.specs.Codes.{close_code, refusal_code}
 use Rattle.mq_flow.specs.Codes.{load_code}
-use Rattle.mq_client.specs.declared.loading.LoadFailure.{LoadFailure}
-use Rattle.mq_client.specs.declared.loading.LoadFailure.TheVariants as unloaded
-use Rattle.mq_client.specs.declared.halt.ClientError.{ClientError}
-use Rattle.mq_client.specs.declared.halt.ClientError.TheVariants.{Closed, Lost, Refused, NotSubscribed, SaveError, Memory}
+use Rattle.mq_client.specs.declared.client.LoadFailure.{LoadFailure}
+use Rattle.mq_client.specs.declared.client.LoadFailure.TheVariants as unloaded
+use Rattle.mq_client.specs.declared.error.ClientError.{ClientError}
+use Rattle.mq_client.specs.declared.error.ClientError.TheVariants.{Closed, Lost, Refused, NotSubscribed, SaveError, Memory}
 
 -- why a program stops before it is done
 abbrev pub halt_line : ClientError → List ℕ

@@ -1,10 +1,10 @@
 -- The programs whole: over connections that are made.
 use Rattle.std.specs.Prelude.{◌≡◌, ◌⊎◌, ℕ, Bool, true, List}
 use Rattle.mq_end.specs.Publishing.{ClientState}
-use Rattle.mq_client.specs.declared.halt.ClientError.{ClientError}
-use Rattle.mq_client.specs.declared.loading.LoadFailure.{LoadFailure}
-use Rattle.mq_client.specs.declared.collecting.CollectGoal.{CollectGoal}
-use Rattle.mq_client.specs.declared.publishing.Texts.{Texts}
+use Rattle.mq_client.specs.declared.error.ClientError.{ClientError}
+use Rattle.mq_client.specs.declared.client.LoadFailure.{LoadFailure}
+use Rattle.mq_client.specs.declared.collector.CollectGoal.{CollectGoal}
+use Rattle.mq_client.specs.declared.publisher.Publications.{Publications}
 use Rattle.mq_client.specs.Course.{Moment}
 use Rattle.mq_client.specs.Halts.{halt_status, unloaded_status}
 use Rattle.mq_client.specs.Printed.{halt_line, unloaded_line}
@@ -17,7 +17,7 @@ abbrev pub HaltsBefore : ℕ → List ℕ → Type 0
 HaltsBefore status text = (halt : ClientError) × (status ≡ halt_status halt) × (text ≡ halt_line halt)
 
 -- `publish` by a new client of this identifier, over a clean session
-abbrev pub IsTextsDone : List ℕ → Texts → ℕ → List ℕ → Type 0
+abbrev pub IsTextsDone : List ℕ → Publications → ℕ → List ℕ → Type 0
 IsTextsDone id t status text = ((a : Moment) × (b : Moment) × IsNewClient id a.client × IsPublishDone a b true t status text) ⊎ HaltsBefore status text
 
 -- `collect` by a new client of this identifier
@@ -33,10 +33,10 @@ abbrev pub IsUnloaded : ℕ → List ℕ → Type 0
 IsUnloaded status text = (why : LoadFailure) × (status ≡ unloaded_status why) × (text ≡ unloaded_line why)
 
 -- `publish` by this client, over its session
-abbrev pub IsKeptDone : ClientState → Texts → ℕ → List ℕ → Type 0
+abbrev pub IsKeptDone : ClientState → Publications → ℕ → List ℕ → Type 0
 IsKeptDone client t status text = ((a : Moment) × (b : Moment) × (a.client ≡ client) × IsResumeDone a b t status text) ⊎ HaltsBefore status text
 
 -- `publish` by a client of this identifier, over its session
-abbrev pub IsSessionDone : List ℕ → Texts → ℕ → List ℕ → Type 0
+abbrev pub IsSessionDone : List ℕ → Publications → ℕ → List ℕ → Type 0
 IsSessionDone id t status text =
     ((a : Moment) × (b : Moment) × IsClientOf id a.client × IsResumeDone a b t status text) ⊎ (HaltsBefore status text ⊎ IsUnloaded status text)

@@ -4,24 +4,24 @@
 //! A `Peer` is a client end at a stream. Its contracts say that the run of the end and what went over the stream are one another's.
 #![tactic(auto)]
 
-mod collecting;
+mod collector;
 mod dial;
-mod file;
-mod halt;
-mod keeper;
-mod loading;
+mod session_file;
+mod error;
+mod saver;
+mod client;
 mod peer;
-mod printing;
+mod lines;
 mod programs;
-mod publishing;
+mod publisher;
 
-pub use crate::collecting::{CollectGoal, begin, collect};
+pub use crate::collector::{CollectGoal, begin, collect};
 pub use crate::dial::{Connection, Dial, Loopback};
-pub use crate::file::SessionFile;
-pub use crate::halt::ClientError;
-pub use crate::keeper::{NoSaver, SaveError, SessionSaver, Store, Stored};
-pub use crate::loading::{LoadFailure, load, new_client, saved_client};
+pub use crate::session_file::SessionFile;
+pub use crate::error::ClientError;
+pub use crate::saver::{NoSaver, SaveError, SessionSaver, Store, SavingTo};
+pub use crate::client::{LoadFailure, load, new_client, saved_client};
 pub use crate::peer::Peer;
-pub use crate::printing::write_halt;
+pub use crate::lines::write_halt;
 pub use crate::programs::{collect_messages, publish_session, publish_texts};
-pub use crate::publishing::{Texts, publish, publish_all, resume};
+pub use crate::publisher::{Publications, publish, publish_all, resume};

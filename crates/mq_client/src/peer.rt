@@ -10,8 +10,8 @@ ghost use Rattle.mq_client.specs.Course.{IsIdle, Leaves, Opening, Subscription, 
 ghost use Rattle.mq_client.specs.Halts.{closes_of, halt_closes};
 ghost use Rattle.mq_client.specs.Publishing.{resumed_of};
 
-use crate::halt::ClientError;
-use crate::keeper::{SaveError, SessionSaver};
+use crate::error::ClientError;
+use crate::saver::{SaveError, SessionSaver};
 use mq_end::{ClientEnd, CloseReason, Progress, PublishRefusal, State};
 use mq_flow::Sender;
 use mq_packet::{Message, NonEmpty, Request};

@@ -5,15 +5,15 @@ ghost use Rattle.mq_line.specs.Lines.{Prints};
 ghost use Rattle.mq_client.specs.Program.{IsNewClient};
 ghost use Rattle.mq_client.specs.Programs.{IsClientOf, IsKeptDone, IsMessagesDone, IsSessionDone, IsTextsDone};
 
-use crate::collecting::{CollectGoal, collect};
+use crate::collector::{CollectGoal, collect};
 use crate::dial::Dial;
-use crate::file::SessionFile;
-use crate::halt::ClientError;
-use crate::keeper::{NoSaver, SessionSaver, Stored};
-use crate::loading::{LoadFailure, load, new_client};
+use crate::session_file::SessionFile;
+use crate::error::ClientError;
+use crate::saver::{NoSaver, SessionSaver, SavingTo};
+use crate::client::{LoadFailure, load, new_client};
 use crate::peer::Peer;
-use crate::printing::{write_halt, write_unloaded};
-use crate::publishing::{Texts, publish, publish_all, resume};
+use crate::lines::{write_halt, write_unloaded};
+use crate::publisher::{Publications, publish, publish_all, resume};
 use mq_end::ClientEnd;
 use mq_stream::{Clock, Stream};
 use mq_wire::Text;
@@ -57,7 +57,7 @@ fn newly_connected<S: Stream, C: Clock, D: Dial<S, C>>(
 pub fn publish_texts<S: Stream + Drop, C: Clock + Drop, D: Dial<S, C>, W: Write>(
     alloc: Global,
     id: &Text,
-    texts: &Texts<'_>,
+    texts: &Publications<'_>,
     dialer: &mut D,
     output: &mut W,
 ) -> io::Result<u8>
@@ -100,11 +100,11 @@ pub fn collect_messages<S: Stream + Drop, C: Clock + Drop, D: Dial<S, C>, W: Wri
 fn start_anew<S: Stream + Drop, C: Clock + Drop, D: Dial<S, C>>(
     alloc: Global,
     id: &Text,
-    texts: &Texts<'_>,
+    texts: &Publications<'_>,
     dialer: &mut D,
 ) -> Result<(), ClientError> {
     let mut peer = newly_connected(alloc, id, dialer)?;
-    let none = Texts {
+    let none = Publications {
         texts: &[],
         ..*texts
     };
@@ -124,7 +124,7 @@ enum Unstarted {
 fn anew<S: Stream + Drop, C: Clock + Drop, D: Dial<S, C>>(
     alloc: Global,
     id: &Text,
-    texts: &Texts<'_>,
+    texts: &Publications<'_>,
     dialer: &mut D,
 ) -> Result<ClientEnd, ClientError>
     ensures { IfOk result (IsNewClient id.now) }
@@ -137,7 +137,7 @@ fn anew<S: Stream + Drop, C: Clock + Drop, D: Dial<S, C>>(
 fn client_of<S: Stream + Drop, C: Clock + Drop, D: Dial<S, C>, R: Files>(
     alloc: Global,
     id: &Text,
-    texts: &Texts<'_>,
+    texts: &Publications<'_>,
     files: &R,
     name: &str,
     dialer: &mut D,
@@ -161,11 +161,11 @@ fn kept_client<'a, S: Stream, C: Clock, D: Dial<S, C>, R: Files>(
     files: &'a R,
     name: &'a str,
     dialer: &mut D,
-) -> Result<Peer<S, C, Stored<SessionFile<'a, R>>>, ClientError>
+) -> Result<Peer<S, C, SavingTo<SessionFile<'a, R>>>, ClientError>
     ensures { IfOk result (λ peer. peer.client ≡ client) }
 {
     match SessionFile::new(alloc, files, name) {
-        Ok(store) => connected(client, dialer, Stored { alloc, store }),
+        Ok(store) => connected(client, dialer, SavingTo { alloc, store }),
         Err(error) => {
             drop(client);
             Err(ClientError::from(error))
@@ -177,7 +177,7 @@ fn kept_client<'a, S: Stream, C: Clock, D: Dial<S, C>, R: Files>(
 fn publish_kept<S: Stream + Drop, C: Clock + Drop, D: Dial<S, C>, R: Files, W: Write>(
     alloc: Global,
     client: ClientEnd,
-    texts: &Texts<'_>,
+    texts: &Publications<'_>,
     files: &R,
     name: &str,
     dialer: &mut D,
@@ -201,7 +201,7 @@ fn publish_kept<S: Stream + Drop, C: Clock + Drop, D: Dial<S, C>, R: Files, W: W
 pub fn publish_session<S: Stream + Drop, C: Clock + Drop, D: Dial<S, C>, R: Files, W: Write>(
     alloc: Global,
     id: &Text,
-    texts: &Texts<'_>,
+    texts: &Publications<'_>,
     files: &R,
     name: &str,
     dialer: &mut D,

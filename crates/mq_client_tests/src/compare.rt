@@ -1,4 +1,4 @@
-//! Texts that are as they are to be. Nothing else is held where they are compared, so that a walk over rows holds nothing either.
+//! Compares texts with what is wanted.
 
 use std::process::Abort;
 use std::test::Fail;

@@ -1,13 +1,13 @@
 use crate::compare::expect_told;
 use crate::script::{Line, Scripted, line_of, peer_at, told};
-use mq_client::{Texts, publish};
+use mq_client::{Publications, publish};
 use mq_topic::{Qos, TopicName};
 use std::alloc::Global;
 use std::process::Abort;
 use std::test::Fail;
 
 // The status, what is printed, and what is written, where texts are published at a peer.
-fn told_of(alloc: Global, peer: &mut Scripted, texts: &Texts<'_>) -> Result<String, Fail> {
+fn told_of(alloc: Global, peer: &mut Scripted, texts: &Publications<'_>) -> Result<String, Fail> {
     let mut output = Vec::new(alloc);
     let status = publish(alloc, peer, texts, true, &mut output)?;
     let written = peer.stream().written.as_slice();
@@ -18,7 +18,7 @@ fn told_of(alloc: Global, peer: &mut Scripted, texts: &Texts<'_>) -> Result<Stri
 fn published(alloc: Global, line: Line, qos: Qos, texts: &str) -> Result<String, Fail> {
     let topic = TopicName::parse(alloc, "t")?;
     let list: Vec<&str> = texts.split_whitespace().collect(alloc)?;
-    let texts = Texts {
+    let texts = Publications {
         topic: &topic,
         qos,
         retain: false,

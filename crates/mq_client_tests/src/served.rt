@@ -3,7 +3,7 @@
 use crate::compare::expect_told;
 use crate::script::{Steps, new_client, put, told};
 use bytes::Bytes;
-use mq_client::{CollectGoal, NoSaver, Peer, Texts, collect, publish};
+use mq_client::{CollectGoal, NoSaver, Peer, Publications, collect, publish};
 use mq_decode::Limits;
 use mq_end::{Happening, Progress, ServerConfig, ServerEnd};
 use mq_packet::{Message, NonEmpty, PacketId, Payload, SubAckCode};
@@ -112,7 +112,7 @@ fn peer_of(alloc: Global, most: usize) -> Result<Peer<Served, Steps, NoSaver>, F
 // What is published, so many bytes at a read, and the payloads that the server was handed.
 fn published(alloc: Global, qos: Qos, most: usize) -> Result<String, Fail> {
     let topic = TopicName::parse(alloc, "a/b")?;
-    let texts = Texts {
+    let texts = Publications {
         topic: &topic,
         qos,
         retain: true,

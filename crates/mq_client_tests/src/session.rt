@@ -4,7 +4,7 @@ use crate::compare::expect_told;
 use crate::disk::{Disk, Lent};
 use crate::script::bytes_of;
 use crate::side::{Dialer, Side};
-use mq_client::{Texts, publish_session};
+use mq_client::{Publications, publish_session};
 use mq_topic::{Qos, TopicName};
 use mq_wire::Text;
 use std::alloc::Global;
@@ -16,7 +16,7 @@ use std::test::Fail;
 fn run(alloc: Global, disk: &Disk, side: &RefCell<Side>, texts: &[&str]) -> Result<String, Fail> {
     let id = Text::new(alloc, "w")?;
     let topic = TopicName::parse(alloc, "t")?;
-    let texts = Texts {
+    let texts = Publications {
         topic: &topic,
         qos: Qos::Q2,
         retain: false,

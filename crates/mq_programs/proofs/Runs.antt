@@ -6,8 +6,8 @@ use Rattle.mq_topic.specs.declared.fault.TopicFault.{TopicFault}
 use Rattle.mq_topic.specs.declared.fault.TopicFault.TheVariants.{Memory}
 use Rattle.mq_cli.specs.declared.jobs.Collect.{Collect}
 use Rattle.mq_cli.specs.declared.jobs.Publish.{Publish}
-use Rattle.mq_client.specs.declared.collecting.CollectGoal.{CollectGoal}
-use Rattle.mq_client.specs.declared.publishing.Texts.{Texts}
+use Rattle.mq_client.specs.declared.collector.CollectGoal.{CollectGoal}
+use Rattle.mq_client.specs.declared.publisher.Publications.{Publications}
 use Rattle.mq_client.specs.Programs.{IsMessagesDone, IsSessionDone, IsTextsDone}
 use Rattle.mq_programs.specs.Runs.{AreTextsOf, IsBadTopic, IsCollected, IsPublished, IsWishOf}
 
@@ -22,12 +22,12 @@ pub collected : {E : Type 0} (r : Result ℕ E) (a b : Option (List ℕ)) (id : 
 collected r a b id words w same own =
     in_other_words r a b (IsMessagesDone id words.clean w) (IsCollected words) (λ status text p. (w, own, subst (λ i. IsMessagesDone i words.clean w status text) same p))
 
-pub published : {E : Type 0} (r : Result ℕ E) (a b : Option (List ℕ)) (id : List ℕ) (words : Publish) (t : Texts) → id ≡ words.id.now → words.session ≡ None → AreTextsOf words t
+pub published : {E : Type 0} (r : Result ℕ E) (a b : Option (List ℕ)) (id : List ℕ) (words : Publish) (t : Publications) → id ≡ words.id.now → words.session ≡ None → AreTextsOf words t
     → IfOk r (λ status. Prints a b (IsTextsDone id t status)) → IfOk r (λ status. Prints a b (IsPublished words status))
 published r a b id words t same none own =
     in_other_words r a b (IsTextsDone id t) (IsPublished words) (λ status text p. (t, own, inl (none, subst (λ i. IsTextsDone i t status text) same p)))
 
-pub resumed : {E : Type 0} (r : Result ℕ E) (a b : Option (List ℕ)) (id : List ℕ) (words : Publish) (t : Texts) → id ≡ words.id.now → AreTextsOf words t
+pub resumed : {E : Type 0} (r : Result ℕ E) (a b : Option (List ℕ)) (id : List ℕ) (words : Publish) (t : Publications) → id ≡ words.id.now → AreTextsOf words t
     → IfOk r (λ status. Prints a b (IsSessionDone id t status)) → IfOk r (λ status. Prints a b (IsPublished words status))
 resumed r a b id words t same own =
     in_other_words r a b (IsSessionDone id t) (IsPublished words) (λ status text p. (t, own, inr (subst (λ i. IsSessionDone i t status text) same p)))

@@ -7,12 +7,12 @@ use Rattle.mq_cli.specs.declared.jobs.Command.{Command}
 use Rattle.mq_cli.specs.declared.jobs.Command.TheVariants as commands
 use Rattle.mq_cli.specs.declared.jobs.Publish.{Publish}
 use Rattle.mq_cli.specs.Printed.{topic_line}
-use Rattle.mq_client.specs.declared.collecting.CollectGoal.{CollectGoal}
-use Rattle.mq_client.specs.declared.publishing.Texts.{Texts}
+use Rattle.mq_client.specs.declared.collector.CollectGoal.{CollectGoal}
+use Rattle.mq_client.specs.declared.publisher.Publications.{Publications}
 use Rattle.mq_client.specs.Programs.{IsMessagesDone, IsSessionDone, IsTextsDone}
 
 -- these are the texts that the words give, and what they are published to
-pub record AreTextsOf (words : Publish) (t : Texts) : Type 0 where
+pub record AreTextsOf (words : Publish) (t : Publications) : Type 0 where
   pub topic : t.topic.now ≡ words.topic.now
   pub qos : t.qos ≡ words.qos
   pub retain : t.retain ≡ words.retain
@@ -31,7 +31,7 @@ IsBadTopic kind found status text = (fault : TopicFault) × (found ≡ Some faul
 -- the texts of the words are published, over a session in a file where the words name one, else over a clean session
 abbrev pub IsPublished : Publish → ℕ → List ℕ → Type 0
 IsPublished words status text =
-    (t : Texts) × AreTextsOf words t × (((words.session ≡ None) × IsTextsDone words.id.now t status text) ⊎ IsSessionDone words.id.now t status text)
+    (t : Publications) × AreTextsOf words t × (((words.session ≡ None) × IsTextsDone words.id.now t status text) ⊎ IsSessionDone words.id.now t status text)
 
 -- `publish` with these words
 abbrev pub IsPublishRun : Publish → ℕ → List ℕ → Type 0

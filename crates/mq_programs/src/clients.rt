@@ -7,7 +7,7 @@ ghost use Rattle.mq_cli.specs.Printed.{topic_line};
 ghost use Rattle.mq_programs.specs.Runs.{IsBadTopic, IsClientRun, IsCollectRun, IsCollected, IsPublishRun, IsPublished};
 
 use mq_cli::{Collect, Command, Failure, Publish};
-use mq_client::{CollectGoal, Loopback, Texts, collect_messages, publish_session, publish_texts};
+use mq_client::{CollectGoal, Loopback, Publications, collect_messages, publish_session, publish_texts};
 use mq_topic::{TopicFault, TopicFilter, TopicName};
 use mq_wire::{Text, TextFault};
 use std::alloc::Global;
@@ -96,7 +96,7 @@ fn publish_as<R: Net + Clock + Files, W: Write>(
     ensures { IfOk result (λ status. Prints (W.contents output.old) (W.contents output.new)
         (IsPublished words.now status)) }
 {
-    let texts = Texts {
+    let texts = Publications {
         topic,
         qos: words.qos,
         retain: words.retain,

@@ -5,7 +5,7 @@ use crate::hexes::{add_digits, bytes_of};
 use crate::outcome::Outcome;
 use crate::ran::{Ran, outcome};
 use crate::side::{Dialer, Side};
-use mq_client::{Texts, publish_session};
+use mq_client::{Publications, publish_session};
 use mq_end::CloseReason;
 use mq_topic::{Qos, TopicName};
 use mq_wire::Text;
@@ -71,7 +71,7 @@ fn publish<R: Files>(
 ) -> Result<u8, Fault> {
     let id = Text::new(alloc, "w").ok().ok_or(Fault::Memory)?;
     let topic = TopicName::parse(alloc, "t").ok().ok_or(Fault::Memory)?;
-    let texts = Texts {
+    let texts = Publications {
         topic: &topic,
         qos: Qos::Q2,
         retain: false,
