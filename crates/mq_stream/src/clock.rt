@@ -1,15 +1,22 @@
-//! Moments.
+//! Clocks.
+
+ghost use Rattle.std.specs.Prelude.{List, ℕ, Option, None, ◌∷◌, []};
+ghost use Rattle.std.specs.Io.KnownBytes.{Appends};
 
 use std::time;
 use std::time::Instant;
 
-/// A clock.
+/// A clock that counts milliseconds.
 pub trait Clock {
-    /// The milliseconds since the start.
-    fn now(&mut self) -> u64;
+    /// The times that it reported, in order, if they are known.
+    ghost reported: { Self → Option (List ℕ) } = { λ _. None };
+
+    /// The milliseconds since a fixed instant.
+    fn now(&mut self) -> u64
+        ensures { Appends (reported self.old) (reported self.new) (result ∷ []) };
 }
 
-/// The time since an instant. Where it can't be told, it is the last one that could.
+/// The time since an instant. If the system clock fails, the last known time is reported again.
 #[derive(Drop)]
 pub struct Elapsed<'a, T: time::Clock> {
     clock: &'a T,
@@ -18,7 +25,7 @@ pub struct Elapsed<'a, T: time::Clock> {
 }
 
 impl<'a, T: time::Clock> Elapsed<'a, T> {
-    /// The time since this instant.
+    /// The time since `start`, by `clock`.
     pub fn since(clock: &'a T, start: Instant) -> Elapsed<'a, T> {
         Elapsed {
             clock,
