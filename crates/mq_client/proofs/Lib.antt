@@ -1,4 +1,6 @@
 pub mod Courses
+pub mod Files
+pub mod Grown
 pub mod Published
 pub mod Collected
 pub mod Gathers

@@ -1,46 +1,46 @@
-//! The client of the programs, new or with a session that was saved.
+//! The client of the programs: new, or with a saved session.
 
-ghost use Rattle.std.specs.Prelude.{◌≡◌, ℕ, List, IfErr, IfOk, IfSome};
+ghost use Rattle.std.specs.Prelude.{◌≡◌, ℕ, List, IfErr, IfOk, MatchOption};
 ghost use Rattle.mq_flow.specs.declared.saved.Saved as value;
 ghost use Rattle.mq_client.specs.Halts.{unloaded_status};
+ghost use Rattle.mq_client.specs.Disk.{Contains, IsMissing};
 ghost use Rattle.mq_client.specs.Program.{CanGoOn, GoesOn, IsNewClient, program_config};
 
+use crate::disk::Disk;
 use mq_decode::Limits;
 use mq_end::{ClientConfig, ClientEnd};
 use mq_flow::{LoadError, Saved};
 use mq_wire::Text;
 use std::alloc::{AllocError, Global};
-use std::fs::File;
 use std::io;
-use std::io::{ErrorKind, Read};
-use std::rt::Files;
+use std::io::ErrorKind;
 use thiserror::Error;
 
-/// The greatest remaining length of packets that come or go (2.2.3).
+/// The maximum remaining length of packets that are sent or received (2.2.3).
 const MOST_PACKET: u32 = 1_048_576;
 
-/// The most packet identifiers in use of a new session (2.3.1).
+/// The maximum number of packet identifiers in use, for a new session (2.3.1).
 const CAPACITY: u16 = 100;
 
 /// Keep-alive in seconds (3.1.2.10).
 const KEEP_ALIVE: u16 = 60;
 
-/// Why a file gives no session.
+/// Why a session was not loaded.
 #[derive(Clone, Copy, Debug, PartialEq, Eq, Error)]
 pub enum LoadFailure {
     /// The file could not be read.
     #[error("the file was not read")]
     Unread,
-    /// Its bytes are no session that the client can go on with.
+    /// Its bytes are not a session that the client can go on with.
     #[error("{0}")]
     Session(LoadError),
-    /// Memory ran out.
+    /// An allocation failed.
     #[error("out of memory")]
     Memory,
 }
 
 impl LoadFailure {
-    /// The status that the program ends with: 3 where memory ran out, else 2.
+    /// The status of the program: 3 for `Memory`, else 2.
     pub fn status(self) -> u8
         ensures { result ≡ unloaded_status self }
     {
@@ -51,7 +51,7 @@ impl LoadFailure {
     }
 }
 
-// What the programs say of their client.
+// The configuration of the programs' client.
 fn config_of(id: Text) -> ClientConfig
     ensures { result ≡ program_config id }
 {
@@ -66,14 +66,14 @@ fn config_of(id: Text) -> ClientConfig
     }
 }
 
-/// A client of this identifier, without a session.
+/// A client with this identifier, without a session.
 pub fn new_client(alloc: Global, id: &Text) -> Result<ClientEnd, AllocError>
     ensures { IfOk result (IsNewClient id.now) }
 {
     Ok(ClientEnd::new(alloc, config_of(id.clone()?)))
 }
 
-/// A client of this identifier with the session of which these bytes are the saved form (4.1).
+/// A client with this identifier and the session that `bytes` are the saved form of (4.1).
 pub fn saved_client(alloc: Global, id: &Text, bytes: &[u8]) -> Result<ClientEnd, LoadError>
     ensures ok { IfOk result (GoesOn id.now bytes.now) }
     ensures loads { (saved : value.Saved) → CanGoOn id.now bytes.now saved
@@ -86,19 +86,7 @@ pub fn saved_client(alloc: Global, id: &Text, bytes: &[u8]) -> Result<ClientEnd,
     }
 }
 
-// The bytes of a file, `None` where there is no file of this name.
-fn read_file<R: Files>(alloc: Global, files: &R, name: &str) -> io::Result<Option<Vec<u8>>> {
-    let mut file = match File::open(files, name) {
-        Ok(file) => file,
-        Err(error) if error.kind() == ErrorKind::NotFound => return Ok(None),
-        Err(error) => return Err(error),
-    };
-    let mut bytes = Vec::new(alloc);
-    file.read_to_end(&mut bytes)?;
-    Ok(Some(bytes))
-}
-
-// What stops a program whose file could not be read.
+// The failure of a file that could not be read.
 fn unread(error: &io::Error) -> LoadFailure {
     match error.kind() {
         ErrorKind::OutOfMemory => LoadFailure::Memory,
@@ -106,17 +94,18 @@ fn unread(error: &io::Error) -> LoadFailure {
     }
 }
 
-/// A client of this identifier with the session that a file has, `None` where there is no file of this name.
-pub fn load<R: Files>(
+/// A client with this identifier and the session in a file. Returns `None` only if there is no file
+/// of this name.
+pub fn load<D: Disk>(
     alloc: Global,
-    files: &R,
+    disk: &D,
     name: &str,
     id: &Text,
 ) -> Result<Option<ClientEnd>, LoadFailure>
-    ensures { IfOk result (λ found. IfSome found (λ client.
-        (bytes : List ℕ) × GoesOn id.now bytes client)) }
+    ensures { IfOk result (λ found. MatchOption found (IsMissing (D.history disk.now) name.now)
+        (λ client. (bytes : List ℕ) × Contains (D.history disk.now) name.now bytes × GoesOn id.now bytes client)) }
 {
-    match read_file(alloc, files, name) {
+    match disk.read(alloc, name) {
         Ok(Some(bytes)) => match saved_client(alloc, id, bytes.as_slice()) {
             Ok(client) => Ok(Some(client)),
             Err(LoadError::Memory) => Err(LoadFailure::Memory),

@@ -1,4 +1,4 @@
-//! Why a client program stops before it is done.
+//! The errors of the client programs.
 
 ghost use Rattle.std.specs.Prelude.{◌≡◌};
 ghost use Rattle.mq_client.specs.Halts.{halt_status};
@@ -7,31 +7,31 @@ use mq_end::{CloseReason, PublishRefusal};
 use std::alloc::AllocError;
 use thiserror::Error;
 
-/// Why a client program stops before it is done.
+/// Why a client program stopped early.
 #[derive(Clone, Copy, Debug, PartialEq, Eq, Error)]
 pub enum ClientError {
     /// The end closed the connection.
     #[error("closed: {0}")]
     Closed(CloseReason),
-    /// The stream ended or failed, or nothing came for too long.
+    /// The stream ended or failed, or too many reads in a row brought nothing.
     #[error("connection failed")]
     Lost,
-    /// A message can't be published at all.
+    /// A message can't be published, now or later.
     #[error("refused: {0}")]
     Refused(PublishRefusal),
     /// The server refused the subscription (3.9.3).
     #[error("not subscribed")]
     NotSubscribed,
-    /// The session could not be kept.
+    /// The session could not be saved.
     #[error("session not written")]
     SaveError,
-    /// Memory ran out.
+    /// An allocation failed.
     #[error("out of memory")]
     Memory,
 }
 
 impl ClientError {
-    /// The status that the program ends with: 3 where memory ran out, else 1.
+    /// The status of the program: 3 for `Memory`, else 1.
     pub fn status(self) -> u8
         ensures { result ≡ halt_status self }
     {

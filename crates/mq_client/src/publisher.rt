@@ -6,9 +6,9 @@ ghost use Rattle.mq_client.specs.Halts.{closes_of};
 ghost use Rattle.mq_client.specs.Publishing.{AskedAll, AskedMore, IsPublishDone, IsResumeDone, Published, PublishHalts, asks_of, publishes, text_message};
 
 use crate::error::ClientError;
-use crate::saver::SessionSaver;
-use crate::peer::Peer;
 use crate::lines::write_halt;
+use crate::peer::Peer;
+use crate::saver::SessionSaver;
 use bytes::Bytes;
 use mq_end::PublishRefusal;
 use mq_packet::{Message, Payload};
@@ -18,16 +18,16 @@ use std::alloc::Global;
 use std::io;
 use std::io::Write;
 
-/// Publications that are to be published.
+/// Texts to publish.
 #[derive(Clone, Copy, Debug)]
 pub struct Publications<'a> {
-    /// What they are published to.
+    /// Their topic.
     pub topic: &'a TopicName,
-    /// How often each is handed on.
+    /// Their quality of service.
     pub qos: Qos,
-    /// RETAIN: the server keeps the last of them for later subscribers.
+    /// RETAIN: the server keeps the last text for later subscribers (3.3.1.3).
     pub retain: bool,
-    /// What they say.
+    /// The texts.
     pub texts: &'a [&'a str],
 }
 
@@ -48,7 +48,7 @@ fn message_of(alloc: Global, texts: &Publications<'_>, text: &str) -> Result<Mes
     })
 }
 
-// Publishes the texts from `next` on, up to one that has to wait.
+// Publishes the texts from `next` on, until one has to wait.
 fn publish_more<S: Stream, C: Clock, K: SessionSaver>(
     alloc: Global,
     peer: &mut Peer<S, C, K>,
@@ -68,7 +68,7 @@ fn publish_more<S: Stream, C: Clock, K: SessionSaver>(
     Ok(())
 }
 
-// Publishes all texts, and waits until they are acknowledged.
+// Publishes all texts and waits until they are acknowledged.
 fn publish_acknowledged<S: Stream, C: Clock, K: SessionSaver>(
     alloc: Global,
     peer: &mut Peer<S, C, K>,
@@ -89,7 +89,8 @@ fn publish_acknowledged<S: Stream, C: Clock, K: SessionSaver>(
     Err(ClientError::Lost)
 }
 
-/// Connects, with clean session or not, publishes the texts in order, waits until all of them are acknowledged, and leaves.
+/// Connects, publishes the texts in order, waits until all are acknowledged, and leaves. `clean` is
+/// the clean session flag.
 pub fn publish_all<S: Stream, C: Clock, K: SessionSaver>(
     alloc: Global,
     peer: &mut Peer<S, C, K>,
@@ -104,7 +105,7 @@ pub fn publish_all<S: Stream, C: Clock, K: SessionSaver>(
     peer.leave()
 }
 
-/// Does that, and prints how many texts were published, or why it stopped; answers the status of the program.
+/// Does the same, and prints the number of texts or why it stopped. Returns the status of the program.
 pub fn publish<S: Stream, C: Clock, K: SessionSaver, W: Write>(
     alloc: Global,
     peer: &mut Peer<S, C, K>,
@@ -124,8 +125,8 @@ pub fn publish<S: Stream, C: Clock, K: SessionSaver, W: Write>(
     }
 }
 
-/// Goes on with a session: prints how many messages of it are to be sent on, and publishes texts without a clean session; what is not
-/// acknowledged is sent again once the connection is up (4.4). Answers the status of the program.
+/// Goes on with a session: prints the number of its messages that are sent again (4.4), and publishes
+/// texts without a clean session. Returns the status of the program.
 pub fn resume<S: Stream, C: Clock, K: SessionSaver, W: Write>(
     alloc: Global,
     peer: &mut Peer<S, C, K>,

@@ -1,4 +1,4 @@
-//! What is done about a session before bytes of it go out.
+//! Session savers.
 
 ghost use Rattle.std.specs.Prelude.{ℕ, List, Option, None, [], ◌∷◌, OnErr, OnOk};
 ghost use Rattle.mq_client.specs.Keeping.{Holds, saved_of};
@@ -7,30 +7,30 @@ use mq_end::ClientEnd;
 use std::alloc::Global;
 use thiserror::Error;
 
-/// A session was not kept.
+/// Why a session was not saved.
 #[derive(Clone, Copy, Debug, PartialEq, Eq, Error)]
 pub enum SaveError {
     /// It could not be written.
     #[error("the session was not written")]
     Unwritten,
-    /// Memory ran out.
+    /// An allocation failed.
     #[error("out of memory")]
     Memory,
 }
 
-/// Who keeps a session, as a file does. Where it is known what is kept, its contracts say so.
+/// Saves the session of a client, for example to a file.
 pub trait SessionSaver {
-    /// The bytes that are kept, where they are known.
+    /// The bytes that are saved, if they are known.
     ghost kept: { Self → Option (List ℕ) } = { λ _. None };
 
-    /// Keeps the session of the client as it is. It is called before any byte goes out that a change of it put out, and also where
-    /// nothing has changed. After an error no byte goes out.
+    /// Saves the session of the client as it is now. A [`Peer`](crate::Peer) calls this each time
+    /// before it sends bytes, also if the session has not changed. After an error it sends nothing.
     fn keep(&mut self, client: &ClientEnd) -> Result<(), SaveError>
         ensures ok { OnOk result (Holds (kept self.old) (kept self.new) (saved_of client.now ∷ [])) }
         ensures err { OnErr result (Holds (kept self.old) (kept self.new) []) };
 }
 
-/// Keeps nothing: the session ends with the program.
+/// Saves nothing: the session ends with the program.
 #[derive(Clone, Copy, Debug, PartialEq, Eq)]
 pub struct NoSaver;
 
@@ -40,23 +40,23 @@ impl SessionSaver for NoSaver {
     }
 }
 
-/// Where the saved form of a session stands. Where it is known what stands there, its contracts say so.
+/// A place for the saved form of one session.
 pub trait Store {
-    /// The bytes that stand there, where they are known.
+    /// The bytes that are stored, if they are known.
     ghost stands: { Self → Option (List ℕ) } = { λ _. None };
 
-    /// Puts these bytes there, in the place of those that stood there: after an error those stand there still.
+    /// Replaces the stored bytes by these. After an error the old ones are still stored.
     fn replace(&mut self, form: Vec<u8>) -> Result<(), SaveError>
         ensures ok { OnOk result (Holds (stands self.old) (stands self.new) (form.items ∷ [])) }
         ensures err { OnErr result (Holds (stands self.old) (stands self.new) []) };
 }
 
-/// Keeps the whole saved form of the session in a store, each time anew.
+/// Saves the whole session to a store, each time anew.
 #[derive(Drop)]
 pub struct SavingTo<S: Store> {
-    /// For the saved form.
+    /// The allocator of the saved form.
     pub alloc: Global,
-    /// Where it stands.
+    /// The store.
     pub store: S,
 }
 

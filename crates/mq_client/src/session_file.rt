@@ -1,69 +1,103 @@
 //! A session in a file.
 
-use crate::saver::{SaveError, Store};
-use std::alloc::{AllocError, Global};
-use std::fs::OpenFile;
-use std::io::Write;
-use std::rt::Files;
-use std::{fs, io};
+ghost use Rattle.std.specs.Prelude.{◌≡◌, true, OnErr, OnOk};
+ghost use Rattle.mq_client.specs.Disk.{Replaced, Unchanged, history_of, stands_of};
 
-/// The file in which a session stands. Its bytes are written to a file beside it, of the same name with `.new` behind, which is then
-/// renamed to it: so there stand the bytes of before or the new ones, also where the program is stopped in the middle.
+use crate::disk::Disk;
+use crate::saver::{SaveError, Store};
+use std::alloc::Global;
+use std::marker::Model;
+
+/// The file of a session.
+///
+/// Its bytes are written to a draft, a file of the same name with `.new` behind it, which is synced
+/// and then renamed. So a crash at any time leaves the old session or the new one, never a part.
+/// Bytes that were written last are not written again.
 #[derive(Drop)]
-pub struct SessionFile<'a, R: Files> {
-    files: &'a R,
+pub struct SessionFile<'a, D: Disk> {
+    alloc: Global,
+    disk: D,
     name: &'a str,
-    draft: String,
-    // What was put there last, by this program.
     last: Option<Vec<u8>>,
 }
 
-impl<'a, R: Files> SessionFile<'a, R> {
+impl<'a, D: Disk> Model for SessionFile<'a, D> {
+    ghost use Rattle.std.specs.Prelude.{List, Option, IfSome};
+    ghost use Rattle.mq_client.specs.Disk.{Entry, IsLast, history_of};
+
+    ghost Value = { Option (List Entry) };
+
+    ghost view = { λ f. history_of (D.history f.disk) f.name.now };
+
+    ghost invariant = { λ f. IfSome f.last (λ form. IsLast (history_of (D.history f.disk) f.name.now) form.items) };
+}
+
+impl<'a, D: Disk> SessionFile<'a, D> {
     /// The file of this name.
-    pub fn new(
-        alloc: Global,
-        files: &'a R,
-        name: &'a str,
-    ) -> Result<SessionFile<'a, R>, AllocError> {
-        let draft = format!(in alloc; "{name}.new")?;
-        Ok(SessionFile {
-            files,
+    pub fn new(alloc: Global, disk: D, name: &'a str) -> SessionFile<'a, D>
+        ensures { result ≡ history_of (D.history disk) name.now }
+    {
+        SessionFile {
+            alloc,
+            disk,
             name,
-            draft,
             last: None,
-        })
+        }
     }
 
-    // Whether these bytes stand there already.
-    fn has(&self, form: &[u8]) -> bool {
+    // Whether these bytes were written last.
+    fn has(&self, form: &[u8]) -> bool
+        ensures { result ≡ true → Replaced self.now self.now form.now }
+    {
         match &self.last {
             Some(last) => last.as_slice() == form,
             None => false,
         }
     }
-}
 
-impl<R: Files> Store for SessionFile<'_, R> {
-    fn replace(&mut self, form: Vec<u8>) -> Result<(), SaveError> {
+    /// Replaces the session in the file. After an error the old one is still there.
+    #[tactic(auto, using(crate::proofs::Files::last_unchanged, crate::proofs::Files::last_replaced, crate::proofs::Files::unchanged_none))]
+    pub fn save(&mut self, form: Vec<u8>) -> Result<(), SaveError>
+        ensures ok { OnOk result (Replaced self.old self.new form.items) }
+        ensures err { OnErr result (Unchanged self.old self.new) }
+    {
         if self.has(form.as_slice()) {
             return Ok(());
         }
-        let draft = self.draft.as_str();
-        if write_whole(self.files, draft, form.as_slice()).is_err() {
-            return Err(SaveError::Unwritten);
-        }
-        if fs::rename(self.files, draft, self.name).is_err() {
-            return Err(SaveError::Unwritten);
-        }
+        put(self.alloc, &mut self.disk, self.name, form.as_slice())?;
         self.last = Some(form);
         Ok(())
     }
 }
 
-// Writes a file anew, down to its disk.
-fn write_whole<R: Files>(files: &R, name: &str, bytes: &[u8]) -> io::Result<()> {
-    let mut file = fs::create(files, name)?;
-    file.write_all(bytes)?;
-    file.flush()?;
-    file.sync_all()
+impl<D: Disk> Store for SessionFile<'_, D> {
+    ghost stands = { λ f. stands_of f };
+
+    #[tactic(auto, using(crate::proofs::Files::holds_replaced, crate::proofs::Files::holds_unchanged))]
+    fn replace(&mut self, form: Vec<u8>) -> Result<(), SaveError> {
+        self.save(form)
+    }
+}
+
+// Writes a draft, syncs it and renames it.
+fn put<D: Disk>(alloc: Global, disk: &mut D, name: &str, form: &[u8]) -> Result<(), SaveError>
+    ensures ok { OnOk result (Replaced (history_of (D.history disk.old) name.now)
+        (history_of (D.history disk.new) name.now) form.now) }
+    ensures err { OnErr result (Unchanged (history_of (D.history disk.old) name.now)
+        (history_of (D.history disk.new) name.now)) }
+{
+    let Ok(draft) = format!(in alloc; "{name}.new") else {
+        return Err(SaveError::Memory);
+    };
+    let draft = draft.as_str();
+    if let Err(_) = disk.write(draft, form) {
+        return Err(SaveError::Unwritten);
+    }
+    if let Err(_) = disk.sync(draft) {
+        return Err(SaveError::Unwritten);
+    }
+    match disk.rename(draft, name) {
+        Ok(()) => Ok(()),
+        Err(_) => Err(SaveError::Unwritten),
+    }
 }
