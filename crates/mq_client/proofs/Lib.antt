@@ -1,7 +1,9 @@
 pub mod Courses
+pub mod Files
+pub mod Grown
 pub mod Published
 pub mod Collected
-pub mod SmallListBuilder
+pub mod Gathers
 pub mod Collects
 pub mod Resumed
 pub mod Wholes

@@ -12,14 +12,14 @@ use Rattle.mq_flow.specs.SavedTwo.{IsSavedAs}
 use Rattle.mq_end.specs.declared.config.ClientConfig.{ClientConfig}
 use Rattle.mq_end.specs.End.{resumed}
 use Rattle.mq_end.specs.Publishing.{ClientState}
-use Rattle.mq_client.specs.declared.publishing.Texts.{Texts}
+use Rattle.mq_client.specs.declared.publisher.Publications.{Publications}
 use Rattle.mq_client.specs.Course.{Moment}
 use Rattle.mq_client.specs.Printed.{resumed_line}
 use Rattle.mq_client.specs.Program.{GoesOn, program_config}
 use Rattle.mq_client.specs.Publishing.{IsPublishDone, IsResumeDone, resumed_of}
 
 -- the count was printed, and then what `publish` prints
-pub resumed_then : {E : Type 0} → (r : Result ℕ E) (a b : Moment) (t : Texts) (w v x y : Option (List ℕ)) → Appends w v (resumed_line (resumed_of a.client.link.end)) → Keeps v x
+pub resumed_then : {E : Type 0} → (r : Result ℕ E) (a b : Moment) (t : Publications) (w v x y : Option (List ℕ)) → Appends w v (resumed_line (resumed_of a.client.link.end)) → Keeps v x
     → IfOk r (λ status. Prints x y (IsPublishDone a b false t status)) → IfOk r (λ status. Prints w y (IsResumeDone a b t status))
 resumed_then (Ok status) a b t w v x y line keeps p = (resumed_line (resumed_of a.client.link.end) ++ p.0, Appends-trans w x y _ _ (Appends-kept w v x _ line keeps) p.1, (p.0, refl, p.2))
 resumed_then (Err e) a b t w v x y line keeps p = tt

@@ -1,7 +1,7 @@
 -- What `collect` does.
-use Rattle.std.specs.Prelude.{◌≡◌, ◌⊎◌, ⊤, ℕ, ◌≤◌, Bool, true, false, List, [], ◌∷◌, ◌++◌, length, Option, Result, Err, OnOk}
+use Rattle.std.specs.Prelude.{◌≡◌, ◌⊎◌, ⊤, ℕ, ◌≤◌, ◌<◌, ◌-◌, Bool, true, false, List, [], ◌∷◌, ◌++◌, length, Option, Result, Err, OnOk}
 use Rattle.std.specs.List.{flat_map}
-use Rattle.std.specs.Io.KnownBytes.{Appends}
+use Rattle.std.specs.Io.KnownBytes.{Appends, Keeps as Silent}
 use Rattle.mq_flow.specs.Receiver.{none_received}
 use Rattle.mq_packet.specs.declared.message.Message.{Message}
 use Rattle.mq_packet.specs.declared.packet.Request.{Request}
@@ -11,28 +11,29 @@ use Rattle.mq_end.specs.declared.happening.Happening.{Happening}
 use Rattle.mq_end.specs.declared.happening.Happening.TheVariants as happens
 use Rattle.mq_end.specs.declared.reason.CloseReason.{CloseReason}
 use Rattle.mq_end.specs.End.{is_up}
-use Rattle.mq_client.specs.declared.halt.ClientError.{ClientError}
-use Rattle.mq_client.specs.declared.halt.ClientError.TheVariants.{Memory}
-use Rattle.mq_client.specs.declared.collecting.CollectGoal.{CollectGoal}
+use Rattle.mq_end.specs.Publishing.{ClientState}
+use Rattle.mq_client.specs.declared.error.ClientError.{ClientError}
+use Rattle.mq_client.specs.declared.error.ClientError.TheVariants.{Memory}
+use Rattle.mq_client.specs.declared.collector.CollectGoal.{CollectGoal}
 use Rattle.mq_client.specs.Course.{Ask, Leaves, Moment, Opening, Subscription, Went}
-use Rattle.mq_client.specs.Halts.{closes_of, halt_status}
+use Rattle.mq_client.specs.Halts.{Closes, halt_status}
 use Rattle.mq_client.specs.Printed.{halt_line, subscribed_line, told_line}
 
--- what is asked for (3.8.3)
+-- the subscription that is requested (3.8.3)
 abbrev pub request_of : CollectGoal → Request
-request_of w = record { filter = w.filter.now; qos = w.qos }
+request_of goal = record { filter = goal.filter.now; qos = goal.qos }
 
 -- one connection, with clean session or not (3.1), and then the subscription
 abbrev pub collects : Bool → CollectGoal → List Ask
-collects clean w = Opening clean ∷ Subscription (request_of w ∷ []) ∷ []
+collects clean goal = Opening clean ∷ Subscription (request_of goal ∷ []) ∷ []
 
--- the first code grants what was asked for (3.9.3)
+-- the first code grants the subscription (3.9.3)
 abbrev pub grants : List SubAckCode → Bool
 grants [] = false
 grants (Granted qos ∷ codes) = true
 grants (Failure ∷ codes) = false
 
--- the server has answered the subscription, and granted it, or not
+-- the server answered the subscription, and granted it or not
 pub record IsAnswered (granted : Bool) (told : List Happening) : Type 0 where
   pub before : List Happening
   pub id : ℕ
@@ -41,7 +42,7 @@ pub record IsAnswered (granted : Bool) (told : List Happening) : Type 0 where
   pub parts : told ≡ before ++ happens.SubAck id given ∷ after
   pub answers : granted ≡ grants given
 
--- the message that is handed on
+-- the message that is delivered to the application
 abbrev pub handed : Happening → List Message
 handed (happens.Up present) = []
 handed (happens.Handed m) = m ∷ []
@@ -51,13 +52,13 @@ handed (happens.SubAck id given) = []
 handed (happens.UnsubAck id) = []
 handed happens.Pong = []
 
--- What is told is all there, and the end closed for the reason that the program stops for; but where memory ran out, what came with
--- the last bytes may be missing.
+-- No happening is missing, and the result reports why the end closed. Only if memory ran out, the happenings of the last
+-- read may be missing.
 abbrev pub Misses : Result ⊤ ClientError → List Happening → List CloseReason → Type 0
 Misses (Err Memory) rest reasons = ⊤
-Misses r rest reasons = (rest ≡ []) × (reasons ≡ closes_of r)
+Misses r rest reasons = (rest ≡ []) × Closes r reasons
 
--- From one moment to another this was asked for, and what was told is kept behind what was kept before.
+-- These requests were made, and the happenings were appended to a list.
 pub record Keeps (a b : Moment) (asks : List Ask) (old new : List Happening) (r : Result ⊤ ClientError) : Type 0 where
   pub told : List Happening
   pub rest : List Happening
@@ -66,49 +67,103 @@ pub record Keeps (a b : Moment) (asks : List Ask) (old new : List Happening) (r 
   pub kept : new ≡ old ++ told
   pub misses : Misses r rest reasons
 
--- It stopped: the first of these were asked for, in order, and nothing else.
+-- The program stopped early: only a front of these requests was made.
 pub record KeepsFirst (a b : Moment) (all : List Ask) (old new : List Happening) (r : Result ⊤ ClientError) : Type 0 where
   pub asks : List Ask
   pub rest : List Ask
   pub parts : all ≡ asks ++ rest
   pub keeps : Keeps a b asks old new r
 
--- What was told is printed; where all is well, at least so many messages were handed on, none waits for its release (4.3.3), and the
--- connection is up.
+-- No delivered message is acknowledged: since the first one was delivered, nothing was sent.
+pub record Unacknowledged (a b : Moment) : Type 0 where
+  pub last : Moment
+  pub asks : List Ask
+  pub more : List Ask
+  pub told : List Happening
+  pub rest : List Happening
+  pub reasons : List CloseReason
+  pub before : Went a last asks told []
+  pub none : flat_map handed told ≡ []
+  pub after : Went last b more rest reasons
+  pub silent : Silent last.written b.written
+
+-- The output failed. Every message until `last` is printed after a first line, and nothing was sent since. So a
+-- message that may not be printed is not acknowledged (4.3.2, 4.3.3).
+pub record Unprinted (a b : Moment) (line : List ℕ) (old new : Option (List ℕ)) : Type 0 where
+  pub last : Moment
+  pub asks : List Ask
+  pub more : List Ask
+  pub told : List Happening
+  pub rest : List Happening
+  pub closed : List CloseReason
+  pub reasons : List CloseReason
+  pub before : Went a last asks told closed
+  pub after : Went last b more rest reasons
+  pub silent : Silent last.written b.written
+  pub front : List ℕ
+  pub printed : Appends old new (line ++ (flat_map told_line told ++ front))
+
+-- what a writer has grew by some bytes
+abbrev pub Grows : Option (List ℕ) → Option (List ℕ) → Type 0
+Grows old new = (text : List ℕ) × Appends old new text
+
+-- more is needed: messages, the release of one (4.3.3), or the connection
+abbrev pub IsNeeded : ClientState → ℕ → ℕ → Type 0
+IsNeeded c delivered count =
+    (delivered < count) ⊎ ((c.link.end.received ≡ none_received → ⊥) ⊎ (is_up c.link.end.state ≡ false))
+
+-- Nothing was read, or the last read was needed: before it, there was a reason to go on.
+pub record IsJust (a : Moment) (told : List Happening) (count : ℕ) : Type 0 where
+  pub last : Moment
+  pub before : List Happening
+  pub after : List Happening
+  pub parts : told ≡ before ++ after
+  pub went : Went a last [] before []
+  pub needed : (after ≡ []) ⊎ IsNeeded last.client (length (flat_map handed before)) count
+
+-- The happenings are printed. If all went well, at least `count` messages were delivered, and no more than that took;
+-- every message is released (4.3.3), and the end is connected.
 pub record Gathers (a b : Moment) (old new : Option (List ℕ)) (count : ℕ) (r : Result ⊤ ClientError) : Type 0 where
   pub told : List Happening
-  pub went : Went a b [] told (closes_of r)
+  pub reasons : List CloseReason
+  pub went : Went a b [] told reasons
+  pub closes : Closes r reasons
   pub printed : Appends old new (flat_map told_line told)
   pub enough : OnOk r (count ≤ length (flat_map handed told))
+  pub just : OnOk r (IsJust a told count)
   pub released : OnOk r (b.client.link.end.received ≡ none_received)
   pub up : OnOk r (is_up b.client.link.end.state ≡ true)
 
--- A connection began, and the subscription was asked for once, and granted; so many messages were handed on and all are released; then the client left.
--- `subscribed` is printed, and then each message that was handed on, in order.
-pub record Collected (a b : Moment) (clean : Bool) (wish : CollectGoal) (text : List ℕ) : Type 0 where
+-- A connection began, and the subscription was requested once and granted. At least `count` messages were delivered, and
+-- no more than that took; all are released. Then the client left. `subscribed` is printed, and then each message.
+pub record Collected (a b : Moment) (clean : Bool) (goal : CollectGoal) (text : List ℕ) : Type 0 where
+  pub granted : Moment
   pub last : Moment
-  pub told : List Happening
-  pub went : Went a last (collects clean wish) told []
-  pub answered : IsAnswered true told
-  pub enough : wish.count ≤ length (flat_map handed told)
+  pub first : List Happening
+  pub more : List Happening
+  pub begun : Went a granted (collects clean goal) first []
+  pub went : Went granted last [] more []
+  pub answered : IsAnswered true first
+  pub enough : goal.count ≤ length (flat_map handed (first ++ more))
+  pub just : IsJust granted more (goal.count - length (flat_map handed first))
   pub released : last.client.link.end.received ≡ none_received
   pub leaves : Leaves last b
-  pub lines : text ≡ subscribed_line ++ flat_map told_line told
+  pub lines : text ≡ subscribed_line ++ flat_map told_line (first ++ more)
 
--- `subscribed` is printed where the subscription was granted, and else nothing
+-- `subscribed` is printed if the subscription was granted, and otherwise nothing
 abbrev pub IsFirstLine : List ℕ → List Happening → Type 0
 IsFirstLine line told = (line ≡ []) ⊎ ((line ≡ subscribed_line) × IsAnswered true told)
 
--- It stopped before. Each message that was handed on is printed, in order, and then why it stopped; but where memory ran out, those that
--- came with the last bytes may be missing.
-pub record CollectHalts (a b : Moment) (clean : Bool) (wish : CollectGoal) (halt : ClientError) (text : List ℕ) : Type 0 where
+-- The program stopped early. Each message that was delivered is printed, in order, and then why the program stopped.
+-- Only if memory ran out, the messages of the last read may be missing.
+pub record CollectHalts (a b : Moment) (clean : Bool) (goal : CollectGoal) (halt : ClientError) (text : List ℕ) : Type 0 where
   pub asks : List Ask
   pub told : List Happening
   pub rest : List Happening
   pub reasons : List CloseReason
   pub went : Went a b asks (told ++ rest) reasons
   pub others : List Ask
-  pub asked : collects clean wish ≡ asks ++ others
+  pub asked : collects clean goal ≡ asks ++ others
   pub misses : Misses (Err halt) rest reasons
   pub line : List ℕ
   pub first : IsFirstLine line told
@@ -116,5 +171,6 @@ pub record CollectHalts (a b : Moment) (clean : Bool) (wish : CollectGoal) (halt
 
 -- the status and the lines of `collect`
 abbrev pub IsCollectDone : Moment → Moment → Bool → CollectGoal → ℕ → List ℕ → Type 0
-IsCollectDone a b clean wish status text =
-    (Collected a b clean wish text × (status ≡ 0)) ⊎ ((halt : ClientError) × CollectHalts a b clean wish halt text × (status ≡ halt_status halt))
+IsCollectDone a b clean goal status text =
+    (Collected a b clean goal text × (status ≡ 0))
+    ⊎ ((halt : ClientError) × CollectHalts a b clean goal halt text × (status ≡ halt_status halt))

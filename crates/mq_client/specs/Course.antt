@@ -1,5 +1,5 @@
--- The course of a client end at a stream: the calls of it, in order, the bytes that came and went, and what was kept of its session
--- before bytes went (3.1 to 3.14, 4.1, 4.2).
+-- What a client end at a stream does: the calls of it, in order, the bytes that it received and sent, the times that
+-- its clock reported, and the sessions that were saved before bytes were sent (3.1 to 3.14, 4.1, 4.2).
 use Rattle.std.specs.Prelude.{◌≡◌, ℕ, Bool, true, false, List, [], ◌∷◌, ◌++◌, Option, None, Result, Ok, Err, option_to_list}
 use Rattle.std.specs.List.{flat_map}
 use Rattle.std.specs.Io.KnownBytes.{Appends, Consumes}
@@ -14,18 +14,20 @@ use Rattle.mq_end.specs.State.{PutsOut, no_bytes}
 use Rattle.mq_end.specs.Publishing.{Accepts, ClientState, connect_of}
 use Rattle.mq_end.specs.Receiving.{Acts, ClientReceives}
 use Rattle.mq_end.specs.Requests.{Requests, Ticks}
-use Rattle.mq_client.specs.declared.halt.ClientError.{ClientError}
+use Rattle.mq_client.specs.declared.error.ClientError.{ClientError}
 use Rattle.mq_client.specs.Keeping.{Holds, saved_of}
 
--- a client end at a stream, with the bytes that are to come and those that went, and with what is kept of its session, where these are known
+-- A client end at a stream. The bytes that are to come, the bytes that were sent, the session that is saved and the
+-- times that the clock reported are there if they are known. `quiet` counts the last reads that brought nothing.
 pub record Moment : Type 0 where
   pub client : ClientState
   pub coming : Option (List ℕ)
   pub written : Option (List ℕ)
   pub kept : Option (List ℕ)
+  pub times : Option (List ℕ)
+  pub quiet : ℕ
 
--- what the user of the end asks of it: a connection, with clean session or not (3.1), that a message is published (3.3), or a
--- subscription (3.8)
+-- a request of the user: a connection, with clean session or not (3.1), a publication (3.3) or a subscription (3.8)
 pub data Ask : Type 0 where
   Opening : Bool → Ask
   Publication : Message → Ask
@@ -34,19 +36,21 @@ pub data Ask : Type 0 where
 -- ---- steps
 
 pub data Step : Type 0 where
-  -- a connection begins at this moment, with clean session or not (3.1)
+  -- a connection begins at this time, with clean session or not (3.1)
   Connect : ℕ → Bool → Step
-  -- bytes come; this is told of them, and the end closes, or not
-  Hear : List ℕ → List Happening → Option CloseReason → Step
+  -- The client is told this time (3.1.2.10) and then receives bytes. The happenings follow, and why it closes, if it does.
+  Hear : ℕ → List ℕ → List Happening → Option CloseReason → Step
   -- a message is published (3.3)
   Publish : Message → Step
-  -- a subscription is asked for (3.8)
+  -- a subscription is requested (3.8)
   Subscribe : List Request → Step
-  -- it is this moment (3.12)
+  -- the client is told this time (3.1.2.10)
   Tick : ℕ → Step
+  -- the clock reports this time, and memory runs out before it is used
+  Starve : ℕ → Step
   -- the client leaves (3.14)
   Leave : Step
-  -- this is kept, the saved form of the session, and then these bytes, the first of those that wait, go over the stream
+  -- the saved form of the session is saved, and then bytes from the front of the output are sent
   Write : List ℕ → List ℕ → Step
   -- the connection is lost (4.2)
   Lose : Step
@@ -84,85 +88,103 @@ pub record Loses (a b : ClientState) : Type 0 where
 -- what a step does to the end
 abbrev pub Does : Step → ClientState → ClientState → Type 0
 Does (Connect now clean) a b = Connects now clean a b
-Does (Hear bytes told closed) a b = Hears bytes told closed a b
+Does (Hear now bytes told closed) a b = (m : ClientState) × Ticks now a.link m.link × Hears bytes told closed m b
 Does (Publish m) a b = Publishes m a b
 Does (Subscribe requests) a b = Subscribes requests a b
 Does (Tick now) a b = Ticks now a.link b.link
+Does (Starve now) a b = b ≡ a
 Does Leave a b = Acts (leaves a.link.end) a.link b.link
 Does (Write form bytes) a b = Writes form bytes a b
 Does Lose a b = Loses a b
 
--- steps one after another
+-- steps in order
 abbrev pub Runs : ClientState → List Step → ClientState → Type 0
 Runs a [] b = b ≡ a
 Runs a (s ∷ ss) b = (m : ClientState) × Does s a m × Runs m ss b
 
--- ---- what comes of steps
+-- ---- the results of steps
 
--- the bytes that came
+-- the bytes that were received
 abbrev pub heard : Step → List ℕ
-heard (Hear bytes told closed) = bytes
+heard (Hear now bytes told closed) = bytes
 heard s = []
 
--- the bytes that went
+-- the bytes that were sent
 abbrev pub sent : Step → List ℕ
 sent (Write form bytes) = bytes
 sent s = []
 
--- what is kept before bytes go
+-- the forms that were saved before bytes were sent
 abbrev pub forms : Step → List (List ℕ)
 forms (Write form bytes) = form ∷ []
 forms s = []
 
--- what was asked for
+-- the times that the clock reported
+abbrev pub readings : Step → List ℕ
+readings (Connect now clean) = now ∷ []
+readings (Hear now bytes told closed) = now ∷ []
+readings (Tick now) = now ∷ []
+readings (Starve now) = now ∷ []
+readings s = []
+
+-- the requests of the user
 abbrev pub asked : Step → List Ask
 asked (Connect now clean) = Opening clean ∷ []
 asked (Publish m) = Publication m ∷ []
 asked (Subscribe requests) = Subscription requests ∷ []
 asked s = []
 
--- what was told
+-- the happenings
 abbrev pub told : Step → List Happening
-told (Hear bytes happenings closed) = happenings
+told (Hear now bytes happenings closed) = happenings
 told s = []
 
 -- why the end closed
 abbrev pub closed : Step → List CloseReason
-closed (Hear bytes happenings why) = option_to_list why
+closed (Hear now bytes happenings why) = option_to_list why
 closed s = []
 
--- From one moment to another the end went through steps, by which this was asked for, this was told, and the end closed for
--- these reasons. It took in the bytes that came over the stream, and what went over the stream is what it put out, each time behind the
--- keeping of the session as it then was.
+-- Between two moments the end ran through steps, with these requests, happenings and reasons to close. It received the
+-- bytes that came over the stream. The bytes that were sent are its output, and before each write the session was saved
+-- as it was then. Every time that it was told is the next report of the clock.
 pub record Went (a b : Moment) (asks : List Ask) (happenings : List Happening) (reasons : List CloseReason) : Type 0 where
   pub steps : List Step
   pub runs : Runs a.client steps b.client
   pub comes : Consumes a.coming b.coming (flat_map heard steps)
   pub goes : Appends a.written b.written (flat_map sent steps)
   pub holds : Holds a.kept b.kept (flat_map forms steps)
+  pub clock : Appends a.times b.times (flat_map readings steps)
   pub asks_are : asks ≡ flat_map asked steps
   pub happenings_are : happenings ≡ flat_map told steps
   pub reasons_are : reasons ≡ flat_map closed steps
 
--- the first of these were asked for, in order, and nothing else
+-- only a front of these requests was made
 pub record WentFirst (a b : Moment) (all : List Ask) (happenings : List Happening) (reasons : List CloseReason) : Type 0 where
   pub asks : List Ask
   pub rest : List Ask
   pub parts : all ≡ asks ++ rest
   pub went : Went a b asks happenings reasons
 
--- The client leaves: behind what waits, DISCONNECT is the last that goes over the stream (3.14).
+-- The client is told a time that its clock reports, and nothing is sent or received.
+pub record Ticked (now : ℕ) (a b : Moment) : Type 0 where
+  pub ticks : Ticks now a.client.link b.client.link
+  pub coming : b.coming ≡ a.coming
+  pub written : b.written ≡ a.written
+  pub kept : b.kept ≡ a.kept
+  pub clock : Appends a.times b.times (now ∷ [])
+
+-- The client leaves: after the pending output, DISCONNECT is sent last (3.14).
 pub record Leaves (a b : Moment) : Type 0 where
   pub last : List ℕ
   pub disconnects : PutsOut (packets.Disconnect ∷ []) a.client.link.output last
   pub goes : Appends a.written b.written last
 
--- all that it published is acknowledged (4.3.2, 4.3.3)
+-- everything that it published is acknowledged (4.3.2, 4.3.3)
 abbrev pub IsIdle : End → Type 0
 IsIdle e = (e.book.entries ≡ []) × (e.book.released ≡ [])
 
--- the message is published where the answer says so
+-- a message counts as published exactly if the result is `Ok true`
 abbrev pub asked_by : Result Bool ClientError → Message → List Ask
 asked_by (Ok true) m = Publication m ∷ []
 asked_by (Ok false) m = []
-asked_by (Err halt) m = []
+asked_by (Err error) m = []

@@ -1,5 +1,6 @@
 pub mod Halts
 pub mod Keeping
+pub mod Disk
 pub mod Course
 pub mod Printed
 pub mod Publishing

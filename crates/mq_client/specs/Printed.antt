@@ -1,6 +1,5 @@
--- What the client programs print: lines, each with its end.
+-- The lines that the client programs print, each with its line end.
 use Rattle.std.specs.Prelude.{ℕ, List, [], ◌∷◌, ◌++◌, codes, decimal}
-use Rattle.std.specs.List.{flat_map}
 use Rattle.mq_line.specs.Lines.{escaped, hex_of}
 use Rattle.mq_topic.specs.Qos.{qos_number}
 use Rattle.mq_packet.specs.declared.message.Message.{Message}
@@ -8,10 +7,10 @@ use Rattle.mq_end.specs.declared.happening.Happening.{Happening}
 use Rattle.mq_end.specs.declared.happening.Happening.TheVariants as happens
 use Rattle.mq_end.specs.Codes.{close_code, refusal_code}
 use Rattle.mq_flow.specs.Codes.{load_code}
-use Rattle.mq_client.specs.declared.loading.LoadFailure.{LoadFailure}
-use Rattle.mq_client.specs.declared.loading.LoadFailure.TheVariants as unloaded
-use Rattle.mq_client.specs.declared.halt.ClientError.{ClientError}
-use Rattle.mq_client.specs.declared.halt.ClientError.TheVariants.{Closed, Lost, Refused, NotSubscribed, SaveError, Memory}
+use Rattle.mq_client.specs.declared.client.LoadFailure.{LoadFailure}
+use Rattle.mq_client.specs.declared.client.LoadFailure.TheVariants as unloaded
+use Rattle.mq_client.specs.declared.error.ClientError.{ClientError}
+use Rattle.mq_client.specs.declared.error.ClientError.TheVariants.{Closed, Lost, Refused, NotSubscribed, SaveError, Memory}
 
 -- why a program stops before it is done
 abbrev pub halt_line : ClientError → List ℕ
@@ -22,7 +21,7 @@ halt_line NotSubscribed = codes "not subscribed\n"
 halt_line SaveError = codes "session not written\n"
 halt_line Memory = codes "out of memory\n"
 
--- why a file gives no session
+-- why a file has no session to load
 abbrev pub unloaded_line : LoadFailure → List ℕ
 unloaded_line unloaded.Unread = codes "file not read\n"
 unloaded_line (unloaded.Session why) = codes "session " ++ (load_code why ++ codes "\n")
@@ -30,26 +29,27 @@ unloaded_line unloaded.Memory = codes "out of memory\n"
 
 -- ---- publish
 
--- how many messages were published
+-- the number of messages that were published
 abbrev pub published_line : ℕ → List ℕ
 published_line count = codes "published " ++ (decimal count ++ codes "\n")
 
--- how many messages of a session are to be sent on
+-- the number of messages of a session that are sent again
 abbrev pub resumed_line : ℕ → List ℕ
 resumed_line count = codes "resumed " ++ (decimal count ++ codes "\n")
 
 -- ---- collect
 
--- the bytes of a payload as digits, or `-` where there are none
+-- a payload in hexadecimal, or `-` for an empty one
 abbrev pub payload_word : List ℕ → List ℕ
 payload_word [] = codes "-"
 payload_word (b ∷ bs) = hex_of (b ∷ bs)
 
--- a message: its topic, its quality of service, its payload
+-- a message: topic, quality of service, payload
 abbrev pub message_line : Message → List ℕ
-message_line m = escaped m.topic ++ (codes " " ++ (decimal (qos_number m.qos) ++ (codes " " ++ (payload_word m.payload ++ codes "\n"))))
+message_line m =
+    escaped m.topic ++ (codes " " ++ (decimal (qos_number m.qos) ++ (codes " " ++ (payload_word m.payload ++ codes "\n"))))
 
--- of what an end tells, the messages that are handed on are printed
+-- only messages that are delivered to the application are printed
 abbrev pub told_line : Happening → List ℕ
 told_line (happens.Up present) = []
 told_line (happens.Handed m) = message_line m
@@ -58,9 +58,6 @@ told_line (happens.Unsubscribe id filters) = []
 told_line (happens.SubAck id given) = []
 told_line (happens.UnsubAck id) = []
 told_line happens.Pong = []
-
-abbrev pub told_lines : List Happening → List ℕ
-told_lines happenings = flat_map told_line happenings
 
 abbrev pub subscribed_line : List ℕ
 subscribed_line = codes "subscribed\n"

@@ -9,13 +9,14 @@ use Rattle.mq_end.specs.End.{blank_end, resumed}
 use Rattle.mq_end.specs.Publishing.{ClientState}
 use Rattle.mq_end.specs.Resuming.{FitsWithin, NamesAnother}
 
--- the greatest remaining length of packets that come or go (2.2.3)
+-- the maximum remaining length of packets that are sent or received (2.2.3)
 abbrev pub most_packet : ℕ
 most_packet = 1048576
 
--- a client of this identifier (3.1.3.1), without will, user name and window
+-- the configuration of a client with this identifier (3.1.3.1): no will, no user name, no window
 abbrev pub program_config : List ℕ → ClientConfig
-program_config id = record { id = id; keep_alive = 60; will = None; login = None; limits = strict most_packet; capacity = 100; window = None }
+program_config id =
+    record { id = id; keep_alive = 60; will = None; login = None; limits = strict most_packet; capacity = 100; window = None }
 
 -- a client without a session
 pub record IsNewClient (id : List ℕ) (c : ClientState) : Type 0 where
@@ -23,16 +24,17 @@ pub record IsNewClient (id : List ℕ) (c : ClientState) : Type 0 where
   pub end : c.link.end ≡ blank_end None
   pub capacity : c.link.capacity ≡ 100
 
--- the session of which these bytes are the saved form (4.1)
+-- a client with the session that these bytes are the saved form of (4.1)
 pub record GoesOn (id bytes : List ℕ) (c : ClientState) : Type 0 where
   pub saved : Saved
   pub form : IsSavedAs saved bytes
   pub session : IsSession saved.session
   pub config : c.config ≡ program_config id
-  pub end : c.link.end ≡ resumed None saved.established saved.session.sender.book saved.session.receiver saved.session.sender.last
+  pub end : c.link.end ≡
+      resumed None saved.established saved.session.sender.book saved.session.receiver saved.session.sender.last
   pub capacity : c.link.capacity ≡ saved.session.sender.capacity
 
--- these bytes are the saved form of a session with which a client of this identifier can go on
+-- These bytes are the saved form of a session that a client with this identifier can go on with.
 pub record CanGoOn (id bytes : List ℕ) (saved : Saved) : Type 0 where
   pub session : IsSession saved.session
   pub form : IsSavedAs saved bytes

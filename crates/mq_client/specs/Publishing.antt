@@ -4,61 +4,64 @@ use Rattle.mq_packet.specs.declared.message.Message.{Message}
 use Rattle.mq_end.specs.declared.happening.Happening.{Happening}
 use Rattle.mq_end.specs.declared.reason.CloseReason.{CloseReason}
 use Rattle.mq_end.specs.End.{End, is_up}
-use Rattle.mq_client.specs.declared.halt.ClientError.{ClientError}
-use Rattle.mq_client.specs.declared.publishing.Texts.{Texts}
+use Rattle.mq_client.specs.declared.error.ClientError.{ClientError}
+use Rattle.mq_client.specs.declared.publisher.Publications.{Publications}
 use Rattle.mq_client.specs.Course.{Ask, IsIdle, Leaves, Moment, Opening, Publication, Went, WentFirst}
-use Rattle.mq_client.specs.Halts.{halt_closes, halt_status}
+use Rattle.mq_client.specs.Halts.{Reports, halt_status}
 use Rattle.mq_client.specs.Printed.{halt_line, published_line, resumed_line}
 
 -- the message of a text
-abbrev pub text_message : Texts → List ℕ → Message
+abbrev pub text_message : Publications → List ℕ → Message
 text_message t text = record { topic = t.topic.now; payload = text; qos = t.qos; retain = t.retain }
 
 -- the messages of all texts, in their order
-abbrev pub asks_of : Texts → List Ask
+abbrev pub asks_of : Publications → List Ask
 asks_of t = map (λ text. Publication (text_message t text.now)) t.texts.now
 
--- one connection, with clean session or not (3.1), and then these
-abbrev pub publishes : Bool → Texts → List Ask
+-- one connection, with clean session or not (3.1), and then the messages
+abbrev pub publishes : Bool → Publications → List Ask
 publishes clean t = Opening clean ∷ asks_of t
 
--- The first so many of these were published, in order, and nothing else was asked for; the end closed for these reasons.
+-- The first `count` of these requests were made, in order, and no other. The end closed for these reasons.
 pub record AskedFirst (a b : Moment) (all : List Ask) (count : ℕ) (reasons : List CloseReason) : Type 0 where
   pub told : List Happening
   pub went : Went a b (take count all) told reasons
 
--- more of them were, from one place to another
+-- the requests from one place to another were made
 pub record AskedMore (a b : Moment) (all : List Ask) (from to : ℕ) : Type 0 where
   pub more : List Ask
   pub went : Went a b more [] []
   pub parts : take to all ≡ take from all ++ more
 
--- all of these were asked for, in order, and nothing else; all that was published is acknowledged, on a connection that is up
+-- All these requests were made, in order, and no other. Everything is acknowledged, and the end is connected.
 pub record AskedAll (a b : Moment) (all : List Ask) : Type 0 where
   pub told : List Happening
   pub went : Went a b all told []
   pub up : is_up b.client.link.end.state ≡ true
   pub idle : IsIdle b.client.link.end
 
--- a connection began, and all texts were published; and then the client left
-pub record Published (a b : Moment) (clean : Bool) (t : Texts) : Type 0 where
+-- A connection began, and all texts were published and acknowledged. Then the client left.
+pub record Published (a b : Moment) (clean : Bool) (t : Publications) : Type 0 where
   pub last : Moment
   pub asked : AskedAll a last (publishes clean t)
   pub leaves : Leaves last b
 
--- It stopped before: the first of these were asked for, in order, and nothing else.
+-- The program stopped early: a front of these requests was made, in order, and no other. The error reports why.
 abbrev pub PublishHalts : Moment → Moment → List Ask → ClientError → Type 0
-PublishHalts a b all halt = (told : List Happening) × WentFirst a b all told (halt_closes halt)
+PublishHalts a b all halt =
+    (told : List Happening) × (reasons : List CloseReason) × WentFirst a b all told reasons × Reports halt reasons
 
 -- the status and the line of `publish`
-abbrev pub IsPublishDone : Moment → Moment → Bool → Texts → ℕ → List ℕ → Type 0
+abbrev pub IsPublishDone : Moment → Moment → Bool → Publications → ℕ → List ℕ → Type 0
 IsPublishDone a b clean t status text =
-    (Published a b clean t × (status ≡ 0) × (text ≡ published_line (length t.texts.now))) ⊎ ((halt : ClientError) × PublishHalts a b (publishes clean t) halt × (status ≡ halt_status halt) × (text ≡ halt_line halt))
+    (Published a b clean t × (status ≡ 0) × (text ≡ published_line (length t.texts.now)))
+    ⊎ ((halt : ClientError) × PublishHalts a b (publishes clean t) halt × (status ≡ halt_status halt) × (text ≡ halt_line halt))
 
--- how many messages a client's session has that are not acknowledged, or released and not completed (4.3.2, 4.3.3)
+-- the number of messages of a session that are not acknowledged, or released and not completed (4.3.2, 4.3.3)
 abbrev pub resumed_of : End → ℕ
 resumed_of e = length e.book.entries + length e.book.released
 
--- the status and the lines of `publish` where it goes on with a session
-abbrev pub IsResumeDone : Moment → Moment → Texts → ℕ → List ℕ → Type 0
-IsResumeDone a b t status text = (rest : List ℕ) × (text ≡ resumed_line (resumed_of a.client.link.end) ++ rest) × IsPublishDone a b false t status rest
+-- the status and the lines of `publish` that goes on with a session
+abbrev pub IsResumeDone : Moment → Moment → Publications → ℕ → List ℕ → Type 0
+IsResumeDone a b t status text =
+    (rest : List ℕ) × (text ≡ resumed_line (resumed_of a.client.link.end) ++ rest) × IsPublishDone a b false t status rest

@@ -1,17 +1,17 @@
-//! Connections that are made.
+//! Making connections.
 
 use mq_stream::{Broken, Clock, Elapsed, SocketStream, Stream};
 use std::net::{Net, OpenStream, SocketAddr};
 use std::time::{Duration, Instant};
 use std::{io, time};
 
-/// How long a read waits for bytes, in milliseconds.
+/// The time limit of a read, in milliseconds.
 const READ_LIMIT: u64 = 100;
 
-/// How long a write waits for room, and a connection for its answer, in seconds.
+/// The time limit of a write and of making a connection, in seconds.
 const LIMIT: u64 = 30;
 
-/// A connection: its stream, and a clock that starts with it.
+/// A connection: its stream and a clock that starts with it.
 #[derive(Drop)]
 pub struct Connection<S: Stream, C: Clock> {
     /// The stream.
@@ -20,14 +20,14 @@ pub struct Connection<S: Stream, C: Clock> {
     pub clock: C,
 }
 
-/// Who makes connections.
+/// Makes connections.
 pub trait Dial<S: Stream, C: Clock> {
     /// Makes a connection.
     fn dial(&mut self) -> Result<Connection<S, C>, Broken>;
 }
 
-/// Who makes connections to a port of this machine. No read waits longer than 100 milliseconds for bytes, and no write longer than 30
-/// seconds for room.
+/// Makes connections to a port of 127.0.0.1. A read waits at most 100 milliseconds for bytes, a write
+/// at most 30 seconds for room.
 #[derive(Drop)]
 pub struct Loopback<'a, R: Net + time::Clock> {
     /// The system.
@@ -36,7 +36,7 @@ pub struct Loopback<'a, R: Net + time::Clock> {
     pub port: u16,
 }
 
-// A connection to this port, with its limits.
+// A connection to this port, with its time limits.
 fn connect<R: Net>(net: &R, port: u16) -> io::Result<R::Stream> {
     let address = SocketAddr::from(([127, 0, 0, 1], port));
     let stream = net.connect_timeout(address, Duration::from_secs(LIMIT))?;

@@ -1,27 +1,36 @@
-//! The two client programs, `publish` and `collect`, over any stream and any clock, and whole: over connections that are made, and over a
-//! session in a file.
+//! The two client programs, `publish` and `collect`.
 //!
-//! A `Peer` is a client end at a stream. Its contracts say that the run of the end and what went over the stream are one another's.
+//! They run over any stream, clock and session saver. [`publish_texts`], [`publish_session`] and
+//! [`collect_messages`] are the whole programs, over connections that are made for them and, for
+//! `publish --session`, over a session in a file.
+//!
+//! A [`Peer`] is a client end at a stream. Its contracts say that the calls of the end explain the
+//! bytes that were received and sent.
+//!
+//! A call that can fail for lack of memory says so in its return type; other calls never allocate.
+//! On `Err` the receiver is unchanged unless stated otherwise.
 #![tactic(auto)]
 
-mod collecting;
+mod client;
+mod collector;
 mod dial;
-mod file;
-mod halt;
-mod keeper;
-mod loading;
+mod disk;
+mod error;
+mod lines;
 mod peer;
-mod printing;
 mod programs;
-mod publishing;
+mod publisher;
+mod saver;
+mod session_file;
 
-pub use crate::collecting::{CollectGoal, begin, collect};
+pub use crate::client::{LoadFailure, load, new_client, saved_client};
+pub use crate::collector::{CollectGoal, begin, collect};
 pub use crate::dial::{Connection, Dial, Loopback};
-pub use crate::file::SessionFile;
-pub use crate::halt::ClientError;
-pub use crate::keeper::{NoSaver, SaveError, SessionSaver, Store, Stored};
-pub use crate::loading::{LoadFailure, load, new_client, saved_client};
+pub use crate::disk::{Disk, SystemDisk};
+pub use crate::error::ClientError;
+pub use crate::lines::write_halt;
 pub use crate::peer::Peer;
-pub use crate::printing::write_halt;
 pub use crate::programs::{collect_messages, publish_session, publish_texts};
-pub use crate::publishing::{Texts, publish, publish_all, resume};
+pub use crate::publisher::{Publications, publish, publish_all, resume};
+pub use crate::saver::{NoSaver, SaveError, SavingTo, SessionSaver, Store};
+pub use crate::session_file::SessionFile;

@@ -1,31 +1,35 @@
 //! A client end at a stream.
 
-ghost use Rattle.std.specs.Prelude.{◌≡◌, ◌≤◌, ◌+◌, ◌↔◌, ◌∷◌, [], true, List, length, take, IfOk, IsTrue, OnErr, OnOk, option_to_list};
+ghost use Rattle.std.specs.Prelude.{◌≡◌, ◌≤◌, ◌<◌, ◌+◌, ◌↔◌, ◌∷◌, ℕ, [], true, false, List, Ok, length, take, IfOk, IsTrue, OnErr, OnOk, option_to_list};
 ghost use Rattle.std.specs.Io.KnownBytes.{Appends, Consumes, Keeps};
 ghost use Rattle.mq_packet.specs.declared.message.Message.{Message};
 ghost use Rattle.mq_flow.specs.Receiver.{none_received};
 ghost use Rattle.mq_end.specs.declared.happening.Happening.{Happening};
+ghost use Rattle.mq_end.specs.declared.reason.CloseReason.{CloseReason};
 ghost use Rattle.mq_end.specs.End.{is_up};
-ghost use Rattle.mq_client.specs.Course.{IsIdle, Leaves, Opening, Subscription, Went, WentFirst, asked_by};
-ghost use Rattle.mq_client.specs.Halts.{closes_of, halt_closes};
+ghost use Rattle.mq_client.specs.Course.{IsIdle, Leaves, Opening, Subscription, Ticked, Went, WentFirst, asked_by};
+ghost use Rattle.mq_client.specs.Halts.{Closes, closes_of, halt_closes};
 ghost use Rattle.mq_client.specs.Publishing.{resumed_of};
 
-use crate::halt::ClientError;
-use crate::keeper::{SaveError, SessionSaver};
+use crate::error::ClientError;
+use crate::saver::{SaveError, SessionSaver};
 use mq_end::{ClientEnd, CloseReason, Progress, PublishRefusal, State};
 use mq_flow::Sender;
 use mq_packet::{Message, NonEmpty, Request};
 use mq_stream::{Clock, Stream};
 use std::marker::Model;
 
-/// How many bytes are read at a time.
+/// The maximum number of bytes of a read.
 const CHUNK: usize = 4096;
 
-/// So many reads in a row that bring nothing end the connection.
-const MOST_QUIET: u32 = 900;
+/// The maximum number of bytes of a read until the client is connected: the length of CONNACK (3.2).
+/// So the read that completes CONNACK completes no PUBLISH that needs an acknowledgement.
+const FIRST_CHUNK: usize = 4;
 
-/// A client end at a stream, with a clock, and with who keeps its session. Contracts see the end, what went over the stream, and what is
-/// kept.
+/// The connection counts as lost after this many reads in a row that bring nothing.
+const MAX_QUIET: u32 = 900;
+
+/// A client end at a stream, with a clock and a session saver.
 #[derive(Drop)]
 pub struct Peer<S: Stream, C: Clock, K: SessionSaver> {
     client: ClientEnd,
@@ -45,10 +49,17 @@ impl<S: Stream, C: Clock, K: SessionSaver> Model for Peer<S, C, K> {
 
     ghost coded = { Prim.hlevel (codes, set.code {R = nat_cmp} coded_ℕ) };
 
-    ghost view = { λ p. record { client = p.client; coming = S.coming p.stream; written = S.written p.stream; kept = K.kept p.keeper } };
+    ghost view = { λ p. record {
+      client = p.client;
+      coming = S.coming p.stream;
+      written = S.written p.stream;
+      kept = K.kept p.keeper;
+      times = C.reported p.clock;
+      quiet = p.quiet;
+    } };
 }
 
-// Why a refusal stops a program.
+// The error of a request that can't be made at all.
 fn halt_of(why: PublishRefusal) -> ClientError
     ensures { halt_closes result ≡ [] }
 {
@@ -58,7 +69,7 @@ fn halt_of(why: PublishRefusal) -> ClientError
     }
 }
 
-// Why a session that was not kept stops a program.
+// The error of a session that was not saved.
 fn unkept(why: SaveError) -> ClientError
     ensures { halt_closes result ≡ [] }
 {
@@ -68,8 +79,10 @@ fn unkept(why: SaveError) -> ClientError
     }
 }
 
-// `false` where a message that is refused has to wait, or else why this stops a program.
+// `Ok(false)` if a message that is refused can be published later.
 fn waits(why: PublishRefusal) -> Result<bool, ClientError>
+    ensures full { why ≡ PublishRefusal.Full → result ≡ Ok false }
+    ensures offline { why ≡ PublishRefusal.NotConnected → result ≡ Ok false }
     ensures asks { (m : Message) → asked_by result m ≡ [] }
     ensures goes_on { closes_of result ≡ [] }
 {
@@ -79,7 +92,7 @@ fn waits(why: PublishRefusal) -> Result<bool, ClientError>
     }
 }
 
-// How many messages a sender is not through with.
+// The number of messages that a sender has not finished.
 fn in_use(sender: &Sender) -> usize
     ensures { result ≡ length sender.now.book.entries + length sender.now.book.released }
 {
@@ -88,12 +101,14 @@ fn in_use(sender: &Sender) -> usize
 }
 
 impl<S: Stream, C: Clock, K: SessionSaver> Peer<S, C, K> {
-    /// A client at a stream.
+    /// A client at a stream. Begin with [`open`](Peer::open).
     pub fn new(client: ClientEnd, stream: S, clock: C, keeper: K) -> Peer<S, C, K>
         ensures client { result.client ≡ client }
         ensures coming { result.coming ≡ S.coming stream }
         ensures written { result.written ≡ S.written stream }
         ensures kept { result.kept ≡ K.kept keeper }
+        ensures times { result.times ≡ C.reported clock }
+        ensures quiet { result.quiet ≡ 0 }
     {
         Peer {
             client,
@@ -104,7 +119,7 @@ impl<S: Stream, C: Clock, K: SessionSaver> Peer<S, C, K> {
         }
     }
 
-    /// The client.
+    /// The client end.
     pub fn client(&self) -> &ClientEnd
         ensures { result.now ≡ self.now.client }
     {
@@ -119,24 +134,27 @@ impl<S: Stream, C: Clock, K: SessionSaver> Peer<S, C, K> {
         &self.stream
     }
 
-    /// Who keeps its session.
+    /// The session saver.
     pub fn keeper(&self) -> &K
         ensures { K.kept result.now ≡ self.now.kept }
     {
         &self.keeper
     }
 
-    // Tells the client the time, so that it keeps its connection alive (3.1.2.10).
-    fn tick(&mut self) -> Result<(), ClientError>
-        ensures went { Went self.old self.new [] [] [] }
+    // Tells the client the time that the clock reports, so that PINGREQ is sent in time (3.1.2.10).
+    fn tick(&mut self) -> Result<u64, ClientError>
+        ensures ok { IfOk result (λ now. Ticked now self.old self.new) }
+        ensures err { OnErr result (Went self.old self.new [] [] []) }
+        ensures written { self.new.written ≡ self.old.written }
         ensures goes_on { closes_of result ≡ [] }
     {
         let now = self.clock.now();
         self.client.tick(now)?;
-        Ok(())
+        Ok(now)
     }
 
-    /// Writes what the client put out, behind the keeping of its session. Where the stream fails, the connection is lost.
+    /// Saves the session and then sends the pending output. If the stream fails, the connection is
+    /// lost. If the session can't be saved, nothing is sent.
     pub fn write(&mut self) -> Result<(), ClientError>
         ensures went { Went self.old self.new [] [] [] }
         ensures goes_on { closes_of result ≡ [] }
@@ -156,7 +174,7 @@ impl<S: Stream, C: Clock, K: SessionSaver> Peer<S, C, K> {
         }
     }
 
-    /// Begins a connection, with clean session or not (3.1).
+    /// Begins a connection by sending CONNECT (3.1). `clean` is its clean session flag.
     pub fn open(&mut self, clean: bool) -> Result<(), ClientError>
         ensures ok { OnOk result (Went self.old self.new (Opening clean ∷ []) [] []) }
         ensures err { OnErr result
@@ -171,23 +189,28 @@ impl<S: Stream, C: Clock, K: SessionSaver> Peer<S, C, K> {
     // The connection is lost (4.2).
     fn lose(&mut self) -> ClientError
         ensures went { Went self.old self.new [] [] [] }
+        ensures written { self.new.written ≡ self.old.written }
         ensures goes_on { halt_closes result ≡ [] }
     {
         self.client.dropped();
         ClientError::Lost
     }
 
-    // One read. Where the stream ends or fails, or nothing came for too long, the connection is lost.
+    // Reads once. If the stream ends or fails, or if too many reads brought nothing, the connection
+    // is lost.
     fn arrive(&mut self, room: &mut [u8]) -> Result<usize, ClientError>
         ensures ok { IfOk result (λ n. (n ≤ length room.new)
             × Consumes self.old.coming self.new.coming (take n room.new)) }
         ensures same { OnOk result (self.new.client ≡ self.old.client) }
-        ensures written { OnOk result (Keeps self.old.written self.new.written) }
+        ensures written { Keeps self.old.written self.new.written }
         ensures kept { OnOk result (self.new.kept ≡ self.old.kept) }
+        ensures times { OnOk result (self.new.times ≡ self.old.times) }
+        ensures heard { IfOk result (λ n. 0 < n → self.new.quiet ≡ 0) }
+        ensures silent { IfOk result (λ n. n ≡ 0 → self.new.quiet ≡ self.old.quiet + 1) }
         ensures went { OnErr result (Went self.old self.new [] [] []) }
         ensures goes_on { closes_of result ≡ [] }
     {
-        if self.quiet >= MOST_QUIET {
+        if self.quiet >= MAX_QUIET {
             return Err(self.lose());
         }
         match self.stream.read(room).count() {
@@ -203,48 +226,70 @@ impl<S: Stream, C: Clock, K: SessionSaver> Peer<S, C, K> {
         }
     }
 
-    /// Takes in what comes within the limit of a read.
-    pub fn hear(&mut self) -> Result<Progress, ClientError>
+    // Tells the client the time, and receives the bytes of one read.
+    fn hear_into(&mut self, room: &mut [u8]) -> Result<Progress, ClientError>
         ensures went { IfOk result
             (λ p. Went self.old self.new [] p.happenings (option_to_list p.closed)) }
+        ensures silent { Keeps self.old.written self.new.written }
         ensures lost { OnErr result (Went self.old self.new [] [] []) }
         ensures goes_on { closes_of result ≡ [] }
     {
-        let mut room = [0; CHUNK];
-        self.tick()?;
-        let count = self.arrive(&mut room)?;
-        let now = self.clock.now();
+        let now = self.tick()?;
+        let count = self.arrive(room)?;
         Ok(self.client.receive(now, &room[..count]))
     }
 
-    /// Writes what came of it, also where the client closed.
+    /// Receives the bytes of one read, which waits no longer than the stream's time limit. What the
+    /// client answers stays in its output until [`answer`](Peer::answer) or [`write`](Peer::write).
+    pub fn hear(&mut self) -> Result<Progress, ClientError>
+        ensures went { IfOk result
+            (λ p. Went self.old self.new [] p.happenings (option_to_list p.closed)) }
+        ensures silent { Keeps self.old.written self.new.written }
+        ensures lost { OnErr result (Went self.old self.new [] [] []) }
+        ensures goes_on { closes_of result ≡ [] }
+    {
+        if !self.is_up() {
+            let mut room = [0; FIRST_CHUNK];
+            return self.hear_into(&mut room);
+        }
+        let mut room = [0; CHUNK];
+        self.hear_into(&mut room)
+    }
+
+    /// Sends the pending output, also after the client closed. `closed` is the reason of
+    /// [`hear`](Peer::hear). If the session can't be saved, that is reported in place of it.
     pub fn answer(&mut self, closed: Option<CloseReason>) -> Result<(), ClientError>
         ensures went { Went self.old self.new [] [] [] }
-        ensures closes { closes_of result ≡ option_to_list closed }
+        ensures closes { Closes result (option_to_list closed) }
     {
         let written = self.write();
         match closed {
-            Some(reason) => Err(ClientError::Closed(reason)),
             None => written,
+            Some(reason) => match written {
+                Err(ClientError::SaveError) => Err(ClientError::SaveError),
+                Err(ClientError::Memory) => Err(ClientError::Memory),
+                _ => Err(ClientError::Closed(reason)),
+            },
         }
     }
 
-    /// Takes in what comes, and writes what came of it.
+    /// Receives the bytes of one read, and sends the answer.
     pub fn listen(&mut self) -> Result<(), ClientError>
-        ensures { (told : List Happening) × Went self.old self.new [] told (closes_of result) }
+        ensures { (told : List Happening) × (reasons : List CloseReason)
+            × Went self.old self.new [] told reasons × Closes result reasons }
     {
         let progress = self.hear()?;
         self.answer(progress.closed)
     }
 
-    /// Whether the connection is up.
+    /// Returns whether the client is connected.
     pub fn is_up(&self) -> bool
         ensures { result ≡ is_up self.now.client.link.end.state }
     {
         self.client.state() == State::Connected
     }
 
-    /// Whether all that the client published is acknowledged (4.3.2, 4.3.3).
+    /// Returns whether everything that the client published is acknowledged (4.3.2, 4.3.3).
     pub fn is_idle(&self) -> bool
         ensures { IsTrue result ↔ IsIdle self.now.client.link.end }
     {
@@ -254,7 +299,7 @@ impl<S: Stream, C: Clock, K: SessionSaver> Peer<S, C, K> {
         }
     }
 
-    /// Whether no message of quality of service 2 waits for its release (4.3.3).
+    /// Returns whether every QoS 2 message that was received is released (4.3.3).
     pub fn is_released(&self) -> bool
         ensures { IsTrue result ↔ (self.now.client.link.end.received ≡ none_received) }
     {
@@ -264,7 +309,7 @@ impl<S: Stream, C: Clock, K: SessionSaver> Peer<S, C, K> {
         }
     }
 
-    // How many messages of its session are not acknowledged, or released and not completed (4.3.2, 4.3.3).
+    // The number of messages of the session that are sent again (4.3.2, 4.3.3).
     pub(crate) fn resumed(&self) -> usize
         ensures { result ≡ resumed_of self.now.client.link.end }
     {
@@ -274,7 +319,8 @@ impl<S: Stream, C: Clock, K: SessionSaver> Peer<S, C, K> {
         }
     }
 
-    /// Publishes a message. `false` says that it has to wait, until the connection is up or an acknowledgement has come.
+    /// Publishes a message. Returns `false` if it has to wait: until the client is connected, or
+    /// until an acknowledgement frees a packet identifier.
     pub fn publish(&mut self, message: Message) -> Result<bool, ClientError>
         ensures went { Went self.old self.new (asked_by result message) [] [] }
         ensures goes_on { closes_of result ≡ [] }
@@ -285,7 +331,7 @@ impl<S: Stream, C: Clock, K: SessionSaver> Peer<S, C, K> {
         Ok(true)
     }
 
-    // Asks for a subscription.
+    // Requests a subscription.
     pub(crate) fn subscribe(&mut self, requests: NonEmpty<Request>) -> Result<(), ClientError>
         ensures went { OnOk result
             (Went self.old self.new (Subscription requests ∷ []) [] []) }
@@ -298,7 +344,7 @@ impl<S: Stream, C: Clock, K: SessionSaver> Peer<S, C, K> {
         Ok(())
     }
 
-    /// Leaves (3.14).
+    /// Leaves: sends the pending output and DISCONNECT (3.14).
     pub fn leave(&mut self) -> Result<(), ClientError>
         requires { is_up self.old.client.link.end.state ≡ true }
         ensures went { Went self.old self.new [] [] [] }

@@ -1,26 +1,27 @@
-//! The programs whole, over any connections and files.
+//! The whole programs, over any connections and disks.
 
-ghost use Rattle.std.specs.Prelude.{◌≡◌, IfOk};
+ghost use Rattle.std.specs.Prelude.{◌≡◌, IfOk, OnOk};
 ghost use Rattle.mq_line.specs.Lines.{Prints};
+ghost use Rattle.mq_client.specs.Disk.{history_of, stands_of};
 ghost use Rattle.mq_client.specs.Program.{IsNewClient};
-ghost use Rattle.mq_client.specs.Programs.{IsClientOf, IsKeptDone, IsMessagesDone, IsSessionDone, IsTextsDone};
+ghost use Rattle.mq_client.specs.Programs.{IsClientOf, IsDiscarded, IsKeptDone, IsMessagesDone, IsSessionDone, IsTextsDone};
 
-use crate::collecting::{CollectGoal, collect};
+use crate::client::{LoadFailure, load, new_client};
+use crate::collector::{CollectGoal, collect};
 use crate::dial::Dial;
-use crate::file::SessionFile;
-use crate::halt::ClientError;
-use crate::keeper::{NoSaver, SessionSaver, Stored};
-use crate::loading::{LoadFailure, load, new_client};
+use crate::disk::Disk;
+use crate::error::ClientError;
+use crate::lines::{write_halt, write_unloaded};
 use crate::peer::Peer;
-use crate::printing::{write_halt, write_unloaded};
-use crate::publishing::{Texts, publish, publish_all, resume};
+use crate::publisher::{Publications, publish, publish_all, resume};
+use crate::saver::{NoSaver, SavingTo, SessionSaver};
+use crate::session_file::SessionFile;
 use mq_end::ClientEnd;
 use mq_stream::{Clock, Stream};
 use mq_wire::Text;
 use std::alloc::Global;
 use std::io;
 use std::io::Write;
-use std::rt::Files;
 
 // A client at a connection that is made for it.
 fn connected<S: Stream, C: Clock, K: SessionSaver, D: Dial<S, C>>(
@@ -30,7 +31,8 @@ fn connected<S: Stream, C: Clock, K: SessionSaver, D: Dial<S, C>>(
 ) -> Result<Peer<S, C, K>, ClientError>
 where
     K: Drop,
-    ensures { IfOk result (λ peer. peer.client ≡ client) }
+    ensures client { IfOk result (λ peer. peer.client ≡ client) }
+    ensures kept { IfOk result (λ peer. peer.kept ≡ K.kept keeper) }
 {
     match dialer.dial() {
         Ok(connection) => Ok(Peer::new(client, connection.stream, connection.clock, keeper)),
@@ -42,7 +44,7 @@ where
     }
 }
 
-// A new client at a connection that is made for it; its session ends with the program.
+// A new client at a connection that is made for it. Its session ends with the program.
 fn newly_connected<S: Stream, C: Clock, D: Dial<S, C>>(
     alloc: Global,
     id: &Text,
@@ -53,11 +55,11 @@ fn newly_connected<S: Stream, C: Clock, D: Dial<S, C>>(
     connected(new_client(alloc, id)?, dialer, NoSaver)
 }
 
-/// Makes a connection, and publishes texts over a clean session, as `publish` does.
+/// Makes a connection and publishes texts over a clean session, as [`publish`] does.
 pub fn publish_texts<S: Stream + Drop, C: Clock + Drop, D: Dial<S, C>, W: Write>(
     alloc: Global,
     id: &Text,
-    texts: &Texts<'_>,
+    texts: &Publications<'_>,
     dialer: &mut D,
     output: &mut W,
 ) -> io::Result<u8>
@@ -74,21 +76,21 @@ pub fn publish_texts<S: Stream + Drop, C: Clock + Drop, D: Dial<S, C>, W: Write>
     }
 }
 
-/// Makes a connection, and prints the messages that come, as `collect` does.
+/// Makes a connection and prints the messages that come, as [`collect`] does.
 pub fn collect_messages<S: Stream + Drop, C: Clock + Drop, D: Dial<S, C>, W: Write>(
     alloc: Global,
     id: &Text,
-    wish: &CollectGoal<'_>,
+    goal: &CollectGoal<'_>,
     clean: bool,
     dialer: &mut D,
     output: &mut W,
 ) -> io::Result<u8>
     ensures { IfOk result (λ status. Prints (W.contents output.old) (W.contents output.new)
-        (IsMessagesDone id.now clean wish.now status)) }
+        (IsMessagesDone id.now clean goal.now status)) }
 {
     match newly_connected(alloc, id, dialer) {
         Ok(mut peer) => {
-            let status = collect(alloc, &mut peer, wish, clean, output);
+            let status = collect(alloc, &mut peer, goal, clean, output);
             drop(peer);
             status
         }
@@ -96,15 +98,18 @@ pub fn collect_messages<S: Stream + Drop, C: Clock + Drop, D: Dial<S, C>, W: Wri
     }
 }
 
-// Connects with a clean session and leaves, so that the server has no session of the client any more (3.1.2.4, 3.14).
-fn start_anew<S: Stream + Drop, C: Clock + Drop, D: Dial<S, C>>(
+// Connects with a clean session and leaves, so that the server discards its session of the client
+// (3.1.2.4, 3.14).
+fn discard_session<S: Stream + Drop, C: Clock + Drop, D: Dial<S, C>>(
     alloc: Global,
     id: &Text,
-    texts: &Texts<'_>,
+    texts: &Publications<'_>,
     dialer: &mut D,
-) -> Result<(), ClientError> {
+) -> Result<(), ClientError>
+    ensures { OnOk result (IsDiscarded id.now) }
+{
     let mut peer = newly_connected(alloc, id, dialer)?;
-    let none = Texts {
+    let none = Publications {
         texts: &[],
         ..*texts
     };
@@ -120,31 +125,32 @@ enum Unstarted {
     Halted(ClientError),
 }
 
-// A new client, whose session begins empty at both ends.
+// A new client whose session begins empty at both ends.
 fn anew<S: Stream + Drop, C: Clock + Drop, D: Dial<S, C>>(
     alloc: Global,
     id: &Text,
-    texts: &Texts<'_>,
+    texts: &Publications<'_>,
     dialer: &mut D,
 ) -> Result<ClientEnd, ClientError>
-    ensures { IfOk result (IsNewClient id.now) }
+    ensures client { IfOk result (IsNewClient id.now) }
+    ensures discarded { OnOk result (IsDiscarded id.now) }
 {
-    start_anew(alloc, id, texts, dialer)?;
+    discard_session(alloc, id, texts, dialer)?;
     Ok(new_client(alloc, id)?)
 }
 
-// The client with the session of a file, or with a new one where there is no file.
-fn client_of<S: Stream + Drop, C: Clock + Drop, D: Dial<S, C>, R: Files>(
+// The client with the session in a file, or a new one if there is no file.
+fn client_of<S: Stream + Drop, C: Clock + Drop, D: Dial<S, C>, F: Disk>(
     alloc: Global,
     id: &Text,
-    texts: &Texts<'_>,
-    files: &R,
+    texts: &Publications<'_>,
+    disk: &F,
     name: &str,
     dialer: &mut D,
 ) -> Result<ClientEnd, Unstarted>
-    ensures { IfOk result (IsClientOf id.now) }
+    ensures { IfOk result (IsClientOf (F.history disk.now) name.now id.now) }
 {
-    match load(alloc, files, name, id) {
+    match load(alloc, disk, name, id) {
         Ok(Some(client)) => Ok(client),
         Ok(None) => match anew(alloc, id, texts, dialer) {
             Ok(client) => Ok(client),
@@ -154,39 +160,20 @@ fn client_of<S: Stream + Drop, C: Clock + Drop, D: Dial<S, C>, R: Files>(
     }
 }
 
-// A client whose session stands in a file, at a connection that is made for it.
-fn kept_client<'a, S: Stream, C: Clock, D: Dial<S, C>, R: Files>(
+// Publishes texts over the session of a client, which is saved to a file.
+fn publish_kept<S: Stream + Drop, C: Clock + Drop, D: Dial<S, C>, F: Disk + Drop, W: Write>(
     alloc: Global,
     client: ClientEnd,
-    files: &'a R,
-    name: &'a str,
-    dialer: &mut D,
-) -> Result<Peer<S, C, Stored<SessionFile<'a, R>>>, ClientError>
-    ensures { IfOk result (λ peer. peer.client ≡ client) }
-{
-    match SessionFile::new(alloc, files, name) {
-        Ok(store) => connected(client, dialer, Stored { alloc, store }),
-        Err(error) => {
-            drop(client);
-            Err(ClientError::from(error))
-        }
-    }
-}
-
-// Publishes texts over the session of a client, which stands in a file, at a connection that is made for it.
-fn publish_kept<S: Stream + Drop, C: Clock + Drop, D: Dial<S, C>, R: Files, W: Write>(
-    alloc: Global,
-    client: ClientEnd,
-    texts: &Texts<'_>,
-    files: &R,
-    name: &str,
+    texts: &Publications<'_>,
+    file: SessionFile<'_, F>,
     dialer: &mut D,
     output: &mut W,
 ) -> io::Result<u8>
     ensures { IfOk result (λ status. Prints (W.contents output.old) (W.contents output.new)
-        (IsKeptDone client texts.now status)) }
+        (IsKeptDone (stands_of file.entry) client texts.now status)) }
 {
-    match kept_client(alloc, client, files, name, dialer) {
+    let keeper = SavingTo { alloc, store: file };
+    match connected(client, dialer, keeper) {
         Ok(mut peer) => {
             let status = resume(alloc, &mut peer, texts, output);
             drop(peer);
@@ -196,22 +183,27 @@ fn publish_kept<S: Stream + Drop, C: Clock + Drop, D: Dial<S, C>, R: Files, W: W
     }
 }
 
-/// Publishes texts over a session that stands in a file, as `resume` does. Where there is no file of this name, a connection with a clean
-/// session is made first, and left, so that both sessions begin empty; the file is first written after that.
-pub fn publish_session<S: Stream + Drop, C: Clock + Drop, D: Dial<S, C>, R: Files, W: Write>(
+/// Publishes texts over the session in a file, as [`resume`] does.
+///
+/// If there is no file of this name, a connection with a clean session is made first and left, so
+/// that the session begins empty at both ends. The file is first written after that.
+pub fn publish_session<S: Stream + Drop, C: Clock + Drop, D: Dial<S, C>, F: Disk + Drop, W: Write>(
     alloc: Global,
     id: &Text,
-    texts: &Texts<'_>,
-    files: &R,
+    texts: &Publications<'_>,
+    disk: F,
     name: &str,
     dialer: &mut D,
     output: &mut W,
 ) -> io::Result<u8>
     ensures { IfOk result (λ status. Prints (W.contents output.old) (W.contents output.new)
-        (IsSessionDone id.now texts.now status)) }
+        (IsSessionDone (F.history disk) name.now id.now texts.now status)) }
 {
-    match client_of(alloc, id, texts, files, name, dialer) {
-        Ok(client) => publish_kept(alloc, client, texts, files, name, dialer, output),
+    match client_of(alloc, id, texts, &disk, name, dialer) {
+        Ok(client) => {
+            let file = SessionFile::new(alloc, disk, name);
+            publish_kept(alloc, client, texts, file, dialer, output)
+        }
         Err(Unstarted::LoadFailure(why)) => write_unloaded(output, why),
         Err(Unstarted::Halted(halt)) => write_halt(output, halt),
     }

@@ -3,30 +3,33 @@ use crate::script::{Line, Scripted, line_of, peer_at, told};
 use mq_client::{CollectGoal, collect};
 use mq_topic::{Qos, TopicFilter};
 use std::alloc::Global;
+use std::io;
+use std::io::{ErrorKind, Write};
 use std::process::Abort;
 use std::test::Fail;
 
-// The status, what is printed, and what is written, where messages are collected at a peer.
-fn told_of(alloc: Global, peer: &mut Scripted, wish: &CollectGoal<'_>) -> Result<String, Fail> {
+// The status, the printed text and the written bytes of a collection.
+fn told_of(alloc: Global, peer: &mut Scripted, goal: &CollectGoal<'_>) -> Result<String, Fail> {
     let mut output = Vec::new(alloc);
-    let status = collect(alloc, peer, wish, false, &mut output)?;
+    let status = collect(alloc, peer, goal, false, &mut output)?;
     let written = peer.stream().written.as_slice();
     told(alloc, status, output.as_slice(), written)
 }
 
-// The same, where so many messages of `a/#` are collected.
+// The same for `count` messages of `a/#`.
 fn collected(alloc: Global, line: Line, count: u32) -> Result<String, Fail> {
     let filter = TopicFilter::parse(alloc, "a/#")?;
-    let wish = CollectGoal {
+    let goal = CollectGoal {
         filter: &filter,
         qos: Qos::Q2,
         count,
     };
     let mut peer = peer_at(alloc, line)?;
-    told_of(alloc, &mut peer, &wish)
+    told_of(alloc, &mut peer, &goal)
 }
 
-// A name, what comes, how many messages are wanted, and the status, what is printed and what is written.
+// A name, the reads, the number of messages that are wanted; and the status with the printed text and
+// the written bytes.
 type Row = (&'static str, &'static str, u32, &'static str);
 
 // Messages that are collected.
@@ -63,7 +66,7 @@ const COLLECTED: [Row; 5] = [
     ),
 ];
 
-// Connections that end before all messages are there.
+// Connections that end too early.
 const ENDED: [Row; 3] = [
     (
         "refused",
@@ -105,7 +108,7 @@ fn connections_end(rt: &impl Abort, alloc: Global) -> Result<(), Fail> {
     expect(rt, alloc, &ENDED)
 }
 
-// The connection is lost at each write in turn: what was handed on is printed all the same.
+// The connection is lost at each write in turn. Messages that were delivered are printed.
 fn writes_fail(rt: &impl Abort, alloc: Global) -> Result<(), Fail> {
     let reads = "20020000 9003000102 34090003612f6200016869 62020001";
     for (fails_at, wanted) in [
@@ -137,9 +140,114 @@ fn writes_fail(rt: &impl Abort, alloc: Global) -> Result<(), Fail> {
     Ok(())
 }
 
+// An output with room for some bytes, which can be flushed some times.
+#[derive(Drop)]
+struct Output {
+    printed: Vec<u8>,
+    room: usize,
+    flushes: u32,
+}
+
+impl Write for Output {
+    fn write(&mut self, buf: &[u8]) -> io::Result<usize> {
+        let count = buf.len().min(self.room);
+        if count == 0 {
+            return Err(io::Error::from(ErrorKind::StorageFull));
+        }
+        self.printed.extend_from_slice(&buf[..count])?;
+        self.room -= count;
+        Ok(count)
+    }
+
+    fn flush(&mut self) -> io::Result<()> {
+        if self.flushes == 0 {
+            return Err(io::Error::from(ErrorKind::StorageFull));
+        }
+        self.flushes -= 1;
+        Ok(())
+    }
+}
+
+// The printed text and the written bytes of a collection whose output fails.
+fn unprinted(
+    alloc: Global,
+    reads: &'static str,
+    room: usize,
+    flushes: u32,
+) -> Result<String, Fail> {
+    let filter = TopicFilter::parse(alloc, "a/#")?;
+    let goal = CollectGoal {
+        filter: &filter,
+        qos: Qos::Q2,
+        count: 2,
+    };
+    let mut peer = peer_at(alloc, line_of(reads))?;
+    let mut output = Output {
+        printed: Vec::new(alloc),
+        room,
+        flushes,
+    };
+    let status = collect(alloc, &mut peer, &goal, false, &mut output).unwrap_or(9);
+    let written = peer.stream().written.as_slice();
+    told(alloc, status, output.printed.as_slice(), written)
+}
+
+// A message that is not printed, or not flushed, is not acknowledged, whether it comes before
+// SUBACK, with it, or later. Status 9 means that the output failed.
+fn the_output_fails(rt: &impl Abort, alloc: Global) -> Result<(), Fail> {
+    const EARLY: &str =
+        "20020100 34090003612f6200016869 9003000102 34090003612f620002796f 62020001 62020002";
+    const WITH: &str =
+        "20020100 34090003612f62000168699003000102 34090003612f620002796f 62020001 62020002";
+    const LATE: &str =
+        "20020100 9003000102 34090003612f6200016869 34090003612f620002796f 62020001 62020002";
+    const BEGUN: &str = "100d00044d5154540400003c000177820800010003612f2302";
+    for reads in [EARLY, WITH] {
+        for (room, flushes, printed, sent) in [
+            (5, 9, "subsc", ""),
+            (11, 9, "subscribed\n", ""),
+            (20, 9, "subscribed\na/b 2 686", ""),
+            (99, 0, "subscribed\na/b 2 6869\n", ""),
+            (30, 9, "subscribed\na/b 2 6869\na/b 2 79", "50020001"),
+            (99, 1, "subscribed\na/b 2 6869\na/b 2 796f\n", "50020001"),
+        ] {
+            let mut wanted = String::new(alloc);
+            write!(wanted, "9 {printed}{BEGUN}{sent}")?;
+            let told = unprinted(alloc, reads, room, flushes);
+            expect_told(rt, told, wanted.as_str(), "the output fails")?;
+        }
+    }
+    for (room, flushes, printed, sent) in [
+        (11, 9, "subscribed\n", ""),
+        (99, 0, "subscribed\n", ""),
+        (99, 1, "subscribed\na/b 2 6869\n", ""),
+        (99, 2, "subscribed\na/b 2 6869\na/b 2 796f\n", "50020001"),
+    ] {
+        let mut wanted = String::new(alloc);
+        write!(wanted, "9 {printed}{BEGUN}{sent}")?;
+        let told = unprinted(alloc, LATE, room, flushes);
+        expect_told(rt, told, wanted.as_str(), "the output fails later")?;
+    }
+    Ok(())
+}
+
+// After a minute without a packet the client sends PINGREQ, before and after SUBACK.
+fn a_client_pings(rt: &impl Abort, alloc: Global) -> Result<(), Fail> {
+    let line = Line {
+        step: 60_000,
+        ..line_of("20020000 - 9003000102 d000 30070003612f626869")
+    };
+    let told = collected(alloc, line, 1);
+    let wanted =
+        "0 subscribed\na/b 0 6869\n100d00044d5154540400003c000177820800010003612f2302c000c000c000c000e000";
+    expect_told(rt, told, wanted, "pings")
+}
+
 #[test]
 fn all_hold(rt: HostRuntime) -> Result<(), Fail> {
     messages_are_printed(&rt, rt.alloc())?;
     connections_end(&rt, rt.alloc())?;
-    writes_fail(&rt, rt.alloc())
+    writes_fail(&rt, rt.alloc())?;
+    the_output_fails(&rt, rt.alloc())?;
+    a_client_pings(&rt, rt.alloc())
 }

@@ -1,14 +1,14 @@
-//! Texts that are as they are to be. Nothing else is held where they are compared, so that a walk over rows holds nothing either.
+//! Comparing texts with the wanted ones. Nothing else is alive here, and nothing in the loops over rows.
 
 use std::process::Abort;
 use std::test::Fail;
 
-// The text is this one; where it isn't, what it is of is told.
+// Compares a text. `of` names the row.
 fn expect_text(rt: &impl Abort, told: &str, wanted: &str, of: &str) {
     assert_eq!(rt; told, wanted, "{of}");
 }
 
-/// The same of a text that a call answers.
+/// Compares the text that a call returned.
 pub(crate) fn expect_told(
     rt: &impl Abort,
     told: Result<String, Fail>,

@@ -1,4 +1,4 @@
-//! A disk with one file, the session's, and its draft.
+//! A disk in memory, with the file of a session and its draft.
 
 use crate::script::put;
 use std::alloc::{Allocator, Global};
@@ -8,12 +8,15 @@ use std::io;
 use std::io::{Empty, ErrorKind, Read, Seek, SeekFrom, Write};
 use std::rt::Files;
 
-/// The file `s`, which is there or not, and its draft `s.new`. The draft is put in the place of the file so many times, and no more.
+/// The file `s`, if it exists, and its draft `s.new`. The draft is lost at a rename unless it was
+/// synced. Only `renames` renames work. If `is_locked`, the file can't be opened.
 #[derive(Drop)]
 pub(crate) struct Disk {
     pub(crate) alloc: Global,
     pub(crate) file: RefCell<Option<Vec<u8>>>,
     pub(crate) draft: RefCell<Vec<u8>>,
+    pub(crate) is_synced: Cell<bool>,
+    pub(crate) is_locked: Cell<bool>,
     pub(crate) renames: Cell<u32>,
 }
 
@@ -24,16 +27,18 @@ impl Disk {
             alloc,
             file: RefCell::new(file),
             draft: RefCell::new(Vec::new(alloc)),
+            is_synced: Cell::new(false),
+            is_locked: Cell::new(false),
             renames: Cell::new(u32::MAX),
         }
     }
 }
 
-/// A disk, as it is lent to a program.
+/// A reference to a disk.
 #[derive(Clone, Copy)]
 pub(crate) struct Lent<'a>(pub(crate) &'a Disk);
 
-/// The file as it is read, or its draft as it is written.
+/// An open file: the bytes that are read from it. Bytes that are written go to the draft.
 #[derive(Drop)]
 pub(crate) struct Opened<'a> {
     disk: &'a Disk,
@@ -49,8 +54,11 @@ fn in_use() -> io::Error {
     io::Error::from(ErrorKind::Other)
 }
 
-// The bytes of the file, where it is there.
+// The bytes of the file.
 fn bytes_of(disk: &Disk) -> io::Result<Vec<u8>> {
+    if disk.is_locked.get() {
+        return Err(io::Error::from(ErrorKind::PermissionDenied));
+    }
     let Ok(file) = disk.file.try_borrow() else {
         return Err(in_use());
     };
@@ -60,16 +68,30 @@ fn bytes_of(disk: &Disk) -> io::Result<Vec<u8>> {
     }
 }
 
+// Begins the draft anew.
+fn empty_draft(disk: &Disk) -> io::Result<()> {
+    disk.is_synced.set(false);
+    match disk.draft.try_replace(Vec::new(disk.alloc)) {
+        Ok(_) => Ok(()),
+        Err(_) => Err(in_use()),
+    }
+}
+
 impl<'a> Files for Lent<'a> {
     type File = Opened<'a>;
 
     type Dir = Empty;
 
-    fn open_file(&self, _how: &OpenOptions, path: &str) -> io::Result<Opened<'a>> {
+    fn open_file(&self, how: &OpenOptions, path: &str) -> io::Result<Opened<'a>> {
         let disk = self.0;
         let bytes = match path {
-            "s" => bytes_of(disk)?,
-            "s.new" => Vec::new(disk.alloc),
+            "s" if !how.asks_write() => bytes_of(disk)?,
+            "s.new" => {
+                if how.asks_write() {
+                    empty_draft(disk)?;
+                }
+                Vec::new(disk.alloc)
+            }
             _ => return Err(refused()),
         };
         Ok(Opened { disk, bytes, at: 0 })
@@ -97,8 +119,13 @@ impl<'a> Files for Lent<'a> {
             return Err(refused());
         }
         self.0.renames.set(left - 1);
-        let Ok(bytes) = self.0.draft.try_replace(Vec::new(self.0.alloc)) else {
+        let Ok(draft) = self.0.draft.try_replace(Vec::new(self.0.alloc)) else {
             return Err(in_use());
+        };
+        let bytes = if self.0.is_synced.get() {
+            draft
+        } else {
+            Vec::new(self.0.alloc)
         };
         match self.0.file.try_replace(Some(bytes)) {
             Ok(_) => Ok(()),
@@ -136,7 +163,10 @@ impl Read for Opened<'_> {
 
 impl Write for Opened<'_> {
     fn write(&mut self, buf: &[u8]) -> io::Result<usize> {
-        self.bytes.extend_from_slice(buf)?;
+        let Ok(mut draft) = self.disk.draft.try_borrow_mut() else {
+            return Err(in_use());
+        };
+        draft.extend_from_slice(buf)?;
         Ok(buf.len())
     }
 
@@ -151,7 +181,6 @@ impl Seek for Opened<'_> {
     }
 }
 
-// What is written stands in the draft once it is down on the disk.
 impl OpenFile for Opened<'_> {
     fn metadata(&self) -> io::Result<Metadata> {
         Err(refused())
@@ -162,11 +191,8 @@ impl OpenFile for Opened<'_> {
     }
 
     fn sync_all(&self) -> io::Result<()> {
-        let bytes = self.bytes.clone()?;
-        match self.disk.draft.try_replace(bytes) {
-            Ok(_) => Ok(()),
-            Err(_) => Err(in_use()),
-        }
+        self.disk.is_synced.set(true);
+        Ok(())
     }
 
     fn sync_data(&self) -> io::Result<()> {

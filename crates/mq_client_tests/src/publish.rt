@@ -1,24 +1,25 @@
 use crate::compare::expect_told;
-use crate::script::{Line, Scripted, line_of, peer_at, told};
-use mq_client::{Texts, publish};
+use crate::script::{Line, Scripted, line_of, peer_at, peer_with, told};
+use mq_client::{Publications, SaveError, SessionSaver, publish};
+use mq_end::ClientEnd;
 use mq_topic::{Qos, TopicName};
 use std::alloc::Global;
 use std::process::Abort;
 use std::test::Fail;
 
-// The status, what is printed, and what is written, where texts are published at a peer.
-fn told_of(alloc: Global, peer: &mut Scripted, texts: &Texts<'_>) -> Result<String, Fail> {
+// The status, the printed text and the written bytes of a publication.
+fn told_of(alloc: Global, peer: &mut Scripted, texts: &Publications<'_>) -> Result<String, Fail> {
     let mut output = Vec::new(alloc);
     let status = publish(alloc, peer, texts, true, &mut output)?;
     let written = peer.stream().written.as_slice();
     told(alloc, status, output.as_slice(), written)
 }
 
-// The same, where these texts, with a space between them, are published to `t`.
+// The same for texts with a space between them, which are published to `t`.
 fn published(alloc: Global, line: Line, qos: Qos, texts: &str) -> Result<String, Fail> {
     let topic = TopicName::parse(alloc, "t")?;
     let list: Vec<&str> = texts.split_whitespace().collect(alloc)?;
-    let texts = Texts {
+    let texts = Publications {
         topic: &topic,
         qos,
         retain: false,
@@ -28,7 +29,8 @@ fn published(alloc: Global, line: Line, qos: Qos, texts: &str) -> Result<String,
     told_of(alloc, &mut peer, &texts)
 }
 
-// A name, what comes, the quality of service, the texts, and the status, what is printed and what is written.
+// A name, the reads, the quality of service, the texts; and the status with the printed text and the
+// written bytes.
 type Row = (&'static str, &'static str, Qos, &'static str, &'static str);
 
 // Texts that are published.
@@ -63,7 +65,7 @@ const PUBLISHED: [Row; 4] = [
     ),
 ];
 
-// Connections that end before all texts are published.
+// Connections that end too early.
 const ENDED: [Row; 5] = [
     (
         "refused",
@@ -84,7 +86,7 @@ const ENDED: [Row; 5] = [
         "20020000f000",
         Qos::Q1,
         "x",
-        "1 closed C1\n100d00044d5154540402003c000177",
+        "1 closed C1\n100d00044d5154540402003c0001773206000174000178",
     ),
     (
         "ended",
@@ -130,7 +132,7 @@ fn a_full_client_waits(rt: &impl Abort, alloc: Global) -> Result<(), Fail> {
     expect_told(rt, told, wanted, "full")
 }
 
-// A client that hears nothing for a minute asks whether the server is there.
+// After a minute without a packet the client sends PINGREQ.
 fn a_client_pings(rt: &impl Abort, alloc: Global) -> Result<(), Fail> {
     let line = Line {
         step: 60_000,
@@ -149,6 +151,71 @@ fn a_client_is_never_answered(rt: &impl Abort, alloc: Global) -> Result<(), Fail
     let told = published(alloc, line, Qos::Q1, "x");
     let wanted = "1 connection failed\n100d00044d5154540402003c0001773206000174000178";
     expect_told(rt, told, wanted, "never answered")
+}
+
+// A session saver that works `saves` times.
+#[derive(Drop)]
+struct Failing {
+    saves: u32,
+}
+
+impl SessionSaver for Failing {
+    fn keep(&mut self, _client: &ClientEnd) -> Result<(), SaveError> {
+        if self.saves == 0 {
+            return Err(SaveError::Unwritten);
+        }
+        self.saves -= 1;
+        Ok(())
+    }
+}
+
+// One text is published, with a session that is saved `saves` times.
+fn saved(alloc: Global, reads: &'static str, saves: u32) -> Result<String, Fail> {
+    let topic = TopicName::parse(alloc, "t")?;
+    let texts = Publications {
+        topic: &topic,
+        qos: Qos::Q1,
+        retain: false,
+        texts: &["x"],
+    };
+    let mut peer = peer_with(alloc, line_of(reads), Failing { saves })?;
+    let mut output = Vec::new(alloc);
+    let status = publish(alloc, &mut peer, &texts, false, &mut output)?;
+    let written = peer.stream().written.as_slice();
+    told(alloc, status, output.as_slice(), written)
+}
+
+// A session that can't be saved is reported, also if the connection was closed in the same step.
+// Without that the reason is reported.
+fn a_session_is_not_saved(rt: &impl Abort, alloc: Global) -> Result<(), Fail> {
+    for (reads, saves, wanted) in [
+        ("20020005", 0, "1 session not written\n"),
+        (
+            "20020005",
+            1,
+            "1 session not written\n100d00044d5154540400003c000177",
+        ),
+        ("20020005", 9, "1 closed C3\n100d00044d5154540400003c000177"),
+        (
+            "20020000 40020001",
+            2,
+            "1 session not written\n100d00044d5154540400003c000177",
+        ),
+    ] {
+        expect_told(rt, saved(alloc, reads, saves), wanted, "not saved")?;
+    }
+    Ok(())
+}
+
+// Only reads in a row that bring nothing end the connection.
+fn a_client_is_patient(rt: &impl Abort, alloc: Global) -> Result<(), Fail> {
+    let line = Line {
+        pauses: 600,
+        ..line_of("20020000 40020001")
+    };
+    let told = published(alloc, line, Qos::Q1, "x");
+    let wanted = "0 published 1\n100d00044d5154540402003c0001773206000174000178e000";
+    expect_told(rt, told, wanted, "patient")
 }
 
 // The connection is lost at each write in turn.
@@ -187,5 +254,7 @@ fn all_hold(rt: HostRuntime) -> Result<(), Fail> {
     a_full_client_waits(&rt, rt.alloc())?;
     a_client_pings(&rt, rt.alloc())?;
     a_client_is_never_answered(&rt, rt.alloc())?;
+    a_client_is_patient(&rt, rt.alloc())?;
+    a_session_is_not_saved(&rt, rt.alloc())?;
     writes_fail(&rt, rt.alloc())
 }

@@ -3,7 +3,7 @@
 use crate::compare::expect_told;
 use crate::script::{Steps, new_client, put, told};
 use bytes::Bytes;
-use mq_client::{CollectGoal, NoSaver, Peer, Texts, collect, publish};
+use mq_client::{CollectGoal, NoSaver, Peer, Publications, collect, publish};
 use mq_decode::Limits;
 use mq_end::{Happening, Progress, ServerConfig, ServerEnd};
 use mq_packet::{Message, NonEmpty, PacketId, Payload, SubAckCode};
@@ -13,8 +13,8 @@ use std::alloc::Global;
 use std::process::Abort;
 use std::test::Fail;
 
-// A server end that answers at once, so many bytes at a read; it grants each subscription, and publishes a message of each quality of
-// service to whoever subscribes. The payloads that it is handed are remembered.
+// A server end that answers at once. A read gives at most `most` bytes. It grants each subscription and
+// publishes a message of each quality of service to it. It remembers the payloads that it receives.
 #[derive(Drop)]
 struct Served {
     alloc: Global,
@@ -109,10 +109,11 @@ fn peer_of(alloc: Global, most: usize) -> Result<Peer<Served, Steps, NoSaver>, F
     Ok(Peer::new(client, served, Steps { now: 0, step: 1 }, NoSaver))
 }
 
-// What is published, so many bytes at a read, and the payloads that the server was handed.
+// The status and output of a publication, and the payloads that the server received. A read gives at
+// most `most` bytes.
 fn published(alloc: Global, qos: Qos, most: usize) -> Result<String, Fail> {
     let topic = TopicName::parse(alloc, "a/b")?;
-    let texts = Texts {
+    let texts = Publications {
         topic: &topic,
         qos,
         retain: true,

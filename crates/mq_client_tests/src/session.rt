@@ -1,10 +1,10 @@
-//! `publish` over a session that stands in a file.
+//! `publish` over a session in a file.
 
 use crate::compare::expect_told;
 use crate::disk::{Disk, Lent};
 use crate::script::bytes_of;
 use crate::side::{Dialer, Side};
-use mq_client::{Texts, publish_session};
+use mq_client::{Publications, SystemDisk, publish_session};
 use mq_topic::{Qos, TopicName};
 use mq_wire::Text;
 use std::alloc::Global;
@@ -12,11 +12,11 @@ use std::cell::RefCell;
 use std::process::Abort;
 use std::test::Fail;
 
-// The status and what is printed, where these texts are published to `t` for the client `w`.
+// The status and the printed text of a publication of these texts to `t` by the client `w`.
 fn run(alloc: Global, disk: &Disk, side: &RefCell<Side>, texts: &[&str]) -> Result<String, Fail> {
     let id = Text::new(alloc, "w")?;
     let topic = TopicName::parse(alloc, "t")?;
-    let texts = Texts {
+    let texts = Publications {
         topic: &topic,
         qos: Qos::Q2,
         retain: false,
@@ -27,7 +27,7 @@ fn run(alloc: Global, disk: &Disk, side: &RefCell<Side>, texts: &[&str]) -> Resu
         alloc,
         &id,
         &texts,
-        &Lent(disk),
+        SystemDisk(&Lent(disk)),
         "s",
         &mut Dialer(side),
         &mut output,
@@ -53,7 +53,7 @@ fn push_digits(told: &mut String, bytes: &[u8]) -> Result<(), Fail> {
     Ok(())
 }
 
-// The file of a disk, and what a server was handed.
+// The file of a disk, the number of connections, and the payloads that the server received.
 fn left(alloc: Global, disk: &Disk, side: &RefCell<Side>) -> Result<String, Fail> {
     let mut told = String::new(alloc);
     match disk.file.try_borrow() {
@@ -75,7 +75,7 @@ fn left(alloc: Global, disk: &Disk, side: &RefCell<Side>) -> Result<String, Fail
     Ok(told)
 }
 
-// A run over a file of these hexadecimal digits, and what is left.
+// A run over a file of these hexadecimal digits, and the state after it.
 fn run_over(alloc: Global, file: Option<&str>, texts: &[&str]) -> Result<String, Fail> {
     let file = match file {
         Some(digits) => Some(bytes_of(alloc, digits)?),
@@ -89,7 +89,7 @@ fn run_over(alloc: Global, file: Option<&str>, texts: &[&str]) -> Result<String,
     Ok(told)
 }
 
-// What the file holds before, the texts, and what is printed, what the file holds then, and what the server has.
+// A name, the file before, and the texts; and the printed text with the state after the run.
 static GONE_ON: [(&str, Option<&str>, &[&str], &str); 9] = [
     (
         "a message of before, of version 1",
@@ -150,7 +150,8 @@ fn a_session_goes_on(rt: &impl Abort, alloc: Global) -> Result<(), Fail> {
     Ok(())
 }
 
-// A run at which a write is lost behind so many of its bytes, and a run again, with the texts or without; what is printed, and what is left.
+// A run in which a write is lost after `cut` of its bytes, and a second run with these texts; and the
+// state after it.
 fn lost_at(alloc: Global, lost_at: u32, cut: usize, again: &[&str]) -> Result<String, Fail> {
     let disk = Disk::new(alloc, None);
     let mut side = Side::new(alloc)?;
@@ -165,8 +166,8 @@ fn lost_at(alloc: Global, lost_at: u32, cut: usize, again: &[&str]) -> Result<St
     Ok(told)
 }
 
-// The connection is lost at each write in turn: CONNECT and DISCONNECT with a clean session, CONNECT, the PUBLISHes, the PUBRELs, DISCONNECT.
-// The texts that were published before are handed on once in all, and those that were not are published by the run after.
+// The connection is lost at each write in turn: CONNECT and DISCONNECT with a clean session, CONNECT,
+// the PUBLISHes, the PUBRELs, DISCONNECT. Each text is delivered once in all.
 fn each_text_is_handed_on_once(rt: &impl Abort, alloc: Global) -> Result<(), Fail> {
     let rows: [(u32, &[&str], &str); 6] = [
         (
@@ -209,7 +210,7 @@ fn each_text_is_handed_on_once(rt: &impl Abort, alloc: Global) -> Result<(), Fai
     Ok(())
 }
 
-// How many times a server was written to.
+// The number of writes to a server.
 fn writes_of(side: &RefCell<Side>) -> u32 {
     match side.try_borrow() {
         Ok(side) => side.writes,
@@ -217,7 +218,8 @@ fn writes_of(side: &RefCell<Side>) -> u32 {
     }
 }
 
-// A run on a disk that takes so many forms, and a run again on one that takes all; and how many times the first one wrote to the server.
+// A run on a disk that takes `renames` forms, and a second run on one that takes all; and the number
+// of writes of the first run.
 fn unwritten(alloc: Global, renames: u32, again: &[&str]) -> Result<String, Fail> {
     let disk = Disk::new(alloc, None);
     disk.renames.set(renames);
@@ -232,8 +234,8 @@ fn unwritten(alloc: Global, renames: u32, again: &[&str]) -> Result<String, Fail
     Ok(told)
 }
 
-// The disk takes no form, or one, and so on: that of CONNECT, of CONNACK, of the PUBLISHes, of the PUBRECs, of the PUBCOMPs. Nothing that a
-// change put out goes out where its form was not taken; so the run again hands each text on once.
+// The disk takes no form, one form, and so on: of CONNECT, CONNACK, the PUBLISHes, the PUBRECs and the
+// PUBCOMPs. Without its form nothing is sent, so that the second run delivers each text once.
 fn a_form_is_not_written(rt: &impl Abort, alloc: Global) -> Result<(), Fail> {
     let rows: [(u32, &[&str], &str); 5] = [
         (
@@ -269,9 +271,23 @@ fn a_form_is_not_written(rt: &impl Abort, alloc: Global) -> Result<(), Fail> {
     Ok(())
 }
 
+// A file that can't be opened is not taken for a missing one: no connection is made, and it stays.
+fn a_file_is_locked(rt: &impl Abort, alloc: Global) -> Result<(), Fail> {
+    let file = bytes_of(alloc, "4d5153020001770100040001000000000000")?;
+    let disk = Disk::new(alloc, Some(file));
+    disk.is_locked.set(true);
+    let side = RefCell::new(Side::new(alloc)?);
+    let mut told = run(alloc, &disk, &side, &["x"])?;
+    let left = left(alloc, &disk, &side)?;
+    told.push_str(left.as_str())?;
+    let wanted = "2file not read|4d5153020001770100040001000000000000 0 ";
+    expect_told(rt, Ok(told), wanted, "locked")
+}
+
 #[test]
 fn all_hold(rt: HostRuntime) -> Result<(), Fail> {
     a_session_goes_on(&rt, rt.alloc())?;
     each_text_is_handed_on_once(&rt, rt.alloc())?;
-    a_form_is_not_written(&rt, rt.alloc())
+    a_form_is_not_written(&rt, rt.alloc())?;
+    a_file_is_locked(&rt, rt.alloc())
 }

@@ -1,4 +1,4 @@
-//! A server that stays, and the connections to it.
+//! A server that outlives its connections.
 
 ghost use Rattle.std.specs.Prelude.{◌≤◌, length};
 
@@ -11,8 +11,8 @@ use std::alloc::Global;
 use std::cell::RefCell;
 use std::test::Fail;
 
-/// A server end of one client, whose session stays from one connection to the next, and the payloads that it was handed. The write of this
-/// number is lost behind so many of its bytes, and its connection with it.
+/// A server end of one client. Its session outlives its connections. It remembers the payloads that it
+/// receives. The write `lost_at` is lost after `cut` bytes, and the connection with it.
 #[derive(Drop)]
 pub(crate) struct Side {
     pub(crate) server: ServerEnd,
@@ -42,7 +42,7 @@ impl Side {
         })
     }
 
-    // Takes bytes in, and remembers the payloads that are handed on.
+    // Receives bytes and remembers the payloads.
     fn hear(&mut self, bytes: &[u8]) -> Result<(), Broken> {
         let progress = self.server.receive(0, bytes);
         for happening in progress.happenings.as_slice() {
@@ -56,7 +56,7 @@ impl Side {
         Ok(())
     }
 
-    // Takes in what is written, or what of it is not lost.
+    // Receives a write, or the part of it that is not lost.
     fn take_in(&mut self, bytes: &[u8]) -> Result<(), Broken> {
         if bytes.is_empty() {
             return Ok(());
@@ -71,7 +71,7 @@ impl Side {
         Err(Broken)
     }
 
-    // Gives the bytes that wait.
+    // Gives the pending output.
     fn give(&mut self, room: &mut [u8]) -> usize
         ensures { result ≤ length room.new }
     {
@@ -81,7 +81,7 @@ impl Side {
     }
 }
 
-/// Makes connections to a server, which stays.
+/// Makes connections to a server.
 #[derive(Clone, Copy)]
 pub(crate) struct Dialer<'a>(pub(crate) &'a RefCell<Side>);
 

@@ -1,4 +1,4 @@
--- From what the client programs print to what they print for their words.
+-- The output of the client programs, for their arguments.
 use Rattle.std.proofs.Common.{◌≡◌, ℕ, List, Option, Some, None, Result, Ok, Err, IfOk, inl, inr, subst, sym}
 use Rattle.std.specs.Prelude.{◌≢◌, IfErr, IfNone, IfSome, IsErrOf}
 use Rattle.mq_line.specs.Lines.{Prints}
@@ -6,33 +6,35 @@ use Rattle.mq_topic.specs.declared.fault.TopicFault.{TopicFault}
 use Rattle.mq_topic.specs.declared.fault.TopicFault.TheVariants.{Memory}
 use Rattle.mq_cli.specs.declared.jobs.Collect.{Collect}
 use Rattle.mq_cli.specs.declared.jobs.Publish.{Publish}
-use Rattle.mq_client.specs.declared.collecting.CollectGoal.{CollectGoal}
-use Rattle.mq_client.specs.declared.publishing.Texts.{Texts}
+use Rattle.mq_client.specs.declared.collector.CollectGoal.{CollectGoal}
+use Rattle.mq_client.specs.declared.publisher.Publications.{Publications}
 use Rattle.mq_client.specs.Programs.{IsMessagesDone, IsSessionDone, IsTextsDone}
-use Rattle.mq_programs.specs.Runs.{AreTextsOf, IsBadTopic, IsCollected, IsPublished, IsWishOf}
+use Rattle.mq_programs.specs.Runs.{AreTextsOf, IsBadTopic, IsCollected, IsPublished, IsGoalOf}
 
--- what is printed is so in other words
+-- the same output under another description
 pub in_other_words : {E : Type 0} (r : Result ℕ E) (a b : Option (List ℕ)) (P Q : ℕ → List ℕ → Type 0) → ((status : ℕ) (text : List ℕ) → P status text → Q status text) → IfOk r (λ status. Prints a b (P status))
     → IfOk r (λ status. Prints a b (Q status))
 in_other_words (Ok status) a b P Q more p = (p.0, p.1, more status p.0 p.2)
 in_other_words (Err e) a b P Q more p = tt
 
-pub collected : {E : Type 0} (r : Result ℕ E) (a b : Option (List ℕ)) (id : List ℕ) (words : Collect) (w : CollectGoal) → id ≡ words.id.now → IsWishOf words w
+pub collected : {E : Type 0} (r : Result ℕ E) (a b : Option (List ℕ)) (id : List ℕ) (words : Collect) (w : CollectGoal) → id ≡ words.id.now → IsGoalOf words w
     → IfOk r (λ status. Prints a b (IsMessagesDone id words.clean w status)) → IfOk r (λ status. Prints a b (IsCollected words status))
 collected r a b id words w same own =
     in_other_words r a b (IsMessagesDone id words.clean w) (IsCollected words) (λ status text p. (w, own, subst (λ i. IsMessagesDone i words.clean w status text) same p))
 
-pub published : {E : Type 0} (r : Result ℕ E) (a b : Option (List ℕ)) (id : List ℕ) (words : Publish) (t : Texts) → id ≡ words.id.now → words.session ≡ None → AreTextsOf words t
+pub published : {E : Type 0} (r : Result ℕ E) (a b : Option (List ℕ)) (id : List ℕ) (words : Publish) (t : Publications) → id ≡ words.id.now → words.session ≡ None → AreTextsOf words t
     → IfOk r (λ status. Prints a b (IsTextsDone id t status)) → IfOk r (λ status. Prints a b (IsPublished words status))
 published r a b id words t same none own =
-    in_other_words r a b (IsTextsDone id t) (IsPublished words) (λ status text p. (t, own, inl (none, subst (λ i. IsTextsDone i t status text) same p)))
+    in_other_words r a b (IsTextsDone id t) (IsPublished words)
+    (λ status text p. (t, own, rw none (subst (λ i. IsTextsDone i t status text) same p)))
 
-pub resumed : {E : Type 0} (r : Result ℕ E) (a b : Option (List ℕ)) (id : List ℕ) (words : Publish) (t : Texts) → id ≡ words.id.now → AreTextsOf words t
-    → IfOk r (λ status. Prints a b (IsSessionDone id t status)) → IfOk r (λ status. Prints a b (IsPublished words status))
-resumed r a b id words t same own =
-    in_other_words r a b (IsSessionDone id t) (IsPublished words) (λ status text p. (t, own, inr (subst (λ i. IsSessionDone i t status text) same p)))
+pub resumed : {E : Type 0} (r : Result ℕ E) (a b : Option (List ℕ)) (id : List ℕ) (words : Publish) (t : Publications) (name : _) → id ≡ words.id.now → words.session ≡ Some name → AreTextsOf words t
+    → IfOk r (λ status. Prints a b (IsSessionDone None name.now id t status)) → IfOk r (λ status. Prints a b (IsPublished words status))
+resumed r a b id words t name same some own =
+    in_other_words r a b (IsSessionDone None name.now id t) (IsPublished words)
+    (λ status text p. (t, own, rw some (subst (λ i. IsSessionDone None name.now i t status text) same p)))
 
--- a fault that is not for lack of memory is the first one of the words
+-- a fault other than a failed allocation is the first one of the argument
 fault_found : {T : Type 0} (p : Result T TopicFault) (found : Option TopicFault) (fault : TopicFault) → p ≡ Err fault → IfSome found (λ first. IsErrOf p first)
     → IfNone found (IfErr p (λ why. why ≡ Memory)) → fault ≢ Memory → found ≡ Some fault
 fault_found p None fault is refused memory other = absurd (other (subst (λ q. IfErr q (λ why. why ≡ Memory)) is memory))

@@ -1,4 +1,4 @@
-//! The client programs, over sockets and files.
+//! The client programs, over sockets and files of the system.
 
 ghost use Rattle.std.specs.Prelude.{◌≡◌, ◌≢◌, Some, IfOk, OnOk};
 ghost use Rattle.std.specs.Io.KnownBytes.{Appends};
@@ -7,7 +7,10 @@ ghost use Rattle.mq_cli.specs.Printed.{topic_line};
 ghost use Rattle.mq_programs.specs.Runs.{IsBadTopic, IsClientRun, IsCollectRun, IsCollected, IsPublishRun, IsPublished};
 
 use mq_cli::{Collect, Command, Failure, Publish};
-use mq_client::{CollectGoal, Loopback, Texts, collect_messages, publish_session, publish_texts};
+use mq_client::{
+    CollectGoal, Loopback, Publications, SystemDisk, collect_messages, publish_session,
+    publish_texts,
+};
 use mq_topic::{TopicFault, TopicFilter, TopicName};
 use mq_wire::{Text, TextFault};
 use std::alloc::Global;
@@ -17,7 +20,7 @@ use std::net::Net;
 use std::rt::Files;
 use std::time::Clock;
 
-// The client identifier of the words.
+// The client identifier of an argument.
 fn identifier(alloc: Global, id: &str) -> Result<Text, Failure>
     ensures { IfOk result (λ t. t ≡ id.now) }
 {
@@ -28,7 +31,7 @@ fn identifier(alloc: Global, id: &str) -> Result<Text, Failure>
     }
 }
 
-// Writes that a text is not of this kind: no name, or no filter.
+// Writes that an argument is no topic name, or no topic filter.
 fn write_bad_topic<W: Write>(output: &mut W, kind: &str, fault: TopicFault) -> io::Result<()>
     ensures { OnOk result
         (Appends (W.contents output.old) (W.contents output.new) (topic_line kind.now fault)) }
@@ -37,7 +40,7 @@ fn write_bad_topic<W: Write>(output: &mut W, kind: &str, fault: TopicFault) -> i
     writeln!(output, "{kind} {code}")
 }
 
-// The same, and answers the status.
+// The same, with the status.
 fn bad_topic<W: Write>(output: &mut W, kind: &str, fault: TopicFault) -> Result<u8, Failure>
     ensures other { IfOk result (λ _. fault ≢ TopicFault.Memory) }
     ensures told { IfOk result (λ status. Prints (W.contents output.old) (W.contents output.new)
@@ -50,7 +53,7 @@ fn bad_topic<W: Write>(output: &mut W, kind: &str, fault: TopicFault) -> Result<
     Ok(2)
 }
 
-/// Publishes texts, and prints what comes of it; answers the status.
+/// Runs `publish`. Returns its status.
 pub fn run_publish<R: Net + Clock + Files, W: Write>(
     rt: &R,
     alloc: Global,
@@ -66,7 +69,7 @@ pub fn run_publish<R: Net + Clock + Files, W: Write>(
     }
 }
 
-// Publishes texts to a topic name, over a clean session or over that of a file.
+// Publishes texts to a topic, over a clean session or over the session in a file.
 fn publish_to<R: Net + Clock + Files, W: Write>(
     rt: &R,
     alloc: Global,
@@ -82,7 +85,7 @@ fn publish_to<R: Net + Clock + Files, W: Write>(
     Ok(publish_as(rt, alloc, words, topic, &id, output)?)
 }
 
-// The same, as a client of this identifier.
+// The same, as a client with this identifier.
 fn publish_as<R: Net + Clock + Files, W: Write>(
     rt: &R,
     alloc: Global,
@@ -96,7 +99,7 @@ fn publish_as<R: Net + Clock + Files, W: Write>(
     ensures { IfOk result (λ status. Prints (W.contents output.old) (W.contents output.new)
         (IsPublished words.now status)) }
 {
-    let texts = Texts {
+    let texts = Publications {
         topic,
         qos: words.qos,
         retain: words.retain,
@@ -105,12 +108,15 @@ fn publish_as<R: Net + Clock + Files, W: Write>(
     let port = words.port;
     let mut dialer = Loopback { rt, port };
     match words.session {
-        Some(name) => publish_session(alloc, id, &texts, rt, name, &mut dialer, output),
+        Some(name) => {
+            let disk = SystemDisk(rt);
+            publish_session(alloc, id, &texts, disk, name, &mut dialer, output)
+        }
         None => publish_texts(alloc, id, &texts, &mut dialer, output),
     }
 }
 
-/// Prints the messages that come to a client; answers the status.
+/// Runs `collect`. Returns its status.
 pub fn run_collect<R: Net + Clock + Files, W: Write>(
     rt: &R,
     alloc: Global,
@@ -126,7 +132,7 @@ pub fn run_collect<R: Net + Clock + Files, W: Write>(
     }
 }
 
-// Prints the messages that come of a filter.
+// Prints the messages of a filter.
 fn collect_of<R: Net + Clock + Files, W: Write>(
     rt: &R,
     alloc: Global,
@@ -142,7 +148,7 @@ fn collect_of<R: Net + Clock + Files, W: Write>(
     Ok(collect_as(rt, alloc, words, filter, &id, output)?)
 }
 
-// The same, as a client of this identifier.
+// The same, as a client with this identifier.
 fn collect_as<R: Net + Clock + Files, W: Write>(
     rt: &R,
     alloc: Global,
@@ -156,17 +162,17 @@ fn collect_as<R: Net + Clock + Files, W: Write>(
     ensures { IfOk result (λ status. Prints (W.contents output.old) (W.contents output.new)
         (IsCollected words.now status)) }
 {
-    let wish = CollectGoal {
+    let goal = CollectGoal {
         filter,
         qos: words.qos,
         count: words.count,
     };
     let port = words.port;
     let mut dialer = Loopback { rt, port };
-    collect_messages(alloc, id, &wish, words.clean, &mut dialer, output)
+    collect_messages(alloc, id, &goal, words.clean, &mut dialer, output)
 }
 
-/// Runs the client program that the words ask for, where they ask for one; answers the status.
+/// Runs `publish` or `collect`. Returns the status, or `Words` for another command.
 pub fn run_client<R: Net + Clock + Files, W: Write>(
     rt: &R,
     alloc: Global,

@@ -1,10 +1,14 @@
-//! What the program does for the words of `publish`, `collect`, `serve` and `loopback`: over the sockets and files of any system, and into any output.
+//! The commands `publish`, `collect`, `serve` and `loopback`, over the sockets and files of the system
+//! and into any output.
+//!
+//! A call that can fail for lack of memory says so in its return type; other calls never allocate.
+//! On `Err` the receiver is unchanged unless stated otherwise.
 #![tactic(auto)]
 
 mod clients;
-mod looping;
-mod serving;
+mod loopback;
+mod server;
 
 pub use crate::clients::{run_client, run_collect, run_publish};
-pub use crate::looping::run_loopback;
-pub use crate::serving::{run_serve, run_serve_on};
+pub use crate::loopback::run_loopback;
+pub use crate::server::{run_serve, run_serve_on};

@@ -5,7 +5,7 @@ use crate::hexes::{add_digits, bytes_of};
 use crate::outcome::Outcome;
 use crate::ran::{Ran, outcome};
 use crate::side::{Dialer, Side};
-use mq_client::{Texts, publish_session};
+use mq_client::{Publications, SystemDisk, publish_session};
 use mq_end::CloseReason;
 use mq_topic::{Qos, TopicName};
 use mq_wire::Text;
@@ -70,7 +70,7 @@ fn publish<R: Files>(
 ) -> Result<u8, Fault> {
     let id = Text::new(alloc, "w").ok().ok_or(Fault::Memory)?;
     let topic = TopicName::parse(alloc, "t").ok().ok_or(Fault::Memory)?;
-    let texts = Texts {
+    let texts = Publications {
         topic: &topic,
         qos: Qos::Q2,
         retain: false,
@@ -78,7 +78,8 @@ fn publish<R: Files>(
     };
     let mut output = Vec::with_capacity(alloc, 4_096)?;
     let mut dialer = Dialer(side);
-    let status = publish_session(alloc, &id, &texts, rt, NAME, &mut dialer, &mut output)?;
+    let disk = SystemDisk(rt);
+    let status = publish_session(alloc, &id, &texts, disk, NAME, &mut dialer, &mut output)?;
     add_close(side, lines)?;
     for byte in output {
         lines.push(char::from(byte))?;

@@ -1,13 +1,17 @@
-use Rattle.std.proofs.Common.{[], option_to_list, sym, subst}
+use Rattle.std.proofs.Common.{[], option_to_list}
 use Rattle.std.proofs.lemmas.Result.{err_from_is_err_and}
-use Rattle.mq_client.specs.Course.{Went}
-use Rattle.mq_client.proofs.Courses.{answered}
+use Rattle.mq_client.proofs.Courses.{reports_none, went_still}
 use Rattle.mq_client.proofs.peer.Peer.listen.Goals as goal
 
 pub returns-in_err-progress : goal.returns-in_err-progress
 returns-in_err-progress g c =
     let p = err_from_is_err_and c.from_residual.result c.from_residual.ensures.1 in
-    rw (p.1, p.2) ([], subst (λ rs. Went c.args.self.now c.hear.new.self [] [] rs) (sym c.in_err-progress.ensures.goes_on) c.in_err-progress.ensures.lost)
+    rw (p.1, p.2) ([], [], c.in_err-progress.ensures.lost, reports_none _ c.in_err-progress.ensures.goes_on)
 
 pub returns : goal.returns
-returns g c = (c.in_ok-progress.progress.happenings, answered _ _ _ [] c.in_ok-progress.progress.happenings _ (option_to_list c.in_ok-progress.progress.closed) c.in_ok-progress.ensures.went c.answer.ensures.went c.answer.ensures.closes)
+returns g c = (
+  c.in_ok-progress.progress.happenings,
+  option_to_list c.in_ok-progress.progress.closed,
+  went_still _ _ _ [] c.in_ok-progress.progress.happenings (option_to_list c.in_ok-progress.progress.closed) c.in_ok-progress.ensures.went c.answer.ensures.went,
+  c.answer.ensures.closes,
+)

@@ -1,6 +1,0 @@
-use Rattle.std.proofs.Common.{[], Ok}
-use Rattle.mq_client.specs.Collecting.{Keeps}
-use Rattle.mq_client.proofs.collecting.await_answer.Given as goal
-
-abbrev pub invariant-loop : goal.invariant-loop
-invariant-loop g l = Keeps l.initial.peer l.peer [] l.initial.kept.items l.kept.items (Ok tt)

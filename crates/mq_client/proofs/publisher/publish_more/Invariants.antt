@@ -1,0 +1,9 @@
+use Rattle.std.proofs.Common.{◌-◌, length}
+use Rattle.mq_client.specs.Publishing.{AskedMore, asks_of}
+use Rattle.mq_client.proofs.publisher.publish_more.Given as goal
+
+abbrev pub invariant-loop-next : goal.invariant-loop-next
+invariant-loop-next g l = AskedMore l.initial.peer l.peer (asks_of l.texts) l.initial.next l.next
+
+abbrev pub decreases-loop-next : goal.decreases-loop-next
+decreases-loop-next g l = length l.texts.texts.now - l.next

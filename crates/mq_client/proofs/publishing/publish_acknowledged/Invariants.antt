@@ -1,6 +1,0 @@
-use Rattle.std.proofs.Common.{[]}
-use Rattle.mq_client.specs.Publishing.{AskedFirst, asks_of}
-use Rattle.mq_client.proofs.publishing.publish_acknowledged.Given as goal
-
-abbrev pub invariant-loop : goal.invariant-loop
-invariant-loop g l = AskedFirst l.initial.peer l.peer (asks_of l.texts) l.next []

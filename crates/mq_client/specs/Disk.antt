@@ -1,0 +1,108 @@
+-- Named files, and what a crash may leave of them.
+use Rattle.std.specs.Prelude.{◌≡◌, ◌⊎◌, ⊤, ℕ, Bool, true, false, List, [], ◌∷◌, ◌++◌, Option, Some, None}
+
+-- A file as a crash leaves it: none, or some bytes. The flag says whether the bytes are on the disk for certain.
+abbrev pub Entry : Type 0
+Entry = Option (Bool × List ℕ)
+
+-- bytes that a crash may still change
+abbrev pub volatile : List ℕ → Entry
+volatile bytes = Some (false, bytes)
+
+-- bytes that a crash leaves as they are
+abbrev pub durable : List ℕ → Entry
+durable bytes = Some (true, bytes)
+
+-- the file after a sync
+abbrev pub synced : Entry → Entry
+synced None = None
+synced (Some e) = durable e.1
+
+abbrev pub newest : Entry → List Entry → Entry
+newest e [] = e
+newest e (f ∷ es) = newest f es
+
+-- the present entry of a file with this history; a file without a history is missing
+abbrev pub present : List Entry → Entry
+present [] = None
+present (e ∷ es) = newest e es
+
+-- the other files have the history that they had
+abbrev pub OthersStay : List ℕ → (List ℕ → List Entry) → (List ℕ → List Entry) → Type 0
+OthersStay name a b = (other : List ℕ) → (other ≡ name → ⊥) → b other ≡ a other
+
+-- at most this file changed
+abbrev pub Touched : List ℕ → Option (List ℕ → List Entry) → Option (List ℕ → List Entry) → Type 0
+Touched name None new = new ≡ None
+Touched name (Some a) None = ⊥
+Touched name (Some a) (Some b) = OthersStay name a b
+
+-- the file has these bytes, which a crash may still change
+abbrev pub Wrote : List ℕ → List ℕ → Option (List ℕ → List Entry) → Option (List ℕ → List Entry) → Type 0
+Wrote name bytes None new = new ≡ None
+Wrote name bytes (Some a) None = ⊥
+Wrote name bytes (Some a) (Some b) = OthersStay name a b × (present (b name) ≡ volatile bytes)
+
+-- the bytes of the file are on the disk
+abbrev pub Synced : List ℕ → Option (List ℕ → List Entry) → Option (List ℕ → List Entry) → Type 0
+Synced name None new = new ≡ None
+Synced name (Some a) None = ⊥
+Synced name (Some a) (Some b) = OthersStay name a b × (present (b name) ≡ synced (present (a name)))
+
+-- one file took the place of another, in one step
+abbrev pub Moved : List ℕ → List ℕ → Option (List ℕ → List Entry) → Option (List ℕ → List Entry) → Type 0
+Moved from to None new = new ≡ None
+Moved from to (Some a) None = ⊥
+Moved from to (Some a) (Some b) = b to ≡ a to ++ present (a from) ∷ []
+
+-- the file has the history that it had
+abbrev pub Stays : List ℕ → Option (List ℕ → List Entry) → Option (List ℕ → List Entry) → Type 0
+Stays name None new = new ≡ None
+Stays name (Some a) None = ⊥
+Stays name (Some a) (Some b) = b name ≡ a name
+
+-- there is no such file
+abbrev pub IsMissing : Option (List ℕ → List Entry) → List ℕ → Type 0
+IsMissing None name = ⊤
+IsMissing (Some a) name = present (a name) ≡ None
+
+-- the file has these bytes
+abbrev pub Contains : Option (List ℕ → List Entry) → List ℕ → List ℕ → Type 0
+Contains None name bytes = ⊤
+Contains (Some a) name bytes = (is_durable : Bool) × (present (a name) ≡ Some (is_durable, bytes))
+
+-- ---- one file
+
+-- the history of one file, if it is known
+abbrev pub history_of : Option (List ℕ → List Entry) → List ℕ → Option (List Entry)
+history_of None name = None
+history_of (Some a) name = Some (a name)
+
+-- the bytes that are on the disk for certain
+abbrev pub bytes_of : Entry → Option (List ℕ)
+bytes_of None = None
+bytes_of (Some (true, bytes)) = Some bytes
+bytes_of (Some (false, bytes)) = None
+
+-- the bytes of the file that are on the disk for certain, if this is known
+abbrev pub stands_of : Option (List Entry) → Option (List ℕ)
+stands_of None = None
+stands_of (Some entries) = bytes_of (present entries)
+
+-- These bytes are on the disk. They were so before, or the history of the file grew by them alone: a crash at any time
+-- leaves the file as it was before, or these bytes.
+abbrev pub Replaced : Option (List Entry) → Option (List Entry) → List ℕ → Type 0
+Replaced None new form = new ≡ None
+Replaced (Some a) None form = ⊥
+Replaced (Some a) (Some b) form = (present b ≡ durable form) × ((b ≡ a) ⊎ (b ≡ a ++ durable form ∷ []))
+
+-- the history of the file is what it was
+abbrev pub Unchanged : Option (List Entry) → Option (List Entry) → Type 0
+Unchanged None new = new ≡ None
+Unchanged (Some a) None = ⊥
+Unchanged (Some a) (Some b) = b ≡ a
+
+-- these bytes are on the disk, as far as it is known
+abbrev pub IsLast : Option (List Entry) → List ℕ → Type 0
+IsLast None form = ⊤
+IsLast (Some a) form = present a ≡ durable form

@@ -1,0 +1,76 @@
+//! Disks: named files.
+
+ghost use Rattle.std.specs.Prelude.{◌≡◌, ℕ, List, Option, None, MatchOption, IfOk, IsTrue, OnErr, OnOk, ◌↔◌};
+ghost use Rattle.std.specs.IoError.{error_kind};
+ghost use Rattle.mq_client.specs.Disk.{Contains, Entry, IsMissing, Moved, Stays, Synced, Touched, Wrote};
+
+use std::alloc::Global;
+use std::fs::{File, OpenFile};
+use std::io::{ErrorKind, Read, Write};
+use std::rt::Files;
+use std::{fs, io};
+
+/// Named files, as far as a session needs them.
+pub trait Disk {
+    /// For each name, what a crash may have left of the file so far, in order, if this is known.
+    ghost history: { Self → Option (List ℕ → List Entry) } = { λ _. None };
+
+    /// Reads a whole file. Returns `None` if there is no file of this name.
+    fn read(&self, alloc: Global, name: &str) -> io::Result<Option<Vec<u8>>>
+        ensures { IfOk result (λ found. MatchOption found (IsMissing (history self.now) name.now)
+            (λ bytes. Contains (history self.now) name.now bytes.items)) };
+
+    /// Writes a whole file anew.
+    fn write(&mut self, name: &str, bytes: &[u8]) -> io::Result<()>
+        ensures ok { OnOk result (Wrote name.now bytes.now (history self.old) (history self.new)) }
+        ensures err { OnErr result (Touched name.now (history self.old) (history self.new)) };
+
+    /// Brings a file to the disk, so that a crash can't change it any more.
+    fn sync(&mut self, name: &str) -> io::Result<()>
+        ensures ok { OnOk result (Synced name.now (history self.old) (history self.new)) }
+        ensures err { OnErr result (Touched name.now (history self.old) (history self.new)) };
+
+    /// Replaces the file `to` by the file `from`, in one step.
+    fn rename(&mut self, from: &str, to: &str) -> io::Result<()>
+        ensures ok { OnOk result (Moved from.now to.now (history self.old) (history self.new)) }
+        ensures err { OnErr result (Stays to.now (history self.old) (history self.new)) };
+}
+
+/// The files of the system. No contract of the system says what a file has.
+#[derive(Clone, Copy)]
+pub struct SystemDisk<'a, R: Files>(pub &'a R);
+
+// Whether a file was not opened because there is none of its name.
+fn is_missing(error: &io::Error) -> bool
+    ensures { IsTrue result ↔ (error_kind error.now ≡ ErrorKind.NotFound) }
+{
+    error.kind() == ErrorKind::NotFound
+}
+
+impl<R: Files> Disk for SystemDisk<'_, R> {
+    fn read(&self, alloc: Global, name: &str) -> io::Result<Option<Vec<u8>>> {
+        let mut file = match File::open(self.0, name) {
+            Ok(file) => file,
+            Err(error) if is_missing(&error) => return Ok(None),
+            Err(error) => return Err(error),
+        };
+        let mut bytes = Vec::new(alloc);
+        file.read_to_end(&mut bytes)?;
+        Ok(Some(bytes))
+    }
+
+    fn write(&mut self, name: &str, bytes: &[u8]) -> io::Result<()> {
+        let mut file = fs::create(self.0, name)?;
+        file.write_all(bytes)?;
+        file.flush()
+    }
+
+    fn sync(&mut self, name: &str) -> io::Result<()> {
+        let file = File::open(self.0, name)?;
+        file.sync_all()
+    }
+
+    fn rename(&mut self, from: &str, to: &str) -> io::Result<()> {
+        fs::rename(self.0, from, to)
+    }
+}

@@ -1,0 +1,103 @@
+//! A session in a file.
+
+ghost use Rattle.std.specs.Prelude.{◌≡◌, true, OnErr, OnOk};
+ghost use Rattle.mq_client.specs.Disk.{Replaced, Unchanged, history_of, stands_of};
+
+use crate::disk::Disk;
+use crate::saver::{SaveError, Store};
+use std::alloc::Global;
+use std::marker::Model;
+
+/// The file of a session.
+///
+/// Its bytes are written to a draft, a file of the same name with `.new` behind it, which is synced
+/// and then renamed. So a crash at any time leaves the old session or the new one, never a part.
+/// Bytes that were written last are not written again.
+#[derive(Drop)]
+pub struct SessionFile<'a, D: Disk> {
+    alloc: Global,
+    disk: D,
+    name: &'a str,
+    last: Option<Vec<u8>>,
+}
+
+impl<'a, D: Disk> Model for SessionFile<'a, D> {
+    ghost use Rattle.std.specs.Prelude.{List, Option, IfSome};
+    ghost use Rattle.mq_client.specs.Disk.{Entry, IsLast, history_of};
+
+    ghost Value = { Option (List Entry) };
+
+    ghost view = { λ f. history_of (D.history f.disk) f.name.now };
+
+    ghost invariant = { λ f. IfSome f.last (λ form. IsLast (history_of (D.history f.disk) f.name.now) form.items) };
+}
+
+impl<'a, D: Disk> SessionFile<'a, D> {
+    /// The file of this name.
+    pub fn new(alloc: Global, disk: D, name: &'a str) -> SessionFile<'a, D>
+        ensures { result ≡ history_of (D.history disk) name.now }
+    {
+        SessionFile {
+            alloc,
+            disk,
+            name,
+            last: None,
+        }
+    }
+
+    // Whether these bytes were written last.
+    fn has(&self, form: &[u8]) -> bool
+        ensures { result ≡ true → Replaced self.now self.now form.now }
+    {
+        match &self.last {
+            Some(last) => last.as_slice() == form,
+            None => false,
+        }
+    }
+
+    /// Replaces the session in the file. After an error the old one is still there.
+    #[tactic(auto, using(crate::proofs::Files::last_unchanged, crate::proofs::Files::last_replaced, crate::proofs::Files::unchanged_none))]
+    pub fn save(&mut self, form: Vec<u8>) -> Result<(), SaveError>
+        ensures ok { OnOk result (Replaced self.old self.new form.items) }
+        ensures err { OnErr result (Unchanged self.old self.new) }
+    {
+        if self.has(form.as_slice()) {
+            return Ok(());
+        }
+        put(self.alloc, &mut self.disk, self.name, form.as_slice())?;
+        self.last = Some(form);
+        Ok(())
+    }
+}
+
+impl<D: Disk> Store for SessionFile<'_, D> {
+    ghost stands = { λ f. stands_of f };
+
+    #[tactic(auto, using(crate::proofs::Files::holds_replaced, crate::proofs::Files::holds_unchanged))]
+    fn replace(&mut self, form: Vec<u8>) -> Result<(), SaveError> {
+        self.save(form)
+    }
+}
+
+// Writes a draft, syncs it and renames it.
+fn put<D: Disk>(alloc: Global, disk: &mut D, name: &str, form: &[u8]) -> Result<(), SaveError>
+    ensures ok { OnOk result (Replaced (history_of (D.history disk.old) name.now)
+        (history_of (D.history disk.new) name.now) form.now) }
+    ensures err { OnErr result (Unchanged (history_of (D.history disk.old) name.now)
+        (history_of (D.history disk.new) name.now)) }
+{
+    let Ok(draft) = format!(in alloc; "{name}.new") else {
+        return Err(SaveError::Memory);
+    };
+    let draft = draft.as_str();
+    if let Err(_) = disk.write(draft, form) {
+        return Err(SaveError::Unwritten);
+    }
+    if let Err(_) = disk.sync(draft) {
+        return Err(SaveError::Unwritten);
+    }
+    match disk.rename(draft, name) {
+        Ok(()) => Ok(()),
+        Err(_) => Err(SaveError::Unwritten),
+    }
+}

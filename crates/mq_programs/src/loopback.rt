@@ -1,0 +1,30 @@
+//! The command `loopback`.
+
+use mq_cli::{Failure, Source};
+use mq_loopback::{loopback, loopback_file};
+use std::alloc::Global;
+use std::io::{Read, Write};
+use std::net::{Net, TcpListener, TcpStream};
+use std::rt::Files;
+use std::sync::Wait;
+use std::thread::Threads;
+use std::time::Clock;
+
+/// Runs a broker and the clients of a loopback file, which is a named file or the input.
+pub fn run_loopback<R, I, W>(
+    rt: &R,
+    alloc: Global,
+    source: Source<'_>,
+    input: &mut I,
+    output: &mut W,
+) -> Result<u8, Failure>
+where
+    R: Net<Listener = TcpListener, Stream = TcpStream> + Files + Threads + Wait + Clock + Sync,
+    I: Read,
+    W: Write,
+{
+    Ok(match source {
+        Source::File(name) => loopback_file(rt, alloc, name, output)?,
+        Source::Standard => loopback(rt, alloc, input, output)?,
+    })
+}

@@ -1,0 +1,58 @@
+//! The command `serve`.
+
+ghost use Rattle.std.specs.Prelude.{◌≡◌, ◌<◌, ◌≤◌, IfSome};
+
+use mq_cli::{Failure, Serve};
+use mq_serve::{ServeOptions, serve, serve_on};
+use std::alloc::Global;
+use std::io::Write;
+use std::net::{Net, TcpListener, TcpStream};
+use std::sync::Wait;
+use std::thread::Threads;
+use std::time::Clock;
+
+// The options of the broker. `None` unless there are 1 to 64 workers.
+fn options_of(words: &Serve) -> Option<ServeOptions>
+    ensures some { IfSome result (λ options. (0 < options.workers) × (options.workers ≤ 64)) }
+    ensures same { IfSome result (λ options. (options.workers ≡ words.now.workers)
+        × (options.connections ≡ words.now.connections)) }
+{
+    let workers = u16::from(words.workers);
+    if workers == 0 || workers > 64 {
+        return None;
+    }
+    Some(ServeOptions {
+        connections: words.connections,
+        workers,
+    })
+}
+
+/// Runs the broker at the port of the arguments. Flushes its line as soon as it listens.
+pub fn run_serve<R, W>(rt: &R, alloc: Global, words: &Serve, output: &mut W) -> Result<u8, Failure>
+where
+    R: Net<Listener = TcpListener, Stream = TcpStream> + Threads + Wait + Clock + Sync,
+    W: Write,
+{
+    let Some(options) = options_of(words) else {
+        return Err(Failure::Words);
+    };
+    Ok(serve(rt, alloc, words.port, options, output)?)
+}
+
+/// Runs the broker on a listener that exists already. Ignores the port of the arguments.
+pub fn run_serve_on<R, W>(
+    rt: &R,
+    alloc: Global,
+    listener: TcpListener,
+    words: &Serve,
+    output: &mut W,
+) -> Result<u8, Failure>
+where
+    R: Net + Threads + Wait + Clock + Sync,
+    W: Write,
+{
+    let Some(options) = options_of(words) else {
+        return Err(Failure::Words);
+    };
+    Ok(serve_on(rt, alloc, listener, options, output)?)
+}
