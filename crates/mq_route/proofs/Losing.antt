@@ -20,7 +20,7 @@ use Rattle.mq_route.specs.Copies.{will_message}
 use Rattle.mq_route.specs.Hub.{HubState, HubConnection, new_hub, stage_of, is_open, held_on, up_on, end_of, with_end, copies_of}
 use Rattle.mq_route.specs.Work.{Work, begin, said, with_sessions, staged, shut, put_on, put_where, does, have_room, remove, remove_if, will_after, close}
 use Rattle.mq_route.specs.Arrives.{new_session, takes}
-use Rattle.mq_route.specs.Step.{holding, Comes, Arrives, Waits, Breaks, Starves, LetsGo, Ticks, Done, InTime, Late, Later, Does, told}
+use Rattle.mq_route.specs.Step.{holding, Comes, Arrives, Waits, Breaks, Starves, LetsGo, Ticks, Done, InTime, Late, Does, told}
 use Rattle.mq_route.specs.Dropped.{dropped_by, dropped, LosesWill, ComesLosing, TicksLosing, IsLosingEvent, WillLaws}
 use Rattle.mq_route.proofs.Changes.{Debt, nothing, Freely, freely, Inner, Outer, Nearby, IsShort, Sound, closing, rising}
 use Rattle.mq_route.proofs.Walk.{put_where_keeps}
@@ -171,7 +171,6 @@ few_ticks now xs w w2 (Late x ys fits v v2 late more) s none =
         later : (dropped v2.did ≡ []) ⊎ TicksLosing now ys u v2 more → (dropped v2.did ≡ []) ⊎ (LosesWill fits v ⊎ TicksLosing now ys u v2 more)
         later (inl e) = inl e
         later (inr x) = inr (inr x)
-few_ticks now xs w w2 (Later x ys v late) s none = inl none
 
 few_event : (h : HubState) (e : HubEvent) (r : HubReply) (w : Work) (d : Does h e r w) → Sound h → (dropped w.did ≡ []) ⊎ IsLosingEvent h e r w d
 few_event h (Opened k) r w d s = inl (ap (λ (w : Work). dropped w.did) d.0)

@@ -35,7 +35,7 @@ use Rattle.mq_route.specs.Hub.{HubState, HubConnection, new_hub, stage_of, is_op
 use Rattle.mq_route.specs.Welcome.{client_of, refusal}
 use Rattle.mq_route.specs.Work.{Work, begin, said, put_on, does, place, have_room, will_after, close, subscribed, retained_copies}
 use Rattle.mq_route.specs.Arrives.{Growth, granted, due, answers, touched_on, takes, broken}
-use Rattle.mq_route.specs.Step.{holding, Comes, Arrives, Waits, Breaks, Starves, LetsGo, Ticks, Done, InTime, Late, Later, Does, event_refusal, told}
+use Rattle.mq_route.specs.Step.{holding, Comes, Arrives, Waits, Breaks, Starves, LetsGo, Ticks, Done, InTime, Late, Does, event_refusal, told}
 use Rattle.mq_route.specs.Runs.{Episode, Follows}
 use Rattle.mq_route.specs.Dropped.{when_over}
 
@@ -162,7 +162,6 @@ in_ticks now xs w w2 (Done v) = []
 in_ticks now xs w w2 (InTime x ys v v2 soon more) = in_ticks now ys v v2 more
 in_ticks now xs w w2 (Late x ys fits v v2 late more) =
     in_close x.conn (Own reasons.KeepAlive) fits v ++ in_ticks now ys (close x.conn (Own reasons.KeepAlive) fits v) v2 more
-in_ticks now xs w w2 (Later x ys v late) = []
 
 -- the copies that a step places
 abbrev pub in_step : (h : HubState) (e : HubEvent) (r : HubReply) (w : Work) → Does h e r w → List Placing

@@ -20,7 +20,7 @@ use Rattle.mq_route.specs.Copies.{will_message}
 use Rattle.mq_route.specs.Hub.{HubState, HubConnection, new_hub, stage_of, held_on, end_of, with_end, copies_of}
 use Rattle.mq_route.specs.Work.{Work, begin, said, shut, with_sessions, have_room, remove_if, will_after, close}
 use Rattle.mq_route.specs.Arrives.{takes}
-use Rattle.mq_route.specs.Step.{holding, Comes, Arrives, Waits, Breaks, Starves, LetsGo, Ticks, Done, InTime, Late, Later, Does, event_refusal, told}
+use Rattle.mq_route.specs.Step.{holding, Comes, Arrives, Waits, Breaks, Starves, LetsGo, Ticks, Done, InTime, Late, Does, event_refusal, told}
 use Rattle.mq_route.specs.Runs.{Episode, Follows}
 
 unfoldable pub dropped_by : Act → List ℕ
@@ -72,7 +72,6 @@ abbrev pub TicksLosing : (now : ℕ) (xs : List HubConnection) (w w2 : Work) →
 TicksLosing now xs w w2 (Done v) = ⊥
 TicksLosing now xs w w2 (InTime x ys v v2 soon more) = TicksLosing now ys v v2 more
 TicksLosing now xs w w2 (Late x ys fits v v2 late more) = LosesWill fits v ⊎ TicksLosing now ys (close x.conn (Own reasons.KeepAlive) fits v) v2 more
-TicksLosing now xs w w2 (Later x ys v late) = ⊥
 
 -- a connection that closes in the event does
 abbrev pub IsLosingEvent : (h : HubState) (e : HubEvent) (r : HubReply) (w : Work) → Does h e r w → Type 0

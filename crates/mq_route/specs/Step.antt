@@ -51,14 +51,12 @@ is_late_on now AwaitingConnect = false
 is_late_on now (ConnectedAs key terms last_activity) = is_late last_activity terms.keep_alive now
 is_late_on now Closed = false
 
--- It is this moment: the late ones among these connections are closed one after another. Where there is no memory for that, the
--- others are left to the next time.
+-- The late ones among these connections are closed one after another, in the order in which they were opened (3.1.2.10).
 pub data Ticks (now : ℕ) : List HubConnection → Work → Work → Type 0 where
   Done : (w : Work) → Ticks now [] w w
   InTime : (x : HubConnection) (xs : List HubConnection) (w w2 : Work) → is_late_on now x.stage ≡ false → Ticks now xs w w2 → Ticks now (x ∷ xs) w w2
   Late : (x : HubConnection) (xs : List HubConnection) (fits : Bool) (w w2 : Work) → is_late_on now x.stage ≡ true
       → Ticks now xs (close x.conn (Own reasons.KeepAlive) fits w) w2 → Ticks now (x ∷ xs) w w2
-  Later : (x : HubConnection) (xs : List HubConnection) (w : Work) → is_late_on now x.stage ≡ true → Ticks now (x ∷ xs) w w
 
 -- ---- events
 
