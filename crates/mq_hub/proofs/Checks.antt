@@ -14,7 +14,7 @@ pub rejected : (c : Connect) (h : HubState) → (length c.client_id == 0 && not 
 unfolding refusal
 rejected c h so = rw so refl
 
--- whether there is a place for it
+-- whether there is a place for its client
 abbrev placed : Connect → HubState → Option RefusalCode
 placed c h = cond (is_unavailable c (key_of (client_of c h.sessions) h.sessions) h) (Some ServerUnavailable) None
 

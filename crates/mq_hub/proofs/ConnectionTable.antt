@@ -1,4 +1,4 @@
--- The table of connections: a name's connection, and the connection on which a client is up.
+-- The table of connections: the connection of a name, and the connection of a client.
 use Rattle.std.proofs.Common.{◌≡◌, ℕ, ◌+◌, zero, suc, slice_get, Bool, true, false, ◌&&◌, ◌||◌, cond, List, [], ◌∷◌, ◌++◌, Option, Some, None, refl, sym, ap, ap₂, subst, ◌∙◌, arith, zero-add, eqb, eqb-true, eq-eqb, true≢false}
 use Rattle.std.proofs.lemmas.Bool.{cond-true, cond-false, and_parts, or_parts}
 use Rattle.std.proofs.lemmas.List.Sums.{sum_by-cons}
@@ -15,8 +15,8 @@ use Rattle.mq_route.specs.Hub.{HubConnection, is_for, is_connection, key_on, kno
 use Rattle.mq_route.specs.Routed.{same_conn}
 use Rattle.mq_route.specs.Welcome.{up_count}
 use Rattle.mq_hub.specs.declared.connections.connection.Connection.{Connection}
-use Rattle.mq_hub.specs.Alarms.{AlarmTable, AreAwaited}
-use Rattle.mq_hub.specs.Connections.{lines_of, line_of, ups_of, up_in, has_key, AreUpOnce, Service, service, IsNamedAt, IsServed, IsServedBy, AreLines}
+use Rattle.mq_hub.specs.Inside.Alarms.{AlarmTable, AreAwaited}
+use Rattle.mq_hub.specs.Inside.Connections.{connections_of, connection_of, ups_of, up_in, has_key, AreUpOnce, Service, service, IsNamedAt, IsServed, IsServedBy, AreConnections}
 
 abbrev pub Entry : Type 0
 Entry = Conn × Connection
@@ -54,26 +54,26 @@ symm a b = go (same_conn a b) refl (same_conn b a) refl
     go false e false f = e ∙ sym f
 
 -- whether the first entry has the name
-pub first_is : (k : Conn) (e : Entry) → IsNamed e → is_connection k (line_of e.1) ≡ same_conn k e.0
+pub first_is : (k : Conn) (e : Entry) → IsNamed e → is_connection k (connection_of e.1) ≡ same_conn k e.0
 first_is k e named = symm e.1.conn k ∙ ap (same_conn k) (sym named)
 
 -- ---- the connection of a name
 
-pub known : (k : Conn) (es : List Entry) → AreNamed es → is_some (lookup (same_conn k) es) ≡ knows k (lines_of es)
+pub known : (k : Conn) (es : List Entry) → AreNamed es → is_some (lookup (same_conn k) es) ≡ knows k (connections_of es)
 known k [] named = refl
 known k (e ∷ es) named = go (same_conn k e.0) refl (known k es named.1)
   where
-    go : (b : Bool) → same_conn k e.0 ≡ b → is_some (lookup (same_conn k) es) ≡ knows k (lines_of es) → is_some (lookup (same_conn k) (e ∷ es)) ≡ knows k (lines_of (e ∷ es))
+    go : (b : Bool) → same_conn k e.0 ≡ b → is_some (lookup (same_conn k) es) ≡ knows k (connections_of es) → is_some (lookup (same_conn k) (e ∷ es)) ≡ knows k (connections_of (e ∷ es))
     go true same rest = rw (first_is k e named.0, same) refl
     go false same rest = rw (first_is k e named.0, same) rest
 
--- an entry at a place is what its name finds
+-- the look-up of a name finds the entry at its index
 at_place : (P : Conn → Type 0) (n : ℕ) (es : List Entry) (e : Entry) → AllByRecursion P (keys_of es) → slice_get es n ≡ Some e → P e.0
 at_place P n [] e all there = absurd cc
 at_place P zero (x ∷ xs) e all there = let is : x ≡ e = cc in subst (λ (y : Entry). P y.0) is all.0
 at_place P (suc n) (x ∷ xs) e all there = at_place P n xs e all.1 there
 
--- and another entry, which is not the one at the place, has another name
+-- an entry at another index has another name
 other_name : (k : Conn) (n : ℕ) (x : Entry) (xs : List Entry) (e : Entry) → AllByRecursion (λ q. same_conn x.0 q ≡ false) (keys_of xs) → slice_get xs n ≡ Some e
     → same_conn k e.0 ≡ true → same_conn k x.0 ≡ false
 other_name k n x xs e apart there same =
@@ -88,7 +88,7 @@ found_at k zero (x ∷ xs) e distinct there same =
 found_at k (suc n) (x ∷ xs) e distinct there same =
     cond-false (same_conn k x.0) (Some x.1) (lookup (same_conn k) xs) (other_name k n x xs e distinct.0 there same) ∙ found_at k n xs e distinct.1 there same
 
--- what is written at a place is written to the connection of the name
+-- a write at an index changes the connection of the name
 pub set_at : (k : Conn) (n : ℕ) (es : List Entry) (w : Connection) → IsDistinct same_conn (keys_of es) → IsNamedAt k n es
     → set_value_at es n w ≡ set_value (same_conn k) es w
 unfolding IsDistinct
@@ -103,7 +103,7 @@ set_at k (suc n) (x ∷ xs) w distinct at =
     ap (λ (ys : List Entry). x ∷ ys) (set_at k n xs w distinct.1 at)
     ∙ sym (cond-false (same_conn k x.0) ((x.0, w) ∷ xs) (x ∷ set_value (same_conn k) xs w) (other_name k n x xs at.0 distinct.0 at.1 at.2))
 
--- the value at a place is the entry's
+-- the value at an index is that of the entry
 value_at : (n : ℕ) (es : List Entry) (e : Entry) → slice_get es n ≡ Some e → slice_get (values_of es) n ≡ Some e.1
 value_at n [] e there = absurd cc
 value_at zero (x ∷ xs) e there = let is : x ≡ e = cc in ap (λ (y : Entry). Some y.1) is
@@ -128,20 +128,20 @@ key_passes k (e ∷ es) q there = go (same_conn k e.0) refl (key_passes k es q)
         ap (same_conn k) (sym is) ∙ same
     go false other rest = rest (sym (cond-false (same_conn k e.0) (Some e.0) (lookup_key (same_conn k) es) other) ∙ there)
 
--- what a look-up by name gives of the lines is of the connection that is found
+-- a look-up by name in the list of connections agrees with the entry that is found
 module _ {X : Type 0} (p : HubConnection → X) (k : Conn) (g : List HubConnection → X) (step : (x : HubConnection) (xs : List HubConnection) → g (x ∷ xs) ≡ cond (is_connection k x) (p x) (g xs)) where
-  pub found_by : (es : List Entry) (c : Connection) → AreNamed es → lookup (same_conn k) es ≡ Some c → g (lines_of es) ≡ p (line_of c)
+  pub found_by : (es : List Entry) (c : Connection) → AreNamed es → lookup (same_conn k) es ≡ Some c → g (connections_of es) ≡ p (connection_of c)
   found_by [] c named there = absurd cc
   found_by (e ∷ es) c named there = go (same_conn k e.0) refl (found_by es c named.1)
     where
-      go : (b : Bool) → same_conn k e.0 ≡ b → (lookup (same_conn k) es ≡ Some c → g (lines_of es) ≡ p (line_of c)) → g (lines_of (e ∷ es)) ≡ p (line_of c)
+      go : (b : Bool) → same_conn k e.0 ≡ b → (lookup (same_conn k) es ≡ Some c → g (connections_of es) ≡ p (connection_of c)) → g (connections_of (e ∷ es)) ≡ p (connection_of c)
       go true same rest =
           let w : Some e.1 ≡ Some c = sym (cond-true (same_conn k e.0) (Some e.1) (lookup (same_conn k) es) same) ∙ there in
           let is : e.1 ≡ c = cc in
-          step (line_of e.1) (lines_of es) ∙ cond-true (is_connection k (line_of e.1)) (p (line_of e.1)) (g (lines_of es)) (first_is k e named.0 ∙ same)
-          ∙ ap (λ (x : Connection). p (line_of x)) is
+          step (connection_of e.1) (connections_of es) ∙ cond-true (is_connection k (connection_of e.1)) (p (connection_of e.1)) (g (connections_of es)) (first_is k e named.0 ∙ same)
+          ∙ ap (λ (x : Connection). p (connection_of x)) is
       go false same rest =
-          step (line_of e.1) (lines_of es) ∙ cond-false (is_connection k (line_of e.1)) (p (line_of e.1)) (g (lines_of es)) (first_is k e named.0 ∙ same)
+          step (connection_of e.1) (connections_of es) ∙ cond-false (is_connection k (connection_of e.1)) (p (connection_of e.1)) (g (connections_of es)) (first_is k e named.0 ∙ same)
           ∙ rest (sym (cond-false (same_conn k e.0) (Some e.1) (lookup (same_conn k) es) same) ∙ there)
 
 -- a connection that isn't known is not changed
@@ -151,7 +151,7 @@ unknown f k (x ∷ xs) h =
     let p = or_parts (is_connection k x) (knows k xs) h in
     ap₂ (λ (y : HubConnection) (ys : List HubConnection). y ∷ ys) (cond-false (is_connection k x) (f x) x p.0) (unknown f k xs p.1)
 
--- and it is closed
+-- its state is `Closed`
 pub unknown_shut : (k : Conn) (xs : List HubConnection) → knows k xs ≡ false → stage_of k xs ≡ Closed
 unknown_shut k [] h = refl
 unknown_shut k (x ∷ xs) h =
@@ -164,54 +164,54 @@ not_taken k (x ∷ xs) h =
     let p = or_parts (is_connection k x) (knows k xs) h in
     rw p.0 (ap (λ (ys : List HubConnection). x ∷ ys) (not_taken k xs p.1))
 
--- the first one has the name: no other has
-pub others : (k : Conn) (e : Entry) (es : List Entry) → same_conn k e.0 ≡ true → AreNamed es → AllByRecursion (λ q. same_conn e.0 q ≡ false) (keys_of es) → knows k (lines_of es) ≡ false
+-- the first one has the name, so no other has
+pub others : (k : Conn) (e : Entry) (es : List Entry) → same_conn k e.0 ≡ true → AreNamed es → AllByRecursion (λ q. same_conn e.0 q ≡ false) (keys_of es) → knows k (connections_of es) ≡ false
 others k e [] same named apart = refl
 others k e (d ∷ es) same named apart =
     let one : k ≡ e.0 = one_conn k e.0 same in
-    let other : is_connection k (line_of d.1) ≡ false = first_is k d named.0 ∙ ap (λ (x : Conn). same_conn x d.0) one ∙ apart.0 in
+    let other : is_connection k (connection_of d.1) ≡ false = first_is k d named.0 ∙ ap (λ (x : Conn). same_conn x d.0) one ∙ apart.0 in
     ap₂ (λ (a b : Bool). a || b) other (others k e es same named.1 apart.1)
 
--- what is written to the connection of a name is the change of its line
+-- a write to the connection of a name is a change of the list of connections
 pub changed : (f : HubConnection → HubConnection) (k : Conn) (es : List Entry) (c w : Connection) → AreNamed es → IsDistinct same_conn (keys_of es) → lookup (same_conn k) es ≡ Some c
-    → line_of w ≡ f (line_of c) → lines_of (set_value (same_conn k) es w) ≡ with_connection f k (lines_of es)
+    → connection_of w ≡ f (connection_of c) → connections_of (set_value (same_conn k) es w) ≡ with_connection f k (connections_of es)
 unfolding IsDistinct
 changed f k [] c w named distinct there says = refl
 changed f k (e ∷ es) c w named distinct there says = go (same_conn k e.0) refl (changed f k es c w named.1 distinct.1)
   where
     go : (b : Bool) → same_conn k e.0 ≡ b
-        → (lookup (same_conn k) es ≡ Some c → line_of w ≡ f (line_of c) → lines_of (set_value (same_conn k) es w) ≡ with_connection f k (lines_of es))
-        → lines_of (set_value (same_conn k) (e ∷ es) w) ≡ with_connection f k (lines_of (e ∷ es))
+        → (lookup (same_conn k) es ≡ Some c → connection_of w ≡ f (connection_of c) → connections_of (set_value (same_conn k) es w) ≡ with_connection f k (connections_of es))
+        → connections_of (set_value (same_conn k) (e ∷ es) w) ≡ with_connection f k (connections_of (e ∷ es))
     go true same rest =
         let v : Some e.1 ≡ Some c = sym (cond-true (same_conn k e.0) (Some e.1) (lookup (same_conn k) es) same) ∙ there in
         let is : e.1 ≡ c = cc in
-        let head : line_of w ≡ f (line_of e.1) = says ∙ ap (λ (x : Connection). f (line_of x)) (sym is) in
-        ap lines_of (cond-true (same_conn k e.0) ((e.0, w) ∷ es) (e ∷ set_value (same_conn k) es w) same)
+        let head : connection_of w ≡ f (connection_of e.1) = says ∙ ap (λ (x : Connection). f (connection_of x)) (sym is) in
+        ap connections_of (cond-true (same_conn k e.0) ((e.0, w) ∷ es) (e ∷ set_value (same_conn k) es w) same)
         ∙ ap₂ (λ (y : HubConnection) (ys : List HubConnection). y ∷ ys)
-        (head ∙ sym (cond-true (is_connection k (line_of e.1)) (f (line_of e.1)) (line_of e.1) (first_is k e named.0 ∙ same)))
-        (sym (unknown f k (lines_of es) (others k e es same named.1 distinct.0)))
+        (head ∙ sym (cond-true (is_connection k (connection_of e.1)) (f (connection_of e.1)) (connection_of e.1) (first_is k e named.0 ∙ same)))
+        (sym (unknown f k (connections_of es) (others k e es same named.1 distinct.0)))
     go false same rest =
-        ap lines_of (cond-false (same_conn k e.0) ((e.0, w) ∷ es) (e ∷ set_value (same_conn k) es w) same)
+        ap connections_of (cond-false (same_conn k e.0) ((e.0, w) ∷ es) (e ∷ set_value (same_conn k) es w) same)
         ∙ ap₂ (λ (y : HubConnection) (ys : List HubConnection). y ∷ ys)
-        (sym (cond-false (is_connection k (line_of e.1)) (f (line_of e.1)) (line_of e.1) (first_is k e named.0 ∙ same)))
+        (sym (cond-false (is_connection k (connection_of e.1)) (f (connection_of e.1)) (connection_of e.1) (first_is k e named.0 ∙ same)))
         (rest (sym (cond-false (same_conn k e.0) (Some e.1) (lookup (same_conn k) es) same) ∙ there) says)
 
--- the connection of a name is taken out
-pub taken_out : (k : Conn) (es : List Entry) → AreNamed es → IsDistinct same_conn (keys_of es) → lines_of (remove_entry (same_conn k) es) ≡ without_connection k (lines_of es)
+-- the connection of a name is removed
+pub taken_out : (k : Conn) (es : List Entry) → AreNamed es → IsDistinct same_conn (keys_of es) → connections_of (remove_entry (same_conn k) es) ≡ without_connection k (connections_of es)
 unfolding IsDistinct
 taken_out k [] named distinct = refl
 taken_out k (e ∷ es) named distinct = go (same_conn k e.0) refl (taken_out k es named.1 distinct.1)
   where
-    go : (b : Bool) → same_conn k e.0 ≡ b → lines_of (remove_entry (same_conn k) es) ≡ without_connection k (lines_of es)
-        → lines_of (remove_entry (same_conn k) (e ∷ es)) ≡ without_connection k (lines_of (e ∷ es))
+    go : (b : Bool) → same_conn k e.0 ≡ b → connections_of (remove_entry (same_conn k) es) ≡ without_connection k (connections_of es)
+        → connections_of (remove_entry (same_conn k) (e ∷ es)) ≡ without_connection k (connections_of (e ∷ es))
     go true same rest =
         let there = first_is k e named.0 ∙ same in
-        rw (same, there) (sym (not_taken k (lines_of es) (others k e es same named.1 distinct.0)))
+        rw (same, there) (sym (not_taken k (connections_of es) (others k e es same named.1 distinct.0)))
     go false same rest =
         let apart = first_is k e named.0 ∙ same in
-        rw (same, apart) (ap (λ (ys : List HubConnection). line_of e.1 ∷ ys) rest)
+        rw (same, apart) (ap (λ (ys : List HubConnection). connection_of e.1 ∷ ys) rest)
 
--- ---- each stands under its name, with its decoder
+-- ---- each is stored under its name, with its decoder
 
 pub served_set : (by : Service) (k : Conn) (es : List Entry) (c w : Connection) → AllByRecursion (IsServed by) es → lookup (same_conn k) es ≡ Some c
     → w.conn ≡ c.conn → IsServedBy by w → AllByRecursion (IsServed by) (set_value (same_conn k) es w)
@@ -251,7 +251,7 @@ served_without by k (e ∷ es) served = go (same_conn k e.0) (served_without by 
     go true rest = served.1
     go false rest = (served.0, rest)
 
--- ---- each is awaited by an alarm
+-- ---- alarms
 
 pub awaited_of : (by : Service) (es : List Entry) → AllByRecursion (IsServed by) es → AreAwaited by.alarms es
 awaited_of by [] served = tt
@@ -262,35 +262,35 @@ served_anew : (by : Service) (alarms : AlarmTable) (es : List Entry) → AreAwai
 served_anew by alarms [] all served = tt
 served_anew by alarms (e ∷ es) all served = ((served.0.0, (served.0.1.0, all.0)), served_anew by alarms es all.1 served.1)
 
--- ---- the connection on which a client is up
+-- ---- the connection of a client
 
 for_key : (key : ℕ) (s : ConnectionState) → is_for key s ≡ has_key key (key_on s)
 for_key key AwaitingConnect = refl
 for_key key (ConnectedAs other terms last_activity) = refl
 for_key key Closed = refl
 
-pub up_is : (key : ℕ) (es : List Entry) → up_on key (lines_of es) ≡ up_in key (ups_of es)
+pub up_is : (key : ℕ) (es : List Entry) → up_on key (connections_of es) ≡ up_in key (ups_of es)
 up_is key [] = refl
 up_is key (e ∷ es) = ap₂ (λ (b : Bool) (o : Option Conn). cond b (Some e.1.conn) o) (for_key key e.1.stage) (up_is key es)
 
 count_cons : {X : Type 0} (p : X → Bool) (x : X) (xs : List X) → count_by p (x ∷ xs) ≡ cond (p x) 1 0 + count_by p xs
 count_cons p x xs = sum_by-cons (λ y. cond (p y) 1 0) x xs
 
-pub count_is : (es : List Entry) → up_count (lines_of es) ≡ count_by (λ (u : Up). is_some u.1) (ups_of es)
+pub count_is : (es : List Entry) → up_count (connections_of es) ≡ count_by (λ (u : Up). is_some u.1) (ups_of es)
 count_is [] = refl
 count_is (e ∷ es) =
-    count_cons (λ (x : HubConnection). is_some (key_on x.stage)) (line_of e.1) (lines_of es)
+    count_cons (λ (x : HubConnection). is_some (key_on x.stage)) (connection_of e.1) (connections_of es)
     ∙ ap (λ (n : ℕ). cond (is_some (key_on e.1.stage)) 1 0 + n) (count_is es)
     ∙ sym (count_cons (λ (u : Up). is_some u.1) (e.1.conn, key_on e.1.stage) (ups_of es))
 
 -- ---- one connection has another key, or none
 
--- the first connection of a name is up for this
+-- the first connection of a name is connected for this key
 abbrev pub first_up : Conn → Option ℕ → List Up → List Up
 first_up k o [] = []
 first_up k o (u ∷ us) = cond (same_conn k u.0) ((u.0, o) ∷ us) (u ∷ first_up k o us)
 
--- the key for which the first connection of a name is up
+-- the key for which the first connection of a name is connected
 abbrev pub key_in : Conn → List Up → Option ℕ
 key_in k [] = None
 key_in k (u ∷ us) = cond (same_conn k u.0) u.1 (key_in k us)
@@ -390,12 +390,12 @@ first_same k (u ∷ us) = go (same_conn k u.0) refl (first_same k us)
         ∙ cond-false (same_conn k u.0) ((u.0, key_in k us) ∷ us) (u ∷ first_up k (key_in k us) us) same
         ∙ ap (λ (vs : List Up). u ∷ vs) rest
 
--- ---- one comes up, or goes down
+-- ---- one is connected, or closed
 
 has_itself : (key : ℕ) → has_key key (Some key) ≡ true
 has_itself key = eq-eqb key key refl
 
--- no connection is up for a key that the first one hasn't
+-- no connection is connected for a key that the first one does not have
 pub not_first : (key : ℕ) (u : Up) (us : List Up) → up_in key (u ∷ us) ≡ None → (has_key key u.1 ≡ false) × (up_in key us ≡ None)
 not_first key u us none = go (has_key key u.1) refl
   where
@@ -403,7 +403,7 @@ not_first key u us none = go (has_key key u.1) refl
     go true e = let w : Some u.0 ≡ None = sym (cond-true (has_key key u.1) (Some u.0) (up_in key us) e) ∙ none in absurd cc
     go false e = (e, sym (cond-false (has_key key u.1) (Some u.0) (up_in key us) e) ∙ none)
 
--- a connection of that name stands among them
+-- a connection of that name is among them
 abbrev pub stands : Conn → List Up → Bool
 stands k [] = false
 stands k (u ∷ us) = same_conn k u.0 || stands k us
@@ -418,7 +418,7 @@ stands_there k (e ∷ es) c named there = go (same_conn k e.0) refl (stands_ther
         ap (λ (b : Bool). b || stands k (ups_of es)) (ap (same_conn k) (sym named.0) ∙ same)
         ∙ rest (sym (cond-false (same_conn k e.0) (Some e.1) (lookup (same_conn k) es) same) ∙ there)
 
--- two keys of which one connection has both are one
+-- two keys of one connection are equal
 same_keys : (a b : ℕ) (o : Option ℕ) → has_key a o ≡ true → o ≡ Some b → a ≡ b
 same_keys a b o has is =
     let w : eqb b a ≡ true = ap (has_key a) (sym is) ∙ has in
@@ -491,7 +491,7 @@ count_rise k key (u ∷ us) there fresh = go (same_conn k u.0) refl (count_rise 
         let own = one_count u us in
         omega (arith, later, first, own)
 
--- a connection that is up is found
+-- a connected connection is found
 pub up_there : (k : Conn) (key : ℕ) (us : List Up) → key_in k us ≡ Some key → is_some (up_in key us) ≡ true
 up_there k key [] e = absurd cc
 up_there k key (u ∷ us) e = go (same_conn k u.0) refl (up_there k key us)
@@ -591,18 +591,18 @@ pub ups_last : (e : Entry) (es : List Entry) → ups_of (es ++ e ∷ []) ≡ ups
 ups_last e [] = refl
 ups_last e (d ∷ es) = ap (λ (us : List Up). (d.1.conn, key_on d.1.stage) ∷ us) (ups_last e es)
 
-pub lines_last : (e : Entry) (es : List Entry) → lines_of (es ++ e ∷ []) ≡ lines_of es ++ line_of e.1 ∷ []
+pub lines_last : (e : Entry) (es : List Entry) → connections_of (es ++ e ∷ []) ≡ connections_of es ++ connection_of e.1 ∷ []
 lines_last e [] = refl
-lines_last e (d ∷ es) = ap (λ (xs : List HubConnection). line_of d.1 ∷ xs) (lines_last e es)
+lines_last e (d ∷ es) = ap (λ (xs : List HubConnection). connection_of d.1 ∷ xs) (lines_last e es)
 
--- ---- what the table keeps true
+-- ---- the invariant of the table
 
 distinct_set : (k : Conn) (es : List Entry) (w : Connection) → IsDistinct same_conn (keys_of es) → IsDistinct same_conn (keys_of (set_value (same_conn k) es w))
 distinct_set k es w distinct = subst (λ (ks : List Conn). IsDistinct same_conn ks) (sym (keys-set_value (same_conn k) es w)) distinct
 
--- a connection is up for what it was up for
-pub kept_same : (by : Service) (k : Conn) (es : List Entry) (c w : Connection) (find : ℕ → Option Conn) (count : ℕ) → AreLines by es find count
-    → lookup (same_conn k) es ≡ Some c → w.conn ≡ c.conn → IsServedBy by w → key_on w.stage ≡ key_on c.stage → AreLines by (set_value (same_conn k) es w) find count
+-- a connection stays connected for the same key
+pub kept_same : (by : Service) (k : Conn) (es : List Entry) (c w : Connection) (find : ℕ → Option Conn) (count : ℕ) → AreConnections by es find count
+    → lookup (same_conn k) es ≡ Some c → w.conn ≡ c.conn → IsServedBy by w → key_on w.stage ≡ key_on c.stage → AreConnections by (set_value (same_conn k) es w) find count
 kept_same by k es c w find count kept there same reading still =
     let named = are_named by es kept.served in
     let ups : ups_of (set_value (same_conn k) es w) ≡ ups_of es =
@@ -615,10 +615,10 @@ kept_same by k es c w find count kept there same reading still =
       counted = kept.counted ∙ ap ups_count (sym ups);
     }
 
--- it comes up
-pub kept_rise : (by : Service) (k : Conn) (key : ℕ) (es : List Entry) (c w : Connection) (find after : ℕ → Option Conn) (count more : ℕ) → AreLines by es find count
+-- it becomes connected
+pub kept_rise : (by : Service) (k : Conn) (key : ℕ) (es : List Entry) (c w : Connection) (find after : ℕ → Option Conn) (count more : ℕ) → AreConnections by es find count
     → lookup (same_conn k) es ≡ Some c → w.conn ≡ c.conn → IsServedBy by w → key_on c.stage ≡ None → key_on w.stage ≡ Some key → up_in key (ups_of es) ≡ None
-    → ((n : ℕ) → after n ≡ cond (eqb key n) (Some k) (find n)) → more ≡ count + 1 → AreLines by (set_value (same_conn k) es w) after more
+    → ((n : ℕ) → after n ≡ cond (eqb key n) (Some k) (find n)) → more ≡ count + 1 → AreConnections by (set_value (same_conn k) es w) after more
 kept_rise by k key es c w find after count more kept there same reading fresh up none says one =
     let named = are_named by es kept.served in
     let us = ups_of es in
@@ -633,10 +633,10 @@ kept_rise by k key es c w find after count more kept there same reading fresh up
       counted = one ∙ ap (λ (n : ℕ). n + 1) kept.counted ∙ sym (count_rise k key us stand free) ∙ ap ups_count (sym ups);
     }
 
--- it goes down
-pub kept_shut : (by : Service) (k : Conn) (key : ℕ) (es : List Entry) (c w : Connection) (find after : ℕ → Option Conn) (count less : ℕ) → AreLines by es find count
+-- it is closed
+pub kept_shut : (by : Service) (k : Conn) (key : ℕ) (es : List Entry) (c w : Connection) (find after : ℕ → Option Conn) (count less : ℕ) → AreConnections by es find count
     → lookup (same_conn k) es ≡ Some c → w.conn ≡ c.conn → IsServedBy by w → key_on c.stage ≡ Some key → key_on w.stage ≡ None
-    → ((n : ℕ) → after n ≡ cond (eqb key n) None (find n)) → less + 1 ≡ count → AreLines by (set_value (same_conn k) es w) after less
+    → ((n : ℕ) → after n ≡ cond (eqb key n) None (find n)) → less + 1 ≡ count → AreConnections by (set_value (same_conn k) es w) after less
 kept_shut by k key es c w find after count less kept there same reading up down says one =
     let named = are_named by es kept.served in
     let us = ups_of es in
@@ -653,9 +653,9 @@ kept_shut by k key es c w find after count less kept there same reading up down 
       counted = last ∙ ap ups_count (sym ups);
     }
 
--- other alarms will do too
+-- the invariant with other alarms
 pub kept_anew : (by : Service) (alarms : AlarmTable) (es : List Entry) (find : ℕ → Option Conn) (count : ℕ) → AreAwaited alarms es
-    → AreLines by es find count → AreLines (service by.bounds alarms) es find count
+    → AreConnections by es find count → AreConnections (service by.bounds alarms) es find count
 kept_anew by alarms es find count all kept = record {
   served = served_anew by alarms es all kept.served;
   distinct = kept.distinct;
@@ -664,15 +664,15 @@ kept_anew by alarms es find count all kept = record {
   counted = kept.counted;
 }
 
--- one is found that is up
-pub is_found : (by : Service) (k : Conn) (key : ℕ) (es : List Entry) (c : Connection) (find : ℕ → Option Conn) (count : ℕ) → AreLines by es find count
+-- a connected one is found
+pub is_found : (by : Service) (k : Conn) (key : ℕ) (es : List Entry) (c : Connection) (find : ℕ → Option Conn) (count : ℕ) → AreConnections by es find count
     → lookup (same_conn k) es ≡ Some c → key_on c.stage ≡ Some key → is_some (find key) ≡ true
 is_found by k key es c find count kept there up =
     ap is_some (kept.found key) ∙ up_there k key (ups_of es) (key_there k es c (are_named by es kept.served) there ∙ up)
 
 -- one is opened
-pub kept_last : (by : Service) (c : Connection) (es : List Entry) (find : ℕ → Option Conn) (count : ℕ) → AreLines by es find count
-    → c.stage ≡ AwaitingConnect → IsServedBy by c → IsDistinct same_conn (keys_of (es ++ (c.conn, c) ∷ [])) → AreLines by (es ++ (c.conn, c) ∷ []) find count
+pub kept_last : (by : Service) (c : Connection) (es : List Entry) (find : ℕ → Option Conn) (count : ℕ) → AreConnections by es find count
+    → c.stage ≡ AwaitingConnect → IsServedBy by c → IsDistinct same_conn (keys_of (es ++ (c.conn, c) ∷ [])) → AreConnections by (es ++ (c.conn, c) ∷ []) find count
 kept_last by c es find count kept fresh reading distinct =
     let us = ups_of es in
     let ups : ups_of (es ++ (c.conn, c) ∷ []) ≡ us ++ (c.conn, None) ∷ [] = ups_last (c.conn, c) es ∙ ap (λ (s : ConnectionState). us ++ (c.conn, key_on s) ∷ []) fresh in
@@ -684,22 +684,22 @@ kept_last by c es find count kept fresh reading distinct =
       counted = kept.counted ∙ sym (count_last c.conn us) ∙ ap ups_count (sym ups);
     }
 
--- the key for which a connection is up, in the lines
-pub key_is : (k : Conn) (es : List Entry) → AreNamed es → key_in k (ups_of es) ≡ key_on (stage_of k (lines_of es))
+-- the key for which a connection is connected, in the list of connections
+pub key_is : (k : Conn) (es : List Entry) → AreNamed es → key_in k (ups_of es) ≡ key_on (stage_of k (connections_of es))
 key_is k [] named = refl
-key_is k (e ∷ es) named = go (is_connection k (line_of e.1)) refl (key_is k es named.1)
+key_is k (e ∷ es) named = go (is_connection k (connection_of e.1)) refl (key_is k es named.1)
   where
-    go : (b : Bool) → is_connection k (line_of e.1) ≡ b → key_in k (ups_of es) ≡ key_on (stage_of k (lines_of es)) → key_in k (ups_of (e ∷ es)) ≡ key_on (stage_of k (lines_of (e ∷ es)))
+    go : (b : Bool) → is_connection k (connection_of e.1) ≡ b → key_in k (ups_of es) ≡ key_on (stage_of k (connections_of es)) → key_in k (ups_of (e ∷ es)) ≡ key_on (stage_of k (connections_of (e ∷ es)))
     go true same rest =
         cond-true (same_conn k e.1.conn) (key_on e.1.stage) (key_in k (ups_of es)) (symm k e.1.conn ∙ same)
-        ∙ ap key_on (sym (cond-true (is_connection k (line_of e.1)) e.1.stage (stage_of k (lines_of es)) same))
+        ∙ ap key_on (sym (cond-true (is_connection k (connection_of e.1)) e.1.stage (stage_of k (connections_of es)) same))
     go false same rest =
         cond-false (same_conn k e.1.conn) (key_on e.1.stage) (key_in k (ups_of es)) (symm k e.1.conn ∙ same)
-        ∙ rest ∙ ap key_on (sym (cond-false (is_connection k (line_of e.1)) e.1.stage (stage_of k (lines_of es)) same))
+        ∙ rest ∙ ap key_on (sym (cond-false (is_connection k (connection_of e.1)) e.1.stage (stage_of k (connections_of es)) same))
 
--- one that isn't up is over
-pub kept_without : (by : Service) (k : Conn) (es : List Entry) (find : ℕ → Option Conn) (count : ℕ) → AreLines by es find count
-    → key_on (stage_of k (lines_of es)) ≡ None → IsDistinct same_conn (keys_of (remove_entry (same_conn k) es)) → AreLines by (remove_entry (same_conn k) es) find count
+-- one without client is removed
+pub kept_without : (by : Service) (k : Conn) (es : List Entry) (find : ℕ → Option Conn) (count : ℕ) → AreConnections by es find count
+    → key_on (stage_of k (connections_of es)) ≡ None → IsDistinct same_conn (keys_of (remove_entry (same_conn k) es)) → AreConnections by (remove_entry (same_conn k) es) find count
 kept_without by k es find count kept down distinct =
     let named = are_named by es kept.served in
     let none = key_is k es named ∙ down in
@@ -711,9 +711,9 @@ kept_without by k es find count kept down distinct =
       counted = kept.counted ∙ sym (count_removed k es named none);
     }
 
--- the map of those that are up says the same
-pub kept_found : (by : Service) (es : List Entry) (find after : ℕ → Option Conn) (count again : ℕ) → AreLines by es find count
-    → ((n : ℕ) → after n ≡ find n) → again ≡ count → AreLines by es after again
+-- the map of connected clients agrees
+pub kept_found : (by : Service) (es : List Entry) (find after : ℕ → Option Conn) (count again : ℕ) → AreConnections by es find count
+    → ((n : ℕ) → after n ≡ find n) → again ≡ count → AreConnections by es after again
 kept_found by es find after count again kept says same = record {
   served = kept.served;
   distinct = kept.distinct;
@@ -733,18 +733,18 @@ pub not_some : {X : Type 0} (o : Option X) → is_some o ≡ false → o ≡ Non
 not_some None e = refl
 not_some (Some x) e = absurd (true≢false e)
 
--- no connection of that name
-pub lacks : (k : Conn) (es : List Entry) → AreNamed es → None ≡ lookup (same_conn k) es → knows k (lines_of es) ≡ false
+-- no connection has that name
+pub lacks : (k : Conn) (es : List Entry) → AreNamed es → None ≡ lookup (same_conn k) es → knows k (connections_of es) ≡ false
 lacks k es named none = sym (known k es named) ∙ ap is_some (sym none)
 
-pub has : (k : Conn) (es : List Entry) (c : Connection) → AreNamed es → Some c ≡ lookup (same_conn k) es → knows k (lines_of es) ≡ true
+pub has : (k : Conn) (es : List Entry) (c : Connection) → AreNamed es → Some c ≡ lookup (same_conn k) es → knows k (connections_of es) ≡ true
 has k es c named there = sym (known k es named) ∙ ap is_some (sym there)
 
 -- and then none is changed
-pub still_all : (f : HubConnection → HubConnection) (k : Conn) (es : List Entry) → AreNamed es → None ≡ lookup (same_conn k) es → lines_of es ≡ with_connection f k (lines_of es)
-still_all f k es named none = sym (unknown f k (lines_of es) (lacks k es named none))
+pub still_all : (f : HubConnection → HubConnection) (k : Conn) (es : List Entry) → AreNamed es → None ≡ lookup (same_conn k) es → connections_of es ≡ with_connection f k (connections_of es)
+still_all f k es named none = sym (unknown f k (connections_of es) (lacks k es named none))
 
--- the key of the session for which the connection of a name is up
+-- the key of the session for which the connection of a name is connected
 pub own_key : (k : Conn) (es : List Entry) (c : Connection) (by : Service) → AllByRecursion (IsServed by) es → lookup (same_conn k) es ≡ Some c
-    → key_on c.stage ≡ key_on (stage_of k (lines_of es))
+    → key_on c.stage ≡ key_on (stage_of k (connections_of es))
 own_key k es c by served there = ap key_on (sym (found_by (λ (x : HubConnection). x.stage) k (stage_of k) (λ x xs. refl) es c (are_named by es served) there))

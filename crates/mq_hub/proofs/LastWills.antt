@@ -1,4 +1,4 @@
--- The last will of a client is published, or said to be dropped.
+-- The last will of a client is published, or reported as dropped.
 use Rattle.std.proofs.Common.{◌≡◌, ℕ, Bool, true, false, ◌&&◌, List, [], ◌∷◌, ◌++◌, Option, Some, None, sym, ap, subst, ◌∙◌}
 use Rattle.std.proofs.lemmas.Bool.{cond-true, cond-false}
 use Rattle.mq_packet.specs.declared.connect.Will.{Will}
@@ -7,8 +7,8 @@ use Rattle.mq_route.specs.declared.act.Act.TheVariants as acts
 use Rattle.mq_route.specs.Copies.{will_message}
 use Rattle.mq_route.specs.Hub.{HubState, copies_of}
 use Rattle.mq_route.specs.Work.{Work, have_room, last_will, said, deliver}
-use Rattle.mq_hub.specs.Does.{Refines}
-use Rattle.mq_hub.proofs.Going.{goes_on}
+use Rattle.mq_hub.specs.Inside.Refinement.{Refines}
+use Rattle.mq_hub.proofs.Refinements.{goes_on}
 
 module _ (key : ℕ) (will : Will) where
   abbrev shares : Work → Work
@@ -28,7 +28,7 @@ module _ (key : ℕ) (will : Will) where
         ap (λ (v : Work). v.did) (cond-true (fit true w.hub) (shares w) (said (acts.WillDropped key) w) (ap (fit true) e ∙ sym enough)) ∙ p.did w e f;
   }
 
-  -- there is none for one, or no memory
+  -- there is no room for one, or an allocation failed
   pub goes_dropped : (h g : HubState) (x y z : List Act) → (fits : Bool) × (fit fits h ≡ false) → (g ≡ h) × (y ≡ x) → z ≡ y ++ acts.WillDropped key ∷ []
       → (fits : Bool) × Refines (last_will key (Some will) fits) h x g z
   unfolding last_will

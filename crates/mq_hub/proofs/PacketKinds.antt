@@ -1,4 +1,4 @@
--- A packet of a client that is up, by its kind.
+-- A packet of a connected client, by its type.
 use Rattle.std.proofs.Common.{◌≡◌, ℕ, ◌≤◌, true, List, length, Some, refl, subst, arith}
 use Rattle.std.specs.Option.{is_some}
 use Rattle.mq_packet.specs.declared.packet.Packet.{Packet}
@@ -10,23 +10,23 @@ use Rattle.mq_end.specs.SizeLaws.{SizeLaws}
 use Rattle.mq_end.specs.Sizes.{publish_size, subscribe_size, unsuback_size, unsubscribe_size}
 use Rattle.mq_route.specs.declared.conn.Conn.{Conn}
 use Rattle.mq_route.specs.Hub.{HubConnection, key_on, stage_of, up_on}
-use Rattle.mq_hub.specs.Calls.{AsksNothing}
-use Rattle.mq_hub.proofs.Changing.{up_there}
-use Rattle.mq_hub.proofs.Collecting.{is_up_for}
+use Rattle.mq_hub.specs.Inside.Calls.{RequestsNothing}
+use Rattle.mq_hub.proofs.ConnectionChange.{up_there}
+use Rattle.mq_hub.proofs.TakenOutput.{is_up_for}
 
--- the client of a connection that is up for its session is up
+-- the client of a connected connection is connected
 pub up_where : (k : Conn) (key : ℕ) (xs : List HubConnection) → key_on (stage_of k xs) ≡ Some key → is_some (up_on key xs) ≡ true
 up_where k key xs on = let at = is_up_for key (stage_of k xs) on in up_there k key at.terms at.last_activity xs at.is
 
--- a packet of another kind asks nothing
+-- a packet of another type requests nothing
 pub asks_nothing : (p : Packet) → ((a : Publication) → p ≡ packets.Publish a → ⊥) → ((i : ℕ) (rs : List Request) → p ≡ packets.Subscribe i rs → ⊥)
-    → ((i : ℕ) (fs : List (List ℕ)) → p ≡ packets.Unsubscribe i fs → ⊥) → AsksNothing p
+    → ((i : ℕ) (fs : List (List ℕ)) → p ≡ packets.Unsubscribe i fs → ⊥) → RequestsNothing p
 asks_nothing (packets.Publish a) n s u = n a refl
 asks_nothing (packets.Subscribe i rs) n s u = s i rs refl
 asks_nothing (packets.Unsubscribe i fs) n s u = u i fs refl
 asks_nothing p n s u = tt
 
--- ---- what came within a limit has what it carries, or its answer, within it
+-- ---- a packet within the limit has its contents, or its answer, within it
 
 module _ (sizes : SizeLaws) (most : ℕ) (p : Packet) (within : length (fields p) ≤ most) where
   as_is : (q : Packet) → p ≡ q → length (fields q) ≤ most

@@ -1,4 +1,4 @@
--- A PUBLISH whose message is handed on, while its client is up.
+-- A PUBLISH of a connected client whose message is new.
 use Rattle.std.proofs.Common.{◌≡◌, ℕ, ◌+◌, ◌≤◌, Bool, true, false, cond, List, [], ◌∷◌, Option, Some, None, Ok}
 use Rattle.std.proofs.Common.{arith, refl, sym, ap, subst, ◌∙◌, eqb, eqb-true, true≢false}
 use Rattle.mq_topic.specs.declared.qos.Qos.{Qos}
@@ -21,11 +21,11 @@ use Rattle.mq_end.specs.State.{EndState}
 use Rattle.mq_route.specs.Hub.{end_of}
 use Rattle.mq_hub.specs.declared.sessions.call.Call.TheVariants.{Takes}
 use Rattle.mq_hub.specs.declared.sessions.session.BrokerSession.{BrokerSession}
-use Rattle.mq_hub.specs.Calls.{CanServe, Serves, ServesAt}
-use Rattle.mq_hub.specs.Placing.{AreReady, IsReady, IsReadyAt}
-use Rattle.mq_hub.specs.Sessions.{sessions_of, tenant_of, with_server}
-use Rattle.mq_hub.proofs.Readiness.{changed_other, changed_own, some_same}
-use Rattle.mq_hub.proofs.Replying.{end_there, gets_up, packet_stays}
+use Rattle.mq_hub.specs.Inside.Calls.{CanServe, Serves, ServesAt}
+use Rattle.mq_hub.specs.Inside.Placement.{AreReady, IsReady, IsReadyAt}
+use Rattle.mq_hub.specs.Inside.Sessions.{sessions_of, session_at, with_server}
+use Rattle.mq_hub.proofs.SessionRoom.{changed_other, changed_own, some_same}
+use Rattle.mq_hub.proofs.EndReplies.{end_there, gets_up, packet_stays}
 
 some_none : {X : Type 0} {x : X} → Some x ≡ None → ⊥
 some_none e = absurd cc
@@ -63,7 +63,7 @@ publish_out Q2 (Some d) m e lives = go (fits_window e.window d.id e.received) li
     go true lives = omega arith
     go false lives = absurd (some_none lives)
 
--- ---- an end that was ready, with room for the answer, is ready then
+-- ---- an end with room for the answer keeps its other room
 
 room_less : (ms : List Message) (n k : ℕ) (s : EndState) → n ≤ k → HasRoom ms k s → HasRoom ms n s
 room_less ms n k s less room = record { messages = room.messages; bytes = omega (arith, room.bytes, less) }
@@ -100,11 +100,11 @@ module _ (now : ℕ) (p : Publication) (o : PacketOutcome) (old new : EndState) 
 module _ (key now : ℕ) (p : Publication) (o : PacketOutcome) (ts us : List BrokerSession) (at : ServesAt key (Takes now (packets.Publish p)) (Ok o) ts us)
     (can : CanServe key (Takes now (packets.Publish p)) ts)
     (lives : (server_gets (packets.Publish p) (end_of key (sessions_of ts))).close ≡ None) where
-  lives_there : (server_gets (packets.Publish p) at.tenant.end.end).close ≡ None
-  lives_there = ap (λ (e : End). (server_gets (packets.Publish p) e).close) (sym (end_there key at.tenant ts at.there)) ∙ lives
+  lives_there : (server_gets (packets.Publish p) at.session.end.end).close ≡ None
+  lives_there = ap (λ (e : End). (server_gets (packets.Publish p) e).close) (sym (end_there key at.session ts at.there)) ∙ lives
 
-  up_there : at.tenant.end.end.state ≡ Connected
-  up_there = is_up_state at.tenant.end.end.state (subst (λ (x : BrokerSession). is_up x.end.end.state ≡ true) (some_same (sym can.there ∙ at.there)) can.up)
+  up_there : at.session.end.end.state ≡ Connected
+  up_there = is_up_state at.session.end.end.state (subst (λ (x : BrokerSession). is_up x.end.end.state ≡ true) (some_same (sym can.there ∙ at.there)) can.up)
 
   ready_at : (k : ℕ) (ms : List Message) → IsReadyAt k ms 7 ts → IsReadyAt k ms 0 us
   ready_at k ms was = subst (λ (xs : List BrokerSession). IsReadyAt k ms 0 xs) (sym at.after) (go (eqb key k) refl)
@@ -112,19 +112,19 @@ module _ (key now : ℕ) (p : Publication) (o : PacketOutcome) (ts us : List Bro
       go : (b : Bool) → eqb key k ≡ b → IsReadyAt k ms 0 (with_server key at.end ts)
       go true e =
           let same : key ≡ k = eqb-true key k e in
-          let there : tenant_of key ts ≡ Some was.tenant = subst (λ (x : ℕ). tenant_of x ts ≡ Some was.tenant) (sym same) was.there in
-          let is : was.tenant ≡ at.tenant = some_same (sym there ∙ at.there) in
+          let there : session_at key ts ≡ Some was.session = subst (λ (x : ℕ). session_at x ts ≡ Some was.session) (sym same) was.there in
+          let is : was.session ≡ at.session = some_same (sym there ∙ at.there) in
           record {
-            tenant = record at.tenant { end = at.end };
-            there = subst (λ (x : ℕ). tenant_of x (with_server key at.end ts) ≡ Some (record at.tenant { end = at.end })) same
-                (changed_own (λ s. at.end) key at.tenant ts at.there);
-            ready = still_ready now p o at.tenant.end at.end up_there lives_there at.serves ms
+            session = record at.session { end = at.end };
+            there = subst (λ (x : ℕ). session_at x (with_server key at.end ts) ≡ Some (record at.session { end = at.end })) same
+                (changed_own (λ s. at.end) key at.session ts at.there);
+            ready = still_ready now p o at.session.end at.end up_there lives_there at.serves ms
                 (subst (λ (x : BrokerSession). IsReady ms 7 x.end) is was.ready);
           }
       go false e = record {
-        tenant = was.tenant;
+        session = was.session;
         there = changed_other (λ s. at.end) key k ts e ∙ was.there;
-        ready = record { accepted = was.ready.accepted; room = room_less ms 0 7 was.tenant.end (omega arith) was.ready.room };
+        ready = record { accepted = was.ready.accepted; room = room_less ms 0 7 was.session.end (omega arith) was.ready.room };
       }
 
   pub all_ready : (cs : List (ℕ × Message)) → AreReady 7 ts cs → AreReady 0 us cs

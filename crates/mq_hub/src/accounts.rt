@@ -1,11 +1,11 @@
-//! What was taken from each client of a broker, and placed for it.
+//! The log of each client over a run: the messages taken from it and the messages placed for it.
 
 ghost use Rattle.std.specs.Prelude.{◌≡◌, ◌++◌, [], ◌∷◌, List, length, IfOk, OnOk};
 ghost use Rattle.std.specs.List.{flat_map};
 ghost use Rattle.mq_route.specs.Runs.{AreAccounts};
 ghost use Rattle.mq_route.specs.declared.act.Act.{Act};
 ghost use Rattle.mq_route.specs.declared.act.Act.TheVariants.{Placed, Took};
-ghost use Rattle.mq_hub.specs.Filing.{all_noted, IsBlank};
+ghost use Rattle.mq_hub.specs.Inside.Logs.{all_noted, IsBlank};
 
 use mq_end::BoxedList;
 use mq_packet::Message;
@@ -14,7 +14,6 @@ use mq_topic::ClientKey;
 use std::alloc::{AllocError, Global};
 use std::mem;
 
-// An account on which nothing stands. It takes no memory.
 fn blank(alloc: Global) -> ClientLog
     ensures { IsBlank result }
 {
@@ -24,7 +23,6 @@ fn blank(alloc: Global) -> ClientLog
     }
 }
 
-// Accounts on which nothing stands, one for each of `count` clients.
 fn blank_accounts(alloc: Global, count: usize) -> Result<Vec<ClientLog>, AllocError>
     ensures count { IfOk result (λ accounts. length accounts.items ≡ count) }
     ensures blank { IfOk result (λ accounts. AreAccounts 0 [] accounts.items) }
@@ -36,7 +34,7 @@ fn blank_accounts(alloc: Global, count: usize) -> Result<Vec<ClientLog>, AllocEr
     Ok(accounts)
 }
 
-// Appends a message to a list. If memory runs out the list is lost.
+// Appends a message to a list. On `Err` the list is lost.
 fn append(alloc: Global, list: &mut BoxedList<Message>, message: &Message) -> Result<(), AllocError>
     ensures { OnOk result (list.new ≡ list.old ++ message.now ∷ []) }
 {
@@ -46,7 +44,7 @@ fn append(alloc: Global, list: &mut BoxedList<Message>, message: &Message) -> Re
     Ok(())
 }
 
-// Notes that a message was taken from a client, in its account if there is one.
+// Adds a message to the log of the client that published it, if the client has a log.
 fn note_taken(
     alloc: Global,
     accounts: &mut [ClientLog],
@@ -62,7 +60,7 @@ fn note_taken(
     append(alloc, &mut accounts[at].taken, message)
 }
 
-// Notes that a message was placed for a client, in its account if there is one.
+// Adds a message to the log of the client that it was placed for, if the client has a log.
 fn note_placed(
     alloc: Global,
     accounts: &mut [ClientLog],
@@ -78,7 +76,6 @@ fn note_placed(
     append(alloc, &mut accounts[at].placed, message)
 }
 
-// Notes an act in the account of its client.
 fn note(alloc: Global, accounts: &mut [ClientLog], act: &Act) -> Result<(), AllocError>
     ensures { OnOk result (accounts.new ≡ all_noted 0 act.now accounts.old) }
 {
@@ -89,7 +86,6 @@ fn note(alloc: Global, accounts: &mut [ClientLog], act: &Act) -> Result<(), Allo
     }
 }
 
-// Notes acts in the accounts of their clients, one after another.
 fn note_all(alloc: Global, accounts: &mut [ClientLog], acts: &[Act]) -> Result<(), AllocError>
     ensures accounts { OnOk result ((log : List Act) → AreAccounts 0 log accounts.old → AreAccounts 0 (log ++ acts.now) accounts.new) }
     ensures count { OnOk result (length accounts.new ≡ length accounts.old) }
@@ -100,7 +96,7 @@ fn note_all(alloc: Global, accounts: &mut [ClientLog], acts: &[Act]) -> Result<(
     Ok(())
 }
 
-/// The accounts of `count` clients, after these replies.
+/// Returns the logs of the first `count` clients after these replies.
 pub(crate) fn accounts_of(
     alloc: Global,
     count: usize,

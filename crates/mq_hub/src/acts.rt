@@ -1,4 +1,4 @@
-//! What a broker does in a step, as it is said.
+//! The acts of a step, as they are collected for its reply.
 
 ghost use Rattle.std.specs.Prelude.{◌≡◌, ◌+◌, ◌≤◌, ◌<◌, [], ◌∷◌, ◌++◌, OnOk};
 
@@ -8,17 +8,17 @@ use mq_route::{Act, HubReply};
 use std::alloc::{AllocError, Global};
 use std::marker::Model;
 
-/// What a broker did in a step so far, with room for more.
+/// The acts of a step up to now, with reserved room for more.
 #[derive(Drop)]
 pub(crate) struct ActLog {
     acts: Vec<Act>,
-    /// For how many more acts there is room that was asked for; the list may have more.
+    /// The number of further acts for which room was reserved. The list may have more capacity.
     room: usize,
 }
 
 impl Model for ActLog {
     ghost use Rattle.std.specs.Prelude.{◌+◌, ◌≤◌, length, vec_capacity};
-    ghost use Rattle.mq_hub.specs.ActLog.{ActList};
+    ghost use Rattle.mq_hub.specs.Inside.ActLog.{ActList};
 
     ghost Value = { ActList };
 
@@ -28,7 +28,6 @@ impl Model for ActLog {
 }
 
 impl ActLog {
-    /// Nothing is done yet. It takes no memory.
     pub(crate) fn new(alloc: Global) -> ActLog
         ensures { result.acts ≡ [] }
     {
@@ -38,7 +37,7 @@ impl ActLog {
         }
     }
 
-    /// Makes room for so many more acts. Fails if memory runs out. The acts stay.
+    /// Makes room for at least `count` more acts in all.
     pub(crate) fn reserve(&mut self, count: usize) -> Result<(), AllocError>
         ensures ok { OnOk result (count ≤ self.new.room) }
         ensures same { self.new.acts ≡ self.old.acts }
@@ -49,8 +48,8 @@ impl ActLog {
         Ok(())
     }
 
-    /// Makes room for so many acts beside those for which there is room. Out of memory it fails. The acts stay.
-    pub(crate) fn reserve_beside(&mut self, count: usize) -> Result<(), AllocError>
+    /// Makes room for `count` more acts in addition to those for which room is reserved.
+    pub(crate) fn reserve_more(&mut self, count: usize) -> Result<(), AllocError>
         ensures ok { OnOk result (self.old.room + count ≤ self.new.room) }
         ensures same { self.new.acts ≡ self.old.acts }
         ensures room { self.old.room ≤ self.new.room }
@@ -61,8 +60,8 @@ impl ActLog {
         self.reserve(room)
     }
 
-    /// One act more. It takes no memory.
-    pub(crate) fn say(&mut self, act: Act)
+    /// Appends an act.
+    pub(crate) fn push(&mut self, act: Act)
         requires { 0 < self.old.room }
         ensures acts { self.new.acts ≡ self.old.acts ++ act ∷ [] }
         ensures room { self.old.room ≤ self.new.room + 1 }
@@ -71,7 +70,8 @@ impl ActLog {
         self.room -= 1;
     }
 
-    /// What comes of a step that did this and takes no bytes; `alive` says that the event's connection is open. It takes no memory.
+    /// Returns the reply of a step with these acts and without output. `alive` says whether the
+    /// event's connection is open after the step.
     pub(crate) fn into_reply(self, alive: bool) -> HubReply
         ensures { result ≡ record { acts = self.acts; output = []; alive = alive } }
     {

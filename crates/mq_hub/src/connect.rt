@@ -1,4 +1,4 @@
-//! connect.
+//! Taking a CONNECT: checks, refusal, new and resumed sessions, take-over (3.1, 3.2).
 
 pub(crate) mod accept;
 pub(crate) mod availability;

@@ -1,4 +1,4 @@
-//! connections.
+//! The table of connections, and the events that open and end them (4.2).
 
 pub(crate) mod connection;
 pub(crate) mod on_end;

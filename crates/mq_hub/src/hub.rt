@@ -1,4 +1,4 @@
-//! A broker over a store of subscriptions.
+//! The broker's state, and the queries on it.
 
 ghost use Rattle.std.specs.Prelude.{◌≡◌, ◌<◌, [], IfSome};
 ghost use Rattle.mq_route.specs.Hub.{knows, new_hub};
@@ -10,7 +10,7 @@ use mq_topic::{FilterStore, TrieStore};
 use std::alloc::Global;
 use std::marker::Model;
 
-/// A broker over a store of subscriptions. Contracts see it as plain records.
+/// A broker over a store of subscriptions. See [`HubOver::step`] for its events.
 #[derive(Drop)]
 pub struct HubOver<S: FilterStore> {
     pub(crate) alloc: Global,
@@ -20,7 +20,7 @@ pub struct HubOver<S: FilterStore> {
     pub(crate) tables: Tables<S>,
 }
 
-/// A broker over a trie of subscriptions.
+/// A broker that stores its subscriptions in a trie.
 pub type Hub = HubOver<TrieStore>;
 
 impl<S: FilterStore> Model for HubOver<S> {
@@ -28,8 +28,8 @@ impl<S: FilterStore> Model for HubOver<S> {
     ghost use Rattle.std.specs.FinSet as set;
     ghost use Rattle.std.specs.Ordering.{nat_cmp};
     ghost use Rattle.mq_route.specs.Hub.{HubState};
-    ghost use Rattle.mq_hub.specs.Keeps.{HubInvariant};
-    ghost use Rattle.mq_hub.specs.Seen.{hub_of};
+    ghost use Rattle.mq_hub.specs.Inside.Invariant.{HubInvariant};
+    ghost use Rattle.mq_hub.specs.Inside.View.{hub_of};
 
     ghost Value = { HubState };
 
@@ -41,7 +41,7 @@ impl<S: FilterStore> Model for HubOver<S> {
 }
 
 impl HubOver<TrieStore> {
-    /// A broker to which nothing has happened. It takes no memory.
+    /// A new broker. `config.capacity` must be above 0, and so must `config.window` if it is set.
     pub fn new(alloc: Global, config: HubConfig) -> HubOver<TrieStore>
         requires capacity { 0 < config.capacity }
         requires window { IfSome config.window (λ window. 0 < window) }
@@ -52,7 +52,8 @@ impl HubOver<TrieStore> {
 }
 
 impl<S: FilterStore> HubOver<S> {
-    /// A broker over a store without rows, to which nothing has happened. It takes no memory.
+    /// A new broker over an empty store of subscriptions. `config.capacity` must be above 0, and so
+    /// must `config.window` if it is set.
     pub fn with_store(alloc: Global, config: HubConfig, store: S) -> HubOver<S>
         requires store { S.rows store ≡ [] }
         requires capacity { 0 < config.capacity }
@@ -69,15 +70,16 @@ impl<S: FilterStore> HubOver<S> {
         }
     }
 
-    /// Whether a connection is known: it was opened, and is not over. It takes no memory.
+    /// Whether a connection is known: it was opened and has not ended.
     pub fn knows(&self, conn: Conn) -> bool
         ensures { result ≡ knows conn self.now.connections }
     {
         self.tables.connections.knows(conn)
     }
 
-    /// Why an event is refused, memory aside. It takes no memory.
-    pub(crate) fn refusal(&self, event: &HubEvent) -> Option<HubRefusal>
+    /// Returns why [`HubOver::step`] refuses an event whatever memory there is. `None` if it is
+    /// refused only when an allocation fails.
+    pub fn refusal(&self, event: &HubEvent) -> Option<HubRefusal>
         ensures { result ≡ event_refusal event.now self.now }
     {
         match event {

@@ -1,4 +1,4 @@
-//! input.
+//! From the bytes of a connection to the handlers of its packets (4.2).
 
 pub(crate) mod decoder;
 pub(crate) mod dispatch;

@@ -1,4 +1,11 @@
-//! A broker: bytes, moments and connections go in, what it did and bytes come out (3.1 to 3.14, 4.3).
+//! An MQTT 3.1.1 broker without I/O: events go in, acts and output come out (3.1 to 3.14, 4.3).
+//!
+//! Order of calls: [`HubOver::step`] with `Opened` for each new connection, `Bytes` for its input,
+//! `Collect` to take its pending output, `Ended` when it is over, and `Tick` with the current time
+//! in milliseconds at least at each [`HubOver::next_deadline`].
+//!
+//! A call that can fail for lack of memory says so in its return type; other calls never allocate
+//! unless stated otherwise. On `Err` the receiver is unchanged unless stated otherwise.
 #![tactic(auto)]
 
 mod accounts;

@@ -1,4 +1,4 @@
-//! publish.
+//! Taking a PUBLISH and delivering its message to subscribers (3.3, 4.3).
 
 pub(crate) mod acceptance;
 pub(crate) mod delivery;

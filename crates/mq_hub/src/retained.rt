@@ -1,11 +1,11 @@
-//! The retained messages (3.3.1.3, 3.8.4).
+//! The table of retained messages (3.3.1.3, 3.8.4).
 
 ghost use Rattle.std.specs.Prelude.{◌≡◌, ◌+◌, ◌≤◌, ◌<◌, ◌++◌, ◌∷◌, [], not, filter, if◌then◌else◌, IfOk, IfSome, OnOk, IsOk};
 ghost use Rattle.std.specs.List.{list_any};
 ghost use Rattle.indexmap.specs.IndexMap.{spare, values};
 ghost use Rattle.mq_route.specs.Copies.{is_of, kept, replaced, retained_for};
 ghost use Rattle.mq_packet.specs.declared.message.Message.{Message};
-ghost use Rattle.mq_hub.specs.Retained.{AreKept, IsKeptOf};
+ghost use Rattle.mq_hub.specs.Inside.Retained.{AreKept, IsKeptOf};
 
 use crate::publish::recipients::{copy, is_hidden_name};
 use indexmap::IndexMap;
@@ -14,13 +14,14 @@ use mq_topic::{Qos, TopicFilter, TopicName, matches};
 use std::alloc::{AllocError, Global};
 use std::marker::Model;
 
-// Messages by their topic names, in an order.
+// Messages by topic name, in the order in which the names came.
 type ByName = IndexMap<TopicName, Message>;
 
-/// A message that is to be retained, behind its topic name.
+/// A message to retain, after its topic name.
 pub(crate) type RetainedEntry = (TopicName, Message);
 
-/// The retained messages, each found by its topic name at once, the name that came first in front (3.3.1.3).
+/// The retained messages, in the order in which their names came. A hash table finds a message by
+/// its name (3.3.1.3).
 #[derive(Drop)]
 pub(crate) struct Retained {
     by_name: ByName,
@@ -28,7 +29,7 @@ pub(crate) struct Retained {
 
 impl Model for Retained {
     ghost use Rattle.indexmap.specs.IndexMap.{spare, values};
-    ghost use Rattle.mq_hub.specs.Retained.{AreKept, RetainedTable};
+    ghost use Rattle.mq_hub.specs.Inside.Retained.{AreKept, RetainedTable};
 
     ghost Value = { RetainedTable };
 
@@ -37,7 +38,6 @@ impl Model for Retained {
     ghost invariant = { λ t. AreKept t.by_name.entries };
 }
 
-// Takes the message of a name away.
 fn take_away(by_name: &mut ByName, name: &TopicName)
     requires { AreKept by_name.old.entries }
     ensures kept { AreKept by_name.new.entries }
@@ -47,7 +47,7 @@ fn take_away(by_name: &mut ByName, name: &TopicName)
     let _ = by_name.shift_remove(name);
 }
 
-// Puts a message in the place of the one of its name, or last.
+// Replaces the message of the same name, or appends the message.
 fn put(by_name: &mut ByName, name: TopicName, message: Message)
     requires kept { AreKept by_name.old.entries }
     requires name { name ≡ message.topic }
@@ -60,7 +60,7 @@ fn put(by_name: &mut ByName, name: TopicName, message: Message)
     let _ = by_name.insert(name, message);
 }
 
-// Copies of the messages that a filter matches.
+// Returns copies of the messages that a filter matches.
 fn copies_of(
     alloc: Global,
     by_name: &ByName,
@@ -78,12 +78,12 @@ fn copies_of(
     Ok(copies)
 }
 
-/// What is to be retained of a message: the message behind its topic name, or nothing where RETAIN is not set (3.3.1.3) or the name begins
-/// with `$` (4.7.2). It shares the message's bytes. Fails if memory runs out.
+/// Returns the entry to retain for a message. `None` if RETAIN is not set (3.3.1.3) or the name
+/// begins with `$` (4.7.2). It shares the message's bytes.
 #[inline(always)]
 pub(crate) fn to_retain(message: &Message) -> Result<Option<RetainedEntry>, AllocError>
-    ensures kept { IfOk result (λ detach. IsKeptOf message.now detach) }
-    ensures named { IfOk result (λ detach. IfSome detach (λ named. named.0 ≡ named.1.topic)) }
+    ensures kept { IfOk result (λ entry. IsKeptOf message.now entry) }
+    ensures named { IfOk result (λ entry. IfSome entry (λ named. named.0 ≡ named.1.topic)) }
 {
     if !message.retain || is_hidden_name(&message.topic) {
         return Ok(None);
@@ -94,7 +94,6 @@ pub(crate) fn to_retain(message: &Message) -> Result<Option<RetainedEntry>, Allo
 }
 
 impl Retained {
-    /// No retained messages. It takes no memory.
     pub(crate) fn new(alloc: Global) -> Retained
         ensures { result.messages ≡ [] }
     {
@@ -103,7 +102,6 @@ impl Retained {
         }
     }
 
-    /// Makes room for so many more messages. Fails if memory runs out. The messages stay.
     pub(crate) fn reserve(&mut self, count: usize) -> Result<(), AllocError>
         ensures ok { OnOk result (count ≤ self.new.room) }
         ensures same { self.new.messages ≡ self.old.messages }
@@ -112,8 +110,9 @@ impl Retained {
         self.by_name.reserve(count)
     }
 
-    /// A message is taken, or a will's is published (3.3.1.3): with RETAIN it takes the place of the one of its name, or goes
-    /// last, and an empty one takes that away. A name that begins with `$` is not kept (4.7.2). It takes no memory.
+    /// Retains a message if RETAIN is set (3.3.1.3): it replaces the one of its name, or is
+    /// appended; an empty payload removes the one of its name. A name that begins with `$` is
+    /// ignored (4.7.2).
     #[tactic(auto, unfolding(mq_route::specs::Copies::kept))]
     pub(crate) fn keep(&mut self, name: TopicName, message: Message)
         requires name { name ≡ message.topic }
@@ -131,21 +130,21 @@ impl Retained {
         }
     }
 
-    /// What is to be retained of a message is kept, as `keep` keeps the message. It takes no memory.
-    pub(crate) fn retain_planned(&mut self, detach: Option<RetainedEntry>)
-        requires named { IfSome detach (λ named. named.0 ≡ named.1.topic) }
+    /// Retains the result of `to_retain`, as `keep` retains the message.
+    pub(crate) fn retain_planned(&mut self, entry: Option<RetainedEntry>)
+        requires named { IfSome entry (λ named. named.0 ≡ named.1.topic) }
         requires room { 0 < self.old.room }
-        ensures messages { (m : Message) → IsKeptOf m detach → self.new.messages ≡ kept m self.old.messages }
+        ensures messages { (m : Message) → IsKeptOf m entry → self.new.messages ≡ kept m self.old.messages }
         ensures room { self.old.room ≤ self.new.room + 1 }
     {
-        match detach {
+        match entry {
             Some((name, message)) => self.keep(name, message),
             None => {}
         }
     }
 
-    /// What a new subscription is sent (3.3.1.3, 3.8.4): copies of the messages that its filter matches, in their order,
-    /// with RETAIN. Fails if memory runs out.
+    /// Returns the retained messages for a new subscription (3.3.1.3, 3.8.4): copies of those that
+    /// its filter matches, in the order of the table, with RETAIN.
     pub(crate) fn matching(
         &self,
         alloc: Global,

@@ -1,20 +1,25 @@
-//! Events come to a broker one after another.
+//! Runs a broker over a list of events.
 
-ghost use Rattle.std.specs.Prelude.{◌≡◌, ◌<◌, ◌⊎◌, [], length, Ok, Err, IfOk, IfErr, IfSome};
+ghost use Rattle.std.specs.Prelude.{◌≡◌, ℕ, ◌<◌, ◌⊎◌, [], length, Ok, Err, IfOk, IfErr, IfSome};
 ghost use Rattle.std.specs.List.{flat_map};
 ghost use Rattle.mq_route.specs.Hub.{new_hub};
-ghost use Rattle.mq_route.specs.Runs.{AreAccounts, IsRun};
-ghost use Rattle.mq_hub.specs.Running.{IsFollowed, IsRefused, IsTraced};
+ghost use Rattle.mq_flow.specs.Receiver.{none_received};
+ghost use Rattle.mq_route.specs.Routed.{placed, routed, taken};
+ghost use Rattle.mq_route.specs.Runs.{AreAccounts, IsRun, came_in};
+ghost use Rattle.mq_route.specs.Taken.{handed_from, of_client};
+ghost use Rattle.mq_hub.specs.Run.{IsFollowed, IsRefused, IsTraced, acts_in};
 
 use crate::accounts::accounts_of;
 use crate::hub::{Hub, HubOver};
 use mq_end::BoxedList;
-use mq_route::{ClientLog, HubConfig, HubEvent, HubRefusal, HubReply, HubTrace};
+use mq_route::{
+    ClientLog, HubConfig, HubEvent, HubRefusal, HubReply, HubTrace, routing_laws, taking_laws,
+};
 use mq_topic::{FilterStore, TrieStore};
 use std::alloc::{AllocError, Global};
 
 impl<S: FilterStore> HubOver<S> {
-    // Events come one after another, up to one that is refused.
+    // Steps through the events until one is refused. On `Err` the steps before it have been taken.
     fn follow(&mut self, events: &[HubEvent]) -> Result<Vec<HubReply>, HubRefusal>
         ensures run { IfOk result (λ replies. IsFollowed self.old events.now replies.items self.new) }
         ensures err { IfErr result (λ why. (why ≡ HubRefusal.Memory) ⊎ IsRefused self.old events.now why) }
@@ -30,7 +35,6 @@ impl<S: FilterStore> HubOver<S> {
         Ok(replies)
     }
 
-    // The accounts of the clients to which a key was given, after these replies.
     fn accounts(&self, replies: &[HubReply]) -> Result<Vec<ClientLog>, AllocError>
         ensures count { IfOk result (λ accounts. length accounts.items ≡ self.now.next_key) }
         ensures accounts { IfOk result (λ accounts. AreAccounts 0 (flat_map (λ r. r.acts) replies.now) accounts.items) }
@@ -38,7 +42,7 @@ impl<S: FilterStore> HubOver<S> {
         accounts_of(self.alloc, self.next_key as usize, replies)
     }
 
-    // Events come one after another, up to one that is refused: the reply to each, and the accounts of all clients to which a key was given.
+    // Steps through the events until one is refused. On `Err` the steps before it have been taken.
     fn traced(&mut self, events: &[HubEvent]) -> Result<HubTrace, HubRefusal>
         ensures trace { IfOk result (λ trace. IsTraced self.old events.now trace self.new) }
         ensures err { IfErr result (λ why. (why ≡ HubRefusal.Memory) ⊎ IsRefused self.old events.now why) }
@@ -54,8 +58,7 @@ impl<S: FilterStore> HubOver<S> {
     }
 }
 
-// A value beside what was made with it, where that did not fail; else it lets go of the value.
-fn beside<T: Drop, U>(value: T, made: Result<U, HubRefusal>) -> Result<(T, U), HubRefusal>
+fn pair_with<T: Drop, U>(value: T, made: Result<U, HubRefusal>) -> Result<(T, U), HubRefusal>
     ensures ok { IfOk made (λ made. result ≡ Ok (value, made)) }
     ensures err { IfErr made (λ why. result ≡ Err why) }
 {
@@ -65,8 +68,10 @@ fn beside<T: Drop, U>(value: T, made: Result<U, HubRefusal>) -> Result<(T, U), H
     }
 }
 
-/// Events come one after another to a new broker over a store without rows: the broker to which they came, the reply to each, and what was
-/// taken from each client and placed for it. The first that is refused ends it, and so does lack of memory.
+/// Runs a new broker over an empty store through these events. Returns the broker, the reply to
+/// each event, and the log of each client: the messages taken from it and placed for it.
+///
+/// Errors: the refusal of the first event that is refused; `Memory` if an allocation fails.
 pub fn hub_run_over<S: FilterStore + Drop>(
     alloc: Global,
     config: HubConfig,
@@ -77,14 +82,19 @@ pub fn hub_run_over<S: FilterStore + Drop>(
     requires capacity { 0 < config.capacity }
     requires window { IfSome config.window (λ window. 0 < window) }
     ensures run { IfOk result (λ r. IsRun config events.now r.0 r.1) }
+    ensures routed { IfOk result (λ r. (c : ℕ) → placed c (acts_in r.1) ≡ routed c (acts_in r.1)) }
+    ensures taken { IfOk result (λ r. (run : IsRun config events.now r.0 r.1) (c : ℕ)
+        → taken c (acts_in r.1) ≡ handed_from none_received (of_client c (came_in run.episodes))) }
     ensures err { IfErr result (λ why. (why ≡ HubRefusal.Memory) ⊎ IsRefused (new_hub config) events.now why) }
 {
+    routing_laws();
+    taking_laws();
     let mut hub = HubOver::with_store(alloc, config, store);
     let traced = hub.traced(events);
-    beside(hub, traced)
+    pair_with(hub, traced)
 }
 
-/// Events come one after another to a new broker.
+/// Runs a new broker through these events. See [`hub_run_over`].
 pub fn hub_run(
     alloc: Global,
     config: HubConfig,
@@ -93,6 +103,9 @@ pub fn hub_run(
     requires capacity { 0 < config.capacity }
     requires window { IfSome config.window (λ window. 0 < window) }
     ensures run { IfOk result (λ r. IsRun config events.now r.0 r.1) }
+    ensures routed { IfOk result (λ r. (c : ℕ) → placed c (acts_in r.1) ≡ routed c (acts_in r.1)) }
+    ensures taken { IfOk result (λ r. (run : IsRun config events.now r.0 r.1) (c : ℕ)
+        → taken c (acts_in r.1) ≡ handed_from none_received (of_client c (came_in run.episodes))) }
     ensures err { IfErr result (λ why. (why ≡ HubRefusal.Memory) ⊎ IsRefused (new_hub config) events.now why) }
 {
     hub_run_over(alloc, config, TrieStore::new(alloc), events)

@@ -1,4 +1,4 @@
-//! sessions.
+//! The table of sessions (3.1.2.4).
 
 pub(crate) mod call;
 pub(crate) mod names;

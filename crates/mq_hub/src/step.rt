@@ -1,4 +1,4 @@
-//! What a broker does with an event (4.2).
+//! One event of a broker (4.2).
 
 ghost use Rattle.std.specs.Prelude.{◌≡◌, None, Err, IfOk, IfErr, IfSome, OnErr};
 ghost use Rattle.mq_route.specs.Step.{HubStep, event_refusal};
@@ -8,8 +8,15 @@ use mq_route::{HubEvent, HubRefusal, HubReply};
 use mq_topic::FilterStore;
 
 impl<S: FilterStore> HubOver<S> {
-    /// An event comes to a broker. It is refused where its connection is not known, or is already, or where memory runs out; then nothing
-    /// changes.
+    /// Handles an event and returns what the broker did.
+    ///
+    /// Errors, on which the broker is unchanged:
+    /// - `UnknownConn` if `Bytes`, `Ended` or `Collect` name a connection that is not known.
+    /// - `ConnInUse` if `Opened` names a connection that is known.
+    /// - `Memory` if an allocation fails before anything changes.
+    ///
+    /// If an allocation fails later, for a packet in the middle of a piece, the connection is
+    /// closed; a will without memory is reported as dropped.
     pub fn step(&mut self, event: &HubEvent) -> Result<HubReply, HubRefusal>
         ensures step { IfOk result (λ reply. HubStep self.old event.now reply self.new) }
         ensures refused { IfSome (event_refusal event.now self.old) (λ why. result ≡ Err why) }

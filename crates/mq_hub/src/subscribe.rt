@@ -1,4 +1,4 @@
-//! A client subscribes (3.8).
+//! Handles a SUBSCRIBE (3.8).
 
 ghost use Rattle.std.specs.Prelude.{◌≡◌, ℕ, ◌≤◌, ◌++◌, List, Bool, true, false, is_some, Ok, IfOk, OnErr};
 ghost use Rattle.mq_packet.specs.declared.message.Message.{Message};
@@ -11,18 +11,18 @@ ghost use Rattle.mq_route.specs.declared.conn.Conn.{Conn};
 ghost use Rattle.mq_route.specs.Arrives.{answers, granted, on_connected_packet};
 ghost use Rattle.mq_route.specs.Hub.{HubState, for_key, up_on};
 ghost use Rattle.mq_route.specs.Work.{close, have_room, retained_copies};
-ghost use Rattle.mq_hub.specs.Answers.{AreAlike, Subscribes};
-ghost use Rattle.mq_hub.specs.Calls.{CanServe};
-ghost use Rattle.mq_hub.specs.Does.{Refines};
-ghost use Rattle.mq_hub.specs.Placing.{placed_acts, HasSessions, IsFor};
-ghost use Rattle.mq_hub.specs.Subscribing.{subscribed_acts};
+ghost use Rattle.mq_hub.specs.Inside.Requests.{AreAlike, Subscribes};
+ghost use Rattle.mq_hub.specs.Inside.Calls.{CanServe};
+ghost use Rattle.mq_hub.specs.Inside.Refinement.{Refines};
+ghost use Rattle.mq_hub.specs.Inside.Placement.{placed_acts, HasSessions, IsFor};
+ghost use Rattle.mq_hub.specs.Inside.Subscriptions.{subscribed_acts};
 
 use crate::acts::ActLog;
 use crate::hub::HubOver;
-use crate::publish::delivery::say_all;
+use crate::publish::delivery::push_all;
 use crate::publish::enqueue::{make_room_for, place_for, retained_copies};
 use crate::sessions::call::Call;
-use crate::subscriptions::{say_subscribed, set_rows};
+use crate::subscriptions::{push_subscribed, set_rows};
 use crate::tables::Tables;
 use mq_end::size_laws;
 use mq_packet::{Message, NonEmpty, PacketId, Request, SubAckCode};
@@ -30,10 +30,10 @@ use mq_route::Act;
 use mq_topic::{ClientKey, FilterStore};
 use std::alloc::{AllocError, Global};
 
-// The bytes of a SUBACK, at most, but for its codes (3.9).
+// The greatest encoding of SUBACK without its codes, in bytes (3.9).
 const SUBACK: usize = 7;
 
-// Each request is granted the quality of service that it asks for (3.9.3). Out of memory, there is no list.
+// The codes of a SUBACK: each request gets the quality of service that it asks for (3.9.3).
 fn granted(alloc: Global, requests: &[Request]) -> Result<Vec<SubAckCode>, AllocError>
     ensures { IfOk result (λ codes. codes.items ≡ granted requests.now) }
 {
@@ -44,7 +44,7 @@ fn granted(alloc: Global, requests: &[Request]) -> Result<Vec<SubAckCode>, Alloc
     Ok(codes)
 }
 
-// The acts that say that messages are placed for a client. They share the messages' bytes. Out of memory, there is no list.
+// The acts that report messages as placed for a client. They share the messages' bytes.
 fn placed_for(alloc: Global, key: ClientKey, messages: &[Message]) -> Result<Vec<Act>, AllocError>
     ensures { IfOk result (λ acts. acts.items ≡ placed_acts (for_key key messages.now)) }
 {
@@ -56,81 +56,81 @@ fn placed_for(alloc: Global, key: ClientKey, messages: &[Message]) -> Result<Vec
 }
 
 impl<S: FilterStore> Tables<S> {
-    /// A client subscribes (3.8.4): its subscriptions stand, SUBACK answers, and the retained messages are placed. `false` where its
-    /// session has fewer identifiers free than these need (2.3.1). There, and out of memory, the tables stay, but
-    /// for their room, and so do the acts.
+    /// Subscribes a client (3.8.4): its subscriptions are set, SUBACK is queued, and the retained
+    /// messages are placed. Returns `false` if its session has too few free identifiers for them
+    /// (2.3.1). Then, and on `Err`, only reserved capacity may have changed.
     pub(crate) fn subscribe(
         &mut self,
         alloc: Global,
         key: ClientKey,
         id: PacketId,
         requests: NonEmpty<Request>,
-        doings: &mut ActLog,
+        log: &mut ActLog,
     ) -> Result<bool, AllocError>
-        requires can { CanServe key (Call.Grants id (granted requests)) self.old.sessions.tenants }
-        requires due { (ms : List Message) → for_key key ms ≡ retained_copies key requests self.old.retained.messages → IsFor key ms self.old.sessions.tenants }
-        ensures enough { IfOk result (λ enough. (h : HubState) → HasSessions self.old.sessions.tenants h
+        requires can { CanServe key (Call.Grants id (granted requests)) self.old.sessions.list }
+        requires due { (ms : List Message) → for_key key ms ≡ retained_copies key requests self.old.retained.messages → IsFor key ms self.old.sessions.list }
+        ensures enough { IfOk result (λ enough. (h : HubState) → HasSessions self.old.sessions.list h
             → have_room (retained_copies key requests self.old.retained.messages) h ≡ enough) }
         ensures done { result ≡ Ok true → Subscribes key id requests self.old self.new }
-        ensures acts { result ≡ Ok true → doings.new.acts ≡ (doings.old.acts ++ subscribed_acts key requests)
+        ensures acts { result ≡ Ok true → log.new.acts ≡ (log.old.acts ++ subscribed_acts key requests)
             ++ placed_acts (retained_copies key requests self.old.retained.messages) }
-        ensures room { result ≡ Ok true → 3 ≤ doings.new.room }
+        ensures room { result ≡ Ok true → 3 ≤ log.new.room }
         ensures full { result ≡ Ok false → AreAlike self.old self.new }
         ensures err { OnErr result (AreAlike self.old self.new) }
-        ensures full_acts { result ≡ Ok false → doings.new.acts ≡ doings.old.acts }
-        ensures full_room { result ≡ Ok false → doings.old.room ≤ doings.new.room }
-        ensures err_acts { OnErr result (doings.new.acts ≡ doings.old.acts) }
-        ensures err_room { OnErr result (doings.old.room ≤ doings.new.room) }
+        ensures full_acts { result ≡ Ok false → log.new.acts ≡ log.old.acts }
+        ensures full_room { result ≡ Ok false → log.old.room ≤ log.new.room }
+        ensures err_acts { OnErr result (log.new.acts ≡ log.old.acts) }
+        ensures err_room { OnErr result (log.old.room ≤ log.new.room) }
     {
         size_laws();
         let messages = retained_copies(alloc, &self.retained, requests.as_slice())?;
         let codes = granted(alloc, requests.as_slice())?;
         let acts = placed_for(alloc, key, messages.as_slice())?;
         let count = requests.as_slice().len();
-        doings.reserve(count + acts.len() + 3)?;
+        log.reserve(count + acts.len() + 3)?;
         if !make_room_for(&mut self.sessions, key, messages.as_slice(), SUBACK + count)? {
             return Ok(false);
         }
         set_rows(alloc, &mut self.store, key, requests.as_slice())?;
-        say_subscribed(doings, key, requests.into_vec());
+        push_subscribed(log, key, requests.into_vec());
         let _ = self
             .sessions
             .serve(key, Call::Grants(id, NonEmpty::from_vec(codes)));
-        say_all(doings, acts);
+        push_all(log, acts);
         place_for(&mut self.sessions, key, messages);
         Ok(true)
     }
 }
 
 impl<S: FilterStore> HubOver<S> {
-    /// A client that is up subscribes (3.8.4): that is all that its SUBSCRIBE changes. `false` where its session has fewer identifiers free than what is retained needs (2.3.1):
-    /// its connection is to be closed for that. There, and out of memory, nothing changes.
+    /// Subscribes a connected client (3.8.4). Returns `false`, with nothing changed, if its session
+    /// has too few free identifiers for the retained messages (2.3.1).
     pub(crate) fn on_subscribe(
         &mut self,
         key: ClientKey,
         id: PacketId,
         requests: NonEmpty<Request>,
-        doings: &mut ActLog,
+        log: &mut ActLog,
     ) -> Result<bool, AllocError>
         requires up { is_some (up_on key self.old.connections) ≡ true }
         requires within { subscribe_size requests ≤ self.old.config.limits.most }
         ensures enough { IfOk result (λ enough. have_room (retained_copies key requests self.old.retained) self.old ≡ enough) }
         ensures goes { result ≡ Ok true → (conn : Conn)
-            → Refines (answers conn key (happens.Subscribe id requests)) self.old doings.old.acts self.new doings.new.acts }
+            → Refines (answers conn key (happens.Subscribe id requests)) self.old log.old.acts self.new log.new.acts }
         ensures takes { result ≡ Ok true → (conn : Conn) (fits : Bool)
-            → Refines (on_connected_packet conn key (packets.Subscribe id requests) fits) self.old doings.old.acts self.new doings.new.acts }
+            → Refines (on_connected_packet conn key (packets.Subscribe id requests) fits) self.old log.old.acts self.new log.new.acts }
         ensures closed { result ≡ Ok false → (conn : Conn) (fits : Bool) (new : HubState) (says : List Act)
-            → Refines (close conn whys.TargetFull fits) self.old doings.old.acts new says
-            → Refines (on_connected_packet conn key (packets.Subscribe id requests) fits) self.old doings.old.acts new says }
-        ensures room { result ≡ Ok true → 3 ≤ doings.new.room }
+            → Refines (close conn whys.TargetFull fits) self.old log.old.acts new says
+            → Refines (on_connected_packet conn key (packets.Subscribe id requests) fits) self.old log.old.acts new says }
+        ensures room { result ≡ Ok true → 3 ≤ log.new.room }
         ensures full { result ≡ Ok false → self.new ≡ self.old }
         ensures err { OnErr result (self.new ≡ self.old) }
-        ensures full_acts { result ≡ Ok false → doings.new.acts ≡ doings.old.acts }
-        ensures full_room { result ≡ Ok false → doings.old.room ≤ doings.new.room }
-        ensures err_acts { OnErr result (doings.new.acts ≡ doings.old.acts) }
-        ensures err_room { OnErr result (doings.old.room ≤ doings.new.room) }
+        ensures full_acts { result ≡ Ok false → log.new.acts ≡ log.old.acts }
+        ensures full_room { result ≡ Ok false → log.old.room ≤ log.new.room }
+        ensures err_acts { OnErr result (log.new.acts ≡ log.old.acts) }
+        ensures err_room { OnErr result (log.old.room ≤ log.new.room) }
     {
         let alloc = self.alloc;
-        self.tables.subscribe(alloc, key, id, requests, doings)
+        self.tables.subscribe(alloc, key, id, requests, log)
     }
 }

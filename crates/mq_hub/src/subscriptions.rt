@@ -1,7 +1,7 @@
-//! Rows of subscriptions that are set and removed one after another (3.8.4, 3.10.4).
+//! Sets and removes the subscriptions of a client one after another (3.8.4, 3.10.4).
 
 ghost use Rattle.std.specs.Prelude.{◌≡◌, ◌+◌, ◌≤◌, ◌++◌, length, OnOk, OnErr};
-ghost use Rattle.mq_hub.specs.Subscribing.{row_back, rows_back, subscribed_acts, unsubscribed_acts, with_rows, without_rows, AreThere, IsThere};
+ghost use Rattle.mq_hub.specs.Inside.Subscriptions.{row_back, rows_back, subscribed_acts, unsubscribed_acts, with_rows, without_rows, AreThere, IsThere};
 ghost use Rattle.mq_topic.specs.Rows.{with_row};
 
 use crate::acts::ActLog;
@@ -10,10 +10,10 @@ use mq_route::Act;
 use mq_topic::{ClientKey, FilterStore, Qos, TopicFilter, store_laws};
 use std::alloc::{AllocError, Global};
 
-// A row as it was before it was set: its filter, and its quality of service, where it was there.
+// A subscription before it was set: its filter, and its quality of service if it existed.
 type Before = (TopicFilter, Option<Qos>);
 
-// Puts a row back as it was. It takes no memory.
+// Sets a subscription back to what it was.
 fn put_back<S: FilterStore>(store: &mut S, key: ClientKey, filter: TopicFilter, qos: Option<Qos>)
     requires { IsThere key filter qos (S.rows store.old) }
     ensures { S.rows store.new ≡ row_back key filter qos (S.rows store.old) }
@@ -28,7 +28,7 @@ fn put_back<S: FilterStore>(store: &mut S, key: ClientKey, filter: TopicFilter, 
     }
 }
 
-// Puts rows back as they were, the last one first. It takes no memory.
+// Sets subscriptions back to what they were, the last one first.
 fn put_all_back<S: FilterStore>(store: &mut S, key: ClientKey, befores: Vec<Before>)
     requires { AreThere key befores.items (S.rows store.old) }
     ensures { S.rows store.new ≡ rows_back key befores.items (S.rows store.old) }
@@ -39,7 +39,7 @@ fn put_all_back<S: FilterStore>(store: &mut S, key: ClientKey, befores: Vec<Befo
     }
 }
 
-// Sets the row of a request, and writes down what it was before. Out of memory, the rows are as before.
+// Sets the subscription of a request, and records what it was before.
 fn set_row<S: FilterStore>(
     store: &mut S,
     key: ClientKey,
@@ -58,7 +58,7 @@ fn set_row<S: FilterStore>(
     store.set(key, filter, request.qos)
 }
 
-/// The subscriptions of a client are set, request by request (3.8.4). Out of memory, the rows are as before.
+/// Sets the subscriptions of a client, request by request (3.8.4). On `Err` they are as before.
 pub(crate) fn set_rows<S: FilterStore>(
     alloc: Global,
     store: &mut S,
@@ -78,31 +78,32 @@ pub(crate) fn set_rows<S: FilterStore>(
     Ok(())
 }
 
-/// The acts say that a client has the subscriptions that it asked for (3.8.4). It takes no memory.
-pub(crate) fn say_subscribed(doings: &mut ActLog, key: ClientKey, requests: Vec<Request>)
-    requires { length requests.items ≤ doings.old.room }
-    ensures acts { doings.new.acts ≡ doings.old.acts ++ subscribed_acts key requests.items }
-    ensures room { doings.old.room ≤ doings.new.room + length requests.items }
+/// Appends the acts that report the subscriptions of a client as set (3.8.4).
+pub(crate) fn push_subscribed(log: &mut ActLog, key: ClientKey, requests: Vec<Request>)
+    requires { length requests.items ≤ log.old.room }
+    ensures acts { log.new.acts ≡ log.old.acts ++ subscribed_acts key requests.items }
+    ensures room { log.old.room ≤ log.new.room + length requests.items }
 {
     for request in requests {
-        doings.say(Act::Subscribed(key, request.filter, request.qos));
+        log.push(Act::Subscribed(key, request.filter, request.qos));
     }
 }
 
-/// A client gives subscriptions up, filter by filter, and the acts say so (3.10.4). It takes no memory.
+/// Removes subscriptions of a client, filter by filter, and appends the acts that report it
+/// (3.10.4).
 pub(crate) fn remove_rows<S: FilterStore>(
     store: &mut S,
     key: ClientKey,
     filters: Vec<TopicFilter>,
-    doings: &mut ActLog,
+    log: &mut ActLog,
 )
-    requires { length filters.items ≤ doings.old.room }
+    requires { length filters.items ≤ log.old.room }
     ensures rows { S.rows store.new ≡ without_rows key filters.items (S.rows store.old) }
-    ensures acts { doings.new.acts ≡ doings.old.acts ++ unsubscribed_acts key filters.items }
-    ensures room { doings.old.room ≤ doings.new.room + length filters.items }
+    ensures acts { log.new.acts ≡ log.old.acts ++ unsubscribed_acts key filters.items }
+    ensures room { log.old.room ≤ log.new.room + length filters.items }
 {
     for filter in filters {
         let _ = store.remove(key, &filter);
-        doings.say(Act::Unsubscribed(key, filter));
+        log.push(Act::Unsubscribed(key, filter));
     }
 }

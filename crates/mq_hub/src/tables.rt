@@ -2,10 +2,10 @@
 
 ghost use Rattle.std.specs.Prelude.{◌≡◌, ◌≤◌, ℕ, List, Some, None, [], ◌∷◌, ◌++◌, true, false, OnOk, OnErr, IfOk, IsSome, IfSome};
 ghost use Rattle.mq_route.specs.Hub.{held_on, is_open, key_of, key_on, knows, stage_of, waiting_on, with_connection, without_connection};
-ghost use Rattle.mq_hub.specs.Collecting.{CollectsAt};
-ghost use Rattle.mq_hub.specs.Coming.{hears, holds};
-ghost use Rattle.mq_hub.specs.Leaving.{left_with, parted};
-ghost use Rattle.mq_hub.specs.Sessions.{sessions_of, tenant_of, with_server, without_tenant};
+ghost use Rattle.mq_hub.specs.Inside.Output.{CollectsAt};
+ghost use Rattle.mq_hub.specs.Inside.Input.{touched_at, holds};
+ghost use Rattle.mq_hub.specs.Inside.Close.{left_with, parted};
+ghost use Rattle.mq_hub.specs.Inside.Sessions.{sessions_of, session_at, with_server, without_key};
 ghost use Rattle.mq_topic.specs.Rows.{without_client};
 
 use crate::connections::connection::BoxedConnection;
@@ -33,7 +33,7 @@ impl<S: FilterStore> Model for Tables<S> {
     ghost use Rattle.std.specs.Coded.{codes, coded_ℕ};
     ghost use Rattle.std.specs.FinSet as set;
     ghost use Rattle.std.specs.Ordering.{nat_cmp};
-    ghost use Rattle.mq_hub.specs.Seen.{HubTables};
+    ghost use Rattle.mq_hub.specs.Inside.View.{HubTables};
 
     ghost Value = { HubTables };
 
@@ -43,11 +43,11 @@ impl<S: FilterStore> Model for Tables<S> {
 }
 
 impl<S: FilterStore> Tables<S> {
-    /// Empty tables over a store; packets are read within these limits on each connection. It takes no memory.
+    /// Empty tables over a store. Packets are decoded within `limits` on each connection.
     pub(crate) fn new(alloc: Global, limits: Limits, store: S) -> Tables<S>
         ensures rows { result.rows ≡ S.rows store }
         ensures retained { result.retained.messages ≡ [] }
-        ensures sessions { result.sessions.tenants ≡ [] }
+        ensures sessions { result.sessions.list ≡ [] }
         ensures connections { result.connections.connections ≡ [] }
         ensures limits { result.connections.limits ≡ limits }
     {
@@ -59,7 +59,8 @@ impl<S: FilterStore> Tables<S> {
         }
     }
 
-    /// A connection is opened, whose name isn't known (4.2). Fails if memory runs out, and then the tables stay, but for their room.
+    /// Adds a connection (4.2). Its name must not be in use. On `Err` only reserved capacity may
+    /// have changed.
     pub(crate) fn open(&mut self, alloc: Global, conn: Conn) -> Result<(), AllocError>
         requires { knows conn self.old.connections.connections ≡ false }
         ensures ok { OnOk result (self.new.connections.connections
@@ -74,14 +75,13 @@ impl<S: FilterStore> Tables<S> {
         Ok(())
     }
 
-    /// The key of the session for which a connection is up.
     pub(crate) fn key(&self, conn: Conn) -> Option<ClientKey>
         ensures { result ≡ key_on (stage_of conn self.now.connections.connections) }
     {
         self.connections.key(conn)
     }
 
-    /// Whether a connection is open, which is looked for at this place first.
+    /// Whether a connection is open. The index is tried before a search.
     pub(crate) fn is_open_near(&self, conn: Conn, place: usize) -> bool
         ensures { result ≡ is_open (stage_of conn self.now.connections.connections) }
     {
@@ -91,16 +91,16 @@ impl<S: FilterStore> Tables<S> {
         }
     }
 
-    /// The bytes that wait in the end of a session are taken, and none is copied. Out of memory they stay.
+    /// Takes the pending output of a session's end without copying it.
     pub(crate) fn collect_up(&mut self, key: ClientKey) -> Result<Bytes, AllocError>
-        requires { IsSome (tenant_of key self.old.sessions.tenants) }
-        ensures collects { CollectsAt key result self.old.sessions.tenants self.new.sessions.tenants }
+        requires { IsSome (session_at key self.old.sessions.list) }
+        ensures collects { CollectsAt key result self.old.sessions.list self.new.sessions.list }
         ensures rest { self.new ≡ record self.old { sessions = self.new.sessions } }
     {
         self.sessions.collect(key)
     }
 
-    /// The bytes that wait on a connection while it isn't up are taken, and none is copied. Out of memory they stay.
+    /// Takes the pending output of a connection that is not connected, without copying it.
     pub(crate) fn collect_own(&mut self, conn: Conn) -> Result<Bytes, AllocError>
         requires { knows conn self.old.connections.connections ≡ true }
         ensures bytes { IfOk result (λ b. b ≡ waiting_on conn self.old.connections.connections) }
@@ -112,7 +112,7 @@ impl<S: FilterStore> Tables<S> {
         self.connections.collect(conn)
     }
 
-    /// A connection is closed: what it holds of a packet is gone, what waits stays (4.8). It takes no memory.
+    /// Closes a connection (4.8). The incomplete packet is dropped; pending output stays.
     pub(crate) fn shut(&mut self, conn: Conn)
         ensures connections { self.new.connections.connections ≡ with_connection (λ x. record x { stage = ConnectionState.Closed; held = [] }) conn self.old.connections.connections }
         ensures limits { self.new.connections.limits ≡ self.old.connections.limits }
@@ -121,19 +121,19 @@ impl<S: FilterStore> Tables<S> {
         let _ = self.connections.shut(conn);
     }
 
-    /// A connection on which the client of a session is up is closed: its session's end loses it, and the bytes that wait there are the
-    /// connection's then (3.1.2.4, 4.8). It says how far the connection was. It takes no memory.
+    /// Closes a connection on which a client is connected. The end of its session loses it, and the
+    /// pending output moves to the connection (3.1.2.4, 4.8). Returns the state before.
     pub(crate) fn detach(&mut self, alloc: Global, conn: Conn, key: ClientKey) -> ConnectionState
         requires up { key_on (stage_of conn self.old.connections.connections) ≡ Some key }
-        requires there { IsSome (tenant_of key self.old.sessions.tenants) }
+        requires there { IsSome (session_at key self.old.sessions.list) }
         ensures stage { result ≡ stage_of conn self.old.connections.connections }
-        ensures tenants { IfSome (tenant_of key self.old.sessions.tenants) (λ t.
-            self.new.sessions.tenants ≡ with_server key (parted t.end) self.old.sessions.tenants) }
-        ensures connections { IfSome (tenant_of key self.old.sessions.tenants) (λ t.
+        ensures list { IfSome (session_at key self.old.sessions.list) (λ t.
+            self.new.sessions.list ≡ with_server key (parted t.end) self.old.sessions.list) }
+        ensures connections { IfSome (session_at key self.old.sessions.list) (λ t.
             self.new.connections.connections ≡ with_connection (left_with t.end.output) conn self.old.connections.connections) }
         ensures limits { self.new.connections.limits ≡ self.old.connections.limits }
         ensures room { self.new.sessions.room ≡ self.old.sessions.room }
-        ensures rises { self.old.connections.rises ≤ self.new.connections.rises }
+        ensures up_room { self.old.connections.up_room ≤ self.new.connections.up_room }
         ensures rest { self.new ≡ record self.old { sessions = self.new.sessions; connections = self.new.connections } }
     {
         let mut output = ByteQueue::new(alloc);
@@ -143,7 +143,7 @@ impl<S: FilterStore> Tables<S> {
         stage
     }
 
-    /// A connection that isn't up is over, and not known any more (4.2). It takes no memory.
+    /// Removes a connection on which no client is connected (4.2).
     pub(crate) fn forget(&mut self, conn: Conn)
         requires { key_on (stage_of conn self.old.connections.connections) ≡ None }
         ensures connections { self.new.connections.connections ≡ without_connection conn self.old.connections.connections }
@@ -153,18 +153,17 @@ impl<S: FilterStore> Tables<S> {
         self.connections.remove(conn);
     }
 
-    /// Notes the moment of the last whole packet of a connection (3.1.2.10), and answers the key of the session for which it is up. The
-    /// connection is looked for at this place first. It takes no memory.
+    /// Records the time of the last packet (3.1.2.10), and returns the key of the session for which
+    /// the connection is connected. The index is tried before a search.
     pub(crate) fn touched(&mut self, conn: Conn, place: usize, now: u64) -> Option<ClientKey>
         ensures key { result ≡ key_on (stage_of conn self.old.connections.connections) }
-        ensures connections { self.new.connections.connections ≡ with_connection (hears now) conn self.old.connections.connections }
+        ensures connections { self.new.connections.connections ≡ with_connection (touched_at now) conn self.old.connections.connections }
         ensures limits { self.new.connections.limits ≡ self.old.connections.limits }
         ensures rest { self.new ≡ record self.old { connections = self.new.connections } }
     {
         self.connections.touched(conn, place, now)
     }
 
-    /// Exchanges the decoder of a connection for another. It takes no memory.
     pub(crate) fn swap_decoder(&mut self, conn: Conn, decoder: &mut Decoder)
         requires known { knows conn self.old.connections.connections ≡ true }
         requires reading { (decoder.old.limit ≡ self.old.connections.limits) × (decoder.old.failed ≡ None) }
@@ -177,12 +176,12 @@ impl<S: FilterStore> Tables<S> {
         self.connections.swap_decoder(conn, decoder);
     }
 
-    /// A session ends, and its subscriptions (3.1.2.4). It takes no memory.
+    /// Ends a session, with its subscriptions (3.1.2.4).
     pub(crate) fn remove(&mut self, key: ClientKey)
         ensures rows { self.new.rows ≡ without_client key self.old.rows }
-        ensures tenants { self.new.sessions.tenants ≡ without_tenant key self.old.sessions.tenants }
-        ensures client { (n : List ℕ) → key_of n (sessions_of self.old.sessions.tenants) ≡ Some key
-            → key_of n (sessions_of self.new.sessions.tenants) ≡ None }
+        ensures list { self.new.sessions.list ≡ without_key key self.old.sessions.list }
+        ensures client { (n : List ℕ) → key_of n (sessions_of self.old.sessions.list) ≡ Some key
+            → key_of n (sessions_of self.new.sessions.list) ≡ None }
         ensures room { self.old.sessions.room ≤ self.new.sessions.room }
         ensures rest { self.new ≡ record self.old { rows = self.new.rows; sessions = self.new.sessions } }
     {

@@ -1,4 +1,4 @@
-//! A client gives subscriptions up (3.10).
+//! Handles an UNSUBSCRIBE (3.10).
 
 ghost use Rattle.std.specs.Prelude.{◌≡◌, ℕ, ◌≤◌, ◌++◌, [], Bool, true, is_some, Some, OnOk, OnErr, IsSome};
 ghost use Rattle.mq_packet.specs.declared.packet.Packet.TheVariants as packets;
@@ -8,12 +8,12 @@ ghost use Rattle.mq_end.specs.declared.happening.Happening.TheVariants as happen
 ghost use Rattle.mq_route.specs.declared.conn.Conn.{Conn};
 ghost use Rattle.mq_route.specs.Arrives.{answers, on_connected_packet};
 ghost use Rattle.mq_route.specs.Hub.{up_on};
-ghost use Rattle.mq_hub.specs.Answers.{AreAlike, Answers};
-ghost use Rattle.mq_hub.specs.Calls.{CanServe};
-ghost use Rattle.mq_hub.specs.Does.{Refines};
-ghost use Rattle.mq_hub.specs.Placing.{AreSameButRoom, IsReadyAt};
-ghost use Rattle.mq_hub.specs.Sessions.{tenant_of};
-ghost use Rattle.mq_hub.specs.Subscribing.{unsubscribed_acts, without_rows};
+ghost use Rattle.mq_hub.specs.Inside.Requests.{AreAlike, Answers};
+ghost use Rattle.mq_hub.specs.Inside.Calls.{CanServe};
+ghost use Rattle.mq_hub.specs.Inside.Refinement.{Refines};
+ghost use Rattle.mq_hub.specs.Inside.Placement.{AreSameButRoom, IsReadyAt};
+ghost use Rattle.mq_hub.specs.Inside.Sessions.{session_at};
+ghost use Rattle.mq_hub.specs.Inside.Subscriptions.{unsubscribed_acts, without_rows};
 
 use crate::acts::ActLog;
 use crate::hub::HubOver;
@@ -26,14 +26,15 @@ use mq_packet::{NonEmpty, PacketId};
 use mq_topic::{ClientKey, FilterStore, TopicFilter};
 use std::alloc::AllocError;
 
-// The bytes of an UNSUBACK, at most (3.11).
+// The greatest encoding of UNSUBACK, in bytes (3.11).
 const UNSUBACK: usize = 7;
 
-// Makes the session of a client ready for so many bytes. Out of memory, the sessions stay, but for their room.
+// Makes room in the session of a client for `more` bytes. On `Err` only reserved capacity may have
+// changed.
 fn make_bytes(sessions: &mut Sessions, key: ClientKey, more: usize) -> Result<(), AllocError>
-    requires { IsSome (tenant_of key sessions.old.tenants) }
-    ensures ok { OnOk result (IsReadyAt key [] more sessions.new.tenants) }
-    ensures same { AreSameButRoom sessions.old.tenants sessions.new.tenants }
+    requires { IsSome (session_at key sessions.old.list) }
+    ensures ok { OnOk result (IsReadyAt key [] more sessions.new.list) }
+    ensures same { AreSameButRoom sessions.old.list sessions.new.list }
     ensures room { sessions.new.room ≡ sessions.old.room }
 {
     match sessions.ready(key, &[], more) {
@@ -43,53 +44,53 @@ fn make_bytes(sessions: &mut Sessions, key: ClientKey, more: usize) -> Result<()
 }
 
 impl<S: FilterStore> Tables<S> {
-    /// A client gives subscriptions up, and UNSUBACK answers (3.10.4). Out of memory, the tables stay, but for their room,
-    /// and so do the acts.
+    /// Removes subscriptions of a client and queues UNSUBACK (3.10.4). On `Err` only reserved
+    /// capacity may have changed.
     pub(crate) fn unsubscribe(
         &mut self,
         key: ClientKey,
         id: PacketId,
         filters: NonEmpty<TopicFilter>,
-        doings: &mut ActLog,
+        log: &mut ActLog,
     ) -> Result<(), AllocError>
-        requires { CanServe key (Call.Drops id) self.old.sessions.tenants }
+        requires { CanServe key (Call.Drops id) self.old.sessions.list }
         ensures ok { OnOk result (Answers key (Call.Drops id) (without_rows key filters self.old.rows) self.old self.new) }
-        ensures acts { OnOk result (doings.new.acts ≡ doings.old.acts ++ unsubscribed_acts key filters) }
-        ensures room { OnOk result (3 ≤ doings.new.room) }
+        ensures acts { OnOk result (log.new.acts ≡ log.old.acts ++ unsubscribed_acts key filters) }
+        ensures room { OnOk result (3 ≤ log.new.room) }
         ensures err { OnErr result (AreAlike self.old self.new) }
-        ensures err_acts { OnErr result (doings.new.acts ≡ doings.old.acts) }
-        ensures err_room { OnErr result (doings.old.room ≤ doings.new.room) }
+        ensures err_acts { OnErr result (log.new.acts ≡ log.old.acts) }
+        ensures err_room { OnErr result (log.old.room ≤ log.new.room) }
     {
         size_laws();
         let filters = filters.into_vec();
-        doings.reserve(filters.len() + 3)?;
+        log.reserve(filters.len() + 3)?;
         make_bytes(&mut self.sessions, key, UNSUBACK)?;
-        remove_rows(&mut self.store, key, filters, doings);
+        remove_rows(&mut self.store, key, filters, log);
         let _ = self.sessions.serve(key, Call::Drops(id));
         Ok(())
     }
 }
 
 impl<S: FilterStore> HubOver<S> {
-    /// A client that is up gives subscriptions up (3.10.4): that is all that its UNSUBSCRIBE changes. Out of memory, nothing changes.
+    /// Removes subscriptions of a connected client and queues UNSUBACK (3.10.4).
     pub(crate) fn on_unsubscribe(
         &mut self,
         key: ClientKey,
         id: PacketId,
         filters: NonEmpty<TopicFilter>,
-        doings: &mut ActLog,
+        log: &mut ActLog,
     ) -> Result<(), AllocError>
         requires up { is_some (up_on key self.old.connections) ≡ true }
         requires within { unsuback_size ≤ self.old.config.limits.most }
         ensures goes { OnOk result ((conn : Conn)
-            → Refines (answers conn key (happens.Unsubscribe id filters)) self.old doings.old.acts self.new doings.new.acts) }
+            → Refines (answers conn key (happens.Unsubscribe id filters)) self.old log.old.acts self.new log.new.acts) }
         ensures takes { OnOk result ((conn : Conn) (fits : Bool)
-            → Refines (on_connected_packet conn key (packets.Unsubscribe id filters) fits) self.old doings.old.acts self.new doings.new.acts) }
-        ensures room { OnOk result (3 ≤ doings.new.room) }
+            → Refines (on_connected_packet conn key (packets.Unsubscribe id filters) fits) self.old log.old.acts self.new log.new.acts) }
+        ensures room { OnOk result (3 ≤ log.new.room) }
         ensures err { OnErr result (self.new ≡ self.old) }
-        ensures err_acts { OnErr result (doings.new.acts ≡ doings.old.acts) }
-        ensures err_room { OnErr result (doings.old.room ≤ doings.new.room) }
+        ensures err_acts { OnErr result (log.new.acts ≡ log.old.acts) }
+        ensures err_room { OnErr result (log.old.room ≤ log.new.room) }
     {
-        self.tables.unsubscribe(key, id, filters, doings)
+        self.tables.unsubscribe(key, id, filters, log)
     }
 }

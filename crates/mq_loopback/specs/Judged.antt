@@ -9,7 +9,7 @@ use Rattle.mq_route.specs.declared.reply.HubReply.{HubReply}
 use Rattle.mq_route.specs.declared.trace.HubTrace.{HubTrace}
 use Rattle.mq_route.specs.Hub.{HubState, new_hub}
 use Rattle.mq_route.specs.Runs.{IsRun}
-use Rattle.mq_hub.specs.Running.{IsRefused}
+use Rattle.mq_hub.specs.Run.{IsRefused}
 use Rattle.mq_book.specs.declared.entry.Entry.{Entry}
 use Rattle.mq_book.specs.declared.entry.Receipt.{Receipt}
 use Rattle.mq_book.specs.Pages.{Sealed}

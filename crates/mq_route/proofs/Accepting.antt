@@ -50,7 +50,7 @@ use Rattle.mq_route.specs.Hub.{HubState, HubSession, HubConnection, new_hub, new
 use Rattle.mq_route.specs.Welcome.{client_of, refusal, ends_with}
 use Rattle.mq_route.specs.Work.{Work, begin, said, with_sessions, staged, shut, put_on, put_where, does, have_room, deliver, place, place_all, publishes_next, remove, remove_if, last_will, will_after, leaves_behind, close, subscribed, unsubscribed, retained_copies}
 use Rattle.mq_route.specs.Arrives.{Growth, granted, due, answers, answers_all, replies, greeting, terms_of, resume_session, new_session, start_session, take_over, goes_on, accept_connect, on_connect, on_first_packet, dispatch_packet, touched_on, arrives, takes, closes_by, broken, on_malformed}
-use Rattle.mq_route.specs.Step.{holding, Comes, Arrives, Waits, Breaks, Starves, LetsGo, Ticks, Done, InTime, Late, Later, Does, ended_open, told}
+use Rattle.mq_route.specs.Step.{holding, Comes, Arrives, Waits, Breaks, Starves, LetsGo, Ticks, Done, InTime, Late, Does, ended_open, told}
 use Rattle.mq_route.specs.Runs.{Episode, Follows}
 use Rattle.mq_route.specs.Dropped.{when_over}
 use Rattle.mq_route.specs.Accepted.{Placing, AreAccepts, placed_for, placings, in_share, in_will, in_leaving, in_close, in_answer, in_answers, in_replies, in_take_over, in_welcome, in_first, in_packet, in_takes, in_breaks, in_comes, in_ticks, in_step, AcceptLaws}
@@ -616,7 +616,6 @@ module _ (capacity : ℕ) (ids : IdentifierLaws) (next : NextLaws) (sound : Soun
       let u = close x.conn (Own reasons.KeepAlive) fits v in
       let c = close_goes x.conn (Own reasons.KeepAlive) fits v h in
       go_on v u v2 (in_close x.conn (Own reasons.KeepAlive) fits v) (in_ticks now ys u v2 more) c (ticks_go now ys u v2 more c.kept)
-  ticks_go now xs w w2 (Later x ys v late) h = quiet v v (λ c. refl) h
 
   ended_goes : (k : Conn) (alive fits : Bool) (w : Work) → Kept w → Goes w (cond alive (in_close k PeerEnded fits w) []) (ended_open k alive fits w)
   ended_goes k true fits w h = close_goes k PeerEnded fits w h

@@ -28,7 +28,7 @@ use Rattle.mq_route.specs.Hub.{HubState, HubSession, HubConnection, new_end, no_
 use Rattle.mq_route.specs.Welcome.{client_of, refusal, login_refusal, is_unavailable, ends_on}
 use Rattle.mq_route.specs.Work.{Work, said, with_connections, with_sessions, staged, shut, put_on, put_where, does, have_room, remove, will_after, leaves_behind, close}
 use Rattle.mq_route.specs.Arrives.{Growth, due, answers, answers_all, replies, greeting, terms_of, resume_session, new_session, start_session, take_over, goes_on, accept_connect, on_connect, on_first_packet, dispatch_packet, touched, touched_on, arrives, noted, takes, closes_by, broken, on_malformed}
-use Rattle.mq_route.specs.Step.{holding, Comes, Arrives, Waits, Breaks, Starves, LetsGo, Ticks, Done, InTime, Late, Later, ended_open}
+use Rattle.mq_route.specs.Step.{holding, Comes, Arrives, Waits, Breaks, Starves, LetsGo, Ticks, Done, InTime, Late, ended_open}
 use Rattle.mq_route.proofs.Lines.{one_conn, upper, up_is, upper_none, conn_in, Mild, stage_here, fresh_known}
 use Rattle.mq_route.proofs.Uppers.{IsIdle, unless, upper_at, upper_stage}
 use Rattle.mq_route.proofs.Sessions.{has, has_new, end_new, key_there}
@@ -291,7 +291,6 @@ module _ (R : Debt → Work → Type 0) (May : HubClose → Type 0) (Near : Bool
   ticks_both near now xs w w2 (InTime x ys v v2 soon more) h = ticks_both near now ys v v2 more h
   ticks_both near now xs w w2 (Late x ys fits v v2 late more) h =
       ticks_both near now ys (close x.conn (Own reasons.KeepAlive) fits v) v2 more (close_both x.conn (Own reasons.KeepAlive) fits v (near fits v) (ways.own reasons.KeepAlive) h)
-  ticks_both near now xs w w2 (Later x ys v late) h = h
 
   pub ended_both : (k : Conn) (alive fits : Bool) (w : Work) → Near fits w → Both nothing w → Both nothing (ended_open k alive fits w)
   ended_both k true fits w near h = close_both k PeerEnded fits w near ways.peer h

@@ -1,4 +1,5 @@
-//! What comes on a connection of a broker is no packet, or memory runs out for it (4.8).
+//! Closes a connection on which no further packet can be read, because its bytes are malformed or
+//! memory ran out (4.8).
 
 ghost use Rattle.std.specs.Prelude.{◌≡◌, ◌≤◌, Bool, List, ℕ, Err, true, OnOk, OnErr};
 ghost use Rattle.mq_decode.specs.Grammar.{IsFront};
@@ -6,8 +7,8 @@ ghost use Rattle.mq_decode.specs.Limits.{Bounds};
 ghost use Rattle.mq_route.specs.Arrives.{on_malformed};
 ghost use Rattle.mq_route.specs.Hub.{is_open, stage_of};
 ghost use Rattle.mq_route.specs.Work.{close};
-ghost use Rattle.mq_hub.specs.Coming.{RefinesBytes};
-ghost use Rattle.mq_hub.specs.Does.{Refines};
+ghost use Rattle.mq_hub.specs.Inside.Input.{RefinesBytes};
+ghost use Rattle.mq_hub.specs.Inside.Refinement.{Refines};
 
 use crate::acts::ActLog;
 use crate::hub::HubOver;
@@ -18,52 +19,51 @@ use mq_topic::FilterStore;
 use std::alloc::AllocError;
 
 impl<S: FilterStore> HubOver<S> {
-    /// Bytes that are no packet come on an open connection (4.8), which closes. Fails if memory runs out, and then nothing changes.
+    /// Closes an open connection on which malformed bytes came (4.8).
     pub(crate) fn on_malformed(
         &mut self,
         conn: Conn,
         fault: DecodeFault,
-        doings: &mut ActLog,
+        log: &mut ActLog,
     ) -> Result<(), AllocError>
         requires open { is_open (stage_of conn self.old.connections) ≡ true }
-        requires room { 3 ≤ doings.old.room }
-        ensures goes { OnOk result ((fits : Bool) × Refines (on_malformed conn fault fits) self.old doings.old.acts self.new doings.new.acts) }
+        requires room { 3 ≤ log.old.room }
+        ensures goes { OnOk result ((fits : Bool) × Refines (on_malformed conn fault fits) self.old log.old.acts self.new log.new.acts) }
         ensures err { OnErr result (self.new ≡ self.old) }
-        ensures acts { OnErr result (doings.new.acts ≡ doings.old.acts) }
-        ensures kept { OnErr result (3 ≤ doings.new.room) }
+        ensures acts { OnErr result (log.new.acts ≡ log.old.acts) }
+        ensures kept { OnErr result (3 ≤ log.new.room) }
     {
         match self.key(conn) {
             Some(_) => {
                 let why = HubClose::Own(CloseReason::Fault(fault));
-                self.close(conn, why, doings);
+                self.close(conn, why, log);
                 Ok(())
             }
-            None => self.breaks_first(conn, fault, doings),
+            None => self.on_malformed_first(conn, fault, log),
         }
     }
 
-    /// An open connection is closed because memory ran out.
-    pub(crate) fn close_out_of_memory(&mut self, conn: Conn, doings: &mut ActLog)
+    pub(crate) fn close_out_of_memory(&mut self, conn: Conn, log: &mut ActLog)
         requires open { is_open (stage_of conn self.old.connections) ≡ true }
-        requires room { 3 ≤ doings.old.room }
-        ensures goes { (fits : Bool) × Refines (close conn (HubClose.Own CloseReason.Memory) fits) self.old doings.old.acts self.new doings.new.acts }
+        requires room { 3 ≤ log.old.room }
+        ensures goes { (fits : Bool) × Refines (close conn (HubClose.Own CloseReason.Memory) fits) self.old log.old.acts self.new log.new.acts }
     {
-        self.close(conn, HubClose::Own(CloseReason::Memory), doings);
+        self.close(conn, HubClose::Own(CloseReason::Memory), log);
     }
 
     /// Closes an open connection on which no further packet can be read.
-    pub(crate) fn on_decode_error(&mut self, conn: Conn, error: DecodeError, doings: &mut ActLog)
+    pub(crate) fn on_decode_error(&mut self, conn: Conn, error: DecodeError, log: &mut ActLog)
         requires open { is_open (stage_of conn self.old.connections) ≡ true }
-        requires room { 3 ≤ doings.old.room }
+        requires room { 3 ≤ log.old.room }
         ensures comes { (limits : Bounds) (b : List ℕ) → IsFront limits b (Err error)
-            → RefinesBytes limits conn b self.old doings.old.acts self.new doings.new.acts }
+            → RefinesBytes limits conn b self.old log.old.acts self.new log.new.acts }
     {
         match error {
-            DecodeError::Fault(fault) => match self.on_malformed(conn, fault, doings) {
+            DecodeError::Fault(fault) => match self.on_malformed(conn, fault, log) {
                 Ok(()) => {}
-                Err(_) => self.close_out_of_memory(conn, doings),
+                Err(_) => self.close_out_of_memory(conn, log),
             },
-            DecodeError::Memory => self.close_out_of_memory(conn, doings),
+            DecodeError::Memory => self.close_out_of_memory(conn, log),
         }
     }
 }

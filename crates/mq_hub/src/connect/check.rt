@@ -1,11 +1,11 @@
-//! Whether a CONNECT is accepted, and for which session (3.1.3.1, 3.1.3.4, 3.2.2.3).
+//! The checks of a CONNECT, and the client identifier of its session (3.1.3.1, 3.1.3.4, 3.2.2.3).
 
 ghost use Rattle.std.specs.Prelude.{◌≡◌, ℕ, ◌==◌, ◌&&◌, not, Option, length, IfOk};
 ghost use Rattle.std.specs.List.{list_any};
 ghost use Rattle.mq_route.specs.Hub.{HubState, key_of};
-ghost use Rattle.mq_hub.specs.Welcome.{IsCounted, IsStanding};
+ghost use Rattle.mq_hub.specs.Inside.ConnectChecks.{IsCounted, IsStatusOf};
 ghost use Rattle.mq_route.specs.Welcome.{client_of, has_password, is_one_of, is_unavailable, login_refusal, made_up, made_up_from, refusal};
-ghost use Rattle.mq_hub.specs.Sessions.{sessions_of};
+ghost use Rattle.mq_hub.specs.Inside.Sessions.{sessions_of};
 
 use crate::sessions::table::Sessions;
 use mq_packet::{Connect, Login, RefusalCode};
@@ -13,7 +13,7 @@ use mq_route::{HubConfig, User};
 use mq_wire::Text;
 use std::alloc::{AllocError, Global};
 
-// The identifier that the broker makes up of a number (3.1.3.1).
+// The client identifier that the broker makes from a number (3.1.3.1).
 fn made_up(alloc: Global, number: usize) -> Result<Text, AllocError>
     ensures { IfOk result (λ name. name ≡ made_up number) }
 {
@@ -25,10 +25,10 @@ fn made_up(alloc: Global, number: usize) -> Result<Text, AllocError>
     }
 }
 
-// The identifier with the least number that no session has (3.1.3.1).
+// The made-up client identifier with the least number that no session has (3.1.3.1).
 fn least_made_up(alloc: Global, sessions: &Sessions) -> Result<Text, AllocError>
     ensures { IfOk result (λ name. name
-        ≡ made_up_from (length (sessions_of sessions.now.tenants)) 0 (sessions_of sessions.now.tenants)) }
+        ≡ made_up_from (length (sessions_of sessions.now.list)) 0 (sessions_of sessions.now.list)) }
 {
     let most = sessions.len();
     for number in 0..most {
@@ -40,13 +40,14 @@ fn least_made_up(alloc: Global, sessions: &Sessions) -> Result<Text, AllocError>
     made_up(alloc, most)
 }
 
-/// The client identifier of the session that a CONNECT is for: its own, or where it has none one of the broker's (3.1.3.1).
+/// Returns the client identifier of the session that a CONNECT is for: its own, or one that the
+/// broker makes up if it is empty (3.1.3.1).
 pub(crate) fn client_of(
     alloc: Global,
     connect: &Connect,
     sessions: &Sessions,
 ) -> Result<Text, AllocError>
-    ensures { IfOk result (λ name. name ≡ client_of connect.now (sessions_of sessions.now.tenants)) }
+    ensures { IfOk result (λ name. name ≡ client_of connect.now (sessions_of sessions.now.list)) }
 {
     if connect.client_id.as_str().is_empty() {
         return least_made_up(alloc, sessions);
@@ -65,7 +66,6 @@ fn has_user(users: &[User], name: &str, password: &[u8]) -> bool
     )
 }
 
-// Whether a login is of one of these users (3.1.3.4, 3.1.3.5).
 fn is_one_of(users: &[User], login: &Login) -> bool
     ensures { result ≡ is_one_of users.now login.now.name login.now.password }
 {
@@ -75,8 +75,8 @@ fn is_one_of(users: &[User], login: &Login) -> bool
     }
 }
 
-/// Why a login is refused, where it is: there is a table of users, and none of them logs in, or not with this password
-/// (3.1.3.4, 3.1.3.5).
+/// Returns the code with which the login of a CONNECT is refused (3.1.3.4, 3.1.3.5). Without a
+/// table of users every login is accepted.
 pub(crate) fn login_refusal(config: &HubConfig, connect: &Connect) -> Option<RefusalCode>
     ensures { result ≡ login_refusal config.now.users connect.now.login }
 {
@@ -90,38 +90,39 @@ pub(crate) fn login_refusal(config: &HubConfig, connect: &Connect) -> Option<Ref
     }
 }
 
-/// The numbers of a broker that bound who may connect.
+/// The numbers that limit who may connect.
 #[derive(Clone, Copy)]
 pub(crate) struct Counts {
-    /// How many connections are up.
+    /// The number of connected clients.
     pub(crate) up: usize,
-    /// How many sessions there are.
+    /// The number of sessions.
     pub(crate) sessions: usize,
-    /// The key that the next new session gets.
+    /// The key of the next new session.
     pub(crate) next_key: u64,
 }
 
-/// How the session of a client stands.
+/// The state of a client's session.
 #[derive(Clone, Copy)]
-pub(crate) struct Standing {
-    /// The client is up on a connection.
+pub(crate) struct SessionStatus {
+    /// The client is connected.
     pub(crate) is_up: bool,
     /// The session ends with that connection (3.1.2.4).
     pub(crate) ends: bool,
 }
 
-// Whether there is no place for a session, or no key for a new one (3.2.2.3).
+// Whether the broker has no place for the connection or the session, or no key for a new session
+// (3.2.2.3).
 fn is_unavailable(
     config: &HubConfig,
     connect: &Connect,
-    standing: Option<Standing>,
+    status: Option<SessionStatus>,
     counts: Counts,
 ) -> bool
-    ensures { (h : HubState) (key : Option ℕ) → h.config ≡ config.now → IsCounted counts h → IsStanding standing key h
+    ensures { (h : HubState) (key : Option ℕ) → h.config ≡ config.now → IsCounted counts h → IsStatusOf status key h
         → result ≡ is_unavailable connect.now key h }
 {
-    let (stands, is_up, ends) = match standing {
-        Some(standing) => (true, standing.is_up, standing.ends),
+    let (stands, is_up, ends) = match status {
+        Some(status) => (true, status.is_up, status.ends),
         None => (false, false, false),
     };
     let up = counts.up.saturating_sub(if is_up { 1 } else { 0 });
@@ -131,23 +132,23 @@ fn is_unavailable(
         || (needs_new && counts.next_key >= 0x1_0000_0000)
 }
 
-// Whether the identifier of a CONNECT is refused: it has none, and asks for a session that goes on (3.1.3.1).
+// Whether the identifier is empty although the session is to continue (3.1.3.1).
 fn is_rejected(connect: &Connect) -> bool
     ensures { result ≡ (length connect.now.client_id == 0 && not connect.now.clean_session) }
 {
     connect.client_id.as_str().is_empty() && !connect.clean_session
 }
 
-/// Why a CONNECT is refused, where it is: the first reason that stands (3.1.3.1, 3.1.3.4, 3.2.2.3). `standing` is how the
-/// session of its client stands.
+/// Returns the code of the first check that a CONNECT fails (3.1.3.1, 3.1.3.4, 3.2.2.3), or `None`
+/// if it passes all. `status` is `None` if its client has no session.
 pub(crate) fn refusal(
     config: &HubConfig,
     connect: &Connect,
-    standing: Option<Standing>,
+    status: Option<SessionStatus>,
     counts: Counts,
 ) -> Option<RefusalCode>
     ensures { (h : HubState) → h.config ≡ config.now → IsCounted counts h
-        → IsStanding standing (key_of (client_of connect.now h.sessions) h.sessions) h → result ≡ refusal connect.now h }
+        → IsStatusOf status (key_of (client_of connect.now h.sessions) h.sessions) h → result ≡ refusal connect.now h }
 {
     if is_rejected(connect) {
         return Some(RefusalCode::IdentifierRejected);
@@ -155,7 +156,7 @@ pub(crate) fn refusal(
     if let Some(code) = login_refusal(config, connect) {
         return Some(code);
     }
-    if is_unavailable(config, connect, standing, counts) {
+    if is_unavailable(config, connect, status, counts) {
         return Some(RefusalCode::ServerUnavailable);
     }
     None

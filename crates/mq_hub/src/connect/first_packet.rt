@@ -1,11 +1,11 @@
-//! What comes first on a connection of a broker (3.1, 4.8).
+//! Closes a connection whose first packet is malformed or is not CONNECT (3.1, 4.8).
 
 ghost use Rattle.std.specs.Prelude.{◌≡◌, ◌+◌, ◌≤◌, ◌<◌, Bool, false, OnOk, OnErr};
 ghost use Rattle.mq_end.specs.State.{is_level};
 ghost use Rattle.mq_route.specs.Arrives.{on_first_packet, on_malformed};
 ghost use Rattle.mq_route.specs.Hub.{stage_of};
-ghost use Rattle.mq_hub.specs.Does.{Refines};
-ghost use Rattle.mq_hub.specs.Welcome.{is_connect};
+ghost use Rattle.mq_hub.specs.Inside.Refinement.{Refines};
+ghost use Rattle.mq_hub.specs.Inside.ConnectChecks.{is_connect};
 
 use crate::acts::ActLog;
 use crate::hub::HubOver;
@@ -16,7 +16,7 @@ use mq_route::{Conn, ConnectionState, HubClose};
 use mq_topic::FilterStore;
 use std::alloc::AllocError;
 
-// Whether a CONNECT is of another level of the protocol (3.1.2.2).
+// Whether a CONNECT asks for another protocol level (3.1.2.2).
 fn is_level(kind: FaultKind) -> bool
     ensures { result ≡ is_level kind }
 {
@@ -24,37 +24,37 @@ fn is_level(kind: FaultKind) -> bool
 }
 
 impl<S: FilterStore> HubOver<S> {
-    /// Bytes that are no packet come on a connection that waits for its CONNECT (4.8): a CONNECT of another level of the protocol is
-    /// answered (3.1.2.2), and the connection is closed. Out of memory, nothing changes.
-    pub(crate) fn breaks_first(
+    /// Closes a connection that waits for its CONNECT and got malformed bytes (4.8). A CONNECT of
+    /// another protocol level is answered first (3.1.2.2).
+    pub(crate) fn on_malformed_first(
         &mut self,
         conn: Conn,
         fault: DecodeFault,
-        doings: &mut ActLog,
+        log: &mut ActLog,
     ) -> Result<(), AllocError>
         requires fresh { stage_of conn self.old.connections ≡ ConnectionState.AwaitingConnect }
-        requires room { 0 < doings.old.room }
-        ensures goes { OnOk result ((fits : Bool) → Refines (on_malformed conn fault fits) self.old doings.old.acts self.new doings.new.acts) }
-        ensures room { doings.old.room ≤ doings.new.room + 1 }
+        requires room { 0 < log.old.room }
+        ensures goes { OnOk result ((fits : Bool) → Refines (on_malformed conn fault fits) self.old log.old.acts self.new log.new.acts) }
+        ensures room { log.old.room ≤ log.new.room + 1 }
         ensures err { OnErr result (self.new ≡ self.old) }
-        ensures unsaid { OnErr result (doings.new ≡ doings.old) }
+        ensures unsaid { OnErr result (log.new ≡ log.old) }
     {
         if is_level(fault.kind) {
-            return self.refuse(conn, RefusalCode::UnacceptableProtocolVersion, doings);
+            return self.refuse(conn, RefusalCode::UnacceptableProtocolVersion, log);
         }
-        self.close_idle(conn, HubClose::Own(CloseReason::Fault(fault)), doings);
+        self.close_idle(conn, HubClose::Own(CloseReason::Fault(fault)), log);
         Ok(())
     }
 
-    /// A packet that is not CONNECT comes on a connection that waits for it (3.1): the connection is closed. It takes no memory.
-    pub(crate) fn first_is_wrong(&mut self, conn: Conn, packet: &Packet, doings: &mut ActLog)
+    /// Closes a connection whose first packet is not CONNECT (3.1).
+    pub(crate) fn on_wrong_first_packet(&mut self, conn: Conn, packet: &Packet, log: &mut ActLog)
         requires fresh { stage_of conn self.old.connections ≡ ConnectionState.AwaitingConnect }
         requires other { is_connect packet.now ≡ false }
-        requires room { 0 < doings.old.room }
-        ensures goes { (fits : Bool) → Refines (on_first_packet conn packet.now fits) self.old doings.old.acts self.new doings.new.acts }
-        ensures room { doings.old.room ≤ doings.new.room + 1 }
+        requires room { 0 < log.old.room }
+        ensures goes { (fits : Bool) → Refines (on_first_packet conn packet.now fits) self.old log.old.acts self.new log.new.acts }
+        ensures room { log.old.room ≤ log.new.room + 1 }
     {
         let _ = packet;
-        self.close_idle(conn, HubClose::Own(CloseReason::Unexpected), doings);
+        self.close_idle(conn, HubClose::Own(CloseReason::Unexpected), log);
     }
 }

@@ -1,4 +1,5 @@
-//! A CONNECT takes a session over that goes on (3.1.4): it is not refused after the connection before it was closed.
+//! Takes over a session that resumes (3.1.4). All memory is reserved before the old connection is
+//! closed, so that the CONNECT cannot fail afterwards.
 
 ghost use Rattle.std.specs.Prelude.{◌≡◌, ◌+◌, ◌≤◌, ◌<◌, ◌^◌, ◌==◌, ℕ, List, [], Bool, true, false, Some, None, length, IfOk, IfSome, IsSome, OnOk, OnErr};
 ghost use Rattle.std.specs.Option.{option_copied};
@@ -8,13 +9,13 @@ ghost use Rattle.mq_route.specs.declared.close.HubClose.TheVariants.{TakenOver};
 ghost use Rattle.mq_route.specs.Arrives.{resume_session};
 ghost use Rattle.mq_route.specs.Hub.{is_clean, key_on, stage_of, up_on, with_connection};
 ghost use Rattle.mq_route.specs.Work.{close};
-ghost use Rattle.mq_hub.specs.Does.{Refines};
-ghost use Rattle.mq_hub.specs.Keeps.{IsWillWithin};
-ghost use Rattle.mq_hub.specs.Leaving.{left_with, parts, will_left};
-ghost use Rattle.mq_hub.specs.Placing.{AreSameButRoom, AreStillReady};
-ghost use Rattle.mq_hub.specs.Proceeding.{AreHubs, Proceeds};
-ghost use Rattle.mq_hub.specs.Rising.{left, will_messages, HasRiseAt, IsGreeted};
-ghost use Rattle.mq_hub.specs.Sessions.{tenant_of, with_server};
+ghost use Rattle.mq_hub.specs.Inside.Refinement.{Refines};
+ghost use Rattle.mq_hub.specs.Inside.Invariant.{IsWillWithin};
+ghost use Rattle.mq_hub.specs.Inside.Close.{left_with, parts, will_left};
+ghost use Rattle.mq_hub.specs.Inside.Placement.{AreSameButRoom, AreStillReady};
+ghost use Rattle.mq_hub.specs.Inside.TableSteps.{AreHubTables, Proceeds};
+ghost use Rattle.mq_hub.specs.Inside.ConnectRoom.{left, will_messages, HasConnectRoomAt, HasConnected};
+ghost use Rattle.mq_hub.specs.Inside.Sessions.{session_at, with_server};
 
 use crate::acts::ActLog;
 use crate::close::disconnect::will_left;
@@ -28,7 +29,7 @@ use mq_route::{Act, Conn, ConnectionState, ConnectionTerms, HubClose};
 use mq_topic::{ClientKey, FilterStore};
 use std::alloc::{AllocError, Global};
 
-// The will that is left where a connection is taken over that is so far (3.1.2.5).
+// The will that a take-over of a connection leaves to publish (3.1.2.5).
 fn will_of(stage: &ConnectionState) -> Option<&Will>
     ensures { option_copied result ≡ will_left TakenOver stage.now }
 {
@@ -39,43 +40,44 @@ fn will_of(stage: &ConnectionState) -> Option<&Will>
 }
 
 impl<S: FilterStore> Tables<S> {
-    /// Makes room for a connection to come up by this CONNECT for the session of a key, and then for messages (3.2, 4.4). Out of memory, the
-    /// tables stay, but for their room.
+    /// Makes room for a session to resume with this CONNECT and then to send these messages (3.2,
+    /// 4.4). On `Err` only reserved capacity may have changed.
     pub(crate) fn reserve_connect(
         &mut self,
         key: ClientKey,
         connect: &Connect,
         messages: &[Message],
     ) -> Result<(), AllocError>
-        requires { IsSome (tenant_of key self.old.sessions.tenants) }
-        ensures ok { OnOk result (HasRiseAt connect.now key messages.now 0 self.new.sessions.tenants) }
-        ensures rises { OnOk result (0 < self.new.connections.rises) }
+        requires { IsSome (session_at key self.old.sessions.list) }
+        ensures ok { OnOk result (HasConnectRoomAt connect.now key messages.now 0 self.new.sessions.list) }
+        ensures up_room { OnOk result (0 < self.new.connections.up_room) }
         ensures connections { self.new.connections.connections ≡ self.old.connections.connections }
         ensures limits { self.new.connections.limits ≡ self.old.connections.limits }
-        ensures alike { AreSameButRoom self.old.sessions.tenants self.new.sessions.tenants }
-        ensures still { AreStillReady self.old.sessions.tenants self.new.sessions.tenants }
+        ensures alike { AreSameButRoom self.old.sessions.list self.new.sessions.list }
+        ensures still { AreStillReady self.old.sessions.list self.new.sessions.list }
         ensures rest { self.new ≡ record self.old { sessions = self.new.sessions; connections = self.new.connections } }
         ensures small { self.new.connections.limits.most < 2 ^ 28 }
     {
-        // The limit is within what a remaining length can be (2.2.3), and so is what is within the limit.
+        // Brings the bound of the limit (2.2.3) into the proof.
         let _ = self.connections.limits().max_packet();
         self.connections.reserve(1)?;
         self.sessions.reserve_connect(key, connect, messages)
     }
 
-    /// A copy of the bytes that wait in the end of the session of a key. Fails if memory runs out.
+    /// Returns a copy of the pending output of a session's end.
     pub(crate) fn copy_output(&self, alloc: Global, key: ClientKey) -> Result<ByteQueue, AllocError>
-        ensures { IfOk result (λ b. IfSome (tenant_of key self.now.sessions.tenants) (λ t. b ≡ t.end.output)) }
+        ensures { IfOk result (λ b. IfSome (session_at key self.now.sessions.list) (λ t. b ≡ t.end.output)) }
     {
         let mut copy = ByteQueue::new(alloc);
-        if let Some(tenant) = self.sessions.get(key) {
-            copy.append(tenant.end.output())?;
+        if let Some(session) = self.sessions.get(key) {
+            copy.append(session.end.output())?;
         }
         Ok(copy)
     }
 
-    /// A connection on which the client of a session is up is closed: its session's end loses it and keeps its room, and a copy of the bytes
-    /// that wait there is the connection's then (3.1.2.4, 4.8). It says how far the connection was. It takes no memory.
+    /// Closes a connection on which a client is connected. Its pending output is replaced by
+    /// `output`, a copy of it, and the session's end keeps its room (3.1.2.4, 4.8). Returns the
+    /// state before.
     pub(crate) fn detach_with(
         &mut self,
         conn: Conn,
@@ -83,18 +85,18 @@ impl<S: FilterStore> Tables<S> {
         waiting: ByteQueue,
     ) -> ConnectionState
         requires up { key_on (stage_of conn self.old.connections.connections) ≡ Some key }
-        requires there { IsSome (tenant_of key self.old.sessions.tenants) }
-        requires waiting { IfSome (tenant_of key self.old.sessions.tenants) (λ t. waiting ≡ t.end.output) }
+        requires there { IsSome (session_at key self.old.sessions.list) }
+        requires waiting { IfSome (session_at key self.old.sessions.list) (λ t. waiting ≡ t.end.output) }
         ensures stage { result ≡ stage_of conn self.old.connections.connections }
-        ensures tenants { IfSome (tenant_of key self.old.sessions.tenants) (λ t.
-            self.new.sessions.tenants ≡ with_server key (left t.end) self.old.sessions.tenants) }
-        ensures connections { IfSome (tenant_of key self.old.sessions.tenants) (λ t.
+        ensures list { IfSome (session_at key self.old.sessions.list) (λ t.
+            self.new.sessions.list ≡ with_server key (left t.end) self.old.sessions.list) }
+        ensures connections { IfSome (session_at key self.old.sessions.list) (λ t.
             self.new.connections.connections ≡ with_connection (left_with t.end.output) conn self.old.connections.connections) }
         ensures limits { self.new.connections.limits ≡ self.old.connections.limits }
         ensures room { self.new.sessions.room ≡ self.old.sessions.room }
-        ensures rises { self.old.connections.rises ≤ self.new.connections.rises }
-        ensures connect_end { (c : Connect) (ms : List Message) (more : ℕ) → HasRiseAt c key ms more self.old.sessions.tenants
-            → HasRiseAt c key ms more self.new.sessions.tenants }
+        ensures up_room { self.old.connections.up_room ≤ self.new.connections.up_room }
+        ensures connect_end { (c : Connect) (ms : List Message) (more : ℕ) → HasConnectRoomAt c key ms more self.old.sessions.list
+            → HasConnectRoomAt c key ms more self.new.sessions.list }
         ensures rest { self.new ≡ record self.old { sessions = self.new.sessions; connections = self.new.connections } }
     {
         let mut output = waiting;
@@ -104,8 +106,8 @@ impl<S: FilterStore> Tables<S> {
         stage
     }
 
-    /// A connection that waits for its CONNECT is up for a session, whose end has room for it and takes it in (3.1.4, 3.2). It takes no
-    /// memory.
+    /// Connects a connection for a session, whose end has room for the CONNECT and processes it
+    /// (3.1.4, 3.2).
     pub(crate) fn resume_when_ready(
         &mut self,
         conn: Conn,
@@ -116,9 +118,9 @@ impl<S: FilterStore> Tables<S> {
     )
         requires stage { stage_of conn self.old.connections.connections ≡ ConnectionState.AwaitingConnect }
         requires client { up_on key self.old.connections.connections ≡ None }
-        requires room { 0 < self.old.connections.rises }
-        requires ready { HasRiseAt connect key [] 0 self.old.sessions.tenants }
-        ensures tenants { IsGreeted connect now key self.old.sessions.tenants self.new.sessions.tenants }
+        requires room { 0 < self.old.connections.up_room }
+        requires ready { HasConnectRoomAt connect key [] 0 self.old.sessions.list }
+        ensures list { HasConnected connect now key self.old.sessions.list self.new.sessions.list }
         ensures connections { self.new.connections.connections
             ≡ with_connection (λ x. record x { stage = ConnectionState.ConnectedAs key terms now }) conn self.old.connections.connections }
         ensures limits { self.new.connections.limits ≡ self.old.connections.limits }
@@ -130,7 +132,7 @@ impl<S: FilterStore> Tables<S> {
 }
 
 impl<S: FilterStore> Tables<S> {
-    // The will that is left where a connection is taken over (3.1.2.5).
+    // The will that a take-over of a connection leaves to publish (3.1.2.5).
     fn will_on(&self, conn: Conn) -> Option<&Will>
         ensures { option_copied result ≡ will_left TakenOver (stage_of conn self.now.connections.connections) }
     {
@@ -140,7 +142,7 @@ impl<S: FilterStore> Tables<S> {
         }
     }
 
-    // The message of that will, in a list, which is empty where there is none. It shares the bytes of the will.
+    // The message of that will as a list of at most one. It shares the bytes of the will.
     fn will_messages(&self, alloc: Global, conn: Conn) -> Result<Vec<Message>, AllocError>
         ensures { IfOk result (λ ms. ms.items ≡ will_messages (will_left TakenOver (stage_of conn self.now.connections.connections))) }
     {
@@ -151,71 +153,71 @@ impl<S: FilterStore> Tables<S> {
         Ok(messages)
     }
 
-    // A connection on which the client of a session is up is closed for another (3.1.4), and its session goes on. It gives the will that is
-    // then to be published. It takes no memory, and room to come up by a CONNECT that was there before is left.
+    // Closes the connection of a client for another one (3.1.4) without ending its session. Returns
+    // the will to publish. Room to connect stays reserved.
     fn leave_with(
         &mut self,
         conn: Conn,
         key: ClientKey,
         waiting: ByteQueue,
-        doings: &mut ActLog,
+        log: &mut ActLog,
     ) -> Option<Will>
-        requires hubs { AreHubs self.old }
+        requires hubs { AreHubTables self.old }
         requires up { key_on (stage_of conn self.old.connections.connections) ≡ Some key }
         requires lasts { is_clean (stage_of conn self.old.connections.connections) ≡ false }
-        requires waiting { IfSome (tenant_of key self.old.sessions.tenants) (λ t. waiting ≡ t.end.output) }
-        requires room { 0 < doings.old.room }
-        ensures proceeds { Proceeds (λ fits. parts conn TakenOver key false) self.old doings.old.acts self.new doings.new.acts }
+        requires waiting { IfSome (session_at key self.old.sessions.list) (λ t. waiting ≡ t.end.output) }
+        requires room { 0 < log.old.room }
+        ensures proceeds { Proceeds (λ fits. parts conn TakenOver key false) self.old log.old.acts self.new log.new.acts }
         ensures will { result ≡ will_left TakenOver (stage_of conn self.old.connections.connections) }
         ensures away { up_on key self.new.connections.connections ≡ None }
         ensures limits { self.new.connections.limits ≡ self.old.connections.limits }
-        ensures connect_end { (c : Connect) (ms : List Message) → HasRiseAt c key ms 0 self.old.sessions.tenants
-            → HasRiseAt c key ms 0 self.new.sessions.tenants }
-        ensures room { doings.old.room ≤ doings.new.room + 1 }
+        ensures connect_end { (c : Connect) (ms : List Message) → HasConnectRoomAt c key ms 0 self.old.sessions.list
+            → HasConnectRoomAt c key ms 0 self.new.sessions.list }
+        ensures room { log.old.room ≤ log.new.room + 1 }
     {
         let stage = self.detach_with(conn, key, waiting);
-        doings.say(Act::Closed(conn, HubClose::TakenOver));
+        log.push(Act::Closed(conn, HubClose::TakenOver));
         will_left(HubClose::TakenOver, stage)
     }
 
-    // A connection on which the client of a session is up is closed for another (3.1.4), its session goes on, and its will is published
-    // (3.1.2.5), or said to be dropped. Room to come up by a CONNECT that was there before, beside the will's, is left.
+    // Closes the connection of a client for another one (3.1.4) without ending its session, and
+    // publishes its will or reports it as dropped (3.1.2.5). Room to connect stays reserved.
     fn take_over_keeping(
         &mut self,
         alloc: Global,
         conn: Conn,
         key: ClientKey,
         waiting: ByteQueue,
-        doings: &mut ActLog,
+        log: &mut ActLog,
     )
-        requires hubs { AreHubs self.old }
+        requires hubs { AreHubTables self.old }
         requires up { key_on (stage_of conn self.old.connections.connections) ≡ Some key }
         requires lasts { is_clean (stage_of conn self.old.connections.connections) ≡ false }
-        requires waiting { IfSome (tenant_of key self.old.sessions.tenants) (λ t. waiting ≡ t.end.output) }
-        requires room { 2 ≤ doings.old.room }
-        ensures proceeds { Proceeds (close conn TakenOver) self.old doings.old.acts self.new doings.new.acts }
+        requires waiting { IfSome (session_at key self.old.sessions.list) (λ t. waiting ≡ t.end.output) }
+        requires room { 2 ≤ log.old.room }
+        ensures proceeds { Proceeds (close conn TakenOver) self.old log.old.acts self.new log.new.acts }
         ensures away { up_on key self.new.connections.connections ≡ None }
         ensures connect_end { (c : Connect) → self.old.connections.limits.most < 2 ^ 28
-            → HasRiseAt c key (will_messages (will_left TakenOver (stage_of conn self.old.connections.connections))) 0 self.old.sessions.tenants
-            → HasRiseAt c key [] 0 self.new.sessions.tenants }
-        ensures room { doings.old.room ≤ doings.new.room + 2 }
+            → HasConnectRoomAt c key (will_messages (will_left TakenOver (stage_of conn self.old.connections.connections))) 0 self.old.sessions.list
+            → HasConnectRoomAt c key [] 0 self.new.sessions.list }
+        ensures room { log.old.room ≤ log.new.room + 2 }
     {
-        let will = self.leave_with(conn, key, waiting, doings);
-        self.last_will(alloc, key, will, doings);
+        let will = self.leave_with(conn, key, waiting, log);
+        self.last_will(alloc, key, will, log);
     }
 }
 
 impl<S: FilterStore> HubOver<S> {
-    /// A CONNECT that is not refused comes on a connection that waits for it, of a client that is up on another, and its session goes on
-    /// (3.1.4, 3.1.2.4): that one is closed first, and its will is published (3.1.2.5) or said to be dropped; then CONNACK and what is not
-    /// acknowledged go out (4.4). Out of memory, nothing changes.
+    /// Accepts a CONNECT of a client that is connected on another connection and whose session
+    /// resumes (3.1.2.4, 3.1.4). That connection is closed first, and its will is published or
+    /// reported as dropped (3.1.2.5). Then CONNACK and the unacknowledged packets are queued (4.4).
     pub(crate) fn take_over_and_resume(
         &mut self,
         conn: Conn,
         connect: BoxedConnect,
         key: ClientKey,
         other: Conn,
-        doings: &mut ActLog,
+        log: &mut ActLog,
     ) -> Result<(), AllocError>
         requires fresh { stage_of conn self.old.connections ≡ ConnectionState.AwaitingConnect }
         requires up { key_on (stage_of other self.old.connections) ≡ Some key }
@@ -223,25 +225,25 @@ impl<S: FilterStore> HubOver<S> {
         requires goes_on { connect.clean_session ≡ false }
         requires named { (length connect.client_id == 0) ≡ false }
         requires will { IsWillWithin self.old.config.limits.most connect.will }
-        requires room { 3 ≤ doings.old.room }
+        requires room { 3 ≤ log.old.room }
         ensures goes { OnOk result ((fits : Bool)
-            × Refines (λ w. resume_session conn connect key (close other TakenOver fits w)) self.old doings.old.acts self.new doings.new.acts) }
-        ensures room { OnOk result (3 ≤ doings.new.room) }
+            × Refines (λ w. resume_session conn connect key (close other TakenOver fits w)) self.old log.old.acts self.new log.new.acts) }
+        ensures room { OnOk result (3 ≤ log.new.room) }
         ensures err { OnErr result (self.new ≡ self.old) }
-        ensures err_acts { OnErr result (doings.new.acts ≡ doings.old.acts) }
-        ensures err_room { OnErr result (3 ≤ doings.new.room) }
+        ensures err_acts { OnErr result (log.new.acts ≡ log.old.acts) }
+        ensures err_room { OnErr result (3 ≤ log.new.room) }
     {
         let terms = terms_of(connect.as_connect())?;
         let waiting = self.tables.copy_output(self.alloc, key)?;
         let messages = self.tables.will_messages(self.alloc, other)?;
-        doings.reserve_beside(3)?;
+        log.reserve_more(3)?;
         self.tables
             .reserve_connect(key, connect.as_connect(), messages.as_slice())?;
         self.tables
-            .take_over_keeping(self.alloc, other, key, waiting, doings);
+            .take_over_keeping(self.alloc, other, key, waiting, log);
         self.tables
             .resume_when_ready(conn, key, connect, terms, self.clock);
-        doings.say(Act::Up(conn, key, true));
+        log.push(Act::Up(conn, key, true));
         Ok(())
     }
 }

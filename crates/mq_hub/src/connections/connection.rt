@@ -1,10 +1,10 @@
-//! A connection at a broker (4.2).
+//! One connection (4.2).
 
 ghost use Rattle.std.specs.Prelude.{◌≡◌, ◌≤◌, ℕ, [], None, false, IfOk, IsFalse, OnOk, OnErr};
 ghost use Rattle.mq_route.specs.Arrives.{touched};
 ghost use Rattle.mq_route.specs.Hub.{key_on};
 ghost use Rattle.mq_route.specs.Step.{is_late_on};
-ghost use Rattle.mq_hub.specs.Connections.{line_of, IsReading, IsTimely};
+ghost use Rattle.mq_hub.specs.Inside.Connections.{connection_of, IsReading, IsTimely};
 ghost use Rattle.mq_end.specs.KeepAlive.{is_late};
 
 use bytes::Bytes;
@@ -16,20 +16,21 @@ use std::alloc::{AllocError, Global};
 use std::marker::Model;
 use std::mem;
 
-/// A connection, with what of it no session has (4.2).
+/// The part of a connection that belongs to no session (4.2).
 #[derive(Drop)]
 pub(crate) struct Connection {
-    /// Its name.
+    /// The name of the connection.
     pub(crate) conn: Conn,
-    /// How far it is.
+    /// The state of the connection.
     pub(crate) stage: ConnectionState,
-    /// Reads what comes, and holds the bytes of the packet that isn't whole.
+    /// Decodes the bytes that come, and holds the incomplete packet.
     pub(crate) decoder: Decoder,
-    /// The bytes that wait to be written while it isn't up.
+    /// Pending output while no client is connected. A connected client's output is in its session's
+    /// end.
     pub(crate) waiting: ByteQueue,
 }
 
-/// A connection behind a box, so that a table of them moves few bytes. Contracts see the connection.
+/// A boxed connection, so that moving it within the table is cheap.
 #[derive(Drop)]
 pub(crate) struct BoxedConnection {
     connection: Box<Connection>,
@@ -43,7 +44,7 @@ impl Model for BoxedConnection {
     ghost view = { λ b. b.connection.value };
 }
 
-// The last moment at which a connection is not late that was heard at this one (3.1.2.10).
+// The last time at which a connection with this last activity is not late (3.1.2.10).
 fn last_in_time(last_activity: u64, keep_alive: u16) -> u64
     ensures { (now : ℕ) → now ≤ result → is_late last_activity keep_alive now ≡ false }
 {
@@ -54,13 +55,13 @@ fn last_in_time(last_activity: u64, keep_alive: u16) -> u64
 }
 
 impl BoxedConnection {
-    /// A connection that is opened (4.2): nothing came, and nothing waits. Fails if memory runs out.
+    /// A new connection, which waits for its CONNECT (4.2).
     pub(crate) fn new(
         alloc: Global,
         conn: Conn,
         limits: Limits,
     ) -> Result<BoxedConnection, AllocError>
-        ensures line { IfOk result (λ c. line_of c ≡ record { conn = conn; stage = ConnectionState.AwaitingConnect; held = []; waiting = [] }) }
+        ensures line { IfOk result (λ c. connection_of c ≡ record { conn = conn; stage = ConnectionState.AwaitingConnect; held = []; waiting = [] }) }
         ensures reading { IfOk result (λ c. IsReading limits c) }
     {
         let connection = Connection {
@@ -73,14 +74,12 @@ impl BoxedConnection {
         Ok(BoxedConnection { connection })
     }
 
-    /// The connection.
     pub(crate) fn connection(&self) -> &Connection
         ensures { result.now ≡ self.now }
     {
         &self.connection
     }
 
-    /// The key of the session for which it is up.
     pub(crate) fn key(&self) -> Option<ClientKey>
         ensures { result ≡ key_on self.now.stage }
     {
@@ -90,7 +89,7 @@ impl BoxedConnection {
         }
     }
 
-    /// The last moment at which it is not late (3.1.2.10).
+    /// The last time at which the connection is not late (3.1.2.10).
     pub(crate) fn last_in_time(&self) -> u64
         ensures { IsTimely result self.now.stage }
     {
@@ -103,10 +102,11 @@ impl BoxedConnection {
         }
     }
 
-    /// It is closed: what it holds of a packet is gone, what waits stays (4.8). It says how far it was.
+    /// Closes the connection (4.8) and returns its state before. The incomplete packet is dropped;
+    /// pending output stays.
     pub(crate) fn shut(&mut self) -> ConnectionState
         ensures stage { result ≡ self.old.stage }
-        ensures line { line_of self.new ≡ record (line_of self.old) { stage = ConnectionState.Closed; held = [] } }
+        ensures line { connection_of self.new ≡ record (connection_of self.old) { stage = ConnectionState.Closed; held = [] } }
         ensures limit { self.new.decoder.limit ≡ self.old.decoder.limit }
         ensures failed { self.new.decoder.failed ≡ None }
     {
@@ -115,7 +115,6 @@ impl BoxedConnection {
         mem::replace(&mut connection.stage, ConnectionState::Closed)
     }
 
-    /// It is up for the session of this key (3.1.4).
     pub(crate) fn connect_end(&mut self, key: ClientKey, terms: ConnectionTerms, now: u64)
         ensures { self.new ≡ record self.old { stage = ConnectionState.ConnectedAs key terms now } }
     {
@@ -123,8 +122,9 @@ impl BoxedConnection {
         connection.stage = ConnectionState::ConnectedAs(key, terms, now);
     }
 
-    /// Whether its last whole packet came after this moment; where not, it is late no sooner if one comes now (3.1.2.10).
-    pub(crate) fn is_heard_after(&self, now: u64) -> bool
+    /// Whether the last packet came after this time. If not, a packet that comes now does not make
+    /// the connection late any sooner (3.1.2.10).
+    pub(crate) fn is_active_after(&self, now: u64) -> bool
         ensures { IsFalse result → (n : ℕ) → is_late_on n self.now.stage ≡ false → is_late_on n (touched now self.now.stage) ≡ false }
     {
         match &self.connection.stage {
@@ -133,7 +133,7 @@ impl BoxedConnection {
         }
     }
 
-    /// The moment of its last whole packet is this (3.1.2.10).
+    /// Records the time of the last packet (3.1.2.10).
     pub(crate) fn touched(&mut self, now: u64)
         ensures { self.new ≡ record self.old { stage = touched now self.old.stage } }
     {
@@ -143,7 +143,6 @@ impl BoxedConnection {
         }
     }
 
-    /// Exchanges its decoder for another. It takes no memory.
     pub(crate) fn swap_decoder(&mut self, decoder: &mut Decoder)
         ensures own { self.new ≡ record self.old { decoder = decoder.old } }
         ensures other { decoder.new ≡ self.old.decoder }
@@ -152,7 +151,7 @@ impl BoxedConnection {
         mem::swap(&mut connection.decoder, decoder);
     }
 
-    /// The bytes that wait are taken, and none is copied. Out of memory they stay.
+    /// Takes the pending output without copying it.
     pub(crate) fn collect(&mut self) -> Result<Bytes, AllocError>
         ensures own { self.new ≡ record self.old { waiting = self.new.waiting } }
         ensures bytes { IfOk result (λ b. b ≡ self.old.waiting) }
@@ -163,7 +162,6 @@ impl BoxedConnection {
         connection.waiting.take_bytes()
     }
 
-    /// Exchanges the bytes that wait for others. It takes no memory.
     pub(crate) fn swap_waiting(&mut self, waiting: &mut ByteQueue)
         ensures own { self.new ≡ record self.old { waiting = waiting.old } }
         ensures other { waiting.new ≡ self.old.waiting }

@@ -1,4 +1,4 @@
-//! A connection is opened at a broker (4.2).
+//! Opens a connection (4.2).
 
 ghost use Rattle.std.specs.Prelude.{◌≡◌, false, IfOk, IfErr, OnErr};
 ghost use Rattle.mq_route.specs.Hub.{knows};
@@ -10,8 +10,7 @@ use mq_route::{Conn, HubEvent, HubRefusal, HubReply};
 use mq_topic::FilterStore;
 
 impl<S: FilterStore> HubOver<S> {
-    /// A connection is opened, whose name isn't known (4.2): its CONNECT is waited for. Fails if memory runs out, and then nothing
-    /// changes.
+    /// Adds a connection, which waits for its CONNECT (4.2).
     pub(crate) fn on_open(&mut self, conn: Conn) -> Result<HubReply, HubRefusal>
         requires { knows conn self.old.connections ≡ false }
         ensures step { IfOk result (λ reply. HubStep self.old (HubEvent.Opened conn) reply self.new) }

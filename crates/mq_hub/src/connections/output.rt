@@ -1,4 +1,4 @@
-//! What waits to be written on a connection is taken from a broker (4.2).
+//! The pending output of a connection (4.2).
 
 ghost use Rattle.std.specs.Prelude.{◌≡◌, true, IfOk, IfErr, OnOk, OnErr};
 ghost use Rattle.mq_route.specs.Hub.{is_open, knows, new_end, stage_of, waiting_on};
@@ -12,21 +12,21 @@ use mq_topic::FilterStore;
 use std::alloc::AllocError;
 
 impl<S: FilterStore> HubOver<S> {
-    /// Whether a connection is open.
     pub(crate) fn is_open(&self, conn: Conn) -> bool
         ensures { result ≡ is_open (stage_of conn self.now.connections) }
     {
         self.is_open_near(conn, 0)
     }
 
-    /// The same of a connection that is looked for at this place first.
+    /// The same as `is_open`. The index is tried before a search.
     pub(crate) fn is_open_near(&self, conn: Conn, place: usize) -> bool
         ensures { result ≡ is_open (stage_of conn self.now.connections) }
     {
         self.tables.is_open_near(conn, place)
     }
 
-    /// The end of a new session (3.1.2.4), which can also be put in the place of a session's for a while. It takes no memory.
+    /// Returns a new server end. It serves a new session, or takes the place of a session's end in
+    /// the table for a while (3.1.2.4).
     pub(crate) fn blank(&self) -> ServerEnd
         ensures end { result.end ≡ new_end self.now.config }
         ensures capacity { result.capacity ≡ self.now.config.capacity }
@@ -40,7 +40,7 @@ impl<S: FilterStore> HubOver<S> {
         ServerEnd::new(self.alloc, config)
     }
 
-    // The bytes that wait on a connection that is known are taken, and none is copied. Out of memory they stay.
+    // Takes the pending output of a connection without copying it.
     fn collect(&mut self, conn: Conn) -> Result<Bytes, AllocError>
         requires { knows conn self.old.connections ≡ true }
         ensures bytes { IfOk result (λ b. b ≡ waiting_on conn self.old.connections) }
@@ -53,8 +53,8 @@ impl<S: FilterStore> HubOver<S> {
         }
     }
 
-    /// What waits to be written on a connection that is known is taken, and none of it is copied. Fails if memory runs out for the count
-    /// of its owners, and then nothing changes.
+    /// Takes the pending output of a connection without copying it. Fails if no memory is left for
+    /// the count of its owners.
     pub(crate) fn on_collect(&mut self, conn: Conn) -> Result<HubReply, HubRefusal>
         requires { knows conn self.old.connections ≡ true }
         ensures step { IfOk result (λ reply. HubStep self.old (HubEvent.Collect conn) reply self.new) }

@@ -1,6 +1,6 @@
-//! The connections of a broker (4.2).
+//! The table of connections (4.2).
 
-ghost use Rattle.std.specs.Prelude.{◌≡◌, ◌+◌, ◌≤◌, ◌<◌, ℕ, [], ◌∷◌, ◌++◌, length, slice_get, Some, None, nat_eq, true, false, is_some, if◌then◌else◌, OnOk, OnErr, IfNone, IfOk, IfSome};
+ghost use Rattle.std.specs.Prelude.{◌≡◌, ◌+◌, ◌*◌, ◌≤◌, ◌<◌, ℕ, [], ◌∷◌, ◌++◌, length, slice_get, Some, None, nat_eq, true, false, is_some, if◌then◌else◌, OnOk, OnErr, IfNone, IfOk, IfSome};
 ghost use Rattle.std.specs.HashMap.{get, hash_map_len, spare};
 ghost use Rattle.std.specs.List.{AllByRecursion, IsDistinct};
 ghost use Rattle.std.specs.List.Sorted.{IsNonDecreasing};
@@ -10,9 +10,9 @@ ghost use Rattle.mq_route.specs.Arrives.{touched};
 ghost use Rattle.mq_route.specs.Hub.{held_on, key_on, knows, stage_of, up_on, waiting_on, with_connection, without_connection};
 ghost use Rattle.mq_route.specs.Routed.{same_conn};
 ghost use Rattle.mq_route.specs.Welcome.{up_count};
-ghost use Rattle.mq_hub.specs.Alarms.{AreAwaited, AreAwaitedBut};
-ghost use Rattle.mq_hub.specs.Connections.{line_of, lines_of, IsNamedAt, IsReading};
-ghost use Rattle.mq_hub.specs.Ticking.{HasLate, HasLateNamed};
+ghost use Rattle.mq_hub.specs.Inside.Alarms.{AreAwaited, AreAwaitedBut};
+ghost use Rattle.mq_hub.specs.Inside.Connections.{connection_of, connections_of, IsNamedAt, IsReading};
+ghost use Rattle.mq_hub.specs.Inside.Tick.{AreInTime, HasLate, HasLateNamed};
 
 use crate::connections::connection::{BoxedConnection, Connection};
 use crate::keep_alive::deadlines::Alarms;
@@ -26,17 +26,18 @@ use std::alloc::{AllocError, Global};
 use std::collections::HashMap;
 use std::marker::Model;
 
-// Alarms outlive their connections: all are set anew where there are more than twice as many as connections and this number together.
+// Alarms outlive their connections. They are set anew once there are more than twice as many as
+// connections and this number together.
 const FEW_ALARMS: usize = 64;
 
-// Connections by their names, in an order.
+// Connections by name, in the order in which they were opened.
 type ByConn = IndexMap<Conn, BoxedConnection>;
 
-// The connection on which each client is up.
+// The connection on which each client is connected.
 type Ups = HashMap<ClientKey, Conn>;
 
-/// The connections of a broker in the order in which they were opened, each found by its name at once, and those that are up by the key of
-/// their session.
+/// The connections in the order in which they were opened. Hash tables find a connection by its
+/// name, and by the key of the session for which it is connected.
 #[derive(Drop)]
 pub(crate) struct Connections {
     limits: Limits,
@@ -46,19 +47,18 @@ pub(crate) struct Connections {
 }
 
 impl Model for Connections {
-    ghost use Rattle.std.specs.Prelude.{nat_eq};
+    ghost use Rattle.std.specs.Prelude.{length, nat_eq};
     ghost use Rattle.std.specs.HashMap.{get, hash_map_len, spare};
-    ghost use Rattle.mq_hub.specs.Connections.{AreLines, LineTable, lines_of, service};
+    ghost use Rattle.mq_hub.specs.Inside.Connections.{AreConnections, ConnectionList, connections_of, service};
 
-    ghost Value = { LineTable };
+    ghost Value = { ConnectionList };
 
-    ghost view = { λ t. record { connections = lines_of t.by_conn.entries; limits = t.limits; room = spare t.by_conn; rises = spare t.ups } };
+    ghost view = { λ t. record { connections = connections_of t.by_conn.entries; limits = t.limits; room = spare t.by_conn; up_room = spare t.ups; alarms = length t.alarms.alarms } };
 
-    ghost invariant = { λ t. AreLines (service t.limits t.alarms) t.by_conn.entries (get nat_eq t.ups) (hash_map_len t.ups) };
+    ghost invariant = { λ t. AreConnections (service t.limits t.alarms) t.by_conn.entries (get nat_eq t.ups) (hash_map_len t.ups) };
 }
 
-// Writes down on which connection a client is up, where there is memory for one more.
-fn note_up(ups: &mut Ups, key: ClientKey, conn: Conn)
+fn add_connected(ups: &mut Ups, key: ClientKey, conn: Conn)
     requires room { 0 < spare ups.old }
     requires absent { get nat_eq ups.old key ≡ None }
     ensures found { (n : ℕ) → get nat_eq ups.new n ≡ (if nat_eq key n then Some conn else get nat_eq ups.old n) }
@@ -68,8 +68,7 @@ fn note_up(ups: &mut Ups, key: ClientKey, conn: Conn)
     let _ = ups.insert(key, conn);
 }
 
-// Strikes a client out.
-fn note_down(ups: &mut Ups, key: ClientKey)
+fn remove_connected(ups: &mut Ups, key: ClientKey)
     requires { is_some (get nat_eq ups.old key) ≡ true }
     ensures found { (n : ℕ) → get nat_eq ups.new n ≡ (if nat_eq key n then None else get nat_eq ups.old n) }
     ensures len { hash_map_len ups.new + 1 ≡ hash_map_len ups.old }
@@ -78,8 +77,8 @@ fn note_down(ups: &mut Ups, key: ClientKey)
     let _ = ups.remove(&key);
 }
 
-// Takes the connection of a name out, and moves up those behind it.
-fn take_out(by_conn: &mut ByConn, conn: Conn)
+// Removes a connection and moves those behind it up.
+fn remove_conn(by_conn: &mut ByConn, conn: Conn)
     ensures entries { by_conn.new.entries ≡ remove_entry (same_conn conn) by_conn.old.entries }
     ensures distinct { IsDistinct same_conn (keys_of by_conn.new.entries) }
     ensures room { spare by_conn.old ≤ spare by_conn.new }
@@ -87,7 +86,7 @@ fn take_out(by_conn: &mut ByConn, conn: Conn)
     let _ = by_conn.shift_remove(&conn);
 }
 
-// Where the connection of a name stands, which is looked for at this place first.
+// Returns the index of a connection. `place` is tried before a search.
 #[inline(always)]
 fn index_near(by_conn: &ByConn, conn: Conn, place: usize) -> Option<usize>
     ensures some { IfSome result (λ i. IsNamedAt conn i by_conn.now.entries) }
@@ -102,9 +101,10 @@ fn index_near(by_conn: &ByConn, conn: Conn, place: usize) -> Option<usize>
     }
 }
 
-// Sets the alarm of each connection anew.
-fn watch_anew(by_conn: &ByConn, alarms: &mut Alarms)
-    ensures { AreAwaited alarms.new by_conn.now.entries }
+// Sets one alarm for each connection and drops all others.
+fn reset_alarms(by_conn: &ByConn, alarms: &mut Alarms)
+    ensures awaited { AreAwaited alarms.new by_conn.now.entries }
+    ensures few { length alarms.new.alarms ≤ length by_conn.now.entries }
 {
     alarms.clear();
     for boxed in by_conn.values() {
@@ -112,18 +112,20 @@ fn watch_anew(by_conn: &ByConn, alarms: &mut Alarms)
     }
 }
 
-// Sets all alarms anew where they don't reach to this moment, or are many more than the connections.
-fn renew(by_conn: &ByConn, alarms: &mut Alarms, now: u64)
+// Sets all alarms anew if they do not reach up to this time, or if they are many more than the
+// connections.
+fn refresh_alarms(by_conn: &ByConn, alarms: &mut Alarms, now: u64)
     requires { AreAwaited alarms.old by_conn.now.entries }
-    ensures { AreAwaited alarms.new by_conn.now.entries }
+    ensures awaited { AreAwaited alarms.new by_conn.now.entries }
+    ensures few { length alarms.new.alarms ≤ 2 * (length by_conn.now.entries + 64) + 1 }
 {
     if alarms.until() < now || alarms.len() / 2 > by_conn.len() + FEW_ALARMS {
-        watch_anew(by_conn, alarms);
+        reset_alarms(by_conn, alarms);
     }
 }
 
-// The places of the connections of these names that may be late at this moment; their alarms are set again. Where memory runs out it fails,
-// and any may be late.
+// Returns the indices of those of these connections that may be late at this time, and sets their
+// alarms again. On `Err` any connection may be late.
 fn find_named(
     alloc: Global,
     by_conn: &ByConn,
@@ -134,9 +136,9 @@ fn find_named(
     requires named { AllByRecursion (λ e. e.0 ≡ e.1.conn) by_conn.now.entries }
     requires distinct { IsDistinct same_conn (keys_of by_conn.now.entries) }
     requires awaited { AreAwaitedBut names.old.items alarms.old by_conn.now.entries }
-    requires late { HasLateNamed now (lines_of by_conn.now.entries) names.old.items }
+    requires late { HasLateNamed now (connections_of by_conn.now.entries) names.old.items }
     ensures awaited { AreAwaited alarms.new by_conn.now.entries }
-    ensures late { IfOk result (λ places. HasLate now (lines_of by_conn.now.entries) places.items) }
+    ensures late { IfOk result (λ places. HasLate now (connections_of by_conn.now.entries) places.items) }
 {
     let mut places = Vec::new(alloc);
     while let Some(conn) = names.pop() {
@@ -159,7 +161,7 @@ fn find_named(
     Ok(places)
 }
 
-// The places of the connections that may be late at this moment, in ascending order. Fails if memory runs out.
+// Returns the indices of the connections that may be late at this time, in ascending order.
 fn find_late(
     alloc: Global,
     by_conn: &ByConn,
@@ -170,10 +172,10 @@ fn find_late(
     requires distinct { IsDistinct same_conn (keys_of by_conn.now.entries) }
     requires awaited { AreAwaited alarms.old by_conn.now.entries }
     ensures awaited { AreAwaited alarms.new by_conn.now.entries }
-    ensures late { IfOk result (λ places. HasLate now (lines_of by_conn.now.entries) places.items) }
+    ensures late { IfOk result (λ places. HasLate now (connections_of by_conn.now.entries) places.items) }
     ensures ascending { IfOk result (λ places. IsNonDecreasing places.items) }
 {
-    renew(by_conn, alarms, now);
+    refresh_alarms(by_conn, alarms, now);
     if alarms.until() < now {
         return Err(AllocError);
     }
@@ -184,7 +186,7 @@ fn find_late(
 }
 
 impl Connections {
-    /// No connections; packets are read within these limits on each. It takes no memory.
+    /// An empty table. Packets on its connections are decoded within `limits`.
     pub(crate) fn new(alloc: Global, limits: Limits) -> Connections
         ensures connections { result.connections ≡ [] }
         ensures limits { result.limits ≡ limits }
@@ -197,34 +199,34 @@ impl Connections {
         }
     }
 
-    /// Makes room for so many more to be opened, and to come up. Fails if memory runs out. The connections stay.
+    /// Makes room for this many more connections, all of which may become connected. Drops the
+    /// alarms of ended connections if they are many.
     pub(crate) fn reserve(&mut self, count: usize) -> Result<(), AllocError>
-        ensures ok { OnOk result ((count ≤ self.new.room) × (count ≤ self.new.rises)) }
+        ensures ok { OnOk result ((count ≤ self.new.room) × (count ≤ self.new.up_room)) }
         ensures same { self.new.connections ≡ self.old.connections }
         ensures limits { self.new.limits ≡ self.old.limits }
         ensures room { self.old.room ≤ self.new.room }
-        ensures rises { self.old.rises ≤ self.new.rises }
+        ensures up_room { self.old.up_room ≤ self.new.up_room }
+        ensures alarms { OnOk result (self.new.alarms ≤ 2 * (length self.new.connections + 64) + 1) }
     {
         self.by_conn.reserve(count)?;
-        renew(&self.by_conn, &mut self.alarms, 0);
+        refresh_alarms(&self.by_conn, &mut self.alarms, 0);
         self.ups.reserve(count)
     }
 
-    /// The limits within which packets are read on each.
     pub(crate) fn limits(&self) -> Limits
         ensures { result ≡ self.now.limits }
     {
         self.limits
     }
 
-    /// Whether a connection of this name is known.
     pub(crate) fn knows(&self, conn: Conn) -> bool
         ensures { result ≡ knows conn self.now.connections }
     {
         self.by_conn.contains_key(&conn)
     }
 
-    /// How far a connection is; `None` where it isn't known.
+    /// Returns the state of a connection, or `None` if it is unknown.
     pub(crate) fn stage(&self, conn: Conn) -> Option<&ConnectionState>
         ensures known { is_some result ≡ knows conn self.now.connections }
         ensures stage { IfSome result (λ s. s.now ≡ stage_of conn self.now.connections) }
@@ -235,12 +237,12 @@ impl Connections {
         }
     }
 
-    /// Where a connection stands in the order in which they were opened; anywhere where it isn't known.
+    /// Returns the index of a connection, or 0 if it is unknown.
     pub(crate) fn place_of(&self, conn: Conn) -> usize {
         self.by_conn.get_index_of(&conn).unwrap_or(0)
     }
 
-    /// The same as `stage`. At the place where the connection stood a moment ago it is found without a search.
+    /// The same as `stage`. The index is tried before a search.
     pub(crate) fn stage_near(&self, conn: Conn, place: usize) -> Option<&ConnectionState>
         ensures known { is_some result ≡ knows conn self.now.connections }
         ensures stage { IfSome result (λ s. s.now ≡ stage_of conn self.now.connections) }
@@ -251,7 +253,7 @@ impl Connections {
         }
     }
 
-    /// The key of the session for which a connection is up.
+    /// Returns the key of the session for which a connection is connected.
     pub(crate) fn key(&self, conn: Conn) -> Option<ClientKey>
         ensures { result ≡ key_on (stage_of conn self.now.connections) }
     {
@@ -261,50 +263,50 @@ impl Connections {
         }
     }
 
-    /// The connection on which the client of a session is up.
+    /// Returns the connection on which the client of a session is connected.
     pub(crate) fn up_on(&self, key: ClientKey) -> Option<Conn>
         ensures { result ≡ up_on key self.now.connections }
     {
         self.ups.get(&key).copied()
     }
 
-    /// How many are up.
     pub(crate) fn up_count(&self) -> usize
         ensures { result ≡ up_count self.now.connections }
     {
         self.ups.len()
     }
 
-    /// The connection at a place in the order in which they were opened.
+    /// Returns the connection at an index, in the order in which they were opened.
     pub(crate) fn at(&self, index: usize) -> Option<&Connection>
-        ensures { option_map line_of (option_copied result) ≡ slice_get self.now.connections index }
+        ensures { option_map connection_of (option_copied result) ≡ slice_get self.now.connections index }
     {
         let (_, boxed) = self.by_conn.as_slice().get_index(index)?;
         Some(boxed.connection())
     }
 
-    /// A connection is opened, whose name isn't known (4.2): it goes last. It takes no memory.
+    /// Appends a new connection (4.2). Its name must not be in use.
     pub(crate) fn open(&mut self, boxed: BoxedConnection)
         requires name { knows boxed.conn self.old.connections ≡ false }
         requires stage { boxed.stage ≡ ConnectionState.AwaitingConnect }
         requires reading { IsReading self.old.limits boxed }
         requires room { 0 < self.old.room }
-        ensures connections { self.new.connections ≡ self.old.connections ++ line_of boxed ∷ [] }
+        ensures connections { self.new.connections ≡ self.old.connections ++ connection_of boxed ∷ [] }
         ensures limits { self.new.limits ≡ self.old.limits }
         ensures room { self.old.room ≤ self.new.room + 1 }
-        ensures rises { self.new.rises ≡ self.old.rises }
+        ensures up_room { self.new.up_room ≡ self.old.up_room }
     {
         let conn = boxed.connection().conn;
         let _ = self.by_conn.insert(conn, boxed);
     }
 
-    /// A connection is closed: what it holds of a packet is gone, what waits stays (4.8). It says how far it was. It takes no memory.
+    /// Closes a connection (4.8) and returns its state before. The incomplete packet is dropped;
+    /// pending output stays.
     pub(crate) fn shut(&mut self, conn: Conn) -> ConnectionState
         ensures stage { result ≡ stage_of conn self.old.connections }
         ensures connections { self.new.connections ≡ with_connection (λ x. record x { stage = ConnectionState.Closed; held = [] }) conn self.old.connections }
         ensures limits { self.new.limits ≡ self.old.limits }
         ensures room { self.new.room ≡ self.old.room }
-        ensures rises { self.old.rises ≤ self.new.rises }
+        ensures up_room { self.old.up_room ≤ self.new.up_room }
     {
         let Some(boxed) = self.by_conn.get_mut(&conn) else {
             return ConnectionState::Closed;
@@ -312,12 +314,13 @@ impl Connections {
         let up = boxed.key();
         let stage = boxed.shut();
         if let Some(key) = up {
-            note_down(&mut self.ups, key);
+            remove_connected(&mut self.ups, key);
         }
         stage
     }
 
-    /// A connection that waits for its CONNECT comes up for the session of a client that is up on no other (3.1.4). It takes no memory.
+    /// Connects a connection that waits for its CONNECT, for a session whose client is not
+    /// connected elsewhere (3.1.4).
     pub(crate) fn connect_end(
         &mut self,
         conn: Conn,
@@ -327,28 +330,28 @@ impl Connections {
     )
         requires stage { stage_of conn self.old.connections ≡ ConnectionState.AwaitingConnect }
         requires client { up_on key self.old.connections ≡ None }
-        requires room { 0 < self.old.rises }
+        requires room { 0 < self.old.up_room }
         ensures connections { self.new.connections ≡ with_connection (λ x. record x { stage = ConnectionState.ConnectedAs key terms now }) conn self.old.connections }
         ensures limits { self.new.limits ≡ self.old.limits }
         ensures room { self.new.room ≡ self.old.room }
-        ensures rises { self.old.rises ≤ self.new.rises + 1 }
+        ensures up_room { self.old.up_room ≤ self.new.up_room + 1 }
     {
         let Some(boxed) = self.by_conn.get_mut(&conn) else {
             return;
         };
         boxed.connect_end(key, terms, now);
         self.alarms.set(conn, boxed.last_in_time());
-        note_up(&mut self.ups, key, conn);
+        add_connected(&mut self.ups, key, conn);
     }
 
-    /// The moment of the last whole packet of a connection is this (3.1.2.10). At the place where it stood a moment ago it is found without a
-    /// search. It takes no memory.
+    /// Records the time of the last packet (3.1.2.10), and returns the key of the session for which
+    /// the connection is connected. The index is tried before a search.
     pub(crate) fn touched(&mut self, conn: Conn, place: usize, now: u64) -> Option<ClientKey>
         ensures key { result ≡ key_on (stage_of conn self.old.connections) }
         ensures connections { self.new.connections ≡ with_connection (λ x. record x { stage = touched now x.stage }) conn self.old.connections }
         ensures limits { self.new.limits ≡ self.old.limits }
         ensures room { self.new.room ≡ self.old.room }
-        ensures rises { self.new.rises ≡ self.old.rises }
+        ensures up_room { self.new.up_room ≡ self.old.up_room }
     {
         let Some(index) = index_near(&self.by_conn, conn, place) else {
             return None;
@@ -357,7 +360,7 @@ impl Connections {
             return None;
         };
         let key = boxed.key();
-        let is_earlier = boxed.is_heard_after(now);
+        let is_earlier = boxed.is_active_after(now);
         boxed.touched(now);
         if is_earlier {
             self.alarms.set(conn, boxed.last_in_time());
@@ -365,7 +368,6 @@ impl Connections {
         key
     }
 
-    /// Exchanges the decoder of a connection for another. It takes no memory.
     pub(crate) fn swap_decoder(&mut self, conn: Conn, decoder: &mut Decoder)
         requires known { knows conn self.old.connections ≡ true }
         requires reading { (decoder.old.limit ≡ self.old.limits) × (decoder.old.failed ≡ None) }
@@ -374,7 +376,7 @@ impl Connections {
         ensures reading { (decoder.new.limit ≡ self.old.limits) × (decoder.new.failed ≡ None) }
         ensures limits { self.new.limits ≡ self.old.limits }
         ensures room { self.new.room ≡ self.old.room }
-        ensures rises { self.new.rises ≡ self.old.rises }
+        ensures up_room { self.new.up_room ≡ self.old.up_room }
     {
         let Some(boxed) = self.by_conn.get_mut(&conn) else {
             return;
@@ -382,7 +384,7 @@ impl Connections {
         boxed.swap_decoder(decoder);
     }
 
-    /// The waiting bytes of a connection are taken, and none is copied. Out of memory they stay.
+    /// Takes the pending output of a connection without copying it.
     pub(crate) fn collect(&mut self, conn: Conn) -> Result<Bytes, AllocError>
         requires { knows conn self.old.connections ≡ true }
         ensures bytes { IfOk result (λ b. b ≡ waiting_on conn self.old.connections) }
@@ -396,14 +398,13 @@ impl Connections {
         boxed.collect()
     }
 
-    /// Exchanges the waiting bytes of a connection for others. It takes no memory.
     pub(crate) fn swap_waiting(&mut self, conn: Conn, waiting: &mut ByteQueue)
         requires known { knows conn self.old.connections ≡ true }
         ensures connections { self.new.connections ≡ with_connection (λ x. record x { waiting = waiting.old }) conn self.old.connections }
         ensures waiting { waiting.new ≡ waiting_on conn self.old.connections }
         ensures limits { self.new.limits ≡ self.old.limits }
         ensures room { self.new.room ≡ self.old.room }
-        ensures rises { self.new.rises ≡ self.old.rises }
+        ensures up_room { self.new.up_room ≡ self.old.up_room }
     {
         let Some(boxed) = self.by_conn.get_mut(&conn) else {
             return;
@@ -411,24 +412,31 @@ impl Connections {
         boxed.swap_waiting(waiting);
     }
 
-    /// The places of the connections that may be late at this moment, in ascending order. Fails if memory runs out. It looks at no other, but
-    /// where all alarms are set anew.
+    /// Returns the indices of the connections that may be late at this time, in ascending order. It
+    /// looks only at connections whose alarm rings, except when all alarms are set anew.
     pub(crate) fn late_places(&mut self, alloc: Global, now: u64) -> Result<Vec<usize>, AllocError>
-        ensures same { self.new ≡ self.old }
+        ensures same { self.new ≡ record self.old { alarms = self.new.alarms } }
         ensures late { IfOk result (λ places. HasLate now self.old.connections places.items) }
         ensures ascending { IfOk result (λ places. IsNonDecreasing places.items) }
     {
         find_late(alloc, &self.by_conn, &mut self.alarms, now)
     }
 
-    /// A connection that isn't up is over, and not known any more (4.2). It takes no memory.
+    /// Up to this time no connection is late (3.1.2.10).
+    pub(crate) fn in_time_until(&self) -> u64
+        ensures { (now : ℕ) → now ≤ result → AreInTime now self.now.connections }
+    {
+        self.alarms.quiet_until()
+    }
+
+    /// Removes a connection on which no client is connected (4.2).
     pub(crate) fn remove(&mut self, conn: Conn)
         requires { key_on (stage_of conn self.old.connections) ≡ None }
         ensures connections { self.new.connections ≡ without_connection conn self.old.connections }
         ensures limits { self.new.limits ≡ self.old.limits }
         ensures room { self.old.room ≤ self.new.room }
-        ensures rises { self.new.rises ≡ self.old.rises }
+        ensures up_room { self.new.up_room ≡ self.old.up_room }
     {
-        take_out(&mut self.by_conn, conn);
+        remove_conn(&mut self.by_conn, conn);
     }
 }

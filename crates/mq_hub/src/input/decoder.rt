@@ -1,38 +1,37 @@
-//! What a broker's connection holds of a packet, and when it was last heard (3.1.2.10, 4.2).
+//! The decoder of a connection, and the time of its last packet (3.1.2.10, 4.2).
 
 ghost use Rattle.std.specs.Prelude.{◌≡◌, None, true, IfSome};
 ghost use Rattle.mq_end.specs.End.{is_up};
 ghost use Rattle.mq_route.specs.Hub.{end_of, held_on, key_on, knows, stage_of};
-ghost use Rattle.mq_hub.specs.Coming.{with_heard, with_held};
+ghost use Rattle.mq_hub.specs.Inside.Input.{with_touched, with_held};
 
 use crate::hub::HubOver;
 use mq_decode::Decoder;
 use mq_route::Conn;
 use mq_topic::{ClientKey, FilterStore};
 
-/// What stands at the front of the bytes that come on a connection.
+/// The result of decoding at the front of the bytes of a connection.
 #[derive(Clone, Copy)]
 pub(crate) enum Next {
-    /// A packet came, which used this many bytes of the piece.
+    /// A packet, which used this many bytes of the piece.
     Packet(usize),
-    /// There is less than a packet, and all of it is held.
+    /// No whole packet. The decoder holds all bytes.
     Waits,
     /// The connection was closed.
     Closed,
 }
 
 impl<S: FilterStore> HubOver<S> {
-    /// Notes that a whole packet came on a connection just now (3.1.2.10), and answers the key of the session for which it is up. The
-    /// connection is looked for at this place first. It takes no memory.
+    /// Records that a whole packet came now (3.1.2.10), and returns the key of the session for
+    /// which the connection is connected. The index is tried before a search.
     pub(crate) fn touch(&mut self, conn: Conn, place: usize) -> Option<ClientKey>
-        ensures hub { self.new ≡ with_heard conn self.old }
+        ensures hub { self.new ≡ with_touched conn self.old }
         ensures key { result ≡ key_on (stage_of conn self.old.connections) }
         ensures up { IfSome result (λ key. is_up (end_of key self.old.sessions).state ≡ true) }
     {
         self.tables.touched(conn, place, self.clock)
     }
 
-    /// Exchanges the decoder of a connection for another. It takes no memory.
     pub(crate) fn swap_decoder(&mut self, conn: Conn, decoder: &mut Decoder)
         requires known { knows conn self.old.connections ≡ true }
         requires reading { (decoder.old.limit ≡ self.old.config.limits) × (decoder.old.failed ≡ None) }
@@ -43,7 +42,6 @@ impl<S: FilterStore> HubOver<S> {
         self.tables.swap_decoder(conn, decoder);
     }
 
-    /// The key of the session for which a connection is up.
     pub(crate) fn key(&self, conn: Conn) -> Option<ClientKey>
         ensures key { result ≡ key_on (stage_of conn self.now.connections) }
         ensures up { IfSome result (λ key. is_up (end_of key self.now.sessions).state ≡ true) }

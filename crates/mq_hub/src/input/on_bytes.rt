@@ -1,9 +1,9 @@
-//! Bytes come to a broker on a connection (4.2).
+//! Handles the bytes that come on a connection (4.2).
 
 ghost use Rattle.std.specs.Prelude.{◌≡◌, ◌≤◌, ◌++◌, [], None, true, IfOk, IfErr, OnErr};
 ghost use Rattle.mq_route.specs.Hub.{held_on, is_open, knows, stage_of};
 ghost use Rattle.mq_route.specs.Step.{HubStep};
-ghost use Rattle.mq_hub.specs.Coming.{RefinesBytes, IsNext, goes_on, with_held};
+ghost use Rattle.mq_hub.specs.Inside.Input.{RefinesBytes, IsNext, goes_on, with_held};
 
 use crate::acts::ActLog;
 use crate::hub::HubOver;
@@ -13,50 +13,51 @@ use mq_route::{Conn, HubEvent, HubRefusal, HubReply};
 use mq_topic::FilterStore;
 
 impl<S: FilterStore> HubOver<S> {
-    // What stands at the front of the bytes that a decoder holds and these after them comes on an open connection: a packet is taken in,
-    // and the connection is closed where they begin with none, or memory runs out (4.8). It is looked for at this place first.
+    // Decodes and handles the next packet of an open connection. Closes the connection if the bytes
+    // are malformed or an allocation fails (4.8). The index is tried before a search.
     #[inline(always)]
-    fn takes_next(
+    fn on_next_packet(
         &mut self,
         conn: Conn,
         place: usize,
         decoder: &mut Decoder,
         bytes: &[u8],
-        doings: &mut ActLog,
+        log: &mut ActLog,
     ) -> Next
         requires open { is_open (stage_of conn self.old.connections) ≡ true }
         requires reading { (decoder.old.limit ≡ self.old.config.limits) × (decoder.old.failed ≡ None) }
-        requires room { 3 ≤ doings.old.room }
-        ensures next { IsNext self.old.config.limits conn decoder.old.held bytes.now self.old doings.old.acts result self.new doings.new.acts decoder.new.held }
+        requires room { 3 ≤ log.old.room }
+        ensures next { IsNext self.old.config.limits conn decoder.old.held bytes.now self.old log.old.acts result self.new log.new.acts decoder.new.held }
         ensures reading { goes_on result ≡ true → (decoder.new.limit ≡ self.old.config.limits) × (decoder.new.failed ≡ None) }
         ensures config { goes_on result ≡ true → self.new.config ≡ self.old.config }
-        ensures room { goes_on result ≡ true → is_open (stage_of conn self.new.connections) ≡ true → 3 ≤ doings.new.room }
+        ensures room { goes_on result ≡ true → is_open (stage_of conn self.new.connections) ≡ true → 3 ≤ log.new.room }
     {
         match decoder.next_packet(bytes) {
             Ok(Some((packet, used))) => {
-                self.takes(conn, place, packet, doings);
+                self.takes(conn, place, packet, log);
                 Next::Packet(used)
             }
             Ok(None) => Next::Waits,
             Err(error) => {
-                self.on_decode_error(conn, error, doings);
+                self.on_decode_error(conn, error, log);
                 Next::Closed
             }
         }
     }
 
-    // The bytes that a decoder holds and a piece after them come on a connection that holds none: the packets among them one after
-    // another, up to one at which it closes. It holds what is less than a packet, and lets the rest go where it is closed (4.2, 4.8).
-    fn walk(&mut self, conn: Conn, decoder: &mut Decoder, piece: &[u8], doings: &mut ActLog)
+    // Handles the packets of a piece one after another, until the connection closes. The decoder
+    // holds the incomplete packet at the end; it holds nothing once the connection is closed (4.2,
+    // 4.8).
+    fn on_piece(&mut self, conn: Conn, decoder: &mut Decoder, piece: &[u8], log: &mut ActLog)
         requires reading { (decoder.old.limit ≡ self.old.config.limits) × (decoder.old.failed ≡ None) }
-        requires room { 3 ≤ doings.old.room }
-        ensures { RefinesBytes self.old.config.limits conn (decoder.old.held ++ piece.now) self.old doings.old.acts self.new doings.new.acts }
+        requires room { 3 ≤ log.old.room }
+        ensures { RefinesBytes self.old.config.limits conn (decoder.old.held ++ piece.now) self.old log.old.acts self.new log.new.acts }
     {
         let place = self.tables.connections.place_of(conn);
         let mut used = 0;
         while self.is_open_near(conn, place) {
             let (_, rest) = piece.split_at(used);
-            match self.takes_next(conn, place, decoder, rest, doings) {
+            match self.on_next_packet(conn, place, decoder, rest, log) {
                 Next::Packet(count) => used += count,
                 Next::Waits => {
                     self.swap_decoder(conn, decoder);
@@ -67,7 +68,7 @@ impl<S: FilterStore> HubOver<S> {
         }
     }
 
-    // The decoder of a connection is taken out, and one that holds nothing stands in its place. It takes no memory.
+    // Takes the decoder out of a connection and leaves an empty one in its place.
     fn take_decoder(&mut self, conn: Conn) -> Decoder
         requires { knows conn self.old.connections ≡ true }
         ensures hub { self.new ≡ with_held conn [] self.old }
@@ -79,20 +80,21 @@ impl<S: FilterStore> HubOver<S> {
         decoder
     }
 
-    /// Bytes come on a connection that is known (4.2): the whole packets among them are taken in one after another, up to one at which it
-    /// closes, and the rest is held. Out of memory for the acts it is refused, and then nothing changes.
+    /// Handles the bytes that come on a connection (4.2): its whole packets one after another,
+    /// until it closes. The connection holds the incomplete packet at the end. Bytes of a closed
+    /// connection are dropped.
     pub(crate) fn on_bytes(&mut self, conn: Conn, piece: &[u8]) -> Result<HubReply, HubRefusal>
         requires { knows conn self.old.connections ≡ true }
         ensures step { IfOk result (λ reply. HubStep self.old (HubEvent.Bytes conn piece.now) reply self.new) }
         ensures memory { IfErr result (λ why. why ≡ HubRefusal.Memory) }
         ensures err { OnErr result (self.new ≡ self.old) }
     {
-        let mut doings = ActLog::new(self.alloc);
-        if doings.reserve(3).is_err() {
+        let mut log = ActLog::new(self.alloc);
+        if log.reserve(3).is_err() {
             return Err(HubRefusal::Memory);
         }
         let mut decoder = self.take_decoder(conn);
-        self.walk(conn, &mut decoder, piece, &mut doings);
-        Ok(doings.into_reply(self.is_open(conn)))
+        self.on_piece(conn, &mut decoder, piece, &mut log);
+        Ok(log.into_reply(self.is_open(conn)))
     }
 }

@@ -1,4 +1,4 @@
-//! A packet comes to a broker from a client that is up (3.3 to 3.14).
+//! Handles a packet of a connected client that changes only its session's end (3.3 to 3.14).
 
 ghost use Rattle.std.specs.Prelude.{◌≡◌, ℕ, List, [], Bool, true, None, is_some, OnOk, OnErr};
 ghost use Rattle.mq_end.specs.Server.{server_gets};
@@ -6,9 +6,9 @@ ghost use Rattle.mq_route.specs.declared.act.Act.{Act};
 ghost use Rattle.mq_route.specs.declared.conn.Conn.{Conn};
 ghost use Rattle.mq_route.specs.Arrives.{on_connected_packet};
 ghost use Rattle.mq_route.specs.Hub.{end_of, up_on};
-ghost use Rattle.mq_hub.specs.Answers.{AreAlike, Answers};
-ghost use Rattle.mq_hub.specs.Calls.{CanServe};
-ghost use Rattle.mq_hub.specs.Does.{Refines};
+ghost use Rattle.mq_hub.specs.Inside.Requests.{AreAlike, Answers};
+ghost use Rattle.mq_hub.specs.Inside.Calls.{CanServe};
+ghost use Rattle.mq_hub.specs.Inside.Refinement.{Refines};
 
 use crate::hub::HubOver;
 use crate::sessions::call::Call;
@@ -18,14 +18,14 @@ use mq_topic::{ClientKey, FilterStore};
 use std::alloc::AllocError;
 
 impl<S: FilterStore> Tables<S> {
-    /// The end of a session that is up takes a packet in. Out of memory, nothing changes.
+    /// Has the end of a session process a packet.
     pub(crate) fn take(
         &mut self,
         key: ClientKey,
         now: u64,
         packet: Packet,
     ) -> Result<(), AllocError>
-        requires { CanServe key (Call.Takes now packet) self.old.sessions.tenants }
+        requires { CanServe key (Call.Takes now packet) self.old.sessions.list }
         ensures ok { OnOk result (Answers key (Call.Takes now packet) self.old.rows self.old self.new) }
         ensures err { OnErr result (AreAlike self.old self.new) }
     {
@@ -35,8 +35,8 @@ impl<S: FilterStore> Tables<S> {
 }
 
 impl<S: FilterStore> HubOver<S> {
-    /// The end of a client that is up takes a packet in that tells nothing and doesn't close it: an acknowledgement, PINGREQ, or a
-    /// PUBLISH that came before (3.4 to 3.7, 3.12, 4.3.3). Out of memory, nothing changes.
+    /// Has the end of a connected client process a packet that reports nothing and does not close
+    /// it: an acknowledgement, PINGREQ, or a repeated PUBLISH (3.4 to 3.7, 3.12, 4.3.3).
     pub(crate) fn take_silent(&mut self, key: ClientKey, packet: Packet) -> Result<(), AllocError>
         requires up { is_some (up_on key self.old.connections) ≡ true }
         requires stays { (server_gets packet (end_of key self.old.sessions)).close ≡ None }

@@ -1,9 +1,9 @@
-//! When connections may be late (3.1.2.10).
+//! The times after which connections may be late (3.1.2.10).
 
-ghost use Rattle.std.specs.Prelude.{◌≡◌, ◌<◌, ◌≤◌, ℕ, [], length, false, IfOk, IfNone, IfSome, OnErr, OnOk, OnSome};
+ghost use Rattle.std.specs.Prelude.{◌≡◌, ◌+◌, ◌<◌, ◌≤◌, ℕ, [], length, false, IfOk, IfNone, IfSome, OnErr, OnOk, OnSome};
 ghost use Rattle.mq_route.specs.declared.conn.Conn.{Conn as ConnSeen};
 ghost use Rattle.mq_route.specs.Routed.{same_conn};
-ghost use Rattle.mq_hub.specs.Alarms.{IsQuiet, RingsWith, is_named};
+ghost use Rattle.mq_hub.specs.Inside.Alarms.{IsQuiet, RingsWith, is_named};
 
 use mq_route::Conn;
 use std::alloc::{AllocError, Global};
@@ -11,26 +11,26 @@ use std::cmp::Reverse;
 use std::collections::BinaryHeap;
 use std::marker::Model;
 
-/// A moment up to which a connection is not late.
+/// A time up to which a connection is not late.
 #[derive(Clone, Copy, PartialEq, Eq, PartialOrd, Ord)]
 pub(crate) struct Alarm {
-    /// The moment.
+    /// The last time at which it is not late, in milliseconds.
     pub(crate) until: u64,
-    /// The connection.
     pub(crate) conn: Conn,
 }
 
-/// When connections may be late, the soonest first. An alarm stays until its moment, though its connection be over or have been heard since.
+/// Alarms, the earliest first. An alarm stays until it rings, even if its connection has ended or a
+/// later packet has come.
 #[derive(Drop)]
 pub(crate) struct Alarms {
     alarms: BinaryHeap<Reverse<Alarm>>,
-    // after this moment any may be late, since there was no memory for an alarm
+    // after this time any connection may be late, because an allocation failed
     until: u64,
 }
 
 impl Model for Alarms {
     ghost use Rattle.std.specs.BinaryHeap.{heap_items, IsHeap};
-    ghost use Rattle.mq_hub.specs.Alarms.{AlarmTable, soonest_first};
+    ghost use Rattle.mq_hub.specs.Inside.Alarms.{AlarmTable, soonest_first};
 
     ghost Value = { AlarmTable };
 
@@ -40,7 +40,6 @@ impl Model for Alarms {
 }
 
 impl Alarms {
-    /// No alarms. It takes no memory.
     pub(crate) fn new(alloc: Global) -> Alarms
         ensures { result.alarms ≡ [] }
     {
@@ -50,21 +49,30 @@ impl Alarms {
         }
     }
 
-    /// How many there are.
     pub(crate) fn len(&self) -> usize
         ensures { result ≡ length self.now.alarms }
     {
         self.alarms.len()
     }
 
-    /// After this moment any connection may be late.
+    /// After this time any connection may be late.
     pub(crate) fn until(&self) -> u64
         ensures { result ≡ self.now.until }
     {
         self.until
     }
 
-    /// Lets go of all alarms. It takes no memory.
+    /// Up to this time no alarm rings, so that no connection is late.
+    pub(crate) fn quiet_until(&self) -> u64
+        ensures { (k : ConnSeen) (now : ℕ) → now ≤ result → IsQuiet self.now k now }
+    {
+        match self.alarms.peek() {
+            Some(Reverse(first)) => first.until.min(self.until),
+            None => self.until,
+        }
+    }
+
+    /// Drops all alarms.
     pub(crate) fn clear(&mut self)
         ensures { self.new.alarms ≡ [] }
     {
@@ -72,7 +80,7 @@ impl Alarms {
         self.until = u64::MAX;
     }
 
-    /// From now on any connection may be late.
+    /// Any connection may be late from now on.
     pub(crate) fn forget(&mut self)
         ensures until { self.new.until ≡ 0 }
         ensures same { self.new ≡ record self.old { until = 0 } }
@@ -80,8 +88,10 @@ impl Alarms {
         self.until = 0;
     }
 
-    /// The connection of this name is not late up to this moment. Where there is no memory for its alarm, any may be late after it.
+    /// Sets an alarm: the connection is not late up to this time. If the allocation fails, any
+    /// connection may be late after it.
     pub(crate) fn set(&mut self, conn: Conn, until: u64)
+        ensures few { length self.new.alarms ≤ length self.old.alarms + 1 }
         ensures keeps { RingsWith self.old self.new }
         ensures rings { (now : ℕ) → IsQuiet self.new conn now → now ≤ until }
     {
@@ -91,7 +101,8 @@ impl Alarms {
         }
     }
 
-    // Takes the alarm out that rings first, where that is before this moment, and gives the name of its connection.
+    // Removes the earliest alarm if it rings before this time, and returns the name of its
+    // connection.
     fn take(&mut self, now: u64) -> Option<Conn>
         ensures until { self.new.until ≡ self.old.until }
         ensures same { IfNone result (self.new ≡ self.old) }
@@ -107,8 +118,8 @@ impl Alarms {
         Some(alarm.conn)
     }
 
-    /// Takes out the alarms that ring before this moment, and gives the names of their connections. Where memory runs out any connection may
-    /// be late from now on.
+    /// Removes the alarms that ring before this time, and returns the names of their connections.
+    /// On `Err` any connection may be late.
     pub(crate) fn take_ringing(&mut self, alloc: Global, now: u64) -> Result<Vec<Conn>, AllocError>
         ensures until { OnOk result (self.new.until ≡ self.old.until) }
         ensures quiet { OnOk result ((k : ConnSeen) → now ≤ self.new.until → IsQuiet self.new k now) }

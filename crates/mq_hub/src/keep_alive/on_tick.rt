@@ -1,12 +1,13 @@
-//! A moment comes to a broker (3.1.2.10).
+//! Closes the connections whose keep-alive has run out (3.1.2.10).
 
-ghost use Rattle.std.specs.Prelude.{◌≡◌, ◌+◌, [], drop, false, max, slice_get, Some, IfOk, IfErr, IfSome, OnErr, OnOk};
+ghost use Rattle.std.specs.Prelude.{◌≡◌, ◌+◌, ◌*◌, ◌≤◌, ◌^◌, [], drop, false, length, max, slice_get, Some, IfOk, IfErr, IfNone, IfSome, OnErr, OnOk};
 ghost use Rattle.std.specs.List.Sorted.{IsNonDecreasing};
 ghost use Rattle.mq_end.specs.KeepAlive.{is_late};
 ghost use Rattle.mq_route.specs.Hub.{knows};
 ghost use Rattle.mq_route.specs.Step.{HubStep, told};
-ghost use Rattle.mq_hub.specs.Connections.{line_of};
-ghost use Rattle.mq_hub.specs.Ticking.{AreInTime, HasLate, TicksTo, late_of};
+ghost use Rattle.mq_hub.specs.Inside.Connections.{connection_of};
+ghost use Rattle.mq_hub.specs.Deadline.{IsIdleBefore};
+ghost use Rattle.mq_hub.specs.Inside.Tick.{AreInTime, HasLate, TicksTo, late_of};
 
 use crate::acts::ActLog;
 use crate::connections::connection::Connection;
@@ -16,7 +17,8 @@ use mq_route::{Conn, ConnectionState, HubClose, HubEvent, HubRefusal, HubReply};
 use mq_topic::FilterStore;
 use std::alloc::AllocError;
 
-// Whether more than one and a half times a keep-alive, which is not 0, has gone by since a moment (3.1.2.10).
+// Whether more than one and a half times the keep-alive has passed since the last packet. A
+// keep-alive of 0 switches the check off (3.1.2.10).
 fn is_late(last_activity: u64, keep_alive: u16, now: u64) -> bool
     ensures { result ≡ is_late last_activity keep_alive now }
 {
@@ -24,9 +26,9 @@ fn is_late(last_activity: u64, keep_alive: u16, now: u64) -> bool
     wait > 0 && now > last_activity && now - last_activity > wait
 }
 
-// The name of a connection, where it is late at this moment.
+// The name of a connection, if it is late at this time.
 fn late(connection: &Connection, now: u64) -> Option<Conn>
-    ensures { result ≡ late_of now (Some (line_of connection.now)) }
+    ensures { result ≡ late_of now (Some (connection_of connection.now)) }
 {
     match &connection.stage {
         ConnectionState::ConnectedAs(_, terms, last_activity)
@@ -37,19 +39,33 @@ fn late(connection: &Connection, now: u64) -> Option<Conn>
     }
 }
 
+// Makes room for the acts of closing this number of connections.
+fn reserve_closes(log: &mut ActLog, count: usize) -> Result<(), AllocError>
+    ensures ok { OnOk result (3 * count ≤ log.new.room) }
+    ensures same { log.new.acts ≡ log.old.acts }
+{
+    let Some(room) = count.checked_mul(3) else {
+        return Err(AllocError);
+    };
+    log.reserve(room)
+}
+
 impl<S: FilterStore> HubOver<S> {
-    // The clock is the greatest moment so far, and it says which.
-    fn tell(&mut self, now: u64) -> u64
-        ensures clock { result ≡ max self.old.clock now }
-        ensures hub { self.new ≡ told now self.old }
+    // The clock after a tick at this time. It never goes back.
+    fn clock_at(&self, now: u64) -> u64
+        ensures { result ≡ max self.now.clock now }
     {
-        if now > self.clock {
-            self.clock = now;
-        }
-        self.clock
+        self.clock.max(now)
     }
 
-    // The name of the connection at a place in the order, where it is late at this moment. None behind it has that name.
+    fn set_clock(&mut self, now: u64)
+        ensures { self.new ≡ told now self.old }
+    {
+        self.clock = self.clock.max(now);
+    }
+
+    // The name of the connection at an index, if it is late at this time. No connection behind it
+    // has that name.
     fn late_at(&self, index: usize, now: u64) -> Option<Conn>
         ensures late { result ≡ late_of now (slice_get self.now.connections index) }
         ensures apart { IfSome result (λ conn. knows conn (drop (index + 1) self.now.connections) ≡ false) }
@@ -59,7 +75,7 @@ impl<S: FilterStore> HubOver<S> {
         late(connection, now)
     }
 
-    // The places of the connections that may be late at this moment, in ascending order. Fails if memory runs out.
+    // The indices of the connections that may be late at this time, in ascending order.
     fn late_places(&mut self, now: u64) -> Result<Vec<usize>, AllocError>
         ensures same { self.new ≡ self.old }
         ensures late { IfOk result (λ places. HasLate now self.old.connections places.items) }
@@ -68,50 +84,55 @@ impl<S: FilterStore> HubOver<S> {
         self.tables.connections.late_places(self.alloc, now)
     }
 
-    // The connections that are late at this moment, all of which are at these places, are closed one after another, in the order in which they
-    // were opened, and then none is late. Where memory runs out for one it fails, and it and those behind it are left to the next time.
-    fn close_late(
-        &mut self,
-        now: u64,
-        places: &[usize],
-        doings: &mut ActLog,
-    ) -> Result<(), AllocError>
-        requires none { doings.old.acts ≡ [] }
+    // Closes the late connections one after another, in the order in which they were opened. Their
+    // indices must be among `places`.
+    fn close_late(&mut self, now: u64, places: &[usize], log: &mut ActLog)
+        requires none { log.old.acts ≡ [] }
         requires late { HasLate now self.old.connections places.now }
         requires ascending { IsNonDecreasing places.now }
-        ensures ticks { TicksTo now self.old self.new doings.new.acts }
-        ensures all { OnOk result (AreInTime now self.new.connections) }
+        requires room { 3 * length places.now ≤ log.old.room }
+        ensures ticks { TicksTo now self.old self.new log.new.acts }
+        ensures all { AreInTime now self.new.connections }
     {
         for place in places {
             let Some(conn) = self.late_at(*place, now) else {
                 continue;
             };
-            doings.reserve(3)?;
-            self.close(conn, HubClose::Own(CloseReason::KeepAlive), doings);
+            self.close(conn, HubClose::Own(CloseReason::KeepAlive), log);
         }
-        Ok(())
     }
 
-    // Closes what is late at this moment. Where memory runs out for the look, all are left to the next time.
-    fn close_what_is_late(&mut self, now: u64, doings: &mut ActLog)
-        requires none { doings.old.acts ≡ [] }
-        ensures ticks { TicksTo now self.old self.new doings.new.acts }
+    /// Returns the first time, in milliseconds, at which a `Tick` may close a connection because of
+    /// its keep-alive (3.1.2.10). `None` if no time can.
+    ///
+    /// The result may be too early, because the connection that it is for has sent packets since or
+    /// is closed. A `Tick` at that time then closes nothing and moves the result on. Steps change
+    /// the result, so call this again after each.
+    pub fn next_deadline(&self) -> Option<u64>
+        ensures idle { IfSome result (λ deadline. IsIdleBefore deadline self.now) }
+        ensures never { IfNone result (IsIdleBefore (2 ^ 64) self.now) }
     {
-        if let Ok(places) = self.late_places(now) {
-            let _ = self.close_late(now, places.as_slice(), doings);
-        }
+        self.tables.connections.in_time_until().checked_add(1)
     }
 
-    /// It is this moment, in milliseconds: connections from whose clients nothing came for one and a half times their keep-alive are
-    /// closed (3.1.2.10). Where memory runs out for the acts of one, it and those behind it are left to the next time: it is never refused.
+    /// Sets the clock to this time, in milliseconds, and closes each connection whose client sent no
+    /// packet for more than one and a half times its keep-alive (3.1.2.10). Reserves the memory for
+    /// all of these closes before the first one.
     pub(crate) fn on_tick(&mut self, now: u64) -> Result<HubReply, HubRefusal>
         ensures step { IfOk result (λ reply. HubStep self.old (HubEvent.Tick now) reply self.new) }
         ensures memory { IfErr result (λ why. why ≡ HubRefusal.Memory) }
         ensures err { OnErr result (self.new ≡ self.old) }
     {
-        let mut doings = ActLog::new(self.alloc);
-        let clock = self.tell(now);
-        self.close_what_is_late(clock, &mut doings);
-        Ok(doings.into_reply(true))
+        let clock = self.clock_at(now);
+        let mut log = ActLog::new(self.alloc);
+        let Ok(places) = self.late_places(clock) else {
+            return Err(HubRefusal::Memory);
+        };
+        if reserve_closes(&mut log, places.len()).is_err() {
+            return Err(HubRefusal::Memory);
+        }
+        self.set_clock(now);
+        self.close_late(clock, places.as_slice(), &mut log);
+        Ok(log.into_reply(true))
     }
 }

@@ -1,13 +1,13 @@
-//! A PUBLISH comes to a broker, whose message is handed on (3.3, 4.3).
+//! Has the end of a publisher process its PUBLISH (3.3, 4.3).
 
 ghost use Rattle.std.specs.Prelude.{◌≡◌, ℕ, List, true, None, OnOk, OnErr};
 ghost use Rattle.mq_packet.specs.declared.message.Message.{Message};
 ghost use Rattle.mq_packet.specs.Publication.{fits_delivery};
 ghost use Rattle.mq_route.specs.Hub.{end_of};
-ghost use Rattle.mq_hub.specs.Answers.{AreAlike, Answers};
-ghost use Rattle.mq_hub.specs.Calls.{CanServe, publish_call, reply_of};
-ghost use Rattle.mq_hub.specs.Placing.{AreReady};
-ghost use Rattle.mq_hub.specs.Sessions.{sessions_of};
+ghost use Rattle.mq_hub.specs.Inside.Requests.{AreAlike, Answers};
+ghost use Rattle.mq_hub.specs.Inside.Calls.{CanServe, publish_call, reply_of};
+ghost use Rattle.mq_hub.specs.Inside.Placement.{AreReady};
+ghost use Rattle.mq_hub.specs.Inside.Sessions.{sessions_of};
 
 use crate::tables::Tables;
 use mq_packet::{Delivery, Message};
@@ -15,9 +15,9 @@ use mq_topic::{ClientKey, FilterStore};
 use std::alloc::AllocError;
 
 impl<S: FilterStore> Tables<S> {
-    /// The end of a session that is up takes the PUBLISH of a message in, at which it doesn't close; the message stays with the broker. Sessions
-    /// that were ready for messages, and for the seven bytes of PUBACK or PUBREC beside them, are ready for the messages then (3.4, 3.5). Out of
-    /// memory, nothing changes.
+    /// Has the end of a connected client process a PUBLISH whose message is new. Sessions with room
+    /// for messages and for the seven bytes of PUBACK or PUBREC still have room for the messages
+    /// afterwards (3.4, 3.5).
     #[inline(always)]
     pub(crate) fn take_publish(
         &mut self,
@@ -27,11 +27,11 @@ impl<S: FilterStore> Tables<S> {
         delivery: Option<Delivery>,
     ) -> Result<(), AllocError>
         requires fits { fits_delivery message.now.qos delivery ≡ true }
-        requires can { CanServe key (publish_call now message.now delivery) self.old.sessions.tenants }
-        requires stays { (reply_of (publish_call now message.now delivery) (end_of key (sessions_of self.old.sessions.tenants))).close ≡ None }
+        requires can { CanServe key (publish_call now message.now delivery) self.old.sessions.list }
+        requires stays { (reply_of (publish_call now message.now delivery) (end_of key (sessions_of self.old.sessions.list))).close ≡ None }
         ensures ok { OnOk result (Answers key (publish_call now message.now delivery) self.old.rows self.old self.new) }
-        ensures ready { OnOk result ((copies : List (ℕ × Message)) → AreReady 7 self.old.sessions.tenants copies
-            → AreReady 0 self.new.sessions.tenants copies) }
+        ensures ready { OnOk result ((copies : List (ℕ × Message)) → AreReady 7 self.old.sessions.list copies
+            → AreReady 0 self.new.sessions.list copies) }
         ensures err { OnErr result (AreAlike self.old self.new) }
     {
         let _ = self.sessions.take_publish(key, now, message, delivery)?;

@@ -1,4 +1,4 @@
-//! Copies of messages that are placed for clients (3.3.5, 3.8.4).
+//! The copies of a message, and their place in the sessions of the subscribers (3.3.5, 3.8.4).
 
 ghost use Rattle.std.specs.Prelude.{◌≡◌, ◌≤◌, ◌++◌, ◌&&◌, ℕ, List, true, false, IfOk, OnOk, Ok};
 ghost use Rattle.mq_packet.specs.declared.message.Message.{Message};
@@ -7,11 +7,11 @@ ghost use Rattle.mq_route.specs.declared.act.Act.{Act};
 ghost use Rattle.mq_route.specs.declared.config.HubConfig.{HubConfig};
 ghost use Rattle.mq_route.specs.Work.{have_room, place_all, retained_copies};
 ghost use Rattle.mq_end.specs.Sizes.{publish_size};
-ghost use Rattle.mq_hub.specs.Does.{Refines};
-ghost use Rattle.mq_hub.specs.Keeps.{HubInvariant};
-ghost use Rattle.mq_hub.specs.Placing.{copies_found, is_among, placed_all, AreApart, AreFor, AreReady, AreSameButRoom, AreStillReady, AreUpAlike};
-ghost use Rattle.mq_hub.specs.Placing.{placed_acts, with_tenants, CanPlace, HasSessions, IsFor, IsReadyAt};
-ghost use Rattle.mq_hub.specs.Seen.{HubTables, hub_of};
+ghost use Rattle.mq_hub.specs.Inside.Refinement.{Refines};
+ghost use Rattle.mq_hub.specs.Inside.Invariant.{HubInvariant};
+ghost use Rattle.mq_hub.specs.Inside.Placement.{copies_found, is_among, placed_all, AreApart, AreFor, AreReady, AreSameButRoom, AreStillReady, AreUpAlike};
+ghost use Rattle.mq_hub.specs.Inside.Placement.{placed_acts, with_list, CanPlace, HasSessions, IsFor, IsReadyAt};
+ghost use Rattle.mq_hub.specs.Inside.View.{HubTables, hub_of};
 
 use crate::connections::table::Connections;
 use crate::publish::recipients::{copy_by, is_hidden_name};
@@ -24,10 +24,11 @@ use mq_topic::{ClientKey, FilterStore, Qos};
 use std::alloc::{AllocError, Global};
 use std::slice;
 
-/// A copy of a message that is due: the key of the client for which it is, and the message.
+/// A planned copy of a message: the key of the client that it is for, and the message.
 pub(crate) type PlannedCopy = (ClientKey, Message);
 
-// The copies for the clients that were found, each with the greatest quality of service of its subscriptions that match.
+// Returns a copy for each client that was found, by the greatest quality of service of its matching
+// subscriptions.
 #[inline(always)]
 fn copies_found(
     alloc: Global,
@@ -47,8 +48,8 @@ fn copies_found(
     Ok(copies)
 }
 
-/// The copies of a message that are due, one for each client with a subscription that matches, by ascending key (3.3.5). They
-/// share the message's bytes. Fails if memory runs out.
+/// Returns the copies of a message: one for each client with a matching subscription, by ascending
+/// key (3.3.5). They share the message's bytes.
 #[inline(always)]
 pub(crate) fn copies_of<S: FilterStore>(
     alloc: Global,
@@ -60,7 +61,7 @@ pub(crate) fn copies_of<S: FilterStore>(
         → copies.items ≡ copies_of message.now h) }
     ensures apart { IfOk result (λ copies. AreApart copies.items) }
     ensures due { IfOk result (λ copies. (config : HubConfig) (next_key : ℕ) (t : HubTables) → t.rows ≡ S.rows store.now → t.connections ≡ connections.now
-        → HubInvariant config next_key t → publish_size message.now ≤ config.limits.most → AreFor t.sessions.tenants copies.items) }
+        → HubInvariant config next_key t → publish_size message.now ≤ config.limits.most → AreFor t.sessions.list copies.items) }
 {
     if is_hidden_name(&message.topic) {
         return Ok(Vec::new(alloc));
@@ -72,8 +73,8 @@ pub(crate) fn copies_of<S: FilterStore>(
     copies_found(alloc, found, connections, message)
 }
 
-/// The retained messages that new subscriptions of one client are sent, request by request (3.3.1.3, 3.8.4). They share the
-/// bytes of those that are retained. Fails if memory runs out.
+/// Returns the retained messages for the new subscriptions of a client, request by request
+/// (3.3.1.3, 3.8.4). They share the bytes of the stored messages.
 pub(crate) fn retained_copies(
     alloc: Global,
     retained: &Retained,
@@ -89,20 +90,21 @@ pub(crate) fn retained_copies(
     Ok(messages)
 }
 
-/// Makes the session of a client ready for messages that may go to it, and for so many bytes more that are put out beside their
-/// PUBLISHes. `false` where fewer identifiers are free than the messages need (2.3.1). Fails if memory runs out.
+/// Makes room in the session of a client for messages, and for `more` bytes besides their
+/// PUBLISHes. Returns `false` if the session has too few free identifiers (2.3.1). The room that
+/// other sessions have stays.
 pub(crate) fn make_room_for(
     sessions: &mut Sessions,
     key: ClientKey,
     messages: &[Message],
     more: usize,
 ) -> Result<bool, AllocError>
-    requires { IsFor key messages.now sessions.old.tenants }
-    ensures enough { IfOk result (λ enough. (cs : List (ℕ × Message)) (h : HubState) → HasSessions sessions.old.tenants h
+    requires { IsFor key messages.now sessions.old.list }
+    ensures enough { IfOk result (λ enough. (cs : List (ℕ × Message)) (h : HubState) → HasSessions sessions.old.list h
         → is_among key cs ≡ false → have_room (for_key key messages.now ++ cs) h ≡ (enough && have_room cs h)) }
-    ensures ready { result ≡ Ok true → IsReadyAt key messages.now more sessions.new.tenants }
-    ensures same { AreSameButRoom sessions.old.tenants sessions.new.tenants }
-    ensures still { AreStillReady sessions.old.tenants sessions.new.tenants }
+    ensures ready { result ≡ Ok true → IsReadyAt key messages.now more sessions.new.list }
+    ensures same { AreSameButRoom sessions.old.list sessions.new.list }
+    ensures still { AreStillReady sessions.old.list sessions.new.list }
     ensures room { sessions.new.room ≡ sessions.old.room }
 {
     match sessions.ready(key, messages, more) {
@@ -112,19 +114,19 @@ pub(crate) fn make_room_for(
     }
 }
 
-/// Makes the session of each copy ready for it, and for so many bytes more. `false` where one has no identifier free for its
-/// copy (2.3.1). Fails if memory runs out.
+/// Makes room in each subscriber's session for its copy, and for `more` bytes besides. Returns
+/// `false` if a session has no free identifier for its copy (2.3.1).
 pub(crate) fn make_room(
     sessions: &mut Sessions,
     copies: &[PlannedCopy],
     more: usize,
 ) -> Result<bool, AllocError>
     requires apart { AreApart copies.now }
-    requires due { AreFor sessions.old.tenants copies.now }
-    ensures enough { IfOk result (λ enough. (h : HubState) → HasSessions sessions.old.tenants h → enough ≡ have_room copies.now h) }
-    ensures ready { result ≡ Ok true → AreReady more sessions.new.tenants copies.now }
-    ensures same { AreSameButRoom sessions.old.tenants sessions.new.tenants }
-    ensures still { AreStillReady sessions.old.tenants sessions.new.tenants }
+    requires due { AreFor sessions.old.list copies.now }
+    ensures enough { IfOk result (λ enough. (h : HubState) → HasSessions sessions.old.list h → enough ≡ have_room copies.now h) }
+    ensures ready { result ≡ Ok true → AreReady more sessions.new.list copies.now }
+    ensures same { AreSameButRoom sessions.old.list sessions.new.list }
+    ensures still { AreStillReady sessions.old.list sessions.new.list }
     ensures room { sessions.new.room ≡ sessions.old.room }
 {
     for due in copies {
@@ -135,10 +137,10 @@ pub(crate) fn make_room(
     Ok(true)
 }
 
-// The session of a client publishes messages, one after another.
+// Has the session of a client publish messages one after another.
 fn publish_for(sessions: &mut Sessions, key: ClientKey, messages: Vec<Message>)
-    requires { IsReadyAt key messages.items 0 sessions.old.tenants }
-    ensures tenants { sessions.new.tenants ≡ placed_all (for_key key messages.items) sessions.old.tenants }
+    requires { IsReadyAt key messages.items 0 sessions.old.list }
+    ensures list { sessions.new.list ≡ placed_all (for_key key messages.items) sessions.old.list }
     ensures room { sessions.new.room ≡ sessions.old.room }
 {
     for message in messages {
@@ -146,11 +148,11 @@ fn publish_for(sessions: &mut Sessions, key: ClientKey, messages: Vec<Message>)
     }
 }
 
-// Each copy is published by the session that it is for, one after another.
+// Has each subscriber's session publish its copy.
 fn publish_all(sessions: &mut Sessions, copies: Vec<PlannedCopy>)
     requires apart { AreApart copies.items }
-    requires ready { AreReady 0 sessions.old.tenants copies.items }
-    ensures tenants { sessions.new.tenants ≡ placed_all copies.items sessions.old.tenants }
+    requires ready { AreReady 0 sessions.old.list copies.items }
+    ensures list { sessions.new.list ≡ placed_all copies.items sessions.old.list }
     ensures room { sessions.new.room ≡ sessions.old.room }
 {
     for (key, message) in copies {
@@ -158,32 +160,32 @@ fn publish_all(sessions: &mut Sessions, copies: Vec<PlannedCopy>)
     }
 }
 
-/// Messages are placed for a client, whose session is ready for them (3.3.5): the step goes on so. It takes no memory.
+/// Places messages for a client, whose session must have room for them (3.3.5).
 pub(crate) fn place_for(sessions: &mut Sessions, key: ClientKey, messages: Vec<Message>)
-    requires { IsReadyAt key messages.items 0 sessions.old.tenants }
-    ensures goes { (config : HubConfig) (clock : ℕ) (next_key : ℕ) (t : HubTables) (said : List Act) → t.sessions.tenants ≡ sessions.old.tenants → CanPlace t
+    requires { IsReadyAt key messages.items 0 sessions.old.list }
+    ensures goes { (config : HubConfig) (clock : ℕ) (next_key : ℕ) (t : HubTables) (said : List Act) → t.sessions.list ≡ sessions.old.list → CanPlace t
         → Refines (place_all (for_key key messages.items)) (hub_of config clock next_key t) said
-        (hub_of config clock next_key (with_tenants sessions.new.tenants t)) (said ++ placed_acts (for_key key messages.items)) }
-    ensures tenants { sessions.new.tenants ≡ placed_all (for_key key messages.items) sessions.old.tenants }
+        (hub_of config clock next_key (with_list sessions.new.list t)) (said ++ placed_acts (for_key key messages.items)) }
+    ensures list { sessions.new.list ≡ placed_all (for_key key messages.items) sessions.old.list }
     ensures room { sessions.new.room ≡ sessions.old.room }
 {
     publish_for(sessions, key, messages);
 }
 
-/// Copies are placed, each for the client whose session is ready for it (3.3.5): the step goes on so. It takes no memory.
+/// Places each copy for its client, whose session must have room for it (3.3.5).
 pub(crate) fn place_all(sessions: &mut Sessions, copies: Vec<PlannedCopy>)
     requires apart { AreApart copies.items }
-    requires ready { AreReady 0 sessions.old.tenants copies.items }
-    ensures goes { (config : HubConfig) (clock : ℕ) (next_key : ℕ) (t : HubTables) (said : List Act) → t.sessions.tenants ≡ sessions.old.tenants → CanPlace t
+    requires ready { AreReady 0 sessions.old.list copies.items }
+    ensures goes { (config : HubConfig) (clock : ℕ) (next_key : ℕ) (t : HubTables) (said : List Act) → t.sessions.list ≡ sessions.old.list → CanPlace t
         → Refines (place_all copies.items) (hub_of config clock next_key t) said
-        (hub_of config clock next_key (with_tenants sessions.new.tenants t)) (said ++ placed_acts copies.items) }
-    ensures tenants { sessions.new.tenants ≡ placed_all copies.items sessions.old.tenants }
+        (hub_of config clock next_key (with_list sessions.new.list t)) (said ++ placed_acts copies.items) }
+    ensures list { sessions.new.list ≡ placed_all copies.items sessions.old.list }
     ensures room { sessions.new.room ≡ sessions.old.room }
 {
     publish_all(sessions, copies);
 }
 
-/// Appends the acts that say that copies are placed. They share the messages' bytes. Fails if memory runs out.
+/// Appends the acts that report copies as placed. They share the messages' bytes.
 #[inline(always)]
 pub(crate) fn push_placed(acts: &mut Vec<Act>, copies: &[PlannedCopy]) -> Result<(), AllocError>
     ensures { OnOk result (acts.new.items ≡ acts.old.items ++ placed_acts copies.now) }

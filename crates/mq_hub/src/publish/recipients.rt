@@ -1,4 +1,4 @@
-//! Copies of messages (3.3.1.3, 3.3.5, 3.8.4).
+//! Copies of messages for subscribers (3.3.1.3, 3.3.5, 3.8.4).
 
 ghost use Rattle.std.specs.Prelude.{◌≡◌, Some, IfOk};
 ghost use Rattle.std.specs.Option.{option_to_list};
@@ -19,15 +19,16 @@ pub(crate) fn lesser(first: Qos, second: Qos) -> Qos
     }
 }
 
-/// Whether a topic name begins with `$`: nothing of it is kept or placed (4.7.2).
+/// Whether a topic name begins with `$`. Messages of such a name are neither retained nor delivered
+/// (4.7.2).
 pub(crate) fn is_hidden_name(name: &TopicName) -> bool
     ensures { result ≡ is_hidden_name name.now }
 {
     name.as_str().as_bytes().first() == Some(&b'$')
 }
 
-/// A copy of a message: with the lesser quality of service (3.8.4), and this RETAIN (3.3.1.3). It shares the bytes of the
-/// topic and of the payload; none is copied.
+/// Returns a copy of a message with the lesser quality of service (3.8.4) and this RETAIN flag
+/// (3.3.1.3). It shares the bytes of topic and payload.
 pub(crate) fn copy(message: &Message, qos: Qos, retain: bool) -> Result<Message, AllocError>
     ensures { IfOk result (λ m. m ≡ copy qos retain message.now) }
 {
@@ -45,8 +46,9 @@ pub(crate) fn copy(message: &Message, qos: Qos, retain: bool) -> Result<Message,
     })
 }
 
-/// The copy of a message for a client, by the greatest quality of service of its subscriptions that match (3.3.5); `None`
-/// where the client is not up and the copy has quality of service 0 (4.3.1).
+/// Returns the copy of a message for a client, by the greatest quality of service of its matching
+/// subscriptions (3.3.5). `None` if the client is not connected and the copy has quality of service
+/// 0 (4.3.1).
 pub(crate) fn copy_by(
     message: &Message,
     qos: Qos,
@@ -61,7 +63,7 @@ pub(crate) fn copy_by(
     Ok(Some(copied))
 }
 
-/// The message of a will (3.1.2.5). It shares the bytes; none is copied.
+/// Returns the message of a will (3.1.2.5), which shares its bytes.
 pub(crate) fn will_message(will: &Will) -> Result<Message, AllocError>
     ensures { IfOk result (λ m. m ≡ will_message will.now) }
 {

@@ -1,4 +1,4 @@
-//! What a message takes that is to be shared: it is drawn up, and the tables are made ready for it, before anything is changed.
+//! Plans the delivery of a message and reserves the memory for it, before anything changes.
 
 ghost use Rattle.std.specs.Prelude.{◌≡◌, ◌+◌, ◌≤◌, ◌<◌, ℕ, length, true, IfOk, OnOk, Ok};
 ghost use Rattle.mq_packet.specs.declared.message.Message.{Message};
@@ -6,12 +6,12 @@ ghost use Rattle.mq_end.specs.Sizes.{publish_size};
 ghost use Rattle.mq_route.specs.declared.config.HubConfig.{HubConfig};
 ghost use Rattle.mq_route.specs.Hub.{HubState, copies_of};
 ghost use Rattle.mq_route.specs.Work.{have_room, deliver};
-ghost use Rattle.mq_hub.specs.Does.{Refines};
-ghost use Rattle.mq_hub.specs.Keeps.{HubInvariant};
-ghost use Rattle.mq_hub.specs.Placing.{placed_all, AreApart, AreFor, AreStillReady, HasSessions};
-ghost use Rattle.mq_hub.specs.Retained.{IsKeptOf};
-ghost use Rattle.mq_hub.specs.Seen.{hub_of};
-ghost use Rattle.mq_hub.specs.DeliveryPlan.{AreTablesAlike, IsDrawnUp, IsPrepared};
+ghost use Rattle.mq_hub.specs.Inside.Refinement.{Refines};
+ghost use Rattle.mq_hub.specs.Inside.Invariant.{HubInvariant};
+ghost use Rattle.mq_hub.specs.Inside.Placement.{placed_all, AreApart, AreFor, AreStillReady, HasSessions};
+ghost use Rattle.mq_hub.specs.Inside.Retained.{IsKeptOf};
+ghost use Rattle.mq_hub.specs.Inside.View.{hub_of};
+ghost use Rattle.mq_hub.specs.Inside.DeliveryPlan.{AreTablesAlike, IsPlanned, IsReserved};
 
 use crate::acts::ActLog;
 use crate::publish::delivery::DeliveryPlan;
@@ -24,7 +24,7 @@ use mq_topic::FilterStore;
 use std::alloc::{AllocError, Global};
 
 impl<S: FilterStore> Tables<S> {
-    /// Draws up what it takes to share a message. It shares the message's bytes, and the tables stay. Out of memory it fails.
+    /// Plans the delivery of a message. The plan shares the message's bytes.
     #[inline(always)]
     pub(crate) fn plan_delivery(
         &self,
@@ -32,11 +32,11 @@ impl<S: FilterStore> Tables<S> {
         message: &Message,
     ) -> Result<DeliveryPlan, AllocError>
         ensures kept { IfOk result (λ s. IsKeptOf message.now s.kept) }
-        ensures drawn { IfOk result (λ s. IsDrawnUp s) }
+        ensures planned { IfOk result (λ s. IsPlanned s) }
         ensures copies { IfOk result (λ s. (config : HubConfig) (clock next_key : ℕ)
             → s.copies.items ≡ copies_of message.now (hub_of config clock next_key self.now)) }
         ensures due { IfOk result (λ s. (config : HubConfig) (next_key : ℕ) → HubInvariant config next_key self.now
-            → publish_size message.now ≤ config.limits.most → AreFor self.now.sessions.tenants s.copies.items) }
+            → publish_size message.now ≤ config.limits.most → AreFor self.now.sessions.list s.copies.items) }
     {
         let copies = copies_of(alloc, &self.store, &self.connections, message)?;
         let mut placed = Vec::new(alloc);
@@ -49,49 +49,50 @@ impl<S: FilterStore> Tables<S> {
         })
     }
 
-    /// Makes room for a message that is to be shared: for the message among those that are retained, for its copies in the sessions that
-    /// they are for, with so many bytes more, and for its acts beside those for which there is room. `false` where a session has fewer identifiers free than its
-    /// copies need (2.3.1). Out of memory it fails. The tables stay, but for their room.
+    /// Makes room for a planned delivery: among the retained messages, in the sessions of the
+    /// subscribers (with `more` bytes besides), and for its acts. Returns `false` if a session has
+    /// too few free identifiers for its copies (2.3.1). Otherwise nothing but reserved capacity
+    /// changes, also on `Err`.
     #[inline(always)]
     pub(crate) fn reserve_delivery(
         &mut self,
-        sharing: &DeliveryPlan,
+        plan: &DeliveryPlan,
         more: usize,
-        doings: &mut ActLog,
+        log: &mut ActLog,
     ) -> Result<bool, AllocError>
-        requires apart { AreApart sharing.now.copies.items }
-        requires due { AreFor self.old.sessions.tenants sharing.now.copies.items }
-        ensures enough { IfOk result (λ enough. (h : HubState) → HasSessions self.old.sessions.tenants h → enough ≡ have_room sharing.now.copies.items h) }
-        ensures ready { result ≡ Ok true → IsPrepared more sharing.now self.new doings.new.room }
-        ensures left { result ≡ Ok true → doings.old.room + length sharing.now.placed.items < doings.new.room }
+        requires apart { AreApart plan.now.copies.items }
+        requires due { AreFor self.old.sessions.list plan.now.copies.items }
+        ensures enough { IfOk result (λ enough. (h : HubState) → HasSessions self.old.sessions.list h → enough ≡ have_room plan.now.copies.items h) }
+        ensures ready { result ≡ Ok true → IsReserved more plan.now self.new log.new.room }
+        ensures left { result ≡ Ok true → log.old.room + length plan.now.placed.items < log.new.room }
         ensures alike { AreTablesAlike self.old self.new }
-        ensures still { AreStillReady self.old.sessions.tenants self.new.sessions.tenants }
+        ensures still { AreStillReady self.old.sessions.list self.new.sessions.list }
         ensures sessions { self.new.sessions.room ≡ self.old.sessions.room }
-        ensures acts { doings.new.acts ≡ doings.old.acts }
-        ensures room { doings.old.room ≤ doings.new.room }
+        ensures acts { log.new.acts ≡ log.old.acts }
+        ensures room { log.old.room ≤ log.new.room }
     {
         self.retained.reserve(1)?;
-        doings.reserve_beside(sharing.placed.len() + 1)?;
-        make_room(&mut self.sessions, sharing.copies.as_slice(), more)
+        log.reserve_more(plan.placed.len() + 1)?;
+        make_room(&mut self.sessions, plan.copies.as_slice(), more)
     }
 
-    /// A message is shared, for which all is ready: it is retained (3.3.1.3) and its copies are placed (3.3.5), after an act that says that it is
-    /// taken or published. It takes no memory.
+    /// Delivers a message for which room was reserved, after an act that reports it as taken or as
+    /// a will: it is retained (3.3.1.3) and its copies are placed (3.3.5).
     #[inline(always)]
-    pub(crate) fn deliver(&mut self, act: Act, sharing: DeliveryPlan, doings: &mut ActLog)
-        requires drawn { IsDrawnUp sharing }
-        requires ready { IsPrepared 0 sharing self.old doings.old.room }
-        ensures goes { (m : Message) (config : HubConfig) (clock next_key : ℕ) → IsKeptOf m sharing.kept → HubInvariant config next_key self.old
-            → copies_of m (hub_of config clock next_key self.old) ≡ sharing.copies.items
-            → Refines (deliver act m) (hub_of config clock next_key self.old) doings.old.acts
-            (hub_of config clock next_key self.new) doings.new.acts }
-        ensures keeps { (m : Message) (config : HubConfig) (next_key : ℕ) → IsKeptOf m sharing.kept → HubInvariant config next_key self.old
+    pub(crate) fn deliver(&mut self, act: Act, plan: DeliveryPlan, log: &mut ActLog)
+        requires planned { IsPlanned plan }
+        requires ready { IsReserved 0 plan self.old log.old.room }
+        ensures goes { (m : Message) (config : HubConfig) (clock next_key : ℕ) → IsKeptOf m plan.kept → HubInvariant config next_key self.old
+            → copies_of m (hub_of config clock next_key self.old) ≡ plan.copies.items
+            → Refines (deliver act m) (hub_of config clock next_key self.old) log.old.acts
+            (hub_of config clock next_key self.new) log.new.acts }
+        ensures keeps { (m : Message) (config : HubConfig) (next_key : ℕ) → IsKeptOf m plan.kept → HubInvariant config next_key self.old
             → publish_size m ≤ config.limits.most → HubInvariant config next_key self.new }
-        ensures tenants { self.new.sessions.tenants ≡ placed_all sharing.copies.items self.old.sessions.tenants }
+        ensures list { self.new.sessions.list ≡ placed_all plan.copies.items self.old.sessions.list }
         ensures sessions { self.new.sessions.room ≡ self.old.sessions.room }
         ensures connections { self.new.connections ≡ self.old.connections }
-        ensures room { doings.old.room ≤ doings.new.room + length sharing.placed.items + 1 }
+        ensures room { log.old.room ≤ log.new.room + length plan.placed.items + 1 }
     {
-        sharing.deliver_copies(act, &mut self.retained, &mut self.sessions, doings);
+        plan.deliver_copies(act, &mut self.retained, &mut self.sessions, log);
     }
 }

@@ -1,27 +1,26 @@
-//! What a broker has the end of a session do.
+//! What a broker asks of the end of a session.
 
 ghost use Rattle.std.specs.Prelude.{◌≡◌, true, Ok, OnOk, OnErr, IsErr};
 ghost use Rattle.mq_end.specs.End.{is_up};
 ghost use Rattle.mq_packet.specs.Publication.{fits_delivery};
 ghost use Rattle.mq_end.specs.Receiving.{no_outcome, told_of};
-ghost use Rattle.mq_hub.specs.Calls.{IsAllowed, Serves, publish_call};
+ghost use Rattle.mq_hub.specs.Inside.Calls.{IsAllowed, Serves, publish_call};
 
 use mq_end::{PacketOutcome, PublishOutcome, PublishRefusal, ServerEnd, size_laws};
 use mq_packet::{Delivery, Message, NonEmpty, Packet, PacketId, SubAckCode, encoding_laws};
 use std::alloc::AllocError;
 
-/// What a broker has the end of a session do.
+/// What a broker asks of the end of a session.
 #[derive(Drop)]
 pub(crate) enum Call {
-    /// A whole packet came from the client, at this moment: the end takes it in (3.1 to 3.14).
+    /// Process a whole packet of the client, which came at this time (3.1 to 3.14).
     Takes(u64, Packet),
-    /// It answers a SUBSCRIBE by SUBACK, with this identifier and these codes (3.9).
+    /// Answer a SUBSCRIBE by SUBACK, with this identifier and these codes (3.9).
     Grants(PacketId, NonEmpty<SubAckCode>),
-    /// It answers an UNSUBSCRIBE by UNSUBACK, with this identifier (3.11).
+    /// Answer an UNSUBSCRIBE by UNSUBACK, with this identifier (3.11).
     Drops(PacketId),
 }
 
-// What comes of an answer that was put out, or for which memory ran out: it tells nothing.
 fn answered(answer: Result<(), PublishRefusal>) -> Result<PacketOutcome, AllocError>
     ensures ok { OnOk answer (result ≡ Ok no_outcome) }
     ensures err { OnErr answer (IsErr result) }
@@ -36,7 +35,7 @@ fn answered(answer: Result<(), PublishRefusal>) -> Result<PacketOutcome, AllocEr
     }
 }
 
-/// An end that is up does what it is to do. Out of memory, nothing changes.
+/// Has a connected end do what is asked.
 #[inline(always)]
 pub(crate) fn serve(end: &mut ServerEnd, call: Call) -> Result<PacketOutcome, AllocError>
     requires up { is_up end.old.end.state ≡ true }
@@ -52,7 +51,7 @@ pub(crate) fn serve(end: &mut ServerEnd, call: Call) -> Result<PacketOutcome, Al
     }
 }
 
-/// An end that is up takes the PUBLISH of a message in (3.3), which stays with the broker. Out of memory, nothing changes.
+/// Has a connected end process the PUBLISH of a message (3.3). The caller keeps the message.
 #[inline(always)]
 pub(crate) fn take_publish(
     end: &mut ServerEnd,

@@ -1,4 +1,4 @@
-//! Which sessions a broker has (3.1.2.4).
+//! The client identifiers of the sessions (3.1.2.4).
 
 ghost use Rattle.std.specs.Prelude.{◌≡◌, map, IfOk};
 ghost use Rattle.std.specs.Cmp.Lexicographic.{slice_cmp};
@@ -18,7 +18,7 @@ impl<S: FilterStore> HubOver<S> {
         self.tables.sessions.clients(self.alloc)
     }
 
-    /// The client identifiers of the sessions, ascending by their bytes (3.1.3.1).
+    /// Returns the client identifiers of the sessions, sorted by their bytes (3.1.3.1).
     pub fn sessions(&self) -> Result<Vec<Text>, AllocError>
         ensures clients { IfOk result (λ names. IsPermutation (map (λ s. s.client) self.now.sessions) names.items) }
         ensures sorted { IfOk result (λ names. IsSorted (slice_cmp nat_cmp) names.items) }

@@ -1,4 +1,4 @@
-//! The session of a client at a broker.
+//! One session.
 
 ghost use Rattle.std.specs.Prelude.{◌≡◌, ℕ, List, [], ◌∷◌, true, IfOk, OnOk};
 ghost use Rattle.mq_end.specs.End.{is_up};
@@ -7,11 +7,11 @@ ghost use Rattle.mq_packet.specs.declared.connect.Connect.{Connect};
 ghost use Rattle.mq_packet.specs.declared.message.Message.{Message};
 ghost use Rattle.mq_packet.specs.Publication.{fits_delivery};
 ghost use Rattle.mq_end.specs.Receiving.{told_of};
-ghost use Rattle.mq_hub.specs.Calls.{IsAllowed, Serves, publish_call};
-ghost use Rattle.mq_hub.specs.Collecting.{Collects};
-ghost use Rattle.mq_hub.specs.Leaving.{parted};
-ghost use Rattle.mq_hub.specs.Placing.{published, IsReady, Readies};
-ghost use Rattle.mq_hub.specs.Rising.{left, risen};
+ghost use Rattle.mq_hub.specs.Inside.Calls.{IsAllowed, Serves, publish_call};
+ghost use Rattle.mq_hub.specs.Inside.Output.{Collects};
+ghost use Rattle.mq_hub.specs.Inside.Close.{parted};
+ghost use Rattle.mq_hub.specs.Inside.Placement.{published, IsReady, Readies};
+ghost use Rattle.mq_hub.specs.Inside.ConnectRoom.{left, connected_end};
 
 use crate::connect::resume::connect_end;
 use crate::sessions::call::{Call, serve, take_publish};
@@ -30,16 +30,16 @@ use std::mem;
 pub(crate) struct BrokerSession {
     /// The client identifier.
     pub(crate) client: Text,
-    /// The key that the session was given.
+    /// The key of the session.
     pub(crate) key: ClientKey,
-    /// The end that serves it.
+    /// The end that serves the client.
     pub(crate) end: ServerEnd,
 }
 
-/// A session behind a box, so that a table of them moves few bytes. Contracts see the session.
+/// A boxed session, so that moving it within the table is cheap.
 #[derive(Drop)]
 pub(crate) struct BoxedSession {
-    tenant: Box<BrokerSession>,
+    session: Box<BrokerSession>,
 }
 
 impl Model for BoxedSession {
@@ -52,97 +52,95 @@ impl Model for BoxedSession {
 
     ghost coded = { Prim.hlevel (codes, set.code {R = nat_cmp} coded_ℕ) };
 
-    ghost view = { λ s. s.tenant.value };
+    ghost view = { λ s. s.session.value };
 }
 
 impl BoxedSession {
-    /// Puts a session behind a box.
-    pub(crate) fn new(alloc: Global, tenant: BrokerSession) -> Result<BoxedSession, AllocError>
-        ensures { IfOk result (λ s. s ≡ tenant) }
+    pub(crate) fn new(alloc: Global, session: BrokerSession) -> Result<BoxedSession, AllocError>
+        ensures { IfOk result (λ s. s ≡ session) }
     {
-        let tenant = Box::new(alloc, tenant)?;
-        Ok(BoxedSession { tenant })
+        let session = Box::new(alloc, session)?;
+        Ok(BoxedSession { session })
     }
 
-    /// The session.
-    pub(crate) fn tenant(&self) -> &BrokerSession
+    pub(crate) fn session(&self) -> &BrokerSession
         ensures { result.now ≡ self.now }
     {
-        &self.tenant
+        &self.session
     }
 
-    /// The session, which it gives away.
-    pub(crate) fn into_tenant(self) -> BrokerSession
+    pub(crate) fn into_session(self) -> BrokerSession
         ensures { result ≡ self }
     {
-        let BoxedSession { tenant } = self;
-        Box::into_inner(tenant)
+        let BoxedSession { session } = self;
+        Box::into_inner(session)
     }
 
-    /// Exchanges the end for another. It takes no memory.
     pub(crate) fn swap_end(&mut self, end: &mut ServerEnd)
-        ensures tenant { self.new ≡ record self.old { end = end.old } }
+        ensures session { self.new ≡ record self.old { end = end.old } }
         ensures end { end.new ≡ self.old.end }
     {
-        let tenant = &mut *self.tenant;
-        mem::swap(&mut tenant.end, end);
+        let session = &mut *self.session;
+        mem::swap(&mut session.end, end);
     }
 }
 
 impl BoxedSession {
-    /// Makes its end ready for messages, and for so many bytes more.
+    /// Makes room in the end for messages, and for `more` bytes besides their PUBLISHes.
     pub(crate) fn ready(&mut self, messages: &[Message], more: usize) -> Result<(), PublishRefusal>
         ensures end { Readies messages.now more result self.old.end self.new.end }
-        ensures tenant { self.new ≡ record self.old { end = self.new.end } }
+        ensures session { self.new ≡ record self.old { end = self.new.end } }
     {
-        let tenant = &mut *self.tenant;
-        tenant.end.ready(messages, more)
+        let session = &mut *self.session;
+        session.end.ready(messages, more)
     }
 
-    /// The bytes that wait in its end are taken, and none is copied. Out of memory they stay.
+    /// Takes the pending output without copying it.
     pub(crate) fn collect(&mut self) -> Result<Bytes, AllocError>
         ensures end { Collects result self.old.end self.new.end }
-        ensures tenant { self.new ≡ record self.old { end = self.new.end } }
+        ensures session { self.new ≡ record self.old { end = self.new.end } }
     {
-        let tenant = &mut *self.tenant;
-        collect_from(&mut tenant.end)
+        let session = &mut *self.session;
+        collect_from(&mut session.end)
     }
 
-    /// Its end loses its connection (3.1.2.4); the bytes that waited are exchanged for others, which are let go.
+    /// The end loses its connection (3.1.2.4). Its pending output is exchanged for `output`, which
+    /// is then dropped.
     pub(crate) fn detach(&mut self, output: &mut ByteQueue)
-        ensures tenant { self.new ≡ record self.old { end = parted self.old.end } }
+        ensures session { self.new ≡ record self.old { end = parted self.old.end } }
         ensures output { output.new ≡ self.old.end.output }
     {
-        let tenant = &mut *self.tenant;
-        detach_end(&mut tenant.end, output);
+        let session = &mut *self.session;
+        detach_end(&mut session.end, output);
     }
 
-    /// Its end publishes a message, for which it is ready.
+    /// Has the end publish a message for which it has room.
     pub(crate) fn publish(&mut self, message: Message)
         requires { IsReady (message ∷ []) 0 self.old.end }
-        ensures tenant { self.new ≡ record self.old { end = published message self.old.end } }
+        ensures session { self.new ≡ record self.old { end = published message self.old.end } }
         ensures left { (rest : List Message) (more : ℕ) → IsReady (message ∷ rest) more self.old.end
             → IsReady rest more (published message self.old.end) }
     {
-        let tenant = &mut *self.tenant;
-        publish_ready(&mut tenant.end, message);
+        let session = &mut *self.session;
+        publish_ready(&mut session.end, message);
     }
 }
 
 impl BoxedSession {
-    /// Its end, which is up, does what it is to do. Out of memory, nothing changes.
+    /// Has the end, which must be connected, do what is asked.
     #[inline(always)]
     pub(crate) fn serve(&mut self, call: Call) -> Result<PacketOutcome, AllocError>
         requires up { is_up self.old.end.end.state ≡ true }
         requires allowed { IsAllowed call self.old.end }
         ensures end { Serves call result self.old.end self.new.end }
-        ensures tenant { self.new ≡ record self.old { end = self.new.end } }
+        ensures session { self.new ≡ record self.old { end = self.new.end } }
     {
-        let tenant = &mut *self.tenant;
-        serve(&mut tenant.end, call)
+        let session = &mut *self.session;
+        serve(&mut session.end, call)
     }
 
-    /// Its end, which is up, takes the PUBLISH of a message in (3.3), which stays with the broker. Out of memory, nothing changes.
+    /// Has the end, which must be connected, process the PUBLISH of a message (3.3). The caller
+    /// keeps the message.
     #[inline(always)]
     pub(crate) fn take_publish(
         &mut self,
@@ -153,16 +151,16 @@ impl BoxedSession {
         requires up { is_up self.old.end.end.state ≡ true }
         requires fits { fits_delivery message.now.qos delivery ≡ true }
         ensures end { Serves (publish_call now message.now delivery) (told_of message.now result) self.old.end self.new.end }
-        ensures tenant { self.new ≡ record self.old { end = self.new.end } }
+        ensures session { self.new ≡ record self.old { end = self.new.end } }
     {
-        let tenant = &mut *self.tenant;
-        take_publish(&mut tenant.end, now, message, delivery)
+        let session = &mut *self.session;
+        take_publish(&mut session.end, now, message, delivery)
     }
 }
 
 impl BoxedSession {
-    /// Makes its end ready to come up by this CONNECT on a new connection, and then for messages (3.2, 4.4). Out of memory, it stays, but
-    /// for its room.
+    /// Makes room in the end to resume with this CONNECT, and then to send messages (3.2, 4.4). On
+    /// `Err` only reserved capacity may have changed.
     pub(crate) fn reserve_connect(
         &mut self,
         connect: &Connect,
@@ -170,33 +168,33 @@ impl BoxedSession {
     ) -> Result<(), AllocError>
         ensures ok { OnOk result (HasRise connect.now messages.now 0 self.new.end) }
         ensures end { self.new.end ≡ record self.old.end { room = self.new.end.room } }
-        ensures tenant { self.new ≡ record self.old { end = self.new.end } }
+        ensures session { self.new ≡ record self.old { end = self.new.end } }
         ensures before { (ms : List Message) (n : ℕ) → HasRoom ms n self.old.end → HasRoom ms n self.new.end }
     {
-        let tenant = &mut *self.tenant;
-        tenant.end.reserve_connect(connect, messages, 0)
+        let session = &mut *self.session;
+        session.end.reserve_connect(connect, messages, 0)
     }
 
-    /// Its end loses its connection (3.1.2.4), and keeps its room; the bytes that waited are gone.
+    /// The end loses its connection (3.1.2.4) and keeps its room. Its pending output is dropped.
     pub(crate) fn leave(&mut self)
-        ensures tenant { self.new ≡ record self.old { end = left self.old.end } }
+        ensures session { self.new ≡ record self.old { end = left self.old.end } }
         ensures connect_end { (c : Connect) (ms : List Message) (more : ℕ) → HasRise c ms more self.old.end → HasRise c ms more self.new.end }
     {
-        let tenant = &mut *self.tenant;
-        tenant.end.dropped();
+        let session = &mut *self.session;
+        session.end.dropped();
     }
 
-    /// Its end takes a CONNECT in on a new connection, for which it has room (3.1.4, 3.2). It takes no memory.
+    /// Has the end process a CONNECT for which it has room (3.1.4, 3.2).
     pub(crate) fn connect_end(&mut self, connect: BoxedConnect, now: u64)
         requires { HasRise connect [] 0 self.old.end }
-        ensures { self.new ≡ record self.old { end = risen connect now self.old.end } }
+        ensures { self.new ≡ record self.old { end = connected_end connect now self.old.end } }
     {
-        let tenant = &mut *self.tenant;
-        connect_end(&mut tenant.end, connect, now);
+        let session = &mut *self.session;
+        connect_end(&mut session.end, connect, now);
     }
 }
 
-// The bytes that wait in an end are taken, and none is copied. Out of memory they stay.
+// Takes the pending output of an end without copying it.
 fn collect_from(end: &mut ServerEnd) -> Result<Bytes, AllocError>
     ensures { Collects result end.old end.new }
 {
@@ -213,7 +211,6 @@ fn collect_from(end: &mut ServerEnd) -> Result<Bytes, AllocError>
     }
 }
 
-// An end loses its connection; the bytes that waited are exchanged for others, which are let go.
 fn detach_end(end: &mut ServerEnd, output: &mut ByteQueue)
     ensures end { end.new ≡ parted end.old }
     ensures output { output.new ≡ end.old.output }
@@ -222,7 +219,6 @@ fn detach_end(end: &mut ServerEnd, output: &mut ByteQueue)
     end.dropped();
 }
 
-// An end publishes a message, for which it is ready.
 fn publish_ready(end: &mut ServerEnd, message: Message)
     requires { IsReady (message ∷ []) 0 end.old }
     ensures end { end.new ≡ published message end.old }

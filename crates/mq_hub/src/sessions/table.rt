@@ -1,4 +1,4 @@
-//! The sessions of a broker (3.1.2.4, 3.1.3.1).
+//! The table of sessions (3.1.2.4, 3.1.3.1).
 
 ghost use Rattle.std.specs.Prelude.{◌≡◌, ◌+◌, ◌≤◌, ◌<◌, ℕ, List, [], ◌∷◌, ◌++◌, true, Some, None, length, map, nat_lt, vec_capacity, if◌then◌else◌, OnOk, OnErr, IfOk, IsSome, IfSome};
 ghost use Rattle.std.specs.HashMap.{get, spare};
@@ -10,12 +10,12 @@ ghost use Rattle.mq_packet.specs.declared.connect.Connect.{Connect};
 ghost use Rattle.mq_packet.specs.declared.message.Message.{Message};
 ghost use Rattle.mq_packet.specs.Publication.{fits_delivery};
 ghost use Rattle.mq_end.specs.Receiving.{told_of};
-ghost use Rattle.mq_hub.specs.Calls.{CanServe, ServesAt, publish_call};
-ghost use Rattle.mq_hub.specs.Collecting.{CollectsAt};
-ghost use Rattle.mq_hub.specs.Leaving.{parted};
-ghost use Rattle.mq_hub.specs.Placing.{placed_at, AreSameButRoom, AreStillReady, IsReadyAt, ReadiesAt};
-ghost use Rattle.mq_hub.specs.Rising.{left, risen, HasRiseAt, IsEnlarged};
-ghost use Rattle.mq_hub.specs.Sessions.{sessions_of, tenant_of, with_server, without_tenant, AreBelow, AreAscending};
+ghost use Rattle.mq_hub.specs.Inside.Calls.{CanServe, ServesAt, publish_call};
+ghost use Rattle.mq_hub.specs.Inside.Output.{CollectsAt};
+ghost use Rattle.mq_hub.specs.Inside.Close.{parted};
+ghost use Rattle.mq_hub.specs.Inside.Placement.{placed_at, AreSameButRoom, AreStillReady, IsReadyAt, ReadiesAt};
+ghost use Rattle.mq_hub.specs.Inside.ConnectRoom.{left, connected_end, HasConnectRoomAt, IsEnlarged};
+ghost use Rattle.mq_hub.specs.Inside.Sessions.{sessions_of, session_at, with_server, without_key, AreBelow, AreAscending};
 
 use crate::sessions::call::Call;
 use crate::sessions::session::{BoxedSession, BrokerSession};
@@ -28,13 +28,14 @@ use std::alloc::{AllocError, Global};
 use std::collections::HashMap;
 use std::marker::Model;
 
-// The keys of sessions by client identifier.
+// The keys of the sessions by client identifier.
 type Keys = HashMap<Text, ClientKey>;
 
-/// The sessions of a broker, by ascending key, each found by its key and by its client identifier at once.
+/// The sessions by ascending key. A hash table finds a session by its client identifier; a guess,
+/// or else binary search, finds it by its key.
 #[derive(Drop)]
 pub(crate) struct Sessions {
-    tenants: Vec<BoxedSession>,
+    list: Vec<BoxedSession>,
     keys: Keys,
 }
 
@@ -45,102 +46,99 @@ impl Model for Sessions {
     ghost use Rattle.std.specs.FinSet as set;
     ghost use Rattle.std.specs.HashMap.{get, spare};
     ghost use Rattle.std.specs.Ordering.{nat_cmp};
-    ghost use Rattle.mq_hub.specs.Sessions.{SessionTable, AreSessions};
+    ghost use Rattle.mq_hub.specs.Inside.Sessions.{SessionTable, AreSessions};
 
     ghost Value = { SessionTable };
 
     ghost coded = { Prim.hlevel (codes, set.code {R = nat_cmp} coded_ℕ) };
 
-    ghost view = { λ t. record { tenants = t.tenants.items; room = min (vec_capacity t.tenants - length t.tenants.items) (spare t.keys) } };
+    ghost view = { λ t. record { list = t.list.items; room = min (vec_capacity t.list - length t.list.items) (spare t.keys) } };
 
-    ghost invariant = { λ t. AreSessions t.tenants.items (get (pointwise nat_eq) t.keys) };
+    ghost invariant = { λ t. AreSessions t.list.items (get (pointwise nat_eq) t.keys) };
 }
 
-// The place of a session's key, where no session between it and the first one has ended: keys are given in order.
-fn guessed(tenants: &[BoxedSession], key: ClientKey) -> Option<usize>
-    requires { AreAscending tenants.now }
-    ensures value { IfSome result (λ at. at ≡ prefix_len (λ t. nat_lt t.key key) tenants.now) }
-    ensures bound { IfSome result (λ at. at ≤ length tenants.now) }
+// The index of a key if no session between it and the first has ended. Keys are given in order.
+fn guess_index(list: &[BoxedSession], key: ClientKey) -> Option<usize>
+    requires { AreAscending list.now }
+    ensures value { IfSome result (λ at. at ≡ prefix_len (λ t. nat_lt t.key key) list.now) }
+    ensures bound { IfSome result (λ at. at ≤ length list.now) }
 {
-    let first = tenants.first()?.tenant().key;
+    let first = list.first()?.session().key;
     let at = key.get().checked_sub(first.get())? as usize;
-    if at < tenants.len() && tenants[at].tenant().key == key {
+    if at < list.len() && list[at].session().key == key {
         Some(at)
     } else {
         None
     }
 }
 
-// How many sessions have a key below this one.
-fn place(tenants: &[BoxedSession], key: ClientKey) -> usize
-    requires { AreAscending tenants.now }
-    ensures value { result ≡ prefix_len (λ t. nat_lt t.key key) tenants.now }
-    ensures bound { result ≤ length tenants.now }
+// The number of sessions with a key below this one.
+fn place(list: &[BoxedSession], key: ClientKey) -> usize
+    requires { AreAscending list.now }
+    ensures value { result ≡ prefix_len (λ t. nat_lt t.key key) list.now }
+    ensures bound { result ≤ length list.now }
 {
-    if let Some(at) = guessed(tenants, key) {
+    if let Some(at) = guess_index(list, key) {
         return at;
     }
-    tenants.partition_point(
-        |seat: &BoxedSession| -> bool
-            ensures { result ≡ nat_lt seat.now.key key }
-        { seat.tenant().key.get() < key.get() },
+    list.partition_point(
+        |boxed: &BoxedSession| -> bool
+            ensures { result ≡ nat_lt boxed.now.key key }
+        { boxed.session().key.get() < key.get() },
     )
 }
 
-// The session of a key.
-fn tenant_at(tenants: &[BoxedSession], key: ClientKey) -> Option<&BrokerSession>
-    requires { AreAscending tenants.now }
-    ensures { option_copied result ≡ tenant_of key tenants.now }
+fn session_in(list: &[BoxedSession], key: ClientKey) -> Option<&BrokerSession>
+    requires { AreAscending list.now }
+    ensures { option_copied result ≡ session_at key list.now }
 {
-    let at = place(tenants, key);
-    if at == tenants.len() {
+    let at = place(list, key);
+    if at == list.len() {
         return None;
     }
-    let tenant = tenants[at].tenant();
-    if tenant.key == key {
-        Some(tenant)
+    let session = list[at].session();
+    if session.key == key {
+        Some(session)
     } else {
         None
     }
 }
 
-// Exchanges the end of the session of a key for another.
-fn swap_at(tenants: &mut [BoxedSession], key: ClientKey, end: &mut ServerEnd)
-    requires ascending { AreAscending tenants.old }
-    requires there { IsSome (tenant_of key tenants.old) }
-    ensures tenants { tenants.new ≡ with_server key end.old tenants.old }
-    ensures end { IfSome (tenant_of key tenants.old) (λ t. end.new ≡ t.end) }
+// Exchanges the end of a session for another.
+fn swap_at(list: &mut [BoxedSession], key: ClientKey, end: &mut ServerEnd)
+    requires ascending { AreAscending list.old }
+    requires there { IsSome (session_at key list.old) }
+    ensures list { list.new ≡ with_server key end.old list.old }
+    ensures end { IfSome (session_at key list.old) (λ t. end.new ≡ t.end) }
 {
-    let at = place(tenants, key);
-    tenants[at].swap_end(end);
+    let at = place(list, key);
+    list[at].swap_end(end);
 }
 
-// The end of the session of a key loses its connection; the bytes that waited are exchanged for others.
-fn detach_at(tenants: &mut [BoxedSession], key: ClientKey, output: &mut ByteQueue)
-    requires ascending { AreAscending tenants.old }
-    requires there { IsSome (tenant_of key tenants.old) }
-    ensures tenants { IfSome (tenant_of key tenants.old) (λ t. tenants.new ≡ with_server key (parted t.end) tenants.old) }
-    ensures output { IfSome (tenant_of key tenants.old) (λ t. output.new ≡ t.end.output) }
+// The end of a session loses its connection. Its pending output is exchanged for `output`.
+fn detach_at(list: &mut [BoxedSession], key: ClientKey, output: &mut ByteQueue)
+    requires ascending { AreAscending list.old }
+    requires there { IsSome (session_at key list.old) }
+    ensures list { IfSome (session_at key list.old) (λ t. list.new ≡ with_server key (parted t.end) list.old) }
+    ensures output { IfSome (session_at key list.old) (λ t. output.new ≡ t.end.output) }
 {
-    let at = place(tenants, key);
-    tenants[at].detach(output);
+    let at = place(list, key);
+    list[at].detach(output);
 }
 
-// Takes the session of a key out.
-fn take_at(tenants: &mut Vec<BoxedSession>, key: ClientKey) -> Option<BrokerSession>
-    requires { AreAscending tenants.old.items }
-    ensures tenants { tenants.new.items ≡ without_tenant key tenants.old.items }
-    ensures taken { result ≡ tenant_of key tenants.old.items }
-    ensures capacity { vec_capacity tenants.new ≡ vec_capacity tenants.old }
+fn take_at(list: &mut Vec<BoxedSession>, key: ClientKey) -> Option<BrokerSession>
+    requires { AreAscending list.old.items }
+    ensures list { list.new.items ≡ without_key key list.old.items }
+    ensures taken { result ≡ session_at key list.old.items }
+    ensures capacity { vec_capacity list.new ≡ vec_capacity list.old }
 {
-    if tenant_at(tenants.as_slice(), key).is_none() {
+    if session_in(list.as_slice(), key).is_none() {
         return None;
     }
-    let at = place(tenants.as_slice(), key);
-    Some(tenants.remove(at).into_tenant())
+    let at = place(list.as_slice(), key);
+    Some(list.remove(at).into_session())
 }
 
-// Writes down the key of an identifier, where there is memory for one more.
 fn write_key(keys: &mut Keys, name: Text, key: ClientKey)
     requires { 0 < spare keys.old }
     ensures named { (n : List ℕ) → get bytes_eq keys.new n ≡ (if bytes_eq name n then Some key else get bytes_eq keys.old n) }
@@ -149,7 +147,6 @@ fn write_key(keys: &mut Keys, name: Text, key: ClientKey)
     let _ = keys.insert(name, key);
 }
 
-// Strikes an identifier out.
 fn drop_key(keys: &mut Keys, name: &Text)
     ensures named { (n : List ℕ) → get bytes_eq keys.new n ≡ (if bytes_eq name.now n then None else get bytes_eq keys.old n) }
     ensures spare { spare keys.old ≤ spare keys.new }
@@ -158,191 +155,183 @@ fn drop_key(keys: &mut Keys, name: &Text)
 }
 
 impl Sessions {
-    /// No sessions. It takes no memory.
     pub(crate) fn new(alloc: Global) -> Sessions
-        ensures { result.tenants ≡ [] }
+        ensures { result.list ≡ [] }
     {
         Sessions {
-            tenants: Vec::new(alloc),
+            list: Vec::new(alloc),
             keys: HashMap::new(alloc),
         }
     }
 
-    /// How many there are.
     pub(crate) fn len(&self) -> usize
-        ensures { result ≡ length self.now.tenants }
+        ensures { result ≡ length self.now.list }
     {
-        self.tenants.len()
+        self.list.len()
     }
 
-    /// Makes room for so many more. Fails if memory runs out. The sessions stay.
     pub(crate) fn reserve(&mut self, count: usize) -> Result<(), AllocError>
         ensures ok { OnOk result (count ≤ self.new.room) }
-        ensures same { self.new.tenants ≡ self.old.tenants }
+        ensures same { self.new.list ≡ self.old.list }
         ensures room { self.old.room ≤ self.new.room }
     {
-        self.tenants.reserve(count)?;
+        self.list.reserve(count)?;
         self.keys.reserve(count)
     }
 
-    /// The key of the session of a client (3.1.3.1).
+    /// Returns the key of the session with this client identifier (3.1.3.1).
     pub(crate) fn key_of(&self, client: &Text) -> Option<ClientKey>
-        ensures { result ≡ key_of client.now (sessions_of self.now.tenants) }
+        ensures { result ≡ key_of client.now (sessions_of self.now.list) }
     {
         self.keys.get(client).copied()
     }
 
-    /// The session of a key.
     pub(crate) fn get(&self, key: ClientKey) -> Option<&BrokerSession>
-        ensures { option_copied result ≡ tenant_of key self.now.tenants }
+        ensures { option_copied result ≡ session_at key self.now.list }
     {
-        tenant_at(self.tenants.as_slice(), key)
+        session_in(self.list.as_slice(), key)
     }
 
-    /// A session begins, with a key above all that there are, of a client that has none (3.1.2.4). It takes no memory.
-    pub(crate) fn insert(&mut self, name: Text, seat: BoxedSession)
-        requires name { name ≡ seat.client }
-        requires key { AreBelow seat.key self.old.tenants }
-        requires client { key_of seat.client (sessions_of self.old.tenants) ≡ None }
+    /// Adds a session (3.1.2.4). Its key must be above all others, and its client must have no
+    /// other session.
+    pub(crate) fn insert(&mut self, name: Text, boxed: BoxedSession)
+        requires name { name ≡ boxed.client }
+        requires key { AreBelow boxed.key self.old.list }
+        requires client { key_of boxed.client (sessions_of self.old.list) ≡ None }
         requires room { 0 < self.old.room }
-        ensures tenants { self.new.tenants ≡ self.old.tenants ++ seat ∷ [] }
+        ensures list { self.new.list ≡ self.old.list ++ boxed ∷ [] }
         ensures room { self.old.room ≤ self.new.room + 1 }
     {
-        write_key(&mut self.keys, name, seat.tenant().key);
-        self.tenants.push_reserved(seat);
+        write_key(&mut self.keys, name, boxed.session().key);
+        self.list.push_reserved(boxed);
     }
 
-    /// Exchanges the end of the session of a key for another. It takes no memory.
+    /// Exchanges the end of a session for another.
     pub(crate) fn swap_end(&mut self, key: ClientKey, end: &mut ServerEnd)
-        requires { IsSome (tenant_of key self.old.tenants) }
-        ensures tenants { self.new.tenants ≡ with_server key end.old self.old.tenants }
-        ensures end { IfSome (tenant_of key self.old.tenants) (λ t. end.new ≡ t.end) }
+        requires { IsSome (session_at key self.old.list) }
+        ensures list { self.new.list ≡ with_server key end.old self.old.list }
+        ensures end { IfSome (session_at key self.old.list) (λ t. end.new ≡ t.end) }
         ensures room { self.new.room ≡ self.old.room }
     {
-        swap_at(self.tenants.as_mut_slice(), key, end);
+        swap_at(self.list.as_mut_slice(), key, end);
     }
 
-    /// The end of the session of a key loses its connection (3.1.2.4); the bytes that waited are exchanged for others, which are let go.
-    /// It takes no memory.
+    /// The end of a session loses its connection (3.1.2.4). Its pending output is exchanged for
+    /// `output`, which is then dropped.
     pub(crate) fn detach(&mut self, key: ClientKey, output: &mut ByteQueue)
-        requires { IsSome (tenant_of key self.old.tenants) }
-        ensures tenants { IfSome (tenant_of key self.old.tenants) (λ t. self.new.tenants ≡ with_server key (parted t.end) self.old.tenants) }
-        ensures output { IfSome (tenant_of key self.old.tenants) (λ t. output.new ≡ t.end.output) }
+        requires { IsSome (session_at key self.old.list) }
+        ensures list { IfSome (session_at key self.old.list) (λ t. self.new.list ≡ with_server key (parted t.end) self.old.list) }
+        ensures output { IfSome (session_at key self.old.list) (λ t. output.new ≡ t.end.output) }
         ensures room { self.new.room ≡ self.old.room }
     {
-        detach_at(self.tenants.as_mut_slice(), key, output);
+        detach_at(self.list.as_mut_slice(), key, output);
     }
 
-    /// A session ends (3.1.2.4), which it gives away; `None` where there is none of this key. It takes no memory.
+    /// Ends a session (3.1.2.4) and returns it, or `None` if there is none of this key.
     pub(crate) fn remove(&mut self, key: ClientKey) -> Option<BrokerSession>
-        ensures tenants { self.new.tenants ≡ without_tenant key self.old.tenants }
-        ensures taken { result ≡ tenant_of key self.old.tenants }
-        ensures client { (n : List ℕ) → key_of n (sessions_of self.old.tenants) ≡ Some key → key_of n (sessions_of self.new.tenants) ≡ None }
+        ensures list { self.new.list ≡ without_key key self.old.list }
+        ensures taken { result ≡ session_at key self.old.list }
+        ensures client { (n : List ℕ) → key_of n (sessions_of self.old.list) ≡ Some key → key_of n (sessions_of self.new.list) ≡ None }
         ensures room { self.old.room ≤ self.new.room }
     {
-        let tenant = take_at(&mut self.tenants, key)?;
-        drop_key(&mut self.keys, &tenant.client);
-        Some(tenant)
+        let session = take_at(&mut self.list, key)?;
+        drop_key(&mut self.keys, &session.client);
+        Some(session)
     }
 }
 
-// The bytes that wait in the end of the session of a key are taken, and none is copied.
-fn collect_at(tenants: &mut [BoxedSession], key: ClientKey) -> Result<Bytes, AllocError>
-    requires ascending { AreAscending tenants.old }
-    requires there { IsSome (tenant_of key tenants.old) }
-    ensures { CollectsAt key result tenants.old tenants.new }
+fn collect_at(list: &mut [BoxedSession], key: ClientKey) -> Result<Bytes, AllocError>
+    requires ascending { AreAscending list.old }
+    requires there { IsSome (session_at key list.old) }
+    ensures { CollectsAt key result list.old list.new }
 {
-    let at = place(tenants, key);
-    tenants[at].collect()
+    let at = place(list, key);
+    list[at].collect()
 }
 
 impl Sessions {
-    /// The bytes that wait in the end of the session of a key are taken, and none is copied. Out of memory they stay.
+    /// Takes the pending output of a session's end without copying it.
     pub(crate) fn collect(&mut self, key: ClientKey) -> Result<Bytes, AllocError>
-        requires { IsSome (tenant_of key self.old.tenants) }
-        ensures collects { CollectsAt key result self.old.tenants self.new.tenants }
+        requires { IsSome (session_at key self.old.list) }
+        ensures collects { CollectsAt key result self.old.list self.new.list }
         ensures room { self.new.room ≡ self.old.room }
     {
-        collect_at(self.tenants.as_mut_slice(), key)
+        collect_at(self.list.as_mut_slice(), key)
     }
 }
 
-// Makes the end of the session of a key ready for messages, and for so many bytes more.
 fn ready_at(
-    tenants: &mut [BoxedSession],
+    list: &mut [BoxedSession],
     key: ClientKey,
     messages: &[Message],
     more: usize,
 ) -> Result<(), PublishRefusal>
-    requires ascending { AreAscending tenants.old }
-    requires there { IsSome (tenant_of key tenants.old) }
-    ensures { ReadiesAt key messages.now more result tenants.old tenants.new }
+    requires ascending { AreAscending list.old }
+    requires there { IsSome (session_at key list.old) }
+    ensures { ReadiesAt key messages.now more result list.old list.new }
 {
-    let at = place(tenants, key);
-    tenants[at].ready(messages, more)
+    let at = place(list, key);
+    list[at].ready(messages, more)
 }
 
-// The end of the session of a key publishes a message, for which it is ready.
-fn publish_at(tenants: &mut [BoxedSession], key: ClientKey, message: Message)
-    requires ascending { AreAscending tenants.old }
-    requires ready { IsReadyAt key (message ∷ []) 0 tenants.old }
-    ensures tenants { tenants.new ≡ placed_at key message tenants.old }
-    ensures left { (rest : List Message) (more : ℕ) → IsReadyAt key (message ∷ rest) more tenants.old
-        → IsReadyAt key rest more (placed_at key message tenants.old) }
+fn publish_at(list: &mut [BoxedSession], key: ClientKey, message: Message)
+    requires ascending { AreAscending list.old }
+    requires ready { IsReadyAt key (message ∷ []) 0 list.old }
+    ensures list { list.new ≡ placed_at key message list.old }
+    ensures left { (rest : List Message) (more : ℕ) → IsReadyAt key (message ∷ rest) more list.old
+        → IsReadyAt key rest more (placed_at key message list.old) }
 {
-    let at = place(tenants, key);
-    tenants[at].publish(message);
+    let at = place(list, key);
+    list[at].publish(message);
 }
 
-// The end of the session of a key, which is up, does what it is to do.
 #[inline(always)]
 fn serve_at(
-    tenants: &mut [BoxedSession],
+    list: &mut [BoxedSession],
     key: ClientKey,
     call: Call,
 ) -> Result<PacketOutcome, AllocError>
-    requires ascending { AreAscending tenants.old }
-    requires can { CanServe key call tenants.old }
-    ensures { ServesAt key call result tenants.old tenants.new }
+    requires ascending { AreAscending list.old }
+    requires can { CanServe key call list.old }
+    ensures { ServesAt key call result list.old list.new }
 {
-    let at = place(tenants, key);
-    tenants[at].serve(call)
+    let at = place(list, key);
+    list[at].serve(call)
 }
 
 impl Sessions {
-    /// The end of the session of a key, which is up, does what it is to do. Out of memory, the sessions stay.
+    /// Has the end of a session, which must be connected, do what is asked.
     #[inline(always)]
     pub(crate) fn serve(&mut self, key: ClientKey, call: Call) -> Result<PacketOutcome, AllocError>
-        requires { CanServe key call self.old.tenants }
-        ensures serves { ServesAt key call result self.old.tenants self.new.tenants }
-        ensures err { OnErr result (self.new.tenants ≡ self.old.tenants) }
+        requires { CanServe key call self.old.list }
+        ensures serves { ServesAt key call result self.old.list self.new.list }
+        ensures err { OnErr result (self.new.list ≡ self.old.list) }
         ensures room { self.new.room ≡ self.old.room }
     {
-        serve_at(self.tenants.as_mut_slice(), key, call)
+        serve_at(self.list.as_mut_slice(), key, call)
     }
 }
 
-// The end of the session of a key, which is up, takes the PUBLISH of a message in, which stays with the broker.
 #[inline(always)]
 fn take_publish_at(
-    tenants: &mut [BoxedSession],
+    list: &mut [BoxedSession],
     key: ClientKey,
     now: u64,
     message: &Message,
     delivery: Option<Delivery>,
 ) -> Result<PublishOutcome, AllocError>
-    requires ascending { AreAscending tenants.old }
-    requires can { CanServe key (publish_call now message.now delivery) tenants.old }
+    requires ascending { AreAscending list.old }
+    requires can { CanServe key (publish_call now message.now delivery) list.old }
     requires fits { fits_delivery message.now.qos delivery ≡ true }
-    ensures { ServesAt key (publish_call now message.now delivery) (told_of message.now result) tenants.old tenants.new }
+    ensures { ServesAt key (publish_call now message.now delivery) (told_of message.now result) list.old list.new }
 {
-    let at = place(tenants, key);
-    tenants[at].take_publish(now, message, delivery)
+    let at = place(list, key);
+    list[at].take_publish(now, message, delivery)
 }
 
 impl Sessions {
-    /// The end of the session of a key, which is up, takes the PUBLISH of a message in (3.3), which stays with the broker. Out of memory, the
-    /// sessions stay.
+    /// Has the end of a session, which must be connected, process the PUBLISH of a message (3.3).
+    /// The caller keeps the message.
     #[inline(always)]
     pub(crate) fn take_publish(
         &mut self,
@@ -351,137 +340,134 @@ impl Sessions {
         message: &Message,
         delivery: Option<Delivery>,
     ) -> Result<PublishOutcome, AllocError>
-        requires can { CanServe key (publish_call now message.now delivery) self.old.tenants }
+        requires can { CanServe key (publish_call now message.now delivery) self.old.list }
         requires fits { fits_delivery message.now.qos delivery ≡ true }
-        ensures serves { ServesAt key (publish_call now message.now delivery) (told_of message.now result) self.old.tenants self.new.tenants }
-        ensures err { OnErr result (self.new.tenants ≡ self.old.tenants) }
+        ensures serves { ServesAt key (publish_call now message.now delivery) (told_of message.now result) self.old.list self.new.list }
+        ensures err { OnErr result (self.new.list ≡ self.old.list) }
         ensures room { self.new.room ≡ self.old.room }
     {
-        take_publish_at(self.tenants.as_mut_slice(), key, now, message, delivery)
+        take_publish_at(self.list.as_mut_slice(), key, now, message, delivery)
     }
 }
 
 impl Sessions {
-    /// Makes the end of the session of a key ready for messages, and for so many bytes that are put out beside their PUBLISHes.
+    /// Makes room in the end of a session for messages, and for `more` bytes besides their
+    /// PUBLISHes.
     pub(crate) fn ready(
         &mut self,
         key: ClientKey,
         messages: &[Message],
         more: usize,
     ) -> Result<(), PublishRefusal>
-        requires { IsSome (tenant_of key self.old.tenants) }
-        ensures readies { ReadiesAt key messages.now more result self.old.tenants self.new.tenants }
-        ensures ascending { AreAscending self.old.tenants }
+        requires { IsSome (session_at key self.old.list) }
+        ensures readies { ReadiesAt key messages.now more result self.old.list self.new.list }
+        ensures ascending { AreAscending self.old.list }
         ensures room { self.new.room ≡ self.old.room }
     {
-        ready_at(self.tenants.as_mut_slice(), key, messages, more)
+        ready_at(self.list.as_mut_slice(), key, messages, more)
     }
 
-    /// The end of the session of a key publishes a message, for which it is ready. It takes no memory.
+    /// Has the end of a session publish a message for which it has room.
     pub(crate) fn publish(&mut self, key: ClientKey, message: Message)
-        requires { IsReadyAt key (message ∷ []) 0 self.old.tenants }
-        ensures tenants { self.new.tenants ≡ placed_at key message self.old.tenants }
-        ensures left { (rest : List Message) (more : ℕ) → IsReadyAt key (message ∷ rest) more self.old.tenants
-            → IsReadyAt key rest more self.new.tenants }
+        requires { IsReadyAt key (message ∷ []) 0 self.old.list }
+        ensures list { self.new.list ≡ placed_at key message self.old.list }
+        ensures left { (rest : List Message) (more : ℕ) → IsReadyAt key (message ∷ rest) more self.old.list
+            → IsReadyAt key rest more self.new.list }
         ensures room { self.new.room ≡ self.old.room }
     {
-        publish_at(self.tenants.as_mut_slice(), key, message);
+        publish_at(self.list.as_mut_slice(), key, message);
     }
 }
 
-// Makes the end of the session of a key ready to come up by this CONNECT on a new connection, and then for messages.
 fn reserve_connect_at(
-    tenants: &mut [BoxedSession],
+    list: &mut [BoxedSession],
     key: ClientKey,
     connect: &Connect,
     messages: &[Message],
 ) -> Result<(), AllocError>
-    requires ascending { AreAscending tenants.old }
-    requires there { IsSome (tenant_of key tenants.old) }
-    ensures ok { OnOk result (HasRiseAt connect.now key messages.now 0 tenants.new) }
-    ensures enlarged { IsEnlarged key tenants.old tenants.new }
+    requires ascending { AreAscending list.old }
+    requires there { IsSome (session_at key list.old) }
+    ensures ok { OnOk result (HasConnectRoomAt connect.now key messages.now 0 list.new) }
+    ensures enlarged { IsEnlarged key list.old list.new }
 {
-    let at = place(tenants, key);
-    tenants[at].reserve_connect(connect, messages)
+    let at = place(list, key);
+    list[at].reserve_connect(connect, messages)
 }
 
-// The end of the session of a key loses its connection, and keeps its room.
-fn leave_at(tenants: &mut [BoxedSession], key: ClientKey)
-    requires ascending { AreAscending tenants.old }
-    requires there { IsSome (tenant_of key tenants.old) }
-    ensures tenants { IfSome (tenant_of key tenants.old) (λ t. tenants.new ≡ with_server key (left t.end) tenants.old) }
-    ensures connect_end { (c : Connect) (ms : List Message) (more : ℕ) → HasRiseAt c key ms more tenants.old → HasRiseAt c key ms more tenants.new }
+fn leave_at(list: &mut [BoxedSession], key: ClientKey)
+    requires ascending { AreAscending list.old }
+    requires there { IsSome (session_at key list.old) }
+    ensures list { IfSome (session_at key list.old) (λ t. list.new ≡ with_server key (left t.end) list.old) }
+    ensures connect_end { (c : Connect) (ms : List Message) (more : ℕ) → HasConnectRoomAt c key ms more list.old → HasConnectRoomAt c key ms more list.new }
 {
-    let at = place(tenants, key);
-    tenants[at].leave();
+    let at = place(list, key);
+    list[at].leave();
 }
 
-// The end of the session of a key takes a CONNECT in on a new connection, for which it has room.
-fn connect_end_at(tenants: &mut [BoxedSession], key: ClientKey, connect: BoxedConnect, now: u64)
-    requires ascending { AreAscending tenants.old }
-    requires ready { HasRiseAt connect key [] 0 tenants.old }
-    ensures { IfSome (tenant_of key tenants.old) (λ t. tenants.new ≡ with_server key (risen connect now t.end) tenants.old) }
+fn connect_end_at(list: &mut [BoxedSession], key: ClientKey, connect: BoxedConnect, now: u64)
+    requires ascending { AreAscending list.old }
+    requires ready { HasConnectRoomAt connect key [] 0 list.old }
+    ensures { IfSome (session_at key list.old) (λ t. list.new ≡ with_server key (connected_end connect now t.end) list.old) }
 {
-    let at = place(tenants, key);
-    tenants[at].connect_end(connect, now);
+    let at = place(list, key);
+    list[at].connect_end(connect, now);
 }
 
 impl Sessions {
-    /// Makes the end of the session of a key ready to come up by this CONNECT on a new connection, and then for messages (3.2, 4.4). Out of
-    /// memory, the sessions stay, but for the room of that end.
+    /// Makes room in the end of a session to resume with this CONNECT, and then to send messages
+    /// (3.2, 4.4). On `Err` only the capacity of that end may have changed.
     pub(crate) fn reserve_connect(
         &mut self,
         key: ClientKey,
         connect: &Connect,
         messages: &[Message],
     ) -> Result<(), AllocError>
-        requires { IsSome (tenant_of key self.old.tenants) }
-        ensures ok { OnOk result (HasRiseAt connect.now key messages.now 0 self.new.tenants) }
-        ensures same { AreSameButRoom self.old.tenants self.new.tenants }
-        ensures still { AreStillReady self.old.tenants self.new.tenants }
+        requires { IsSome (session_at key self.old.list) }
+        ensures ok { OnOk result (HasConnectRoomAt connect.now key messages.now 0 self.new.list) }
+        ensures same { AreSameButRoom self.old.list self.new.list }
+        ensures still { AreStillReady self.old.list self.new.list }
         ensures room { self.new.room ≡ self.old.room }
     {
-        reserve_connect_at(self.tenants.as_mut_slice(), key, connect, messages)
+        reserve_connect_at(self.list.as_mut_slice(), key, connect, messages)
     }
 
-    /// The end of the session of a key loses its connection (3.1.2.4), and keeps its room; the bytes that waited are gone. It takes no
-    /// memory.
+    /// The end of a session loses its connection (3.1.2.4) and keeps its room. Its pending output
+    /// is dropped.
     pub(crate) fn leave(&mut self, key: ClientKey)
-        requires { IsSome (tenant_of key self.old.tenants) }
-        ensures tenants { IfSome (tenant_of key self.old.tenants) (λ t. self.new.tenants ≡ with_server key (left t.end) self.old.tenants) }
-        ensures connect_end { (c : Connect) (ms : List Message) (more : ℕ) → HasRiseAt c key ms more self.old.tenants → HasRiseAt c key ms more self.new.tenants }
+        requires { IsSome (session_at key self.old.list) }
+        ensures list { IfSome (session_at key self.old.list) (λ t. self.new.list ≡ with_server key (left t.end) self.old.list) }
+        ensures connect_end { (c : Connect) (ms : List Message) (more : ℕ) → HasConnectRoomAt c key ms more self.old.list → HasConnectRoomAt c key ms more self.new.list }
         ensures room { self.new.room ≡ self.old.room }
     {
-        leave_at(self.tenants.as_mut_slice(), key);
+        leave_at(self.list.as_mut_slice(), key);
     }
 
-    /// The end of the session of a key takes a CONNECT in on a new connection, for which it has room (3.1.4, 3.2). It takes no memory.
+    /// Has the end of a session process a CONNECT for which it has room (3.1.4, 3.2).
     pub(crate) fn connect_end(&mut self, key: ClientKey, connect: BoxedConnect, now: u64)
-        requires { HasRiseAt connect key [] 0 self.old.tenants }
-        ensures tenants { IfSome (tenant_of key self.old.tenants) (λ t.
-            self.new.tenants ≡ with_server key (risen connect now t.end) self.old.tenants) }
+        requires { HasConnectRoomAt connect key [] 0 self.old.list }
+        ensures list { IfSome (session_at key self.old.list) (λ t.
+            self.new.list ≡ with_server key (connected_end connect now t.end) self.old.list) }
         ensures room { self.new.room ≡ self.old.room }
     {
-        connect_end_at(self.tenants.as_mut_slice(), key, connect, now);
+        connect_end_at(self.list.as_mut_slice(), key, connect, now);
     }
 }
 
-// The client identifiers of sessions, in their order.
-fn clients_of(alloc: Global, tenants: &[BoxedSession]) -> Result<Vec<Text>, AllocError>
-    ensures { IfOk result (λ names. names.items ≡ map (λ t. t.client) tenants.now) }
+fn clients_of(alloc: Global, list: &[BoxedSession]) -> Result<Vec<Text>, AllocError>
+    ensures { IfOk result (λ names. names.items ≡ map (λ t. t.client) list.now) }
 {
-    let mut names = Vec::with_capacity(alloc, tenants.len())?;
-    for seat in tenants {
-        names.push(seat.tenant().client.clone()?)?;
+    let mut names = Vec::with_capacity(alloc, list.len())?;
+    for boxed in list {
+        names.push(boxed.session().client.clone()?)?;
     }
     Ok(names)
 }
 
 impl Sessions {
-    /// The client identifiers of the sessions, by ascending key (3.1.3.1).
+    /// Returns the client identifiers of the sessions, by ascending key (3.1.3.1).
     pub(crate) fn clients(&self, alloc: Global) -> Result<Vec<Text>, AllocError>
-        ensures { IfOk result (λ names. names.items ≡ map (λ t. t.client) self.now.tenants) }
+        ensures { IfOk result (λ names. names.items ≡ map (λ t. t.client) self.now.list) }
     {
-        clients_of(alloc, self.tenants.as_slice())
+        clients_of(alloc, self.list.as_slice())
     }
 }

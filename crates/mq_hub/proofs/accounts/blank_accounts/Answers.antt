@@ -1,4 +1,4 @@
-use Rattle.mq_hub.proofs.Filing.{accounts_blank}
+use Rattle.mq_hub.proofs.ClientLogs.{accounts_blank}
 use Rattle.mq_hub.proofs.accounts.blank_accounts.Goals as goal
 
 pub returns-clause-blank : goal.returns-clause-blank

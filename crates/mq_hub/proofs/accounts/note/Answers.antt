@@ -1,5 +1,5 @@
 use Rattle.std.proofs.Common.{sym}
-use Rattle.mq_hub.proofs.Filing.{unnoted}
+use Rattle.mq_hub.proofs.ClientLogs.{unnoted}
 use Rattle.mq_hub.proofs.accounts.note.Goals as goal
 
 pub returns-in_default : goal.returns-in_default

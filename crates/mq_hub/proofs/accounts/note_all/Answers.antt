@@ -3,7 +3,7 @@ use Rattle.std.proofs.Math.Seq.{take-suc}
 use Rattle.mq_route.specs.declared.act.Act.{Act}
 use Rattle.mq_route.specs.declared.trace.ClientLog.{ClientLog}
 use Rattle.mq_route.specs.Runs.{AreAccounts}
-use Rattle.mq_hub.proofs.Filing.{accounts_noted, count_noted}
+use Rattle.mq_hub.proofs.ClientLogs.{accounts_noted, count_noted}
 use Rattle.mq_hub.proofs.accounts.note_all.Goals as goal
 
 pub loop-act-preserved : goal.loop-act-preserved

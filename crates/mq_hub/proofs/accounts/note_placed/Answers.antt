@@ -2,8 +2,8 @@ use Rattle.std.proofs.Common.{◌∙◌, ◌<◌, ◌++◌, ◌∷◌, [], ℕ, 
 use Rattle.mq_packet.specs.declared.message.Message.{Message}
 use Rattle.mq_route.specs.declared.act.Act.TheVariants.{Placed}
 use Rattle.mq_route.specs.declared.trace.ClientLog.{ClientLog}
-use Rattle.mq_hub.proofs.Filing.{found, past, placed_other, placed_own}
-use Rattle.mq_hub.proofs.Heard.{on_ok}
+use Rattle.mq_hub.proofs.ClientLogs.{found, past, placed_other, placed_own}
+use Rattle.mq_hub.proofs.LastActivity.{on_ok}
 use Rattle.mq_hub.proofs.accounts.note_placed.Goals as goal
 
 pub returns-then-at-accounts : goal.returns-then-at-accounts

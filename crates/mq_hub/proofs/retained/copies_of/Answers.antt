@@ -1,7 +1,7 @@
 use Rattle.std.proofs.Common.{◌∙◌, List, [], ◌∷◌, ◌++◌, sym, ap}
 use Rattle.mq_packet.specs.declared.message.Message.{Message}
 use Rattle.mq_route.specs.Copies.{retained_for}
-use Rattle.mq_hub.proofs.Retaining.{copied, passed, none_left}
+use Rattle.mq_hub.proofs.RetainedEntries.{copied, passed, none_left}
 use Rattle.mq_hub.proofs.retained.copies_of.Goals as goal
 
 pub loop-message-preserved-in_ok-push : goal.loop-message-preserved-in_ok-push

@@ -2,7 +2,7 @@ use Rattle.std.proofs.Common.{◌≡◌, ℕ, ◌∙◌, List, sym, ap, subst}
 use Rattle.std.specs.Str.{bytes_eq}
 use Rattle.indexmap.specs.IndexMap.{insert_entry}
 use Rattle.mq_packet.specs.declared.message.Message.{Message}
-use Rattle.mq_hub.proofs.Retaining.{AreNamed, messages_of, inserted, inserted_named, entries_in}
+use Rattle.mq_hub.proofs.RetainedEntries.{AreNamed, messages_of, inserted, inserted_named, entries_in}
 use Rattle.mq_hub.proofs.retained.put.Goals as goal
 
 pub returns-clause-kept : goal.returns-clause-kept

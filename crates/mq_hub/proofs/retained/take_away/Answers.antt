@@ -1,5 +1,5 @@
 use Rattle.std.proofs.Common.{◌∙◌, ap}
-use Rattle.mq_hub.proofs.Retaining.{messages_of, removed, removed_named}
+use Rattle.mq_hub.proofs.RetainedEntries.{messages_of, removed, removed_named}
 use Rattle.mq_hub.proofs.retained.take_away.Goals as goal
 
 pub returns-clause-kept : goal.returns-clause-kept

@@ -1,8 +1,11 @@
-use Rattle.std.proofs.Common.{refl}
+use Rattle.std.proofs.Common.{◌≡◌, ℕ, refl}
 use Rattle.std.proofs.lemmas.Result.{IfOk-weaker}
-use Rattle.mq_route.specs.Runs.{IsRun}
-use Rattle.mq_hub.specs.Running.{IsTraced}
-use Rattle.mq_hub.proofs.Running.{beside_gives, run_is}
+use Rattle.mq_flow.specs.Receiver.{none_received}
+use Rattle.mq_route.specs.Routed.{placed, routed, taken}
+use Rattle.mq_route.specs.Runs.{IsRun, came_in}
+use Rattle.mq_route.specs.Taken.{handed_from, of_client}
+use Rattle.mq_hub.specs.Run.{IsTraced, acts_in}
+use Rattle.mq_hub.proofs.RunLemmas.{pair_gives, run_is, run_routes, run_takes}
 use Rattle.mq_hub.proofs.run.hub_run_over.Goals as goal
 
 pub returns-clause-run : goal.returns-clause-run
@@ -11,7 +14,24 @@ returns-clause-run g c =
     let events = c.args.events.now in
     let first = c.with_store-hub.result in
     let last = c.traced-traced.new.self in
-    beside_gives c.traced-traced.result c.beside.result last (λ r. IsRun config events r.0 r.1) c.beside.ensures.ok c.beside.ensures.err
+    pair_gives c.traced-traced.result c.pair_with.result last (λ r. IsRun config events r.0 r.1) c.pair_with.ensures.ok c.pair_with.ensures.err
     (IfOk-weaker c.traced-traced.result (λ trace. IsTraced first events trace last) (λ trace. IsRun config events last trace)
     (λ trace t. run_is config first last events trace.replies trace.accounts trace c.with_store-hub.ensures t.followed t.keys t.accounts refl refl)
     c.traced-traced.ensures.trace)
+
+pub returns-clause-routed : goal.returns-clause-routed
+returns-clause-routed g c =
+    let config = c.args.config in
+    let events = c.args.events.now in
+    IfOk-weaker c.pair_with.result (λ r. IsRun config events r.0 r.1) (λ r. (k : ℕ) → placed k (acts_in r.1) ≡ routed k (acts_in r.1))
+    (λ r run. run_routes config events r.0 r.1 run c.routing_laws.ensures)
+    (returns-clause-run g c)
+
+pub returns-clause-taken : goal.returns-clause-taken
+returns-clause-taken g c =
+    let config = c.args.config in
+    let events = c.args.events.now in
+    IfOk-weaker c.pair_with.result (λ r. IsRun config events r.0 r.1)
+    (λ r. (run : IsRun config events r.0 r.1) (k : ℕ) → taken k (acts_in r.1) ≡ handed_from none_received (of_client k (came_in run.episodes)))
+    (λ r first run. run_takes config events r.0 r.1 run c.taking_laws.ensures)
+    (returns-clause-run g c)

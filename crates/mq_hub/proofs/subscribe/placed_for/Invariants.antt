@@ -1,6 +1,6 @@
 use Rattle.std.proofs.Common.{◌≡◌, ◌++◌, drop}
 use Rattle.mq_route.specs.Hub.{for_key}
-use Rattle.mq_hub.specs.Placing.{placed_acts}
+use Rattle.mq_hub.specs.Inside.Placement.{placed_acts}
 use Rattle.mq_hub.proofs.subscribe.placed_for.Given as goal
 
 abbrev pub invariant-loop-message : goal.invariant-loop-message

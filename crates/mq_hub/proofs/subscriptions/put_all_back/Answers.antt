@@ -1,6 +1,6 @@
 use Rattle.std.proofs.Common.{◌∙◌, List, sym, ap, subst}
-use Rattle.mq_hub.specs.Subscribing.{AreThere, Before, rows_back}
-use Rattle.mq_hub.proofs.Restoring.{back_last, last_there}
+use Rattle.mq_hub.specs.Inside.Subscriptions.{AreThere, Before, rows_back}
+use Rattle.mq_hub.proofs.RestoredRows.{back_last, last_there}
 use Rattle.mq_hub.proofs.subscriptions.put_all_back.Goals as goal
 
 pub put_back-requires : goal.put_back-requires

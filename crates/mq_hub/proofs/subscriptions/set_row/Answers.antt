@@ -1,5 +1,5 @@
 use Rattle.std.proofs.Common.{◌∙◌, sym}
-use Rattle.mq_hub.proofs.Restoring.{noted, noted_there}
+use Rattle.mq_hub.proofs.RestoredRows.{noted, noted_there}
 use Rattle.mq_hub.proofs.subscriptions.set_row.Goals as goal
 
 pub returns-clause-back : goal.returns-clause-back

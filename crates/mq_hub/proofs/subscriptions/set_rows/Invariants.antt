@@ -1,5 +1,5 @@
 use Rattle.std.proofs.Common.{◌≡◌, drop}
-use Rattle.mq_hub.specs.Subscribing.{rows_back, with_rows, AreThere}
+use Rattle.mq_hub.specs.Inside.Subscriptions.{rows_back, with_rows, AreThere}
 use Rattle.mq_hub.proofs.subscriptions.set_rows.Given as goal
 
 abbrev pub invariant-loop-request : goal.invariant-loop-request

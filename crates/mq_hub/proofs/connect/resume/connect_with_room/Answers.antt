@@ -1,10 +1,10 @@
 use Rattle.std.proofs.Common.{◌∙◌, ap}
-use Rattle.mq_hub.specs.Rising.{risen}
-use Rattle.mq_hub.proofs.Fronting.{err_any}
+use Rattle.mq_hub.specs.Inside.ConnectRoom.{connected_end}
+use Rattle.mq_hub.proofs.FirstPackets.{err_any}
 use Rattle.mq_hub.proofs.connect.resume.connect_with_room.Goals as goal
 
 pub returns-clause-ok : goal.returns-clause-ok
-returns-clause-ok c = (c.reserve_connect.new.self.room, c.connect_end.ensures ∙ ap (risen c.args.connect c.args.now) c.reserve_connect.ensures.same)
+returns-clause-ok c = (c.reserve_connect.new.self.room, c.connect_end.ensures ∙ ap (connected_end c.args.connect c.args.now) c.reserve_connect.ensures.same)
 
 pub returns-in_err-reserve_connect-clause-err : goal.returns-in_err-reserve_connect-clause-err
 returns-in_err-reserve_connect-clause-err c =

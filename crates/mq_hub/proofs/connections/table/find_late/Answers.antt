@@ -1,17 +1,17 @@
 use Rattle.std.proofs.Common.{◌≤◌, arith, ℕ}
 use Rattle.std.proofs.lemmas.List.Sorted.{Contains-permutation, IsNonDecreasingBy-from_sort}
-use Rattle.mq_hub.proofs.Ringing.{awaited_but, late_rang}
+use Rattle.mq_hub.proofs.RingTimes.{awaited_but, late_rang}
 use Rattle.mq_hub.proofs.connections.table.find_late.Goals as goal
 
 pub find_named-requires-clause-awaited : goal.find_named-requires-clause-awaited
 find_named-requires-clause-awaited c =
-    awaited_but c.renew.new.alarms c.take_ringing.new.self c.in_ok-names.names.items c.args.by_conn.now.entries c.in_ok-names.ensures.others c.renew.ensures
+    awaited_but c.refresh_alarms.new.alarms c.take_ringing.new.self c.in_ok-names.names.items c.args.by_conn.now.entries c.in_ok-names.ensures.others c.refresh_alarms.ensures.awaited
 
 pub find_named-requires-clause-late : goal.find_named-requires-clause-late
 find_named-requires-clause-late c =
     let within : c.args.now ≤ c.take_ringing.new.self.until =
     omega (arith, c.if-until-now.false, c.until.ensures, c.in_ok-names.ensures.until) in
-    late_rang c.args.now c.renew.new.alarms c.take_ringing.new.self c.in_ok-names.names.items c.args.by_conn.now.entries c.requires.named c.renew.ensures
+    late_rang c.args.now c.refresh_alarms.new.alarms c.take_ringing.new.self c.in_ok-names.names.items c.args.by_conn.now.entries c.requires.named c.refresh_alarms.ensures.awaited
     (λ k. c.in_ok-names.ensures.quiet k within) c.in_ok-names.ensures.others
 
 pub returns-clause-late : goal.returns-clause-late

@@ -2,16 +2,16 @@ use Rattle.std.proofs.Common.{◌≡◌, ◌++◌, ◌∷◌, [], List, ℕ, ari
 use Rattle.std.proofs.lemmas.List.Elements.{Contains-append_left, Contains-push}
 use Rattle.std.specs.List.{Contains}
 use Rattle.mq_route.specs.declared.conn.Conn.{Conn}
-use Rattle.mq_hub.specs.Alarms.{AreAwaitedBut}
-use Rattle.mq_hub.specs.Connections.{lines_of}
-use Rattle.mq_hub.specs.Ticking.{HasLateBut}
-use Rattle.mq_hub.proofs.Ringing.{awaited_again, late_all, late_named, late_none, late_one, none_early, none_less, not_found, one_less}
+use Rattle.mq_hub.specs.Inside.Alarms.{AreAwaitedBut}
+use Rattle.mq_hub.specs.Inside.Connections.{connections_of}
+use Rattle.mq_hub.specs.Inside.Tick.{HasLateBut}
+use Rattle.mq_hub.proofs.RingTimes.{awaited_again, late_all, late_named, late_none, late_one, none_early, none_less, not_found, one_less}
 use Rattle.mq_hub.proofs.connections.table.find_named.Goals as goal
 
 pub loop-conn-init : goal.loop-conn-init
 loop-conn-init c = record {
   awaited = c.requires.awaited;
-  late = late_named c.args.now (lines_of c.args.by_conn.now.entries) c.args.names.now.items _ c.requires.late;
+  late = late_named c.args.now (connections_of c.args.by_conn.now.entries) c.args.names.now.items _ c.requires.late;
 }
 
 pub loop-conn-preserved-in_default-get_full : goal.loop-conn-preserved-in_default-get_full
@@ -26,7 +26,7 @@ loop-conn-preserved-in_default-get_full c =
       awaited = none_less a a k names (λ n now quiet. quiet) es c.requires.named apart
           (subst (λ (ns : List Conn). AreAwaitedBut ns a es) c.in-Some.ensures.items c.loop-conn.invariant.awaited);
       late = late_none c.args.now es k names places places (λ i there. there) c.requires.named apart
-          (subst (λ (ns : List Conn). HasLateBut c.args.now (lines_of es) ns places) c.in-Some.ensures.items c.loop-conn.invariant.late);
+          (subst (λ (ns : List Conn). HasLateBut c.args.now (connections_of es) ns places) c.in-Some.ensures.items c.loop-conn.invariant.late);
     }
 
 pub loop-conn-preserved-then-now-until : goal.loop-conn-preserved-then-now-until
@@ -46,7 +46,7 @@ loop-conn-preserved-then-now-until c =
       late = late_one c.args.now es k names places places (λ i h. h) own c.in-Some-get_full.field-0-1.now c.in-Some-get_full.place until c.last_in_time-until.ensures
           (λ less. absurd (omega (arith, less, c.if-now-until.true)))
           c.requires.named c.requires.distinct there c.in-Some-get_full.ensures.entry
-          (subst (λ (ns : List Conn). HasLateBut c.args.now (lines_of es) ns places) c.in-Some.ensures.items c.loop-conn.invariant.late);
+          (subst (λ (ns : List Conn). HasLateBut c.args.now (connections_of es) ns places) c.in-Some.ensures.items c.loop-conn.invariant.late);
     }
 
 pub loop-conn-preserved : goal.loop-conn-preserved
@@ -71,7 +71,7 @@ loop-conn-preserved c =
           own c.in-Some-get_full.field-0-1.now place until c.last_in_time-until.ensures
           (λ less. subst (λ (ps : List ℕ). Contains ps place) (sym pushed) (Contains-push places place))
           c.requires.named c.requires.distinct there c.in-Some-get_full.ensures.entry
-          (subst (λ (ns : List Conn). HasLateBut c.args.now (lines_of es) ns places) c.in-Some.ensures.items c.loop-conn.invariant.late);
+          (subst (λ (ns : List Conn). HasLateBut c.args.now (connections_of es) ns places) c.in-Some.ensures.items c.loop-conn.invariant.late);
     }
 
 pub returns-in-Err-clause-awaited : goal.returns-in-Err-clause-awaited
@@ -87,6 +87,6 @@ returns-clause-awaited c =
 
 pub returns-clause-late : goal.returns-clause-late
 returns-clause-late c =
-    let xs = lines_of c.args.by_conn.now.entries in
+    let xs = connections_of c.args.by_conn.now.entries in
     let places = c.loop-conn.places.items in
     late_all c.args.now xs places (subst (λ (ns : List Conn). HasLateBut c.args.now xs ns places) (none c) c.loop-conn.invariant.late)

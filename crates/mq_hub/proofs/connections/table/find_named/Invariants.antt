@@ -1,13 +1,13 @@
 use Rattle.std.proofs.Common.{vec_len}
-use Rattle.mq_hub.specs.Alarms.{AreAwaitedBut}
-use Rattle.mq_hub.specs.Connections.{lines_of}
-use Rattle.mq_hub.specs.Ticking.{HasLateBut}
+use Rattle.mq_hub.specs.Inside.Alarms.{AreAwaitedBut}
+use Rattle.mq_hub.specs.Inside.Connections.{connections_of}
+use Rattle.mq_hub.specs.Inside.Tick.{HasLateBut}
 use Rattle.mq_hub.proofs.connections.table.find_named.Given as goal
 
 abbrev pub invariant-loop-conn : goal.invariant-loop-conn
 invariant-loop-conn l = record {
   awaited : AreAwaitedBut l.names.items l.alarms l.by_conn.entries;
-  late : HasLateBut l.now (lines_of l.by_conn.entries) l.names.items l.places.items;
+  late : HasLateBut l.now (connections_of l.by_conn.entries) l.names.items l.places.items;
 }
 
 abbrev pub decreases-loop-conn : goal.decreases-loop-conn

@@ -1,6 +1,6 @@
 use Rattle.std.proofs.Common.{◌∙◌, ◌||◌, Bool, ap, sym}
 use Rattle.mq_route.specs.Hub.{is_clean, stage_of}
-use Rattle.mq_hub.proofs.TakingOver.{stage_there}
+use Rattle.mq_hub.proofs.TakeOver.{stage_there}
 use Rattle.mq_hub.proofs.hub.HubOver.begins_anew.Goals as goal
 
 pub returns-else-connect : goal.returns-else-connect

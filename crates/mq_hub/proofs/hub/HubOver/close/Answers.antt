@@ -1,9 +1,9 @@
 use Rattle.std.proofs.Common.{◌∙◌, sym, ap, subst}
 use Rattle.mq_route.specs.Hub.{HubState, key_on, stage_of}
 use Rattle.mq_route.specs.Work.{close}
-use Rattle.mq_hub.specs.Does.{Refines}
-use Rattle.mq_hub.specs.Seen.{HubTables, hub_of}
-use Rattle.mq_hub.proofs.Changing.{stage_seen}
+use Rattle.mq_hub.specs.Inside.Refinement.{Refines}
+use Rattle.mq_hub.specs.Inside.View.{HubTables, hub_of}
+use Rattle.mq_hub.proofs.ConnectionChange.{stage_seen}
 use Rattle.mq_hub.proofs.hub.HubOver.close.Goals as goal
 
 pub close_up-requires-clause-hubs : goal.close_up-requires-clause-hubs
@@ -14,7 +14,7 @@ close_up-requires-clause-hubs g c =
 pub close_up-requires-clause-up : goal.close_up-requires-clause-up
 close_up-requires-clause-up g c =
     let t : HubTables = c.self.inside.tables in
-    ap key_on (sym (stage_seen c.args.conn t.sessions.tenants t.connections.connections)) ∙ ap (λ (s : HubState). key_on (stage_of c.args.conn s.connections)) c.self.view_is
+    ap key_on (sym (stage_seen c.args.conn t.sessions.list t.connections.connections)) ∙ ap (λ (s : HubState). key_on (stage_of c.args.conn s.connections)) c.self.view_is
     ∙ sym c.key.ensures.key ∙ c.in-Some.is
 
 pub invariant_of-self : goal.invariant_of-self
@@ -27,6 +27,6 @@ returns-in-Some-clause-goes g c =
     let h = c.self.inside in
     let goes = c.close_up.ensures.proceeds.goes h.config h.clock h.next_key c.self.invariant in (
       goes.0,
-      subst (λ (s : HubState). Refines (close c.args.conn c.args.why goes.0) s c.args.doings.now.acts (hub_of h.config h.clock h.next_key c.close_up.new.self)
-          c.close_up.new.doings.acts) c.self.view_is goes.1,
+      subst (λ (s : HubState). Refines (close c.args.conn c.args.why goes.0) s c.args.log.now.acts (hub_of h.config h.clock h.next_key c.close_up.new.self)
+          c.close_up.new.log.acts) c.self.view_is goes.1,
     )

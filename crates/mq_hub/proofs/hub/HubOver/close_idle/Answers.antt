@@ -1,8 +1,8 @@
 use Rattle.std.proofs.Common.{◌≡◌, ◌∙◌, None, sym, ap}
 use Rattle.mq_route.specs.Hub.{HubState, key_on, stage_of, with_connection}
-use Rattle.mq_hub.specs.Seen.{HubTables, hub_of}
-use Rattle.mq_hub.proofs.Changing.{stage_seen}
-use Rattle.mq_hub.proofs.Shutting.{closed, goes_closed, hub_closed, kept_closed}
+use Rattle.mq_hub.specs.Inside.View.{HubTables, hub_of}
+use Rattle.mq_hub.proofs.ConnectionChange.{stage_seen}
+use Rattle.mq_hub.proofs.ClosedConnection.{closed, goes_closed, hub_closed, kept_closed}
 use Rattle.mq_hub.proofs.hub.HubOver.close_idle.Goals as goal
 
 pub invariant_of-self : goal.invariant_of-self
@@ -13,9 +13,9 @@ invariant_of-self g c =
     let k = c.args.conn in
     let rest = c.shut.ensures.rest in
     let idle : key_on (stage_of k t.connections.connections) ≡ None =
-    ap key_on (sym (stage_seen k t.sessions.tenants t.connections.connections)) ∙ ap (λ (s : HubState). key_on (stage_of k s.connections)) c.self.view_is ∙ c.requires.idle in
+    ap key_on (sym (stage_seen k t.sessions.list t.connections.connections)) ∙ ap (λ (s : HubState). key_on (stage_of k s.connections)) c.self.view_is ∙ c.requires.idle in
     kept_closed k h.config h.next_key t u c.self.invariant idle (ap (λ (v : HubTables). v.rows) rest) (ap (λ (v : HubTables). v.retained.messages) rest)
-    (ap (λ (v : HubTables). v.sessions.tenants) rest) c.shut.ensures.connections c.shut.ensures.limits
+    (ap (λ (v : HubTables). v.sessions.list) rest) c.shut.ensures.connections c.shut.ensures.limits
 
 pub returns-clause-goes : goal.returns-clause-goes
 returns-clause-goes g c =
@@ -25,9 +25,9 @@ returns-clause-goes g c =
     let k = c.args.conn in
     let rest = c.shut.ensures.rest in
     let idle : key_on (stage_of k t.connections.connections) ≡ None =
-    ap key_on (sym (stage_seen k t.sessions.tenants t.connections.connections)) ∙ ap (λ (s : HubState). key_on (stage_of k s.connections)) c.self.view_is ∙ c.requires.idle in
-    λ fits. goes_closed k c.args.why fits c.args.self.now (hub_of h.config h.clock h.next_key u) c.args.doings.now.acts c.say.new.self.acts c.requires.idle
+    ap key_on (sym (stage_seen k t.sessions.list t.connections.connections)) ∙ ap (λ (s : HubState). key_on (stage_of k s.connections)) c.self.view_is ∙ c.requires.idle in
+    λ fits. goes_closed k c.args.why fits c.args.self.now (hub_of h.config h.clock h.next_key u) c.args.log.now.acts c.push.new.self.acts c.requires.idle
     (hub_closed k h.config h.next_key t u c.self.invariant idle (ap (λ (v : HubTables). v.rows) rest) (ap (λ (v : HubTables). v.retained.messages) rest)
-    (ap (λ (v : HubTables). v.sessions.tenants) rest) c.shut.ensures.connections h.clock
+    (ap (λ (v : HubTables). v.sessions.list) rest) c.shut.ensures.connections h.clock
     ∙ ap (λ (s : HubState). record s { connections = with_connection closed k s.connections }) c.self.view_is)
-    c.say.ensures.acts
+    c.push.ensures.acts

@@ -1,5 +1,9 @@
-use Rattle.mq_hub.proofs.Ticking.{IsClosing}
+use Rattle.std.proofs.Common.{◌+◌, ◌*◌, ◌≤◌, length}
+use Rattle.mq_hub.proofs.LateWalk.{IsClosing}
 use Rattle.mq_hub.proofs.hub.HubOver.close_late.Given as goal
 
 abbrev pub invariant-loop-place : goal.invariant-loop-place
-invariant-loop-place g l = IsClosing l.now l.fn.self l.places l.place-index l.self l.doings.acts
+invariant-loop-place g l = record {
+  closing : IsClosing l.now l.fn.self l.places l.place-index l.self l.log.acts;
+  room : 3 * length l.places ≤ l.log.room + 3 * l.place-index;
+}

@@ -1,29 +1,29 @@
 use Rattle.std.proofs.Common.{◌∙◌, sym, ap}
 use Rattle.mq_route.specs.Hub.{HubState, knows, waiting_on}
 use Rattle.mq_route.specs.Step.{collected}
-use Rattle.mq_hub.proofs.GivingAway.{own_bytes_as, own_err, own_keeps, own_taken, up_bytes, up_err, up_keeps, up_taken}
-use Rattle.mq_hub.proofs.Collecting.{housed_at}
-use Rattle.mq_hub.proofs.Fronting.{err_by, if_ok_by, ok_by}
-use Rattle.mq_hub.proofs.Seeing.{knows_seen}
+use Rattle.mq_hub.proofs.OutputView.{own_bytes_as, own_err, own_keeps, own_taken, up_bytes, up_err, up_keeps, up_taken}
+use Rattle.mq_hub.proofs.TakenOutput.{backed_at}
+use Rattle.mq_hub.proofs.FirstPackets.{err_by, if_ok_by, ok_by}
+use Rattle.mq_hub.proofs.TableView.{knows_seen}
 use Rattle.mq_hub.proofs.hub.HubOver.collect.Goals as goal
 
 pub collect_up-requires : goal.collect_up-requires
 collect_up-requires g c =
     let h = c.self.inside in
-    housed_at h.config.limits.most c.args.conn c.in-Some.key h.tables.sessions.tenants h.tables.connections.connections c.self.invariant.housed (sym c.in-Some.ensures)
+    backed_at h.config.limits.most c.args.conn c.in-Some.key h.tables.sessions.list h.tables.connections.connections c.self.invariant.backed (sym c.in-Some.ensures)
 
 pub invariant_of-self : goal.invariant_of-self
 invariant_of-self g c =
     let h = c.self.inside in
     let a = c.collect_up.ensures.collects in
-    up_keeps h.config h.next_key c.in-Some.key a.tenant a.end h.tables c.collect_up.new.self a.there c.self.invariant c.collect_up.ensures.rest a.after c.collect_up.result a.collects
+    up_keeps h.config h.next_key c.in-Some.key a.session a.end h.tables c.collect_up.new.self a.there c.self.invariant c.collect_up.ensures.rest a.after c.collect_up.result a.collects
 
 pub returns-in-Some-clause-bytes : goal.returns-in-Some-clause-bytes
 returns-in-Some-clause-bytes g c =
     let h = c.self.inside in
     let a = c.collect_up.ensures.collects in
     if_ok_by c.collect_up.result (λ b is. is ∙ ap (λ (v : HubState). waiting_on c.args.conn v.connections) c.self.view_is)
-    (up_bytes h.config h.next_key c.in-Some.key a.tenant a.end h.tables c.collect_up.new.self a.there c.self.invariant c.collect_up.ensures.rest a.after h.clock c.args.conn (sym c.in-Some.ensures)
+    (up_bytes h.config h.next_key c.in-Some.key a.session a.end h.tables c.collect_up.new.self a.there c.self.invariant c.collect_up.ensures.rest a.after h.clock c.args.conn (sym c.in-Some.ensures)
     c.collect_up.result a.collects)
 
 pub returns-in-Some-clause-taken : goal.returns-in-Some-clause-taken
@@ -31,7 +31,7 @@ returns-in-Some-clause-taken g c =
     let h = c.self.inside in
     let a = c.collect_up.ensures.collects in
     ok_by c.collect_up.result (λ is. is ∙ ap (collected c.args.conn) c.self.view_is)
-    (up_taken h.config h.next_key c.in-Some.key a.tenant a.end h.tables c.collect_up.new.self a.there c.self.invariant c.collect_up.ensures.rest a.after h.clock c.args.conn (sym c.in-Some.ensures)
+    (up_taken h.config h.next_key c.in-Some.key a.session a.end h.tables c.collect_up.new.self a.there c.self.invariant c.collect_up.ensures.rest a.after h.clock c.args.conn (sym c.in-Some.ensures)
     c.collect_up.result a.collects)
 
 pub returns-in-Some-clause-err : goal.returns-in-Some-clause-err
@@ -39,13 +39,13 @@ returns-in-Some-clause-err g c =
     let h = c.self.inside in
     let a = c.collect_up.ensures.collects in
     err_by c.collect_up.result (λ is. is ∙ c.self.view_is)
-    (up_err h.config h.next_key c.in-Some.key a.tenant a.end h.tables c.collect_up.new.self a.there c.self.invariant c.collect_up.ensures.rest a.after h.clock c.args.conn (sym c.in-Some.ensures)
+    (up_err h.config h.next_key c.in-Some.key a.session a.end h.tables c.collect_up.new.self a.there c.self.invariant c.collect_up.ensures.rest a.after h.clock c.args.conn (sym c.in-Some.ensures)
     c.collect_up.result a.collects)
 
 pub collect_own-requires : goal.collect_own-requires
 collect_own-requires g c =
     let h = c.self.inside in
-    sym (knows_seen c.args.conn h.tables.sessions.tenants h.tables.connections.connections) ∙ ap (λ (v : HubState). knows c.args.conn v.connections) c.self.view_is ∙ c.requires
+    sym (knows_seen c.args.conn h.tables.sessions.list h.tables.connections.connections) ∙ ap (λ (v : HubState). knows c.args.conn v.connections) c.self.view_is ∙ c.requires
 
 pub invariant_of-self-in-None : goal.invariant_of-self-in-None
 invariant_of-self-in-None g c =

@@ -4,8 +4,8 @@ use Rattle.std.proofs.lemmas.Result.{err_from_is_err_and}
 use Rattle.mq_route.specs.declared.event.HubEvent.{HubEvent}
 use Rattle.mq_route.specs.declared.reply.HubReply.{HubReply}
 use Rattle.mq_route.specs.Hub.{HubState}
-use Rattle.mq_hub.specs.Running.{IsFollowed}
-use Rattle.mq_hub.proofs.Running.{followed_last, followed_so, stopped}
+use Rattle.mq_hub.specs.Run.{IsFollowed}
+use Rattle.mq_hub.proofs.RunLemmas.{followed_last, followed_so, stopped}
 use Rattle.mq_hub.proofs.hub.HubOver.follow.Goals as goal
 
 pub loop-event-preserved : goal.loop-event-preserved

@@ -1,5 +1,5 @@
 use Rattle.std.proofs.Common.{take}
-use Rattle.mq_hub.specs.Running.{IsFollowed}
+use Rattle.mq_hub.specs.Run.{IsFollowed}
 use Rattle.mq_hub.proofs.hub.HubOver.follow.Given as goal
 
 abbrev pub invariant-loop-event : goal.invariant-loop-event

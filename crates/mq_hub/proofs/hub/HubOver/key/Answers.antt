@@ -1,16 +1,16 @@
 use Rattle.std.proofs.Common.{◌≡◌, ◌∙◌, true, ℕ, sym, ap}
 use Rattle.mq_end.specs.End.{is_up}
 use Rattle.mq_route.specs.Hub.{HubState, end_of, key_on, stage_of}
-use Rattle.mq_hub.specs.Seen.{HubTables}
-use Rattle.mq_hub.proofs.Broken.{end_up}
-use Rattle.mq_hub.proofs.Changing.{stage_seen}
-use Rattle.mq_hub.proofs.Heard.{if_some}
+use Rattle.mq_hub.specs.Inside.View.{HubTables}
+use Rattle.mq_hub.proofs.MalformedBytes.{end_up}
+use Rattle.mq_hub.proofs.ConnectionChange.{stage_seen}
+use Rattle.mq_hub.proofs.LastActivity.{if_some}
 use Rattle.mq_hub.proofs.hub.HubOver.key.Goals as goal
 
 pub returns-clause-key : goal.returns-clause-key
 returns-clause-key g c =
     let t : HubTables = c.self.inside.tables in
-    c.key.ensures ∙ ap key_on (sym (stage_seen c.args.conn t.sessions.tenants t.connections.connections))
+    c.key.ensures ∙ ap key_on (sym (stage_seen c.args.conn t.sessions.list t.connections.connections))
     ∙ ap (λ (h : HubState). key_on (stage_of c.args.conn h.connections)) c.self.view_is
 
 pub returns-clause-up : goal.returns-clause-up

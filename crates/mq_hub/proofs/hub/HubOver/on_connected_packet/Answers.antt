@@ -1,9 +1,9 @@
 use Rattle.std.proofs.Common.{Bool, true, OnOk, sym, subst}
 use Rattle.mq_packet.specs.declared.packet.Packet.{Packet}
 use Rattle.mq_route.specs.Arrives.{on_connected_packet}
-use Rattle.mq_hub.specs.Does.{Refines}
+use Rattle.mq_hub.specs.Inside.Refinement.{Refines}
 use Rattle.mq_hub.proofs.PacketKinds.{asks_nothing, publish_within, subscribe_within, unsuback_within, up_where}
-use Rattle.mq_hub.proofs.Heard.{on_ok}
+use Rattle.mq_hub.proofs.LastActivity.{on_ok}
 use Rattle.mq_hub.proofs.hub.HubOver.on_connected_packet.Goals as goal
 
 pub take_publish-requires-clause-within : goal.take_publish-requires-clause-within
@@ -12,8 +12,8 @@ take_publish-requires-clause-within g c =
 
 pub returns-in-Publish-clause-goes : goal.returns-in-Publish-clause-goes
 returns-in-Publish-clause-goes g c =
-    subst (λ (p : Packet). OnOk c.take_publish.result ((fits : Bool) × Refines (on_connected_packet c.args.conn c.args.key p fits) c.args.self.now c.args.doings.now.acts
-    c.take_publish.new.self c.take_publish.new.doings.acts)) (sym c.in-Publish.is) c.take_publish.ensures.goes
+    subst (λ (p : Packet). OnOk c.take_publish.result ((fits : Bool) × Refines (on_connected_packet c.args.conn c.args.key p fits) c.args.self.now c.args.log.now.acts
+    c.take_publish.new.self c.take_publish.new.log.acts)) (sym c.in-Publish.is) c.take_publish.ensures.goes
 
 pub take_subscribe-requires-clause-up : goal.take_subscribe-requires-clause-up
 take_subscribe-requires-clause-up g c = up_where c.args.conn c.args.key c.args.self.now.connections c.requires.up
@@ -24,8 +24,8 @@ take_subscribe-requires-clause-within g c =
 
 pub returns-in-Subscribe-clause-goes : goal.returns-in-Subscribe-clause-goes
 returns-in-Subscribe-clause-goes g c =
-    subst (λ (p : Packet). OnOk c.take_subscribe.result ((fits : Bool) × Refines (on_connected_packet c.args.conn c.args.key p fits) c.args.self.now c.args.doings.now.acts
-    c.take_subscribe.new.self c.take_subscribe.new.doings.acts)) (sym c.in-Subscribe.is) c.take_subscribe.ensures.goes
+    subst (λ (p : Packet). OnOk c.take_subscribe.result ((fits : Bool) × Refines (on_connected_packet c.args.conn c.args.key p fits) c.args.self.now c.args.log.now.acts
+    c.take_subscribe.new.self c.take_subscribe.new.log.acts)) (sym c.in-Subscribe.is) c.take_subscribe.ensures.goes
 
 pub on_unsubscribe-requires-clause-up : goal.on_unsubscribe-requires-clause-up
 on_unsubscribe-requires-clause-up g c = up_where c.args.conn c.args.key c.args.self.now.connections c.requires.up
@@ -36,8 +36,8 @@ on_unsubscribe-requires-clause-within g c =
 
 pub returns-in-Unsubscribe-clause-goes : goal.returns-in-Unsubscribe-clause-goes
 returns-in-Unsubscribe-clause-goes g c =
-    subst (λ (p : Packet). OnOk c.on_unsubscribe.result ((fits : Bool) × Refines (on_connected_packet c.args.conn c.args.key p fits) c.args.self.now c.args.doings.now.acts
-    c.on_unsubscribe.new.self c.on_unsubscribe.new.doings.acts)) (sym c.in-Unsubscribe.is)
+    subst (λ (p : Packet). OnOk c.on_unsubscribe.result ((fits : Bool) × Refines (on_connected_packet c.args.conn c.args.key p fits) c.args.self.now c.args.log.now.acts
+    c.on_unsubscribe.new.self c.on_unsubscribe.new.log.acts)) (sym c.in-Unsubscribe.is)
     (on_ok c.on_unsubscribe.result (λ each. (true, each c.args.conn true)) c.on_unsubscribe.ensures.takes)
 
 pub returns-in-Unsubscribe-clause-room : goal.returns-in-Unsubscribe-clause-room

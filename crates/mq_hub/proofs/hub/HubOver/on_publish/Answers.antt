@@ -9,20 +9,20 @@ use Rattle.mq_route.specs.Arrives.{on_connected_packet}
 use Rattle.mq_route.specs.Hub.{HubState, copies_of, end_of}
 use Rattle.mq_route.specs.Work.{close, have_room, deliver}
 use Rattle.mq_hub.specs.declared.publish.reception.Reception.TheVariants.{Handed}
-use Rattle.mq_hub.specs.Does.{Refines}
-use Rattle.mq_hub.specs.Receiving.{IsReceived}
-use Rattle.mq_hub.specs.Retained.{IsKeptOf, RetainedTable}
-use Rattle.mq_hub.specs.Seen.{HubTables, hub_of}
-use Rattle.mq_hub.proofs.Fronting.{err_any}
-use Rattle.mq_hub.proofs.Granting.{on_seen}
-use Rattle.mq_hub.proofs.Passing.{can_hand, copies_handed, handed_as, handed_goes, kept_handed, kept_unhanded, publish_of, same_publish, same_unhanded, stays_ready, taken_as, unhanded_goes}
-use Rattle.mq_hub.proofs.ShareKeeps.{enough_seen, goes_as, has_sessions, hub_alike, kept_alike}
+use Rattle.mq_hub.specs.Inside.Refinement.{Refines}
+use Rattle.mq_hub.specs.Inside.Reception.{IsReceived}
+use Rattle.mq_hub.specs.Inside.Retained.{IsKeptOf, RetainedTable}
+use Rattle.mq_hub.specs.Inside.View.{HubTables, hub_of}
+use Rattle.mq_hub.proofs.FirstPackets.{err_any}
+use Rattle.mq_hub.proofs.GrantedRows.{on_seen}
+use Rattle.mq_hub.proofs.NewPublish.{can_hand, copies_handed, handed_as, handed_goes, kept_handed, kept_unhanded, publish_of, same_publish, same_unhanded, stays_ready, taken_as, unhanded_goes}
+use Rattle.mq_hub.proofs.DeliveryInvariant.{enough_seen, goes_as, has_sessions, hub_alike, kept_alike}
 use Rattle.mq_hub.proofs.hub.HubOver.on_publish.Goals as goal
 
 pub reserve_delivery-requires-clause-due : goal.reserve_delivery-requires-clause-due
 reserve_delivery-requires-clause-due g c =
     let h = c.self.inside in
-    c.in_ok-sharing.ensures.due h.config h.next_key c.self.invariant
+    c.in_ok-plan.ensures.due h.config h.next_key c.self.invariant
     (subst (λ (m : Message). publish_size m ≤ h.config.limits.most) (sym c.into_message-message.ensures)
     (subst (λ (s : HubState). publish_size c.args.publish.message ≤ s.config.limits.most) (sym c.self.view_is) c.requires.within))
 
@@ -45,7 +45,7 @@ deliver-requires-clause-ready g c =
     let a = c.in_ok-take_publish.ensures.ok in
     record {
       retained = subst (λ (r : RetainedTable). 0 < r.room) (sym a.retained) was.retained;
-      ready = c.in_ok-take_publish.ensures.ready c.in_ok-sharing.sharing.copies.items was.ready;
+      ready = c.in_ok-take_publish.ensures.ready c.in_ok-plan.plan.copies.items was.ready;
       room = was.room;
     }
 
@@ -79,13 +79,13 @@ returns-then-not-branch-clause-closed g c = λ full conn fits new says goes.
     let on = on_seen h.config h.clock h.next_key t c.args.self.now key c.self.view_is c.requires.up in
     let handed = subst (λ (s : HubState). IsReceived Handed m (end_of key s.sessions)) (sym c.self.view_is) c.requires.handed in
     let room : false ≡ have_room (copies_of m.message old) old =
-    enough_seen false m.message c.in_ok-sharing.sharing.copies.items old old
+    enough_seen false m.message c.in_ok-plan.plan.copies.items old old
     (sym c.if-not-branch.true ∙ c.in_ok-reserve_delivery.ensures.enough old (has_sessions h.config h.clock h.next_key t c.self.invariant))
-    (subst (λ (n : Message). c.in_ok-sharing.sharing.copies.items ≡ copies_of n old) c.into_message-message.ensures (c.in_ok-sharing.ensures.copies h.config h.clock h.next_key)) refl in
-    subst (λ (s : HubState). Refines (on_connected_packet conn key (packets.Publish m) fits) s c.args.doings.now.acts new says) c.self.view_is
+    (subst (λ (n : Message). c.in_ok-plan.plan.copies.items ≡ copies_of n old) c.into_message-message.ensures (c.in_ok-plan.ensures.copies h.config h.clock h.next_key)) refl in
+    subst (λ (s : HubState). Refines (on_connected_packet conn key (packets.Publish m) fits) s c.args.log.now.acts new says) c.self.view_is
     (unhanded_goes h.config h.clock h.next_key key t c.reserve_delivery.new.self c.self.invariant c.reserve_delivery.ensures.alike on.conn on.is m handed
-    conn fits new c.args.doings.now.acts says (sym room)
-    (subst (λ (s : HubState). Refines (close conn TargetFull fits) s c.args.doings.now.acts new says) (sym c.self.view_is) goes))
+    conn fits new c.args.log.now.acts says (sym room)
+    (subst (λ (s : HubState). Refines (close conn TargetFull fits) s c.args.log.now.acts new says) (sym c.self.view_is) goes))
 
 pub invariant_of-self-in_err-take_publish : goal.invariant_of-self-in_err-take_publish
 invariant_of-self-in_err-take_publish g c =
@@ -109,7 +109,7 @@ invariant_of-self-2 g c =
     let m = c.args.publish in
     let on = on_seen h.config h.clock h.next_key h.tables c.args.self.now key c.self.view_is c.requires.up in
     let handed = subst (λ (s : HubState). IsReceived Handed m (end_of key s.sessions)) (sym c.self.view_is) c.requires.handed in
-    c.deliver.ensures.keeps m.message h.config h.next_key (subst (λ (n : Message). IsKeptOf n c.in_ok-sharing.sharing.kept) c.into_message-message.ensures c.in_ok-sharing.ensures.kept)
+    c.deliver.ensures.keeps m.message h.config h.next_key (subst (λ (n : Message). IsKeptOf n c.in_ok-plan.plan.kept) c.into_message-message.ensures c.in_ok-plan.ensures.kept)
     (kept_handed h.config h.clock h.next_key key h.tables c.reserve_delivery.new.self c.self.invariant c.reserve_delivery.ensures.alike on.conn on.is m handed
     c.take_publish.new.self (taken_as (publish_of c.into_message-message.result c.delivery-delivery.result) m c.args.key h.clock c.reserve_delivery.new.self c.take_publish.new.self (same_publish c.args.publish c.into_message-message.result c.delivery-delivery.result c.into_message-message.ensures c.delivery-delivery.ensures.value) c.in_ok-take_publish.ensures.ok))
     (subst (λ (s : HubState). publish_size m.message ≤ s.config.limits.most) (sym c.self.view_is) c.requires.within)
@@ -125,22 +125,22 @@ returns-clause-takes g c = λ done conn fits.
     let after : HubState = hub_of h.config h.clock h.next_key c.deliver.new.self in
     let key = c.args.key in
     let m = c.args.publish in
-    let s = c.in_ok-sharing.sharing in
+    let s = c.in_ok-plan.plan in
     let on = on_seen h.config h.clock h.next_key t c.args.self.now key c.self.view_is c.requires.up in
     let handed = subst (λ (b : HubState). IsReceived Handed m (end_of key b.sessions)) (sym c.self.view_is) c.requires.handed in
     let a = taken_as (publish_of c.into_message-message.result c.delivery-delivery.result) m key h.clock p u (same_publish c.args.publish c.into_message-message.result c.delivery-delivery.result c.into_message-message.ensures c.delivery-delivery.ensures.value) c.in_ok-take_publish.ensures.ok in
-    let drawn = subst (λ (n : Message). s.copies.items ≡ copies_of n old) c.into_message-message.ensures (c.in_ok-sharing.ensures.copies h.config h.clock h.next_key) in
+    let planned = subst (λ (n : Message). s.copies.items ≡ copies_of n old) c.into_message-message.ensures (c.in_ok-plan.ensures.copies h.config h.clock h.next_key) in
     let due : copies_of m.message here ≡ s.copies.items =
-    copies_handed h.config h.clock h.next_key key t p c.self.invariant c.reserve_delivery.ensures.alike on.conn on.is m handed u a ∙ sym drawn in
+    copies_handed h.config h.clock h.next_key key t p c.self.invariant c.reserve_delivery.ensures.alike on.conn on.is m handed u a ∙ sym planned in
     let room : true ≡ have_room (copies_of m.message old) old =
     enough_seen true m.message s.copies.items old old
-    (sym c.if-not-branch.false ∙ c.in_ok-reserve_delivery.ensures.enough old (has_sessions h.config h.clock h.next_key t c.self.invariant)) drawn refl in
-    let shared : Refines (deliver (acts.Took key m.message) m.message) here c.args.doings.now.acts after c.deliver.new.doings.acts =
-    subst (λ (n : Message). Refines (deliver (acts.Took key n) m.message) here c.args.doings.now.acts after c.deliver.new.doings.acts) (ap (λ (x : Publication). x.message) (same_publish c.args.publish c.into_message-message.result c.delivery-delivery.result c.into_message-message.ensures c.delivery-delivery.ensures.value))
-    (goes_as (acts.Took key c.into_message-message.result) m.message m.message here here after c.reserve_delivery.new.doings.acts c.args.doings.now.acts
-    c.deliver.new.doings.acts refl refl c.reserve_delivery.ensures.acts
-    (c.deliver.ensures.goes m.message h.config h.clock h.next_key (subst (λ (n : Message). IsKeptOf n c.in_ok-sharing.sharing.kept) c.into_message-message.ensures c.in_ok-sharing.ensures.kept)
+    (sym c.if-not-branch.false ∙ c.in_ok-reserve_delivery.ensures.enough old (has_sessions h.config h.clock h.next_key t c.self.invariant)) planned refl in
+    let shared : Refines (deliver (acts.Took key m.message) m.message) here c.args.log.now.acts after c.deliver.new.log.acts =
+    subst (λ (n : Message). Refines (deliver (acts.Took key n) m.message) here c.args.log.now.acts after c.deliver.new.log.acts) (ap (λ (x : Publication). x.message) (same_publish c.args.publish c.into_message-message.result c.delivery-delivery.result c.into_message-message.ensures c.delivery-delivery.ensures.value))
+    (goes_as (acts.Took key c.into_message-message.result) m.message m.message here here after c.reserve_delivery.new.log.acts c.args.log.now.acts
+    c.deliver.new.log.acts refl refl c.reserve_delivery.ensures.acts
+    (c.deliver.ensures.goes m.message h.config h.clock h.next_key (subst (λ (n : Message). IsKeptOf n c.in_ok-plan.plan.kept) c.into_message-message.ensures c.in_ok-plan.ensures.kept)
     (kept_handed h.config h.clock h.next_key key t p c.self.invariant c.reserve_delivery.ensures.alike on.conn on.is m handed u a) due)) in
-    subst (λ (b : HubState). Refines (on_connected_packet conn key (packets.Publish m) fits) b c.args.doings.now.acts after c.deliver.new.doings.acts) c.self.view_is
+    subst (λ (b : HubState). Refines (on_connected_packet conn key (packets.Publish m) fits) b c.args.log.now.acts after c.deliver.new.log.acts) c.self.view_is
     (handed_goes h.config h.clock h.next_key key t p c.self.invariant c.reserve_delivery.ensures.alike on.conn on.is m handed u a
-    conn fits after c.args.doings.now.acts c.deliver.new.doings.acts (sym room) shared)
+    conn fits after c.args.log.now.acts c.deliver.new.log.acts (sym room) shared)

@@ -7,14 +7,14 @@ use Rattle.mq_route.specs.declared.close.HubClose.TheVariants.{TargetFull}
 use Rattle.mq_route.specs.Arrives.{answers, on_connected_packet}
 use Rattle.mq_route.specs.Hub.{HubState}
 use Rattle.mq_route.specs.Work.{close, have_room, retained_copies}
-use Rattle.mq_hub.specs.Does.{Refines}
-use Rattle.mq_hub.specs.Placing.{HasSessions, placed_acts}
-use Rattle.mq_hub.specs.Seen.{HubTables, hub_of}
-use Rattle.mq_hub.specs.Subscribing.{subscribed_acts}
-use Rattle.mq_hub.proofs.Asking.{asked_goes, unasked_goes}
-use Rattle.mq_hub.proofs.Rerooming.{hub_alike, kept_alike}
-use Rattle.mq_hub.proofs.Granting.{on_seen}
-use Rattle.mq_hub.proofs.Subscriber.{can_grant, due_retained, err_bool, has_sessions, if_ok, kept_subscribed, ok_at, subscribed_goes, three}
+use Rattle.mq_hub.specs.Inside.Refinement.{Refines}
+use Rattle.mq_hub.specs.Inside.Placement.{HasSessions, placed_acts}
+use Rattle.mq_hub.specs.Inside.View.{HubTables, hub_of}
+use Rattle.mq_hub.specs.Inside.Subscriptions.{subscribed_acts}
+use Rattle.mq_hub.proofs.RequestPackets.{asked_goes, unasked_goes}
+use Rattle.mq_hub.proofs.OtherRoom.{hub_alike, kept_alike}
+use Rattle.mq_hub.proofs.GrantedRows.{on_seen}
+use Rattle.mq_hub.proofs.SubscribePackets.{can_grant, due_retained, err_bool, has_sessions, if_ok, kept_subscribed, ok_at, subscribed_goes, three}
 use Rattle.mq_hub.proofs.hub.HubOver.on_subscribe.Goals as goal
 
 pub subscribe-requires-clause-can : goal.subscribe-requires-clause-can
@@ -52,11 +52,11 @@ returns-clause-goes g c = λ done conn.
     let h = c.self.inside in
     let u : HubTables = c.subscribe.new.self in
     let on = on_seen h.config h.clock h.next_key h.tables c.args.self.now c.args.key c.self.view_is c.requires.up in
-    subst (λ (s : HubState). Refines (answers conn c.args.key (happens.Subscribe c.args.id c.args.requests)) s c.args.doings.now.acts
-    (hub_of h.config h.clock h.next_key u) c.subscribe.new.doings.acts) c.self.view_is
-    (subst (λ (did : List Act). Refines (answers conn c.args.key (happens.Subscribe c.args.id c.args.requests)) (hub_of h.config h.clock h.next_key h.tables) c.args.doings.now.acts
+    subst (λ (s : HubState). Refines (answers conn c.args.key (happens.Subscribe c.args.id c.args.requests)) s c.args.log.now.acts
+    (hub_of h.config h.clock h.next_key u) c.subscribe.new.log.acts) c.self.view_is
+    (subst (λ (did : List Act). Refines (answers conn c.args.key (happens.Subscribe c.args.id c.args.requests)) (hub_of h.config h.clock h.next_key h.tables) c.args.log.now.acts
     (hub_of h.config h.clock h.next_key u) did) (sym (c.subscribe.ensures.acts done))
-    (subscribed_goes h.config h.next_key c.args.key h.tables u c.self.invariant on.conn on.is c.args.id c.args.requests (c.subscribe.ensures.done done) h.clock c.args.doings.now.acts conn))
+    (subscribed_goes h.config h.next_key c.args.key h.tables u c.self.invariant on.conn on.is c.args.id c.args.requests (c.subscribe.ensures.done done) h.clock c.args.log.now.acts conn))
 
 pub returns-clause-takes : goal.returns-clause-takes
 returns-clause-takes g c = λ done conn fits.
@@ -66,13 +66,13 @@ returns-clause-takes g c = λ done conn fits.
     let p = packets.Subscribe c.args.id c.args.requests in
     let old = hub_of h.config h.clock h.next_key h.tables in
     let on = on_seen h.config h.clock h.next_key h.tables c.args.self.now key c.self.view_is c.requires.up in
-    let says = (c.args.doings.now.acts ++ subscribed_acts key c.args.requests) ++ placed_acts (retained_copies key c.args.requests h.tables.retained.messages) in
-    let enough = ok_at (λ enough. (b : HubState) → HasSessions h.tables.sessions.tenants b → have_room (retained_copies key c.args.requests h.tables.retained.messages) b ≡ enough) c.subscribe.result done c.subscribe.ensures.enough old (has_sessions h.config h.clock h.next_key h.tables c.self.invariant) in
-    subst (λ (s : HubState). Refines (on_connected_packet conn key p fits) s c.args.doings.now.acts (hub_of h.config h.clock h.next_key u) c.subscribe.new.doings.acts) c.self.view_is
-    (subst (λ (did : List Act). Refines (on_connected_packet conn key p fits) old c.args.doings.now.acts (hub_of h.config h.clock h.next_key u) did) (sym (c.subscribe.ensures.acts done))
+    let says = (c.args.log.now.acts ++ subscribed_acts key c.args.requests) ++ placed_acts (retained_copies key c.args.requests h.tables.retained.messages) in
+    let enough = ok_at (λ enough. (b : HubState) → HasSessions h.tables.sessions.list b → have_room (retained_copies key c.args.requests h.tables.retained.messages) b ≡ enough) c.subscribe.result done c.subscribe.ensures.enough old (has_sessions h.config h.clock h.next_key h.tables c.self.invariant) in
+    subst (λ (s : HubState). Refines (on_connected_packet conn key p fits) s c.args.log.now.acts (hub_of h.config h.clock h.next_key u) c.subscribe.new.log.acts) c.self.view_is
+    (subst (λ (did : List Act). Refines (on_connected_packet conn key p fits) old c.args.log.now.acts (hub_of h.config h.clock h.next_key u) did) (sym (c.subscribe.ensures.acts done))
     (asked_goes h.config h.clock h.next_key key h.tables c.self.invariant on.conn on.is p (happens.Subscribe c.args.id c.args.requests) (λ e. refl) conn fits
-    (hub_of h.config h.clock h.next_key u) c.args.doings.now.acts says enough
-    (subscribed_goes h.config h.next_key key h.tables u c.self.invariant on.conn on.is c.args.id c.args.requests (c.subscribe.ensures.done done) h.clock c.args.doings.now.acts conn)))
+    (hub_of h.config h.clock h.next_key u) c.args.log.now.acts says enough
+    (subscribed_goes h.config h.next_key key h.tables u c.self.invariant on.conn on.is c.args.id c.args.requests (c.subscribe.ensures.done done) h.clock c.args.log.now.acts conn)))
 
 pub returns-clause-closed : goal.returns-clause-closed
 returns-clause-closed g c = λ full conn fits new says goes.
@@ -81,12 +81,12 @@ returns-clause-closed g c = λ full conn fits new says goes.
     let p = packets.Subscribe c.args.id c.args.requests in
     let old = hub_of h.config h.clock h.next_key h.tables in
     let on = on_seen h.config h.clock h.next_key h.tables c.args.self.now key c.self.view_is c.requires.up in
-    let enough = ok_at (λ enough. (b : HubState) → HasSessions h.tables.sessions.tenants b → have_room (retained_copies key c.args.requests h.tables.retained.messages) b ≡ enough)
+    let enough = ok_at (λ enough. (b : HubState) → HasSessions h.tables.sessions.list b → have_room (retained_copies key c.args.requests h.tables.retained.messages) b ≡ enough)
     c.subscribe.result full c.subscribe.ensures.enough old (has_sessions h.config h.clock h.next_key h.tables c.self.invariant) in
-    subst (λ (s : HubState). Refines (on_connected_packet conn key p fits) s c.args.doings.now.acts new says) c.self.view_is
+    subst (λ (s : HubState). Refines (on_connected_packet conn key p fits) s c.args.log.now.acts new says) c.self.view_is
     (unasked_goes h.config h.clock h.next_key key h.tables c.self.invariant on.conn on.is p (happens.Subscribe c.args.id c.args.requests) (λ e. refl) conn fits
-    new c.args.doings.now.acts says enough
-    (subst (λ (s : HubState). Refines (close conn TargetFull fits) s c.args.doings.now.acts new says) (sym c.self.view_is) goes))
+    new c.args.log.now.acts says enough
+    (subst (λ (s : HubState). Refines (close conn TargetFull fits) s c.args.log.now.acts new says) (sym c.self.view_is) goes))
 
 pub returns-clause-full : goal.returns-clause-full
 returns-clause-full g c = λ full.

@@ -5,13 +5,13 @@ use Rattle.mq_end.specs.declared.happening.Happening.TheVariants as happens
 use Rattle.mq_route.specs.declared.act.Act.{Act}
 use Rattle.mq_route.specs.Arrives.{answers, on_connected_packet}
 use Rattle.mq_route.specs.Hub.{HubState}
-use Rattle.mq_hub.specs.Does.{Refines}
-use Rattle.mq_hub.specs.Seen.{HubTables, hub_of}
-use Rattle.mq_hub.specs.Subscribing.{unsubscribed_acts}
-use Rattle.mq_hub.proofs.Asking.{asked_goes}
-use Rattle.mq_hub.proofs.Readiness.{room_none}
-use Rattle.mq_hub.proofs.Rerooming.{hub_alike, kept_alike}
-use Rattle.mq_hub.proofs.Granting.{can_drop, either, err_so, kept_unsubscribed, ok_both, on_seen, unsubscribed_goes}
+use Rattle.mq_hub.specs.Inside.Refinement.{Refines}
+use Rattle.mq_hub.specs.Inside.View.{HubTables, hub_of}
+use Rattle.mq_hub.specs.Inside.Subscriptions.{unsubscribed_acts}
+use Rattle.mq_hub.proofs.RequestPackets.{asked_goes}
+use Rattle.mq_hub.proofs.SessionRoom.{room_none}
+use Rattle.mq_hub.proofs.OtherRoom.{hub_alike, kept_alike}
+use Rattle.mq_hub.proofs.GrantedRows.{can_drop, either, err_so, kept_unsubscribed, ok_both, on_seen, unsubscribed_goes}
 use Rattle.mq_hub.proofs.hub.HubOver.on_unsubscribe.Goals as goal
 
 pub unsubscribe-requires : goal.unsubscribe-requires
@@ -36,11 +36,11 @@ returns-clause-goes g c =
     let u : HubTables = c.unsubscribe.new.self in
     let on = on_seen h.config h.clock h.next_key h.tables c.args.self.now c.args.key c.self.view_is c.requires.up in
     ok_both c.unsubscribe.result c.unsubscribe.ensures.ok c.unsubscribe.ensures.acts
-    (λ a says conn. subst (λ (s : HubState). Refines (answers conn c.args.key (happens.Unsubscribe c.args.id c.args.filters)) s c.args.doings.now.acts
-    (hub_of h.config h.clock h.next_key u) c.unsubscribe.new.doings.acts) c.self.view_is
-    (subst (λ (did : List Act). Refines (answers conn c.args.key (happens.Unsubscribe c.args.id c.args.filters)) (hub_of h.config h.clock h.next_key h.tables) c.args.doings.now.acts
+    (λ a says conn. subst (λ (s : HubState). Refines (answers conn c.args.key (happens.Unsubscribe c.args.id c.args.filters)) s c.args.log.now.acts
+    (hub_of h.config h.clock h.next_key u) c.unsubscribe.new.log.acts) c.self.view_is
+    (subst (λ (did : List Act). Refines (answers conn c.args.key (happens.Unsubscribe c.args.id c.args.filters)) (hub_of h.config h.clock h.next_key h.tables) c.args.log.now.acts
     (hub_of h.config h.clock h.next_key u) did) (sym says)
-    (unsubscribed_goes h.config h.next_key c.args.key h.tables u c.self.invariant on.conn on.is c.args.id c.args.filters a h.clock conn c.args.doings.now.acts)))
+    (unsubscribed_goes h.config h.next_key c.args.key h.tables u c.self.invariant on.conn on.is c.args.id c.args.filters a h.clock conn c.args.log.now.acts)))
 
 pub returns-clause-takes : goal.returns-clause-takes
 returns-clause-takes g c =
@@ -48,16 +48,16 @@ returns-clause-takes g c =
     let u : HubTables = c.unsubscribe.new.self in
     let key = c.args.key in
     let p = packets.Unsubscribe c.args.id c.args.filters in
-    let says = c.args.doings.now.acts ++ unsubscribed_acts key c.args.filters in
+    let says = c.args.log.now.acts ++ unsubscribed_acts key c.args.filters in
     let on = on_seen h.config h.clock h.next_key h.tables c.args.self.now key c.self.view_is c.requires.up in
     ok_both c.unsubscribe.result c.unsubscribe.ensures.ok c.unsubscribe.ensures.acts
-    (λ a said conn fits. subst (λ (s : HubState). Refines (on_connected_packet conn key p fits) s c.args.doings.now.acts
-    (hub_of h.config h.clock h.next_key u) c.unsubscribe.new.doings.acts) c.self.view_is
-    (subst (λ (did : List Act). Refines (on_connected_packet conn key p fits) (hub_of h.config h.clock h.next_key h.tables) c.args.doings.now.acts
+    (λ a said conn fits. subst (λ (s : HubState). Refines (on_connected_packet conn key p fits) s c.args.log.now.acts
+    (hub_of h.config h.clock h.next_key u) c.unsubscribe.new.log.acts) c.self.view_is
+    (subst (λ (did : List Act). Refines (on_connected_packet conn key p fits) (hub_of h.config h.clock h.next_key h.tables) c.args.log.now.acts
     (hub_of h.config h.clock h.next_key u) did) (sym said)
     (asked_goes h.config h.clock h.next_key key h.tables c.self.invariant on.conn on.is p (happens.Unsubscribe c.args.id c.args.filters) (λ e. refl) conn fits
-    (hub_of h.config h.clock h.next_key u) c.args.doings.now.acts says (room_none (hub_of h.config h.clock h.next_key h.tables))
-    (unsubscribed_goes h.config h.next_key key h.tables u c.self.invariant on.conn on.is c.args.id c.args.filters a h.clock conn c.args.doings.now.acts))))
+    (hub_of h.config h.clock h.next_key u) c.args.log.now.acts says (room_none (hub_of h.config h.clock h.next_key h.tables))
+    (unsubscribed_goes h.config h.next_key key h.tables u c.self.invariant on.conn on.is c.args.id c.args.filters a h.clock conn c.args.log.now.acts))))
 
 pub returns-clause-err : goal.returns-clause-err
 returns-clause-err g c =

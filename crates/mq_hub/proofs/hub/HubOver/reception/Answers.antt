@@ -1,8 +1,8 @@
 use Rattle.std.proofs.Common.{subst}
 use Rattle.mq_route.specs.Hub.{HubState, end_of}
-use Rattle.mq_hub.specs.Receiving.{IsReceived}
-use Rattle.mq_hub.proofs.Granting.{on_seen}
-use Rattle.mq_hub.proofs.Receiving.{can_receive}
+use Rattle.mq_hub.specs.Inside.Reception.{IsReceived}
+use Rattle.mq_hub.proofs.GrantedRows.{on_seen}
+use Rattle.mq_hub.proofs.PublishClass.{can_receive}
 use Rattle.mq_hub.proofs.hub.HubOver.reception.Goals as goal
 
 pub reception-requires : goal.reception-requires

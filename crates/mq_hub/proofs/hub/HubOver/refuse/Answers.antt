@@ -1,10 +1,10 @@
 use Rattle.std.proofs.Common.{◌≡◌, ◌∙◌, sym, ap}
 use Rattle.mq_route.specs.declared.connection_state.ConnectionState.TheVariants.{AwaitingConnect}
 use Rattle.mq_route.specs.Hub.{HubState, key_on, stage_of, with_connection}
-use Rattle.mq_hub.specs.Seen.{HubTables, hub_of}
-use Rattle.mq_hub.proofs.Changing.{stage_seen}
-use Rattle.mq_hub.proofs.Refusing.{fresh_known, goes_refused, grown, hub_closed_with, kept_closed_with}
-use Rattle.mq_hub.proofs.Shutting.{closed}
+use Rattle.mq_hub.specs.Inside.View.{HubTables, hub_of}
+use Rattle.mq_hub.proofs.ConnectionChange.{stage_seen}
+use Rattle.mq_hub.proofs.RefusedConnect.{fresh_known, goes_refused, grown, hub_closed_with, kept_closed_with}
+use Rattle.mq_hub.proofs.ClosedConnection.{closed}
 use Rattle.mq_hub.proofs.hub.HubOver.refuse.Goals as goal
 
 pub shut_with-requires : goal.shut_with-requires
@@ -12,7 +12,7 @@ shut_with-requires g c =
     let t : HubTables = c.self.inside.tables in
     let k = c.args.conn in
     fresh_known k t.connections.connections
-    (sym (stage_seen k t.sessions.tenants t.connections.connections) ∙ ap (λ (s : HubState). stage_of k s.connections) c.self.view_is ∙ c.requires.fresh)
+    (sym (stage_seen k t.sessions.list t.connections.connections) ∙ ap (λ (s : HubState). stage_of k s.connections) c.self.view_is ∙ c.requires.fresh)
 
 pub invariant_of-self : goal.invariant_of-self
 invariant_of-self g c =
@@ -22,9 +22,9 @@ invariant_of-self g c =
     let k = c.args.conn in
     let rest = c.shut_with.ensures.rest in
     let fresh : stage_of k t.connections.connections ≡ AwaitingConnect =
-    sym (stage_seen k t.sessions.tenants t.connections.connections) ∙ ap (λ (s : HubState). stage_of k s.connections) c.self.view_is ∙ c.requires.fresh in
+    sym (stage_seen k t.sessions.list t.connections.connections) ∙ ap (λ (s : HubState). stage_of k s.connections) c.self.view_is ∙ c.requires.fresh in
     kept_closed_with k c.in_ok-waiting.waiting h.config h.next_key t u c.self.invariant (ap (λ (v : HubTables). v.rows) rest) (ap (λ (v : HubTables). v.retained.messages) rest)
-    (ap (λ (v : HubTables). v.sessions.tenants) rest) c.shut_with.ensures.connections (ap key_on fresh) c.shut_with.ensures.limits
+    (ap (λ (v : HubTables). v.sessions.list) rest) c.shut_with.ensures.connections (ap key_on fresh) c.shut_with.ensures.limits
 
 pub returns-clause-goes : goal.returns-clause-goes
 returns-clause-goes g c =
@@ -35,9 +35,9 @@ returns-clause-goes g c =
     let b = c.in_ok-waiting.waiting in
     let rest = c.shut_with.ensures.rest in
     let fresh : stage_of k t.connections.connections ≡ AwaitingConnect =
-    sym (stage_seen k t.sessions.tenants t.connections.connections) ∙ ap (λ (s : HubState). stage_of k s.connections) c.self.view_is ∙ c.requires.fresh in
-    λ fits. goes_refused k c.args.code fits c.args.self.now (hub_of h.config h.clock h.next_key u) c.args.doings.now.acts c.say.new.self.acts b c.in_ok-waiting.ensures c.requires.fresh
+    sym (stage_seen k t.sessions.list t.connections.connections) ∙ ap (λ (s : HubState). stage_of k s.connections) c.self.view_is ∙ c.requires.fresh in
+    λ fits. goes_refused k c.args.code fits c.args.self.now (hub_of h.config h.clock h.next_key u) c.args.log.now.acts c.push.new.self.acts b c.in_ok-waiting.ensures c.requires.fresh
     (hub_closed_with k b h.config h.next_key t u c.self.invariant (ap (λ (v : HubTables). v.rows) rest) (ap (λ (v : HubTables). v.retained.messages) rest)
-    (ap (λ (v : HubTables). v.sessions.tenants) rest) c.shut_with.ensures.connections h.clock fresh
+    (ap (λ (v : HubTables). v.sessions.list) rest) c.shut_with.ensures.connections h.clock fresh
     ∙ ap (λ (s : HubState). record s { connections = with_connection closed k (with_connection (grown b) k s.connections) }) c.self.view_is)
-    c.say.ensures.acts
+    c.push.ensures.acts

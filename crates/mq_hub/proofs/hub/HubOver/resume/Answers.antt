@@ -1,7 +1,7 @@
 use Rattle.std.proofs.Common.{◌∙◌, sym, ap}
 use Rattle.mq_packet.specs.declared.connect.Connect.{Connect}
-use Rattle.mq_hub.proofs.Admitting.{goes_renewed, goes_resumed, stands_by}
-use Rattle.mq_hub.proofs.Fronting.{ok_by}
+use Rattle.mq_hub.proofs.AcceptConnect.{goes_renewed, goes_resumed, stands_by}
+use Rattle.mq_hub.proofs.FirstPackets.{ok_by}
 use Rattle.mq_hub.proofs.hub.HubOver.resume.Goals as goal
 
 pub resume_session-requires-clause-stands : goal.resume_session-requires-clause-stands
@@ -10,13 +10,13 @@ resume_session-requires-clause-stands g c = stands_by c.args.client c.args.key c
 pub returns-then-as_connect-clause-goes : goal.returns-then-as_connect-clause-goes
 returns-then-as_connect-clause-goes g c =
     let clean = sym (ap (λ (x : Connect). x.clean_session) c.as_connect.ensures) ∙ c.if-as_connect.true in
-    ok_by c.renew.result
-    (λ q fits. goes_renewed c.args.conn c.args.connect fits c.args.self.now c.renew.new.self c.args.doings.now.acts c.renew.new.doings.acts c.args.client c.args.key c.requires.away clean q)
-    c.renew.ensures.goes
+    ok_by c.replace_session.result
+    (λ q fits. goes_renewed c.args.conn c.args.connect fits c.args.self.now c.replace_session.new.self c.args.log.now.acts c.replace_session.new.log.acts c.args.client c.args.key c.requires.away clean q)
+    c.replace_session.ensures.goes
 
 pub returns-else-as_connect-clause-goes : goal.returns-else-as_connect-clause-goes
 returns-else-as_connect-clause-goes g c =
     let going = sym (ap (λ (x : Connect). x.clean_session) c.as_connect.ensures) ∙ c.if-as_connect.false in
     ok_by c.resume_session.result
-    (λ q fits. goes_resumed c.args.conn c.args.connect fits c.args.self.now c.resume_session.new.self c.args.doings.now.acts c.resume_session.new.doings.acts c.args.client c.args.key c.requires.away going q)
+    (λ q fits. goes_resumed c.args.conn c.args.connect fits c.args.self.now c.resume_session.new.self c.args.log.now.acts c.resume_session.new.log.acts c.args.client c.args.key c.requires.away going q)
     c.resume_session.ensures.goes

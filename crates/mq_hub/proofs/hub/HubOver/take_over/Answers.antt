@@ -2,8 +2,8 @@ use Rattle.std.proofs.Common.{◌∙◌, ◌||◌, ap, sym}
 use Rattle.std.proofs.lemmas.Bool.{or_parts}
 use Rattle.mq_packet.specs.declared.connect.Connect.{Connect}
 use Rattle.mq_route.specs.Hub.{is_clean, stage_of}
-use Rattle.mq_hub.proofs.Fronting.{ok_by}
-use Rattle.mq_hub.proofs.TakingOver.{goes_admitted, goes_on_admitted}
+use Rattle.mq_hub.proofs.FirstPackets.{ok_by}
+use Rattle.mq_hub.proofs.TakeOver.{goes_admitted, goes_on_admitted}
 use Rattle.mq_hub.proofs.hub.HubOver.take_over.Goals as goal
 
 pub returns-then-begins_anew-clause-goes : goal.returns-then-begins_anew-clause-goes
@@ -15,7 +15,7 @@ returns-then-begins_anew-clause-goes g c =
     (λ goes. (
       goes.0,
       goes_admitted c.args.conn c.args.connect c.args.client c.args.key other goes.0 c.args.self.now (sym c.up_on.ensures.conn ∙ c.in-Some.is) c.take_over_and_replace.new.self
-          c.args.doings.now.acts c.take_over_and_replace.new.doings.acts anew goes.1,
+          c.args.log.now.acts c.take_over_and_replace.new.log.acts anew goes.1,
     )) c.take_over_and_replace.ensures.goes
 
 pub returns-else-begins_anew-clause-goes : goal.returns-else-begins_anew-clause-goes
@@ -28,5 +28,5 @@ returns-else-begins_anew-clause-goes g c =
     (λ goes. (
       goes.0,
       goes_on_admitted c.args.conn c.args.connect c.args.client c.args.key other goes.0 c.args.self.now (sym c.up_on.ensures.conn ∙ c.in-Some.is) c.take_over_and_resume.new.self
-          c.args.doings.now.acts c.take_over_and_resume.new.doings.acts still.1 still.0 goes.1,
+          c.args.log.now.acts c.take_over_and_resume.new.log.acts still.1 still.0 goes.1,
     )) c.take_over_and_resume.ensures.goes

@@ -6,13 +6,13 @@ use Rattle.mq_route.specs.declared.connection_state.ConnectionTerms.{ConnectionT
 use Rattle.mq_route.specs.Arrives.{start_session}
 use Rattle.mq_route.specs.Hub.{HubState, HubConnection, is_clean, key_of, key_on, stage_of, up_on, with_connection}
 use Rattle.mq_hub.specs.declared.sessions.session.BrokerSession.{BrokerSession}
-use Rattle.mq_hub.specs.Does.{Refines}
-use Rattle.mq_hub.specs.Keeps.{IsWillWithin}
-use Rattle.mq_hub.specs.Rising.{IsBegun}
-use Rattle.mq_hub.specs.Seen.{HubTables, hub_of}
-use Rattle.mq_hub.specs.Sessions.{sessions_of, AreBelow}
-use Rattle.mq_hub.proofs.Beginning.{none_up}
-use Rattle.mq_hub.proofs.TakingOver.{goes_anew, hub_roomed, keeps_anew, kept_roomed, over_by, stage_there}
+use Rattle.mq_hub.specs.Inside.Refinement.{Refines}
+use Rattle.mq_hub.specs.Inside.Invariant.{IsWillWithin}
+use Rattle.mq_hub.specs.Inside.ConnectRoom.{IsNewSession}
+use Rattle.mq_hub.specs.Inside.View.{HubTables, hub_of}
+use Rattle.mq_hub.specs.Inside.Sessions.{sessions_of, AreBelow}
+use Rattle.mq_hub.proofs.NewSession.{none_up}
+use Rattle.mq_hub.proofs.TakeOver.{goes_anew, hub_roomed, keeps_anew, kept_roomed, over_by, stage_there}
 use Rattle.mq_hub.proofs.hub.HubOver.take_over_and_replace.Goals as goal
 
 pub take_over_ending-requires-clause-hubs : goal.take_over_ending-requires-clause-hubs
@@ -21,7 +21,7 @@ take_over_ending-requires-clause-hubs g c =
     let r = c.reserve_session.ensures in record {
       config = h.config;
       next_key = h.next_key;
-      keeps = kept_roomed h.config h.next_key h.tables c.reserve_session.new.self r.rest r.tenants r.connections c.self.invariant r.limits;
+      keeps = kept_roomed h.config h.next_key h.tables c.reserve_session.new.self r.rest r.list r.connections c.self.invariant r.limits;
     }
 
 pub take_over_ending-requires-clause-up : goal.take_over_ending-requires-clause-up
@@ -42,28 +42,28 @@ begin-requires-clause-away g c =
     let h = c.self.inside in
     let r = c.reserve_session.ensures in
     let v : HubTables = c.take_over_ending.new.self in
-    let kept = kept_roomed h.config h.next_key h.tables c.reserve_session.new.self r.rest r.tenants r.connections c.self.invariant r.limits in
+    let kept = kept_roomed h.config h.next_key h.tables c.reserve_session.new.self r.rest r.list r.connections c.self.invariant r.limits in
     let left = c.take_over_ending.ensures.proceeds.keeps h.config h.next_key kept in
-    ap (λ (s : BrokerSession). up_on s.key v.connections.connections) c.in_ok-beginning.ensures.seat.after
+    ap (λ (s : BrokerSession). up_on s.key v.connections.connections) c.in_ok-beginning.ensures.boxed.after
     ∙ ap (λ (s : HubState). up_on s.next_key v.connections.connections) (sym c.self.view_is)
-    ∙ none_up h.next_key h.config.limits.most v.sessions.tenants v.connections.connections left.below left.housed
+    ∙ none_up h.next_key h.config.limits.most v.sessions.list v.connections.connections left.below left.backed
 
 pub begin-requires-clause-key : goal.begin-requires-clause-key
 begin-requires-clause-key g c =
     let h = c.self.inside in
     let r = c.reserve_session.ensures in
     let v : HubTables = c.take_over_ending.new.self in
-    let kept = kept_roomed h.config h.next_key h.tables c.reserve_session.new.self r.rest r.tenants r.connections c.self.invariant r.limits in
+    let kept = kept_roomed h.config h.next_key h.tables c.reserve_session.new.self r.rest r.list r.connections c.self.invariant r.limits in
     let left = c.take_over_ending.ensures.proceeds.keeps h.config h.next_key kept in
-    subst (λ (n : ℕ). AreBelow n v.sessions.tenants)
-    (ap (λ (s : HubState). s.next_key) c.self.view_is ∙ sym (ap (λ (s : BrokerSession). s.key) c.in_ok-beginning.ensures.seat.after)) left.below
+    subst (λ (n : ℕ). AreBelow n v.sessions.list)
+    (ap (λ (s : HubState). s.next_key) c.self.view_is ∙ sym (ap (λ (s : BrokerSession). s.key) c.in_ok-beginning.ensures.boxed.after)) left.below
 
 pub begin-requires-clause-client : goal.begin-requires-clause-client
 begin-requires-clause-client g c =
     let v : HubTables = c.take_over_ending.new.self in
-    ap (λ (s : BrokerSession). key_of s.client (sessions_of v.sessions.tenants)) c.in_ok-beginning.ensures.seat.after
+    ap (λ (s : BrokerSession). key_of s.client (sessions_of v.sessions.list)) c.in_ok-beginning.ensures.boxed.after
     ∙ c.take_over_ending.ensures.gone c.args.client
-    (ap (λ (ts : List BrokerSession). key_of c.args.client (sessions_of ts)) c.reserve_session.ensures.tenants
+    (ap (λ (ts : List BrokerSession). key_of c.args.client (sessions_of ts)) c.reserve_session.ensures.list
     ∙ ap (λ (s : HubState). key_of c.args.client s.sessions) c.self.view_is ∙ c.requires.stands)
 
 pub invariant_of-self-2 : goal.invariant_of-self-2
@@ -75,19 +75,19 @@ invariant_of-self-2 g c =
     let u : HubTables = c.begin.new.self in
     let k = c.args.conn in
     let e = c.reserve_session.ensures in
-    let own : BrokerSession = c.in_ok-beginning.beginning.seat in
-    let kept = kept_roomed h.config h.next_key t r e.rest e.tenants e.connections c.self.invariant e.limits in
+    let own : BrokerSession = c.in_ok-beginning.beginning.boxed in
+    let kept = kept_roomed h.config h.next_key t r e.rest e.list e.connections c.self.invariant e.limits in
     let at : stage_of k r.connections.connections ≡ AwaitingConnect =
     ap (λ (xs : List HubConnection). stage_of k xs) e.connections ∙ stage_there k h.config h.clock h.next_key t c.args.self.now c.self.view_is ∙ c.requires.fresh in
-    let begun : IsBegun c.args.connect c.args.client (hub_of h.config h.clock h.next_key r) own =
-    subst (λ (s : HubState). IsBegun c.args.connect c.args.client s own) (sym (hub_roomed h.config h.next_key t r e.rest e.tenants e.connections h.clock ∙ c.self.view_is))
-    c.in_ok-beginning.ensures.seat in
+    let begun : IsNewSession c.args.connect c.args.client (hub_of h.config h.clock h.next_key r) own =
+    subst (λ (s : HubState). IsNewSession c.args.connect c.args.client s own) (sym (hub_roomed h.config h.next_key t r e.rest e.list e.connections h.clock ∙ c.self.view_is))
+    c.in_ok-beginning.ensures.boxed in
     let connections = c.begin.ensures.connections
     ∙ ap₂ (λ (n : ℕ) (m : ConnectionTerms). with_connection (λ x. record x { stage = ConnectedAs n m h.clock }) k v.connections.connections) (ap (λ (s : BrokerSession). s.key) begun.after)
     c.in_ok-beginning.ensures.terms in
     keeps_anew (over_by c.args.other c.args.key (is_clean (stage_of c.args.other r.connections.connections))) k c.args.connect c.args.client h.config h.clock h.next_key r v u own
-    c.reserve_beside.new.self.acts c.take_over_ending.new.doings.acts c.say.new.self.acts c.requires.named kept at c.take_over_ending.ensures.proceeds begun
-    c.begin.ensures.rest c.begin.ensures.tenants connections
+    c.reserve_more.new.self.acts c.take_over_ending.new.log.acts c.push.new.self.acts c.requires.named kept at c.take_over_ending.ensures.proceeds begun
+    c.begin.ensures.rest c.begin.ensures.list connections
     (subst (λ (s : HubState). IsWillWithin s.config.limits.most c.args.connect.will) (sym c.self.view_is) c.requires.will) c.begin.ensures.limits
     (subst (λ (s : HubState). s.next_key < 2 ^ 32) (sym c.self.view_is) c.requires.next)
 
@@ -101,32 +101,32 @@ returns-clause-goes g c =
     let k = c.args.conn in
     let other = c.args.other in
     let e = c.reserve_session.ensures in
-    let own : BrokerSession = c.in_ok-beginning.beginning.seat in
-    let kept = kept_roomed h.config h.next_key t r e.rest e.tenants e.connections c.self.invariant e.limits in
+    let own : BrokerSession = c.in_ok-beginning.beginning.boxed in
+    let kept = kept_roomed h.config h.next_key t r e.rest e.list e.connections c.self.invariant e.limits in
     let at : stage_of k r.connections.connections ≡ AwaitingConnect =
     ap (λ (xs : List HubConnection). stage_of k xs) e.connections ∙ stage_there k h.config h.clock h.next_key t c.args.self.now c.self.view_is ∙ c.requires.fresh in
     let same : hub_of h.config h.clock h.next_key r ≡ c.args.self.now =
-    hub_roomed h.config h.next_key t r e.rest e.tenants e.connections h.clock ∙ c.self.view_is in
-    let begun : IsBegun c.args.connect c.args.client (hub_of h.config h.clock h.next_key r) own =
-    subst (λ (s : HubState). IsBegun c.args.connect c.args.client s own) (sym same) c.in_ok-beginning.ensures.seat in
+    hub_roomed h.config h.next_key t r e.rest e.list e.connections h.clock ∙ c.self.view_is in
+    let begun : IsNewSession c.args.connect c.args.client (hub_of h.config h.clock h.next_key r) own =
+    subst (λ (s : HubState). IsNewSession c.args.connect c.args.client s own) (sym same) c.in_ok-beginning.ensures.boxed in
     let connections = c.begin.ensures.connections
     ∙ ap₂ (λ (n : ℕ) (m : ConnectionTerms). with_connection (λ x. record x { stage = ConnectedAs n m h.clock }) k v.connections.connections) (ap (λ (s : BrokerSession). s.key) begun.after)
     c.in_ok-beginning.ensures.terms in
     let next = ap (λ (s : HubState). s.next_key) c.self.view_is ∙ sym c.next_key-next.ensures in
     let ends = is_clean (stage_of other r.connections.connections) in
-    let said = c.say.ensures.acts ∙ ap (λ (n : ℕ). c.take_over_ending.new.doings.acts ++ acts.Up k n false ∷ []) (sym next) in
+    let said = c.push.ensures.acts ∙ ap (λ (n : ℕ). c.take_over_ending.new.log.acts ++ acts.Up k n false ∷ []) (sym next) in
     let goes =
     goes_anew (over_by other c.args.key ends) k c.args.connect c.args.client h.config h.clock h.next_key r v u own
-    c.reserve_beside.new.self.acts c.take_over_ending.new.doings.acts c.say.new.self.acts c.requires.named kept at c.take_over_ending.ensures.proceeds begun
-    c.begin.ensures.rest c.begin.ensures.tenants connections said in
+    c.reserve_more.new.self.acts c.take_over_ending.new.log.acts c.push.new.self.acts c.requires.named kept at c.take_over_ending.ensures.proceeds begun
+    c.begin.ensures.rest c.begin.ensures.list connections said in
     let clean : ends ≡ is_clean (stage_of other c.args.self.now.connections) =
     ap (λ (xs : List HubConnection). is_clean (stage_of other xs)) e.connections
     ∙ ap is_clean (stage_there other h.config h.clock h.next_key t c.args.self.now c.self.view_is) in (
       goes.0,
-      subst (λ (b : Bool). Refines (λ w. start_session k c.args.connect c.args.client (over_by other c.args.key b goes.0 w)) c.args.self.now c.args.doings.now.acts
-          (hub_of h.config h.clock (h.next_key + 1) u) c.say.new.self.acts) clean
+      subst (λ (b : Bool). Refines (λ w. start_session k c.args.connect c.args.client (over_by other c.args.key b goes.0 w)) c.args.self.now c.args.log.now.acts
+          (hub_of h.config h.clock (h.next_key + 1) u) c.push.new.self.acts) clean
           (subst (λ (d : List Act). Refines (λ w. start_session k c.args.connect c.args.client (over_by other c.args.key ends goes.0 w)) c.args.self.now d
-          (hub_of h.config h.clock (h.next_key + 1) u) c.say.new.self.acts) c.reserve_beside.ensures.same
-          (subst (λ (s : HubState). Refines (λ w. start_session k c.args.connect c.args.client (over_by other c.args.key ends goes.0 w)) s c.reserve_beside.new.self.acts
-          (hub_of h.config h.clock (h.next_key + 1) u) c.say.new.self.acts) same goes.1)),
+          (hub_of h.config h.clock (h.next_key + 1) u) c.push.new.self.acts) c.reserve_more.ensures.same
+          (subst (λ (s : HubState). Refines (λ w. start_session k c.args.connect c.args.client (over_by other c.args.key ends goes.0 w)) s c.reserve_more.new.self.acts
+          (hub_of h.config h.clock (h.next_key + 1) u) c.push.new.self.acts) same goes.1)),
     )

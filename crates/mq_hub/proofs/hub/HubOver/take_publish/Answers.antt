@@ -2,8 +2,8 @@ use Rattle.std.proofs.Common.{true≢false, ap, sym, ◌∙◌}
 use Rattle.mq_end.specs.declared.reason.CloseReason.TheVariants.{Window}
 use Rattle.mq_route.specs.declared.close.HubClose.TheVariants.{Own}
 use Rattle.mq_route.specs.Hub.{is_open}
-use Rattle.mq_hub.proofs.Receiving.{unfit_goes, up_by}
-use Rattle.mq_hub.proofs.Staying.{goes_shut}
+use Rattle.mq_hub.proofs.PublishClass.{unfit_goes, up_by}
+use Rattle.mq_hub.proofs.KeptState.{goes_shut}
 use Rattle.mq_hub.proofs.hub.HubOver.take_publish.Goals as goal
 
 pub reception-requires : goal.reception-requires
@@ -15,14 +15,14 @@ take_handed-requires-clause-up g c = up_by c.args.conn c.args.key c.args.self.no
 pub take_silent-requires-clause-up : goal.take_silent-requires-clause-up
 take_silent-requires-clause-up g c = up_by c.args.conn c.args.key c.args.self.now.connections c.requires.up
 
-pub returns-in-Unfit-clause-goes : goal.returns-in-Unfit-clause-goes
-returns-in-Unfit-clause-goes g c = (
+pub returns-in-WindowFull-clause-goes : goal.returns-in-WindowFull-clause-goes
+returns-in-WindowFull-clause-goes g c = (
   c.close.ensures.goes.0,
-  unfit_goes c.args.self.now c.args.key c.args.publish c.in-Unfit.ensures c.args.conn c.close.ensures.goes.0
-      c.close.new.self c.args.doings.now.acts c.close.new.doings.acts c.close.ensures.goes.1,
+  unfit_goes c.args.self.now c.args.key c.args.publish c.in-WindowFull.ensures c.args.conn c.close.ensures.goes.0
+      c.close.new.self c.args.log.now.acts c.close.new.log.acts c.close.ensures.goes.1,
 )
 
-pub returns-in-Unfit-clause-room : goal.returns-in-Unfit-clause-room
-returns-in-Unfit-clause-room g c = λ stays.
+pub returns-in-WindowFull-clause-room : goal.returns-in-WindowFull-clause-room
+returns-in-WindowFull-clause-room g c = λ stays.
     absurd (true≢false (sym stays ∙ ap is_open (goes_shut c.args.conn (Own Window) c.close.ensures.goes.0 c.args.self.now c.close.new.self
-    c.args.doings.now.acts c.close.new.doings.acts c.close.ensures.goes.1)))
+    c.args.log.now.acts c.close.new.log.acts c.close.ensures.goes.1)))

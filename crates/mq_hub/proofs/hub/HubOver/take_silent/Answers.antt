@@ -2,11 +2,11 @@ use Rattle.std.proofs.Common.{◌≡◌, ◌∙◌, None, sym, subst}
 use Rattle.mq_end.specs.Server.{server_gets}
 use Rattle.mq_route.specs.Hub.{HubState, end_of}
 use Rattle.mq_route.specs.Work.{does}
-use Rattle.mq_hub.specs.Does.{Refines}
-use Rattle.mq_hub.specs.Seen.{HubTables, hub_of}
-use Rattle.mq_hub.proofs.Rerooming.{hub_alike, kept_alike}
-use Rattle.mq_hub.proofs.Granting.{can_take, either, err_so, ok_both, on_seen}
-use Rattle.mq_hub.proofs.Taking.{kept_taken, silent_goes, taken_goes}
+use Rattle.mq_hub.specs.Inside.Refinement.{Refines}
+use Rattle.mq_hub.specs.Inside.View.{HubTables, hub_of}
+use Rattle.mq_hub.proofs.OtherRoom.{hub_alike, kept_alike}
+use Rattle.mq_hub.proofs.GrantedRows.{can_take, either, err_so, ok_both, on_seen}
+use Rattle.mq_hub.proofs.PacketSteps.{kept_taken, silent_goes, taken_goes}
 use Rattle.mq_hub.proofs.hub.HubOver.take_silent.Goals as goal
 
 pub take-requires : goal.take-requires

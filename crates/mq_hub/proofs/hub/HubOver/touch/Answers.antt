@@ -1,12 +1,12 @@
 use Rattle.std.proofs.Common.{◌≡◌, ◌∙◌, true, ℕ, sym, ap}
 use Rattle.mq_end.specs.End.{is_up}
 use Rattle.mq_route.specs.Hub.{HubState, changed, end_of, key_on, stage_of}
-use Rattle.mq_hub.specs.Coming.{hears, with_heard}
-use Rattle.mq_hub.specs.Seen.{HubTables}
-use Rattle.mq_hub.proofs.Alike.{hears_stays, hub_alike, kept_alike, stays_on}
-use Rattle.mq_hub.proofs.Broken.{end_up}
-use Rattle.mq_hub.proofs.Changing.{stage_seen}
-use Rattle.mq_hub.proofs.Heard.{if_some}
+use Rattle.mq_hub.specs.Inside.Input.{touched_at, with_touched}
+use Rattle.mq_hub.specs.Inside.View.{HubTables}
+use Rattle.mq_hub.proofs.SameSessions.{hears_stays, hub_alike, kept_alike, stays_on}
+use Rattle.mq_hub.proofs.MalformedBytes.{end_up}
+use Rattle.mq_hub.proofs.ConnectionChange.{stage_seen}
+use Rattle.mq_hub.proofs.LastActivity.{if_some}
 use Rattle.mq_hub.proofs.hub.HubOver.touch.Goals as goal
 
 pub invariant_of-self : goal.invariant_of-self
@@ -16,8 +16,8 @@ invariant_of-self g c =
     let t : HubTables = h.tables in
     let u : HubTables = c.touched.new.self in
     let rest = c.touched.ensures.rest in
-    kept_alike (changed (hears h.clock) k) (stays_on k (hears h.clock) (hears_stays h.clock)) h.config h.next_key t u (ap (λ (v : HubTables). v.rows) rest)
-    (ap (λ (v : HubTables). v.retained.messages) rest) (ap (λ (v : HubTables). v.sessions.tenants) rest)
+    kept_alike (changed (touched_at h.clock) k) (stays_on k (touched_at h.clock) (hears_stays h.clock)) h.config h.next_key t u (ap (λ (v : HubTables). v.rows) rest)
+    (ap (λ (v : HubTables). v.retained.messages) rest) (ap (λ (v : HubTables). v.sessions.list) rest)
     c.touched.ensures.connections c.self.invariant c.touched.ensures.limits
 
 pub returns-clause-hub : goal.returns-clause-hub
@@ -27,15 +27,15 @@ returns-clause-hub g c =
     let t : HubTables = h.tables in
     let u : HubTables = c.touched.new.self in
     let rest = c.touched.ensures.rest in
-    hub_alike (changed (hears h.clock) k) (stays_on k (hears h.clock) (hears_stays h.clock)) h.config h.next_key t u (ap (λ (v : HubTables). v.rows) rest)
-    (ap (λ (v : HubTables). v.retained.messages) rest) (ap (λ (v : HubTables). v.sessions.tenants) rest)
+    hub_alike (changed (touched_at h.clock) k) (stays_on k (touched_at h.clock) (hears_stays h.clock)) h.config h.next_key t u (ap (λ (v : HubTables). v.rows) rest)
+    (ap (λ (v : HubTables). v.retained.messages) rest) (ap (λ (v : HubTables). v.sessions.list) rest)
     c.touched.ensures.connections h.clock
-    ∙ ap (with_heard k) c.self.view_is
+    ∙ ap (with_touched k) c.self.view_is
 
 pub returns-clause-key : goal.returns-clause-key
 returns-clause-key g c =
     let t : HubTables = c.self.inside.tables in
-    c.touched.ensures.key ∙ ap key_on (sym (stage_seen c.args.conn t.sessions.tenants t.connections.connections))
+    c.touched.ensures.key ∙ ap key_on (sym (stage_seen c.args.conn t.sessions.list t.connections.connections))
     ∙ ap (λ (h : HubState). key_on (stage_of c.args.conn h.connections)) c.self.view_is
 
 pub returns-clause-up : goal.returns-clause-up

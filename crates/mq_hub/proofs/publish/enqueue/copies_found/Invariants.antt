@@ -1,5 +1,5 @@
 use Rattle.std.proofs.Common.{◌≡◌, ◌++◌}
-use Rattle.mq_hub.specs.Placing.{copies_found}
+use Rattle.mq_hub.specs.Inside.Placement.{copies_found}
 use Rattle.mq_hub.proofs.publish.enqueue.copies_found.Given as goal
 
 abbrev pub invariant-loop-key : goal.invariant-loop-key

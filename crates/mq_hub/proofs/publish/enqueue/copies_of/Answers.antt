@@ -2,18 +2,18 @@ use Rattle.std.proofs.Common.{◌≡◌, ◌∙◌, List, [], ℕ, vec_len, sym,
 use Rattle.std.proofs.lemmas.List.{nil_from_length}
 use Rattle.mq_topic.specs.Rows.{Row, matched}
 use Rattle.mq_packet.specs.declared.message.Message.{Message}
-use Rattle.mq_hub.specs.Placing.{AreApart, AreFor, copies_found}
-use Rattle.mq_hub.specs.Connections.{LineTable}
-use Rattle.mq_hub.proofs.Owing.{due_for}
+use Rattle.mq_hub.specs.Inside.Placement.{AreApart, AreFor, copies_found}
+use Rattle.mq_hub.specs.Inside.Connections.{ConnectionList}
+use Rattle.mq_hub.proofs.CopyTargets.{due_for}
 use Rattle.std.proofs.lemmas.Float.{T_from_true}
-use Rattle.mq_hub.proofs.DueCopies.{found_alike, found_is, found_apart, hidden_none, if_ok}
+use Rattle.mq_hub.proofs.PlannedCopies.{found_alike, found_is, found_apart, hidden_none, if_ok}
 use Rattle.mq_hub.proofs.publish.enqueue.copies_of.Goals as goal
 
 pub returns-then-is_hidden_name-clause-copies : goal.returns-then-is_hidden_name-clause-copies
 returns-then-is_hidden_name-clause-copies g c = λ h rows alike.
     c.new.ensures.items ∙ hidden_none c.args.message.now h (sym c.is_hidden_name.ensures ∙ c.if-is_hidden_name.true)
 
--- nobody was found
+-- no client was found
 pub returns-then-is_empty-clause-copies : goal.returns-then-is_empty-clause-copies
 returns-then-is_empty-clause-copies g c = λ h rows alike.
     let m = c.args.message.now in
@@ -28,7 +28,7 @@ returns-then-is_empty-clause-copies g c = λ h rows alike.
 
 pub returns-then-is_empty-clause-due : goal.returns-then-is_empty-clause-due
 returns-then-is_empty-clause-due g c = λ config next_key t rows connections keeps fits.
-    subst (λ (cs : List (ℕ × Message)). AreFor t.sessions.tenants cs) (sym c.new-then-is_empty.ensures.items) tt
+    subst (λ (cs : List (ℕ × Message)). AreFor t.sessions.list cs) (sym c.new-then-is_empty.ensures.items) tt
 
 pub returns-clause-copies : goal.returns-clause-copies
 returns-clause-copies g c =
@@ -49,15 +49,15 @@ returns-clause-apart g c =
 
 pub returns-then-is_hidden_name-clause-due : goal.returns-then-is_hidden_name-clause-due
 returns-then-is_hidden_name-clause-due g c = λ config next_key t rows connections keeps fits.
-    subst (λ (cs : List (ℕ × Message)). AreFor t.sessions.tenants cs) (sym c.new.ensures.items) tt
+    subst (λ (cs : List (ℕ × Message)). AreFor t.sessions.list cs) (sym c.new.ensures.items) tt
 
 pub returns-clause-due : goal.returns-clause-due
 returns-clause-due g c =
     let m = c.args.message.now in
     let xs = c.args.connections.now.connections in
     if_ok c.copies_found.result c.copies_found.ensures (λ copies e config next_key t rows connections keeps fits.
-    subst (λ (cs : List (ℕ × Message)). AreFor t.sessions.tenants cs)
+    subst (λ (cs : List (ℕ × Message)). AreFor t.sessions.list cs)
     (sym (e ∙ ap (copies_found xs m) c.in_ok-found.ensures.value
     ∙ ap (λ (rs : List Row). copies_found xs m (matched m.topic rs)) (sym rows)
-    ∙ ap (λ (ls : LineTable). copies_found ls.connections m (matched m.topic t.rows)) (sym connections)))
+    ∙ ap (λ (ls : ConnectionList). copies_found ls.connections m (matched m.topic t.rows)) (sym connections)))
     (due_for config next_key t m keeps fits))

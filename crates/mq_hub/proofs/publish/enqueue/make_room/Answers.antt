@@ -2,8 +2,8 @@ use Rattle.std.proofs.Common.{◌≡◌, ◌∙◌, ◌+◌, ◌<◌, ◌∷◌,
 use Rattle.mq_packet.specs.declared.message.Message.{Message}
 use Rattle.mq_route.specs.Hub.{for_key}
 use Rattle.mq_route.specs.Work.{have_room}
-use Rattle.mq_hub.specs.Placing.{AreReady, IsFor, IsReadyAt, is_among}
-use Rattle.mq_hub.proofs.Readiness.{all_at, all_more, apart_at, are_for_same, drop_at, has_same, room_none, still_all, ended}
+use Rattle.mq_hub.specs.Inside.Placement.{AreReady, IsFor, IsReadyAt, is_among}
+use Rattle.mq_hub.proofs.SessionRoom.{all_at, all_more, apart_at, are_for_same, drop_at, has_same, room_none, still_all, ended}
 use Rattle.mq_hub.proofs.publish.enqueue.make_room.Goals as goal
 
 pub make_room_for-requires : goal.make_room_for-requires
@@ -11,7 +11,7 @@ make_room_for-requires c =
     let cs = c.args.copies.now in
     let i = c.loop-due.due-index in
     let d = c.due-item.result in
-    let ts = c.loop-due.sessions.tenants in
+    let ts = c.loop-due.sessions.list in
     let at = all_at (λ x. IsFor x.0 (x.1 ∷ []) ts) cs i d (omega (arith, c.loop-due-test.true)) c.loop-due.invariant.due in
     subst (λ (ms : List Message). IsFor d.0 ms ts) (sym c.from_ref.ensures.value) (subst (λ (x : ℕ × Message). IsFor x.0 (x.1 ∷ []) ts) (sym c.due-item.is) at)
 
@@ -29,7 +29,7 @@ returns-then-not-branch-clause-enough c = λ h has.
     let l : i < length cs = omega (arith, c.loop-due-test.true) in
     let rest = drop (suc i) cs in
     let none = subst (λ (x : ℕ × Message). is_among x.0 rest ≡ false) (sym c.due-item.is) (apart_at cs i d l c.requires.apart) in
-    let now = has_same c.args.sessions.now.tenants c.loop-due.sessions.tenants h c.loop-due.invariant.same has in
+    let now = has_same c.args.sessions.now.list c.loop-due.sessions.list h c.loop-due.invariant.same has in
     let front = drop_at cs i d l ∙ ap (λ (x : ℕ × Message). x ∷ rest) (sym c.due-item.is) in
     let says = subst (λ (ms : List Message). have_room (for_key d.0 ms ++ rest) h ≡ (c.in_ok-make_room_for.field-0 && have_room rest h)) c.from_ref.ensures.value
     (c.in_ok-make_room_for.ensures.enough rest h now none) in
@@ -41,8 +41,8 @@ loop-due-preserved c =
     let cs = c.args.copies.now in
     let i = c.loop-due.due-index in
     let d = c.due-item.result in
-    let old = c.loop-due.sessions.tenants in
-    let new = c.make_room_for.new.sessions.tenants in
+    let old = c.loop-due.sessions.list in
+    let new = c.make_room_for.new.sessions.list in
     let l : i < length cs = omega (arith, c.loop-due-test.true) in
     let rest = drop (suc i) cs in
     let one : i + 1 ≡ suc i = add-one i in
@@ -55,7 +55,7 @@ loop-due-preserved c =
     record {
       due = are_for_same old new cs c.make_room_for.ensures.same c.loop-due.invariant.due;
       enough = λ h has.
-          let now = has_same c.args.sessions.now.tenants old h c.loop-due.invariant.same has in
+          let now = has_same c.args.sessions.now.list old h c.loop-due.invariant.same has in
           let says = subst (λ (ms : List Message). have_room (for_key d.0 ms ++ rest) h ≡ (c.in_ok-make_room_for.field-0 && have_room rest h)) c.from_ref.ensures.value
           (c.in_ok-make_room_for.ensures.enough rest h now none) in
           c.loop-due.invariant.enough h has ∙ ap (λ (xs : List (ℕ × Message)). have_room xs h) front ∙ says

@@ -1,10 +1,10 @@
 use Rattle.mq_route.specs.Hub.{for_key}
-use Rattle.mq_hub.proofs.Tied.{for_placeable, goes}
+use Rattle.mq_hub.proofs.PlacedCopies.{for_placeable, goes}
 use Rattle.mq_hub.proofs.publish.enqueue.place_for.Goals as goal
 
 pub returns-clause-goes : goal.returns-clause-goes
 returns-clause-goes c = λ config clock next_key t said same can.
-    let old = c.args.sessions.now.tenants in
+    let old = c.args.sessions.now.list in
     let ms = c.args.messages.items in
     let key = c.args.key in
-    goes config clock next_key t said (for_key key ms) old c.publish_for.new.sessions.tenants same can (for_placeable key ms 0 old c.requires) c.publish_for.ensures.tenants
+    goes config clock next_key t said (for_key key ms) old c.publish_for.new.sessions.list same can (for_placeable key ms 0 old c.requires) c.publish_for.ensures.list

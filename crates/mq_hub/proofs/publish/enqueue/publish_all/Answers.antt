@@ -1,21 +1,21 @@
 use Rattle.std.proofs.Common.{◌≡◌, ◌∙◌, ◌∷◌, ℕ, List, sym, ap, subst}
 use Rattle.mq_packet.specs.declared.message.Message.{Message}
 use Rattle.mq_hub.specs.declared.sessions.session.BrokerSession.{BrokerSession}
-use Rattle.mq_hub.specs.Placing.{AreApart, AreReady, placed_all}
-use Rattle.mq_hub.proofs.Readiness.{placed_others}
+use Rattle.mq_hub.specs.Inside.Placement.{AreApart, AreReady, placed_all}
+use Rattle.mq_hub.proofs.SessionRoom.{placed_others}
 use Rattle.mq_hub.proofs.publish.enqueue.publish_all.Goals as goal
 
 pub loop-key-preserved : goal.loop-key-preserved
 loop-key-preserved c =
     let at = c.loop-key in
     let cs = c.next.new.self.rest.items in
-    let ts = at.sessions.tenants in
+    let ts = at.sessions.list in
     let steps : at.key-iterator.rest.items ≡ (c.in-Some.key, c.in-Some.message) ∷ cs = c.in-Some.ensures.steps.0 in
     let apart = subst (λ (xs : List (ℕ × Message)). AreApart xs) steps at.invariant.apart in
     let ready = subst (λ (xs : List (ℕ × Message)). AreReady 0 ts xs) steps at.invariant.ready in
     record {
       apart = apart.1;
-      ready = subst (λ (ss : List BrokerSession). AreReady 0 ss cs) (sym c.publish.ensures.tenants) (placed_others c.in-Some.key c.in-Some.message 0 ts cs apart.0 ready.1);
-      tenants = ap (placed_all cs) c.publish.ensures.tenants ∙ ap (λ (xs : List (ℕ × Message)). placed_all xs ts) (sym steps) ∙ at.invariant.tenants;
+      ready = subst (λ (ss : List BrokerSession). AreReady 0 ss cs) (sym c.publish.ensures.list) (placed_others c.in-Some.key c.in-Some.message 0 ts cs apart.0 ready.1);
+      list = ap (placed_all cs) c.publish.ensures.list ∙ ap (λ (xs : List (ℕ × Message)). placed_all xs ts) (sym steps) ∙ at.invariant.list;
       room = c.publish.ensures.room ∙ at.invariant.room;
     }

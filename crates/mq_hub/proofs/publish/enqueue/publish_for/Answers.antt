@@ -1,8 +1,8 @@
 use Rattle.std.proofs.Common.{◌≡◌, ◌∙◌, ◌∷◌, List, sym, ap, subst}
 use Rattle.mq_packet.specs.declared.message.Message.{Message}
 use Rattle.mq_route.specs.Hub.{for_key}
-use Rattle.mq_hub.specs.Placing.{IsReadyAt, placed_all}
-use Rattle.mq_hub.proofs.Publishing.{only_first}
+use Rattle.mq_hub.specs.Inside.Placement.{IsReadyAt, placed_all}
+use Rattle.mq_hub.proofs.EndPublishes.{only_first}
 use Rattle.mq_hub.proofs.publish.enqueue.publish_for.Goals as goal
 
 pub publish-requires : goal.publish-requires
@@ -11,8 +11,8 @@ publish-requires c =
     let m = c.in-Some.message in
     let ms = c.next.new.self.rest.items in
     let steps : at.message-iterator.rest.items ≡ m ∷ ms = c.in-Some.ensures.steps.0 in
-    let ready = subst (λ (xs : List Message). IsReadyAt c.args.key xs 0 at.sessions.tenants) steps at.invariant.ready in
-    record { tenant = ready.tenant; there = ready.there; ready = only_first m ms 0 ready.tenant.end ready.ready }
+    let ready = subst (λ (xs : List Message). IsReadyAt c.args.key xs 0 at.sessions.list) steps at.invariant.ready in
+    record { session = ready.session; there = ready.there; ready = only_first m ms 0 ready.session.end ready.ready }
 
 pub loop-message-preserved : goal.loop-message-preserved
 loop-message-preserved c =
@@ -21,9 +21,9 @@ loop-message-preserved c =
     let ms = c.next.new.self.rest.items in
     let key = c.args.key in
     let steps : at.message-iterator.rest.items ≡ m ∷ ms = c.in-Some.ensures.steps.0 in
-    let ready = subst (λ (xs : List Message). IsReadyAt key xs 0 at.sessions.tenants) steps at.invariant.ready in
+    let ready = subst (λ (xs : List Message). IsReadyAt key xs 0 at.sessions.list) steps at.invariant.ready in
     record {
       ready = c.publish.ensures.left ms 0 ready;
-      tenants = ap (placed_all (for_key key ms)) c.publish.ensures.tenants ∙ ap (λ (xs : List Message). placed_all (for_key key xs) at.sessions.tenants) (sym steps) ∙ at.invariant.tenants;
+      list = ap (placed_all (for_key key ms)) c.publish.ensures.list ∙ ap (λ (xs : List Message). placed_all (for_key key xs) at.sessions.list) (sym steps) ∙ at.invariant.list;
       room = c.publish.ensures.room ∙ at.invariant.room;
     }

@@ -1,5 +1,5 @@
 use Rattle.std.proofs.Common.{◌≡◌, ◌++◌, drop}
-use Rattle.mq_hub.specs.Placing.{placed_acts}
+use Rattle.mq_hub.specs.Inside.Placement.{placed_acts}
 use Rattle.mq_hub.proofs.publish.enqueue.push_placed.Given as goal
 
 abbrev pub invariant-loop-due : goal.invariant-loop-due

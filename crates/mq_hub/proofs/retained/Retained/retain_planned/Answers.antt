@@ -1,6 +1,6 @@
 use Rattle.std.proofs.Common.{subst}
-use Rattle.mq_hub.specs.Retained.{IsKeptOf}
-use Rattle.mq_hub.proofs.Retaining.{kept_nothing}
+use Rattle.mq_hub.specs.Inside.Retained.{IsKeptOf}
+use Rattle.mq_hub.proofs.RetainedEntries.{kept_nothing}
 use Rattle.mq_hub.proofs.retained.Retained.retain_planned.Goals as goal
 
 pub returns-in-None-clause-messages : goal.returns-in-None-clause-messages

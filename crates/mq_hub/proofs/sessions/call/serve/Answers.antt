@@ -4,8 +4,8 @@ use Rattle.mq_end.specs.End.{is_live}
 use Rattle.mq_end.specs.Sizes.{suback_size, unsuback_size}
 use Rattle.mq_hub.specs.declared.sessions.call.Call.{Call}
 use Rattle.mq_hub.specs.declared.sessions.call.Call.TheVariants.{Grants, Drops}
-use Rattle.mq_hub.specs.Calls.{IsAllowed, Serves}
-use Rattle.mq_hub.proofs.Calling.{answer_serves, takes_serves, up_live}
+use Rattle.mq_hub.specs.Inside.Calls.{IsAllowed, Serves}
+use Rattle.mq_hub.proofs.EndCalls.{answer_serves, takes_serves, up_live}
 use Rattle.mq_hub.proofs.sessions.call.serve.Goals as goal
 
 pub returns-in-Takes : goal.returns-in-Takes

@@ -1,7 +1,7 @@
 use Rattle.mq_packet.specs.declared.packet.Packet.{Packet}
 use Rattle.mq_packet.specs.declared.packet.Packet.TheVariants as packets
 use Rattle.mq_end.specs.Receiving.{TakesPacket, told_of}
-use Rattle.mq_hub.proofs.Calling.{err_told, is_ok_told, ok_told, takes_serves, up_live}
+use Rattle.mq_hub.proofs.EndCalls.{err_told, is_ok_told, ok_told, takes_serves, up_live}
 use Rattle.std.proofs.Common.{◌≡◌}
 use Rattle.mq_hub.proofs.sessions.call.take_publish.Goals as goal
 

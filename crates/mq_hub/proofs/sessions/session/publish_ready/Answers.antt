@@ -1,7 +1,7 @@
 use Rattle.std.proofs.Common.{[], subst}
 use Rattle.mq_end.specs.Ready.{HasRoom}
 use Rattle.mq_end.specs.State.{EndState}
-use Rattle.mq_hub.proofs.Publishing.{first_of, rest_of, published_is, in_ok}
+use Rattle.mq_hub.proofs.EndPublishes.{first_of, rest_of, published_is, in_ok}
 use Rattle.mq_hub.proofs.sessions.session.publish_ready.Goals as goal
 
 pub returns-clause-end : goal.returns-clause-end

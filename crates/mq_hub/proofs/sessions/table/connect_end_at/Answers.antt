@@ -2,31 +2,31 @@ use Rattle.std.proofs.Common.{◌≡◌, ◌∙◌, ◌<◌, [], ℕ, Option, So
 use Rattle.std.specs.Option.{IfSome}
 use Rattle.mq_end.specs.Ready.{HasRise}
 use Rattle.mq_hub.specs.declared.sessions.session.BrokerSession.{BrokerSession}
-use Rattle.mq_hub.specs.Rising.{risen}
-use Rattle.mq_hub.specs.Sessions.{with_server}
-use Rattle.mq_hub.proofs.Readiness.{some_same}
-use Rattle.mq_hub.proofs.Tenants.{place, in_place, swapped, found_within}
+use Rattle.mq_hub.specs.Inside.ConnectRoom.{connected_end}
+use Rattle.mq_hub.specs.Inside.Sessions.{with_server}
+use Rattle.mq_hub.proofs.SessionRoom.{some_same}
+use Rattle.mq_hub.proofs.SessionLemmas.{place, in_place, swapped, found_within}
 use Rattle.mq_hub.proofs.sessions.table.connect_end_at.Goals as goal
 
-pub bounds-tenants-at : goal.bounds-tenants-at
-bounds-tenants-at c =
-    subst (λ (n : ℕ). n < length c.args.tenants.now) (sym c.place-at.ensures.value)
-    (found_within c.args.key c.args.tenants.now c.requires.ascending (ap is_some c.requires.ready.there))
+pub bounds-list-at : goal.bounds-list-at
+bounds-list-at c =
+    subst (λ (n : ℕ). n < length c.args.list.now) (sym c.place-at.ensures.value)
+    (found_within c.args.key c.args.list.now c.requires.ascending (ap is_some c.requires.ready.there))
 
 pub connect_end-requires : goal.connect_end-requires
 connect_end-requires c =
-    let ts = c.args.tenants.now in
-    let d = c.index-tenants-at.result in
+    let ts = c.args.list.now in
+    let d = c.index-list-at.result in
     let here = in_place c.args.key ts d c.requires.ascending (ap is_some c.requires.ready.there) in
     let is = some_same (sym c.requires.ready.there ∙ here.here ∙ ap (λ (n : ℕ). Some (get_or ts n d)) (sym c.place-at.ensures.value)) in
     subst (λ (x : BrokerSession). HasRise c.args.connect [] 0 x.end) is c.requires.ready.connect_end
 
 pub returns : goal.returns
 returns c =
-    let ts = c.args.tenants.now in
+    let ts = c.args.list.now in
     let key = c.args.key in
-    let to = risen c.args.connect c.args.now in
-    let d = c.index-tenants-at.result in
+    let to = connected_end c.args.connect c.args.now in
+    let d = c.index-list-at.result in
     let here = in_place key ts d c.requires.ascending (ap is_some c.requires.ready.there) in
     let own = get_or ts (place key ts) d in
     subst (λ (o : Option BrokerSession). IfSome o (λ t. slice_set ts c.place-at.result c.connect_end.new.self ≡ with_server key (to t.end) ts)) (sym here.here)

@@ -1,26 +1,26 @@
 use Rattle.std.proofs.Common.{◌∙◌, ap}
 use Rattle.mq_route.specs.Hub.{up_on}
-use Rattle.mq_hub.specs.Connections.{LineTable}
-use Rattle.mq_hub.proofs.Proceeding.{hubs_after, proceeds_closed, will_after_close}
+use Rattle.mq_hub.specs.Inside.Connections.{ConnectionList}
+use Rattle.mq_hub.proofs.TableParts.{hubs_after, proceeds_closed, will_after_close}
 use Rattle.mq_hub.proofs.tables.Tables.close_up.Goals as goal
 
 pub last_will-requires-clause-hubs : goal.last_will-requires-clause-hubs
 last_will-requires-clause-hubs g c =
-    hubs_after _ c.args.self.now c.leave-will.new.self c.args.doings.now.acts c.leave-will.new.doings.acts c.requires.hubs c.leave-will.ensures.proceeds
+    hubs_after _ c.args.self.now c.leave-will.new.self c.args.log.now.acts c.leave-will.new.log.acts c.requires.hubs c.leave-will.ensures.proceeds
 
 pub last_will-requires-clause-within : goal.last_will-requires-clause-within
 last_will-requires-clause-within g c =
-    will_after_close _ c.args.conn c.args.why c.leave-will.result c.args.self.now c.leave-will.new.self c.args.doings.now.acts c.leave-will.new.doings.acts
+    will_after_close _ c.args.conn c.args.why c.leave-will.result c.args.self.now c.leave-will.new.self c.args.log.now.acts c.leave-will.new.log.acts
     c.requires.hubs c.leave-will.ensures.proceeds c.leave-will.ensures.will
 
 pub returns-clause-proceeds : goal.returns-clause-proceeds
 returns-clause-proceeds g c =
-    proceeds_closed c.args.conn c.args.why c.args.key c.leave-will.result c.args.self.now c.leave-will.new.self c.last_will.new.self c.args.doings.now.acts
-    c.leave-will.new.doings.acts c.last_will.new.doings.acts c.requires.up c.leave-will.ensures.will c.leave-will.ensures.proceeds c.last_will.ensures.goes
+    proceeds_closed c.args.conn c.args.why c.args.key c.leave-will.result c.args.self.now c.leave-will.new.self c.last_will.new.self c.args.log.now.acts
+    c.leave-will.new.log.acts c.last_will.new.log.acts c.requires.up c.leave-will.ensures.will c.leave-will.ensures.proceeds c.last_will.ensures.goes
     c.last_will.ensures.spares
 
 pub returns-clause-away : goal.returns-clause-away
-returns-clause-away g c = ap (λ (l : LineTable). up_on c.args.key l.connections) c.last_will.ensures.spares.connections ∙ c.leave-will.ensures.away
+returns-clause-away g c = ap (λ (l : ConnectionList). up_on c.args.key l.connections) c.last_will.ensures.spares.connections ∙ c.leave-will.ensures.away
 
 pub returns-clause-clients : goal.returns-clause-clients
 returns-clause-clients g c = λ lasts n. c.last_will.ensures.spares.clients n ∙ c.leave-will.ensures.clients lasts n

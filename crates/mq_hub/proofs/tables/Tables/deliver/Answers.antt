@@ -1,14 +1,14 @@
 use Rattle.std.proofs.Common.{◌∙◌, ap}
 use Rattle.mq_route.specs.Copies.{kept}
-use Rattle.mq_hub.specs.Placing.{placed_all}
-use Rattle.mq_hub.specs.Seen.{HubTables}
-use Rattle.mq_hub.proofs.ShareKeeps.{kept_shared}
+use Rattle.mq_hub.specs.Inside.Placement.{placed_all}
+use Rattle.mq_hub.specs.Inside.View.{HubTables}
+use Rattle.mq_hub.proofs.DeliveryInvariant.{kept_shared}
 use Rattle.mq_hub.proofs.tables.Tables.deliver.Goals as goal
 
 pub returns-clause-keeps : goal.returns-clause-keeps
 returns-clause-keeps g c = λ m config next_key is keeps within.
-    let s = c.args.sharing in
-    kept_shared config next_key m s.copies.items c.args.self.now _ keeps within c.requires.drawn.apart c.requires.ready.ready
+    let s = c.args.plan in
+    kept_shared config next_key m s.copies.items c.args.self.now _ keeps within c.requires.planned.apart c.requires.ready.ready
     (ap (λ (v : HubTables). v.rows) c.self.view_is) (ap (λ (v : HubTables). v.connections) c.self.view_is)
     (c.deliver_copies.ensures.retained m is ∙ ap (λ (v : HubTables). kept m v.retained.messages) c.self.view_is)
-    (c.deliver_copies.ensures.tenants ∙ ap (λ (v : HubTables). placed_all s.copies.items v.sessions.tenants) c.self.view_is)
+    (c.deliver_copies.ensures.list ∙ ap (λ (v : HubTables). placed_all s.copies.items v.sessions.list) c.self.view_is)

@@ -1,11 +1,11 @@
 use Rattle.std.proofs.Common.{◌≡◌, ◌∙◌, ap, subst}
 use Rattle.std.specs.Option.{IfSome}
 use Rattle.mq_route.specs.Hub.{key_on, knows, stage_of, with_connection}
-use Rattle.mq_hub.specs.Leaving.{left_with}
-use Rattle.mq_hub.specs.Seen.{HubTables}
-use Rattle.mq_hub.specs.Sessions.{tenant_of}
-use Rattle.mq_hub.proofs.Parting.{left_lines, up_known}
-use Rattle.mq_hub.proofs.Shutting.{known_closed}
+use Rattle.mq_hub.specs.Inside.Close.{left_with}
+use Rattle.mq_hub.specs.Inside.View.{HubTables}
+use Rattle.mq_hub.specs.Inside.Sessions.{session_at}
+use Rattle.mq_hub.proofs.ClientClose.{left_lines, up_known}
+use Rattle.mq_hub.proofs.ClosedConnection.{known_closed}
 use Rattle.mq_hub.proofs.tables.Tables.detach.Goals as goal
 
 pub swap_waiting-requires : goal.swap_waiting-requires
@@ -24,7 +24,7 @@ returns-clause-connections g c =
     let key = c.args.key in
     let t = c.self.inside in
     subst
-    (λ (v : HubTables). IfSome (tenant_of key v.sessions.tenants) (λ s. c.swap_waiting.new.self.connections ≡ with_connection (left_with s.end.output) k v.connections.connections))
+    (λ (v : HubTables). IfSome (session_at key v.sessions.list) (λ s. c.swap_waiting.new.self.connections ≡ with_connection (left_with s.end.output) k v.connections.connections))
     c.self.view_is
-    (left_lines k (tenant_of key t.sessions.tenants) c.detach.new.output t.connections.connections c.swap_waiting.new.self.connections c.detach.ensures.output
+    (left_lines k (session_at key t.sessions.list) c.detach.new.output t.connections.connections c.swap_waiting.new.self.connections c.detach.ensures.output
     (c.swap_waiting.ensures.connections ∙ ap (with_connection (λ x. record x { waiting = c.detach.new.output }) k) c.shut-stage.ensures.connections))

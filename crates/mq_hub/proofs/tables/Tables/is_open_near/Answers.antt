@@ -1,6 +1,6 @@
 use Rattle.std.proofs.Common.{◌∙◌, sym, ap}
 use Rattle.mq_route.specs.Hub.{is_open, stage_of}
-use Rattle.mq_hub.specs.Seen.{HubTables}
+use Rattle.mq_hub.specs.Inside.View.{HubTables}
 use Rattle.mq_hub.proofs.ConnectionTable.{unknown_shut}
 use Rattle.mq_hub.proofs.tables.Tables.is_open_near.Goals as goal
 

@@ -3,20 +3,20 @@ use Rattle.std.specs.Option.{is_some}
 use Rattle.mq_end.specs.Sizes.{publish_size}
 use Rattle.mq_route.specs.declared.config.HubConfig.{HubConfig}
 use Rattle.mq_route.specs.Hub.{copies_of}
-use Rattle.mq_hub.specs.Keeps.{HubInvariant}
-use Rattle.mq_hub.specs.Placing.{AreFor}
-use Rattle.mq_hub.specs.Seen.{HubTables, hub_of}
-use Rattle.mq_hub.proofs.Changing.{up_seen}
+use Rattle.mq_hub.specs.Inside.Invariant.{HubInvariant}
+use Rattle.mq_hub.specs.Inside.Placement.{AreFor}
+use Rattle.mq_hub.specs.Inside.View.{HubTables, hub_of}
+use Rattle.mq_hub.proofs.ConnectionChange.{up_seen}
 use Rattle.mq_hub.proofs.tables.Tables.plan_delivery.Goals as goal
 
 pub returns-clause-copies : goal.returns-clause-copies
 returns-clause-copies g c =
     subst (λ (v : HubTables). (config : HubConfig) (clock next_key : ℕ)
     → c.in_ok-copies.copies.items ≡ copies_of c.args.message.now (hub_of config clock next_key v)) c.self.view_is
-    (λ config clock next_key. c.in_ok-copies.ensures.copies _ refl (λ key. ap is_some (up_seen key c.self.inside.sessions.tenants c.self.inside.connections.connections)))
+    (λ config clock next_key. c.in_ok-copies.ensures.copies _ refl (λ key. ap is_some (up_seen key c.self.inside.sessions.list c.self.inside.connections.connections)))
 
 pub returns-clause-due : goal.returns-clause-due
 returns-clause-due g c =
     subst (λ (v : HubTables). (config : HubConfig) (next_key : ℕ) → HubInvariant config next_key v → publish_size c.args.message.now ≤ config.limits.most
-    → AreFor v.sessions.tenants c.in_ok-copies.copies.items) c.self.view_is
+    → AreFor v.sessions.list c.in_ok-copies.copies.items) c.self.view_is
     (λ config next_key keeps within. c.in_ok-copies.ensures.due config next_key _ refl refl keeps within)

@@ -1,6 +1,6 @@
-use Rattle.mq_hub.specs.Seen.{hub_of}
+use Rattle.mq_hub.specs.Inside.View.{hub_of}
 use Rattle.mq_hub.proofs.LastWills.{goes_dropped}
-use Rattle.mq_hub.proofs.ShareKeeps.{hub_alike}
+use Rattle.mq_hub.proofs.DeliveryInvariant.{hub_alike}
 use Rattle.mq_hub.proofs.tables.Tables.publish_will.Goals as goal
 
 pub returns-then-not-published-clause-goes : goal.returns-then-not-published-clause-goes
@@ -8,6 +8,6 @@ returns-then-not-published-clause-goes g c = λ config clock next_key kept.
     let no = c.if-not-published.true in
     let same = c.try_will-published.ensures.same no in
     goes_dropped c.args.key c.args.will.now (hub_of config clock next_key c.args.self.now) (hub_of config clock next_key c.try_will-published.new.self)
-    c.args.doings.now.acts c.try_will-published.new.doings.acts c.say.new.self.acts
+    c.args.log.now.acts c.try_will-published.new.log.acts c.push.new.self.acts
     (c.try_will-published.ensures.dropped no config clock next_key kept)
-    (hub_alike config clock next_key c.args.self.now c.try_will-published.new.self same.0, same.1) c.say.ensures.acts
+    (hub_alike config clock next_key c.args.self.now c.try_will-published.new.self same.0, same.1) c.push.ensures.acts

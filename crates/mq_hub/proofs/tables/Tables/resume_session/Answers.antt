@@ -1,7 +1,7 @@
 use Rattle.std.proofs.Common.{◌∙◌, ap}
 use Rattle.mq_route.specs.declared.connection_state.ConnectionState.TheVariants.{ConnectedAs}
 use Rattle.mq_route.specs.Hub.{with_connection}
-use Rattle.mq_hub.specs.Seen.{HubTables}
+use Rattle.mq_hub.specs.Inside.View.{HubTables}
 use Rattle.mq_hub.proofs.tables.Tables.resume_session.Goals as goal
 
 pub returns-clause-connections : goal.returns-clause-connections

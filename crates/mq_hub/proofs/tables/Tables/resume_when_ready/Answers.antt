@@ -2,19 +2,19 @@ use Rattle.std.proofs.Common.{◌∙◌, [], sym, ap, subst}
 use Rattle.std.specs.Option.{is_some}
 use Rattle.mq_route.specs.declared.connection_state.ConnectionState.TheVariants.{ConnectedAs}
 use Rattle.mq_route.specs.Hub.{with_connection}
-use Rattle.mq_hub.specs.Rising.{risen, HasRiseAt, IsGreeted}
-use Rattle.mq_hub.specs.Seen.{HubTables}
-use Rattle.mq_hub.proofs.RoomToRise.{changed_there}
+use Rattle.mq_hub.specs.Inside.ConnectRoom.{connected_end, HasConnectRoomAt, HasConnected}
+use Rattle.mq_hub.specs.Inside.View.{HubTables}
+use Rattle.mq_hub.proofs.RoomToConnect.{changed_there}
 use Rattle.mq_hub.proofs.tables.Tables.resume_when_ready.Goals as goal
 
-pub returns-clause-tenants : goal.returns-clause-tenants
-returns-clause-tenants g c =
+pub returns-clause-list : goal.returns-clause-list
+returns-clause-list g c =
     let key = c.args.key in
-    let to = risen c.args.connect c.args.now in
-    let ready = subst (λ (v : HubTables). HasRiseAt c.args.connect key [] 0 v.sessions.tenants) (sym c.self.view_is) c.requires.ready in
-    let p = changed_there to key c.self.inside.sessions.tenants c.connect_end.new.self.tenants (ap is_some ready.there) c.connect_end.ensures.tenants in
-    subst (λ (v : HubTables). IsGreeted c.args.connect c.args.now key v.sessions.tenants c.connect_end.new.self.tenants) c.self.view_is
-    (record { tenant = p.session; there = p.there; room = p.session.end.room; after = p.after })
+    let to = connected_end c.args.connect c.args.now in
+    let ready = subst (λ (v : HubTables). HasConnectRoomAt c.args.connect key [] 0 v.sessions.list) (sym c.self.view_is) c.requires.ready in
+    let p = changed_there to key c.self.inside.sessions.list c.connect_end.new.self.list (ap is_some ready.there) c.connect_end.ensures.list in
+    subst (λ (v : HubTables). HasConnected c.args.connect c.args.now key v.sessions.list c.connect_end.new.self.list) c.self.view_is
+    (record { session = p.session; there = p.there; room = p.session.end.room; after = p.after })
 
 pub returns-clause-connections : goal.returns-clause-connections
 returns-clause-connections g c =

@@ -1,8 +1,8 @@
 use Rattle.std.proofs.Common.{◌∙◌, List, refl, ap}
 use Rattle.mq_route.specs.Hub.{HubConnection, with_connection}
-use Rattle.mq_hub.specs.Seen.{HubTables}
-use Rattle.mq_hub.proofs.Refusing.{changed_twice, filled}
-use Rattle.mq_hub.proofs.Shutting.{closed}
+use Rattle.mq_hub.specs.Inside.View.{HubTables}
+use Rattle.mq_hub.proofs.RefusedConnect.{changed_twice, filled}
+use Rattle.mq_hub.proofs.ClosedConnection.{closed}
 use Rattle.mq_hub.proofs.tables.Tables.shut_with.Goals as goal
 
 pub returns-clause-connections : goal.returns-clause-connections

@@ -3,21 +3,21 @@ use Rattle.mq_decode.specs.Limits.{Bounds}
 use Rattle.mq_packet.specs.declared.connect.Will.{Will}
 use Rattle.mq_route.specs.declared.close.HubClose.TheVariants.{TakenOver}
 use Rattle.mq_route.specs.Hub.{up_on}
-use Rattle.mq_hub.specs.Leaving.{parts}
-use Rattle.mq_hub.specs.Connections.{LineTable}
-use Rattle.mq_hub.specs.Proceeding.{Proceeds}
-use Rattle.mq_hub.specs.Rising.{will_messages, HasRiseAt}
-use Rattle.mq_hub.proofs.Proceeding.{hubs_after, proceeds_closed, will_after_close}
+use Rattle.mq_hub.specs.Inside.Close.{parts}
+use Rattle.mq_hub.specs.Inside.Connections.{ConnectionList}
+use Rattle.mq_hub.specs.Inside.TableSteps.{Proceeds}
+use Rattle.mq_hub.specs.Inside.ConnectRoom.{will_messages, HasConnectRoomAt}
+use Rattle.mq_hub.proofs.TableParts.{hubs_after, proceeds_closed, will_after_close}
 use Rattle.mq_hub.proofs.tables.Tables.take_over_keeping.Goals as goal
 
 pub last_will-requires-clause-hubs : goal.last_will-requires-clause-hubs
 last_will-requires-clause-hubs g c =
-    hubs_after _ c.args.self.now c.leave_with-will.new.self c.args.doings.now.acts c.leave_with-will.new.doings.acts c.requires.hubs c.leave_with-will.ensures.proceeds
+    hubs_after _ c.args.self.now c.leave_with-will.new.self c.args.log.now.acts c.leave_with-will.new.log.acts c.requires.hubs c.leave_with-will.ensures.proceeds
 
 pub last_will-requires-clause-within : goal.last_will-requires-clause-within
 last_will-requires-clause-within g c =
-    will_after_close _ c.args.conn TakenOver c.leave_with-will.result c.args.self.now c.leave_with-will.new.self c.args.doings.now.acts
-    c.leave_with-will.new.doings.acts
+    will_after_close _ c.args.conn TakenOver c.leave_with-will.result c.args.self.now c.leave_with-will.new.self c.args.log.now.acts
+    c.leave_with-will.new.log.acts
     c.requires.hubs c.leave_with-will.ensures.proceeds c.leave_with-will.ensures.will
 
 pub returns-clause-proceeds : goal.returns-clause-proceeds
@@ -25,19 +25,19 @@ returns-clause-proceeds g c =
     let k = c.args.conn in
     let key = c.args.key in
     let first =
-    subst (λ (b : Bool). Proceeds (λ fits. parts k TakenOver key b) c.args.self.now c.args.doings.now.acts c.leave_with-will.new.self c.leave_with-will.new.doings.acts)
+    subst (λ (b : Bool). Proceeds (λ fits. parts k TakenOver key b) c.args.self.now c.args.log.now.acts c.leave_with-will.new.self c.leave_with-will.new.log.acts)
     (sym c.requires.lasts) c.leave_with-will.ensures.proceeds in
-    proceeds_closed k TakenOver key c.leave_with-will.result c.args.self.now c.leave_with-will.new.self c.last_will.new.self c.args.doings.now.acts
-    c.leave_with-will.new.doings.acts c.last_will.new.doings.acts c.requires.up c.leave_with-will.ensures.will first c.last_will.ensures.goes
+    proceeds_closed k TakenOver key c.leave_with-will.result c.args.self.now c.leave_with-will.new.self c.last_will.new.self c.args.log.now.acts
+    c.leave_with-will.new.log.acts c.last_will.new.log.acts c.requires.up c.leave_with-will.ensures.will first c.last_will.ensures.goes
     c.last_will.ensures.spares
 
 pub returns-clause-away : goal.returns-clause-away
-returns-clause-away g c = ap (λ (l : LineTable). up_on c.args.key l.connections) c.last_will.ensures.spares.connections ∙ c.leave_with-will.ensures.away
+returns-clause-away g c = ap (λ (l : ConnectionList). up_on c.args.key l.connections) c.last_will.ensures.spares.connections ∙ c.leave_with-will.ensures.away
 
 pub returns-clause-connect_end : goal.returns-clause-connect_end
 returns-clause-connect_end g c = λ connect small h.
     let key = c.args.key in
     let first = c.leave_with-will.ensures in
     c.last_will.ensures.connect_end.connect_end connect key (subst (λ (l : Bounds). l.most < 2 ^ 28) (sym first.limits) small) first.away
-    (subst (λ (o : Option Will). HasRiseAt connect key (will_messages o) 0 c.leave_with-will.new.self.sessions.tenants) (sym first.will)
+    (subst (λ (o : Option Will). HasConnectRoomAt connect key (will_messages o) 0 c.leave_with-will.new.self.sessions.list) (sym first.will)
     (first.connect_end connect (will_messages _) h))

@@ -3,8 +3,8 @@ use Rattle.std.specs.declared.alloc.AllocError.{AllocError}
 use Rattle.mq_packet.specs.Publication.{Publication}
 use Rattle.mq_end.specs.declared.publish_outcome.PublishOutcome.{PublishOutcome}
 use Rattle.mq_end.specs.Receiving.{outcome_of, told_of}
-use Rattle.mq_hub.specs.Calls.{ServesAt, publish_call}
-use Rattle.mq_hub.specs.Seen.{HubTables}
+use Rattle.mq_hub.specs.Inside.Calls.{ServesAt, publish_call}
+use Rattle.mq_hub.specs.Inside.View.{HubTables}
 use Rattle.mq_hub.proofs.PublishOutcome.{all_ready}
 use Rattle.mq_hub.proofs.tables.Tables.take_publish.Goals as goal
 
@@ -14,11 +14,11 @@ returns-clause-ok g c =
     let m = c.args.message.now in
     let call = publish_call c.args.now m c.args.delivery in
     record {
-      ready = c.args.self.now.sessions.tenants;
+      ready = c.args.self.now.sessions.list;
       same = refl;
       outcome = outcome_of c.in_ok-take_publish.field-0 m;
-      serves = subst (λ (r : Result PublishOutcome AllocError). ServesAt key call (told_of m r) c.args.self.now.sessions.tenants c.take_publish.new.self.tenants) c.in_ok-take_publish.was
-          (subst (λ (v : HubTables). ServesAt key call (told_of m c.take_publish.result) v.sessions.tenants c.take_publish.new.self.tenants) c.self.view_is c.take_publish.ensures.serves);
+      serves = subst (λ (r : Result PublishOutcome AllocError). ServesAt key call (told_of m r) c.args.self.now.sessions.list c.take_publish.new.self.list) c.in_ok-take_publish.was
+          (subst (λ (v : HubTables). ServesAt key call (told_of m c.take_publish.result) v.sessions.list c.take_publish.new.self.list) c.self.view_is c.take_publish.ensures.serves);
       rows = ap (λ (v : HubTables). v.rows) c.self.view_is;
       retained = ap (λ (v : HubTables). v.retained) c.self.view_is;
       connections = ap (λ (v : HubTables). v.connections) c.self.view_is;
@@ -30,8 +30,8 @@ returns-clause-ready g c =
     let m = c.args.message.now in
     let p : Publication = record { message = m; delivery = c.args.delivery } in
     let call = publish_call c.args.now m c.args.delivery in
-    let serves : ServesAt key call (Ok (outcome_of c.in_ok-take_publish.field-0 m)) c.args.self.now.sessions.tenants c.take_publish.new.self.tenants =
-    subst (λ (r : Result PublishOutcome AllocError). ServesAt key call (told_of m r) c.args.self.now.sessions.tenants c.take_publish.new.self.tenants) c.in_ok-take_publish.was
-    (subst (λ (v : HubTables). ServesAt key call (told_of m c.take_publish.result) v.sessions.tenants c.take_publish.new.self.tenants) c.self.view_is c.take_publish.ensures.serves) in
-    all_ready key c.args.now p (outcome_of c.in_ok-take_publish.field-0 m) c.args.self.now.sessions.tenants c.take_publish.new.self.tenants serves
+    let serves : ServesAt key call (Ok (outcome_of c.in_ok-take_publish.field-0 m)) c.args.self.now.sessions.list c.take_publish.new.self.list =
+    subst (λ (r : Result PublishOutcome AllocError). ServesAt key call (told_of m r) c.args.self.now.sessions.list c.take_publish.new.self.list) c.in_ok-take_publish.was
+    (subst (λ (v : HubTables). ServesAt key call (told_of m c.take_publish.result) v.sessions.list c.take_publish.new.self.list) c.self.view_is c.take_publish.ensures.serves) in
+    all_ready key c.args.now p (outcome_of c.in_ok-take_publish.field-0 m) c.args.self.now.sessions.list c.take_publish.new.self.list serves
     c.requires.can c.requires.stays

@@ -2,24 +2,24 @@ use Rattle.std.proofs.Common.{◌≡◌, ◌∙◌, [], ◌∷◌, true, false, 
 use Rattle.mq_end.specs.Sizes.{publish_size}
 use Rattle.mq_route.specs.declared.act.Act.TheVariants.{Will}
 use Rattle.mq_route.specs.Hub.{HubState, copies_of}
-use Rattle.mq_hub.specs.Seen.{HubTables, hub_of}
-use Rattle.mq_hub.proofs.Fronting.{err_any}
-use Rattle.mq_hub.proofs.Proceeding.{alike_same, spares_alike, spares_none, spares_shared, within_limit}
-use Rattle.mq_hub.proofs.RoomToRise.{leaves_ready, leaves_same, leaves_shared}
-use Rattle.mq_hub.proofs.ShareKeeps.{enough_seen, goes_as, has_sessions, hub_alike, kept_alike}
+use Rattle.mq_hub.specs.Inside.View.{HubTables, hub_of}
+use Rattle.mq_hub.proofs.FirstPackets.{err_any}
+use Rattle.mq_hub.proofs.TableParts.{alike_same, spares_alike, spares_none, spares_shared, within_limit}
+use Rattle.mq_hub.proofs.RoomToConnect.{leaves_ready, leaves_same, leaves_shared}
+use Rattle.mq_hub.proofs.DeliveryInvariant.{enough_seen, goes_as, has_sessions, hub_alike, kept_alike}
 use Rattle.mq_hub.proofs.tables.Tables.try_deliver.Goals as goal
 
 pub reserve_delivery-requires-clause-due : goal.reserve_delivery-requires-clause-due
 reserve_delivery-requires-clause-due g c =
     let hubs = c.requires.hubs in
-    c.in_ok-sharing.ensures.due hubs.config hubs.next_key hubs.keeps
+    c.in_ok-plan.ensures.due hubs.config hubs.next_key hubs.keeps
     (within_limit hubs.config hubs.next_key (publish_size c.args.message) c.args.self.now hubs.keeps c.requires.within)
 
-pub returns-in_err-sharing-clause-err : goal.returns-in_err-sharing-clause-err
-returns-in_err-sharing-clause-err g c = err_any c.from_residual.result (alike_same c.args.self.now, refl)
+pub returns-in_err-plan-clause-err : goal.returns-in_err-plan-clause-err
+returns-in_err-plan-clause-err g c = err_any c.from_residual.result (alike_same c.args.self.now, refl)
 
-pub returns-in_err-sharing-clause-spares : goal.returns-in_err-sharing-clause-spares
-returns-in_err-sharing-clause-spares g c = spares_none c.args.self.now
+pub returns-in_err-plan-clause-spares : goal.returns-in_err-plan-clause-spares
+returns-in_err-plan-clause-spares g c = spares_none c.args.self.now
 
 pub returns-in_err-reserve_delivery-clause-err : goal.returns-in_err-reserve_delivery-clause-err
 returns-in_err-reserve_delivery-clause-err g c = err_any c.from_residual-in_err-reserve_delivery.result (c.reserve_delivery.ensures.alike, c.reserve_delivery.ensures.acts)
@@ -30,11 +30,11 @@ returns-in_err-reserve_delivery-clause-spares g c = spares_alike c.args.self.now
 pub returns-then-not-branch-clause-enough : goal.returns-then-not-branch-clause-enough
 returns-then-not-branch-clause-enough g c = λ config clock next_key kept.
     let t : HubTables = c.args.self.now in
-    let s = c.in_ok-sharing.sharing in
+    let s = c.in_ok-plan.plan in
     let h : HubState = hub_of config clock next_key t in
     enough_seen false c.args.message s.copies.items h h
     (sym c.if-not-branch.true ∙ c.in_ok-reserve_delivery.ensures.enough h (has_sessions config clock next_key t kept))
-    (c.in_ok-sharing.ensures.copies config clock next_key) refl
+    (c.in_ok-plan.ensures.copies config clock next_key) refl
 
 pub returns-then-not-branch-clause-full : goal.returns-then-not-branch-clause-full
 returns-then-not-branch-clause-full g c = λ e. (c.reserve_delivery.ensures.alike, c.reserve_delivery.ensures.acts)
@@ -46,49 +46,49 @@ pub returns-clause-goes : goal.returns-clause-goes
 returns-clause-goes g c = λ e config clock next_key kept.
     let t : HubTables = c.args.self.now in
     let p : HubTables = c.reserve_delivery.new.self in
-    let s = c.in_ok-sharing.sharing in
+    let s = c.in_ok-plan.plan in
     let m = c.args.message in
     let same = hub_alike config clock next_key t p c.reserve_delivery.ensures.alike in
     let here : HubState = hub_of config clock next_key p in
-    let due : copies_of m here ≡ s.copies.items = ap (copies_of m) same ∙ sym (c.in_ok-sharing.ensures.copies config clock next_key) in
-    goes_as (Will c.args.key m) m m here (hub_of config clock next_key t) (hub_of config clock next_key c.deliver.new.self) c.reserve_delivery.new.doings.acts
-    c.args.doings.now.acts c.deliver.new.doings.acts refl same c.reserve_delivery.ensures.acts
-    (c.deliver.ensures.goes m config clock next_key c.in_ok-sharing.ensures.kept (kept_alike config next_key t p c.reserve_delivery.ensures.alike kept) due)
+    let due : copies_of m here ≡ s.copies.items = ap (copies_of m) same ∙ sym (c.in_ok-plan.ensures.copies config clock next_key) in
+    goes_as (Will c.args.key m) m m here (hub_of config clock next_key t) (hub_of config clock next_key c.deliver.new.self) c.reserve_delivery.new.log.acts
+    c.args.log.now.acts c.deliver.new.log.acts refl same c.reserve_delivery.ensures.acts
+    (c.deliver.ensures.goes m config clock next_key c.in_ok-plan.ensures.kept (kept_alike config next_key t p c.reserve_delivery.ensures.alike kept) due)
 
 pub returns-clause-enough : goal.returns-clause-enough
 returns-clause-enough g c = λ config clock next_key kept.
     let t : HubTables = c.args.self.now in
-    let s = c.in_ok-sharing.sharing in
+    let s = c.in_ok-plan.plan in
     let h : HubState = hub_of config clock next_key t in
     enough_seen true c.args.message s.copies.items h h
     (sym c.if-not-branch.false ∙ c.in_ok-reserve_delivery.ensures.enough h (has_sessions config clock next_key t kept))
-    (c.in_ok-sharing.ensures.copies config clock next_key) refl
+    (c.in_ok-plan.ensures.copies config clock next_key) refl
 
 pub returns-clause-spares : goal.returns-clause-spares
 returns-clause-spares g c =
     let m = c.args.message in
-    spares_shared m c.in_ok-sharing.sharing.copies.items c.args.self.now c.reserve_delivery.new.self c.deliver.new.self c.reserve_delivery.ensures.alike c.reserve_delivery.ensures.sessions
-    c.requires.within (λ config next_key kept within. c.deliver.ensures.keeps m config next_key c.in_ok-sharing.ensures.kept kept within)
-    c.deliver.ensures.tenants c.deliver.ensures.sessions c.deliver.ensures.connections
+    spares_shared m c.in_ok-plan.plan.copies.items c.args.self.now c.reserve_delivery.new.self c.deliver.new.self c.reserve_delivery.ensures.alike c.reserve_delivery.ensures.sessions
+    c.requires.within (λ config next_key kept within. c.deliver.ensures.keeps m config next_key c.in_ok-plan.ensures.kept kept within)
+    c.deliver.ensures.list c.deliver.ensures.sessions c.deliver.ensures.connections
 
-pub returns-in_err-sharing-clause-connect_end : goal.returns-in_err-sharing-clause-connect_end
-returns-in_err-sharing-clause-connect_end g c = leaves_same (c.args.message ∷ []) c.args.self.now
+pub returns-in_err-plan-clause-connect_end : goal.returns-in_err-plan-clause-connect_end
+returns-in_err-plan-clause-connect_end g c = leaves_same (c.args.message ∷ []) c.args.self.now
 
 pub returns-in_err-reserve_delivery-clause-connect_end : goal.returns-in_err-reserve_delivery-clause-connect_end
 returns-in_err-reserve_delivery-clause-connect_end g c =
     let p = c.reserve_delivery.ensures in
-    leaves_ready c.args.message c.args.self.now c.reserve_delivery.new.self c.requires.hubs p.alike.tenants p.still
+    leaves_ready c.args.message c.args.self.now c.reserve_delivery.new.self c.requires.hubs p.alike.list p.still
 
 pub returns-then-not-branch-clause-connect_end : goal.returns-then-not-branch-clause-connect_end
 returns-then-not-branch-clause-connect_end g c =
     let p = c.reserve_delivery.ensures in
-    leaves_ready c.args.message c.args.self.now c.reserve_delivery.new.self c.requires.hubs p.alike.tenants p.still
+    leaves_ready c.args.message c.args.self.now c.reserve_delivery.new.self c.requires.hubs p.alike.list p.still
 
 pub returns-clause-connect_end : goal.returns-clause-connect_end
 returns-clause-connect_end g c =
     let p = c.reserve_delivery.ensures in
-    let s = c.in_ok-sharing.sharing in
+    let s = c.in_ok-plan.plan in
     let hubs = c.requires.hubs in
-    leaves_shared c.args.message c.args.self.now c.reserve_delivery.new.self hubs p.alike.tenants p.still c.size_laws.ensures s.copies.items c.deliver.new.self c.requires.within
-    c.in_ok-sharing.ensures.drawn.apart (hub_of hubs.config 0 hubs.next_key c.args.self.now) (c.in_ok-sharing.ensures.copies hubs.config 0 hubs.next_key)
-    c.deliver.ensures.tenants
+    leaves_shared c.args.message c.args.self.now c.reserve_delivery.new.self hubs p.alike.list p.still c.size_laws.ensures s.copies.items c.deliver.new.self c.requires.within
+    c.in_ok-plan.ensures.planned.apart (hub_of hubs.config 0 hubs.next_key c.args.self.now) (c.in_ok-plan.ensures.copies hubs.config 0 hubs.next_key)
+    c.deliver.ensures.list

@@ -1,8 +1,8 @@
 use Rattle.std.proofs.Common.{◌∙◌, sym, ap}
 use Rattle.mq_route.specs.declared.close.HubClose.TheVariants.{TakenOver}
 use Rattle.mq_route.specs.Hub.{stage_of}
-use Rattle.mq_hub.specs.Leaving.{will_left}
-use Rattle.mq_hub.specs.Seen.{HubTables}
+use Rattle.mq_hub.specs.Inside.Close.{will_left}
+use Rattle.mq_hub.specs.Inside.View.{HubTables}
 use Rattle.mq_hub.proofs.ConnectionTable.{unknown_shut}
 use Rattle.mq_hub.proofs.tables.Tables.will_on.Goals as goal
 

@@ -2,23 +2,23 @@ use Rattle.std.proofs.Common.{◌∙◌, ℕ, List, eqb, refl, true≢false, sym
 use Rattle.std.specs.HashMap.{get, hash_map_len}
 use Rattle.mq_route.specs.Hub.{HubConnection, key_on, knows, waiting_on, with_connection}
 use Rattle.mq_hub.specs.declared.connections.connection.Connection.{Connection}
-use Rattle.mq_hub.specs.Connections.{service, LineTable, lines_of, line_of, AreLines}
-use Rattle.mq_hub.proofs.Collecting.{emptied, still_lines}
-use Rattle.mq_hub.proofs.Ringing.{same_awaited}
+use Rattle.mq_hub.specs.Inside.Connections.{service, ConnectionList, connections_of, connection_of, AreConnections}
+use Rattle.mq_hub.proofs.TakenOutput.{emptied, still_lines}
+use Rattle.mq_hub.proofs.RingTimes.{same_awaited}
 use Rattle.mq_hub.proofs.ConnectionTable.{Entry, are_named, changed, served_at, kept_same, lacks, found_by}
-use Rattle.mq_hub.proofs.Fronting.{err_by, if_ok_by, ok_by}
+use Rattle.mq_hub.proofs.FirstPackets.{err_by, if_ok_by, ok_by}
 use Rattle.mq_hub.proofs.connections.table.Connections.collect.Goals as goal
 
 pub returns-in_default-clause-bytes : goal.returns-in_default-clause-bytes
 returns-in_default-clause-bytes c =
     let es = c.self.inside.by_conn.entries in
-    absurd (true≢false (sym c.requires ∙ sym (ap (λ (v : LineTable). knows c.args.conn v.connections) c.self.view_is)
+    absurd (true≢false (sym c.requires ∙ sym (ap (λ (v : ConnectionList). knows c.args.conn v.connections) c.self.view_is)
     ∙ lacks c.args.conn es (are_named (service c.self.inside.limits c.self.inside.alarms) es c.self.invariant.served) c.in_default.ensures.value))
 
 pub returns-in_default-clause-taken : goal.returns-in_default-clause-taken
 returns-in_default-clause-taken c =
     let es = c.self.inside.by_conn.entries in
-    absurd (true≢false (sym c.requires ∙ sym (ap (λ (v : LineTable). knows c.args.conn v.connections) c.self.view_is)
+    absurd (true≢false (sym c.requires ∙ sym (ap (λ (v : ConnectionList). knows c.args.conn v.connections) c.self.view_is)
     ∙ lacks c.args.conn es (are_named (service c.self.inside.limits c.self.inside.alarms) es c.self.invariant.served) c.in_default.ensures.value))
 
 pub invariant_of-self-2 : goal.invariant_of-self-2
@@ -31,7 +31,7 @@ invariant_of-self-2 c =
     let there = sym c.in-Some.ensures.value in
     let says = c.collect.ensures.own in
     let read = served_at by c.args.conn es own c.self.invariant.served there in
-    subst (λ (rs : List Entry). AreLines by rs (get eqb ups) (hash_map_len ups)) (sym (c.get_mut.follows.holds w).0)
+    subst (λ (rs : List Entry). AreConnections by rs (get eqb ups) (hash_map_len ups)) (sym (c.get_mut.follows.holds w).0)
     (kept_same by c.args.conn es own w (get eqb ups) (hash_map_len ups) c.self.invariant there (ap (λ (x : Connection). x.conn) says)
     ((ap (λ (x : Connection). x.decoder.limit) says ∙ read.0.0, ap (λ (x : Connection). x.decoder.failed) says ∙ read.0.1), same_awaited by.alarms own w (ap (λ (x : Connection). x.conn) says) (ap (λ (x : Connection). x.stage) says) read.1)
     (ap (λ (x : Connection). key_on x.stage) says))
@@ -42,7 +42,7 @@ returns-clause-bytes c =
     if_ok_by c.collect.result
     (λ b is. is
     ∙ sym (found_by (λ (x : HubConnection). x.waiting) c.args.conn (waiting_on c.args.conn) (λ x xs. refl) es c.in-Some.boxed.now (are_named (service c.self.inside.limits c.self.inside.alarms) es c.self.invariant.served) (sym c.in-Some.ensures.value))
-    ∙ ap (λ (v : LineTable). waiting_on c.args.conn v.connections) c.self.view_is)
+    ∙ ap (λ (v : ConnectionList). waiting_on c.args.conn v.connections) c.self.view_is)
     c.collect.ensures.bytes
 
 pub returns-clause-taken : goal.returns-clause-taken
@@ -51,10 +51,10 @@ returns-clause-taken c =
     let own = c.in-Some.boxed.now in
     let w = c.collect.new.self in
     ok_by c.collect.result
-    (λ none. ap lines_of (c.get_mut.follows.holds w).0
+    (λ none. ap connections_of (c.get_mut.follows.holds w).0
     ∙ changed emptied c.args.conn es own w (are_named (service c.self.inside.limits c.self.inside.alarms) es c.self.invariant.served) c.self.invariant.distinct (sym c.in-Some.ensures.value)
-    (ap line_of (c.collect.ensures.own ∙ ap (λ (b : List ℕ). record own { waiting = b }) none))
-    ∙ ap (λ (v : LineTable). with_connection emptied c.args.conn v.connections) c.self.view_is)
+    (ap connection_of (c.collect.ensures.own ∙ ap (λ (b : List ℕ). record own { waiting = b }) none))
+    ∙ ap (λ (v : ConnectionList). with_connection emptied c.args.conn v.connections) c.self.view_is)
     c.collect.ensures.taken
 
 pub returns-clause-err : goal.returns-clause-err
@@ -63,8 +63,8 @@ returns-clause-err c =
     let own = c.in-Some.boxed.now in
     let w = c.collect.new.self in
     err_by c.collect.result
-    (λ same. ap lines_of (c.get_mut.follows.holds w).0
+    (λ same. ap connections_of (c.get_mut.follows.holds w).0
     ∙ changed (λ (x : HubConnection). x) c.args.conn es own w (are_named (service c.self.inside.limits c.self.inside.alarms) es c.self.invariant.served) c.self.invariant.distinct (sym c.in-Some.ensures.value)
-    (ap line_of (c.collect.ensures.own ∙ ap (λ (b : List ℕ). record own { waiting = b }) same))
-    ∙ still_lines c.args.conn (lines_of es) ∙ ap (λ (v : LineTable). v.connections) c.self.view_is)
+    (ap connection_of (c.collect.ensures.own ∙ ap (λ (b : List ℕ). record own { waiting = b }) same))
+    ∙ still_lines c.args.conn (connections_of es) ∙ ap (λ (v : ConnectionList). v.connections) c.self.view_is)
     c.collect.ensures.err

@@ -1,6 +1,6 @@
 use Rattle.std.proofs.Common.{eqb}
 use Rattle.std.specs.HashMap.{get, hash_map_len}
-use Rattle.mq_hub.specs.Connections.{service}
+use Rattle.mq_hub.specs.Inside.Connections.{service}
 use Rattle.mq_hub.proofs.ConnectionTable.{kept_anew}
 use Rattle.mq_hub.proofs.connections.table.Connections.late_places.Goals as goal
 

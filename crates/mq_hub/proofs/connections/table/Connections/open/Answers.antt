@@ -9,24 +9,24 @@ use Rattle.mq_route.specs.declared.connection_state.ConnectionState.TheVariants.
 use Rattle.mq_route.specs.Routed.{same_conn}
 use Rattle.mq_route.specs.Hub.{knows}
 use Rattle.mq_hub.specs.declared.connections.connection.Connection.{Connection}
-use Rattle.mq_hub.specs.Connections.{service, LineTable, lines_of, line_of, AreLines, IsReading}
-use Rattle.mq_hub.proofs.Ringing.{never_late}
+use Rattle.mq_hub.specs.Inside.Connections.{service, ConnectionList, connections_of, connection_of, AreConnections, IsReading}
+use Rattle.mq_hub.proofs.RingTimes.{never_late}
 use Rattle.mq_hub.proofs.ConnectionTable.{Entry, are_named, known, kept_last, lines_last, not_some}
-use Rattle.mq_hub.proofs.Retaining.{entries_in}
+use Rattle.mq_hub.proofs.RetainedEntries.{entries_in}
 use Rattle.mq_hub.proofs.connections.table.Connections.open.Goals as goal
 
--- it goes last
+-- it is appended
 last : (c : goal.Joined-insert) → c.insert.new.self.entries ≡ c.self.inside.by_conn.entries ++ (c.args.boxed.conn, c.args.boxed) ∷ []
 last c =
     let b = c.args.boxed in
     let es = c.self.inside.by_conn.entries in
     let k = c.connection.result.now.conn in
     let new = c.insert.new.self.entries in
-    let room : 0 < spare c.self.inside.by_conn = subst (λ (n : ℕ). 0 < n) (sym (ap (λ (v : LineTable). v.room) c.self.view_is)) c.requires.room in
+    let room : 0 < spare c.self.inside.by_conn = subst (λ (n : ℕ). 0 < n) (sym (ap (λ (v : ConnectionList). v.room) c.self.view_is)) c.requires.room in
     let done : new ≡ insert_entry same_conn es k b = entries_in (new ≡ insert_entry same_conn es k b) c.insert.result (c.insert.ensures.succeeds room) c.insert.ensures.entries in
     let none : lookup (same_conn b.conn) es ≡ None =
     not_some (lookup (same_conn b.conn) es) (known b.conn es (are_named (service c.self.inside.limits c.self.inside.alarms) es c.self.invariant.served)
-    ∙ ap (λ (v : LineTable). knows b.conn v.connections) c.self.view_is ∙ c.requires.name) in
+    ∙ ap (λ (v : ConnectionList). knows b.conn v.connections) c.self.view_is ∙ c.requires.name) in
     done ∙ ap (λ (x : Connection). insert_entry same_conn es x.conn b) c.connection.ensures ∙ insert_entry-new same_conn c.self.inside.by_conn b.conn b none
 
 pub invariant_of-self : goal.invariant_of-self
@@ -34,8 +34,8 @@ invariant_of-self c =
     let by = service c.self.inside.limits c.self.inside.alarms in
     let es = c.self.inside.by_conn.entries in
     let ups = c.self.inside.ups in
-    let bounds = ap (λ (v : LineTable). v.limits) c.self.view_is in
-    subst (λ (rs : List Entry). AreLines by rs (get eqb ups) (hash_map_len ups)) (sym (last c))
+    let bounds = ap (λ (v : ConnectionList). v.limits) c.self.view_is in
+    subst (λ (rs : List Entry). AreConnections by rs (get eqb ups) (hash_map_len ups)) (sym (last c))
     (kept_last by c.args.boxed es (get eqb ups) (hash_map_len ups) c.self.invariant c.requires.stage
     (subst (λ (l : Bounds). IsReading l c.args.boxed) (sym bounds) c.requires.reading, never_late by.alarms c.args.boxed.conn c.args.boxed.stage AwaitingConnect c.requires.stage (λ now. refl))
     (subst (λ (rs : List Entry). IsDistinct same_conn (keys_of rs)) (last c) c.insert.ensures.unique))
@@ -43,4 +43,4 @@ invariant_of-self c =
 pub returns-clause-connections : goal.returns-clause-connections
 returns-clause-connections c =
     let b = c.args.boxed in
-    ap lines_of (last c) ∙ lines_last (b.conn, b) c.self.inside.by_conn.entries ∙ ap (λ (v : LineTable). v.connections ++ line_of b ∷ []) c.self.view_is
+    ap connections_of (last c) ∙ lines_last (b.conn, b) c.self.inside.by_conn.entries ∙ ap (λ (v : ConnectionList). v.connections ++ connection_of b ∷ []) c.self.view_is

@@ -1,12 +1,12 @@
 use Rattle.std.proofs.Common.{List, eqb, sym, subst}
 use Rattle.std.specs.HashMap.{get, hash_map_len}
-use Rattle.mq_hub.specs.Alarms.{AreAwaited}
-use Rattle.mq_hub.specs.Connections.{service, AreLines}
+use Rattle.mq_hub.specs.Inside.Alarms.{AreAwaited}
+use Rattle.mq_hub.specs.Inside.Connections.{service, AreConnections}
 use Rattle.mq_hub.proofs.ConnectionTable.{Entry, awaited_of, kept_anew, kept_found}
 use Rattle.mq_hub.proofs.connections.table.Connections.reserve.Goals as goal
 
-pub renew-requires : goal.renew-requires
-renew-requires c =
+pub refresh_alarms-requires : goal.refresh_alarms-requires
+refresh_alarms-requires c =
     subst (λ (es : List Entry). AreAwaited c.self.inside.alarms es) (sym c.in_ok-reserve.ensures.entries)
     (awaited_of (service c.self.inside.limits c.self.inside.alarms) c.self.inside.by_conn.entries c.self.invariant.served)
 
@@ -17,6 +17,6 @@ invariant_of-self-2 c =
     let new = c.reserve-2.new.self in
     let again = c.reserve-2.ensures.entries in
     let es = c.reserve.new.self.entries in
-    let same = subst (λ (ds : List Entry). AreLines by ds (get eqb old) (hash_map_len old)) (sym c.in_ok-reserve.ensures.entries) c.self.invariant in
-    kept_found (service c.self.inside.limits c.renew.new.alarms) es (get eqb old) (get eqb new) (hash_map_len old) (hash_map_len new)
-    (kept_anew by c.renew.new.alarms es (get eqb old) (hash_map_len old) c.renew.ensures same) again.2 again.1
+    let same = subst (λ (ds : List Entry). AreConnections by ds (get eqb old) (hash_map_len old)) (sym c.in_ok-reserve.ensures.entries) c.self.invariant in
+    kept_found (service c.self.inside.limits c.refresh_alarms.new.alarms) es (get eqb old) (get eqb new) (hash_map_len old) (hash_map_len new)
+    (kept_anew by c.refresh_alarms.new.alarms es (get eqb old) (hash_map_len old) c.refresh_alarms.ensures.awaited same) again.2 again.1

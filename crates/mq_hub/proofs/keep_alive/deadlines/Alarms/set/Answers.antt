@@ -1,6 +1,6 @@
 use Rattle.std.proofs.Common.{refl, subst}
-use Rattle.mq_hub.specs.Alarms.{AlarmTable, IsQuiet}
-use Rattle.mq_hub.proofs.Ringing.{quiet_pushed}
+use Rattle.mq_hub.specs.Inside.Alarms.{AlarmTable, IsQuiet}
+use Rattle.mq_hub.proofs.RingTimes.{quiet_pushed}
 use Rattle.mq_hub.proofs.keep_alive.deadlines.Alarms.set.Goals as goal
 
 pub returns-in-Ok-clause-keeps : goal.returns-in-Ok-clause-keeps

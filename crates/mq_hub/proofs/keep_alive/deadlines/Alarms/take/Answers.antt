@@ -1,8 +1,8 @@
 use Rattle.std.proofs.Common.{◌∙◌, sym, ap, subst, true≢false}
 use Rattle.mq_route.specs.Routed.{same_conn}
-use Rattle.mq_hub.specs.Alarms.{AlarmTable, IsQuiet}
+use Rattle.mq_hub.specs.Inside.Alarms.{AlarmTable, IsQuiet}
 use Rattle.mq_hub.proofs.ConnectionTable.{itself}
-use Rattle.mq_hub.proofs.Ringing.{quiet_popped}
+use Rattle.mq_hub.proofs.RingTimes.{quiet_popped}
 use Rattle.mq_hub.proofs.keep_alive.deadlines.Alarms.take.Goals as goal
 
 pub returns-clause-others : goal.returns-clause-others

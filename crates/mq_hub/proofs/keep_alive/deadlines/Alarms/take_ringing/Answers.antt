@@ -1,7 +1,7 @@
 use Rattle.std.proofs.Common.{◌≡◌, ◌∙◌, List, false, subst}
 use Rattle.mq_route.specs.declared.conn.Conn.{Conn}
-use Rattle.mq_hub.specs.Alarms.{AlarmTable, IsQuiet, is_named}
-use Rattle.mq_hub.proofs.Ringing.{named_parts}
+use Rattle.mq_hub.specs.Inside.Alarms.{AlarmTable, IsQuiet, is_named}
+use Rattle.mq_hub.proofs.RingTimes.{named_parts}
 use Rattle.mq_hub.proofs.keep_alive.deadlines.Alarms.take_ringing.Goals as goal
 
 pub loop-conn-preserved : goal.loop-conn-preserved

@@ -1,6 +1,6 @@
 use Rattle.std.proofs.Common.{◌≡◌, ℕ, false, length}
 use Rattle.mq_route.specs.declared.conn.Conn.{Conn}
-use Rattle.mq_hub.specs.Alarms.{IsQuiet, is_named}
+use Rattle.mq_hub.specs.Inside.Alarms.{IsQuiet, is_named}
 use Rattle.mq_hub.proofs.keep_alive.deadlines.Alarms.take_ringing.Given as goal
 
 abbrev pub invariant-loop-conn : goal.invariant-loop-conn

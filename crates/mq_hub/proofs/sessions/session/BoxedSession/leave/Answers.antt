@@ -8,4 +8,4 @@ use Rattle.mq_hub.proofs.sessions.session.BoxedSession.leave.Goals as goal
 pub returns-clause-connect_end : goal.returns-clause-connect_end
 returns-clause-connect_end c =
     subst (λ (t : BrokerSession). (connect : Connect) (ms : List Message) (more : ℕ) → HasRise connect ms more t.end → HasRise connect ms more c.dropped.new.self)
-    (c.deref_mut-tenant.ensures.value ∙ c.self.view_is) c.dropped.ensures.connect_end
+    (c.deref_mut-session.ensures.value ∙ c.self.view_is) c.dropped.ensures.connect_end

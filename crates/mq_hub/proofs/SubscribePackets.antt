@@ -1,0 +1,248 @@
+-- A connected client subscribes, and gets the retained messages.
+use Rattle.std.proofs.Common.{◌≡◌, ◌&&◌, ℕ, suc, ◌+◌, ◌≤◌, Bool, true, false, cond, List, [], ◌∷◌, ◌++◌, length, map, filter, Some, Result, Ok, Err, IfOk, OnErr, refl, sym, ap, subst, ◌∙◌, append-nil, arith}
+use Rattle.std.specs.List.{AllByRecursion}
+use Rattle.std.specs.declared.alloc.AllocError.{AllocError}
+use Rattle.mq_topic.specs.declared.qos.Qos.{Qos}
+use Rattle.mq_topic.specs.declared.qos.Qos.TheVariants.{Q0, Q1, Q2}
+use Rattle.mq_topic.specs.Matching.{is_match}
+use Rattle.mq_packet.specs.declared.message.Message.{Message}
+use Rattle.mq_packet.specs.declared.packet.Packet.TheVariants as packets
+use Rattle.mq_packet.specs.declared.packet.Request.{Request}
+use Rattle.mq_packet.specs.declared.packet.SubAckCode.{SubAckCode}
+use Rattle.mq_packet.specs.Encoding.{fields}
+use Rattle.mq_decode.specs.Limits.{Bounds}
+use Rattle.mq_flow.specs.Next.{next_identifier}
+use Rattle.mq_end.specs.declared.happening.Happening.TheVariants as happens
+use Rattle.mq_end.specs.Both.{publishes_at}
+use Rattle.mq_end.specs.End.{End, is_up}
+use Rattle.mq_end.specs.Ready.{packets_size}
+use Rattle.mq_end.specs.Server.{subacks}
+use Rattle.mq_end.specs.Sizes.{publish_size, requests_size, suback_size, subscribe_size}
+use Rattle.mq_route.specs.declared.act.Act.{Act}
+use Rattle.mq_route.specs.declared.config.HubConfig.{HubConfig}
+use Rattle.mq_route.specs.declared.conn.Conn.{Conn}
+use Rattle.mq_route.specs.Arrives.{answers, granted}
+use Rattle.mq_route.specs.Copies.{copy, retained_for}
+use Rattle.mq_route.specs.Hub.{HubState, HubConnection, for_key, up_on}
+use Rattle.mq_route.specs.Work.{Work, does, have_room, place_all, publishes_next, retained_copies, subscribed}
+use Rattle.mq_hub.specs.declared.sessions.call.Call.TheVariants.{Grants}
+use Rattle.mq_hub.specs.declared.sessions.session.BrokerSession.{BrokerSession}
+use Rattle.mq_hub.specs.Inside.Requests.{Subscribes}
+use Rattle.mq_hub.specs.Inside.Calls.{CanServe, reply_of}
+use Rattle.mq_hub.specs.Inside.Refinement.{Refines}
+use Rattle.mq_hub.specs.Inside.Invariant.{HubInvariant, SessionMatchesConnection, IsWithin, HasSession}
+use Rattle.mq_hub.specs.Inside.Connections.{ConnectionList}
+use Rattle.mq_hub.specs.Inside.Placement.{HasSessions, IsFor, MayGo, placed_acts, placed_all, placed_at, published, with_list}
+use Rattle.mq_hub.specs.Inside.Retained.{RetainedTable}
+use Rattle.mq_hub.specs.Inside.View.{HubTables, all_seen, hub_of}
+use Rattle.mq_hub.specs.Inside.Sessions.{sessions_of, session_at}
+use Rattle.mq_hub.specs.Inside.Subscriptions.{subscribed_acts, with_rows}
+use Rattle.mq_hub.proofs.Refinements.{goes_then}
+use Rattle.mq_hub.proofs.GrantedRows.{allowed_within, answered_goes, goes_subscribed, kept_answered, stands_up, up_end, with_owned}
+use Rattle.mq_hub.proofs.InvariantChanges.{kept_by}
+use Rattle.mq_hub.proofs.CopyTargets.{copy_size}
+use Rattle.mq_hub.proofs.SessionRoom.{changed_own, room_none, same_change}
+use Rattle.mq_hub.proofs.EndReplies.{Stays, kept_replied}
+use Rattle.mq_hub.proofs.PlacedCopies.{can_place, for_placeable, goes}
+
+-- ---- messages that are placed for a connected client
+
+publish_still : (m : Message) (e : End) → Stays e (publishes_next m e).end
+publish_still m e = go m.qos (next_identifier e.last e.book)
+  where
+    go : (q : Qos) (i : ℕ) → Stays e (publishes_at q i m e).end
+    go Q0 i = record { window = refl; known = refl; state = refl; clean = refl }
+    go Q1 i = record { window = refl; known = refl; state = refl; clean = refl }
+    go Q2 i = record { window = refl; known = refl; state = refl; clean = refl }
+
+one_placed : (config : HubConfig) (next key : ℕ) (t : HubTables) → HubInvariant config next t → (k : Conn) → up_on key t.connections.connections ≡ Some k → (s : BrokerSession) → session_at key t.sessions.list ≡ Some s
+    → (m : Message) → HubInvariant config next (with_list (placed_at key m t.sessions.list) t)
+one_placed config next key t kept k on s there m =
+    subst (λ (ts : List BrokerSession). HubInvariant config next (with_list ts t)) (same_change (published m) key s t.sessions.list kept.ascending there)
+    (kept_replied config next key s (published m s.end) t there kept k on (publishes_next m s.end.end) (record { end = refl; output = refl; capacity = refl; limit = refl }) (publish_still m s.end.end))
+
+pub all_placed : (config : HubConfig) (next key : ℕ) (ms : List Message) (t : HubTables) → HubInvariant config next t → (k : Conn) → up_on key t.connections.connections ≡ Some k
+    → (s : BrokerSession) → session_at key t.sessions.list ≡ Some s → HubInvariant config next (with_list (placed_all (for_key key ms) t.sessions.list) t)
+all_placed config next key [] t kept k on s there = kept
+all_placed config next key (m ∷ ms) t kept k on s there =
+    all_placed config next key ms (with_list (placed_at key m t.sessions.list) t) (one_placed config next key t kept k on s there m) k on
+    (record s { end = published m s.end }) (changed_own (published m) key s t.sessions.list there)
+
+-- ---- retained messages may be sent by it
+
+all_kept : (most : ℕ) (f : List ℕ) (ms : List Message) → AllByRecursion (IsWithin most) ms → AllByRecursion (IsWithin most) (filter (λ m. is_match f m.topic) ms)
+all_kept most f [] all = tt
+all_kept most f (m ∷ ms) all = go (is_match f m.topic) (all_kept most f ms all.1)
+  where
+    go : (b : Bool) → AllByRecursion (IsWithin most) (filter (λ m. is_match f m.topic) ms)
+        → AllByRecursion (IsWithin most) (cond b (m ∷ filter (λ m. is_match f m.topic) ms) (filter (λ m. is_match f m.topic) ms))
+    go true rest = (all.0, rest)
+    go false rest = rest
+
+all_copied : (most : ℕ) (q : Qos) (ms : List Message) → AllByRecursion (IsWithin most) ms → AllByRecursion (IsWithin most) (map (copy q true) ms)
+all_copied most q [] all = tt
+all_copied most q (m ∷ ms) all = let size = copy_size q true m in let fits = all.0 in (omega arith, all_copied most q ms all.1)
+
+retained_within : (most : ℕ) (f : List ℕ) (q : Qos) (ms : List Message) → AllByRecursion (IsWithin most) ms → AllByRecursion (IsWithin most) (retained_for f q ms)
+unfolding retained_for
+retained_within most f q ms all = all_copied most q (filter (λ m. is_match f m.topic) ms) (all_kept most f ms all)
+
+all_joined : (P : ℕ × Message → Type 0) (xs ys : List (ℕ × Message)) → AllByRecursion P xs → AllByRecursion P ys → AllByRecursion P (xs ++ ys)
+all_joined P [] ys a b = b
+all_joined P (x ∷ xs) ys a b = (a.0, all_joined P xs ys a.1 b)
+
+to_key : (most key : ℕ) (ms : List Message) → AllByRecursion (IsWithin most) ms → AllByRecursion (λ c. IsWithin most c.1) (for_key key ms)
+to_key most key [] all = tt
+to_key most key (m ∷ ms) all = (all.0, to_key most key ms all.1)
+
+of_key : (most key : ℕ) (ms : List Message) → AllByRecursion (λ c. IsWithin most c.1) (for_key key ms) → AllByRecursion (IsWithin most) ms
+of_key most key [] all = tt
+of_key most key (m ∷ ms) all = (all.0, of_key most key ms all.1)
+
+all_within : (most key : ℕ) (rs : List Request) (ms : List Message) → AllByRecursion (IsWithin most) ms → AllByRecursion (λ c. IsWithin most c.1) (retained_copies key rs ms)
+all_within most key [] ms all = tt
+all_within most key (r ∷ rs) ms all =
+    all_joined (λ c. IsWithin most c.1) (for_key key (retained_for r.filter r.qos ms)) (retained_copies key rs ms)
+    (to_key most key (retained_for r.filter r.qos ms) (retained_within most r.filter r.qos ms all)) (all_within most key rs ms all)
+
+pub due_retained : (config : HubConfig) (next : ℕ) (t : HubTables) → HubInvariant config next t → (key : ℕ) (k : Conn) → up_on key t.connections.connections ≡ Some k → (rs : List Request) (ms : List Message)
+    → for_key key ms ≡ retained_copies key rs t.retained.messages → IsFor key ms t.sessions.list
+due_retained config next t kept key k on rs ms due =
+    let e = up_end config next t kept key k on in
+    let all = of_key config.limits.most key ms
+    (subst (λ (cs : List (ℕ × Message)). AllByRecursion (λ c. IsWithin config.limits.most c.1) cs) (sym due) (all_within config.limits.most key rs t.retained.messages kept.retained)) in
+    record { session = e.session; there = e.there; may_go = go e.session (ap (λ (b : Bounds). b.most) e.limit) e.known (ap is_up e.state) ms all }
+  where
+    go : (s : BrokerSession) → s.end.limit.most ≡ config.limits.most → s.end.end.known ≡ true → is_up s.end.end.state ≡ true → (ms : List Message) → AllByRecursion (IsWithin config.limits.most) ms
+        → AllByRecursion (λ m. MayGo m s.end) ms
+    go s limit known up [] all = tt
+    go s limit known up (m ∷ ms) all =
+        (record { known = known; up = λ once. up; fits = subst (λ (n : ℕ). publish_size m ≤ n) (sym limit) all.0 }, go s limit known up ms all.1)
+
+-- ---- SUBACK
+
+granted_long : (rs : List Request) → length (granted rs) ≤ requests_size rs
+granted_long [] = omega arith
+granted_long (r ∷ rs) = let rest = granted_long rs in omega arith
+
+pub granted_length : (rs : List Request) → length (granted rs) ≡ length rs
+granted_length [] = refl
+granted_length (r ∷ rs) = ap suc (granted_length rs)
+
+-- and is within the room that is made for it
+pub grants_fit : (i : ℕ) (codes : List SubAckCode) (n : ℕ) → length (fields (packets.SubAck i codes)) ≡ suback_size codes → length codes ≡ n
+    → (e : End) → packets_size (reply_of (Grants i codes) e).out ≤ 7 + n
+grants_fit i codes n long is e = omega (arith, long, is)
+
+-- whether the session has room for the retained messages
+pub enough_for : (key : ℕ) (ms : List Message) (cs : List (ℕ × Message)) (h : HubState) (b c : Bool) → have_room (for_key key ms ++ []) h ≡ (b && have_room [] h)
+    → for_key key ms ≡ cs → b ≡ c → have_room cs h ≡ c
+enough_for key ms cs h b c room due is =
+    ap (λ (xs : List (ℕ × Message)). have_room xs h) (sym due ∙ sym (append-nil (for_key key ms))) ∙ room ∙ ap (λ (x : Bool). b && x) (room_none h) ∙ go b c is
+  where
+    go : (b c : Bool) → b ≡ c → (b && true) ≡ c
+    go true c is = is
+    go false c is = is
+
+pub can_grant : (config : HubConfig) (next : ℕ) (t : HubTables) → HubInvariant config next t → (key : ℕ) (k : Conn) → up_on key t.connections.connections ≡ Some k → (i : ℕ) (rs : List Request)
+    → subscribe_size rs ≤ config.limits.most → CanServe key (Grants i (granted rs)) t.sessions.list
+can_grant config next t kept key k on i rs within =
+    let e = up_end config next t kept key k on in
+    let long = granted_long rs in
+    let fits : suback_size (granted rs) ≤ config.limits.most = omega arith in
+    record {
+      session = e.session;
+      there = e.there;
+      up = ap is_up e.state;
+      allowed = allowed_within e.session.end.limit.most (suback_size (granted rs)) e.session.end.end e.state (subst (λ (b : Bounds). suback_size (granted rs) ≤ b.most) (sym e.limit) fits);
+    }
+
+-- ---- the broker
+
+module _ (config : HubConfig) (next key : ℕ) (t u : HubTables) (kept : HubInvariant config next t) (k : Conn) (on : up_on key t.connections.connections ≡ Some k) (i : ℕ) (rs : List Request)
+    (s : Subscribes key i rs t u) where
+  owned : AllByRecursion (λ r. HasSession t.sessions.list r.0.0) (with_rows key rs t.rows)
+  owned = with_owned (HasSession t.sessions.list) key rs t.rows (stands_up config next t kept key k on) kept.owned
+
+  kept_between : HubInvariant config next s.between
+  kept_between =
+      kept_answered config next key t s.between kept k on (Grants i (granted rs)) (with_rows key rs t.rows) owned s.answers
+      (λ up. record { window = refl; known = refl; state = refl; clean = refl })
+
+  pub kept_subscribed : HubInvariant config next u
+  kept_subscribed =
+      let on_between = ap (λ (l : ConnectionList). up_on key l.connections) s.answers.connections ∙ on in
+      let v : HubTables = with_list (placed_all (for_key key s.messages) s.between.sessions.list) s.between in
+      kept_by config next v u (all_placed config next key s.messages s.between kept_between k on_between s.ready.session s.ready.there)
+      s.rows (ap (λ (r : RetainedTable). r.messages) s.retained) s.list (ap (λ (l : ConnectionList). l.connections) s.connections) (ap (λ (l : ConnectionList). l.limits) s.connections)
+
+  module _ (clock : ℕ) (did : List Act) where
+    served_goes : Refines (λ w. does key (subacks i (granted rs)) (subscribed key rs w)) (hub_of config clock next t) did (hub_of config clock next s.between) (did ++ subscribed_acts key rs)
+    served_goes =
+        let h = hub_of config clock next t in
+        goes_then (subscribed key rs) (does key (subacks i (granted rs))) h (record h { rows = with_rows key rs t.rows }) (hub_of config clock next s.between) did
+        (did ++ subscribed_acts key rs) (did ++ subscribed_acts key rs) (goes_subscribed key rs h did)
+        (answered_goes config next key t s.between kept k on (Grants i (granted rs)) (with_rows key rs t.rows) owned s.answers clock (did ++ subscribed_acts key rs))
+
+    hub_placed : hub_of config clock next (with_list u.sessions.list s.between) ≡ hub_of config clock next u
+    hub_placed =
+        let rows = s.rows in
+        let retained = s.retained in
+        let connections = s.connections in
+        λ i. record {
+          config = config;
+          clock = clock;
+          next_key = next;
+          rows = sym rows i;
+          retained = (sym retained i).messages;
+          sessions = sessions_of u.sessions.list;
+          connections = all_seen u.sessions.list (sym connections i).connections;
+        }
+
+    placed_goes : Refines (place_all (for_key key s.messages)) (hub_of config clock next s.between) (did ++ subscribed_acts key rs) (hub_of config clock next u)
+        ((did ++ subscribed_acts key rs) ++ placed_acts (for_key key s.messages))
+    placed_goes =
+        subst (λ (h : HubState). Refines (place_all (for_key key s.messages)) (hub_of config clock next s.between) (did ++ subscribed_acts key rs) h
+        ((did ++ subscribed_acts key rs) ++ placed_acts (for_key key s.messages))) hub_placed
+        (goes config clock next s.between (did ++ subscribed_acts key rs) (for_key key s.messages) s.between.sessions.list u.sessions.list refl
+        (can_place config next s.between kept_between) (for_placeable key s.messages 0 s.between.sessions.list s.ready) s.list)
+
+    pub subscribed_goes : (conn : Conn) → Refines (answers conn key (happens.Subscribe i rs)) (hub_of config clock next t) did (hub_of config clock next u)
+        ((did ++ subscribed_acts key rs) ++ placed_acts (retained_copies key rs t.retained.messages))
+    unfolding answers
+    subscribed_goes conn =
+        let first = λ (w : Work). does key (subacks i (granted rs)) (subscribed key rs w) in
+        let same : (w : Work) → w.hub ≡ hub_of config clock next t → retained_copies key rs w.hub.retained ≡ for_key key s.messages =
+        λ w at. ap (λ (h : HubState). retained_copies key rs h.retained) at ∙ sym s.due in
+        let q = served_goes in
+        let p = placed_goes in record {
+          hub = λ w at said. ap (λ (cs : List (ℕ × Message)). (place_all cs (first w)).hub) (same w at) ∙ p.hub (first w) (q.hub w at said) (q.did w at said);
+          did = λ w at said. ap (λ (cs : List (ℕ × Message)). (place_all cs (first w)).did) (same w at) ∙ p.did (first w) (q.hub w at said) (q.did w at said)
+              ∙ ap (λ (cs : List (ℕ × Message)). (did ++ subscribed_acts key rs) ++ placed_acts cs) s.due;
+        }
+
+-- ---- what the tables say of it, and what the broker is then
+
+-- `true`, `false`, or a failed allocation
+pub three : {A B X : Type 0} (r : Result Bool AllocError) → (r ≡ Ok true → A) → (r ≡ Ok false → B) → OnErr r B → (A → X) → (B → X) → X
+three (Ok true) a b e f g = f (a refl)
+three (Ok false) a b e f g = g (b refl)
+three (Err x) a b e f g = g e
+
+pub if_ok : {X : Type 0} {P Q : X → Type 0} (r : Result X AllocError) → ((x : X) → P x → Q x) → IfOk r P → IfOk r Q
+if_ok (Ok x) f p = f x p
+if_ok (Err e) f p = tt
+
+all_capacity : (config : HubConfig) (xs : List HubConnection) (ts : List BrokerSession) → AllByRecursion (SessionMatchesConnection config xs) ts → AllByRecursion (λ t. t.end.capacity ≡ config.capacity) ts
+all_capacity config xs [] all = tt
+all_capacity config xs (t ∷ ts) all = (all.0.capacity, all_capacity config xs ts all.1)
+
+pub has_sessions : (config : HubConfig) (clock next : ℕ) (t : HubTables) → HubInvariant config next t → HasSessions t.sessions.list (hub_of config clock next t)
+has_sessions config clock next t kept = record { sessions = refl; capacity = all_capacity config t.connections.connections t.sessions.list kept.fitting }
+
+pub err_bool : {A X : Type 0} (r : Result Bool AllocError) → OnErr r A → (A → X) → OnErr r X
+err_bool (Ok x) a f = tt
+err_bool (Err e) a f = f a
+
+pub ok_at : {X : Type 0} (P : X → Type 0) {x : X} (r : Result X AllocError) → r ≡ Ok x → IfOk r P → P x
+ok_at {X = X} P r is p = subst (λ (a : Result X AllocError). IfOk a P) is p

@@ -1,7 +1,0 @@
-use Rattle.mq_hub.proofs.Fronting.{goes_unexpected}
-use Rattle.mq_hub.proofs.hub.HubOver.first_is_wrong.Goals as goal
-
-pub returns-clause-goes : goal.returns-clause-goes
-returns-clause-goes g c = λ fits.
-    goes_unexpected c.args.conn c.args.packet.now fits c.args.self.now c.close_idle.new.self c.args.doings.now.acts c.close_idle.new.doings.acts c.requires.other
-    (c.close_idle.ensures.goes fits)

@@ -1,0 +1,23 @@
+-- Definitions that only the proofs of this crate need: no public contract cites them.
+pub mod ActLog
+pub mod Alarms
+pub mod Calls
+pub mod Close
+pub mod ConnectChecks
+pub mod ConnectRoom
+pub mod Connections
+pub mod DeliveryPlan
+pub mod Input
+pub mod Invariant
+pub mod Logs
+pub mod Output
+pub mod Placement
+pub mod Reception
+pub mod Refinement
+pub mod Requests
+pub mod Retained
+pub mod Sessions
+pub mod Subscriptions
+pub mod TableSteps
+pub mod Tick
+pub mod View

@@ -1,0 +1,31 @@
+-- Closing a connection on which a client is connected (3.1.2.4, 4.8).
+use Rattle.std.specs.Prelude.{ℕ, Bool, List, [], Option, None}
+use Rattle.mq_packet.specs.declared.connect.Will.{Will}
+use Rattle.mq_end.specs.End.{over}
+use Rattle.mq_end.specs.State.{EndState, no_bytes}
+use Rattle.mq_route.specs.declared.act.Act.TheVariants as acts
+use Rattle.mq_route.specs.declared.close.HubClose.{HubClose}
+use Rattle.mq_route.specs.declared.conn.Conn.{Conn}
+use Rattle.mq_route.specs.declared.connection_state.ConnectionState.{ConnectionState}
+use Rattle.mq_route.specs.declared.connection_state.ConnectionState.TheVariants.{AwaitingConnect, ConnectedAs, Closed}
+use Rattle.mq_route.specs.Hub.{HubConnection, end_of, with_end}
+use Rattle.mq_route.specs.Work.{Work, remove_if, said, shut, will_after, with_sessions}
+
+-- an end without connection and pending output
+abbrev pub parted : EndState → EndState
+parted e = record e { end = over e.end; held = []; output = []; room = no_bytes e.room }
+
+-- a closed connection with this pending output
+abbrev pub left_with : List ℕ → HubConnection → HubConnection
+left_with b x = record x { stage = Closed; held = []; waiting = b }
+
+-- A close up to the publication of the client's will: the connection is closed, the session's end
+-- loses it, and the session ends with it if asked (3.1.2.4).
+unfoldable pub parts : Conn → HubClose → ℕ → Bool → Work → Work
+parts k why key clean w = remove_if clean key (with_sessions (with_end key (over (end_of key w.hub.sessions))) (said (acts.Closed k why) (shut k w)))
+
+-- the will to publish after that, if any (3.1.2.5, 3.14.4)
+abbrev pub will_left : HubClose → ConnectionState → Option Will
+will_left why AwaitingConnect = None
+will_left why (ConnectedAs key terms last_activity) = will_after why terms.will
+will_left why Closed = None

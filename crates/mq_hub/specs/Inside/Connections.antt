@@ -1,0 +1,85 @@
+-- The table of connections (4.2).
+use Rattle.std.specs.Prelude.{◌≡◌, ◌≤◌, ℕ, ◌==◌, List, [], ◌∷◌, map, slice_get, Bool, true, false, Option, Some, None, is_some, if◌then◌else◌}
+use Rattle.std.specs.List.{AllByRecursion, IsDistinct, count_by}
+use Rattle.std.specs.Map.{keys_of}
+use Rattle.mq_decode.specs.Limits.{Bounds}
+use Rattle.mq_route.specs.declared.conn.Conn.{Conn}
+use Rattle.mq_route.specs.declared.connection_state.ConnectionState.{ConnectionState}
+use Rattle.mq_route.specs.Hub.{HubConnection, key_on}
+use Rattle.mq_route.specs.Routed.{same_conn}
+use Rattle.mq_route.specs.Step.{is_late_on}
+use Rattle.mq_hub.specs.declared.connections.connection.Connection.{Connection}
+use Rattle.mq_hub.specs.Inside.Alarms.{AlarmTable, IsAwaited}
+
+-- The connections in the order in which they were opened, and the limits of their packets. Then:
+-- for how many more there is room, how many more may become connected, and how many alarms there
+-- are.
+pub record ConnectionList : Type 0 where
+  pub connections : List HubConnection
+  pub limits : Bounds
+  pub room : ℕ
+  pub up_room : ℕ
+  pub alarms : ℕ
+
+-- a connection as the broker's definition sees it
+abbrev pub connection_of : Connection → HubConnection
+connection_of c = record { conn = c.conn; stage = c.stage; held = c.decoder.held; waiting = c.waiting }
+
+abbrev pub connections_of : List (Conn × Connection) → List HubConnection
+connections_of es = map (λ e. connection_of e.1) es
+
+-- the connection at this index has this name
+abbrev pub IsNamedAt : Conn → ℕ → List (Conn × Connection) → Type 0
+IsNamedAt k n es = (e : Conn × Connection) × (slice_get es n ≡ Some e) × (same_conn k e.0 ≡ true)
+
+-- its decoder has these limits, and met no error
+abbrev pub IsReading : Bounds → Connection → Type 0
+IsReading limits c = (c.decoder.limit ≡ limits) × (c.decoder.failed ≡ None)
+
+-- How connections are served: the limits of their packets, and the alarms.
+pub record Service : Type 0 where
+  pub bounds : Bounds
+  pub alarms : AlarmTable
+
+abbrev pub service : Bounds → AlarmTable → Service
+service bounds alarms = record { bounds = bounds; alarms = alarms }
+
+-- it is not late up to this time (3.1.2.10)
+abbrev pub IsTimely : ℕ → ConnectionState → Type 0
+IsTimely due s = (now : ℕ) → now ≤ due → is_late_on now s ≡ false
+
+-- a connection is served in this way
+abbrev pub IsServedBy : Service → Connection → Type 0
+IsServedBy by c = IsReading by.bounds c × IsAwaited by.alarms c.conn c.stage
+
+-- and is stored under its name
+abbrev pub IsServed : Service → Conn × Connection → Type 0
+IsServed by e = (e.0 ≡ e.1.conn) × IsServedBy by e.1
+
+-- each connection, with the key of the session for which it is connected
+abbrev pub ups_of : List (Conn × Connection) → List (Conn × Option ℕ)
+ups_of es = map (λ e. (e.1.conn, key_on e.1.stage)) es
+
+abbrev pub has_key : ℕ → Option ℕ → Bool
+has_key key None = false
+has_key key (Some other) = other == key
+
+-- the first connection that is connected for a key
+abbrev pub up_in : ℕ → List (Conn × Option ℕ) → Option Conn
+up_in key [] = None
+up_in key (u ∷ us) = if has_key key u.1 then Some u.0 else up_in key us
+
+-- no two are connected for one key
+abbrev pub AreUpOnce : List (Conn × Option ℕ) → Type 0
+AreUpOnce [] = Unit {0}
+AreUpOnce (u ∷ us) = ((key : ℕ) → u.1 ≡ Some key → up_in key us ≡ None) × AreUpOnce us
+
+-- The invariant of the table: each connection is stored under its name, once. No two are connected
+-- for one client, `find` returns that connection, and `count` is the number of those that are
+-- connected.
+pub record AreConnections (by : Service) (es : List (Conn × Connection)) (find : ℕ → Option Conn) (count : ℕ) : Type 0 where
+  pub served : AllByRecursion (IsServed by) es
+  pub distinct : IsDistinct same_conn (keys_of es)
+  pub singly : AreUpOnce (ups_of es)
+  pub found : (key : ℕ) → find key ≡ up_in key (ups_of es)
+  pub counted : count ≡ count_by (λ u. is_some u.1) (ups_of es)

@@ -1,0 +1,26 @@
+-- A planned delivery, and tables with room for it.
+use Rattle.std.specs.Prelude.{◌≡◌, ℕ, ◌<◌, length, IfSome}
+use Rattle.mq_hub.specs.declared.publish.delivery.DeliveryPlan.{DeliveryPlan}
+use Rattle.mq_hub.specs.Inside.Placement.{placed_acts, AreApart, AreReady, AreSameButRoom}
+use Rattle.mq_hub.specs.Inside.View.{HubTables}
+
+-- The tables are the same, except for room.
+pub record AreTablesAlike (old new : HubTables) : Type 0 where
+  pub rows : new.rows ≡ old.rows
+  pub retained : new.retained.messages ≡ old.retained.messages
+  pub list : AreSameButRoom old.sessions.list new.sessions.list
+  pub connections : new.connections ≡ old.connections
+
+-- A plan: the message to retain under its own name, at most one copy for each client, and the acts
+-- that report the copies.
+pub record IsPlanned (s : DeliveryPlan) : Type 0 where
+  pub named : IfSome s.kept (λ named. named.0 ≡ named.1.topic)
+  pub apart : AreApart s.copies.items
+  pub says : s.placed.items ≡ placed_acts s.copies.items
+
+-- Tables and an act log with room for a plan, and for `more` bytes more in each session that gets a
+-- copy.
+pub record IsReserved (more : ℕ) (s : DeliveryPlan) (t : HubTables) (free : ℕ) : Type 0 where
+  pub retained : 0 < t.retained.room
+  pub ready : AreReady more t.sessions.list s.copies.items
+  pub room : length s.placed.items < free
