@@ -32,7 +32,7 @@ use Rattle.mq_route.specs.Hub.{HubState, HubConnection, stage_of, is_open, key_o
 use Rattle.mq_route.specs.Welcome.{client_of, ends_with, refusal}
 use Rattle.mq_route.specs.Work.{Work, begin, said, with_sessions, staged, shut, put_on, put_where, does, publishes_next, place, place_all, have_room, deliver, remove, last_will, will_after, remove_if, leaves_behind, close, subscribed, unsubscribed, retained_copies}
 use Rattle.mq_route.specs.Arrives.{Growth, granted, due, answers, answers_all, replies, greeting, terms_of, resume_session, new_session, start_session, take_over, goes_on, accept_connect, on_connect, on_first_packet, dispatch_packet, touched_on, arrives, noted, takes, closes_by, broken, on_malformed}
-use Rattle.mq_route.specs.Step.{holding, Comes, Arrives, Waits, Breaks, Starves, LetsGo, Ticks, Done, InTime, Late, Later, Does, ended_open, told}
+use Rattle.mq_route.specs.Step.{holding, Comes, Arrives, Waits, Breaks, Starves, LetsGo, Ticks, Done, InTime, Late, Does, ended_open, told}
 use Rattle.mq_route.specs.Reading.{logged_in, logged_by}
 
 put_logs : (to : Option Conn) (ps : List Packet) (w : Work) → (put_where to ps w).came ≡ w.came
@@ -197,7 +197,6 @@ ticks_log : (now : ℕ) (xs : List HubConnection) (w w2 : Work) → Ticks now xs
 ticks_log now xs w w2 (Done v) = refl
 ticks_log now xs w w2 (InTime x ys v v2 soon more) = ticks_log now ys v v2 more
 ticks_log now xs w w2 (Late x ys fits v v2 late more) = ticks_log now ys (close x.conn (Own reasons.KeepAlive) fits v) v2 more ∙ close_logs x.conn (Own reasons.KeepAlive) fits v
-ticks_log now xs w w2 (Later x ys v late) = refl
 
 ended_logs : (k : Conn) (alive fits : Bool) (w : Work) → (ended_open k alive fits w).came ≡ w.came
 ended_logs k true fits w = close_logs k PeerEnded fits w

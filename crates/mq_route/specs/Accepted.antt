@@ -1,4 +1,4 @@
--- Each copy of quality of service 1 or 2 that is placed is an accept of the sender's book (2.3.1, 4.3).
+-- Each placed copy of QoS 1 or 2 is accepted by the sender's book of its session (2.3.1, 4.3).
 use Rattle.std.specs.Prelude.{◌≡◌, ℕ, ◌≤◌, ◌==◌, Bool, true, false, ◌&&◌, List, [], ◌∷◌, ◌++◌, max, Option, Some, None, if◌then◌else◌}
 use Rattle.std.specs.List.{list_any}
 use Rattle.mq_packet.specs.declared.connack.ConnAck.TheVariants as connacks
@@ -41,144 +41,160 @@ use Rattle.mq_route.specs.Dropped.{when_over}
 
 -- ---- a copy
 
--- A copy that is placed: for this client, at this work.
+-- A copy is placed for this client in this work.
 pub record Placing : Type 0 where
   pub key : ℕ
   pub message : Message
   pub at : Work
 
--- It is accepted: the client has a session, its book is not full, its next identifier is the first that is free after the one given
--- last (2.3.1), and what is done to the session is that its book accepts the message with it (4.3).
-pub record IsAccept (p : Placing) : Type 0 where
-  pub there : list_any (λ s. s.key == p.key) p.at.hub.sessions ≡ true
-  pub room : is_full p.at.hub.config.capacity (end_of p.key p.at.hub.sessions).book ≡ false
-  pub first : let e = end_of p.key p.at.hub.sessions in IsFirstFree e.last e.book (next_identifier e.last e.book)
-  pub accepts : let e = end_of p.key p.at.hub.sessions in
-      let i = next_identifier e.last e.book in
-      end_of p.key (place p.key p.message p.at).hub.sessions ≡ record e { book = accept i p.message (is_up e.state) e.book; last = i }
+-- The client has a session, and its book is not full. The next identifier is the first free one
+-- after the last assigned identifier (2.3.1). The book accepts the message with this identifier
+-- (4.3).
+pub record IsAccept (placing : Placing) : Type 0 where
+  pub there : list_any (λ s. s.key == placing.key) placing.at.hub.sessions ≡ true
+  pub room : is_full placing.at.hub.config.capacity (end_of placing.key placing.at.hub.sessions).book ≡ false
+  pub first : let e = end_of placing.key placing.at.hub.sessions in IsFirstFree e.last e.book (next_identifier e.last e.book)
+  pub accepts : let e = end_of placing.key placing.at.hub.sessions in
+      let identifier = next_identifier e.last e.book in
+      end_of placing.key (place placing.key placing.message placing.at).hub.sessions ≡ record e { book = accept identifier placing.message (is_up e.state) e.book; last = identifier }
 
--- each of quality of service 1 or 2 is
+-- each copy of QoS 1 or 2 is accepted
 abbrev pub AreAccepts : List Placing → Type 0
 AreAccepts [] = Unit {0}
-AreAccepts (p ∷ ps) = (has_identifier p.message.qos ≡ true → IsAccept p) × AreAccepts ps
+AreAccepts (placing ∷ later) = (has_identifier placing.message.qos ≡ true → IsAccept placing) × AreAccepts later
 
--- the messages among them for a client
+-- the placed messages of one client
 abbrev pub placed_for : ℕ → List Placing → List Message
-placed_for c [] = []
-placed_for c (p ∷ ps) = if p.key == c then p.message ∷ placed_for c ps else placed_for c ps
+placed_for client [] = []
+placed_for client (placing ∷ later) =
+    if placing.key == client then placing.message ∷ placed_for client later else placed_for client later
 
--- ---- which copies are placed, and when, along the definitions of a step (Work, Arrives, Step)
+-- ---- the copies that a step places, along the definitions of Work, Arrives and Step
 
--- these, one after another
+-- the copies of a list
 abbrev pub placings : List (ℕ × Message) → Work → List Placing
-placings [] w = []
-placings (x ∷ xs) w = record { key = x.0; message = x.1; at = w } ∷ placings xs (place x.0 x.1 w)
+placings [] work = []
+placings (x ∷ xs) work = record { key = x.0; message = x.1; at = work } ∷ placings xs (place x.0 x.1 work)
 
--- those of a message, after the act that says so
+-- the copies of a published message, after its act
 abbrev pub in_share : Act → Message → Work → List Placing
-in_share act m w = placings (copies_of m w.hub) (said act (record w { hub = record w.hub { retained = kept m w.hub.retained } }))
+in_share act message work =
+    placings (copies_of message work.hub) (said act (record work { hub = record work.hub { retained = kept message work.hub.retained } }))
 
--- those of a will, where it is published (3.1.2.5)
+-- the copies of a will that is published (3.1.2.5)
 abbrev pub in_will : ℕ → Option Will → Bool → Work → List Placing
-in_will key None fits w = []
-in_will key (Some will) fits w =
-    if fits && have_room (copies_of (will_message will) w.hub) w.hub
-    then in_share (acts.Will key (will_message will)) (will_message will) w
+in_will key None fits work = []
+in_will key (Some will) fits work =
+    if fits && have_room (copies_of (will_message will) work.hub) work.hub
+    then in_share (acts.Will key (will_message will)) (will_message will) work
     else []
 
--- those of the will of a connection that is closed; only one that is up has a will
+-- the copies of the will that a close publishes; a client has a will only while it is connected
 abbrev pub in_leaving : Conn → HubClose → Bool → ConnectionState → Work → List Placing
-in_leaving k why fits (ConnectedAs key terms last_activity) w = in_will key (will_after why terms.will) fits (when_over k why key terms w)
-in_leaving k why fits AwaitingConnect w = []
-in_leaving k why fits Closed w = []
+in_leaving conn why fits (ConnectedAs key terms last_activity) work =
+    in_will key (will_after why terms.will) fits (when_over conn why key terms work)
+in_leaving conn why fits AwaitingConnect work = []
+in_leaving conn why fits Closed work = []
 
 abbrev pub in_close : Conn → HubClose → Bool → Work → List Placing
-in_close k why fits w = in_leaving k why fits (stage_of k w.hub.connections) w
+in_close conn why fits work = in_leaving conn why fits (stage_of conn work.hub.connections) work
 
--- those that are due by what an end tells: of a message that is handed on (3.3.5), and the retained ones (3.3.1.3)
+-- the copies that an end's report makes due: of a published message (3.3.5), and of retained
+-- messages (3.3.1.3)
 abbrev pub in_answer : ℕ → Happening → Work → List Placing
-in_answer key (happens.Handed m) w = in_share (acts.Took key m) m w
-in_answer key (happens.Subscribe i requests) w =
-    placings (retained_copies key requests w.hub.retained) (does key (subacks i (granted requests)) (subscribed key requests w))
-in_answer key other w = []
+in_answer key (happens.Handed message) work = in_share (acts.Took key message) message work
+in_answer key (happens.Subscribe identifier requests) work =
+    placings (retained_copies key requests work.hub.retained) (does key (subacks identifier (granted requests)) (subscribed key requests work))
+in_answer key other work = []
 
 abbrev pub in_answers : Conn → ℕ → List Happening → Work → List Placing
-in_answers k key [] w = []
-in_answers k key (first ∷ later) w = in_answer key first w ++ in_answers k key later (answers k key first w)
+in_answers conn key [] work = []
+in_answers conn key (first ∷ later) work = in_answer key first work ++ in_answers conn key later (answers conn key first work)
 
 -- ---- a step
 
--- a packet comes on a connection that is up: its end closes it, or tells what is due, where no session is too full for that
+-- a packet on a connected connection: its end closes the connection, a session has no room, or the
+-- due copies are placed
 abbrev pub in_replies : Conn → ℕ → (End → Reply) → Option CloseReason → Bool → Work → List Placing
-in_replies k key move (Some reason) fits w = in_close k (Own reason) fits (put_on k (move (end_of key w.hub.sessions)).out w)
-in_replies k key move None fits w =
-    if have_room (due key w.hub (move (end_of key w.hub.sessions)).happenings) w.hub
-    then in_answers k key (move (end_of key w.hub.sessions)).happenings (does key move w)
-    else in_close k TargetFull fits w
+in_replies conn key move (Some reason) fits work =
+    in_close conn (Own reason) fits (put_on conn (move (end_of key work.hub.sessions)).out work)
+in_replies conn key move None fits work =
+    if have_room (due key work.hub (move (end_of key work.hub.sessions)).happenings) work.hub
+    then in_answers conn key (move (end_of key work.hub.sessions)).happenings (does key move work)
+    else in_close conn TargetFull fits work
 
--- a connection is taken over (3.1.4)
+-- another connection of the client is closed (3.1.4)
 abbrev pub in_take_over : Option Conn → Bool → Work → List Placing
-in_take_over None fits w = []
-in_take_over (Some old) fits w = in_close old TakenOver fits w
+in_take_over None fits work = []
+in_take_over (Some old) fits work = in_close old TakenOver fits work
 
--- a CONNECT is refused, or takes another connection over
+-- a CONNECT is refused, or closes another connection of its client
 abbrev pub in_welcome : Conn → Option ℕ → Option RefusalCode → Bool → Work → List Placing
-in_welcome k stands (Some code) fits w = in_close k (Own (reasons.Refused code)) fits (put_on k (packets.ConnAck (connacks.Refused code) ∷ []) w)
-in_welcome k None None fits w = []
-in_welcome k (Some key) None fits w = in_take_over (up_on key w.hub.connections) fits w
+in_welcome conn stands (Some code) fits work =
+    in_close conn (Own (reasons.Refused code)) fits (put_on conn (packets.ConnAck (connacks.Refused code) ∷ []) work)
+in_welcome conn None None fits work = []
+in_welcome conn (Some key) None fits work = in_take_over (up_on key work.hub.connections) fits work
 
--- the first packet
+-- the first packet of a connection
 abbrev pub in_first : Conn → Packet → Bool → Work → List Placing
-in_first k (packets.Connect c) fits w = in_welcome k (key_of (client_of c w.hub.sessions) w.hub.sessions) (refusal c w.hub) fits w
-in_first k p fits w = in_close k (Own reasons.Unexpected) fits w
+in_first conn (packets.Connect connect) fits work =
+    in_welcome conn (key_of (client_of connect work.hub.sessions) work.hub.sessions) (refusal connect work.hub) fits work
+in_first conn packet fits work = in_close conn (Own reasons.Unexpected) fits work
 
--- a packet on a connection that is so far
+-- a packet in each state of its connection
 abbrev pub in_packet : Conn → Packet → Bool → ConnectionState → Work → List Placing
-in_packet k p fits AwaitingConnect w = in_first k p fits w
-in_packet k p fits (ConnectedAs key terms last_activity) w = in_replies k key (server_gets p) (server_gets p (end_of key w.hub.sessions)).close fits w
-in_packet k p fits Closed w = []
+in_packet conn packet fits AwaitingConnect work = in_first conn packet fits work
+in_packet conn packet fits (ConnectedAs key terms last_activity) work =
+    in_replies conn key (server_gets packet) (server_gets packet (end_of key work.hub.sessions)).close fits work
+in_packet conn packet fits Closed work = []
 
--- a whole packet comes, with memory or without
+-- a packet, with memory for it or without
 abbrev pub in_takes : Conn → Packet → Growth → Work → List Placing
-in_takes k p g w =
-    if g.fits then in_packet k p g.will_fits (stage_of k w.hub.connections) (touched_on k w) else in_close k (Own reasons.Memory) g.will_fits w
+in_takes conn packet growth work =
+    if growth.fits then in_packet conn packet growth.will_fits (stage_of conn work.hub.connections) (touched_on conn work)
+    else in_close conn (Own reasons.Memory) growth.will_fits work
 
--- bytes that are no packet come
+-- bytes that are malformed
 abbrev pub in_breaks : Conn → Option CloseReason → Bool → Work → List Placing
-in_breaks k None fits w = []
-in_breaks k (Some reason) fits w = in_close k (Own reason) fits w
+in_breaks conn None fits work = []
+in_breaks conn (Some reason) fits work = in_close conn (Own reason) fits work
 
--- these bytes come
-abbrev pub in_comes : (limits : Bounds) (k : Conn) (b : List ℕ) (w w2 : Work) → Comes limits k b w w2 → List Placing
-in_comes limits k b w w2 (Arrives p first rest g v v2 on reads more) = in_takes k p g v ++ in_comes limits k rest (takes k p g v) v2 more
-in_comes limits k b w w2 (Waits c v on pending) = []
-in_comes limits k b w w2 (Breaks c fault fits v on faulty) = in_breaks k (broken k fault v).close fits (put_on k (broken k fault v).out v)
-in_comes limits k b w w2 (Starves c fits v on some) = in_close k (Own reasons.Memory) fits v
-in_comes limits k b w w2 (LetsGo c v closed) = []
+-- the copies that these bytes place
+abbrev pub in_comes : (limits : Bounds) (conn : Conn) (bytes : List ℕ) (start stop : Work) → Comes limits conn bytes start stop → List Placing
+in_comes limits conn bytes start stop (Arrives packet first rest growth work last on reads more) =
+    in_takes conn packet growth work ++ in_comes limits conn rest (takes conn packet growth work) last more
+in_comes limits conn bytes start stop (Waits rest work on pending) = []
+in_comes limits conn bytes start stop (Breaks rest fault fits work on faulty) =
+    in_breaks conn (broken conn fault work).close fits (put_on conn (broken conn fault work).out work)
+in_comes limits conn bytes start stop (Starves rest fits work on some) = in_close conn (Own reasons.Memory) fits work
+in_comes limits conn bytes start stop (LetsGo rest work closed) = []
 
--- it is this moment
-abbrev pub in_ticks : (now : ℕ) (xs : List HubConnection) (w w2 : Work) → Ticks now xs w w2 → List Placing
-in_ticks now xs w w2 (Done v) = []
-in_ticks now xs w w2 (InTime x ys v v2 soon more) = in_ticks now ys v v2 more
-in_ticks now xs w w2 (Late x ys fits v v2 late more) =
-    in_close x.conn (Own reasons.KeepAlive) fits v ++ in_ticks now ys (close x.conn (Own reasons.KeepAlive) fits v) v2 more
+-- the copies that a tick places
+abbrev pub in_ticks : (now : ℕ) (xs : List HubConnection) (start stop : Work) → Ticks now xs start stop → List Placing
+in_ticks now xs start stop (Done work) = []
+in_ticks now xs start stop (InTime x ys work last soon more) = in_ticks now ys work last more
+in_ticks now xs start stop (Late x ys fits work last late more) =
+    in_close x.conn (Own reasons.KeepAlive) fits work ++ in_ticks now ys (close x.conn (Own reasons.KeepAlive) fits work) last more
 
 -- the copies that a step places
-abbrev pub in_step : (h : HubState) (e : HubEvent) (r : HubReply) (w : Work) → Does h e r w → List Placing
-in_step h (Opened k) r w d = []
-in_step h (Bytes k piece) r w d = in_comes h.config.limits k (held_on k h.connections ++ piece) (holding k [] (begin h)) w d.0
-in_step h (Ended k) r w d = if is_open (stage_of k h.connections) then in_close k PeerEnded d.0 (begin h) else []
-in_step h (Tick now) r w d = in_ticks (max h.clock now) h.connections (begin (told now h)) w d.0
-in_step h (Collect k) r w d = []
+abbrev pub in_step : (hub : HubState) (event : HubEvent) (reply : HubReply) (work : Work) → Does hub event reply work → List Placing
+in_step hub (Opened conn) reply work does = []
+in_step hub (Bytes conn piece) reply work does =
+    in_comes hub.config.limits conn (held_on conn hub.connections ++ piece) (holding conn [] (begin hub)) work does.0
+in_step hub (Ended conn) reply work does =
+    if is_open (stage_of conn hub.connections) then in_close conn PeerEnded does.0 (begin hub) else []
+in_step hub (Tick now) reply work does = in_ticks (max hub.clock now) hub.connections (begin (told now hub)) work does.0
+in_step hub (Collect conn) reply work does = []
 
 pub record AcceptLaws : Type 0 where
-  -- at each moment of a run a client's identifiers in use are from 1 to 65,535, each is in use once, and they are within the capacity
-  pub books : (config : HubConfig) → config.capacity ≤ 65535 → (es : List Episode) (h : HubState) → Follows (new_hub config) es h
-      → (key : ℕ) → IsSoundEnd config.capacity (end_of key h.sessions)
-  -- at each step of a run each copy of quality of service 1 or 2 that is placed is accepted
-  pub accepts : (config : HubConfig) → config.capacity ≤ 65535 → (before : List Episode) (h : HubState) → Follows (new_hub config) before h
-      → (e : HubEvent) (r : HubReply) (w : Work) → event_refusal e h ≡ None → (d : Does h e r w) → AreAccepts (in_step h e r w d)
-  -- and these copies are those that the acts of the step say are placed, in order
-  pub placed_are : (config : HubConfig) → config.capacity ≤ 65535 → (before : List Episode) (h : HubState) → Follows (new_hub config) before h
-      → (e : HubEvent) (r : HubReply) (w : Work) → event_refusal e h ≡ None → (d : Does h e r w)
-      → (c : ℕ) → placed c r.acts ≡ placed_for c (in_step h e r w d)
+  -- at each time in a run, the identifiers in use of a client are from 1 to 65,535, distinct, and
+  -- at most the capacity
+  pub books : (config : HubConfig) → config.capacity ≤ 65535 → (episodes : List Episode) (hub : HubState) → Follows (new_hub config) episodes hub
+      → (key : ℕ) → IsSoundEnd config.capacity (end_of key hub.sessions)
+  -- in each step of a run, each placed copy of QoS 1 or 2 is accepted
+  pub accepts : (config : HubConfig) → config.capacity ≤ 65535 → (before : List Episode) (hub : HubState) → Follows (new_hub config) before hub
+      → (event : HubEvent) (reply : HubReply) (work : Work) → event_refusal event hub ≡ None → (does : Does hub event reply work) → AreAccepts (in_step hub event reply work does)
+  -- these copies are those that the acts of the step report, in order
+  pub placed_are : (config : HubConfig) → config.capacity ≤ 65535 → (before : List Episode) (hub : HubState) → Follows (new_hub config) before hub
+      → (event : HubEvent) (reply : HubReply) (work : Work) → event_refusal event hub ≡ None → (does : Does hub event reply work)
+      → (client : ℕ) → placed client reply.acts ≡ placed_for client (in_step hub event reply work does)

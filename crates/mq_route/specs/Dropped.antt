@@ -1,6 +1,6 @@
--- When a will is dropped (3.1.2.5).
-use Rattle.std.specs.Prelude.{◌≡◌, ◌⊎◌, ℕ, Bool, false, List, [], ◌∷◌, ◌++◌, max, Some, None}
-use Rattle.std.specs.List.{flat_map}
+-- Why a will is dropped (3.1.2.5).
+use Rattle.std.specs.Prelude.{◌≡◌, ◌⊎◌, ℕ, ◌==◌, Bool, true, false, List, [], ◌∷◌, ◌++◌, max, Some, None}
+use Rattle.std.specs.List.{flat_map, list_any}
 use Rattle.mq_packet.specs.declared.connect.Will.{Will}
 use Rattle.mq_decode.specs.Limits.{Bounds}
 use Rattle.mq_end.specs.declared.reason.CloseReason.TheVariants as reasons
@@ -38,50 +38,57 @@ dropped_by (acts.Removed c) = []
 abbrev pub dropped : List Act → List ℕ
 dropped log = flat_map dropped_by log
 
--- when a connection that is up for a client is closed, and the session has ended where it is to
-abbrev pub when_over : Conn → HubClose → ℕ → ConnectionTerms → Work → Work
-when_over k why key terms w =
-    remove_if terms.clean_session key (with_sessions (with_end key (over (end_of key w.hub.sessions))) (said (acts.Closed k why) (shut k w)))
+abbrev pub is_in : ℕ → List ℕ → Bool
+is_in client clients = list_any (λ c. c == client) clients
 
--- A connection is closed while sessions and subscriptions are as they are here, and its client has a will (3.1.2.5). There is no memory for
--- it; or when the connection is over, some session that a copy of it is due for has too few identifiers free (2.3.1).
-pub record LosesWill (fits : Bool) (w : Work) : Type 0 where
-  pub at : Work
-  pub sessions : at.hub.sessions ≡ w.hub.sessions
-  pub rows : at.hub.rows ≡ w.hub.rows
+-- a client's connection is closed, and its session is disconnected, or removed after clean session
+-- 1
+abbrev pub when_over : Conn → HubClose → ℕ → ConnectionTerms → Work → Work
+when_over conn why key terms work =
+    remove_if terms.clean_session key (with_sessions (with_end key (over (end_of key work.hub.sessions))) (said (acts.Closed conn why) (shut conn work)))
+
+-- The client is connected and has a will, and its connection closes (3.1.2.5). Either an allocation
+-- for the will fails; or, after the close, a session has too few packet identifiers free for its
+-- copies of the will (2.3.1).
+pub record LosesWill (client : ℕ) (fits : Bool) (work : Work) : Type 0 where
   pub conn : Conn
   pub why : HubClose
-  pub key : ℕ
   pub terms : ConnectionTerms
   pub last_activity : ℕ
-  pub up : stage_of conn at.hub.connections ≡ ConnectedAs key terms last_activity
+  pub connected : stage_of conn work.hub.connections ≡ ConnectedAs client terms last_activity
   pub will : Will
   pub has : will_after why terms.will ≡ Some will
-  pub short : let after = when_over conn why key terms at in (fits ≡ false) ⊎ (have_room (copies_of (will_message will) after.hub) after.hub ≡ false)
+  pub short : let after = when_over conn why client terms work in (fits ≡ false) ⊎ (have_room (copies_of (will_message will) after.hub) after.hub ≡ false)
 
--- a connection that closes while these bytes come loses its will
-abbrev pub ComesLosing : (limits : Bounds) (k : Conn) (b : List ℕ) (w w2 : Work) → Comes limits k b w w2 → Type 0
-ComesLosing limits k b w w2 (Arrives p first rest g v v2 on reads more) = LosesWill g.will_fits v ⊎ ComesLosing limits k rest (takes k p g v) v2 more
-ComesLosing limits k b w w2 (Waits c v on pending) = ⊥
-ComesLosing limits k b w w2 (Breaks c fault fits v on faulty) = LosesWill fits v
-ComesLosing limits k b w w2 (Starves c fits v on some) = LosesWill fits v
-ComesLosing limits k b w w2 (LetsGo c v closed) = ⊥
+-- the client loses its will at one of the packets in these bytes, or at a fault
+abbrev pub ComesLosing : ℕ → (limits : Bounds) (conn : Conn) (bytes : List ℕ) (start stop : Work) → Comes limits conn bytes start stop → Type 0
+ComesLosing client limits conn bytes start stop (Arrives packet first rest growth work last on reads more) =
+    LosesWill client growth.will_fits work ⊎ ComesLosing client limits conn rest (takes conn packet growth work) last more
+ComesLosing client limits conn bytes start stop (Waits rest work on pending) = ⊥
+ComesLosing client limits conn bytes start stop (Breaks rest fault fits work on faulty) = LosesWill client fits work
+ComesLosing client limits conn bytes start stop (Starves rest fits work on some) = LosesWill client fits work
+ComesLosing client limits conn bytes start stop (LetsGo rest work closed) = ⊥
 
--- one of the late connections does
-abbrev pub TicksLosing : (now : ℕ) (xs : List HubConnection) (w w2 : Work) → Ticks now xs w w2 → Type 0
-TicksLosing now xs w w2 (Done v) = ⊥
-TicksLosing now xs w w2 (InTime x ys v v2 soon more) = TicksLosing now ys v v2 more
-TicksLosing now xs w w2 (Late x ys fits v v2 late more) = LosesWill fits v ⊎ TicksLosing now ys (close x.conn (Own reasons.KeepAlive) fits v) v2 more
+-- the client loses its will when one of the late connections closes
+abbrev pub TicksLosing : ℕ → (now : ℕ) (xs : List HubConnection) (start stop : Work) → Ticks now xs start stop → Type 0
+TicksLosing client now xs start stop (Done work) = ⊥
+TicksLosing client now xs start stop (InTime x ys work last soon more) = TicksLosing client now ys work last more
+TicksLosing client now xs start stop (Late x ys fits work last late more) =
+    LosesWill client fits work ⊎ TicksLosing client now ys (close x.conn (Own reasons.KeepAlive) fits work) last more
 
--- a connection that closes in the event does
-abbrev pub IsLosingEvent : (h : HubState) (e : HubEvent) (r : HubReply) (w : Work) → Does h e r w → Type 0
-IsLosingEvent h (Opened k) r w d = ⊥
-IsLosingEvent h (Bytes k piece) r w d = ComesLosing h.config.limits k (held_on k h.connections ++ piece) (holding k [] (begin h)) w d.0
-IsLosingEvent h (Ended k) r w d = LosesWill d.0 (begin h)
-IsLosingEvent h (Tick now) r w d = TicksLosing (max h.clock now) h.connections (begin (told now h)) w d.0
-IsLosingEvent h (Collect k) r w d = ⊥
+-- the client loses its will in the event
+abbrev pub IsLosingEvent : ℕ → (hub : HubState) (event : HubEvent) (reply : HubReply) (work : Work) → Does hub event reply work → Type 0
+IsLosingEvent client hub (Opened conn) reply work does = ⊥
+IsLosingEvent client hub (Bytes conn piece) reply work does =
+    ComesLosing client hub.config.limits conn (held_on conn hub.connections ++ piece) (holding conn [] (begin hub)) work does.0
+IsLosingEvent client hub (Ended conn) reply work does = LosesWill client does.0 (begin hub)
+IsLosingEvent client hub (Tick now) reply work does =
+    TicksLosing client (max hub.clock now) hub.connections (begin (told now hub)) work does.0
+IsLosingEvent client hub (Collect conn) reply work does = ⊥
 
 pub record WillLaws : Type 0 where
-  -- at each step of a run: a will is dropped only where there is no memory for it, or a session that is to get it is too full
-  pub drops : (config : HubConfig) (before : List Episode) (h : HubState) → Follows (new_hub config) before h
-      → (e : HubEvent) (r : HubReply) (w : Work) → event_refusal e h ≡ None → (d : Does h e r w) → (dropped w.did ≡ []) ⊎ IsLosingEvent h e r w d
+  -- in each step of a run, a client whose will is dropped has a reason: a failed allocation, or a
+  -- session without room for a copy
+  pub drops : (config : HubConfig) (before : List Episode) (hub : HubState) → Follows (new_hub config) before hub
+      → (event : HubEvent) (reply : HubReply) (work : Work) → event_refusal event hub ≡ None → (does : Does hub event reply work)
+      → (client : ℕ) → is_in client (dropped work.did) ≡ true → IsLosingEvent client hub event reply work does

@@ -1,4 +1,4 @@
--- HubStep: what comes of an event (4.2, 4.6, 4.8).
+-- HubStep: the result of an event (4.2, 4.6, 4.8).
 use Rattle.std.specs.Prelude.{◌≡◌, ℕ, ◌<◌, Bool, true, false, max, List, [], ◌∷◌, ◌++◌, length, Option, Some, None, if◌then◌else◌}
 use Rattle.mq_packet.specs.declared.packet.Packet.{Packet}
 use Rattle.mq_decode.specs.declared.fault.DecodeFault.{DecodeFault}
@@ -19,39 +19,41 @@ use Rattle.mq_route.specs.Hub.{HubState, HubConnection, knows, stage_of, held_on
 use Rattle.mq_route.specs.Work.{Work, begin, with_connections, close}
 use Rattle.mq_route.specs.Arrives.{Growth, takes, on_malformed}
 
--- ---- bytes that come
+-- ---- incoming bytes
 
 abbrev pub is_open_on : Conn → Work → Bool
 is_open_on k w = is_open (stage_of k w.hub.connections)
 
--- a connection holds these bytes of a packet that isn't whole
+-- the connection holds the bytes of an incomplete packet
 abbrev pub holding : Conn → List ℕ → Work → Work
 holding k b w = with_connections (with_connection (λ x. record x { held = b }) k) w
 
--- These bytes come on a connection: the whole packets among them one after another, up to one at which it closes, and the rest.
+-- Bytes arrive on a connection: its packets are processed one after another, until one closes the
+-- connection, and then the rest.
 pub data Comes (limits : Bounds) (k : Conn) : List ℕ → Work → Work → Type 0 where
-  -- a whole packet stands at the front, and comes first
+  -- the bytes begin with a packet, which is processed first
   Arrives : (p : Packet) (first rest : List ℕ) (g : Growth) (w w2 : Work) → is_open_on k w ≡ true → ReadsWithin limits p first
       → Comes limits k rest (takes k p g w) w2 → Comes limits k (first ++ rest) w w2
-  -- they are less than a whole packet, and are held
+  -- the bytes are an incomplete packet, and are held
   Waits : (b : List ℕ) (w : Work) → is_open_on k w ≡ true → Pending limits b → Comes limits k b w (holding k b w)
-  -- they begin with what is no packet
+  -- the bytes begin with a malformed packet
   Breaks : (b : List ℕ) (fault : DecodeFault) (fits : Bool) (w : Work) → is_open_on k w ≡ true → Faulty limits b fault.kind fault.place
       → Comes limits k b w (on_malformed k fault fits w)
-  -- there are some, and no memory for them
+  -- there are bytes, and an allocation for them fails
   Starves : (b : List ℕ) (fits : Bool) (w : Work) → is_open_on k w ≡ true → 0 < length b → Comes limits k b w (close k (Own reasons.Memory) fits w)
-  -- the connection is closed, and lets them go
+  -- the connection is closed, and ignores the bytes
   LetsGo : (b : List ℕ) (w : Work) → is_open_on k w ≡ false → Comes limits k b w w
 
 -- ---- time
 
--- a connection that is up is late (3.1.2.10)
+-- a connected client is late (3.1.2.10)
 abbrev pub is_late_on : ℕ → ConnectionState → Bool
 is_late_on now AwaitingConnect = false
 is_late_on now (ConnectedAs key terms last_activity) = is_late last_activity terms.keep_alive now
 is_late_on now Closed = false
 
--- The late ones among these connections are closed one after another, in the order in which they were opened (3.1.2.10).
+-- The late ones among these connections are closed one after another, in the order in which they
+-- were opened (3.1.2.10).
 pub data Ticks (now : ℕ) : List HubConnection → Work → Work → Type 0 where
   Done : (w : Work) → Ticks now [] w w
   InTime : (x : HubConnection) (xs : List HubConnection) (w w2 : Work) → is_late_on now x.stage ≡ false → Ticks now xs w w2 → Ticks now (x ∷ xs) w w2
@@ -60,7 +62,8 @@ pub data Ticks (now : ℕ) : List HubConnection → Work → Work → Type 0 whe
 
 -- ---- events
 
--- why an event is refused, memory aside: its connection is not known, or is already (4.2)
+-- why an event is refused, unless an allocation fails: its connection is unknown, or known already
+-- (4.2)
 abbrev pub event_refusal : HubEvent → HubState → Option HubRefusal
 event_refusal (Opened k) h = if knows k h.connections then Some refusals.ConnInUse else None
 event_refusal (Bytes k piece) h = if knows k h.connections then None else Some refusals.UnknownConn
@@ -68,7 +71,7 @@ event_refusal (Ended k) h = if knows k h.connections then None else Some refusal
 event_refusal (Tick now) h = None
 event_refusal (Collect k) h = if knows k h.connections then None else Some refusals.UnknownConn
 
--- what comes of a step: what was done, no bytes
+-- a reply with the acts of a step and without output
 abbrev pub done : Bool → Work → HubReply
 done alive w = record { acts = w.did; output = []; alive = alive }
 
@@ -80,19 +83,19 @@ abbrev pub ended_open : Conn → Bool → Bool → Work → Work
 ended_open k true fits w = close k PeerEnded fits w
 ended_open k false fits w = w
 
--- a connection that is over is closed, where it is open, and then not known any more
+-- a connection that ends is closed if it is open, and then forgotten
 abbrev pub ended : Conn → Bool → HubState → Work
 ended k fits h = with_connections (without_connection k) (ended_open k (is_open (stage_of k h.connections)) fits (begin h))
 
--- the bytes that wait are taken
+-- the pending output is taken
 abbrev pub collected : Conn → HubState → HubState
 collected k h = record h { connections = with_connection (λ x. record x { waiting = [] }) k h.connections }
 
--- the clock is the greatest moment so far
+-- the clock is the latest time so far
 abbrev pub told : ℕ → HubState → HubState
 told now h = record h { clock = max h.clock now }
 
--- What comes of an event, by its kind.
+-- The result of an event, by its kind.
 abbrev pub Does : HubState → HubEvent → HubReply → Work → Type 0
 Does h (Opened k) r w = (w ≡ begin (opened k h)) × (r ≡ done true w)
 Does h (Bytes k piece) r w =
@@ -102,7 +105,7 @@ Does h (Tick now) r w = Ticks (max h.clock now) h.connections (begin (told now h
 Does h (Collect k) r w =
     (w ≡ begin (collected k h)) × (r ≡ record { acts = []; output = waiting_on k h.connections; alive = is_open (stage_of k h.connections) })
 
--- HubStep: this reply and this broker come of an event.
+-- HubStep: an event results in this reply and this broker.
 pub record HubStep (h : HubState) (e : HubEvent) (r : HubReply) (h2 : HubState) : Type 0 where
   pub right : event_refusal e h ≡ None
   pub work : Work
