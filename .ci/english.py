@@ -51,10 +51,8 @@ NOUN_FILES = ["mq_hub"]
 NOUNS = {"retained"}
 # Crates, files and folders that are not rewritten yet.
 NOT_YET = {
-    "mq_book_tests", "mq_client", "mq_client_tests", "mq_hub",
-    "mq_programs", "bench/loopback.sh",
-    "bench/loopback_load.c", "bench/refuse.c", "bench/same_tests.c", ".ci/interop",
-    ".ci/printed.py", ".ci/refusals",
+    "bench/loopback.sh", "bench/loopback_load.c", "bench/refuse.c", "bench/same_tests.c",
+    ".ci/interop", ".ci/printed.py", ".ci/refusals",
 }
 
 PARTICIPLES = set(

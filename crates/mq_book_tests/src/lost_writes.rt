@@ -30,9 +30,9 @@ const LEAVES: [&[u8]; 3] = [
     b"\xc0\x00",
 ];
 
-// The number of writes to the second client that succeed. Then the number of entries of the journal,
-// the bytes that were written to the second client, and those that were written to the first one
-// when it connects again: its session, the message if it arrived, and the will.
+// The number of writes to the second client that succeed. Then the number of entries of the
+// journal, the bytes that were written to the second client, and those that were written to the
+// first one when it connects again: its session, the message if it arrived, and the will.
 const ROWS: [(u32, &str); 4] = [
     (0, "17  200201003206000177000178"),
     (1, "19 20020000 2002010032060001740001783206000177000278"),

@@ -17,8 +17,8 @@ use std::test::Fail;
 // A receipt: its worker, its place, and whether the connection is open after the step.
 type Row = (u16, u64, bool);
 
-// Lists of receipts, and whether they are in a journal with one entry: at place 0, worker 7 opened a
-// connection.
+// Lists of receipts, and whether they are in a journal with one entry: at place 0, worker 7 opened
+// a connection.
 const ROWS: [(&[Row], bool); 7] = [
     (&[], true),
     (&[(7, 0, true)], true),

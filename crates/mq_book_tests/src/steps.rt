@@ -26,8 +26,8 @@ pub(crate) enum Happens {
     Seals,
 }
 
-// A full journal refuses each step that the broker doesn't refuse. The next journal goes on at the
-// next place.
+// A full journal refuses each step that the broker doesn't refuse. The next journal continues at
+// the next place.
 const ROWS: [(Happens, &str); 9] = [
     (Happens::Says(9), "the connection is not known"),
     (Happens::Opens(0), "place 0"),

@@ -62,7 +62,7 @@ keeps_then a b c asks more x y z r p q =
       misses = q.misses;
     }
 
--- and then a write, after which the program goes on or stops
+-- and then a write, after which the program continues or stops
 pub keeps_still : (a b c : Moment) (asks : List Ask) (x y : List Happening) (r : Result ⊤ ClientError) → Keeps a b asks x y (Ok tt) → Went b c [] [] [] → closes_of r ≡ [] → Keeps a c asks x y r
 keeps_still a b c asks x y r k w p = record {
   told = k.told;
@@ -121,7 +121,7 @@ unack_none a b asks told w none = record {
   silent = Keeps-refl b.written;
 }
 
--- bytes came, and nothing was sent
+-- bytes arrived, and nothing was sent
 pub unack_more : (a b c : Moment) (x y : List Happening) (r : Result ⊤ ClientError) → Unacknowledged a b → Keeps b c [] x y r → Silent b.written c.written → Unacknowledged a c
 unack_more a b c x y r u k silent = record {
   last = u.last;

@@ -1,4 +1,4 @@
--- Sessions that go on.
+-- Sessions that continue.
 use Rattle.std.proofs.Common.{◌≡◌, ◌⊎◌, ◌∙◌, List, ℕ, Option, Result, Ok, Err, IfErr, IfOk, inl, inr, ◌++◌, ap, refl, false}
 use Rattle.std.proofs.KnownBytes.{Appends-kept, Appends-trans}
 use Rattle.std.specs.Prelude.{IsErrOf}

@@ -52,8 +52,8 @@ handed (happens.SubAck id given) = []
 handed (happens.UnsubAck id) = []
 handed happens.Pong = []
 
--- No happening is missing, and the result reports why the end closed. Only if memory ran out, the happenings of the last
--- read may be missing.
+-- No happening is missing, and the result reports why the end closed. Only if memory ran out, the
+-- happenings of the last read may be missing.
 abbrev pub Misses : Result ⊤ ClientError → List Happening → List CloseReason → Type 0
 Misses (Err Memory) rest reasons = ⊤
 Misses r rest reasons = (rest ≡ []) × Closes r reasons
@@ -87,8 +87,8 @@ pub record Unacknowledged (a b : Moment) : Type 0 where
   pub after : Went last b more rest reasons
   pub silent : Silent last.written b.written
 
--- The output failed. Every message until `last` is printed after a first line, and nothing was sent since. So a
--- message that may not be printed is not acknowledged (4.3.2, 4.3.3).
+-- The output failed. Every message until `last` is printed after a first line, and nothing was sent
+-- since. So a message that may not be printed is not acknowledged (4.3.2, 4.3.3).
 pub record Unprinted (a b : Moment) (line : List ℕ) (old new : Option (List ℕ)) : Type 0 where
   pub last : Moment
   pub asks : List Ask
@@ -112,7 +112,7 @@ abbrev pub IsNeeded : ClientState → ℕ → ℕ → Type 0
 IsNeeded c delivered count =
     (delivered < count) ⊎ ((c.link.end.received ≡ none_received → ⊥) ⊎ (is_up c.link.end.state ≡ false))
 
--- Nothing was read, or the last read was needed: before it, there was a reason to go on.
+-- Nothing was read, or the last read was needed: before it, there was a reason to continue.
 pub record IsJust (a : Moment) (told : List Happening) (count : ℕ) : Type 0 where
   pub last : Moment
   pub before : List Happening
@@ -121,8 +121,8 @@ pub record IsJust (a : Moment) (told : List Happening) (count : ℕ) : Type 0 wh
   pub went : Went a last [] before []
   pub needed : (after ≡ []) ⊎ IsNeeded last.client (length (flat_map handed before)) count
 
--- The happenings are printed. If all went well, at least `count` messages were delivered, and no more than that took;
--- every message is released (4.3.3), and the end is connected.
+-- The happenings are printed. If all went well, at least `count` messages were delivered, and no
+-- more than that took; every message is released (4.3.3), and the end is connected.
 pub record Gathers (a b : Moment) (old new : Option (List ℕ)) (count : ℕ) (r : Result ⊤ ClientError) : Type 0 where
   pub told : List Happening
   pub reasons : List CloseReason
@@ -134,8 +134,9 @@ pub record Gathers (a b : Moment) (old new : Option (List ℕ)) (count : ℕ) (r
   pub released : OnOk r (b.client.link.end.received ≡ none_received)
   pub up : OnOk r (is_up b.client.link.end.state ≡ true)
 
--- A connection began, and the subscription was requested once and granted. At least `count` messages were delivered, and
--- no more than that took; all are released. Then the client left. `subscribed` is printed, and then each message.
+-- A connection began, and the subscription was requested once and granted. At least `count`
+-- messages were delivered, and no more than that took; all are released. Then the client left.
+-- `subscribed` is printed, and then each message.
 pub record Collected (a b : Moment) (clean : Bool) (goal : CollectGoal) (text : List ℕ) : Type 0 where
   pub granted : Moment
   pub last : Moment
@@ -154,8 +155,8 @@ pub record Collected (a b : Moment) (clean : Bool) (goal : CollectGoal) (text : 
 abbrev pub IsFirstLine : List ℕ → List Happening → Type 0
 IsFirstLine line told = (line ≡ []) ⊎ ((line ≡ subscribed_line) × IsAnswered true told)
 
--- The program stopped early. Each message that was delivered is printed, in order, and then why the program stopped.
--- Only if memory ran out, the messages of the last read may be missing.
+-- The program stopped early. Each message that was delivered is printed, in order, and then why the
+-- program stopped. Only if memory ran out, the messages of the last read may be missing.
 pub record CollectHalts (a b : Moment) (clean : Bool) (goal : CollectGoal) (halt : ClientError) (text : List ℕ) : Type 0 where
   pub asks : List Ask
   pub told : List Happening

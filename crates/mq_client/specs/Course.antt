@@ -1,5 +1,6 @@
--- What a client end at a stream does: the calls of it, in order, the bytes that it received and sent, the times that
--- its clock reported, and the sessions that were saved before bytes were sent (3.1 to 3.14, 4.1, 4.2).
+-- What a client end at a stream does: the calls of it, in order, the bytes that it received and
+-- sent, the times that its clock reported, and the sessions that were saved before bytes were sent
+-- (3.1 to 3.14, 4.1, 4.2).
 use Rattle.std.specs.Prelude.{◌≡◌, ℕ, Bool, true, false, List, [], ◌∷◌, ◌++◌, Option, None, Result, Ok, Err, option_to_list}
 use Rattle.std.specs.List.{flat_map}
 use Rattle.std.specs.Io.KnownBytes.{Appends, Consumes}
@@ -17,8 +18,9 @@ use Rattle.mq_end.specs.Requests.{Requests, Ticks}
 use Rattle.mq_client.specs.declared.error.ClientError.{ClientError}
 use Rattle.mq_client.specs.Keeping.{Holds, saved_of}
 
--- A client end at a stream. The bytes that are to come, the bytes that were sent, the session that is saved and the
--- times that the clock reported are there if they are known. `quiet` counts the last reads that brought nothing.
+-- A client end at a stream. The bytes that are to come, the bytes that were sent, the session that
+-- is saved and the times that the clock reported are there if they are known. `quiet` counts the
+-- last reads that brought nothing.
 pub record Moment : Type 0 where
   pub client : ClientState
   pub coming : Option (List ℕ)
@@ -27,7 +29,8 @@ pub record Moment : Type 0 where
   pub times : Option (List ℕ)
   pub quiet : ℕ
 
--- a request of the user: a connection, with clean session or not (3.1), a publication (3.3) or a subscription (3.8)
+-- a request of the user: a connection, with clean session or not (3.1), a publication (3.3) or a
+-- subscription (3.8)
 pub data Ask : Type 0 where
   Opening : Bool → Ask
   Publication : Message → Ask
@@ -38,7 +41,8 @@ pub data Ask : Type 0 where
 pub data Step : Type 0 where
   -- a connection begins at this time, with clean session or not (3.1)
   Connect : ℕ → Bool → Step
-  -- The client is told this time (3.1.2.10) and then receives bytes. The happenings follow, and why it closes, if it does.
+  -- The client is told this time (3.1.2.10) and then receives bytes. The happenings follow, and why
+  -- it closes, if it does.
   Hear : ℕ → List ℕ → List Happening → Option CloseReason → Step
   -- a message is published (3.3)
   Publish : Message → Step
@@ -144,9 +148,10 @@ abbrev pub closed : Step → List CloseReason
 closed (Hear now bytes happenings why) = option_to_list why
 closed s = []
 
--- Between two moments the end ran through steps, with these requests, happenings and reasons to close. It received the
--- bytes that came over the stream. The bytes that were sent are its output, and before each write the session was saved
--- as it was then. Every time that it was told is the next report of the clock.
+-- Between two moments the end ran through steps, with these requests, happenings and reasons to
+-- close. It received the bytes that came over the stream. The bytes that were sent are its output,
+-- and before each write the session of that moment was saved. Every time that it was told is the
+-- next report of the clock.
 pub record Went (a b : Moment) (asks : List Ask) (happenings : List Happening) (reasons : List CloseReason) : Type 0 where
   pub steps : List Step
   pub runs : Runs a.client steps b.client

@@ -1,7 +1,8 @@
 -- Named files, and what a crash may leave of them.
 use Rattle.std.specs.Prelude.{◌≡◌, ◌⊎◌, ⊤, ℕ, Bool, true, false, List, [], ◌∷◌, ◌++◌, Option, Some, None}
 
--- A file as a crash leaves it: none, or some bytes. The flag says whether the bytes are on the disk for certain.
+-- A file as a crash leaves it: none, or some bytes. The flag says whether the bytes are on the disk
+-- for certain.
 abbrev pub Entry : Type 0
 Entry = Option (Bool × List ℕ)
 
@@ -89,8 +90,8 @@ abbrev pub stands_of : Option (List Entry) → Option (List ℕ)
 stands_of None = None
 stands_of (Some entries) = bytes_of (present entries)
 
--- These bytes are on the disk. They were so before, or the history of the file grew by them alone: a crash at any time
--- leaves the file as it was before, or these bytes.
+-- These bytes are on the disk. They were so before, or the history of the file grew by them alone:
+-- a crash at any time leaves the earlier file or these bytes.
 abbrev pub Replaced : Option (List Entry) → Option (List Entry) → List ℕ → Type 0
 Replaced None new form = new ≡ None
 Replaced (Some a) None form = ⊥

@@ -29,8 +29,8 @@ abbrev pub closes_of : {T : Type 0} → Result T ClientError → List CloseReaso
 closes_of (Ok done) = []
 closes_of (Err error) = halt_closes error
 
--- The end closed for these reasons, and the error says so. Only a session that could not be saved, or for which memory
--- ran out, is reported in place of a reason.
+-- The end closed for these reasons, and the error says so. Only a session that could not be saved,
+-- or for which memory ran out, is reported in place of a reason.
 abbrev pub Reports : ClientError → List CloseReason → Type 0
 Reports SaveError reasons = ⊤
 Reports Memory reasons = ⊤

@@ -1,4 +1,4 @@
--- The client of the programs, and the session that it goes on with.
+-- The client of the programs, and the session that it continues with.
 use Rattle.std.specs.Prelude.{◌≡◌, None, List, ℕ}
 use Rattle.mq_decode.specs.Limits.{strict}
 use Rattle.mq_flow.specs.declared.saved.Saved.{Saved}
@@ -34,7 +34,7 @@ pub record GoesOn (id bytes : List ℕ) (c : ClientState) : Type 0 where
       resumed None saved.established saved.session.sender.book saved.session.receiver saved.session.sender.last
   pub capacity : c.link.capacity ≡ saved.session.sender.capacity
 
--- These bytes are the saved form of a session that a client with this identifier can go on with.
+-- These bytes are the saved form of a session that a client with this identifier can continue with.
 pub record CanGoOn (id bytes : List ℕ) (saved : Saved) : Type 0 where
   pub session : IsSession saved.session
   pub form : IsSavedAs saved bytes

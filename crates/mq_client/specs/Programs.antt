@@ -29,13 +29,15 @@ IsMessagesDone id clean goal status text =
     ((a : Moment) × (b : Moment) × IsNewClient id a.client × IsCollectDone a b clean goal status text)
     ⊎ HaltsBefore status text
 
--- a connection with a clean session discarded the session that the server had of this client (3.1.2.4)
+-- a connection with a clean session discarded the session that the server had of this client
+-- (3.1.2.4)
 abbrev pub IsDiscarded : List ℕ → Type 0
 IsDiscarded id =
     (a : Moment) × (b : Moment) × (t : Publications) × IsNewClient id a.client × (t.texts.now ≡ []) × Published a b true t
 
--- A client with this identifier. If there is no file of this name, it is new, and the server's session was discarded.
--- Otherwise it has the session that the bytes of the file are the saved form of.
+-- A client with this identifier. If there is no file of this name, it is new, and the server's
+-- session was discarded. Otherwise it has the session that the bytes of the file are the saved form
+-- of.
 abbrev pub IsClientOf : Option (List ℕ → List Entry) → List ℕ → List ℕ → ClientState → Type 0
 IsClientOf files name id c =
     (IsMissing files name × IsNewClient id c × IsDiscarded id)

@@ -22,7 +22,8 @@ asks_of t = map (λ text. Publication (text_message t text.now)) t.texts.now
 abbrev pub publishes : Bool → Publications → List Ask
 publishes clean t = Opening clean ∷ asks_of t
 
--- The first `count` of these requests were made, in order, and no other. The end closed for these reasons.
+-- The first `count` of these requests were made, in order, and no other. The end closed for these
+-- reasons.
 pub record AskedFirst (a b : Moment) (all : List Ask) (count : ℕ) (reasons : List CloseReason) : Type 0 where
   pub told : List Happening
   pub went : Went a b (take count all) told reasons
@@ -33,7 +34,8 @@ pub record AskedMore (a b : Moment) (all : List Ask) (from to : ℕ) : Type 0 wh
   pub went : Went a b more [] []
   pub parts : take to all ≡ take from all ++ more
 
--- All these requests were made, in order, and no other. Everything is acknowledged, and the end is connected.
+-- All these requests were made, in order, and no other. Everything is acknowledged, and the end is
+-- connected.
 pub record AskedAll (a b : Moment) (all : List Ask) : Type 0 where
   pub told : List Happening
   pub went : Went a b all told []
@@ -46,7 +48,8 @@ pub record Published (a b : Moment) (clean : Bool) (t : Publications) : Type 0 w
   pub asked : AskedAll a last (publishes clean t)
   pub leaves : Leaves last b
 
--- The program stopped early: a front of these requests was made, in order, and no other. The error reports why.
+-- The program stopped early: a front of these requests was made, in order, and no other. The error
+-- reports why.
 abbrev pub PublishHalts : Moment → Moment → List Ask → ClientError → Type 0
 PublishHalts a b all halt =
     (told : List Happening) × (reasons : List CloseReason) × WentFirst a b all told reasons × Reports halt reasons
@@ -57,11 +60,12 @@ IsPublishDone a b clean t status text =
     (Published a b clean t × (status ≡ 0) × (text ≡ published_line (length t.texts.now)))
     ⊎ ((halt : ClientError) × PublishHalts a b (publishes clean t) halt × (status ≡ halt_status halt) × (text ≡ halt_line halt))
 
--- the number of messages of a session that are not acknowledged, or released and not completed (4.3.2, 4.3.3)
+-- the number of messages of a session that are not acknowledged, or released and not completed
+-- (4.3.2, 4.3.3)
 abbrev pub resumed_of : End → ℕ
 resumed_of e = length e.book.entries + length e.book.released
 
--- the status and the lines of `publish` that goes on with a session
+-- the status and the lines of a `publish` that continues with a session
 abbrev pub IsResumeDone : Moment → Moment → Publications → ℕ → List ℕ → Type 0
 IsResumeDone a b t status text =
     (rest : List ℕ) × (text ≡ resumed_line (resumed_of a.client.link.end) ++ rest) × IsPublishDone a b false t status rest

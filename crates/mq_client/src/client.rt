@@ -31,7 +31,7 @@ pub enum LoadFailure {
     /// The file could not be read.
     #[error("the file was not read")]
     Unread,
-    /// Its bytes are not a session that the client can go on with.
+    /// Its bytes are not a session that the client can continue with.
     #[error("{0}")]
     Session(LoadError),
     /// An allocation failed.

@@ -141,7 +141,8 @@ fn await_up<S: Stream, C: Clock, K: SessionSaver>(
     Err(ClientError::Lost)
 }
 
-// Sends the output, unless a message is delivered: it is printed before its acknowledgement is sent.
+// Sends the output, unless a message is delivered: it is printed before its acknowledgement is
+// sent.
 fn send<S: Stream, C: Clock, K: SessionSaver>(
     peer: &mut Peer<S, C, K>,
     kept: &[Happening],

@@ -26,8 +26,8 @@ pub trait Dial<S: Stream, C: Clock> {
     fn dial(&mut self) -> Result<Connection<S, C>, Broken>;
 }
 
-/// Makes connections to a port of 127.0.0.1. A read waits at most 100 milliseconds for bytes, a write
-/// at most 30 seconds for room.
+/// Makes connections to a port of 127.0.0.1. A read waits at most 100 milliseconds for bytes, a
+/// write at most 30 seconds for room.
 #[derive(Drop)]
 pub struct Loopback<'a, R: Net + time::Clock> {
     /// The system.

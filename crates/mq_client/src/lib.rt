@@ -7,7 +7,7 @@
 //! A [`Peer`] is a client end at a stream. Its contracts say that the calls of the end explain the
 //! bytes that were received and sent.
 //!
-//! A call that can fail for lack of memory says so in its return type; other calls never allocate.
+//! A call that may allocate says so in its return type; other calls never allocate.
 //! On `Err` the receiver is unchanged unless stated otherwise.
 #![tactic(auto)]
 

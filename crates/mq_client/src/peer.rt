@@ -22,8 +22,8 @@ use std::marker::Model;
 /// The maximum number of bytes of a read.
 const CHUNK: usize = 4096;
 
-/// The maximum number of bytes of a read until the client is connected: the length of CONNACK (3.2).
-/// So the read that completes CONNACK completes no PUBLISH that needs an acknowledgement.
+/// The maximum number of bytes of a read until the client is connected: the length of CONNACK
+/// (3.2). So the read that completes CONNACK completes no PUBLISH that needs an acknowledgement.
 const FIRST_CHUNK: usize = 4;
 
 /// The connection counts as lost after this many reads in a row that bring nothing.

@@ -118,7 +118,7 @@ fn discard_session<S: Stream + Drop, C: Clock + Drop, D: Dial<S, C>>(
     done
 }
 
-// Why a program ends before it goes on with a session.
+// Why a program ends before it continues with a session.
 #[derive(Clone, Copy)]
 enum Unstarted {
     LoadFailure(LoadFailure),

@@ -105,7 +105,8 @@ pub fn publish_all<S: Stream, C: Clock, K: SessionSaver>(
     peer.leave()
 }
 
-/// Does the same, and prints the number of texts or why it stopped. Returns the status of the program.
+/// Does the same, and prints the number of texts or why it stopped. Returns the status of the
+/// program.
 pub fn publish<S: Stream, C: Clock, K: SessionSaver, W: Write>(
     alloc: Global,
     peer: &mut Peer<S, C, K>,
@@ -125,8 +126,8 @@ pub fn publish<S: Stream, C: Clock, K: SessionSaver, W: Write>(
     }
 }
 
-/// Goes on with a session: prints the number of its messages that are sent again (4.4), and publishes
-/// texts without a clean session. Returns the status of the program.
+/// Continues with a session: prints the number of its messages that are sent again (4.4), and
+/// publishes texts without a clean session. Returns the status of the program.
 pub fn resume<S: Stream, C: Clock, K: SessionSaver, W: Write>(
     alloc: Global,
     peer: &mut Peer<S, C, K>,

@@ -28,8 +28,8 @@ fn collected(alloc: Global, line: Line, count: u32) -> Result<String, Fail> {
     told_of(alloc, &mut peer, &goal)
 }
 
-// A name, the reads, the number of messages that are wanted; and the status with the printed text and
-// the written bytes.
+// A name, the reads, the number of messages that are wanted; and the status with the printed text
+// and the written bytes.
 type Row = (&'static str, &'static str, u32, &'static str);
 
 // Messages that are collected.

@@ -1,4 +1,5 @@
-//! Comparing texts with the wanted ones. Nothing else is alive here, and nothing in the loops over rows.
+//! Comparing texts with the wanted ones. Nothing else is alive here, and nothing in the loops over
+//! rows.
 
 use std::process::Abort;
 use std::test::Fail;

@@ -1,5 +1,5 @@
-//! Tests of the two client programs, over a scripted stream and over a server end, and of sessions in
-//! a file, on a disk in memory.
+//! Tests of the two client programs, over a scripted stream and over a server end, and of sessions
+//! in a file, on a disk in memory.
 #![tactic(auto)]
 
 #[cfg(test)]

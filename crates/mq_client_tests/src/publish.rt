@@ -29,8 +29,8 @@ fn published(alloc: Global, line: Line, qos: Qos, texts: &str) -> Result<String,
     told_of(alloc, &mut peer, &texts)
 }
 
-// A name, the reads, the quality of service, the texts; and the status with the printed text and the
-// written bytes.
+// A name, the reads, the quality of service, the texts; and the status with the printed text and
+// the written bytes.
 type Row = (&'static str, &'static str, Qos, &'static str, &'static str);
 
 // Texts that are published.

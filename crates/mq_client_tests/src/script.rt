@@ -10,10 +10,10 @@ use mq_wire::Text;
 use std::alloc::{AllocError, Global};
 use std::test::Fail;
 
-/// A stream whose reads give the bytes of `reads`, which are words of hexadecimal digits. A read gives
-/// the bytes of at most one word; for `-` it gives none. Before each word, `pauses` reads give none.
-/// After the last word the stream ends, or, if `is_quiet`, gives no more bytes. Bytes that are written
-/// are remembered, up to the write `fails_at`, which fails.
+/// A stream whose reads give the bytes of `reads`, which are words of hexadecimal digits. A read
+/// gives the bytes of at most one word; for `-` it gives none. Before each word, `pauses` reads
+/// give none. After the last word the stream ends, or, if `is_quiet`, gives no more bytes. Bytes
+/// that are written are remembered, up to the write `fails_at`, which fails.
 #[derive(Drop)]
 pub(crate) struct Script {
     pub(crate) alloc: Global,

@@ -13,8 +13,9 @@ use std::alloc::Global;
 use std::process::Abort;
 use std::test::Fail;
 
-// A server end that answers at once. A read gives at most `most` bytes. It grants each subscription and
-// publishes a message of each quality of service to it. It remembers the payloads that it receives.
+// A server end that answers at once. A read gives at most `most` bytes. It grants each subscription
+// and publishes a message of each quality of service to it. It remembers the payloads that it
+// receives.
 #[derive(Drop)]
 struct Served {
     alloc: Global,
@@ -109,8 +110,8 @@ fn peer_of(alloc: Global, most: usize) -> Result<Peer<Served, Steps, NoSaver>, F
     Ok(Peer::new(client, served, Steps { now: 0, step: 1 }, NoSaver))
 }
 
-// The status and output of a publication, and the payloads that the server received. A read gives at
-// most `most` bytes.
+// The status and output of a publication, and the payloads that the server received. A read gives
+// at most `most` bytes.
 fn published(alloc: Global, qos: Qos, most: usize) -> Result<String, Fail> {
     let topic = TopicName::parse(alloc, "a/b")?;
     let texts = Publications {

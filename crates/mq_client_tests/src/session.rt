@@ -150,8 +150,8 @@ fn a_session_goes_on(rt: &impl Abort, alloc: Global) -> Result<(), Fail> {
     Ok(())
 }
 
-// A run in which a write is lost after `cut` of its bytes, and a second run with these texts; and the
-// state after it.
+// A run in which a write is lost after `cut` of its bytes, and a second run with these texts; and
+// the state after it.
 fn lost_at(alloc: Global, lost_at: u32, cut: usize, again: &[&str]) -> Result<String, Fail> {
     let disk = Disk::new(alloc, None);
     let mut side = Side::new(alloc)?;
@@ -166,8 +166,8 @@ fn lost_at(alloc: Global, lost_at: u32, cut: usize, again: &[&str]) -> Result<St
     Ok(told)
 }
 
-// The connection is lost at each write in turn: CONNECT and DISCONNECT with a clean session, CONNECT,
-// the PUBLISHes, the PUBRELs, DISCONNECT. Each text is delivered once in all.
+// The connection is lost at each write in turn: CONNECT and DISCONNECT with a clean session,
+// CONNECT, the PUBLISHes, the PUBRELs, DISCONNECT. Each text is delivered once in all.
 fn each_text_is_handed_on_once(rt: &impl Abort, alloc: Global) -> Result<(), Fail> {
     let rows: [(u32, &[&str], &str); 6] = [
         (
@@ -218,8 +218,8 @@ fn writes_of(side: &RefCell<Side>) -> u32 {
     }
 }
 
-// A run on a disk that takes `renames` forms, and a second run on one that takes all; and the number
-// of writes of the first run.
+// A run on a disk that takes `renames` forms, and a second run on one that takes all; and the
+// number of writes of the first run.
 fn unwritten(alloc: Global, renames: u32, again: &[&str]) -> Result<String, Fail> {
     let disk = Disk::new(alloc, None);
     disk.renames.set(renames);
@@ -234,8 +234,8 @@ fn unwritten(alloc: Global, renames: u32, again: &[&str]) -> Result<String, Fail
     Ok(told)
 }
 
-// The disk takes no form, one form, and so on: of CONNECT, CONNACK, the PUBLISHes, the PUBRECs and the
-// PUBCOMPs. Without its form nothing is sent, so that the second run delivers each text once.
+// The disk takes no form, one form, and so on: of CONNECT, CONNACK, the PUBLISHes, the PUBRECs and
+// the PUBCOMPs. Without its form nothing is sent, so that the second run delivers each text once.
 fn a_form_is_not_written(rt: &impl Abort, alloc: Global) -> Result<(), Fail> {
     let rows: [(u32, &[&str], &str); 5] = [
         (

@@ -11,8 +11,8 @@ use std::alloc::Global;
 use std::cell::RefCell;
 use std::test::Fail;
 
-/// A server end of one client. Its session outlives its connections. It remembers the payloads that it
-/// receives. The write `lost_at` is lost after `cut` bytes, and the connection with it.
+/// A server end of one client. Its session outlives its connections. It remembers the payloads that
+/// it receives. The write `lost_at` is lost after `cut` bytes, and the connection with it.
 #[derive(Drop)]
 pub(crate) struct Side {
     pub(crate) server: ServerEnd,

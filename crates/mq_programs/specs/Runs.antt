@@ -24,13 +24,13 @@ pub record IsGoalOf (words : Collect) (w : CollectGoal) : Type 0 where
   pub qos : w.qos ≡ words.qos
   pub count : w.count ≡ words.count
 
--- the argument is no topic name, or no topic filter, and this is its first fault
+-- the argument is not a topic name, or no topic filter, and this is its first fault
 abbrev pub IsBadTopic : List ℕ → Option TopicFault → ℕ → List ℕ → Type 0
 IsBadTopic kind found status text =
     (fault : TopicFault) × (found ≡ Some fault) × (status ≡ 2) × (text ≡ topic_line kind fault)
 
--- The texts are published: over the session in the file that the arguments name, or over a clean session if they name
--- none.
+-- The texts are published: over the session in the file that the arguments name, or over a clean
+-- session if they name none.
 abbrev pub IsPublished : Publish → ℕ → List ℕ → Type 0
 IsPublished words status text =
     (t : Publications) × AreTextsOf words t × MatchOption words.session (IsTextsDone words.id.now t status text)

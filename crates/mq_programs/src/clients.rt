@@ -31,7 +31,7 @@ fn identifier(alloc: Global, id: &str) -> Result<Text, Failure>
     }
 }
 
-// Writes that an argument is no topic name, or no topic filter.
+// Writes that an argument is not a topic name, or no topic filter.
 fn write_bad_topic<W: Write>(output: &mut W, kind: &str, fault: TopicFault) -> io::Result<()>
     ensures { OnOk result
         (Appends (W.contents output.old) (W.contents output.new) (topic_line kind.now fault)) }

@@ -1,7 +1,7 @@
-//! The commands `publish`, `collect`, `serve` and `loopback`, over the sockets and files of the system
-//! and into any output.
+//! The commands `publish`, `collect`, `serve` and `loopback`, over the sockets and files of the
+//! system and into any output.
 //!
-//! A call that can fail for lack of memory says so in its return type; other calls never allocate.
+//! A call that may allocate says so in its return type; other calls never allocate.
 //! On `Err` the receiver is unchanged unless stated otherwise.
 #![tactic(auto)]
 

@@ -115,9 +115,9 @@ impl<S: FilterStore> HubOver<S> {
         self.tables.connections.in_time_until().checked_add(1)
     }
 
-    /// Sets the clock to this time, in milliseconds, and closes each connection whose client sent no
-    /// packet for more than one and a half times its keep-alive (3.1.2.10). Reserves the memory for
-    /// all of these closes before the first one.
+    /// Sets the clock to this time, in milliseconds, and closes each connection whose client sent
+    /// no packet for more than one and a half times its keep-alive (3.1.2.10). Reserves the memory
+    /// for all of these closes before the first one.
     pub(crate) fn on_tick(&mut self, now: u64) -> Result<HubReply, HubRefusal>
         ensures step { IfOk result (λ reply. HubStep self.old (HubEvent.Tick now) reply self.new) }
         ensures memory { IfErr result (λ why. why ≡ HubRefusal.Memory) }
