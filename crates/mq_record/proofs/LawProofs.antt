@@ -61,6 +61,26 @@ no_stop (x ∷ events) (y ∷ before) rest fault all all2 same more is =
     let next = next_same x y (entry_bytes events) (entry_bytes before ++ rest) all.0 all2.0 (same ∙ append_assoc (event_bytes y) (entry_bytes before) rest) in
     no_stop events before rest fault all.1 all2.1 next.1 more is
 
+never_both : (event : HubEvent) (rest b : List ℕ) (fault : RecordFault) → is_recorded event ≡ true → b ≡ event_bytes event ++ rest
+    → read_event b ≡ Err fault → ⊥
+never_both event rest b fault is same err =
+    let bad : okay (event, length (event_bytes event)) ≡ failed fault = sym (event_again event rest is) ∙ ap read_event (sym same) ∙ err in
+    absurd (cc)
+
+one_stop : (events before : List HubEvent) (rest more : List ℕ) (fault other : RecordFault) → AreRecorded events → AreRecorded before
+    → entry_bytes events ++ rest ≡ entry_bytes before ++ more → read_event rest ≡ Err fault → read_event more ≡ Err other → fault ≡ other
+one_stop [] [] rest more fault other all all2 same is is2 =
+    let both : failed fault ≡ failed other = sym is ∙ ap read_event same ∙ is2 in
+    cc
+one_stop [] (y ∷ before) rest more fault other all all2 same is is2 =
+    absurd (never_both y (entry_bytes before ++ more) rest fault all2.0 (same ∙ append_assoc (event_bytes y) (entry_bytes before) more) is)
+one_stop (x ∷ events) [] rest more fault other all all2 same is is2 =
+    absurd (never_both x (entry_bytes events ++ rest) more other all.0 (sym same ∙ append_assoc (event_bytes x) (entry_bytes events) rest) is2)
+one_stop (x ∷ events) (y ∷ before) rest more fault other all all2 same is is2 =
+    let next = next_same x y (entry_bytes events ++ rest) (entry_bytes before ++ more) all.0 all2.0
+    (sym (append_assoc (event_bytes x) (entry_bytes events) rest) ∙ same ∙ append_assoc (event_bytes y) (entry_bytes before) more) in
+    one_stop events before rest more fault other all.1 all2.1 next.1 is is2
+
 -- tags
 never_tag : (b : List ℕ) (n : ℕ) (event : HubEvent) (t : ℕ) → if_whole b n event ≡ Err (Tag t) → ⊥
 never_tag b n event t is = elim (cases_Bool (nat_le n (length b))) [
@@ -226,11 +246,12 @@ pub laws : RecordLaws
 laws = record {
   again = event_again;
   found = λ b event size small is. event_found b event size small is;
-  one = one;
+  one = next_same;
   cut_again = cut_again;
   cut_found = cut_found;
   tag_again = tag_again;
   tag_found = tag_found;
+  one_fault = λ fault other b stop stop2. one_stop stop.events stop2.events stop.rest stop2.rest fault other stop.recorded stop2.recorded (sym stop.parts ∙ stop2.parts) stop.fault_is stop2.fault_is;
   one_entry = λ events others b first second. same_events events others first.recorded second.recorded (sym first.parts ∙ second.parts);
   no_fault = λ events fault b entry stop. no_stop events stop.events stop.rest fault entry.recorded stop.recorded (sym entry.parts ∙ stop.parts) stop.more stop.fault_is;
 }

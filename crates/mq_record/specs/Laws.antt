@@ -34,13 +34,14 @@ pub record RecordLaws : Type 0 where
   -- An encoded event is read back, whatever follows it.
   pub again : (event : HubEvent) (rest : List ℕ) → is_recorded event ≡ true
       → read_event (event_bytes event ++ rest) ≡ Ok (event, length (event_bytes event))
-  -- What is read as an event is its encoding.
+  -- If an event is read, the bytes begin with its encoding.
   pub found : (bytes : List ℕ) (event : HubEvent) (size : ℕ) → AreBytes bytes
       → read_event bytes ≡ Ok (event, size) → IsFront event size bytes
   -- No encoding is that of another event, or begins with one.
   pub one : (event other : HubEvent) (rest more : List ℕ)
       → is_recorded event ≡ true → is_recorded other ≡ true
-      → event_bytes event ++ rest ≡ event_bytes other ++ more → event ≡ other
+      → event_bytes event ++ rest ≡ event_bytes other ++ more
+      → (event ≡ other) × (rest ≡ more)
   -- `Cut` is read exactly of a proper prefix of an encoding.
   pub cut_again : (bytes : List ℕ) → IsCut bytes → read_event bytes ≡ Err Cut
   pub cut_found : (bytes : List ℕ) → AreBytes bytes → read_event bytes ≡ Err Cut → IsCut bytes
@@ -49,8 +50,10 @@ pub record RecordLaws : Type 0 where
       → read_event bytes ≡ Err (Tag tag)
   pub tag_found : (tag : ℕ) (bytes : List ℕ) → read_event bytes ≡ Err (Tag tag)
       → HasUnknownTag tag bytes
-  -- An entry is that of one list of events, and reading it does not fail.
+  -- An entry has one list of events, and reading it never fails. Other bytes have one fault.
   pub one_entry : (events others : List HubEvent) (bytes : List ℕ)
       → IsEntry events bytes → IsEntry others bytes → events ≡ others
   pub no_fault : (events : List HubEvent) (fault : RecordFault) (bytes : List ℕ)
       → IsEntry events bytes → StopsAt fault bytes → ⊥
+  pub one_fault : (fault other : RecordFault) (bytes : List ℕ)
+      → StopsAt fault bytes → StopsAt other bytes → fault ≡ other

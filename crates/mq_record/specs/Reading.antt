@@ -16,10 +16,14 @@ four_in bytes at = 65536 * number_in bytes at + number_in bytes (at + 2)
 abbrev pub eight_in : List ℕ → ℕ → ℕ
 eight_in bytes at = 4294967296 * four_in bytes at + four_in bytes (at + 4)
 
+-- the connection whose name these bytes begin with, and the piece behind it
 abbrev pub conn_in : List ℕ → Conn
 conn_in bytes = record { worker = number_in bytes 0; nth = four_in bytes 2 }
 
--- the event whose tag these bytes follow, with its size, if they are as many as it takes
+abbrev pub piece_in : List ℕ → List ℕ
+piece_in bytes = take (four_in bytes 6) (drop 10 bytes)
+
+-- `Cut` if fewer than `count` bytes follow the tag, else the event and its size with the tag
 abbrev pub if_whole : List ℕ → ℕ → HubEvent → Result (HubEvent × ℕ) RecordFault
 if_whole bytes count event = if nat_le count (length bytes) then Ok (event, count + 1) else Err Cut
 
@@ -27,7 +31,7 @@ if_whole bytes count event = if nat_le count (length bytes) then Ok (event, coun
 abbrev pub read_tagged : ℕ → List ℕ → Result (HubEvent × ℕ) RecordFault
 read_tagged tag bytes =
     if tag == 1 then if_whole bytes 6 (Opened (conn_in bytes)) else
-    (if tag == 2 then if_whole bytes (10 + four_in bytes 6) (Bytes (conn_in bytes) (take (four_in bytes 6) (drop 10 bytes))) else
+    (if tag == 2 then if_whole bytes (10 + four_in bytes 6) (Bytes (conn_in bytes) (piece_in bytes)) else
     (if tag == 3 then if_whole bytes 6 (Ended (conn_in bytes)) else
     (if tag == 4 then if_whole bytes 8 (Tick (eight_in bytes 0)) else Err (Tag tag))))
 

@@ -9,14 +9,14 @@
 //! | `Ended(conn)` | 3 | as for `Opened` |
 //! | `Tick(now)` | 4 | `now` in eight bytes |
 //!
-//! `Collect` is not recorded: it only takes pending output, and output that is pending in a crash is
-//! lost with its connection. [`is_recorded`] tests for it.
+//! `Collect` is not recorded. It only takes pending output, and a crash ends the connection on which
+//! it is pending. [`is_recorded`] tests for it.
 //!
 //! Record the events of an entry with [`encode_event`], one behind the other. [`decode_events`]
 //! reads the entry back.
 //!
-//! A call that can fail for lack of memory says so in its return type; other calls never allocate.
-//! On `Err` the receiver is unchanged unless stated otherwise.
+//! A call that allocates returns a `Result`; other calls never allocate. On `Err` the receiver is
+//! unchanged unless stated otherwise.
 #![tactic(auto)]
 
 mod decode;
@@ -24,6 +24,8 @@ mod encode;
 mod fault;
 mod laws;
 mod numbers;
+#[cfg(test)]
+mod tests;
 
 pub use crate::decode::{decode_event, decode_events};
 pub use crate::encode::{encode_event, is_recorded};

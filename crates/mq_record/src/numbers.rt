@@ -1,4 +1,4 @@
-//! Numbers of an event, and their arrays.
+//! The numbers of an event as bytes.
 
 ghost use Rattle.std.specs.Prelude.{◌≡◌, ◌+◌, ◌≤◌, ◌∷◌, ◌++◌, length};
 ghost use Rattle.mq_record.specs.Encoding.{conn_bytes, eight_bytes, four_bytes};
