@@ -56,7 +56,7 @@ pub record IsEntry (events : List HubEvent) (bytes : List ℕ) : Type 0 where
   pub recorded : AreRecorded events
   pub parts : bytes ≡ entry_bytes events
 
--- Behind the encodings of some events, the bytes go on, and reading fails with this fault.
+-- More bytes follow the encodings of some events, and reading them fails with this fault.
 pub record StopsAt (fault : RecordFault) (bytes : List ℕ) : Type 0 where
   pub events : List HubEvent
   pub rest : List ℕ

@@ -9,8 +9,8 @@
 //! | `Ended(conn)` | 3 | as for `Opened` |
 //! | `Tick(now)` | 4 | `now` in eight bytes |
 //!
-//! `Collect` is not recorded. It only takes pending output, and a crash ends the connection on which
-//! it is pending. [`is_recorded`] tests for it.
+//! `Collect` is not recorded. It only takes pending output, and a crash ends the connection on
+//! which it is pending. [`is_recorded`] tests for it.
 //!
 //! Record the events of an entry with [`encode_event`], one behind the other. [`decode_events`]
 //! reads the entry back.
