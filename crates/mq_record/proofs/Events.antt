@@ -1,17 +1,17 @@
 -- Events that are encoded and read back.
-use Rattle.std.proofs.Common.{◌≡◌, ◌≢◌, ◌⊎◌, inl, inr, ℕ, suc, ◌+◌, ◌*◌, ◌-◌, ◌<◌, ◌≤◌, Bool, true, false, List, [], ◌∷◌, ◌++◌, length, take, drop, get_or, refl, sym, ◌∙◌, ap, subst, arith, length-append, length-take, length-drop, append_assoc, take-append-drop, if◌then◌else◌, ◌==◌, nat_le, Result, Ok, Err}
-use Rattle.std.proofs.Math.Seq.{take-append_seam, drop-append_seam}
+use Rattle.std.proofs.Common.{◌≡◌, ◌≢◌, inl, inr, ℕ, suc, ◌+◌, ◌<◌, ◌≤◌, Bool, true, List, [], ◌∷◌, ◌++◌, length, take, drop, get_or, refl, sym, ◌∙◌, ap, subst, arith, length-append, length-take, length-drop, append_assoc, take-append-drop, if◌then◌else◌, nat_le, Result, Ok, Err}
+use Rattle.std.proofs.Math.Seq.{take-append_seam}
 use Rattle.std.proofs.lemmas.List.{append-nil, drop-drop, get_or-append-add}
-use Rattle.std.proofs.lemmas.Bool.{cases_eq, cases_Bool, le-leb, ne_eqb, leb-true, leb-false, false≢true}
+use Rattle.std.proofs.lemmas.Bool.{cases_eq, cases_Bool, le-leb, ne_eqb, leb-true, false≢true}
 use Rattle.mq_wire.specs.Bytes.{AreBytes}
 use Rattle.mq_route.specs.declared.conn.Conn.{Conn}
 use Rattle.mq_route.specs.declared.event.HubEvent.{HubEvent}
 use Rattle.mq_route.specs.declared.event.HubEvent.TheVariants.{Opened, Bytes, Ended, Tick, Collect}
 use Rattle.mq_record.specs.declared.fault.RecordFault.{RecordFault}
-use Rattle.mq_record.specs.declared.fault.RecordFault.TheVariants.{Cut, Tag, Memory}
+use Rattle.mq_record.specs.declared.fault.RecordFault.TheVariants.{Cut, Tag}
 use Rattle.mq_record.specs.Encoding.{four_bytes, eight_bytes, conn_bytes, event_bytes, entry_bytes, is_recorded}
 use Rattle.mq_record.specs.Reading.{four_in, eight_in, conn_in, if_whole, read_tagged, read_event, AreRecorded}
-use Rattle.mq_record.specs.Laws.{IsFront, HasUnknownTag}
+use Rattle.mq_record.specs.Laws.{IsFront}
 use Rattle.mq_record.proofs.Digits.{conn_law, four_law, eight_law, conn_again, eight_again, four_again}
 
 abbrev pub okay : HubEvent × ℕ → Result (HubEvent × ℕ) RecordFault

@@ -1,5 +1,5 @@
 -- Proofs of the laws of recorded events.
-use Rattle.std.proofs.Common.{◌≡◌, ◌≢◌, ◌⊎◌, inl, inr, ℕ, zero, suc, ◌+◌, ◌*◌, ◌-◌, ◌<◌, ◌≤◌, Bool, true, false, List, [], ◌∷◌, ◌++◌, length, take, drop, get_or, refl, sym, ◌∙◌, ap, subst, arith, length-append, append_assoc, if◌then◌else◌, nat_le, Result, Ok, Err}
+use Rattle.std.proofs.Common.{◌≡◌, ◌≢◌, inl, inr, ℕ, zero, suc, ◌+◌, ◌-◌, ◌<◌, ◌≤◌, Bool, true, List, [], ◌∷◌, ◌++◌, length, take, drop, get_or, refl, sym, ◌∙◌, ap, subst, arith, length-append, append_assoc, if◌then◌else◌, nat_le, Ok, Err}
 use Rattle.std.proofs.Math.Seq.{drop-append_seam}
 use Rattle.std.proofs.lemmas.List.{append-nil, drop_all, get_or_append_left}
 use Rattle.std.proofs.lemmas.Bool.{cases_Bool, leb-true, leb-false, false≢true}
@@ -8,10 +8,10 @@ use Rattle.mq_route.specs.declared.conn.Conn.{Conn}
 use Rattle.mq_route.specs.declared.event.HubEvent.{HubEvent}
 use Rattle.mq_route.specs.declared.event.HubEvent.TheVariants.{Opened, Bytes, Ended, Tick, Collect}
 use Rattle.mq_record.specs.declared.fault.RecordFault.{RecordFault}
-use Rattle.mq_record.specs.declared.fault.RecordFault.TheVariants.{Cut, Tag, Memory}
+use Rattle.mq_record.specs.declared.fault.RecordFault.TheVariants.{Cut, Tag}
 use Rattle.mq_record.specs.Encoding.{four_bytes, eight_bytes, conn_bytes, event_bytes, entry_bytes, is_recorded}
-use Rattle.mq_record.specs.Reading.{four_in, eight_in, conn_in, if_whole, read_tagged, read_event, AreRecorded, IsEntry, StopsAt}
-use Rattle.mq_record.specs.Laws.{IsFront, IsCut, HasUnknownTag, RecordLaws}
+use Rattle.mq_record.specs.Reading.{four_in, eight_in, conn_in, if_whole, read_tagged, read_event, AreRecorded}
+use Rattle.mq_record.specs.Laws.{IsCut, HasUnknownTag, RecordLaws}
 use Rattle.mq_record.proofs.Digits.{four_again}
 use Rattle.mq_record.proofs.Events.{okay, failed, whole, event_again, event_found, by_tag, unknown, some_bytes}
 

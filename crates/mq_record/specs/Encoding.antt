@@ -1,5 +1,5 @@
 -- The encoding of a recorded event: a tag, then its numbers in big-endian order.
-use Rattle.std.specs.Prelude.{ℕ, ◌/◌, ◌%◌, ◌^◌, Bool, true, false, nat_le, List, [], ◌∷◌, ◌++◌, length}
+use Rattle.std.specs.Prelude.{ℕ, ◌/◌, ◌%◌, Bool, true, false, nat_le, List, [], ◌∷◌, ◌++◌, length}
 use Rattle.std.specs.List.{flat_map}
 use Rattle.mq_wire.specs.Number.{number}
 use Rattle.mq_route.specs.declared.conn.Conn.{Conn}

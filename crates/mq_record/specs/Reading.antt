@@ -1,5 +1,5 @@
 -- Reading the event at the front of bytes, and reading a whole entry.
-use Rattle.std.specs.Prelude.{◌≡◌, ◌≢◌, ℕ, ◌+◌, ◌*◌, nat_le, ◌==◌, if◌then◌else◌, true, List, [], ◌∷◌, ◌++◌, take, drop, length, slice_index, Result, Ok, Err, IsOk}
+use Rattle.std.specs.Prelude.{◌≡◌, ◌≢◌, ℕ, ◌+◌, ◌*◌, nat_le, ◌==◌, if◌then◌else◌, true, List, [], ◌∷◌, ◌++◌, take, drop, length, Result, Ok, Err, IsOk}
 use Rattle.std.specs.List.{AllByRecursion}
 use Rattle.mq_wire.specs.Number.{number_in}
 use Rattle.mq_route.specs.declared.conn.Conn.{Conn}

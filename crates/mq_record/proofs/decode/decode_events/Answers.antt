@@ -1,4 +1,4 @@
-use Rattle.std.proofs.Common.{◌≡◌, ◌<◌, ◌≤◌, List, ℕ, [], ◌∷◌, ◌++◌, length, drop, ap, sym, ◌∙◌, subst, rules, arith, Ok}
+use Rattle.std.proofs.Common.{◌≡◌, List, ℕ, [], ◌∷◌, ◌++◌, drop, ap, sym, ◌∙◌, subst, rules, arith}
 use Rattle.mq_wire.specs.Bytes.{AreBytes}
 use Rattle.mq_route.specs.declared.event.HubEvent.{HubEvent}
 use Rattle.mq_record.specs.Encoding.{entry_bytes}
