@@ -4,7 +4,7 @@ use crate::compare::expect_told;
 use crate::disk::{Disk, Lent};
 use crate::script::bytes_of;
 use crate::side::{Dialer, Side};
-use mq_client::{Publications, SystemDisk, publish_session};
+use mq_client::{Publications, publish_session};
 use mq_topic::{Qos, TopicName};
 use mq_wire::Text;
 use std::alloc::Global;
@@ -27,7 +27,7 @@ fn run(alloc: Global, disk: &Disk, side: &RefCell<Side>, texts: &[&str]) -> Resu
         alloc,
         &id,
         &texts,
-        SystemDisk(&Lent(disk)),
+        Lent(disk),
         "s",
         &mut Dialer(side),
         &mut output,

@@ -31,7 +31,7 @@ use Rattle.mq_hub.specs.Inside.DeliveryPlan.{AreTablesAlike}
 use Rattle.mq_hub.proofs.ConnectionChange.{up_seen}
 use Rattle.mq_hub.proofs.Refinements.{goes_then}
 use Rattle.mq_hub.proofs.GrantedRows.{can_take}
-use Rattle.mq_hub.proofs.Rerooming as rooms
+use Rattle.mq_hub.proofs.OtherRoom as rooms
 use Rattle.mq_hub.proofs.DeliveryInvariant.{hub_alike, kept_alike}
 use Rattle.mq_hub.proofs.PacketSteps.{full_goes, kept_taken, taken_goes, telling_goes}
 
