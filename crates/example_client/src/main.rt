@@ -53,13 +53,13 @@ fn listen<S: Stream, C: Clock>(
                 client.subscribe(requests.clone()?)?;
             } else if let Happening::Handed(message) = happening {
                 println!(rt; "{}", message.topic.as_str())?;
-                printed = u32::min(printed + 1, wanted);
+                printed = u32::saturating_add(printed, 1);
             }
         }
         if let Some(reason) = progress.closed {
             anyhow::bail!("closed {}", reason.code());
         }
-        if printed == wanted {
+        if printed >= wanted {
             client.disconnect()?; // queues DISCONNECT behind the acknowledgements
             stream.write_all(client.take_all_output().as_slice())?;
             return Ok(());
