@@ -1,7 +1,7 @@
 //! The programs of command lines.
 
 use crate::fault::Fault;
-use mq_cli::{Command, Serve, command};
+use mq_cli::{Command, Serve, job};
 use mq_programs::{run_client, run_serve_on};
 use std::alloc::{AllocError, Global};
 use std::fs;
@@ -40,7 +40,7 @@ fn words_of<'a>(alloc: Global, line: &'a str, port: &'a str) -> Result<Vec<&'a s
 /// The broker of a command line.
 pub(crate) fn serve_of(alloc: Global, line: &str) -> Result<Serve, Fault> {
     let words = words_of(alloc, line, "0")?;
-    match command(alloc, words.as_slice())? {
+    match job(alloc, words.as_slice())? {
         Command::Serve(serve) => Ok(serve),
         _ => Err(Fault::Line),
     }
@@ -84,7 +84,7 @@ pub(crate) fn run_line<R: Net + Clock + Files>(
     }
     let port = format!(in alloc; "{port}")?;
     let words = words_of(alloc, line, port.as_str())?;
-    let command = command(alloc, words.as_slice())?;
+    let command = job(alloc, words.as_slice())?;
     let mut printed = Vec::new(alloc);
     let status = run_client(rt, alloc, &command, &mut printed)?;
     Ok(Ran { printed, status })
