@@ -2,9 +2,9 @@
  * A load for an MQTT 3.1.1 broker at 127.0.0.1. One thread runs all clients around one epoll.
  *
  *     broker_load PORT flow PUBLISHERS SUBSCRIBERS QOS BYTES SECONDS
- *         Publishers publish payloads of BYTES bytes (16 or more) for SECONDS seconds, as fast as the
- *         window allows. Prints the messages delivered in a second, to all subscribers together. If
- *         SUBSCRIBERS is 0, it prints the messages that the broker took in a second.
+ *         Publishers publish payloads of BYTES bytes (16 or more) for SECONDS seconds, as fast as
+ *         the window allows. Prints the messages delivered in a second, to all subscribers
+ *         together. If SUBSCRIBERS is 0, it prints the messages that the broker took in a second.
  *     broker_load PORT latency QOS IDLE
  *         The delay of 500 messages a second from one publisher to one subscriber, for 3 seconds,
  *         with IDLE further connections that do nothing.

@@ -3,10 +3,10 @@
 
     bench/brokers.py PROGRAM [--seconds S] [--rows TEXT] [--csv FILE]
 
-PROGRAM is the program mqtt. Each broker runs alone on processor 0, the load on the others. Each row is
-a run of bench/broker_load.c of S seconds (1 by default). --rows measures only rows whose name has TEXT.
---csv writes the rows to a file, from which bench/charts.py draws a chart. The columns: messages
-delivered in a second, the ratio to mosquitto, and the share of a processor that each broker used.
+PROGRAM is the program mqtt. Each broker runs alone on processor 0, the load on the others. Each row
+is a run of bench/broker_load.c of S seconds (1 by default). --rows measures only rows whose name
+has TEXT. --csv writes the rows to a file. The columns: messages delivered in a second and the share
+of a processor that the broker used, for each broker, and the ratio to mosquitto.
 """
 import argparse
 import os
