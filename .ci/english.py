@@ -50,10 +50,7 @@ CELL_WORDS = 12
 NOUN_FILES = ["mq_hub"]
 NOUNS = {"retained"}
 # Crates, files and folders that are not rewritten yet.
-NOT_YET = {
-    "bench/loopback.sh", "bench/loopback_load.c", "bench/refuse.c", "bench/same_tests.c",
-    ".ci/interop", ".ci/printed.py", ".ci/refusals",
-}
+NOT_YET = set()
 
 PARTICIPLES = set(
     "begun bound broken brought built chosen come done drawn driven fallen found given gone grown"
