@@ -491,7 +491,8 @@ def look(faults):
         if len(it.doc_hits) > most:
             lines = {line for line, _, _ in it.doc_hits}
             faults.extend(fault for line, fault in it.faults() if line in lines)
-            faults.append(f"{it.path}: {len(it.doc_hits)} hits in doc comments; the limit is {most}")
+            count = len(it.doc_hits)
+            faults.append(f"{it.path}: hits in doc comments or a page: {count}; the limit is {most}")
     for it in counted:
         faults.extend(f"{it.path}:{line}: prose of more than {WIDTH} columns" for line in it.wide)
         if it.path == "README.md":
