@@ -39,7 +39,7 @@ lib/libposkvari.a: $(shell .ci/lib --sources) $(wildcard $(lib_proved))
 
 lib/pkgconfig/poskvari.pc: Makefile
 	@mkdir -p lib/pkgconfig
-	@printf '%s\n' 'prefix=$(PREFIX)' 'Name: poskvari' 'Description: MQTT 3.1.1 packets and client' \
+	@printf '%s\n' 'prefix=$(PREFIX)' 'Name: poskvari' 'Description: MQTT 3.1.1 packets and topics' \
 	    'Version: 0' 'Libs: -L$${prefix}/lib -lposkvari' 'Cflags: -I$${prefix}/include' >$@
 
 # Tests the library and its examples.
@@ -100,7 +100,7 @@ install-lib: lib
 	install -m 644 lib/libposkvari.a $(DESTDIR)$(PREFIX)/lib/libposkvari.a
 	if test -f lib/libposkvari.so; then install -m 755 lib/libposkvari.so $(DESTDIR)$(PREFIX)/lib/; fi
 	install -m 644 include/poskvari.h $(DESTDIR)$(PREFIX)/include/poskvari.h
-	install -m 644 lib/pkgconfig/poskvari.pc $(DESTDIR)$(PREFIX)/lib/pkgconfig/poskvari.pc
+	sed 's|^prefix=.*|prefix=$(PREFIX)|' lib/pkgconfig/poskvari.pc >$(DESTDIR)$(PREFIX)/lib/pkgconfig/poskvari.pc
 
 # Runs the program with checks of each access to memory: make try ARGS='show c000'
 try:
