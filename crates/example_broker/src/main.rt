@@ -5,7 +5,7 @@
 use bytes::Bytes;
 use mq_decode::Limits;
 use mq_end::{ClientConfig, ClientEnd, Happening};
-use mq_hub::{Conn, Hub, HubConfig, HubEvent};
+use mq_hub::{Conn, Hub, HubConfig, HubEvent, WhenFull};
 use mq_packet::{Message, NonEmpty, Payload, Request};
 use mq_topic::{Qos, TopicFilter, TopicName};
 use mq_wire::Text;
@@ -100,6 +100,7 @@ fn run(rt: &HostRuntime) -> anyhow::Result<()> {
             max_conns: 10,
             max_sessions: 10,
             users: None,
+            when_full: WhenFull::ClosePublisher,
         },
     );
     let mut devices = [

@@ -3,7 +3,7 @@
 use crate::clients::{self, BATCH};
 use anyhow::{Context, ensure};
 use mq_decode::Limits;
-use mq_hub::{Conn, Hub, HubConfig, HubEvent};
+use mq_hub::{Conn, Hub, HubConfig, HubEvent, WhenFull};
 use mq_topic::Qos;
 use std::alloc::Global;
 use std::rt::Clock;
@@ -77,6 +77,7 @@ pub(crate) fn broker(alloc: Global) -> anyhow::Result<Hub> {
         max_conns: 1_000_000,
         max_sessions: 1_000_000,
         users: None,
+        when_full: WhenFull::ClosePublisher,
     };
     Ok(Hub::new(alloc, config))
 }

@@ -50,6 +50,7 @@ fn are_same_acts(one: &Act, other: &Act) -> bool
         }
         (Act::Took(key, message), Act::Took(key2, message2))
         | (Act::Placed(key, message), Act::Placed(key2, message2))
+        | (Act::Missed(key, message), Act::Missed(key2, message2))
         | (Act::Will(key, message), Act::Will(key2, message2)) => {
             key.get() == key2.get() && are_same_messages(message, message2)
         }

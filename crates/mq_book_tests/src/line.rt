@@ -3,7 +3,7 @@
 ghost use Rattle.std.specs.Prelude.{◌≡◌, ◌<◌, None, IfOk};
 
 use mq_decode::Limits;
-use mq_hub::HubConfig;
+use mq_hub::{HubConfig, WhenFull};
 use mq_stream::{Broken, Clock, ReadOutcome, Stream};
 use std::io::Read;
 use std::test::Fail;
@@ -63,5 +63,6 @@ pub(crate) fn config() -> Result<HubConfig, Fail>
         max_conns: 100,
         max_sessions: 100,
         users: None,
+        when_full: WhenFull::ClosePublisher,
     })
 }

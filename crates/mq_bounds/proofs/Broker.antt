@@ -30,7 +30,7 @@ use Rattle.mq_route.specs.Routed.{same_conn}
 use Rattle.mq_route.specs.Copies.{kept, will_message}
 use Rattle.mq_route.specs.Hub.{HubConnection, is_connection, changed, with_connection, held_on, stage_of, up_on, end_of, with_end, copies_of, key_of}
 use Rattle.mq_route.specs.Welcome.{client_of, ends_with, refusal}
-use Rattle.mq_route.specs.Work.{Work, said, with_connections, with_sessions, staged, shut, put_on, put_where, does, publishes_next, place, place_all, have_room, deliver, remove, last_will, will_after, remove_if, leaves_behind, close, subscribed, unsubscribed, retained_copies}
+use Rattle.mq_route.specs.Work.{Work, said, with_connections, with_sessions, staged, shut, put_on, put_where, does, publishes_next, is_missed, place, place_all, have_room, deliver, remove, last_will, will_after, remove_if, leaves_behind, close, subscribed, unsubscribed, retained_copies}
 use Rattle.mq_route.specs.Arrives.{Growth, due, granted, answers, answers_all, replies, greeting, terms_of, resume_session, new_session, start_session, take_over, goes_on, accept_connect, on_connect, on_first_packet, dispatch_packet, touched, touched_on, arrives, takes}
 use Rattle.mq_bounds.specs.Broker.{is_answer, answers_in}
 use Rattle.mq_bounds.proofs.Lengths.{connack_size}
@@ -135,7 +135,8 @@ module _ (k : Conn) where
       let e = end_of key w.hub.sessions in
       let a = does_spends key (publishes_next m) w in
       let none = published_none m.qos (next_identifier e.last e.book) m e in
-      record { out = let x = a.out in omega arith; held = a.held }
+      cond_both (is_missed key m w.hub) (said (acts.Missed key m) w) (said (acts.Placed key m) (does key (publishes_next m) w)) (Spends 0 w)
+      (λ is. record { out = omega arith; held = inl refl }) (λ is. record { out = let x = a.out in omega arith; held = a.held })
 
   place_all_spends : (copies : List (ℕ × Message)) (w : Work) → Spends 0 w (place_all copies w)
   place_all_spends [] w = still w

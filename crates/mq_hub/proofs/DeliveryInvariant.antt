@@ -152,7 +152,7 @@ all_filtered P p (x ∷ xs) all = go (p x) (all_filtered P p xs all.1)
     go true rest = (all.0, rest)
     go false rest = rest
 
-all_last : {X : Type 0} (P : X → Type 0) (xs : List X) (x : X) → AllByRecursion P xs → P x → AllByRecursion P (xs ++ x ∷ [])
+pub all_last : {X : Type 0} (P : X → Type 0) (xs : List X) (x : X) → AllByRecursion P xs → P x → AllByRecursion P (xs ++ x ∷ [])
 all_last P [] x all p = (p, tt)
 all_last P (y ∷ ys) x all p = (all.0, all_last P ys x all.1 p)
 

@@ -104,7 +104,7 @@ one_more i m sent b =
     let g = length-map b.entries (λ (e : Entry). e.id) in
     omega arith
 
-after_uses : (q : Qos) (i : ℕ) (m : Message) (e : End) → length (uses (publishes_at q i m e).end.book) ≡ cond (has_identifier q) 1 0 + length (uses e.book)
+pub after_uses : (q : Qos) (i : ℕ) (m : Message) (e : End) → length (uses (publishes_at q i m e).end.book) ≡ cond (has_identifier q) 1 0 + length (uses e.book)
 after_uses Q0 i m e = omega arith
 after_uses Q1 i m e = one_more i m (is_up e.state) e.book
 after_uses Q2 i m e = one_more i m (is_up e.state) e.book

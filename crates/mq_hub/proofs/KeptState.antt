@@ -27,7 +27,7 @@ use Rattle.mq_route.specs.Copies.{will_message}
 use Rattle.mq_route.specs.Hub.{HubState, HubConnection, changed, copies_of, end_of, is_connection, stage_of, up_on, with_end, with_connection}
 use Rattle.mq_route.specs.Routed.{same_conn}
 use Rattle.mq_route.specs.Welcome.{ends_with, refusal}
-use Rattle.mq_route.specs.Work.{Work, close, does, have_room, last_will, leaves_behind, place, place_all, publishes_next, put_on, put_where, remove}
+use Rattle.mq_route.specs.Work.{Work, close, does, have_room, is_missed, last_will, leaves_behind, place, place_all, publishes_next, put_on, put_where, remove}
 use Rattle.mq_route.specs.Work.{remove_if, retained_copies, said, deliver, shut, staged, subscribed, unsubscribed, will_after, with_sessions}
 use Rattle.mq_hub.specs.Inside.Refinement.{Refines}
 
@@ -80,7 +80,11 @@ firm_does key move w =
 
 firm_place : (key : ℕ) (m : Message) (w : Work) → IsFirm w (place key m w)
 unfolding place
-firm_place key m w = let p = firm_does key (publishes_next m) w in record { config = p.config; stage = p.stage }
+firm_place key m w =
+    let p = firm_does key (publishes_next m) w in
+    cond_both (is_missed key m w.hub) (said (acts.Missed key m) w) (said (acts.Placed key m) (does key (publishes_next m) w)) (λ (v : Work). IsFirm w v)
+    (λ e. record { config = refl; stage = λ k. refl })
+    (λ e. record { config = p.config; stage = p.stage })
 
 firm_place_all : (copies : List (ℕ × Message)) (w : Work) → IsFirm w (place_all copies w)
 firm_place_all [] w = firm_same w

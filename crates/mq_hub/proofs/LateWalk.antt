@@ -25,7 +25,7 @@ use Rattle.mq_route.specs.Hub.{HubState, HubConnection, changed, copies_of, end_
 use Rattle.mq_route.specs.Routed.{same_conn}
 use Rattle.mq_route.specs.Step.{HubStep, Ticks, is_late_on, told}
 use Rattle.mq_route.specs.Step.Ticks.{Done, InTime, Late}
-use Rattle.mq_route.specs.Work.{Work, begin, close, does, have_room, last_will, leaves_behind, place, place_all, publishes_next, put_on, put_where, remove}
+use Rattle.mq_route.specs.Work.{Work, begin, close, does, have_room, is_missed, last_will, leaves_behind, place, place_all, publishes_next, put_on, put_where, remove}
 use Rattle.mq_route.specs.Work.{remove_if, said, deliver, shut, will_after, with_sessions}
 use Rattle.mq_hub.specs.declared.sessions.session.BrokerSession.{BrokerSession}
 use Rattle.mq_hub.specs.Inside.Refinement.{Refines}
@@ -79,7 +79,10 @@ leaves_does key move w =
 
 leaves_place : (key : ℕ) (m : Message) (w : Work) → Leaves w (place key m w)
 unfolding place
-leaves_place key m w = leaves_does key (publishes_next m) w
+leaves_place key m w =
+    cond_both (is_missed key m w.hub) (said (acts.Missed key m) w) (said (acts.Placed key m) (does key (publishes_next m) w)) (Leaves w)
+    (λ e. refl)
+    (λ e. leaves_does key (publishes_next m) w)
 
 leaves_place_all : (copies : List (ℕ × Message)) (w : Work) → Leaves w (place_all copies w)
 leaves_place_all [] w = refl

@@ -55,3 +55,4 @@ pub mod ByteWalk
 pub mod LateWalk
 pub mod RunLemmas
 pub mod PendingBytes
+pub mod MissedCopies

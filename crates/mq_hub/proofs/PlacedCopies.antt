@@ -15,11 +15,11 @@ use Rattle.mq_route.specs.declared.connection_state.ConnectionState.TheVariants.
 use Rattle.mq_route.specs.Copies.{kept}
 use Rattle.mq_route.specs.Hub.{HubState, HubSession, HubConnection, copies_of, end_of, for_key, is_for, is_connection, knows, up_on, with_end, with_connection}
 use Rattle.mq_route.specs.Routed.{same_conn}
-use Rattle.mq_route.specs.Work.{Work, does, place, place_all, publishes_next, put_on, put_where, said, deliver, with_sessions}
+use Rattle.mq_route.specs.Work.{Work, does, is_missed, place, place_all, publishes_next, put_on, put_where, said, deliver, with_sessions}
 use Rattle.mq_hub.specs.declared.sessions.session.BrokerSession.{BrokerSession}
 use Rattle.mq_hub.specs.Inside.Invariant.{AreApart, HubInvariant}
 use Rattle.mq_hub.specs.Inside.Refinement.{Refines}
-use Rattle.mq_hub.specs.Inside.Placement.{AreReady, CanPlace, IsReadyAt, placed_acts, placed_all, placed_at, published, with_retained, with_list}
+use Rattle.mq_hub.specs.Inside.Placement.{AreReady, CanPlace, IsReadyAt, Settles, kept_copies, misses, placed_all, placed_at, settled_acts, published, with_retained, with_list}
 use Rattle.mq_hub.specs.Inside.View.{HubTables, all_seen, hub_of, output_of, seen, waiting_by}
 use Rattle.mq_hub.specs.Inside.Sessions.{AreAscending, session_of, sessions_of, session_at}
 use Rattle.mq_hub.proofs.ConnectionTable.{itself, one_conn}
@@ -173,6 +173,16 @@ unfolding put_on
 put_did None ps w = refl
 put_did (Some k) ps w = refl
 
+-- one that its session has room for, or that is not dropped
+place_goes : (key : ℕ) (m : Message) (w : Work) → is_missed key m w.hub ≡ false → place key m w ≡ said (acts.Placed key m) (does key (publishes_next m) w)
+unfolding place
+place_goes key m w goes = cond-false (is_missed key m w.hub) (said (acts.Missed key m) w) (said (acts.Placed key m) (does key (publishes_next m) w)) goes
+
+-- one that is dropped
+place_misses : (key : ℕ) (m : Message) (w : Work) → is_missed key m w.hub ≡ true → place key m w ≡ said (acts.Missed key m) w
+unfolding place
+place_misses key m w misses = cond-true (is_missed key m w.hub) (said (acts.Missed key m) w) (said (acts.Placed key m) (does key (publishes_next m) w)) misses
+
 module _ (config : HubConfig) (clock next_key : ℕ) (t : HubTables) (key : ℕ) (m : Message) (s : BrokerSession) where
   -- the tables after it
   abbrev pub after : HubTables
@@ -200,16 +210,18 @@ module _ (config : HubConfig) (clock next_key : ℕ) (t : HubTables) (key : ℕ)
         (up_seen key t.sessions.list t.connections.connections) (sessions_placed key m s t.sessions.list up there)
         ∙ by_line (up_on key t.connections.connections) refl
 
-    pub place_hub : (w : Work) → w.hub ≡ hub_of config clock next_key t → (place key m w).hub ≡ hub_of config clock next_key after
-    unfolding place does
-    place_hub w is =
-        put_hub (up_on key w.hub.connections) (publishes_next m (end_of key w.hub.sessions)).out (with_sessions (with_end key (publishes_next m (end_of key w.hub.sessions)).end) w)
+    pub place_hub : (w : Work) → w.hub ≡ hub_of config clock next_key t → misses config t.sessions.list (key, m) ≡ false → (place key m w).hub ≡ hub_of config clock next_key after
+    unfolding does
+    place_hub w is goes =
+        ap (λ (v : Work). v.hub) (place_goes key m w (ap (is_missed key m) is ∙ goes))
+        ∙ put_hub (up_on key w.hub.connections) (publishes_next m (end_of key w.hub.sessions)).out (with_sessions (with_end key (publishes_next m (end_of key w.hub.sessions)).end) w)
         ∙ ap going is ∙ gone
 
-pub place_did : (key : ℕ) (m : Message) (w : Work) → (place key m w).did ≡ w.did ++ acts.Placed key m ∷ []
-unfolding place does
-place_did key m w =
-    ap (λ (did : List Act). did ++ acts.Placed key m ∷ []) (put_did (up_on key w.hub.connections) (publishes_next m (end_of key w.hub.sessions)).out
+place_did : (key : ℕ) (m : Message) (w : Work) → is_missed key m w.hub ≡ false → (place key m w).did ≡ w.did ++ acts.Placed key m ∷ []
+unfolding does
+place_did key m w goes =
+    ap (λ (v : Work). v.did) (place_goes key m w goes)
+    ∙ ap (λ (did : List Act). did ++ acts.Placed key m ∷ []) (put_did (up_on key w.hub.connections) (publishes_next m (end_of key w.hub.sessions)).out
     (with_sessions (with_end key (publishes_next m (end_of key w.hub.sessions)).end) w))
 
 -- ---- copies, one after another
@@ -254,18 +266,48 @@ ascending_placed key m (s ∷ ts) up = go (eqb s.key key) (ascending_placed key 
     go false rest = (above_placed s.key key m ts up.0, rest)
 
 pub placed_goes : (config : HubConfig) (clock next_key : ℕ) (t : HubTables) (cs : List (ℕ × Message)) → AreAscending t.sessions.list → AreApart t.connections.connections
-    → ArePlaceable t.sessions.list cs → (w : Work) → w.hub ≡ hub_of config clock next_key t
-    → ((place_all cs w).hub ≡ hub_of config clock next_key (with_list (placed_all cs t.sessions.list) t)) × ((place_all cs w).did ≡ w.did ++ placed_acts cs)
+    → ArePlaceable t.sessions.list (kept_copies config cs t.sessions.list) → (w : Work) → w.hub ≡ hub_of config clock next_key t
+    → ((place_all cs w).hub ≡ hub_of config clock next_key (with_list (placed_all (kept_copies config cs t.sessions.list) t.sessions.list) t))
+    × ((place_all cs w).did ≡ w.did ++ settled_acts config cs t.sessions.list)
 placed_goes config clock next_key t [] up apart all w is = (is, sym (append-nil w.did))
 placed_goes config clock next_key t (c ∷ cs) up apart all w is =
-    let s = all.0.session in
-    let ts = t.sessions.list in
-    let hub = place_hub config clock next_key t c.0 c.1 s up all.0.there apart w is in
-    let rest = placed_goes config clock next_key (with_list (placed_at c.0 c.1 ts) t) cs
-    (ascending_placed c.0 c.1 ts up) apart (still_placeable c.0 c.1 ts cs all.1) (place c.0 c.1 w) hub in (
-      rest.0,
-      rest.1 ∙ ap (λ (did : List Act). did ++ placed_acts cs) (place_did c.0 c.1 w) ∙ append_assoc w.did (acts.Placed c.0 c.1 ∷ []) (placed_acts cs),
-    )
+    go (misses config t.sessions.list c) refl (λ rest v at. placed_goes config clock next_key t cs up apart rest v at)
+    (λ rest v at. placed_goes config clock next_key (with_list (placed_at c.0 c.1 t.sessions.list) t) cs (ascending_placed c.0 c.1 t.sessions.list up) apart rest v at)
+  where
+    go : (b : Bool) → misses config t.sessions.list c ≡ b
+        → (ArePlaceable t.sessions.list (kept_copies config cs t.sessions.list) → (v : Work) → v.hub ≡ hub_of config clock next_key t
+        → ((place_all cs v).hub ≡ hub_of config clock next_key (with_list (placed_all (kept_copies config cs t.sessions.list) t.sessions.list) t))
+        × ((place_all cs v).did ≡ v.did ++ settled_acts config cs t.sessions.list))
+        → (ArePlaceable (placed_at c.0 c.1 t.sessions.list) (kept_copies config cs (placed_at c.0 c.1 t.sessions.list)) → (v : Work)
+        → v.hub ≡ hub_of config clock next_key (with_list (placed_at c.0 c.1 t.sessions.list) t)
+        → ((place_all cs v).hub ≡ hub_of config clock next_key (with_list (placed_all (kept_copies config cs (placed_at c.0 c.1 t.sessions.list)) (placed_at c.0 c.1 t.sessions.list)) t))
+        × ((place_all cs v).did ≡ v.did ++ settled_acts config cs (placed_at c.0 c.1 t.sessions.list)))
+        → ((place_all (c ∷ cs) w).hub ≡ hub_of config clock next_key (with_list (placed_all (kept_copies config (c ∷ cs) t.sessions.list) t.sessions.list) t))
+        × ((place_all (c ∷ cs) w).did ≡ w.did ++ settled_acts config (c ∷ cs) t.sessions.list)
+    go true e missed placed =
+        let ts = t.sessions.list in
+        let v = place c.0 c.1 w in
+        let now = place_misses c.0 c.1 w (ap (is_missed c.0 c.1) is ∙ e) in
+        let kept = cond-true (misses config ts c) (kept_copies config cs ts) (c ∷ kept_copies config cs (placed_at c.0 c.1 ts)) e in
+        let says = cond-true (misses config ts c) (acts.Missed c.0 c.1 ∷ settled_acts config cs ts) (acts.Placed c.0 c.1 ∷ settled_acts config cs (placed_at c.0 c.1 ts)) e in
+        let rest = missed (subst (ArePlaceable ts) kept all) v (ap (λ (x : Work). x.hub) now ∙ is) in (
+          rest.0 ∙ ap (λ (xs : List (ℕ × Message)). hub_of config clock next_key (with_list (placed_all xs ts) t)) (sym kept),
+          rest.1 ∙ ap (λ (x : Work). x.did ++ settled_acts config cs ts) now
+              ∙ append_assoc w.did (acts.Missed c.0 c.1 ∷ []) (settled_acts config cs ts) ∙ ap (λ (xs : List Act). w.did ++ xs) (sym says),
+        )
+    go false e missed placed =
+        let ts = t.sessions.list in
+        let us = placed_at c.0 c.1 ts in
+        let kept = cond-false (misses config ts c) (kept_copies config cs ts) (c ∷ kept_copies config cs us) e in
+        let says = cond-false (misses config ts c) (acts.Missed c.0 c.1 ∷ settled_acts config cs ts) (acts.Placed c.0 c.1 ∷ settled_acts config cs us) e in
+        let placeable : ArePlaceable ts (c ∷ kept_copies config cs us) = subst (ArePlaceable ts) kept all in
+        let s = placeable.0.session in
+        let hub = place_hub config clock next_key t c.0 c.1 s up placeable.0.there apart w is e in
+        let rest = placed (still_placeable c.0 c.1 ts (kept_copies config cs us) placeable.1) (place c.0 c.1 w) hub in (
+          rest.0 ∙ ap (λ (xs : List (ℕ × Message)). hub_of config clock next_key (with_list (placed_all xs ts) t)) (sym kept),
+          rest.1 ∙ ap (λ (did : List Act). did ++ settled_acts config cs us) (place_did c.0 c.1 w (ap (is_missed c.0 c.1) is ∙ e))
+              ∙ append_assoc w.did (acts.Placed c.0 c.1 ∷ []) (settled_acts config cs us) ∙ ap (λ (xs : List Act). w.did ++ xs) (sym says),
+        )
 
 -- ---- what placing asks for
 
@@ -283,14 +325,23 @@ pub all_placeable : (more : ℕ) (ts : List BrokerSession) (cs : List (ℕ × Me
 all_placeable more ts [] all = tt
 all_placeable more ts (c ∷ cs) all = (record { session = all.0.session; there = all.0.there }, all_placeable more ts cs all.1)
 
-pub goes : (config : HubConfig) (clock next_key : ℕ) (t : HubTables) (said : List Act) (cs : List (ℕ × Message)) (old new : List BrokerSession) → t.sessions.list ≡ old → CanPlace t
-    → ArePlaceable old cs → new ≡ placed_all cs old
-    → Refines (place_all cs) (hub_of config clock next_key t) said (hub_of config clock next_key (with_list new t)) (said ++ placed_acts cs)
-goes config clock next_key t said cs old new same can all is = record {
-  hub = λ w at did. (placed_goes config clock next_key t cs can.ascending can.apart (subst (λ (ts : List BrokerSession). ArePlaceable ts cs) (sym same) all) w at).0
-      ∙ ap (λ (ts : List BrokerSession). hub_of config clock next_key (with_list ts t)) (ap (placed_all cs) same ∙ sym is);
-  did = λ w at did. (placed_goes config clock next_key t cs can.ascending can.apart (subst (λ (ts : List BrokerSession). ArePlaceable ts cs) (sym same) all) w at).1
-      ∙ ap (λ (did : List Act). did ++ placed_acts cs) did;
+all_goes : (config : HubConfig) (clock next_key : ℕ) (t : HubTables) (cs kept : List (ℕ × Message)) (old : List BrokerSession) → t.sessions.list ≡ old → CanPlace t
+    → kept ≡ kept_copies config cs old → ArePlaceable old kept → (w : Work) → w.hub ≡ hub_of config clock next_key t
+    → ((place_all cs w).hub ≡ hub_of config clock next_key (with_list (placed_all (kept_copies config cs t.sessions.list) t.sessions.list) t))
+    × ((place_all cs w).did ≡ w.did ++ settled_acts config cs t.sessions.list)
+all_goes config clock next_key t cs kept old same can is all w at =
+    placed_goes config clock next_key t cs can.ascending can.apart
+    (subst (λ (ts : List BrokerSession). ArePlaceable ts (kept_copies config cs ts)) (sym same) (subst (ArePlaceable old) is all)) w at
+
+pub goes : (config : HubConfig) (clock next_key : ℕ) (t : HubTables) (said says : List Act) (cs kept : List (ℕ × Message)) (old new : List BrokerSession) → t.sessions.list ≡ old
+    → CanPlace t → Settles config old cs kept says → ArePlaceable old kept → new ≡ placed_all kept old
+    → Refines (place_all cs) (hub_of config clock next_key t) said (hub_of config clock next_key (with_list new t)) (said ++ says)
+goes config clock next_key t said says cs kept old new same can settles all is = record {
+  hub = λ w at did. (all_goes config clock next_key t cs kept old same can settles.kept all w at).0
+      ∙ ap (λ (ts : List BrokerSession). hub_of config clock next_key (with_list ts t))
+      (ap (λ (ts : List BrokerSession). placed_all (kept_copies config cs ts) ts) same ∙ ap (λ (xs : List (ℕ × Message)). placed_all xs old) (sym settles.kept) ∙ sym is);
+  did = λ w at did. (all_goes config clock next_key t cs kept old same can settles.kept all w at).1
+      ∙ ap₂ (λ (before more : List Act). before ++ more) did (ap (settled_acts config cs) same ∙ sym settles.says);
 }
 
 -- ---- a message is delivered
@@ -306,19 +357,20 @@ retained_at config clock next_key t act m ms keeps w at =
     ∙ ap (λ (xs : List Message). record (hub_of config clock next_key t) { retained = xs }) (sym keeps)
 
 -- a message is delivered: retained, reported, and its copies placed
-pub shares : (config : HubConfig) (clock next_key : ℕ) (t : HubTables) (said_before says : List Act) (act : Act) (m : Message) (cs : List (ℕ × Message)) (old new : List BrokerSession) (ms : List Message)
-    → t.sessions.list ≡ old → ms ≡ kept m t.retained.messages → CanPlace t → copies_of m (hub_of config clock next_key t) ≡ cs → ArePlaceable old cs
-    → new ≡ placed_all cs old → says ≡ (said_before ++ act ∷ []) ++ placed_acts cs
+pub shares : (config : HubConfig) (clock next_key : ℕ) (t : HubTables) (said_before says : List Act) (act : Act) (m : Message) (cs placed : List (ℕ × Message)) (report : List Act)
+    → (old new : List BrokerSession) (ms : List Message)
+    → t.sessions.list ≡ old → ms ≡ kept m t.retained.messages → CanPlace t → copies_of m (hub_of config clock next_key t) ≡ cs → Settles config old cs placed report
+    → ArePlaceable old placed → new ≡ placed_all placed old → says ≡ (said_before ++ act ∷ []) ++ report
     → Refines (deliver act m) (hub_of config clock next_key t) said_before (hub_of config clock next_key (with_list new (with_retained ms t))) says
 unfolding deliver
-shares config clock next_key t said_before says act m cs old new ms same keeps can due all is says_is = record {
+shares config clock next_key t said_before says act m cs placed report old new ms same keeps can due settles all is says_is = record {
   hub = λ w at did.
       ap (λ (xs : List (ℕ × Message)). (place_all xs (retaining act m w)).hub) (ap (copies_of m) at ∙ due)
-      ∙ (goes config clock next_key (with_retained ms t) (said_before ++ act ∷ []) cs old new same (record { ascending = can.ascending; apart = can.apart }) all is).hub (retaining act m w)
+      ∙ (goes config clock next_key (with_retained ms t) (said_before ++ act ∷ []) report cs placed old new same (record { ascending = can.ascending; apart = can.apart }) settles all is).hub (retaining act m w)
       (retained_at config clock next_key t act m ms keeps w at) (ap (λ (xs : List Act). xs ++ act ∷ []) did);
   did = λ w at did.
       ap (λ (xs : List (ℕ × Message)). (place_all xs (retaining act m w)).did) (ap (copies_of m) at ∙ due)
-      ∙ (goes config clock next_key (with_retained ms t) (said_before ++ act ∷ []) cs old new same (record { ascending = can.ascending; apart = can.apart }) all is).did (retaining act m w)
+      ∙ (goes config clock next_key (with_retained ms t) (said_before ++ act ∷ []) report cs placed old new same (record { ascending = can.ascending; apart = can.apart }) settles all is).did (retaining act m w)
       (retained_at config clock next_key t act m ms keeps w at) (ap (λ (xs : List Act). xs ++ act ∷ []) did)
       ∙ sym says_is;
 }

@@ -22,9 +22,9 @@ use Rattle.mq_route.specs.Hub.{end_of}
 use Rattle.mq_hub.specs.declared.sessions.call.Call.TheVariants.{Takes}
 use Rattle.mq_hub.specs.declared.sessions.session.BrokerSession.{BrokerSession}
 use Rattle.mq_hub.specs.Inside.Calls.{CanServe, Serves, ServesAt}
-use Rattle.mq_hub.specs.Inside.Placement.{AreReady, IsReady, IsReadyAt}
+use Rattle.mq_hub.specs.Inside.Placement.{AreReady, HaveSameBooks, IsReady, IsReadyAt}
 use Rattle.mq_hub.specs.Inside.Sessions.{sessions_of, session_at, with_server}
-use Rattle.mq_hub.proofs.SessionRoom.{changed_other, changed_own, some_same}
+use Rattle.mq_hub.proofs.SessionRoom.{changed_other, changed_own, end_changed, some_same}
 use Rattle.mq_hub.proofs.EndReplies.{end_there, gets_up, packet_stays}
 
 some_none : {X : Type 0} {x : X} → Some x ≡ None → ⊥
@@ -78,6 +78,11 @@ module _ (now : ℕ) (p : Publication) (o : PacketOutcome) (old new : EndState) 
   lives_up : (server_up_gets (packets.Publish p) old.end).close ≡ None
   lives_up = ap (λ (r : Reply). r.close) (sym (gets_up (packets.Publish p) old.end up)) ∙ lives
 
+  same_book : new.end.book ≡ old.end.book
+  same_book =
+      ap (λ (x : End). x.book) serves.ok.replies.end
+      ∙ ap (λ (r : Reply). r.end.book) (gets_up (packets.Publish p) old.end up) ∙ publish_book p.message.qos p.delivery p.message old.end lives_up
+
   still_ready : (ms : List Message) → IsReady ms 7 old → IsReady ms 0 new
   still_ready ms ready =
       let e = old.end in
@@ -130,3 +135,15 @@ module _ (key now : ℕ) (p : Publication) (o : PacketOutcome) (ts us : List Bro
   pub all_ready : (cs : List (ℕ × Message)) → AreReady 7 ts cs → AreReady 0 us cs
   all_ready [] all = tt
   all_ready (c ∷ cs) all = (ready_at c.0 (c.1 ∷ []) all.0, all_ready cs all.1)
+
+  pub same_books : HaveSameBooks ts us
+  same_books k = ap (λ (xs : List BrokerSession). (end_of k (sessions_of xs)).book) at.after ∙ go (eqb k key) refl
+    where
+      go : (b : Bool) → eqb k key ≡ b → (end_of k (sessions_of (with_server key at.end ts))).book ≡ (end_of k (sessions_of ts)).book
+      go true e =
+          let there = changed_own (λ s. at.end) key at.session ts at.there in
+          subst (λ (n : ℕ). (end_of n (sessions_of (with_server key at.end ts))).book ≡ (end_of n (sessions_of ts)).book) (sym (eqb-true k key e))
+          (ap (λ (x : End). x.book) (end_there key (record at.session { end = at.end }) (with_server key at.end ts) there)
+          ∙ same_book now p o at.session.end at.end up_there lives_there at.serves
+          ∙ ap (λ (x : End). x.book) (sym (end_there key at.session ts at.there)))
+      go false e = ap (λ (x : End). x.book) (end_changed (λ s. at.end) key k ts e)

@@ -378,12 +378,12 @@ module _ (m : Message) (t p : HubTables) (hubs : AreHubTables t) (same : AreSame
   leaves_ready = record { connect_end = λ c key small none r. rise_less c key [] (whole_size (publish_size m)) p.sessions.list (rise_ready c key none r) }
 
   -- and they are placed
-  pub leaves_shared : SizeLaws → (cs : List (ℕ × Message)) (u : HubTables) → publish_size m ≤ t.connections.limits.most → AreApart cs → (h : HubState) → cs ≡ copies_of m h
-      → u.sessions.list ≡ placed_all cs p.sessions.list → KeepsConnectRoom (m ∷ []) t u
-  leaves_shared laws cs u within apart h due placed = record {
+  pub leaves_shared : SizeLaws → (cs : List (ℕ × Message)) (u : HubTables) → publish_size m ≤ t.connections.limits.most → AreApart cs
+      → AllByRecursion (λ x. publish_size x.1 ≤ publish_size m) cs → u.sessions.list ≡ placed_all cs p.sessions.list → KeepsConnectRoom (m ∷ []) t u
+  leaves_shared laws cs u within apart small_ones placed = record {
     connect_end = λ c key small none r.
         subst (λ (us : List BrokerSession). HasConnectRoomAt c key [] 0 us) (sym placed)
         (rise_placed laws c key (publish_size m) (omega (arith, within, small)) cs apart
-        (subst (λ (xs : List (ℕ × Message)). AllByRecursion (λ x. publish_size x.1 ≤ publish_size m) xs) (sym due) (copies_fit m h)) p.sessions.list
+        small_ones p.sessions.list
         (rise_ready c key none r));
   }

@@ -15,7 +15,8 @@ use Rattle.mq_route.specs.declared.trace.ClientLog.{ClientLog}
 use Rattle.mq_route.specs.declared.trace.HubTrace.{HubTrace}
 use Rattle.mq_route.specs.Hub.{HubState, new_hub}
 use Rattle.mq_route.specs.Laws.{RoutingLaws, TakingLaws}
-use Rattle.mq_route.specs.Routed.{placed, routed, taken}
+use Rattle.mq_route.specs.declared.config.WhenFull.TheVariants.{ClosePublisher}
+use Rattle.mq_route.specs.Routed.{placed, routed, settled, taken}
 use Rattle.mq_route.specs.Runs.{AreAccounts, Episode, Follows, IsRun, acts_of, came_in}
 use Rattle.mq_route.specs.Step.{Does, HubStep, event_refusal}
 use Rattle.mq_route.specs.Taken.{handed_from, of_client}
@@ -93,8 +94,11 @@ module _ (config : HubConfig) (events : List HubEvent) (hub : HubState) (trace :
   acts_traced : acts_of run.episodes ≡ acts_in trace
   acts_traced = sym (acts_replied run.episodes) ∙ ap (λ (rs : List HubReply). flat_map (λ (r : HubReply). r.acts) rs) run.replied
 
-  pub run_routes : RoutingLaws → (c : ℕ) → placed c (acts_in trace) ≡ routed c (acts_in trace)
-  run_routes laws c = subst (λ (log : List Act). placed c log ≡ routed c log) acts_traced (laws.placed_is_routed config run.episodes hub run.follows c)
+  pub run_settles : RoutingLaws → (c : ℕ) → settled c (acts_in trace) ≡ routed c (acts_in trace)
+  run_settles laws c = subst (λ (log : List Act). settled c log ≡ routed c log) acts_traced (laws.settled_is_routed config run.episodes hub run.follows c)
+
+  pub run_routes : RoutingLaws → config.when_full ≡ ClosePublisher → (c : ℕ) → placed c (acts_in trace) ≡ routed c (acts_in trace)
+  run_routes laws closes c = subst (λ (log : List Act). placed c log ≡ routed c log) acts_traced (laws.placed_is_routed config closes run.episodes hub run.follows c)
 
   pub run_takes : TakingLaws → (c : ℕ) → taken c (acts_in trace) ≡ handed_from none_received (of_client c (came_in run.episodes))
   run_takes laws c = ap (taken c) (sym acts_traced) ∙ laws.taken_is_handed config run.episodes hub run.follows c

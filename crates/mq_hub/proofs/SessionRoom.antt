@@ -9,13 +9,13 @@ use Rattle.mq_flow.specs.Sender.{uses}
 use Rattle.mq_end.specs.declared.refusal.PublishRefusal.{PublishRefusal}
 use Rattle.mq_end.specs.declared.refusal.PublishRefusal.TheVariants as refusals
 use Rattle.mq_end.specs.Both.{has_identifier}
-use Rattle.mq_end.specs.End.{is_up}
+use Rattle.mq_end.specs.End.{End, is_up}
 use Rattle.mq_end.specs.Ready.{HasRoom}
 use Rattle.mq_end.specs.Server.{ready_refusal}
 use Rattle.mq_end.specs.Sizes.{publish_size}
 use Rattle.mq_end.specs.State.{EndState, Room}
-use Rattle.mq_route.specs.Hub.{HubState, HubSession, for_key}
-use Rattle.mq_route.specs.Work.{have_room, needs}
+use Rattle.mq_route.specs.Hub.{HubState, HubSession, end_of, for_key}
+use Rattle.mq_route.specs.Work.{all_fit, drops_copies, have_room, needs}
 use Rattle.mq_hub.specs.declared.sessions.session.BrokerSession.{BrokerSession}
 use Rattle.mq_hub.specs.Inside.Sessions.{AreAscending, sessions_of, session_of, session_at, with_server}
 use Rattle.mq_hub.specs.Inside.Placement.{AreApart, AreFor, AreReady, AreSameButRoom, AreStillReady, HasSessions, IsFor, IsReadyAt, MayGo, ReadiesAt, is_among, placed_at, published, roomless}
@@ -180,6 +180,19 @@ changed_other f key k (s ∷ ts) apart = go (eqb s.key key) refl (changed_other 
         let no : eqb s.key k ≡ false = subst (λ (x : ℕ). eqb x k ≡ false) (sym (eqb-true s.key key e)) apart in
         cond-false (eqb s.key k) (Some (record s { end = f s.end })) (session_at k (changed_at f key ts)) no ∙ rest ∙ sym (cond-false (eqb s.key k) (Some s) (session_at k ts) no)
     go false e rest = ap (λ (o : Option BrokerSession). cond (eqb s.key k) (Some s) o) rest
+
+-- a change of one session leaves the ends of other clients
+pub end_changed : (f : EndState → EndState) (key k : ℕ) (ts : List BrokerSession) → eqb k key ≡ false → end_of k (sessions_of (changed_at f key ts)) ≡ end_of k (sessions_of ts)
+end_changed f key k [] apart = refl
+end_changed f key k (s ∷ ts) apart = go (eqb s.key key) refl (end_changed f key k ts apart)
+  where
+    go : (b : Bool) → eqb s.key key ≡ b → end_of k (sessions_of (changed_at f key ts)) ≡ end_of k (sessions_of ts)
+        → end_of k (sessions_of (cond b (record s { end = f s.end }) s ∷ changed_at f key ts)) ≡ end_of k (sessions_of (s ∷ ts))
+    go true e rest =
+        let no : eqb s.key k ≡ false = ne_eqb s.key k (λ same. true≢false (sym (eq-eqb k key (sym same ∙ eqb-true s.key key e)) ∙ apart)) in
+        cond-false (eqb s.key k) (f s.end).end (end_of k (sessions_of (changed_at f key ts))) no ∙ rest
+        ∙ sym (cond-false (eqb s.key k) s.end.end (end_of k (sessions_of ts)) no)
+    go false e rest = ap (λ (x : End). cond (eqb s.key k) s.end.end x) rest
 
 pub changed_length : (f : EndState → EndState) (key : ℕ) (ts : List BrokerSession) → length (changed_at f key ts) ≡ length ts
 changed_length f key [] = refl
@@ -356,31 +369,19 @@ module _ (key : ℕ) (ms : List Message) (more : ℕ) (answer : Result ⊤ Publi
     may : AllByRecursion (λ m. MayGo m r.session.end) ms
     may = subst (λ (x : BrokerSession). AllByRecursion (λ m. MayGo m x.end) ms) (some_same (sym for.there ∙ r.there)) for.may_go
 
-    pub has_enough : answer ≡ Ok tt → (cs : List (ℕ × Message)) (h : HubState) → HasSessions old h → is_among key cs ≡ false → have_room (for_key key ms ++ cs) h ≡ have_room cs h
-    unfolding have_room
-    has_enough ok cs h has none =
-        let cap = h.config.capacity in
-        let at = all_there (λ t. t.end.capacity ≡ cap) key r.session old has.capacity r.there in
+    pub has_few : answer ≡ Ok tt → count ms ≤ r.session.end.capacity - length (uses r.session.end.end.book)
+    has_few ok =
         let u = length (uses r.session.end.end.book) in
-        let room = test (ltb (r.session.end.capacity - u) (count ms)) (sym (full_only r.session.end ms may) ∙ not_refused ok) in
-        let few : count ms ≤ cap - u = subst (λ (n : ℕ). count ms ≤ n - u) at (ltb-false (r.session.end.capacity - u) (count ms) room) in
-        ap (λ (ss : List HubSession). list_all (λ s. nat_le (needs s.key (for_key key ms ++ cs)) (cap - length (uses s.end.book))) ss) has.sessions
-        ∙ with_own key ms cs cap old none (only_own (λ s. count ms ≤ cap - length (uses s.end.end.book)) key r.session old up r.there few)
-        ∙ ap (λ (ss : List HubSession). list_all (λ s. nat_le (needs s.key cs) (cap - length (uses s.end.book))) ss) (sym has.sessions)
+        ltb-false (r.session.end.capacity - u) (count ms) (test (ltb (r.session.end.capacity - u) (count ms)) (sym (full_only r.session.end ms may) ∙ not_refused ok))
       where
         test : (b : Bool) → cond b (Some refusals.Full) None ≡ None → b ≡ false
         test true e = absurd (some_none e)
         test false e = refl
 
-    pub has_too_few : answer ≡ Err refusals.Full → (cs : List (ℕ × Message)) (h : HubState) → HasSessions old h → is_among key cs ≡ false → have_room (for_key key ms ++ cs) h ≡ false
-    unfolding have_room
-    has_too_few full cs h has none =
-        let cap = h.config.capacity in
-        let at = all_there (λ t. t.end.capacity ≡ cap) key r.session old has.capacity r.there in
+    pub has_short : answer ≡ Err refusals.Full → r.session.end.capacity - length (uses r.session.end.end.book) < count ms
+    has_short full =
         let u = length (uses r.session.end.end.book) in
-        let short = ltb-true (r.session.end.capacity - u) (count ms) (test (ltb (r.session.end.capacity - u) (count ms)) refl) in
-        ap (λ (ss : List HubSession). list_all (λ s. nat_le (needs s.key (for_key key ms ++ cs)) (cap - length (uses s.end.book))) ss) has.sessions
-        ∙ short_own key ms cs cap r.session old none r.there (subst (λ (n : ℕ). n - u < count ms) at short)
+        ltb-true (r.session.end.capacity - u) (count ms) (test (ltb (r.session.end.capacity - u) (count ms)) refl)
       where
         memory_full : refusals.Full ≡ refusals.Memory → ⊥
         memory_full e = absurd cc
@@ -391,6 +392,26 @@ module _ (key : ℕ) (ms : List Message) (more : ℕ) (answer : Result ⊤ Publi
             let none = full_only r.session.end ms may ∙ ap (λ (b : Bool). cond b (Some refusals.Full) None) e in
             let by = subst (λ (o : Option PublishRefusal). IfNone o (IfErr answer (λ why. why ≡ refusals.Memory))) none r.readies.memory in
             absurd (memory_full (subst (λ (a : Result ⊤ PublishRefusal). IfErr a (λ why. why ≡ refusals.Memory)) full by))
+
+    pub has_enough : answer ≡ Ok tt → (cs : List (ℕ × Message)) (h : HubState) → HasSessions old h → is_among key cs ≡ false → all_fit (for_key key ms ++ cs) h ≡ all_fit cs h
+    unfolding all_fit
+    has_enough ok cs h has none =
+        let cap = h.config.capacity in
+        let at = all_there (λ t. t.end.capacity ≡ cap) key r.session old has.capacity r.there in
+        let u = length (uses r.session.end.end.book) in
+        let few : count ms ≤ cap - u = subst (λ (n : ℕ). count ms ≤ n - u) at (has_few ok) in
+        ap (λ (ss : List HubSession). list_all (λ s. nat_le (needs s.key (for_key key ms ++ cs)) (cap - length (uses s.end.book))) ss) has.sessions
+        ∙ with_own key ms cs cap old none (only_own (λ s. count ms ≤ cap - length (uses s.end.end.book)) key r.session old up r.there few)
+        ∙ ap (λ (ss : List HubSession). list_all (λ s. nat_le (needs s.key cs) (cap - length (uses s.end.book))) ss) (sym has.sessions)
+
+    pub has_too_few : answer ≡ Err refusals.Full → (cs : List (ℕ × Message)) (h : HubState) → HasSessions old h → is_among key cs ≡ false → all_fit (for_key key ms ++ cs) h ≡ false
+    unfolding all_fit
+    has_too_few full cs h has none =
+        let cap = h.config.capacity in
+        let at = all_there (λ t. t.end.capacity ≡ cap) key r.session old has.capacity r.there in
+        let u = length (uses r.session.end.end.book) in
+        ap (λ (ss : List HubSession). list_all (λ s. nat_le (needs s.key (for_key key ms ++ cs)) (cap - length (uses s.end.book))) ss) has.sessions
+        ∙ short_own key ms cs cap r.session old none r.there (subst (λ (n : ℕ). n - u < count ms) at (has_short full))
 
 -- ---- one copy after another
 
@@ -424,13 +445,22 @@ ended [] (suc i) l = refl
 ended (c ∷ cs) zero l = absurd (omega arith)
 ended (c ∷ cs) (suc i) l = ended cs i (omega arith)
 
-pub room_none : (h : HubState) → have_room [] h ≡ true
-unfolding have_room
-room_none h = go h.sessions
+pub fit_none : (h : HubState) → all_fit [] h ≡ true
+unfolding all_fit
+fit_none h = go h.sessions
   where
     go : (ss : List HubSession) → list_all (λ s. nat_le (needs s.key []) (h.config.capacity - length (uses s.end.book))) ss ≡ true
     go [] = refl
     go (s ∷ ss) = ap₂ (λ (a b : Bool). a && b) (le-leb 0 (h.config.capacity - length (uses s.end.book)) (omega arith)) (go ss)
+
+-- so there is room for no copies
+pub room_none : (h : HubState) → have_room [] h ≡ true
+unfolding have_room
+room_none h = ap (λ (b : Bool). drops_copies h.config.when_full || b) (fit_none h) ∙ either (drops_copies h.config.when_full)
+  where
+    either : (b : Bool) → (b || true) ≡ true
+    either true = refl
+    either false = refl
 
 -- placing a copy leaves the room of other clients' sessions
 pub placed_others : (key : ℕ) (m : Message) (more : ℕ) (ts : List BrokerSession) (cs : List (ℕ × Message)) → is_among key cs ≡ false → AreReady more ts cs → AreReady more (placed_at key m ts) cs

@@ -1,5 +1,5 @@
 -- A connected client subscribes, and gets the retained messages.
-use Rattle.std.proofs.Common.{◌≡◌, ◌&&◌, ℕ, suc, ◌+◌, ◌≤◌, Bool, true, false, cond, List, [], ◌∷◌, ◌++◌, length, map, filter, Some, Result, Ok, Err, IfOk, OnErr, refl, sym, ap, subst, ◌∙◌, append-nil, arith}
+use Rattle.std.proofs.Common.{◌≡◌, ◌&&◌, ℕ, suc, ◌+◌, ◌-◌, ◌≤◌, Bool, true, false, cond, List, [], ◌∷◌, ◌++◌, length, map, filter, Some, Result, Ok, Err, IfOk, OnErr, refl, sym, ap, ap₂, subst, ◌∙◌, append-nil, arith}
 use Rattle.std.specs.List.{AllByRecursion}
 use Rattle.std.specs.declared.alloc.AllocError.{AllocError}
 use Rattle.mq_topic.specs.declared.qos.Qos.{Qos}
@@ -20,19 +20,20 @@ use Rattle.mq_end.specs.Server.{subacks}
 use Rattle.mq_end.specs.Sizes.{publish_size, requests_size, suback_size, subscribe_size}
 use Rattle.mq_route.specs.declared.act.Act.{Act}
 use Rattle.mq_route.specs.declared.config.HubConfig.{HubConfig}
+use Rattle.mq_route.specs.declared.config.WhenFull.{WhenFull}
 use Rattle.mq_route.specs.declared.conn.Conn.{Conn}
 use Rattle.mq_route.specs.Arrives.{answers, granted}
 use Rattle.mq_route.specs.Copies.{copy, retained_for}
 use Rattle.mq_route.specs.Hub.{HubState, HubConnection, for_key, up_on}
-use Rattle.mq_route.specs.Work.{Work, does, have_room, place_all, publishes_next, retained_copies, subscribed}
+use Rattle.mq_route.specs.Work.{Work, does, place_all, publishes_next, retained_copies, subscribed}
 use Rattle.mq_hub.specs.declared.sessions.call.Call.TheVariants.{Grants}
 use Rattle.mq_hub.specs.declared.sessions.session.BrokerSession.{BrokerSession}
 use Rattle.mq_hub.specs.Inside.Requests.{Subscribes}
-use Rattle.mq_hub.specs.Inside.Calls.{CanServe, reply_of}
+use Rattle.mq_hub.specs.Inside.Calls.{CanServe, reply_of, ServesAt}
 use Rattle.mq_hub.specs.Inside.Refinement.{Refines}
 use Rattle.mq_hub.specs.Inside.Invariant.{HubInvariant, SessionMatchesConnection, IsWithin, HasSession}
 use Rattle.mq_hub.specs.Inside.Connections.{ConnectionList}
-use Rattle.mq_hub.specs.Inside.Placement.{HasSessions, IsFor, MayGo, placed_acts, placed_all, placed_at, published, with_list}
+use Rattle.mq_hub.specs.Inside.Placement.{HasSessions, IsFor, MayGo, placed_acts, placed_all, placed_at, published, with_list, AreSameButRoom, Settles, free_of}
 use Rattle.mq_hub.specs.Inside.Retained.{RetainedTable}
 use Rattle.mq_hub.specs.Inside.View.{HubTables, all_seen, hub_of}
 use Rattle.mq_hub.specs.Inside.Sessions.{sessions_of, session_at}
@@ -41,9 +42,14 @@ use Rattle.mq_hub.proofs.Refinements.{goes_then}
 use Rattle.mq_hub.proofs.GrantedRows.{allowed_within, answered_goes, goes_subscribed, kept_answered, stands_up, up_end, with_owned}
 use Rattle.mq_hub.proofs.InvariantChanges.{kept_by}
 use Rattle.mq_hub.proofs.CopyTargets.{copy_size}
-use Rattle.mq_hub.proofs.SessionRoom.{changed_own, room_none, same_change}
+use Rattle.mq_hub.proofs.SessionRoom.{changed_own, same_change, same_session, some_same}
 use Rattle.mq_hub.proofs.EndReplies.{Stays, kept_replied}
 use Rattle.mq_hub.proofs.PlacedCopies.{can_place, for_placeable, goes}
+use Rattle.mq_hub.proofs.MissedCopies.{settled_as}
+use Rattle.mq_hub.specs.Inside.Settlement.{IsSettledAs}
+use Rattle.mq_hub.specs.declared.publish.settle.SettledMessages.{SettledMessages}
+use Rattle.mq_end.specs.declared.packet_outcome.PacketOutcome.{PacketOutcome}
+use Rattle.mq_flow.specs.Sender.{uses}
 
 -- ---- messages that are placed for a connected client
 
@@ -134,16 +140,6 @@ pub grants_fit : (i : ℕ) (codes : List SubAckCode) (n : ℕ) → length (field
     → (e : End) → packets_size (reply_of (Grants i codes) e).out ≤ 7 + n
 grants_fit i codes n long is e = omega (arith, long, is)
 
--- whether the session has room for the retained messages
-pub enough_for : (key : ℕ) (ms : List Message) (cs : List (ℕ × Message)) (h : HubState) (b c : Bool) → have_room (for_key key ms ++ []) h ≡ (b && have_room [] h)
-    → for_key key ms ≡ cs → b ≡ c → have_room cs h ≡ c
-enough_for key ms cs h b c room due is =
-    ap (λ (xs : List (ℕ × Message)). have_room xs h) (sym due ∙ sym (append-nil (for_key key ms))) ∙ room ∙ ap (λ (x : Bool). b && x) (room_none h) ∙ go b c is
-  where
-    go : (b c : Bool) → b ≡ c → (b && true) ≡ c
-    go true c is = is
-    go false c is = is
-
 pub can_grant : (config : HubConfig) (next : ℕ) (t : HubTables) → HubInvariant config next t → (key : ℕ) (k : Conn) → up_on key t.connections.connections ≡ Some k → (i : ℕ) (rs : List Request)
     → subscribe_size rs ≤ config.limits.most → CanServe key (Grants i (granted rs)) t.sessions.list
 can_grant config next t kept key k on i rs within =
@@ -160,7 +156,7 @@ can_grant config next t kept key k on i rs within =
 -- ---- the broker
 
 module _ (config : HubConfig) (next key : ℕ) (t u : HubTables) (kept : HubInvariant config next t) (k : Conn) (on : up_on key t.connections.connections ≡ Some k) (i : ℕ) (rs : List Request)
-    (s : Subscribes key i rs t u) where
+    (policy : WhenFull) (says : List Act) (s : Subscribes key i rs policy t u says) where
   owned : AllByRecursion (λ r. HasSession t.sessions.list r.0.0) (with_rows key rs t.rows)
   owned = with_owned (HasSession t.sessions.list) key rs t.rows (stands_up config next t kept key k on) kept.owned
 
@@ -199,27 +195,44 @@ module _ (config : HubConfig) (next key : ℕ) (t u : HubTables) (kept : HubInva
           connections = all_seen u.sessions.list (sym connections i).connections;
         }
 
-    placed_goes : Refines (place_all (for_key key s.messages)) (hub_of config clock next s.between) (did ++ subscribed_acts key rs) (hub_of config clock next u)
-        ((did ++ subscribed_acts key rs) ++ placed_acts (for_key key s.messages))
-    placed_goes =
-        subst (λ (h : HubState). Refines (place_all (for_key key s.messages)) (hub_of config clock next s.between) (did ++ subscribed_acts key rs) h
-        ((did ++ subscribed_acts key rs) ++ placed_acts (for_key key s.messages))) hub_placed
-        (goes config clock next s.between (did ++ subscribed_acts key rs) (for_key key s.messages) s.between.sessions.list u.sessions.list refl
-        (can_place config next s.between kept_between) (for_placeable key s.messages 0 s.between.sessions.list s.ready) s.list)
+    placed_goes : config.when_full ≡ policy → Refines (place_all (retained_copies key rs t.retained.messages)) (hub_of config clock next s.between) (did ++ subscribed_acts key rs)
+        (hub_of config clock next u) ((did ++ subscribed_acts key rs) ++ says)
+    placed_goes same =
+        subst (λ (h : HubState). Refines (place_all (retained_copies key rs t.retained.messages)) (hub_of config clock next s.between) (did ++ subscribed_acts key rs) h
+        ((did ++ subscribed_acts key rs) ++ says)) hub_placed
+        (goes config clock next s.between (did ++ subscribed_acts key rs) says (retained_copies key rs t.retained.messages) (for_key key s.messages)
+        s.between.sessions.list u.sessions.list refl (can_place config next s.between kept_between) (s.settles config next same kept_between)
+        (for_placeable key s.messages 0 s.between.sessions.list s.ready) s.list)
 
-    pub subscribed_goes : (conn : Conn) → Refines (answers conn key (happens.Subscribe i rs)) (hub_of config clock next t) did (hub_of config clock next u)
-        ((did ++ subscribed_acts key rs) ++ placed_acts (retained_copies key rs t.retained.messages))
+    pub subscribed_goes : config.when_full ≡ policy → (conn : Conn) → Refines (answers conn key (happens.Subscribe i rs)) (hub_of config clock next t) did (hub_of config clock next u)
+        ((did ++ subscribed_acts key rs) ++ says)
     unfolding answers
-    subscribed_goes conn =
+    subscribed_goes policy_is conn =
         let first = λ (w : Work). does key (subacks i (granted rs)) (subscribed key rs w) in
-        let same : (w : Work) → w.hub ≡ hub_of config clock next t → retained_copies key rs w.hub.retained ≡ for_key key s.messages =
-        λ w at. ap (λ (h : HubState). retained_copies key rs h.retained) at ∙ sym s.due in
+        let same : (w : Work) → w.hub ≡ hub_of config clock next t → retained_copies key rs w.hub.retained ≡ retained_copies key rs t.retained.messages =
+        λ w at. ap (λ (h : HubState). retained_copies key rs h.retained) at in
         let q = served_goes in
-        let p = placed_goes in record {
+        let p = placed_goes policy_is in record {
           hub = λ w at said. ap (λ (cs : List (ℕ × Message)). (place_all cs (first w)).hub) (same w at) ∙ p.hub (first w) (q.hub w at said) (q.did w at said);
-          did = λ w at said. ap (λ (cs : List (ℕ × Message)). (place_all cs (first w)).did) (same w at) ∙ p.did (first w) (q.hub w at said) (q.did w at said)
-              ∙ ap (λ (cs : List (ℕ × Message)). (did ++ subscribed_acts key rs) ++ placed_acts cs) s.due;
+          did = λ w at said. ap (λ (cs : List (ℕ × Message)). (place_all cs (first w)).did) (same w at) ∙ p.did (first w) (q.hub w at said) (q.did w at said);
         }
+
+-- ---- the retained messages are settled before SUBACK is queued, and placed after it
+
+pub settles_served : (policy : WhenFull) (config : HubConfig) (key i : ℕ) (codes : List SubAckCode) (o : PacketOutcome) (ms : List Message) (s : SettledMessages) (ts ready us : List BrokerSession) (t : BrokerSession)
+    → config.when_full ≡ policy → AreSameButRoom ts ready → session_at key ts ≡ Some t → ServesAt key (Grants i codes) (Ok o) ready us
+    → ((u : BrokerSession) → session_at key us ≡ Some u → u.end.capacity ≡ config.capacity) → IsSettledAs policy key ts ms s
+    → Settles config us (for_key key ms) (for_key key s.kept.items) s.acts.items
+settles_served policy config key i codes o ms s ts ready us t is same there at cap settled =
+    let w = same_session key t ts ready same there in
+    let own : w.0 ≡ at.session = some_same (sym w.1 ∙ at.there) in
+    let u : BrokerSession = record at.session { end = at.end } in
+    let after : session_at key us ≡ Some u = subst (λ (xs : List BrokerSession). session_at key xs ≡ Some u) (sym at.after) (changed_own (λ x. at.end) key at.session ready at.there) in
+    let replies = at.serves.ok.replies in
+    let free : free_of u.end ≡ free_of t.end =
+    ap₂ (λ (n : ℕ) (e : End). n - length (uses e.book)) replies.capacity replies.end
+    ∙ ap (λ (x : BrokerSession). free_of x.end) (sym own) ∙ ap (λ (x : BrokerSession). free_of x.end) w.2 in
+    settled_as policy config key ms s ts us t u is there after (cap u after) free settled
 
 -- ---- what the tables say of it, and what the broker is then
 

@@ -13,6 +13,7 @@ use Rattle.mq_route.specs.declared.act.Act.{Act}
 use Rattle.mq_route.specs.declared.act.Act.TheVariants as acts
 use Rattle.mq_route.specs.declared.close.HubClose.{HubClose}
 use Rattle.mq_route.specs.declared.config.HubConfig.{HubConfig}
+use Rattle.mq_route.specs.declared.config.WhenFull.{WhenFull}
 use Rattle.mq_route.specs.declared.conn.Conn.{Conn}
 use Rattle.mq_route.specs.declared.connection_state.ConnectionState.{ConnectionState}
 use Rattle.mq_route.specs.declared.connection_state.ConnectionState.TheVariants.{AwaitingConnect}
@@ -151,14 +152,14 @@ module _ (k : Conn) (why : HubClose) (key : ℕ) (t v : HubTables) (hubs : AreHu
   clients_parted n =
       ap (λ (ts : List BrokerSession). key_of n (sessions_of ts)) detach.after ∙ named_with n key (parted detach.session.end) t.sessions.list
 
-  pub proceeds_parted : (did says : List Act) → is_clean (stage_of k t.connections.connections) ≡ false → says ≡ did ++ acts.Closed k why ∷ []
-      → Proceeds (λ fits. parts k why key false) t did v says
-  proceeds_parted did says lasts said =
+  pub proceeds_parted : (policy : WhenFull) (did says : List Act) → is_clean (stage_of k t.connections.connections) ≡ false → says ≡ did ++ acts.Closed k why ∷ []
+      → Proceeds policy (λ fits. parts k why key false) t did v says
+  proceeds_parted policy did says lasts said =
       let clean = ap is_clean (sym at.is) ∙ lasts in
       let rows = ap (λ (a : HubTables). a.rows) rest in
       let retained = ap (λ (a : HubTables). a.retained.messages) rest in
       record {
-        goes = λ config clock next kept. (
+        goes = λ config clock next kept same. (
           true,
           goes_parted k why key (hub_of config clock next t) (hub_of config clock next v) did says
               (hub_parted config next k key at.terms at.last_activity detach.session t v kept at.is detach.there retained left clean rows detach.after clock) said,
@@ -170,16 +171,16 @@ module _ (k : Conn) (why : HubClose) (key : ℕ) (t v : HubTables) (hubs : AreHu
       }
 
   -- and its session ends
-  pub proceeds_left : (u : HubTables) (did says : List Act) → u.rows ≡ without_client key v.rows → u.sessions.list ≡ without_key key v.sessions.list
+  pub proceeds_left : (policy : WhenFull) (u : HubTables) (did says : List Act) → u.rows ≡ without_client key v.rows → u.sessions.list ≡ without_key key v.sessions.list
       → v.sessions.room ≤ u.sessions.room → u ≡ record v { rows = u.rows; sessions = u.sessions }
-      → says ≡ (did ++ acts.Closed k why ∷ []) ++ acts.Removed key ∷ [] → Proceeds (λ fits. parts k why key true) t did u says
-  proceeds_left u did says gone without more after said =
+      → says ≡ (did ++ acts.Closed k why ∷ []) ++ acts.Removed key ∷ [] → Proceeds policy (λ fits. parts k why key true) t did u says
+  proceeds_left policy u did says gone without more after said =
       let rows = gone ∙ ap (λ (a : HubTables). without_client key a.rows) rest in
       let retained = ap (λ (a : HubTables). a.retained.messages) after ∙ ap (λ (a : HubTables). a.retained.messages) rest in
       let ts = without ∙ ap (without_key key) detach.after in
       let ys = ap (λ (a : HubTables). a.connections.connections) after ∙ left in
       record {
-        goes = λ config clock next kept. (
+        goes = λ config clock next kept same. (
           true,
           goes_left k why key (hub_of config clock next t) (hub_of config clock next u) did says
               (hub_left config next k key at.terms at.last_activity detach.session t u kept at.is detach.there retained ys rows ts clock) said,
@@ -193,22 +194,22 @@ module _ (k : Conn) (why : HubClose) (key : ℕ) (t v : HubTables) (hubs : AreHu
       }
 
 -- and then its will is published
-pub proceeds_closed : (k : Conn) (why : HubClose) (key : ℕ) (will : Option Will) (t v u : HubTables) (did mid says : List Act)
+pub proceeds_closed : (policy : WhenFull) (k : Conn) (why : HubClose) (key : ℕ) (will : Option Will) (t v u : HubTables) (did mid says : List Act)
     → key_on (stage_of k t.connections.connections) ≡ Some key
-    → will ≡ will_left why (stage_of k t.connections.connections) → Proceeds (λ fits. parts k why key (is_clean (stage_of k t.connections.connections))) t did v mid
-    → ((config : HubConfig) (clock next : ℕ) → HubInvariant config next v
+    → will ≡ will_left why (stage_of k t.connections.connections) → Proceeds policy (λ fits. parts k why key (is_clean (stage_of k t.connections.connections))) t did v mid
+    → ((config : HubConfig) (clock next : ℕ) → HubInvariant config next v → config.when_full ≡ policy
     → (fits : Bool) × Refines (last_will key will fits) (hub_of config clock next v) mid (hub_of config clock next u) says)
-    → Spares v u → Proceeds (close k why) t did u says
-proceeds_closed k why key will t v u did mid says up is first last spares =
+    → Spares v u → Proceeds policy (close k why) t did u says
+proceeds_closed policy k why key will t v u did mid says up is first last spares =
     let ts = t.sessions.list in
     let xs = t.connections.connections in
     let seen = sym (stage_seen k ts xs) in
     record {
-      goes = λ config clock next kept.
+      goes = λ config clock next kept same.
           let h : HubState = hub_of config clock next t in
           let g : HubState = hub_of config clock next v in
-          let p = first.goes config clock next kept in
-          let q = last config clock next (first.keeps config next kept) in (
+          let p = first.goes config clock next kept same in
+          let q = last config clock next (first.keeps config next kept) same in (
             q.0,
             goes_close k why q.0 key h (hub_of config clock next u) did says will g mid (ap key_on (sym seen) ∙ up) (is ∙ ap (will_left why) seen)
                 (subst (λ (s : ConnectionState). Refines (parts k why key (is_clean s)) h did g mid) seen p.1) q.1,
@@ -220,13 +221,13 @@ proceeds_closed k why key will t v u did mid says up is first last spares =
     }
 
 -- the tables after a part of the step are those of a broker, too
-pub hubs_after : (change : Bool → Work → Work) (t v : HubTables) (did says : List Act) → AreHubTables t → Proceeds change t did v says → AreHubTables v
-hubs_after change t v did says hubs p = record { config = hubs.config; next_key = hubs.next_key; keeps = p.keeps hubs.config hubs.next_key hubs.keeps }
+pub hubs_after : (policy : WhenFull) (change : Bool → Work → Work) (t v : HubTables) (did says : List Act) → AreHubTables t → Proceeds policy change t did v says → AreHubTables v
+hubs_after policy change t v did says hubs p = record { config = hubs.config; next_key = hubs.next_key; keeps = p.keeps hubs.config hubs.next_key hubs.keeps }
 
 -- and the will that is left is within their limit
-pub will_after_close : (change : Bool → Work → Work) (k : Conn) (why : HubClose) (will : Option Will) (t v : HubTables) (did says : List Act) → AreHubTables t
-    → Proceeds change t did v says → will ≡ will_left why (stage_of k t.connections.connections) → IsWillWithin v.connections.limits.most will
-will_after_close change k why will t v did says hubs p is =
+pub will_after_close : (policy : WhenFull) (change : Bool → Work → Work) (k : Conn) (why : HubClose) (will : Option Will) (t v : HubTables) (did says : List Act) → AreHubTables t
+    → Proceeds policy change t did v says → will ≡ will_left why (stage_of k t.connections.connections) → IsWillWithin v.connections.limits.most will
+will_after_close policy change k why will t v did says hubs p is =
     let kept = hubs.keeps in
     let within = will_within hubs.config.limits.most why k t.sessions.list t.connections.connections kept.backed in
     subst (λ (l : Bounds). IsWillWithin l.most will) (sym (p.keeps hubs.config hubs.next_key kept).limits)

@@ -1,10 +1,10 @@
-//! The log of each client over a run: the messages taken from it and the messages placed for it.
+//! The log of each client over a run: the messages taken from it, placed for it and missed by it.
 
 ghost use Rattle.std.specs.Prelude.{◌≡◌, ◌++◌, [], ◌∷◌, List, length, IfOk, OnOk};
 ghost use Rattle.std.specs.List.{flat_map};
 ghost use Rattle.mq_route.specs.Runs.{AreAccounts};
 ghost use Rattle.mq_route.specs.declared.act.Act.{Act};
-ghost use Rattle.mq_route.specs.declared.act.Act.TheVariants.{Placed, Took};
+ghost use Rattle.mq_route.specs.declared.act.Act.TheVariants.{Missed, Placed, Took};
 ghost use Rattle.mq_hub.specs.Inside.Logs.{all_noted, IsBlank};
 
 use mq_end::BoxedList;
@@ -20,6 +20,7 @@ fn blank(alloc: Global) -> ClientLog
     ClientLog {
         taken: BoxedList::from_vec(Vec::new(alloc)),
         placed: BoxedList::from_vec(Vec::new(alloc)),
+        missed: BoxedList::from_vec(Vec::new(alloc)),
     }
 }
 
@@ -76,12 +77,29 @@ fn note_placed(
     append(alloc, &mut accounts[at].placed, message)
 }
 
+// Adds a message to the log of the client that missed it, if the client has a log.
+fn note_missed(
+    alloc: Global,
+    accounts: &mut [ClientLog],
+    key: ClientKey,
+    message: &Message,
+) -> Result<(), AllocError>
+    ensures { OnOk result (accounts.new ≡ all_noted 0 (Missed key message.now) accounts.old) }
+{
+    let at = key.get() as usize;
+    if at >= accounts.len() {
+        return Ok(());
+    }
+    append(alloc, &mut accounts[at].missed, message)
+}
+
 fn note(alloc: Global, accounts: &mut [ClientLog], act: &Act) -> Result<(), AllocError>
     ensures { OnOk result (accounts.new ≡ all_noted 0 act.now accounts.old) }
 {
     match act {
         Act::Took(key, message) => note_taken(alloc, accounts, *key, message),
         Act::Placed(key, message) => note_placed(alloc, accounts, *key, message),
+        Act::Missed(key, message) => note_missed(alloc, accounts, *key, message),
         _ => Ok(()),
     }
 }

@@ -31,4 +31,5 @@ pub use crate::hub::{Hub, HubOver};
 pub use crate::run::{hub_run, hub_run_over};
 pub use mq_route::{
     Act, ClientLog, Conn, HubClose, HubConfig, HubEvent, HubRefusal, HubReply, HubTrace, User,
+    WhenFull,
 };

@@ -7,3 +7,4 @@ pub(crate) mod on_publish;
 pub(crate) mod reception;
 pub(crate) mod recipients;
 pub(crate) mod reserve;
+pub(crate) mod settle;

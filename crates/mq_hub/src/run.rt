@@ -4,7 +4,7 @@ ghost use Rattle.std.specs.Prelude.{◌≡◌, ℕ, ◌<◌, ◌⊎◌, [], leng
 ghost use Rattle.std.specs.List.{flat_map};
 ghost use Rattle.mq_route.specs.Hub.{new_hub};
 ghost use Rattle.mq_flow.specs.Receiver.{none_received};
-ghost use Rattle.mq_route.specs.Routed.{placed, routed, taken};
+ghost use Rattle.mq_route.specs.Routed.{placed, routed, settled, taken};
 ghost use Rattle.mq_route.specs.Runs.{AreAccounts, IsRun, came_in};
 ghost use Rattle.mq_route.specs.Taken.{handed_from, of_client};
 ghost use Rattle.mq_hub.specs.Run.{IsFollowed, IsRefused, IsTraced, acts_in};
@@ -13,7 +13,8 @@ use crate::accounts::accounts_of;
 use crate::hub::{Hub, HubOver};
 use mq_end::BoxedList;
 use mq_route::{
-    ClientLog, HubConfig, HubEvent, HubRefusal, HubReply, HubTrace, routing_laws, taking_laws,
+    ClientLog, HubConfig, HubEvent, HubRefusal, HubReply, HubTrace, WhenFull, routing_laws,
+    taking_laws,
 };
 use mq_topic::{FilterStore, TrieStore};
 use std::alloc::{AllocError, Global};
@@ -69,7 +70,8 @@ fn pair_with<T: Drop, U>(value: T, made: Result<U, HubRefusal>) -> Result<(T, U)
 }
 
 /// Runs a new broker over an empty store through these events. Returns the broker, the reply to
-/// each event, and the log of each client: the messages taken from it and placed for it.
+/// each event, and the log of each client: the messages taken from it, placed for it and missed by
+/// it.
 ///
 /// Errors: the refusal of the first event that is refused; `Memory` if an allocation fails.
 pub fn hub_run_over<S: FilterStore + Drop>(
@@ -82,7 +84,8 @@ pub fn hub_run_over<S: FilterStore + Drop>(
     requires capacity { 0 < config.capacity }
     requires window { IfSome config.window (λ window. 0 < window) }
     ensures run { IfOk result (λ r. IsRun config events.now r.0 r.1) }
-    ensures routed { IfOk result (λ r. (c : ℕ) → placed c (acts_in r.1) ≡ routed c (acts_in r.1)) }
+    ensures settled { IfOk result (λ r. (c : ℕ) → settled c (acts_in r.1) ≡ routed c (acts_in r.1)) }
+    ensures routed { config.when_full ≡ WhenFull.ClosePublisher → IfOk result (λ r. (c : ℕ) → placed c (acts_in r.1) ≡ routed c (acts_in r.1)) }
     ensures taken { IfOk result (λ r. (run : IsRun config events.now r.0 r.1) (c : ℕ)
         → taken c (acts_in r.1) ≡ handed_from none_received (of_client c (came_in run.episodes))) }
     ensures err { IfErr result (λ why. (why ≡ HubRefusal.Memory) ⊎ IsRefused (new_hub config) events.now why) }
@@ -103,7 +106,8 @@ pub fn hub_run(
     requires capacity { 0 < config.capacity }
     requires window { IfSome config.window (λ window. 0 < window) }
     ensures run { IfOk result (λ r. IsRun config events.now r.0 r.1) }
-    ensures routed { IfOk result (λ r. (c : ℕ) → placed c (acts_in r.1) ≡ routed c (acts_in r.1)) }
+    ensures settled { IfOk result (λ r. (c : ℕ) → settled c (acts_in r.1) ≡ routed c (acts_in r.1)) }
+    ensures routed { config.when_full ≡ WhenFull.ClosePublisher → IfOk result (λ r. (c : ℕ) → placed c (acts_in r.1) ≡ routed c (acts_in r.1)) }
     ensures taken { IfOk result (λ r. (run : IsRun config events.now r.0 r.1) (c : ℕ)
         → taken c (acts_in r.1) ≡ handed_from none_received (of_client c (came_in run.episodes))) }
     ensures err { IfErr result (λ why. (why ≡ HubRefusal.Memory) ⊎ IsRefused (new_hub config) events.now why) }

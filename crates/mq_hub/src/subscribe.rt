@@ -14,19 +14,20 @@ ghost use Rattle.mq_route.specs.Work.{close, have_room, retained_copies};
 ghost use Rattle.mq_hub.specs.Inside.Requests.{AreAlike, Subscribes};
 ghost use Rattle.mq_hub.specs.Inside.Calls.{CanServe};
 ghost use Rattle.mq_hub.specs.Inside.Refinement.{Refines};
-ghost use Rattle.mq_hub.specs.Inside.Placement.{placed_acts, HasSessions, IsFor};
+ghost use Rattle.mq_hub.specs.Inside.Placement.{HasSessions, IsFor};
 ghost use Rattle.mq_hub.specs.Inside.Subscriptions.{subscribed_acts};
 
 use crate::acts::ActLog;
 use crate::hub::HubOver;
 use crate::publish::delivery::push_all;
-use crate::publish::enqueue::{make_room_for, place_for, retained_copies};
+use crate::publish::enqueue::{place_for, retained_copies};
+use crate::publish::settle::{SettledMessages, settle_for};
 use crate::sessions::call::Call;
 use crate::subscriptions::{push_subscribed, set_rows};
 use crate::tables::Tables;
 use mq_end::size_laws;
-use mq_packet::{Message, NonEmpty, PacketId, Request, SubAckCode};
-use mq_route::Act;
+use mq_packet::{NonEmpty, PacketId, Request, SubAckCode};
+use mq_route::WhenFull;
 use mq_topic::{ClientKey, FilterStore};
 use std::alloc::{AllocError, Global};
 
@@ -44,24 +45,15 @@ fn granted(alloc: Global, requests: &[Request]) -> Result<Vec<SubAckCode>, Alloc
     Ok(codes)
 }
 
-// The acts that report messages as placed for a client. They share the messages' bytes.
-fn placed_for(alloc: Global, key: ClientKey, messages: &[Message]) -> Result<Vec<Act>, AllocError>
-    ensures { IfOk result (λ acts. acts.items ≡ placed_acts (for_key key messages.now)) }
-{
-    let mut acts = Vec::new(alloc);
-    for message in messages {
-        acts.push(Act::Placed(key, message.clone()?))?;
-    }
-    Ok(acts)
-}
-
 impl<S: FilterStore> Tables<S> {
     /// Subscribes a client (3.8.4): its subscriptions are set, SUBACK is queued, and the retained
-    /// messages are placed. Returns `false` if its session has too few free identifiers for them
-    /// (2.3.1). Then, and on `Err`, only reserved capacity may have changed.
+    /// messages are placed. If its session has too few free identifiers for them (2.3.1), the ones
+    /// without room are missed, or `false` is returned, as `when_full` says. Then, and on `Err`,
+    /// only reserved capacity may have changed.
     pub(crate) fn subscribe(
         &mut self,
         alloc: Global,
+        when_full: WhenFull,
         key: ClientKey,
         id: PacketId,
         requests: NonEmpty<Request>,
@@ -69,11 +61,10 @@ impl<S: FilterStore> Tables<S> {
     ) -> Result<bool, AllocError>
         requires can { CanServe key (Call.Grants id (granted requests)) self.old.sessions.list }
         requires due { (ms : List Message) → for_key key ms ≡ retained_copies key requests self.old.retained.messages → IsFor key ms self.old.sessions.list }
-        ensures enough { IfOk result (λ enough. (h : HubState) → HasSessions self.old.sessions.list h
+        ensures enough { IfOk result (λ enough. (h : HubState) → HasSessions self.old.sessions.list h → h.config.when_full ≡ when_full
             → have_room (retained_copies key requests self.old.retained.messages) h ≡ enough) }
-        ensures done { result ≡ Ok true → Subscribes key id requests self.old self.new }
-        ensures acts { result ≡ Ok true → log.new.acts ≡ (log.old.acts ++ subscribed_acts key requests)
-            ++ placed_acts (retained_copies key requests self.old.retained.messages) }
+        ensures done { result ≡ Ok true → (says : List Act) × Subscribes key id requests when_full self.old self.new says
+            × (log.new.acts ≡ (log.old.acts ++ subscribed_acts key requests) ++ says) }
         ensures room { result ≡ Ok true → 3 ≤ log.new.room }
         ensures full { result ≡ Ok false → AreAlike self.old self.new }
         ensures err { OnErr result (AreAlike self.old self.new) }
@@ -85,26 +76,29 @@ impl<S: FilterStore> Tables<S> {
         size_laws();
         let messages = retained_copies(alloc, &self.retained, requests.as_slice())?;
         let codes = granted(alloc, requests.as_slice())?;
-        let acts = placed_for(alloc, key, messages.as_slice())?;
         let count = requests.as_slice().len();
-        log.reserve(count + acts.len() + 3)?;
-        if !make_room_for(&mut self.sessions, key, messages.as_slice(), SUBACK + count)? {
+        log.reserve(count + messages.len() + 3)?;
+        let more = SUBACK + count;
+        let Some(settled) = settle_for(alloc, &mut self.sessions, when_full, key, messages, more)?
+        else {
             return Ok(false);
-        }
+        };
         set_rows(alloc, &mut self.store, key, requests.as_slice())?;
         push_subscribed(log, key, requests.into_vec());
         let _ = self
             .sessions
             .serve(key, Call::Grants(id, NonEmpty::from_vec(codes)));
+        let SettledMessages { kept, acts } = settled;
         push_all(log, acts);
-        place_for(&mut self.sessions, key, messages);
+        place_for(&mut self.sessions, key, kept);
         Ok(true)
     }
 }
 
 impl<S: FilterStore> HubOver<S> {
-    /// Subscribes a connected client (3.8.4). Returns `false`, with nothing changed, if its session
-    /// has too few free identifiers for the retained messages (2.3.1).
+    /// Subscribes a connected client (3.8.4). If its session has too few free identifiers for the
+    /// retained messages (2.3.1), the ones without room are missed, or `false` is returned, with
+    /// nothing changed, as the configuration says.
     pub(crate) fn on_subscribe(
         &mut self,
         key: ClientKey,
@@ -131,6 +125,8 @@ impl<S: FilterStore> HubOver<S> {
         ensures err_room { OnErr result (log.old.room ≤ log.new.room) }
     {
         let alloc = self.alloc;
-        self.tables.subscribe(alloc, key, id, requests, log)
+        let when_full = self.config.when_full;
+        self.tables
+            .subscribe(alloc, when_full, key, id, requests, log)
     }
 }

@@ -2,12 +2,12 @@
 
 ghost use Rattle.std.specs.Prelude.{◌≡◌, ◌<◌, None, IfOk};
 
-use crate::rows;
 use crate::told::{Happens, Row, all_told, counted, event, listed, told};
+use crate::{dropping, rows};
 use bytes::Bytes;
 use mq_decode::Limits;
 use mq_end::BoxedList;
-use mq_hub::{Conn, Hub, HubConfig, HubEvent, HubOver, HubRefusal, User, hub_run};
+use mq_hub::{Conn, Hub, HubConfig, HubEvent, HubOver, HubRefusal, User, WhenFull, hub_run};
 use mq_packet::Binary;
 use mq_topic::{FilterStore, ListStore};
 use mq_wire::Text;
@@ -26,6 +26,8 @@ pub(crate) struct Kind {
     pub(crate) max_sessions: usize,
     /// The one user is `u` with the password `p`.
     pub(crate) has_user: bool,
+    /// The treatment of a copy whose session is full.
+    pub(crate) when_full: WhenFull,
 }
 
 pub(crate) const WIDE: Kind = Kind {
@@ -33,13 +35,20 @@ pub(crate) const WIDE: Kind = Kind {
     max_conns: 100,
     max_sessions: 100,
     has_user: false,
+    when_full: WhenFull::ClosePublisher,
+};
+
+const DROPPING: Kind = Kind {
+    capacity: 1,
+    when_full: WhenFull::DropCopy,
+    ..WIDE
 };
 
 /// A table: its name, what its brokers are like, and its rows.
 pub(crate) type Table = (&'static str, Kind, &'static [Row]);
 
 /// All tables of rows.
-pub(crate) const TABLES: [Table; 24] = [
+pub(crate) const TABLES: [Table; 26] = [
     ("refused", WIDE, &rows::REFUSED),
     ("routed", WIDE, &rows::ROUTED),
     ("level", WIDE, &rows::LEVEL),
@@ -68,6 +77,8 @@ pub(crate) const TABLES: [Table; 24] = [
         },
         &rows::FULL_SESSION,
     ),
+    ("full_session_dropping", DROPPING, &dropping::FULL_SESSION),
+    ("retained_dropping", DROPPING, &dropping::RETAINED),
     (
         "crowded",
         Kind {
@@ -120,6 +131,7 @@ pub(crate) fn config(alloc: Global, kind: Kind) -> Result<HubConfig, Fail>
         max_conns: kind.max_conns,
         max_sessions: kind.max_sessions,
         users,
+        when_full: kind.when_full,
     })
 }
 

@@ -4,6 +4,10 @@
 #[cfg(test)]
 mod broker;
 #[cfg(test)]
+mod dropping;
+#[cfg(test)]
+mod full;
+#[cfg(test)]
 mod portions;
 #[cfg(test)]
 mod rows;

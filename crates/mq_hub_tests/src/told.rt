@@ -88,6 +88,7 @@ fn act(alloc: Global, act: &Act) -> Result<String, Fail> {
         Act::Up(conn, key, present) => of_up(alloc, *conn, *key, *present),
         Act::Took(key, message) => of_message(alloc, "took", *key, message),
         Act::Placed(key, message) => of_message(alloc, "placed", *key, message),
+        Act::Missed(key, message) => of_message(alloc, "missed", *key, message),
         Act::Will(key, message) => of_message(alloc, "will", *key, message),
         Act::Subscribed(key, filter, qos) => of_filter(alloc, *key, filter.as_str(), *qos),
         Act::Unsubscribed(key, filter) => {

@@ -5,6 +5,7 @@ use Rattle.std.specs.declared.alloc.Global.{Global}
 use Rattle.mq_packet.specs.declared.message.Message.{Message}
 use Rattle.mq_decode.specs.Limits.{strict}
 use Rattle.mq_route.specs.declared.config.HubConfig.{HubConfig}
+use Rattle.mq_route.specs.declared.config.WhenFull.TheVariants.{ClosePublisher}
 use Rattle.mq_book.specs.declared.entry.Receipt.{Receipt}
 use Rattle.mq_book.specs.Pages.{Sealed}
 use Rattle.mq_schedule.specs.Schedule.{lines_of}
@@ -18,7 +19,7 @@ use Rattle.mq_loopback.specs.Printed.{bad_line, collected_lines, play_end_line, 
 
 -- the broker that the programs run
 abbrev pub program_broker : HubConfig
-program_broker = record { limits = strict 1048576; capacity = 100; window = None; max_conns = 1000; max_sessions = 1000; users = None }
+program_broker = record { limits = strict 1048576; capacity = 100; window = None; max_conns = 1000; max_sessions = 1000; users = None; when_full = ClosePublisher }
 
 -- The messages of each client are sorted and printed, followed by the verdict on the journal and
 -- the receipts.

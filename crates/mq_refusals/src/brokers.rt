@@ -8,7 +8,7 @@ use crate::outcome::Outcome;
 use crate::ran::{Ran, outcome};
 use bytes::Bytes;
 use mq_decode::Limits;
-use mq_hub::{Act, Conn, Hub, HubConfig, HubEvent, HubOver, HubRefusal, HubReply};
+use mq_hub::{Act, Conn, Hub, HubConfig, HubEvent, HubOver, HubRefusal, HubReply, WhenFull};
 use mq_topic::{FilterStore, ListStore};
 use std::alloc::{AllocError, Global};
 
@@ -23,6 +23,7 @@ fn config() -> Option<HubConfig>
         max_conns: 4,
         max_sessions: 4,
         users: None,
+        when_full: WhenFull::ClosePublisher,
     })
 }
 

@@ -1,7 +1,7 @@
--- The senders' books of a broker's sessions stay sound, and copies for which there is room are
+-- The senders' books of a broker's sessions stay sound, and copies that are not missed are
 -- accepted.
-use Rattle.std.proofs.Common.{◌≡◌, ℕ, ◌+◌, ◌-◌, ◌≤◌, nat_le, Bool, true, false, cond, ◌&&◌, ◌||◌, List, [], ◌∷◌, ◌++◌, length, filter, Option, Some, None, is_some, refl, sym, ap, subst, ◌∙◌, eqb, eqb-true, eq-eqb, leb-true, arith}
-use Rattle.std.proofs.lemmas.Bool.{cond-true, cond-false, cond_both, false_from_ne_true}
+use Rattle.std.proofs.Common.{◌≡◌, ℕ, ◌+◌, ◌-◌, ◌≤◌, nat_le, Bool, true, false, cond, ◌&&◌, ◌||◌, List, [], ◌∷◌, ◌++◌, length, filter, Option, Some, None, is_some, refl, sym, ap, subst, ◌∙◌, eqb, eqb-true, eq-eqb, leb-true, leb-false, true≢false, arith}
+use Rattle.std.proofs.lemmas.Bool.{cond-true, cond-false, cond_both, or_from, false_from_ne_true}
 use Rattle.std.proofs.lemmas.List.Sums.{sum_by-cons}
 use Rattle.std.specs.List.{list_all, list_any, flat_map}
 use Rattle.std.specs.FinMap.{put}
@@ -22,10 +22,11 @@ use Rattle.mq_flow.specs.Sender.{SenderBook, IsFirstFree, is_full, accept, uses}
 use Rattle.mq_end.specs.Both.{has_identifier, publishes_at}
 use Rattle.mq_end.specs.End.{End, Reply, is_up}
 use Rattle.mq_route.specs.declared.conn.Conn.{Conn}
+use Rattle.mq_route.specs.declared.act.Act.TheVariants as acts
 use Rattle.mq_route.specs.Copies.{is_hidden_name, copy_by, retained_for}
 use Rattle.mq_route.specs.Hub.{HubState, HubSession, end_of, with_end, up_on, for_key, copies_of}
-use Rattle.mq_route.specs.Work.{Work, with_sessions, put_on, put_where, does, publishes_next, place, place_all, needs, have_room, retained_copies}
-use Rattle.mq_route.specs.Accepted.{IsAccept, AreAccepts, placings}
+use Rattle.mq_route.specs.Work.{Work, said, with_sessions, put_on, put_where, does, publishes_next, drops_copies, is_missed, place, place_all, needs, all_fit, have_room, retained_copies}
+use Rattle.mq_route.specs.Accepted.{Placing, IsAccept, is_miss, AreAccepts, placings}
 use Rattle.mq_route.proofs.Sessions.{has, has_with, end_with, each_there, each_with}
 
 -- ---- lists
@@ -129,9 +130,19 @@ pub does_alike : (key : ℕ) (move : End → Reply) (w : Work) → IsAlikeHub (d
 unfolding does
 does_alike key move w = where_alike (up_on key w.hub.connections) (move (end_of key w.hub.sessions)).out (with_sessions (with_end key (move (end_of key w.hub.sessions)).end) w)
 
-pub place_alike : (key : ℕ) (m : Message) (w : Work) → IsAlikeHub (place key m w).hub (with_sessions (with_end key (publishes_next m (end_of key w.hub.sessions)).end) w).hub
+-- a copy that is placed
+pub place_goes : (key : ℕ) (m : Message) (w : Work) → is_missed key m w.hub ≡ false → place key m w ≡ said (acts.Placed key m) (does key (publishes_next m) w)
 unfolding place
-place_alike key m w = does_alike key (publishes_next m) w
+place_goes key m w e = cond-false (is_missed key m w.hub) (said (acts.Missed key m) w) (said (acts.Placed key m) (does key (publishes_next m) w)) e
+
+-- one that is missed
+pub place_misses : (key : ℕ) (m : Message) (w : Work) → is_missed key m w.hub ≡ true → place key m w ≡ said (acts.Missed key m) w
+unfolding place
+place_misses key m w e = cond-true (is_missed key m w.hub) (said (acts.Missed key m) w) (said (acts.Placed key m) (does key (publishes_next m) w)) e
+
+pub place_alike : (key : ℕ) (m : Message) (w : Work) → is_missed key m w.hub ≡ false → IsAlikeHub (place key m w).hub (with_sessions (with_end key (publishes_next m (end_of key w.hub.sessions)).end) w).hub
+place_alike key m w e =
+    subst (λ (v : Work). IsAlikeHub v.hub (with_sessions (with_end key (publishes_next m (end_of key w.hub.sessions)).end) w).hub) (sym (place_goes key m w e)) (does_alike key (publishes_next m) w)
 
 any_has : (c : ℕ) (ss : List HubSession) → has c ss ≡ true → list_any (λ s. eqb s.key c) ss ≡ true
 any_has c [] h = absurd cc
@@ -143,7 +154,7 @@ any_has c (s ∷ ss) h = go (eqb s.key c) (any_has c ss) h
 
 -- ---- books
 
-module _ (capacity : ℕ) where
+module _ (capacity : ℕ) (drop : Bool) where
   -- each client's book is sound
   abbrev pub Sounds : List HubSession → Type 0
   Sounds ss = (c : ℕ) → IsSound capacity (end_of c ss).book
@@ -152,12 +163,14 @@ module _ (capacity : ℕ) where
   -- this.
   pub record Holds (h : HubState) : Type 0 where
     pub is : h.config.capacity ≡ capacity
+    pub policy : drops_copies h.config.when_full ≡ drop
     pub books : Sounds h.sessions
     pub rows : Rowed h.rows h.sessions
 
   pub holds_alike : (g h : HubState) → IsAlikeHub g h → Holds h → Holds g
   holds_alike g h same hold = record {
     is = ap (λ (c : _). c.capacity) same.2 ∙ hold.is;
+    policy = ap (λ (c : _). drops_copies c.when_full) same.2 ∙ hold.policy;
     books = subst Sounds (sym same.0) hold.books;
     rows = subst (λ (ss : List HubSession). Rowed g.rows ss) (sym same.0) (subst (λ (rows : List Row). Rowed rows h.sessions) (sym same.1) hold.rows);
   }
@@ -168,6 +181,7 @@ module _ (capacity : ℕ) where
   pub holds_with : (key : ℕ) (e : End) (w : Work) → IsSound capacity e.book → Holds w.hub → Holds (with_sessions (with_end key e) w).hub
   holds_with key e w sound h = record {
     is = h.is;
+    policy = h.policy;
     books = each_with (λ c there e. IsSound capacity e.book) key e w.hub.sessions h.books (λ there. sound);
     rows = rowed_with key e w.hub.rows w.hub.sessions h.rows;
   }
@@ -179,9 +193,9 @@ module _ (capacity : ℕ) where
 
   -- ---- room
 
-  -- each session has as many identifiers free as these copies need
+  -- each session has as many identifiers free as these copies need, unless copies may be dropped
   abbrev pub Fits : List (ℕ × Message) → ℕ → Bool → End → Type 0
-  Fits copies c there e = there ≡ true → needs c copies + length (uses e.book) ≤ capacity
+  Fits copies c there e = drop ≡ false → there ≡ true → needs c copies + length (uses e.book) ≤ capacity
 
   abbrev pub Room : List (ℕ × Message) → List HubSession → Type 0
   Room copies ss = (c : ℕ) → Fits copies c (has c ss) (end_of c ss)
@@ -215,25 +229,26 @@ module _ (capacity : ℕ) where
           subst (Roomy (needs c copies)) (sym here) (later (sym (cond-false (eqb s.key c) true (has c ss) k) ∙ there) (subst Within here within))
 
   pub room_in : (copies : List (ℕ × Message)) (ss : List HubSession) → list_all (λ s. nat_le (needs s.key copies) (capacity - length (uses s.end.book))) ss ≡ true → Sounds ss → Room copies ss
-  room_in copies ss e sounds c there = fits_at copies c ss e there (sounds c).within
+  room_in copies ss e sounds c keep there = fits_at copies c ss e there (sounds c).within
+
+  or_second : (x y : Bool) → x ≡ false → (x || y) ≡ true → y ≡ true
+  or_second false y k e = e
+  or_second true y k e = absurd cc
 
   pub room : (copies : List (ℕ × Message)) (h : HubState) → Holds h → have_room copies h ≡ true → Room copies h.sessions
-  unfolding have_room
-  room copies h hold e =
-      room_in copies h.sessions (subst (λ (n : ℕ). list_all (λ s. nat_le (needs s.key copies) (n - length (uses s.end.book))) h.sessions ≡ true) hold.is e) hold.books
+  unfolding have_room all_fit
+  room copies h hold e c keep =
+      let all = list_all (λ s. nat_le (needs s.key copies) (h.config.capacity - length (uses s.end.book))) h.sessions in
+      room_in copies h.sessions (subst (λ (n : ℕ). list_all (λ s. nat_le (needs s.key copies) (n - length (uses s.end.book))) h.sessions ≡ true) hold.is (or_second (drops_copies h.config.when_full) all (hold.policy ∙ keep) e)) hold.books c keep
 
   -- a session whose book is unchanged has as much room as before
   pub room_with : (copies : List (ℕ × Message)) (key : ℕ) (e : End) (ss : List HubSession) → e.book ≡ (end_of key ss).book → Room copies ss → Room copies (with_end key e ss)
   room_with copies key e ss same r =
-      each_with (Fits copies) key e ss r (λ there t. subst (λ (b : SenderBook). needs key copies + length (uses b) ≤ capacity) (sym same) (r key there))
+      each_with (Fits copies) key e ss r (λ there keep t. subst (λ (b : SenderBook). needs key copies + length (uses b) ≤ capacity) (sym same) (r key keep there))
 
   -- ---- placed copies
 
   module _ (ids : IdentifierLaws) (next : NextLaws) (small : capacity ≤ 65535) where
-    -- the room that a client's end must have, before and after a copy is placed
-    abbrev Ready : List (ℕ × Message) → ℕ → Bool → End → Type 0
-    Ready copies c there e = IsSound capacity e.book × Fits copies c there e
-
     not_full : (n used : ℕ) → (1 + n) + used ≤ capacity → nat_le capacity used ≡ false
     not_full n used le = false_from_ne_true (nat_le capacity used) (λ e. let over = leb-true capacity used e in omega arith)
 
@@ -281,32 +296,47 @@ module _ (capacity : ℕ) where
     need_less : (c : ℕ) (x : ℕ × Message) (copies : List (ℕ × Message)) → needs c copies ≤ needs c (x ∷ copies)
     need_less c x copies = let more = needs_cons c x copies in omega arith
 
+    -- a copy that is not missed has an identifier free
+    spare_by : (d : Bool) (q : Qos) (n used : ℕ) → used ≤ capacity → (d ≡ false → (cond (has_identifier q) 1 0 + n) + used ≤ capacity) → (d && (has_identifier q && nat_le capacity used)) ≡ false
+        → (cond (has_identifier q) 1 0 + 0) + used ≤ capacity
+    spare_by false q n used within le e = let now = le refl in omega arith
+    spare_by true Q0 n used within le e = omega arith
+    spare_by true Q1 n used within le e = let less = leb-false capacity used e in omega arith
+    spare_by true Q2 n used within le e = let less = leb-false capacity used e in omega arith
+
     -- the room after a copy is placed
-    module _ (key : ℕ) (m : Message) (copies : List (ℕ × Message)) (w : Work) (hold : Holds w.hub) (there : has key w.hub.sessions ≡ true) (r : Room ((key, m) ∷ copies) w.hub.sessions) where
+    module _ (key : ℕ) (m : Message) (copies : List (ℕ × Message)) (w : Work) (hold : Holds w.hub) (there : has key w.hub.sessions ≡ true) (r : Room ((key, m) ∷ copies) w.hub.sessions)
+        (goes : is_missed key m w.hub ≡ false) where
       abbrev e : End
       e = end_of key w.hub.sessions
 
-      enough : (cond (has_identifier m.qos) 1 0 + needs key copies) + length (uses e.book) ≤ capacity
-      enough = subst (λ (n : ℕ). n + length (uses e.book) ≤ capacity) (need_here key m copies) (r key there)
+      enough : drop ≡ false → (cond (has_identifier m.qos) 1 0 + needs key copies) + length (uses e.book) ≤ capacity
+      enough keep = subst (λ (n : ℕ). n + length (uses e.book) ≤ capacity) (need_here key m copies) (r key keep there)
+
+      spare : (cond (has_identifier m.qos) 1 0 + 0) + length (uses e.book) ≤ capacity
+      spare =
+          spare_by drop m.qos (needs key copies) (length (uses e.book)) (hold.books key).within enough
+          (subst (λ (d : Bool). (d && (has_identifier m.qos && nat_le capacity (length (uses e.book)))) ≡ false) hold.policy
+          (subst (λ (n : ℕ). (drops_copies w.hub.config.when_full && (has_identifier m.qos && nat_le n (length (uses e.book)))) ≡ false) hold.is goes))
 
       abbrev after : Work
       after = with_sessions (with_end key (publishes_next m e).end) w
 
       sessions_after : (place key m w).hub.sessions ≡ with_end key (publishes_next m e).end w.hub.sessions
-      sessions_after = (place_alike key m w).0
+      sessions_after = (place_alike key m w goes).0
 
       place_holds : Holds (place key m w).hub
-      place_holds = holds_alike (place key m w).hub after.hub (place_alike key m w) (holds_with key (publishes_next m e).end w (published m.qos (needs key copies) m e (hold.books key) enough).0 hold)
+      place_holds = holds_alike (place key m w).hub after.hub (place_alike key m w goes) (holds_with key (publishes_next m e).end w (published m.qos 0 m e (hold.books key) spare).0 hold)
 
       place_room : Room copies (place key m w).hub.sessions
       place_room =
           subst (Room copies) (sym sessions_after)
-          (each_there (Fits copies) key (publishes_next m e).end w.hub.sessions there (λ t. (published m.qos (needs key copies) m e (hold.books key) enough).1)
-          (λ c apart t. let less = need_less c (key, m) copies in let fits = r c t in omega arith))
+          (each_there (Fits copies) key (publishes_next m e).end w.hub.sessions there (λ keep t. (published m.qos (needs key copies) m e (hold.books key) (enough keep)).1)
+          (λ c apart keep t. let less = need_less c (key, m) copies in let fits = r c keep t in omega arith))
 
       place_accepts : has_identifier m.qos ≡ true → IsAccept (record { key = key; message = m; at = w })
       place_accepts h =
-          let t = takes (needs key copies) e (subst (λ (b : Bool). (cond b 1 0 + needs key copies) + length (uses e.book) ≤ capacity) h enough) in
+          let t = takes 0 e (subst (λ (b : Bool). (cond b 1 0 + 0) + length (uses e.book) ≤ capacity) h spare) in
           record {
             there = any_has key w.hub.sessions there;
             room = subst (λ (n : ℕ). is_full n e.book ≡ false) (sym hold.is) t.0;
@@ -314,13 +344,39 @@ module _ (capacity : ℕ) where
             accepts = ap (end_of key) sessions_after ∙ end_with key (publishes_next m e).end w.hub.sessions there ∙ published_is m.qos (next_identifier e.last e.book) m e h;
           }
 
-    -- copies for which there is room are accepted, and the books stay sound
-    pub accepting : (copies : List (ℕ × Message)) (w : Work) → Holds w.hub → For (Stands w.hub.sessions) copies → Room copies w.hub.sessions → AreAccepts (placings copies w) × Holds (place_all copies w).hub
-    accepting [] w hold stand r = (tt, hold)
-    accepting (x ∷ copies) w hold stand r =
-        let ss = (place x.0 x.1 w).hub.sessions in
-        let e = (publishes_next x.1 (end_of x.0 w.hub.sessions)).end in
-        let later = each_weaker (λ (y : ℕ × Message). Stands w.hub.sessions y.0) (λ (y : ℕ × Message). Stands ss y.0)
-        (λ y there. ap (has y.0) (place_alike x.0 x.1 w).0 ∙ has_with x.0 e y.0 w.hub.sessions ∙ there) copies stand.1 in
-        let more = accepting copies (place x.0 x.1 w) (place_holds x.0 x.1 copies w hold stand.0 r) later (place_room x.0 x.1 copies w hold stand.0 r) in
-        ((place_accepts x.0 x.1 copies w hold stand.0 r, more.0), more.1)
+    -- copies are dropped only under DropCopy
+    kept_by : (key : ℕ) (m : Message) (w : Work) → Holds w.hub → drop ≡ false → is_missed key m w.hub ≡ false
+    kept_by key m w hold keep = ap (λ (d : Bool). d && (has_identifier m.qos && is_full w.hub.config.capacity (end_of key w.hub.sessions).book)) (hold.policy ∙ keep)
+
+    -- no copy is missed, unless copies may be dropped
+    abbrev pub Whole : List Placing → Type 0
+    Whole ps = drop ≡ false → list_any is_miss ps ≡ false
+
+    -- copies for which there is room, or that may be dropped, are accepted or missed, and the books
+    -- stay sound
+    pub accepting : (copies : List (ℕ × Message)) (w : Work) → Holds w.hub → For (Stands w.hub.sessions) copies → Room copies w.hub.sessions
+        → AreAccepts (placings copies w) × Holds (place_all copies w).hub × Whole (placings copies w)
+    accepting [] w hold stand r = (tt, hold, λ keep. refl)
+    accepting (x ∷ copies) w hold stand r = go (is_missed x.0 x.1 w.hub) refl (accepting copies (place x.0 x.1 w))
+      where
+        fewer : Room copies w.hub.sessions
+        fewer c keep t = let less = need_less c x copies in let fits = r c keep t in omega arith
+
+        whole : Whole (placings copies (place x.0 x.1 w)) → Whole (placings (x ∷ copies) w)
+        whole more keep = or_from (is_missed x.0 x.1 w.hub) (list_any is_miss (placings copies (place x.0 x.1 w))) (kept_by x.0 x.1 w hold keep) (more keep)
+
+        go : (b : Bool) → is_missed x.0 x.1 w.hub ≡ b
+            → (Holds (place x.0 x.1 w).hub → For (Stands (place x.0 x.1 w).hub.sessions) copies → Room copies (place x.0 x.1 w).hub.sessions
+            → AreAccepts (placings copies (place x.0 x.1 w)) × Holds (place_all copies (place x.0 x.1 w)).hub × Whole (placings copies (place x.0 x.1 w)))
+            → AreAccepts (placings (x ∷ copies) w) × Holds (place_all copies (place x.0 x.1 w)).hub × Whole (placings (x ∷ copies) w)
+        go true is ih =
+            let stays : w ≡ record (place x.0 x.1 w) { did = w.did } = ap (λ (v : Work). record v { did = w.did }) (sym (place_misses x.0 x.1 w is)) in
+            let more = ih (subst Holds (ap (λ (v : Work). v.hub) stays) hold) (subst (λ (v : Work). For (Stands v.hub.sessions) copies) stays stand.1) (subst (λ (v : Work). Room copies v.hub.sessions) stays fewer) in
+            ((λ goes. absurd (true≢false (sym is ∙ goes)), more.0), more.1, whole more.2)
+        go false is ih =
+            let ss = (place x.0 x.1 w).hub.sessions in
+            let e = (publishes_next x.1 (end_of x.0 w.hub.sessions)).end in
+            let later = each_weaker (λ (y : ℕ × Message). Stands w.hub.sessions y.0) (λ (y : ℕ × Message). Stands ss y.0)
+            (λ y there. ap (has y.0) (place_alike x.0 x.1 w is).0 ∙ has_with x.0 e y.0 w.hub.sessions ∙ there) copies stand.1 in
+            let more = ih (place_holds x.0 x.1 copies w hold stand.0 r is) later (place_room x.0 x.1 copies w hold stand.0 r is) in
+            ((λ goes. place_accepts x.0 x.1 copies w hold stand.0 r is, more.0), more.1, whole more.2)

@@ -21,7 +21,7 @@ use Rattle.mq_route.specs.declared.connection_state.ConnectionTerms.{ConnectionT
 use Rattle.mq_route.specs.Routed.{same_conn}
 use Rattle.mq_route.specs.Copies.{kept, retained_for, will_message}
 use Rattle.mq_route.specs.Hub.{HubState, HubSession, HubConnection, no_end, new_end, end_of, with_end, changed, with_connection, without_session, is_for, for_key, knows, stage_of, up_on, copies_of}
-use Rattle.mq_route.specs.Work.{Work, said, with_connections, with_sessions, staged, shut, put_on, put_where, does, have_room, remove, remove_if, will_after}
+use Rattle.mq_route.specs.Work.{Work, said, with_connections, with_sessions, staged, shut, put_on, put_where, does, is_missed, have_room, remove, remove_if, will_after}
 use Rattle.mq_route.specs.Arrives.{new_session, touched_on}
 use Rattle.mq_route.specs.Dropped.{when_over}
 use Rattle.mq_route.proofs.Lines.{Mild, Names, Ups, upper, names_changed, ups_changed, upper_map, up_map, grown, same_conn-itself}
@@ -77,6 +77,8 @@ pub record Inner (IsOwn : Conn → Type 0) (R : Debt → Work → Type 0) : Type
   pub willed : (key : ℕ) (m : Message) (w : Work) → R nothing w → R (owes (copies_of m w.hub) [] []) (retaining (acts.Will key m) m w)
   pub placed : (key : ℕ) (m : Message) (ps : List Packet) (c t : List (ℕ × Message)) (n : List (ℕ × Packet)) (w : Work)
       → R (owes ((key, m) ∷ c) t n) w → R (owes c t n) (said (acts.Placed key m) (put_where (up_on key w.hub.connections) ps w))
+  pub missed : (key : ℕ) (m : Message) (c t : List (ℕ × Message)) (n : List (ℕ × Packet)) (w : Work)
+      → is_missed key m w.hub ≡ true → R (owes ((key, m) ∷ c) t n) w → R (owes c t n) (said (acts.Missed key m) w)
   pub subscribed : (key : ℕ) (f : List ℕ) (q : Qos) (c t : List (ℕ × Message)) (n : List (ℕ × Packet)) (w : Work)
       → R (owes c t n) w → R (owes (c ++ for_key key (retained_for f q w.hub.retained)) t n) (subscribing key f q w)
   pub unsubscribed : (key : ℕ) (f : List ℕ) (o : Debt) (w : Work) → R o w → R o (unsubscribing key f w)
@@ -223,6 +225,7 @@ sound_inner IsOwn = record {
   took = λ key m t n w s. s;
   willed = λ key m w s. s;
   placed = λ key m ps c t n w s. sound_put_where (up_on key w.hub.connections) ps w s;
+  missed = λ key m c t n w is s. s;
   subscribed = λ key f q c t n w s. s;
   unsubscribed = λ key f o w s. s;
 }

@@ -1,15 +1,17 @@
 -- Events keep the invariants of sessions and connections.
-use Rattle.std.proofs.Common.{◌≡◌, Bool, true, false, cond, [], Option, Some, None, refl, sym, subst}
+use Rattle.std.proofs.Common.{◌≡◌, Bool, true, false, cond, [], Option, Some, None, refl, sym, ap, subst, ◌∙◌}
 use Rattle.mq_route.specs.declared.conn.Conn.{Conn}
 use Rattle.mq_route.specs.declared.config.HubConfig.{HubConfig}
 use Rattle.mq_route.specs.declared.close.HubClose.TheVariants.{PeerEnded}
-use Rattle.mq_route.specs.declared.event.HubEvent.TheVariants.{Opened}
+use Rattle.mq_route.specs.declared.event.HubEvent.{HubEvent}
+use Rattle.mq_route.specs.declared.event.HubEvent.TheVariants.{Opened, Bytes, Ended, Tick, Collect}
+use Rattle.mq_route.specs.declared.reply.HubReply.{HubReply}
 use Rattle.mq_route.specs.declared.refusal.HubRefusal.TheVariants as refusals
 use Rattle.mq_route.specs.declared.connection_state.ConnectionState.{ConnectionState}
 use Rattle.mq_route.specs.declared.connection_state.ConnectionState.TheVariants.{AwaitingConnect, ConnectedAs, Closed}
 use Rattle.mq_route.specs.Hub.{HubState, HubConnection, new_hub, knows, stage_of, changed, without_connection, is_open, end_of}
 use Rattle.mq_route.specs.Work.{Work, with_connections}
-use Rattle.mq_route.specs.Step.{event_refusal, opened, collected, ended_open}
+use Rattle.mq_route.specs.Step.{Does, event_refusal, opened, collected, ended_open}
 use Rattle.mq_route.proofs.Lines.{Names, Ups, names_changed, ups_changed}
 use Rattle.mq_route.proofs.Uppers.{IsIdle, apart_opened, upper_opened, apart_without, upper_without}
 use Rattle.mq_route.proofs.Sessions.{has}
@@ -62,3 +64,11 @@ ended_idle k fits w = go (stage_of k w.hub.connections) refl
     go AwaitingConnect e = subst IsIdle (sym (closed_shut k PeerEnded fits w)) (λ c. refl)
     go (ConnectedAs key terms last_activity) e = subst IsIdle (sym (closed_shut k PeerEnded fits w)) (λ c. refl)
     go Closed e = subst IsIdle (sym e) (λ c. refl)
+
+-- the acts of the reply are those of the step
+pub acts_are : (h : HubState) (e : HubEvent) (r : HubReply) (w : Work) → Does h e r w → r.acts ≡ w.did
+acts_are h (Opened k) r w d = ap (λ (r : HubReply). r.acts) d.1
+acts_are h (Bytes k piece) r w d = ap (λ (r : HubReply). r.acts) d.1
+acts_are h (Ended k) r w d = ap (λ (r : HubReply). r.acts) d.2
+acts_are h (Tick now) r w d = ap (λ (r : HubReply). r.acts) d.1
+acts_are h (Collect k) r w d = ap (λ (r : HubReply). r.acts) d.1 ∙ sym (ap (λ (w : Work). w.did) d.0)

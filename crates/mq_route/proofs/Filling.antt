@@ -1,5 +1,5 @@
 -- A connection closes for a full session only at a packet that is too much.
-use Rattle.std.proofs.Common.{◌≡◌, ◌⊎◌, inl, inr, ℕ, ◌+◌, ◌<◌, Bool, true, false, ◌&&◌, cond, List, [], ◌∷◌, ◌++◌, map, max, Option, Some, None, refl, sym, ap, ap₂, subst, subst₂, ◌∙◌, true≢false, append-nil, nat_le, ◌-◌, length, arith, le-leb, eqb}
+use Rattle.std.proofs.Common.{◌≡◌, ◌⊎◌, inl, inr, ℕ, ◌+◌, ◌<◌, Bool, true, false, ◌&&◌, cond, List, [], ◌∷◌, ◌++◌, ◌||◌, map, max, Option, Some, None, refl, sym, ap, ap₂, subst, subst₂, ◌∙◌, true≢false, append-nil, nat_le, ◌-◌, length, arith, le-leb, eqb}
 use Rattle.std.proofs.lemmas.Bool.{and_from, cond_both, leb-false}
 use Rattle.mq_flow.specs.Sender.{uses}
 use Rattle.std.proofs.lemmas.List.Concat.{flat_map-append}
@@ -41,10 +41,10 @@ use Rattle.mq_route.specs.declared.connection_state.ConnectionTerms.{ConnectionT
 use Rattle.mq_route.specs.Copies.{retained_for}
 use Rattle.mq_route.specs.Routed.{Seen, seen, seen_after, routes, routed_from, copies_for}
 use Rattle.mq_route.specs.Hub.{HubState, HubSession, new_hub, stage_of, is_open, key_on, held_on, up_on, end_of, with_end, for_key}
-use Rattle.mq_route.specs.Work.{Work, begin, said, with_sessions, staged, shut, put_on, put_where, does, needs, have_room, remove, remove_if, retained_copies, will_after, leaves_behind, close}
+use Rattle.mq_route.specs.Work.{Work, begin, said, with_sessions, staged, shut, put_on, put_where, does, drops_copies, needs, all_fit, have_room, remove, remove_if, retained_copies, will_after, leaves_behind, close}
 use Rattle.mq_route.specs.Arrives.{Growth, due, due_by, new_session, touched, touched_on, answers_all, replies, dispatch_packet, arrives, takes}
-use Rattle.mq_route.specs.Step.{holding, Comes, Arrives, Waits, Breaks, Starves, LetsGo, Does, told}
-use Rattle.mq_route.specs.Runs.{acts_of}
+use Rattle.mq_route.specs.Step.{holding, Comes, Arrives, Waits, Breaks, Starves, LetsGo, Does, event_refusal, told}
+use Rattle.mq_route.specs.Runs.{Episode, Follows, acts_of}
 use Rattle.mq_route.specs.Laws.{for_client}
 use Rattle.mq_route.specs.Full.{if_full, full_by, full_closes, IsPublishOrSubscribe, asked_by, asked, identifiers_for, IsAmong, IsTooMuch, ComesTooMuch, IsFullEvent, FullLaws}
 use Rattle.mq_route.proofs.Changes.{Anywhere, anywhere, Freely, freely, Debt, owes, nothing, Everywhere, Inner, sent_where, Outer, Ways, Sound, closing, rising, sound_put, sound_mild}
@@ -53,9 +53,11 @@ use Rattle.mq_route.proofs.Frames.{closed_shut}
 use Rattle.mq_route.proofs.Steps.{heard_mild, stage_heard, takes_both, breaks_both, close_both, holding_both, ticks_both, ended_both}
 use Rattle.mq_route.proofs.Events.{sound_new}
 use Rattle.mq_route.proofs.Output.{sound_run}
+use Rattle.mq_route.proofs.Missing.{short_parts}
 use Rattle.mq_route.proofs.Routing as routing
 use Rattle.mq_route.proofs.Reading as reading
 use Rattle.mq_route.specs.declared.config.HubConfig.{HubConfig}
+use Rattle.mq_route.specs.declared.config.WhenFull.TheVariants.{ClosePublisher, DropCopy}
 
 -- ---- one more act
 
@@ -89,6 +91,7 @@ module _ (L : List Conn) (X : Type 0) where
     placed = λ key m ps c t n w r.
         let v = put_where (up_on key w.hub.connections) ps w in
         few_more v.did (acts.Placed key m) refl (sent_where Few put_few (up_on key w.hub.connections) ps (owes ((key, m) ∷ c) t n) w r);
+    missed = λ key m c t n w is r. few_more w.did (acts.Missed key m) refl r;
     subscribed = λ key f q c t n w r. few_more w.did (acts.Subscribed key f q) refl r;
     unsubscribed = λ key f o w r. few_more w.did (acts.Unsubscribed key f) refl r;
   }
@@ -148,10 +151,15 @@ all_room capacity (s ∷ ss) =
     let room = capacity - length (uses s.end.book) in
     and_from (nat_le 0 room) (list_all (λ s. nat_le (needs s.key []) (capacity - length (uses s.end.book))) ss) (le-leb 0 room (omega arith)) (all_room capacity ss)
 
+or_last : (b c : Bool) → c ≡ true → (b || c) ≡ true
+or_last true c e = refl
+or_last false c e = e
+
 -- there is room for no copies
 room_none : (h : HubState) → have_room [] h ≡ true
-unfolding have_room
-room_none h = all_room h.config.capacity h.sessions
+unfolding have_room all_fit
+room_none h =
+    or_last (drops_copies h.config.when_full) (list_all (λ s. nat_le (needs s.key []) (h.config.capacity - length (uses s.end.book))) h.sessions) (all_room h.config.capacity h.sessions)
 
 -- a session has fewer identifiers free than these copies need
 abbrev LacksRoom : List (ℕ × Message) → ℕ → List HubSession → Type 0
@@ -168,8 +176,8 @@ lacks copies capacity (s ∷ ss) h = go (nat_le (needs s.key copies) (capacity -
     go false e h ih = (s, inl refl, leb-false (needs s.key copies) (capacity - length (uses s.end.book)) e)
 
 not_room : (copies : List (ℕ × Message)) (h : HubState) → have_room copies h ≡ false → LacksRoom copies h.config.capacity h.sessions
-unfolding have_room
-not_room copies h short = lacks copies h.config.capacity h.sessions short
+unfolding all_fit
+not_room copies h short = lacks copies h.config.capacity h.sessions (short_parts copies h short).1
 
 needs_for : (key : ℕ) (copies : List (ℕ × Message)) → needs key copies ≡ identifiers_for (for_client key copies)
 needs_for key [] = refl
@@ -345,8 +353,14 @@ module _ (store : StoreLaws) (log : List Act) (config : HubConfig) where
         closes = closes;
       }
 
+  -- copies without room are not dropped
+  policy : (k : Conn) (p : Packet) (w : Work) → w.hub.config ≡ config → IsFull k p (touched_on k w) → config.when_full ≡ ClosePublisher
+  policy k p w same x =
+      let u = touched_on k w in
+      subst (λ (c : HubConfig). c.when_full ≡ ClosePublisher) same (short_parts (due x.key u.hub (server_gets p (end_of x.key u.hub.sessions)).happenings) u.hub x.short).0
+
   few_comes : (limits : Bounds) (k : Conn) (b : List ℕ) (w w2 : Work) (c : Comes limits k b w w2) → Sound w.hub → Told w → full_closes w.did ≡ []
-      → (full_closes w2.did ≡ []) ⊎ ((full_closes w2.did ≡ k ∷ []) × ComesTooMuch log config.capacity limits k b w w2 c)
+      → (full_closes w2.did ≡ []) ⊎ ((config.when_full ≡ ClosePublisher) × (full_closes w2.did ≡ k ∷ []) × ComesTooMuch log config.capacity limits k b w w2 c)
   few_comes limits k b w w2 (Arrives p first rest g v v2 on reads more) s told none =
       let X : Type 0 = IsFull k p (touched_on k v) in
       let t = takes_both (Few [] X) (May [] X) Anywhere (inner [] X) (outer [] X) (ways [] X) anywhere k p g v tt tt
@@ -359,17 +373,20 @@ module _ (store : StoreLaws) (log : List Act) (config : HubConfig) where
       now = takes k p g v
 
       Ends : Type 0
-      Ends = (full_closes v2.did ≡ []) ⊎ ((full_closes v2.did ≡ k ∷ []) × (IsTooMuch log config.capacity k p g v ⊎ ComesTooMuch log config.capacity limits k rest now v2 more))
+      Ends = (full_closes v2.did ≡ []) ⊎ ((config.when_full ≡ ClosePublisher) × (full_closes v2.did ≡ k ∷ []) × (IsTooMuch log config.capacity k p g v ⊎ ComesTooMuch log config.capacity limits k rest now v2 more))
 
-      later : (full_closes v2.did ≡ []) ⊎ ((full_closes v2.did ≡ k ∷ []) × ComesTooMuch log config.capacity limits k rest now v2 more) → Ends
+      More : Type 0
+      More = (full_closes v2.did ≡ []) ⊎ ((config.when_full ≡ ClosePublisher) × (full_closes v2.did ≡ k ∷ []) × ComesTooMuch log config.capacity limits k rest now v2 more)
+
+      later : More → Ends
       later (inl e) = inl e
-      later (inr x) = inr (x.0, inr x.1)
+      later (inr x) = inr (x.0, x.1, inr x.2)
 
-      here : IsFull k p (touched_on k v) → Leaves k now → (full_closes now.did ≡ [] → (full_closes v2.did ≡ []) ⊎ ((full_closes v2.did ≡ k ∷ []) × ComesTooMuch log config.capacity limits k rest now v2 more)) → Ends
+      here : IsFull k p (touched_on k v) → Leaves k now → (full_closes now.did ≡ [] → More) → Ends
       here x (inl e) ih = later (ih e)
-      here x (inr e) ih = inr (ap (λ (w : Work). full_closes w.did) (lets_go limits k rest now v2 more e.1) ∙ e.0, inl (too_much k p g v told x none e.0))
+      here x (inr e) ih = inr (policy k p v told.1 x, ap (λ (w : Work). full_closes w.did) (lets_go limits k rest now v2 more e.1) ∙ e.0, inl (too_much k p g v told x none e.0))
 
-      go : (full_closes now.did ≡ []) ⊎ IsFull k p (touched_on k v) → (full_closes now.did ≡ [] → (full_closes v2.did ≡ []) ⊎ ((full_closes v2.did ≡ k ∷ []) × ComesTooMuch log config.capacity limits k rest now v2 more)) → Ends
+      go : (full_closes now.did ≡ []) ⊎ IsFull k p (touched_on k v) → (full_closes now.did ≡ [] → More) → Ends
       go (inl e) ih = later (ih e)
       go (inr x) ih = here x (takes_full k p g v s none x) ih
   few_comes limits k b w w2 (Waits c v on pending) s told none = inl none
@@ -392,9 +409,25 @@ module _ (store : StoreLaws) (log : List Act) where
       inl (only (ticks_both (Few [] ⊥) (May [] ⊥) Anywhere (inner [] ⊥) (outer [] ⊥) (ways [] ⊥) anywhere (λ fits w. tt) (max h.clock now) h.connections (begin (told now h)) w d.0 (s, inl refl)).1)
   few_event h (Collect k) r w d s a = inl (ap (λ (w : Work). full_closes w.did) d.0)
 
+-- under DropCopy no event is too much
+never_event : (log : List Act) (h : HubState) (e : HubEvent) (r : HubReply) (w : Work) (d : Does h e r w) → h.config.when_full ≡ DropCopy → (full_closes w.did ≡ []) ⊎ IsFullEvent log h e r w d → full_closes w.did ≡ []
+never_event log h e r w d drops (inl none) = none
+never_event log h (Bytes k piece) r w d drops (inr x) = absurd (let clash : DropCopy ≡ ClosePublisher = sym drops ∙ x.0 in cc)
+never_event log h (Opened k) r w d drops (inr x) = absurd x
+never_event log h (Ended k) r w d drops (inr x) = absurd x
+never_event log h (Tick now) r w d drops (inr x) = absurd x
+never_event log h (Collect k) r w d drops (inr x) = absurd x
+
 pub laws : StoreLaws → FullLaws
 laws store = record {
-  closes = λ config before h f e r w right d.
-      few_event store (acts_of before) h e r w d (sound_run before (new_hub config) h f (sound_new config))
-      (routing.tells_run store before [] (new_hub config) h f (sound_new config) (λ c. refl, λ c. refl));
+  closes = full;
+  never = λ config drops before h f e r w right d.
+      let same = reading.same_run before (new_hub config) h f (sound_new config) in
+      never_event (acts_of before) h e r w d (ap (λ (c : HubConfig). c.when_full) same ∙ drops) (full config before h f e r w right d);
 }
+  where
+    full : (config : HubConfig) (before : List Episode) (h : HubState) → Follows (new_hub config) before h → (e : HubEvent) (r : HubReply) (w : Work) → event_refusal e h ≡ None → (d : Does h e r w)
+        → (full_closes w.did ≡ []) ⊎ IsFullEvent (acts_of before) h e r w d
+    full config before h f e r w right d =
+        few_event store (acts_of before) h e r w d (sound_run before (new_hub config) h f (sound_new config))
+        (routing.tells_run store before [] (new_hub config) h f (sound_new config) (λ c. refl, λ c. refl))

@@ -44,6 +44,7 @@ module _ {A : Type 0} (F : List HubConnection → A) (firm : Firm F) (v : A) whe
     took = λ key m t n w h. h;
     willed = λ key m w h. h;
     placed = λ key m ps c t n w h. sent_where (λ o w. F w.hub.connections ≡ v) lines_put (up_on key w.hub.connections) ps (owes ((key, m) ∷ c) t n) w h;
+    missed = λ key m c t n w is h. h;
     subscribed = λ key f q c t n w h. h;
     unsubscribed = λ key f o w h. h;
   }
@@ -91,6 +92,7 @@ has_inner c b = record {
   took = λ key m t n w h. h;
   willed = λ key m w h. h;
   placed = λ key m ps d t n w h. sent_where (λ o w. has c w.hub.sessions ≡ b) (has_put c b) (up_on key w.hub.connections) ps (owes ((key, m) ∷ d) t n) w h;
+  missed = λ key m d t n w is h. h;
   subscribed = λ key f q c t n w h. h;
   unsubscribed = λ key f o w h. h;
 }

@@ -118,6 +118,7 @@ module _ (store : StoreLaws) (viewer c : ℕ) (f : List ℕ) (q : Qos) where
   rows_go s (acts.Took d m) h = inr (refl, h)
   rows_go s (acts.Will d m) h = inr (refl, h)
   rows_go s (acts.Placed d m) h = inr (refl, h)
+  rows_go s (acts.Missed d m) h = inr (refl, h)
   rows_go s (acts.WillDropped d) h = inr (refl, h)
 
   set_comes : (d : ℕ) (g : List ℕ) (p : Qos) (o : Option Qos) → ((c ≡ d) × (f ≡ g) × (q ≡ p)) ⊎ (((eqb c d && bytes_eq f g) ≡ false) × (o ≡ Some q)) → cond (eqb c d && bytes_eq f g) (Some p) o ≡ Some q
@@ -142,7 +143,9 @@ module _ (store : StoreLaws) (viewer c : ℕ) (f : List ℕ) (q : Qos) where
   rows_come s (acts.Will d m) (inr h) = h.1
   rows_come s (acts.Will d m) (inl x) = absurd x
   rows_come s (acts.Placed d m) (inr h) = h.1
+  rows_come s (acts.Missed d m) (inr h) = h.1
   rows_come s (acts.Placed d m) (inl x) = absurd x
+  rows_come s (acts.Missed d m) (inl x) = absurd x
   rows_come s (acts.WillDropped d) (inr h) = h.1
   rows_come s (acts.WillDropped d) (inl x) = absurd x
 
@@ -174,6 +177,7 @@ module _ (c : ℕ) (k : Conn) where
   connection_goes s (acts.Took d m) h = inr (refl, h)
   connection_goes s (acts.Will d m) h = inr (refl, h)
   connection_goes s (acts.Placed d m) h = inr (refl, h)
+  connection_goes s (acts.Missed d m) h = inr (refl, h)
   connection_goes s (acts.WillDropped d) h = inr (refl, h)
 
   up_comes : (d : ℕ) (j : Conn) (s : Seen) → ((c ≡ d) × (k ≡ j)) ⊎ ((eqb d c ≡ false) × (s.up ≡ Some k)) → (cond (eqb d c) (record s { up = Some j }) s).up ≡ Some k
@@ -196,7 +200,9 @@ module _ (c : ℕ) (k : Conn) where
   connection_comes s (acts.Will d m) (inr h) = h.1
   connection_comes s (acts.Will d m) (inl x) = absurd x
   connection_comes s (acts.Placed d m) (inr h) = h.1
+  connection_comes s (acts.Missed d m) (inr h) = h.1
   connection_comes s (acts.Placed d m) (inl x) = absurd x
+  connection_comes s (acts.Missed d m) (inl x) = absurd x
   connection_comes s (acts.WillDropped d) (inr h) = h.1
   connection_comes s (acts.WillDropped d) (inl x) = absurd x
 
@@ -354,6 +360,7 @@ retained_after viewer s (acts.Subscribed d g p) = refl
 retained_after viewer s (acts.Unsubscribed d g) = refl
 retained_after viewer s (acts.Removed d) = refl
 retained_after viewer s (acts.Placed d m) = refl
+retained_after viewer s (acts.Missed d m) = refl
 retained_after viewer s (acts.WillDropped d) = refl
 
 module _ (viewer : ℕ) (m : Message) where

@@ -9,6 +9,7 @@ mod Steps
 mod Events
 mod Output
 mod Reaching
+mod Missing
 mod Routing
 mod Taking
 mod Rows

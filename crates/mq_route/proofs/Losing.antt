@@ -15,6 +15,8 @@ use Rattle.mq_route.specs.declared.act.Act.{Act}
 use Rattle.mq_route.specs.declared.act.Act.TheVariants as acts
 use Rattle.mq_route.specs.declared.close.HubClose.{HubClose}
 use Rattle.mq_route.specs.declared.close.HubClose.TheVariants.{Own}
+use Rattle.mq_route.specs.declared.config.HubConfig.{HubConfig}
+use Rattle.mq_route.specs.declared.config.WhenFull.TheVariants.{ClosePublisher}
 use Rattle.mq_route.specs.declared.conn.Conn.{Conn}
 use Rattle.mq_route.specs.declared.event.HubEvent.{HubEvent}
 use Rattle.mq_route.specs.declared.event.HubEvent.TheVariants.{Opened, Bytes, Ended, Tick, Collect}
@@ -25,16 +27,18 @@ use Rattle.mq_route.specs.declared.connection_state.ConnectionTerms.{ConnectionT
 use Rattle.mq_route.specs.Routed.{same_conn}
 use Rattle.mq_route.specs.Copies.{will_message, copy_by, is_hidden_name}
 use Rattle.mq_route.specs.Hub.{HubState, HubConnection, new_hub, is_connection, is_for, changed, stage_of, is_open, held_on, up_on, end_of, with_end, without_session, for_key, copies_of}
-use Rattle.mq_route.specs.Work.{Work, begin, said, with_sessions, staged, shut, put_on, put_where, does, needs, have_room, remove, remove_if, will_after, close}
+use Rattle.mq_route.specs.Work.{Work, begin, said, with_sessions, staged, shut, put_on, put_where, does, drops_copies, needs, all_fit, have_room, remove, remove_if, will_after, close}
 use Rattle.mq_route.specs.Arrives.{new_session, touched, touched_on, takes}
 use Rattle.mq_route.specs.Step.{holding, Comes, Arrives, Waits, Breaks, Starves, LetsGo, Ticks, Done, InTime, Late, Does, told}
 use Rattle.mq_route.specs.Dropped.{dropped_by, dropped, is_in, LosesWill, ComesLosing, TicksLosing, IsLosingEvent, WillLaws}
 use Rattle.mq_route.proofs.Lines.{one_conn, Names, Ups, grown, names_changed, ups_changed, stage_there}
-use Rattle.mq_route.proofs.Changes.{Debt, owes, nothing, Freely, freely, Everywhere, Inner, sent_where, Outer, Nearby, IsShort, Sound, closing, rising, closed_line, names_grown, ups_grown}
+use Rattle.mq_route.proofs.Changes.{Debt, owes, nothing, Freely, freely, Anywhere, anywhere, Everywhere, Inner, sent_where, Outer, Nearby, IsShort, Sound, sound_holding, closing, rising, closed_line, names_grown, ups_grown}
 use Rattle.mq_route.proofs.Frames.{stage_firm}
-use Rattle.mq_route.proofs.Steps.{heard_mild, stage_heard, takes_both, breaks_both, close_both, holding_both, ended_both}
+use Rattle.mq_route.proofs.Steps.{heard_mild, stage_heard, takes_both, breaks_both, close_both, ended_both}
 use Rattle.mq_route.proofs.Events.{sound_new}
 use Rattle.mq_route.proofs.Output.{sound_run}
+use Rattle.mq_route.proofs.Missing.{short_parts}
+use Rattle.mq_route.proofs.Reading as reading
 
 -- ---- works that differ little
 
@@ -120,8 +124,8 @@ nearby fits w = record { put = put_near fits w; touches = touch_near fits w }
 
 room_alike : (m : Message) (g h : HubState) → g.config ≡ h.config → g.sessions ≡ h.sessions → g.rows ≡ h.rows → ((c : ℕ) → up_on c g.connections ≡ up_on c h.connections)
     → have_room (copies_of m g) g ≡ have_room (copies_of m h) h
-unfolding have_room copies_of
-room_alike m g h c s r u = λ i. list_all (λ x. nat_le
+unfolding have_room all_fit copies_of
+room_alike m g h c s r u = λ i. drops_copies (c i).when_full || list_all (λ x. nat_le
     (needs x.key (cond (is_hidden_name m.topic) [] (flat_map (λ found. for_key found.0 (copy_by (is_some (u found.0 i)) m (Some found.1))) (matched m.topic (r i)))))
     ((c i).capacity - length (uses x.end.book))) (s i)
 
@@ -139,14 +143,23 @@ room_if m k why key v w c s r u true =
     (λ i. without_session key (with_end key (over (end_of key (s i))) (s i))) (λ i. without_client key (r i)) u
 room_if m k why key v w c s r u false = room_alike m (over_in k why key v).hub (over_in k why key w).hub c (λ i. with_end key (over (end_of key (s i))) (s i)) r u
 
-either : (fits room : Bool) → (fits && room) ≡ false → (fits ≡ false) ⊎ (room ≡ false)
-either true room e = inr e
-either false room e = inl refl
+either : (fits room : Bool) (P : Type 0) → (room ≡ false → P) → (fits && room) ≡ false → (fits ≡ false) ⊎ (P × (room ≡ false))
+either true room P keeps e = inr (keeps e, e)
+either false room P keeps e = inl refl
+
+-- a close keeps the configuration
+closing_config : (k : Conn) (why : HubClose) (key : ℕ) (terms : ConnectionTerms) (w : Work) → (closing k why key terms w).hub.config ≡ w.hub.config
+unfolding remove
+closing_config k why key terms w = go terms.clean_session
+  where
+    go : (b : Bool) → (remove_if b key (over_in k why key w)).hub.config ≡ w.hub.config
+    go true = refl
+    go false = refl
 
 -- the close of a connection whose client loses its will
-loses : (fits : Bool) (w : Work) (other : Bool) (k : Conn) (why : HubClose) (key : ℕ) (terms : ConnectionTerms) (last_activity : ℕ) (v : Work) → IsNear fits w other v
-    → stage_of k v.hub.connections ≡ ConnectedAs key terms last_activity → (m : Will) → will_after why terms.will ≡ Some m → IsShort m other (closing k why key terms v) → LosesWill key fits w
-loses fits w other k why key terms last_activity v near stage m has short =
+loses : (config : HubConfig) (fits : Bool) (w : Work) → w.hub.config ≡ config → (other : Bool) (k : Conn) (why : HubClose) (key : ℕ) (terms : ConnectionTerms) (last_activity : ℕ) (v : Work) → IsNear fits w other v
+    → stage_of k v.hub.connections ≡ ConnectedAs key terms last_activity → (m : Will) → will_after why terms.will ≡ Some m → IsShort m other (closing k why key terms v) → LosesWill config.when_full key fits w
+loses config fits w is other k why key terms last_activity v near stage m has short =
     let old = near.5 k key terms last_activity stage in
     let after = closing k why key terms w in
     let room = room_if (will_message m) k why key v w near.1 near.2 near.3 (λ c. near.4 k c) terms.clean_session in
@@ -158,7 +171,8 @@ loses fits w other k why key terms last_activity v near stage m has short =
       connected = old.1;
       will = m;
       has = has;
-      short = either fits (have_room (copies_of (will_message m) after.hub) after.hub) (sym (ap₂ (λ (a b : Bool). a && b) near.0 room) ∙ short);
+      short = either fits (have_room (copies_of (will_message m) after.hub) after.hub) (config.when_full ≡ ClosePublisher)
+          (λ lacks. subst (λ (c : HubConfig). c.when_full ≡ ClosePublisher) (closing_config k why key terms w ∙ is) (short_parts (copies_of (will_message m) after.hub) after.hub lacks).0) (sym (ap₂ (λ (a b : Bool). a && b) near.0 room) ∙ short);
     }
 
 -- ---- one more act
@@ -179,9 +193,9 @@ last_in c key (x ∷ xs) h = go (eqb x c) h (last_in c key xs)
     go false h ih = ih h
 
 -- each dropped will was dropped before this work, or has a reason
-module _ (fits : Bool) (w : Work) where
+module _ (config : HubConfig) (fits : Bool) (w : Work) (is : w.hub.config ≡ config) where
   abbrev Explained : List Act → Type 0
-  Explained did = (c : ℕ) → is_in c (dropped did) ≡ true → (is_in c (dropped w.did) ≡ true) ⊎ LosesWill c fits w
+  Explained did = (c : ℕ) → is_in c (dropped did) ≡ true → (is_in c (dropped w.did) ≡ true) ⊎ LosesWill config.when_full c fits w
 
   abbrev Few : Debt → Work → Type 0
   Few o v = Explained v.did
@@ -203,6 +217,7 @@ module _ (fits : Bool) (w : Work) where
     placed = λ key m ps c t n v r.
         let u = put_where (up_on key v.hub.connections) ps v in
         few_more u.did (acts.Placed key m) refl (sent_where Few put_few (up_on key v.hub.connections) ps (owes ((key, m) ∷ c) t n) v r);
+    missed = λ key m c t n v is r. few_more v.did (acts.Missed key m) refl r;
     subscribed = λ key f q c t n v r. few_more v.did (acts.Subscribed key f q) refl r;
     unsubscribed = λ key f o v r. few_more v.did (acts.Unsubscribed key f) refl r;
   }
@@ -219,13 +234,13 @@ module _ (fits : Bool) (w : Work) where
   remove_if_few true key v r = removes_few key v r
   remove_if_few false key v r = r
 
-  drops_few : (key : ℕ) (did : List Act) → LosesWill key fits w → Explained did → Explained (did ++ acts.WillDropped key ∷ [])
+  drops_few : (key : ℕ) (did : List Act) → LosesWill config.when_full key fits w → Explained did → Explained (did ++ acts.WillDropped key ∷ [])
   unfolding dropped_by
   drops_few key did reason r c i = go (last_in c key (dropped did) (subst (λ (l : List ℕ). is_in c l ≡ true) (dropped_more did (acts.WillDropped key)) i))
     where
-      go : (is_in c (dropped did) ≡ true) ⊎ (key ≡ c) → (is_in c (dropped w.did) ≡ true) ⊎ LosesWill c fits w
+      go : (is_in c (dropped did) ≡ true) ⊎ (key ≡ c) → (is_in c (dropped w.did) ≡ true) ⊎ LosesWill config.when_full c fits w
       go (inl old) = r c old
-      go (inr same) = inr (subst (λ (d : ℕ). LosesWill d fits w) same reason)
+      go (inr same) = inr (subst (λ (d : ℕ). LosesWill config.when_full d fits w) same reason)
 
   begins_few : (client : List ℕ) (v : Work) → Few nothing v → Few nothing (new_session client v)
   unfolding new_session
@@ -249,52 +264,64 @@ module _ (fits : Bool) (w : Work) where
     closes = λ k why key terms last_activity v may s e r.
         remove_if_few terms.clean_session key (over_in k why key v) (closed_few k why v.did r);
     drops = λ k why key terms last_activity other v near stage m has short r.
-        drops_few key (closing k why key terms v).did (loses fits w other k why key terms last_activity v near stage m has short) r;
+        drops_few key (closing k why key terms v).did (loses config fits w is other k why key terms last_activity v near stage m has short) r;
     removes = λ key v s none r. removes_few key v r;
     begins = λ client v s r. begins_few client v r;
     rises = λ k key terms last_activity move present v own s known free none there up clean received r. rises_few k key terms last_activity move present v r;
   }
 
-few_comes : (limits : Bounds) (k : Conn) (b : List ℕ) (w w2 : Work) (comes : Comes limits k b w w2) → Sound w.hub → (c : ℕ) → is_in c (dropped w2.did) ≡ true
-    → (is_in c (dropped w.did) ≡ true) ⊎ ComesLosing c limits k b w w2 comes
-few_comes limits k b w w2 (Arrives p first rest g v v2 on reads more) s c i =
+few_comes : (config : HubConfig) (limits : Bounds) (k : Conn) (b : List ℕ) (w w2 : Work) (comes : Comes limits k b w w2) → Sound w.hub → w.hub.config ≡ config → (c : ℕ) → is_in c (dropped w2.did) ≡ true
+    → (is_in c (dropped w.did) ≡ true) ⊎ ComesLosing config.when_full c limits k b w w2 comes
+few_comes config limits k b w w2 (Arrives p first rest g v v2 on reads more) s is c i =
     let f = g.will_fits in
-    let t = takes_both (Few f v) Freely (IsNear f v) (inner f v) (outer f v) freely (nearby f v) k p g v tt (at_itself f v) (λ key up state short. tt) (s, λ c i. inl i) in
-    go (t.1 c) (few_comes limits k rest (takes k p g v) v2 more t.0 c i)
+    let t = takes_both (Few config f v is) Freely (IsNear f v) (inner config f v is) (outer config f v is) freely (nearby f v) k p g v tt (at_itself f v) (λ key up state short. tt) (s, λ c i. inl i) in
+    let same = takes_both (reading.Same config) Freely Anywhere (reading.same_inner config) (reading.same_outer config) freely anywhere k p g v tt tt (λ key up state short. tt) (s, is) in
+    go (t.1 c) (few_comes config limits k rest (takes k p g v) v2 more t.0 same.1 c i)
   where
-    go : (is_in c (dropped (takes k p g v).did) ≡ true → (is_in c (dropped v.did) ≡ true) ⊎ LosesWill c g.will_fits v)
-        → (is_in c (dropped (takes k p g v).did) ≡ true) ⊎ ComesLosing c limits k rest (takes k p g v) v2 more
-        → (is_in c (dropped v.did) ≡ true) ⊎ (LosesWill c g.will_fits v ⊎ ComesLosing c limits k rest (takes k p g v) v2 more)
+    Loses : Type 0
+    Loses = LosesWill config.when_full c g.will_fits v
+
+    More : Type 0
+    More = ComesLosing config.when_full c limits k rest (takes k p g v) v2 more
+
+    go : (is_in c (dropped (takes k p g v).did) ≡ true → (is_in c (dropped v.did) ≡ true) ⊎ Loses) → (is_in c (dropped (takes k p g v).did) ≡ true) ⊎ More
+        → (is_in c (dropped v.did) ≡ true) ⊎ (Loses ⊎ More)
     go here (inr x) = inr (inr x)
     go here (inl old) = now (here old)
       where
-        now : (is_in c (dropped v.did) ≡ true) ⊎ LosesWill c g.will_fits v → (is_in c (dropped v.did) ≡ true) ⊎ (LosesWill c g.will_fits v ⊎ ComesLosing c limits k rest (takes k p g v) v2 more)
+        now : (is_in c (dropped v.did) ≡ true) ⊎ Loses → (is_in c (dropped v.did) ≡ true) ⊎ (Loses ⊎ More)
         now (inl e) = inl e
         now (inr x) = inr (inl x)
-few_comes limits k b w w2 (Waits c v on pending) s n i = inl i
-few_comes limits k b w w2 (Breaks c fault fits v on faulty) s n i =
-    (breaks_both (Few fits v) Freely (IsNear fits v) (inner fits v) (outer fits v) freely (nearby fits v) k fault fits v tt (at_itself fits v) (s, λ c i. inl i)).1 n i
-few_comes limits k b w w2 (Starves c fits v on some) s n i =
-    (close_both (Few fits v) Freely (IsNear fits v) (inner fits v) (outer fits v) freely (nearby fits v) k (Own reasons.Memory) fits v (at_itself fits v) tt (s, λ c i. inl i)).1 n i
-few_comes limits k b w w2 (LetsGo c v closed) s n i = inl i
+few_comes config limits k b w w2 (Waits c v on pending) s is n i = inl i
+few_comes config limits k b w w2 (Breaks c fault fits v on faulty) s is n i =
+    (breaks_both (Few config fits v is) Freely (IsNear fits v) (inner config fits v is) (outer config fits v is) freely (nearby fits v) k fault fits v tt (at_itself fits v) (s, λ c i. inl i)).1 n i
+few_comes config limits k b w w2 (Starves c fits v on some) s is n i =
+    (close_both (Few config fits v is) Freely (IsNear fits v) (inner config fits v is) (outer config fits v is) freely (nearby fits v) k (Own reasons.Memory) fits v (at_itself fits v) tt (s, λ c i. inl i)).1 n i
+few_comes config limits k b w w2 (LetsGo c v closed) s is n i = inl i
 
-few_ticks : (now : ℕ) (xs : List HubConnection) (w w2 : Work) (t : Ticks now xs w w2) → Sound w.hub → (c : ℕ) → is_in c (dropped w2.did) ≡ true
-    → (is_in c (dropped w.did) ≡ true) ⊎ TicksLosing c now xs w w2 t
-few_ticks now xs w w2 (Done v) s c i = inl i
-few_ticks now xs w w2 (InTime x ys v v2 soon more) s c i = few_ticks now ys v v2 more s c i
-few_ticks now xs w w2 (Late x ys fits v v2 late more) s c i =
-    let t = close_both (Few fits v) Freely (IsNear fits v) (inner fits v) (outer fits v) freely (nearby fits v) x.conn (Own reasons.KeepAlive) fits v (at_itself fits v) tt (s, λ c i. inl i) in
-    go (t.1 c) (few_ticks now ys (close x.conn (Own reasons.KeepAlive) fits v) v2 more t.0 c i)
+few_ticks : (config : HubConfig) (now : ℕ) (xs : List HubConnection) (w w2 : Work) (t : Ticks now xs w w2) → Sound w.hub → w.hub.config ≡ config → (c : ℕ) → is_in c (dropped w2.did) ≡ true
+    → (is_in c (dropped w.did) ≡ true) ⊎ TicksLosing config.when_full c now xs w w2 t
+few_ticks config now xs w w2 (Done v) s is c i = inl i
+few_ticks config now xs w w2 (InTime x ys v v2 soon more) s is c i = few_ticks config now ys v v2 more s is c i
+few_ticks config now xs w w2 (Late x ys fits v v2 late more) s is c i =
+    let t = close_both (Few config fits v is) Freely (IsNear fits v) (inner config fits v is) (outer config fits v is) freely (nearby fits v) x.conn (Own reasons.KeepAlive) fits v (at_itself fits v) tt (s, λ c i. inl i) in
+    let same = close_both (reading.Same config) Freely Anywhere (reading.same_inner config) (reading.same_outer config) freely anywhere x.conn (Own reasons.KeepAlive) fits v tt tt (s, is) in
+    go (t.1 c) (few_ticks config now ys u v2 more t.0 same.1 c i)
   where
     u : Work
     u = close x.conn (Own reasons.KeepAlive) fits v
 
-    go : (is_in c (dropped u.did) ≡ true → (is_in c (dropped v.did) ≡ true) ⊎ LosesWill c fits v) → (is_in c (dropped u.did) ≡ true) ⊎ TicksLosing c now ys u v2 more
-        → (is_in c (dropped v.did) ≡ true) ⊎ (LosesWill c fits v ⊎ TicksLosing c now ys u v2 more)
+    Loses : Type 0
+    Loses = LosesWill config.when_full c fits v
+
+    More : Type 0
+    More = TicksLosing config.when_full c now ys u v2 more
+
+    go : (is_in c (dropped u.did) ≡ true → (is_in c (dropped v.did) ≡ true) ⊎ Loses) → (is_in c (dropped u.did) ≡ true) ⊎ More → (is_in c (dropped v.did) ≡ true) ⊎ (Loses ⊎ More)
     go here (inr x) = inr (inr x)
     go here (inl old) = soon (here old)
       where
-        soon : (is_in c (dropped v.did) ≡ true) ⊎ LosesWill c fits v → (is_in c (dropped v.did) ≡ true) ⊎ (LosesWill c fits v ⊎ TicksLosing c now ys u v2 more)
+        soon : (is_in c (dropped v.did) ≡ true) ⊎ Loses → (is_in c (dropped v.did) ≡ true) ⊎ (Loses ⊎ More)
         soon (inl e) = inl e
         soon (inr x) = inr (inl x)
 
@@ -307,15 +334,15 @@ few_event : (h : HubState) (e : HubEvent) (r : HubReply) (w : Work) (d : Does h 
 few_event h (Opened k) r w d s c i = absurd (true≢false (sym i ∙ ap (λ (w : Work). is_in c (dropped w.did)) d.0))
 few_event h (Bytes k piece) r w d s c i =
     let start = holding k [] (begin h) in
-    let began = holding_both (Few true start) Freely (IsNear true start) (inner true start) (outer true start) freely (nearby true start) k [] (begin h) (λ r. r) (s, λ c i. inl i) in
-    none_yet (ComesLosing c h.config.limits k (held_on k h.connections ++ piece) start w d.0) (few_comes h.config.limits k (held_on k h.connections ++ piece) start w d.0 began.0 c i)
+    none_yet (ComesLosing h.config.when_full c h.config.limits k (held_on k h.connections ++ piece) start w d.0)
+    (few_comes h.config h.config.limits k (held_on k h.connections ++ piece) start w d.0 (sound_holding k [] (begin h) s) refl c i)
 few_event h (Ended k) r w d s c i =
     let f = d.0 in
     let b = begin h in
-    let end = ended_both (Few f b) Freely (IsNear f b) (inner f b) (outer f b) freely (nearby f b) k (is_open (stage_of k h.connections)) f b (at_itself f b) (s, λ c i. inl i) in
-    none_yet (LosesWill c f b) (end.1 c (subst (λ (w : Work). is_in c (dropped w.did) ≡ true) d.1 i))
+    let end = ended_both (Few h.config f b refl) Freely (IsNear f b) (inner h.config f b refl) (outer h.config f b refl) freely (nearby f b) k (is_open (stage_of k h.connections)) f b (at_itself f b) (s, λ c i. inl i) in
+    none_yet (LosesWill h.config.when_full c f b) (end.1 c (subst (λ (w : Work). is_in c (dropped w.did) ≡ true) d.1 i))
 few_event h (Tick now) r w d s c i =
-    none_yet (TicksLosing c (max h.clock now) h.connections (begin (told now h)) w d.0) (few_ticks (max h.clock now) h.connections (begin (told now h)) w d.0 s c i)
+    none_yet (TicksLosing h.config.when_full c (max h.clock now) h.connections (begin (told now h)) w d.0) (few_ticks h.config (max h.clock now) h.connections (begin (told now h)) w d.0 s refl c i)
 few_event h (Collect k) r w d s c i = absurd (true≢false (sym i ∙ ap (λ (w : Work). is_in c (dropped w.did)) d.0))
 
 pub laws : WillLaws

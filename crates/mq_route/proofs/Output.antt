@@ -80,6 +80,7 @@ module _ (n : Conn) (base : List ℕ) where
     took = λ key m t c w r. r;
     willed = λ key m w r. r;
     placed = λ key m ps d t c w r. sent_where Grows put_grows (up_on key w.hub.connections) ps (owes ((key, m) ∷ d) t c) w r;
+    missed = λ key m d t c w is r. r;
     subscribed = λ key f q d t c w r. r;
     unsubscribed = λ key f o w r. r;
   }
@@ -148,6 +149,7 @@ any_inner = record {
   took = λ key m t c w r. tt;
   willed = λ key m w r. tt;
   placed = λ key m ps d t c w r. tt;
+  missed = λ key m d t c w is r. tt;
   subscribed = λ key f q d t c w r. tt;
   unsubscribed = λ key f o w r. tt;
 }

@@ -25,7 +25,7 @@ use Rattle.mq_route.proofs.Lines.{one_conn, same_conn-itself, up_is, conn_in, up
 use Rattle.mq_route.proofs.Uppers.{newcomer, unless, upper_stage, upper_risen}
 use Rattle.mq_route.proofs.Changes.{Freely, freely, Anywhere, anywhere, Debt, owes, nothing, Inner, Outer, Sound, names_grown, up_put, up_put_where, upper_shut, closed_line, closing, rising}
 use Rattle.mq_route.proofs.Steps.{comes_both, holding_both, ticks_both, ended_both}
-use Rattle.mq_route.proofs.Events.{emptied, sound_new}
+use Rattle.mq_route.proofs.Events.{emptied, sound_new, acts_are}
 use Rattle.mq_route.proofs.Output.{kept_line, written_is, sound_run}
 
 -- an act that is one of these
@@ -106,6 +106,7 @@ module _ (n : Conn) (h : HubState) where
     took = λ key m t c w r. more (acts.Took key m) (owes [] ((key, m) ∷ t) c) nothing w r;
     willed = λ key m w r. more (acts.Will key m) nothing nothing w r;
     placed = λ key m ps d t c w r. placed_quiet key m ps nothing nothing w r;
+    missed = λ key m d t c w is r. more (acts.Missed key m) nothing nothing w r;
     subscribed = λ key f q d t c w r. more (acts.Subscribed key f q) nothing nothing w r;
     unsubscribed = λ key f o w r. more (acts.Unsubscribed key f) nothing nothing w r;
   }
@@ -216,19 +217,11 @@ module _ (n : Conn) (h : HubState) where
       (ticks_both Quiet Freely Anywhere inner outer freely anywhere (λ fits w. tt) (max h.clock now) h.connections (begin (told now h)) w d.0 (s, starts s)).1.1 none
   event (Collect k) r w d s other none = ap (λ (w : Work). waiting_on n w.hub.connections) d.0 ∙ put_there k n emptied h.connections (λ x. refl) other
 
-  -- the acts of a step are those of its reply
-  acts_are : (e : HubEvent) (r : HubReply) (w : Work) → Does h e r w → r.acts ≡ w.did
-  acts_are (Opened k) r w d = ap (λ (r : HubReply). r.acts) d.1
-  acts_are (Bytes k piece) r w d = ap (λ (r : HubReply). r.acts) d.1
-  acts_are (Ended k) r w d = ap (λ (r : HubReply). r.acts) d.2
-  acts_are (Tick now) r w d = ap (λ (r : HubReply). r.acts) d.1
-  acts_are (Collect k) r w d = ap (λ (r : HubReply). r.acts) d.1 ∙ ap (λ (w : Work). w.did) (sym d.0)
-
   pub others : (e : HubEvent) (r : HubReply) (h2 : HubState) → HubStep h e r h2 → Sound h → is_on n e ≡ false → list_any (places_on n h) r.acts ≡ false
       → waiting_on n h2.connections ≡ waiting_on n h.connections
   others e r h2 step s other none =
       ap (λ (h : HubState). waiting_on n h.connections) step.after
-      ∙ event e r step.work step.does s other (sym (ap (list_any (places_on n h)) (acts_are e r step.work step.does)) ∙ none)
+      ∙ event e r step.work step.does s other (sym (ap (list_any (places_on n h)) (acts_are h e r step.work step.does)) ∙ none)
 
 pub laws : OutputLaws
 laws = record {

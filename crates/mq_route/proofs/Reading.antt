@@ -24,7 +24,7 @@ use Rattle.mq_route.specs.declared.connection_state.ConnectionState.TheVariants.
 use Rattle.mq_route.specs.declared.connection_state.ConnectionTerms.{ConnectionTerms}
 use Rattle.mq_route.specs.Routed.{same_conn}
 use Rattle.mq_route.specs.Hub.{HubState, HubConnection, new_hub, is_connection, knows, stage_of, held_on, changed, with_connection, without_connection, is_open, up_on, end_on, end_of, with_end}
-use Rattle.mq_route.specs.Work.{Work, begin, said, with_connections, with_sessions, staged, shut, put_on, does, remove, remove_if, close}
+use Rattle.mq_route.specs.Work.{Work, begin, said, with_connections, with_sessions, staged, shut, put_on, does, remove, remove_if}
 use Rattle.mq_route.specs.Arrives.{new_session, takes, broken, closes_by, on_malformed}
 use Rattle.mq_route.specs.Step.{holding, Comes, Arrives, Waits, Breaks, Starves, LetsGo, Does, event_refusal, ended_open, told}
 use Rattle.mq_route.specs.Runs.{Episode, Follows, Stays, ends_it}
@@ -55,6 +55,7 @@ module _ (c : HubConfig) where
     took = λ key m t n w r. r;
     willed = λ key m w r. r;
     placed = λ key m ps d t n w r. sent_where Same same_put (up_on key w.hub.connections) ps (owes ((key, m) ∷ d) t n) w r;
+    missed = λ key m d t n w is r. r;
     subscribed = λ key f q d t n w r. r;
     unsubscribed = λ key f o w r. r;
   }
@@ -88,7 +89,7 @@ module _ (c : HubConfig) where
     rises = λ k key terms last_activity move present w own s known fresh none there up clean received r. same_risen k key terms last_activity move present w r;
   }
 
-same_event : (h : HubState) (e : HubEvent) (r : HubReply) (w : Work) → Does h e r w → Sound h → w.hub.config ≡ h.config
+pub same_event : (h : HubState) (e : HubEvent) (r : HubReply) (w : Work) → Does h e r w → Sound h → w.hub.config ≡ h.config
 same_event h (Opened k) r w d s = ap (λ (w : Work). w.hub.config) d.0
 same_event h (Bytes k piece) r w d s =
     let c = h.config in
@@ -102,7 +103,7 @@ same_event h (Tick now) r w d s =
     (ticks_both (Same c) Freely Anywhere (same_inner c) (same_outer c) freely anywhere (λ fits w. tt) (max h.clock now) h.connections (begin (told now h)) w d.0 (s, refl)).1
 same_event h (Collect k) r w d s = ap (λ (w : Work). w.hub.config) d.0
 
-same_run : (es : List Episode) (h h2 : HubState) → Follows h es h2 → Sound h → h2.config ≡ h.config
+pub same_run : (es : List Episode) (h h2 : HubState) → Follows h es h2 → Sound h → h2.config ≡ h.config
 same_run [] h h2 f s = ap (λ (h : HubState). h.config) f
 same_run (e ∷ es) h h2 f s = same_run es e.work.hub h2 f.2 (sound_event h e.event e.reply e.work f.0 f.1 s) ∙ same_event h e.event e.reply e.work f.1 s
 
@@ -128,6 +129,7 @@ module _ (n : Conn) (A : Type 0) (kept : List ℕ) where
     took = λ key m t c w r. r;
     willed = λ key m w r. r;
     placed = λ key m ps d t c w r. sent_where Still put_still (up_on key w.hub.connections) ps (owes ((key, m) ∷ d) t c) w r;
+    missed = λ key m d t c w is r. r;
     subscribed = λ key f q d t c w r. r;
     unsubscribed = λ key f o w r. r;
   }

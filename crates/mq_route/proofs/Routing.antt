@@ -1,6 +1,7 @@
--- The messages placed for a client are those that the acts route to it.
-use Rattle.std.proofs.Common.{◌≡◌, ℕ, Bool, true, false, cond, ◌&&◌, List, [], ◌∷◌, ◌++◌, fold, max, Option, Some, None, is_some, T, refl, sym, ap, ap₂, subst, ◌∙◌, append_assoc, append-nil, eqb, eqb-true, eq-eqb, ne_eqb, ltb, ltb-true, ◌<◌, arith}
+-- The messages placed for a client, and those that it missed, are those that the acts route to it.
+use Rattle.std.proofs.Common.{◌≡◌, ℕ, Bool, true, false, cond, ◌&&◌, List, [], ◌∷◌, ◌++◌, fold, map, max, Option, Some, None, is_some, T, refl, sym, ap, ap₂, subst, ◌∙◌, append_assoc, append-nil, eqb, eqb-true, eq-eqb, ne_eqb, ltb, ltb-true, ◌<◌, arith}
 use Rattle.std.proofs.lemmas.Bool.{eqb-false, cond-true, cond-false}
+use Rattle.std.proofs.lemmas.List.{map-append}
 use Rattle.std.proofs.lemmas.List.Concat.{flat_map-append}
 use Rattle.std.specs.List.{flat_map}
 use Rattle.std.specs.FinMap.{is_sorted}
@@ -18,6 +19,8 @@ use Rattle.mq_packet.specs.Encoding.{encodings}
 use Rattle.mq_end.specs.End.{End, Reply, over}
 use Rattle.mq_route.specs.declared.act.Act.{Act}
 use Rattle.mq_route.specs.declared.act.Act.TheVariants as acts
+use Rattle.mq_route.specs.declared.config.HubConfig.{HubConfig}
+use Rattle.mq_route.specs.declared.config.WhenFull.TheVariants.{ClosePublisher}
 use Rattle.mq_route.specs.declared.conn.Conn.{Conn}
 use Rattle.mq_route.specs.declared.close.HubClose.{HubClose}
 use Rattle.mq_route.specs.declared.event.HubEvent.{HubEvent}
@@ -26,9 +29,9 @@ use Rattle.mq_route.specs.declared.reply.HubReply.{HubReply}
 use Rattle.mq_route.specs.declared.connection_state.ConnectionState.TheVariants.{ConnectedAs}
 use Rattle.mq_route.specs.declared.connection_state.ConnectionTerms.{ConnectionTerms}
 use Rattle.mq_route.specs.Copies.{is_hidden_name, copy_by, kept, retained_for}
-use Rattle.mq_route.specs.Routed.{Seen, nothing_seen, unless_on, seen_after, copies_for, routes, routed_from, routed, seen, placed_by, placed}
+use Rattle.mq_route.specs.Routed.{Seen, nothing_seen, unless_on, seen_after, copies_for, routes, routed_from, routed, seen, marked_by, marked, settled, missed}
 use Rattle.mq_route.specs.Hub.{HubState, HubConnection, new_hub, knows, stage_of, changed, with_connection, without_connection, is_open, held_on, up_on, end_of, with_end, for_key, copies_of}
-use Rattle.mq_route.specs.Work.{Work, begin, said, with_sessions, staged, shut, put_on, put_where, does, remove, remove_if}
+use Rattle.mq_route.specs.Work.{Work, begin, said, with_sessions, staged, shut, put_on, put_where, does, drops_copies, remove, remove_if}
 use Rattle.mq_route.specs.Arrives.{new_session}
 use Rattle.mq_route.specs.Step.{Does, event_refusal, opened, ended, ended_open, collected, told, holding}
 use Rattle.mq_route.specs.Runs.{Episode, Follows, acts_of}
@@ -38,6 +41,7 @@ use Rattle.mq_route.proofs.Uppers.{IsIdle, unless_is, upper_risen, upper_opened,
 use Rattle.mq_route.proofs.Changes.{Anywhere, anywhere, Freely, freely, Debt, owes, nothing, Everywhere, Inner, sent_where, Outer, Sound, closing, rising, names_grown, ups_grown, upper_shut}
 use Rattle.mq_route.proofs.Steps.{comes_both, holding_both, ticks_both, ended_both}
 use Rattle.mq_route.proofs.Events.{sound_new, ended_idle, emptied, emptied_names, emptied_ups}
+use Rattle.mq_route.proofs.Missing.{settled_is, none_run}
 use Rattle.mq_route.proofs.Output.{sound_event}
 
 -- ---- copies of one client
@@ -153,9 +157,10 @@ module _ (store : StoreLaws) where
 
   -- ---- one more act
 
-  -- the acts describe the broker, and they route the placed messages and the due ones
+  -- the acts describe the broker, and they route the messages that were placed or missed, and the
+  -- due ones
   abbrev pub Agrees : List Act → HubState → List (ℕ × Message) → Type 0
-  Agrees log h due = ((c : ℕ) → seen c log ≡ view c h) × ((c : ℕ) → routed c log ≡ placed c log ++ for_client c due)
+  Agrees log h due = ((c : ℕ) → seen c log ≡ view c h) × ((c : ℕ) → routed c log ≡ settled c log ++ for_client c due)
 
   seen_more : (c : ℕ) (s : Seen) (log : List Act) (act : Act) → fold (seen_after c) s (log ++ act ∷ []) ≡ seen_after c (fold (seen_after c) s log) act
   seen_more c s [] act = refl
@@ -167,20 +172,25 @@ module _ (store : StoreLaws) where
       ap (λ (l : List Message). routes c s a ++ l) (routed_more c (seen_after c s a) log act)
       ∙ sym (append_assoc (routes c s a) (routed_from c (seen_after c s a) log) (routes c (fold (seen_after c) (seen_after c s a) log) act))
 
-  placed_more : (c : ℕ) (log : List Act) (act : Act) → placed c (log ++ act ∷ []) ≡ placed c log ++ placed_by c act
-  placed_more c log act = flat_map-append (placed_by c) log (act ∷ []) ∙ ap (λ (l : List Message). placed c log ++ l) (append-nil (placed_by c act))
+  abbrev settled_by : ℕ → Act → List Message
+  settled_by c act = map (λ (x : Bool × Message). x.1) (marked_by c act)
+
+  settled_more : (c : ℕ) (log : List Act) (act : Act) → settled c (log ++ act ∷ []) ≡ settled c log ++ settled_by c act
+  settled_more c log act =
+      ap (map (λ (x : Bool × Message). x.1)) (flat_map-append (marked_by c) log (act ∷ []) ∙ ap (λ (l : List (Bool × Message)). marked c log ++ l) (append-nil (marked_by c act)))
+      ∙ map-append (λ (x : Bool × Message). x.1) (marked c log) (marked_by c act)
 
   say : (log : List Act) (act : Act) (h h2 : HubState) (due due2 : List (ℕ × Message)) → Agrees log h due → ((c : ℕ) → seen_after c (view c h) act ≡ view c h2)
-      → ((c : ℕ) → for_client c due ++ routes c (view c h) act ≡ placed_by c act ++ for_client c due2) → Agrees (log ++ act ∷ []) h2 due2
+      → ((c : ℕ) → for_client c due ++ routes c (view c h) act ≡ settled_by c act ++ for_client c due2) → Agrees (log ++ act ∷ []) h2 due2
   say log act h h2 due due2 a sees pays = (
     λ c. seen_more c nothing_seen log act ∙ ap (λ (s : Seen). seen_after c s act) (a.0 c) ∙ sees c,
     λ c.
         routed_more c nothing_seen log act
         ∙ ap₂ (λ (r : List Message) (s : Seen). r ++ routes c s act) (a.1 c) (a.0 c)
-        ∙ append_assoc (placed c log) (for_client c due) (routes c (view c h) act)
-        ∙ ap (λ (l : List Message). placed c log ++ l) (pays c)
-        ∙ sym (append_assoc (placed c log) (placed_by c act) (for_client c due2))
-        ∙ ap (λ (l : List Message). l ++ for_client c due2) (sym (placed_more c log act)),
+        ∙ append_assoc (settled c log) (for_client c due) (routes c (view c h) act)
+        ∙ ap (λ (l : List Message). settled c log ++ l) (pays c)
+        ∙ sym (append_assoc (settled c log) (settled_by c act) (for_client c due2))
+        ∙ ap (λ (l : List Message). l ++ for_client c due2) (sym (settled_more c log act)),
   )
 
   module _ (log : List Act) where
@@ -189,7 +199,7 @@ module _ (store : StoreLaws) where
 
     -- one more act in a step
     says : (act : Act) (w : Work) (h2 : HubState) (due due2 : List (ℕ × Message)) → Agrees (log ++ w.did) w.hub due → ((c : ℕ) → seen_after c (view c w.hub) act ≡ view c h2)
-        → ((c : ℕ) → for_client c due ++ routes c (view c w.hub) act ≡ placed_by c act ++ for_client c due2) → Agrees (log ++ (w.did ++ act ∷ [])) h2 due2
+        → ((c : ℕ) → for_client c due ++ routes c (view c w.hub) act ≡ settled_by c act ++ for_client c due2) → Agrees (log ++ (w.did ++ act ∷ [])) h2 due2
     says act w h2 due due2 a sees pays =
         subst (λ (l : List Act). Agrees l h2 due2) (append_assoc log w.did (act ∷ [])) (say (log ++ w.did) act w.hub h2 due due2 a sees pays)
 
@@ -209,38 +219,42 @@ module _ (store : StoreLaws) where
         (lines_as w.hub (with_connection (grown b) k w.hub.connections) (λ c. up_map (changed (grown b) k) (names_changed (grown b) k (names_grown b)) (ups_changed (grown b) k (ups_grown b)) c w.hub.connections)) a
 
     took_tells : (key : ℕ) (m : Message) (w : Work) → Agrees (log ++ w.did) w.hub [] → Agrees (log ++ (w.did ++ acts.Took key m ∷ [])) (record w.hub { retained = kept m w.hub.retained }) (copies_of m w.hub)
-    unfolding seen_after routes placed_by
+    unfolding seen_after routes marked_by
     took_tells key m w a = says (acts.Took key m) w (record w.hub { retained = kept m w.hub.retained }) [] (copies_of m w.hub) a (λ c. refl) (λ c. sym (due_is w.hub c m))
 
     willed_tells : (key : ℕ) (m : Message) (w : Work) → Agrees (log ++ w.did) w.hub [] → Agrees (log ++ (w.did ++ acts.Will key m ∷ [])) (record w.hub { retained = kept m w.hub.retained }) (copies_of m w.hub)
-    unfolding seen_after routes placed_by
+    unfolding seen_after routes marked_by
     willed_tells key m w a = says (acts.Will key m) w (record w.hub { retained = kept m w.hub.retained }) [] (copies_of m w.hub) a (λ c. refl) (λ c. sym (due_is w.hub c m))
 
-    paid : (c key : ℕ) (m : Message) (due : List (ℕ × Message)) → for_client c ((key, m) ∷ due) ≡ cond (eqb key c) (m ∷ []) [] ++ for_client c due
-    paid c key m due = go (eqb key c)
+    paid : (mark : Bool) (c key : ℕ) (m : Message) (due : List (ℕ × Message)) → for_client c ((key, m) ∷ due) ≡ map (λ (x : Bool × Message). x.1) (cond (eqb key c) ((mark, m) ∷ []) []) ++ for_client c due
+    paid mark c key m due = go (eqb key c)
       where
-        go : (b : Bool) → cond b (m ∷ for_client c due) (for_client c due) ≡ cond b (m ∷ []) [] ++ for_client c due
+        go : (b : Bool) → cond b (m ∷ for_client c due) (for_client c due) ≡ map (λ (x : Bool × Message). x.1) (cond b ((mark, m) ∷ []) []) ++ for_client c due
         go true = refl
         go false = refl
 
     placed_tells : (key : ℕ) (m : Message) (due : List (ℕ × Message)) (w : Work) → Agrees (log ++ w.did) w.hub ((key, m) ∷ due) → Agrees (log ++ (w.did ++ acts.Placed key m ∷ [])) w.hub due
-    unfolding seen_after routes placed_by
-    placed_tells key m due w a = says (acts.Placed key m) w w.hub ((key, m) ∷ due) due a (λ c. refl) (λ c. append-nil (for_client c ((key, m) ∷ due)) ∙ paid c key m due)
+    unfolding seen_after routes marked_by
+    placed_tells key m due w a = says (acts.Placed key m) w w.hub ((key, m) ∷ due) due a (λ c. refl) (λ c. append-nil (for_client c ((key, m) ∷ due)) ∙ paid false c key m due)
+
+    missed_tells : (key : ℕ) (m : Message) (due : List (ℕ × Message)) (w : Work) → Agrees (log ++ w.did) w.hub ((key, m) ∷ due) → Agrees (log ++ (w.did ++ acts.Missed key m ∷ [])) w.hub due
+    unfolding seen_after routes marked_by
+    missed_tells key m due w a = says (acts.Missed key m) w w.hub ((key, m) ∷ due) due a (λ c. refl) (λ c. append-nil (for_client c ((key, m) ∷ due)) ∙ paid true c key m due)
 
     dropped_tells : (key : ℕ) (w : Work) → Agrees (log ++ w.did) w.hub [] → Agrees (log ++ (w.did ++ acts.WillDropped key ∷ [])) w.hub []
-    unfolding seen_after routes placed_by
+    unfolding seen_after routes marked_by
     dropped_tells key w a = says (acts.WillDropped key) w w.hub [] [] a (λ c. refl) (λ c. refl)
 
     subscribed_tells : (key : ℕ) (f : List ℕ) (q : Qos) (due : List (ℕ × Message)) (w : Work) → Agrees (log ++ w.did) w.hub due
         → Agrees (log ++ (w.did ++ acts.Subscribed key f q ∷ [])) (record w.hub { rows = with_row key f q w.hub.rows }) (due ++ for_key key (retained_for f q w.hub.retained))
-    unfolding seen_after routes placed_by
+    unfolding seen_after routes marked_by
     subscribed_tells key f q due w a =
         let ms = retained_for f q w.hub.retained in
         says (acts.Subscribed key f q) w (record w.hub { rows = with_row key f q w.hub.rows }) due (due ++ for_key key ms) a (λ c. refl)
         (λ c. sym (for_client-append c due (for_key key ms) ∙ ap (λ (l : List Message). for_client c due ++ l) (for_client-key c key ms)))
 
     unsubscribed_tells : (key : ℕ) (f : List ℕ) (due : List (ℕ × Message)) (w : Work) → Agrees (log ++ w.did) w.hub due → Agrees (log ++ (w.did ++ acts.Unsubscribed key f ∷ [])) (record w.hub { rows = without_row key f w.hub.rows }) due
-    unfolding seen_after routes placed_by
+    unfolding seen_after routes marked_by
     unsubscribed_tells key f due w a = says (acts.Unsubscribed key f) w (record w.hub { rows = without_row key f w.hub.rows }) due due a (λ c. refl) (λ c. append-nil (for_client c due))
 
     pub inner : Inner Everywhere Tells
@@ -252,6 +266,7 @@ module _ (store : StoreLaws) where
       placed = λ key m ps due t n w a.
           let to = up_on key w.hub.connections in
           placed_tells key m due (put_where to ps w) (sent_where Tells put_tells to ps (owes ((key, m) ∷ due) t n) w a);
+      missed = λ key m due t n w is a. missed_tells key m due w a;
       subscribed = λ key f q due t n w a. subscribed_tells key f q due w a;
       unsubscribed = λ key f o w a. unsubscribed_tells key f o.copies w a;
     }
@@ -261,13 +276,13 @@ module _ (store : StoreLaws) where
         ap (unless_on k) (up_is c w.hub.connections) ∙ sym (unless_is k (upper c w.hub.connections)) ∙ ap conn_in (sym (upper_shut k c w s.apart)) ∙ sym (up_is c (shut k w).hub.connections)
 
     shut_tells : (k : Conn) (why : HubClose) (w : Work) → Sound w.hub → Agrees (log ++ w.did) w.hub [] → Agrees (log ++ (w.did ++ acts.Closed k why ∷ [])) (shut k w).hub []
-    unfolding seen_after routes placed_by
+    unfolding seen_after routes marked_by
     shut_tells k why w s a =
         says (acts.Closed k why) w (shut k w).hub [] [] a
         (λ c. ap (λ (o : Option Conn). record { rows = w.hub.rows; up = o; retained = w.hub.retained }) (up_shut k c w s)) (λ c. refl)
 
     removes_tells : (key : ℕ) (w : Work) → Tells nothing w → Tells nothing (remove key w)
-    unfolding remove seen_after routes placed_by
+    unfolding remove seen_after routes marked_by
     removes_tells key w a = says (acts.Removed key) w (remove key w).hub [] [] a (λ c. refl) (λ c. refl)
 
     remove_if_tells : (b : Bool) (key : ℕ) (w : Work) → Tells nothing w → Tells nothing (remove_if b key w)
@@ -288,7 +303,7 @@ module _ (store : StoreLaws) where
 
     rises_tells : (k : Conn) (key : ℕ) (terms : ConnectionTerms) (last_activity : ℕ) (move : End → Reply) (present : Bool) (w : Work) → Sound w.hub → knows k w.hub.connections ≡ true → IsIdle (stage_of k w.hub.connections) → upper key w.hub.connections ≡ None
         → Tells nothing w → Tells nothing (rising k key terms last_activity move present w)
-    unfolding does seen_after routes placed_by
+    unfolding does seen_after routes marked_by
     rises_tells k key terms last_activity move present w s known free none a =
         let v = staged k (ConnectedAs key terms last_activity) w in
         let e = end_of key w.hub.sessions in
@@ -376,6 +391,14 @@ module _ (store : StoreLaws) where
 
   pub laws : RoutingLaws
   laws = record {
-    placed_is_routed = λ config es h f c. let a = tells_run es [] (new_hub config) h f (sound_new config) (λ c. refl, λ c. refl) in sym (a.1 c ∙ append-nil (placed c (acts_of es)));
+    settled_is_routed = settles;
+    nothing_missed = misses;
+    placed_is_routed = λ config closes es h f c. sym (settled_is c (acts_of es) (misses config closes es h f c)) ∙ settles config es h f c;
     due_is_routed = λ config es h f c m. let a = tells_run es [] (new_hub config) h f (sound_new config) (λ c. refl, λ c. refl) in due_is h c m ∙ ap (λ (s : Seen). copies_for c s m) (sym (a.0 c));
   }
+    where
+      settles : (config : HubConfig) (es : List Episode) (h : HubState) → Follows (new_hub config) es h → (c : ℕ) → settled c (acts_of es) ≡ routed c (acts_of es)
+      settles config es h f c = let a = tells_run es [] (new_hub config) h f (sound_new config) (λ c. refl, λ c. refl) in sym (a.1 c ∙ append-nil (settled c (acts_of es)))
+
+      misses : (config : HubConfig) → config.when_full ≡ ClosePublisher → (es : List Episode) (h : HubState) → Follows (new_hub config) es h → (c : ℕ) → missed c (acts_of es) ≡ []
+      misses config closes es h f c = none_run config (ap drops_copies closes) es (new_hub config) h f (sound_new config) refl c

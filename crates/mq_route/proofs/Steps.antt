@@ -95,6 +95,7 @@ module _ {IsOwn : Conn → Type 0} (R : Debt → Work → Type 0) (May : HubClos
     took = λ key m t n w h. (h.0, inner.took key m t n w h.1);
     willed = λ key m w h. (h.0, inner.willed key m w h.1);
     placed = λ key m ps c t n w h. (sound.placed key m ps c t n w h.0, inner.placed key m ps c t n w h.1);
+    missed = λ key m c t n w is h. (h.0, inner.missed key m c t n w is h.1);
     subscribed = λ key f q c t n w h. (h.0, inner.subscribed key f q c t n w h.1);
     unsubscribed = λ key f o w h. (h.0, inner.unsubscribed key f o w h.1);
   }

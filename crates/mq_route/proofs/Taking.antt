@@ -145,6 +145,7 @@ module _ (log : List Act) (before : List (ℕ × Packet)) where
     placed = λ key m ps d t n w r.
         let v = put_where (up_on key w.hub.connections) ps w in
         idle_act (acts.Placed key m) ((before ++ v.came) ++ n) t v.did v.hub (λ c. refl) (sent_where Hands put_hands (up_on key w.hub.connections) ps (owes ((key, m) ∷ d) t n) w r);
+    missed = λ key m d t n w is r. idle_act (acts.Missed key m) ((before ++ w.came) ++ n) t w.did w.hub (λ c. refl) r;
     subscribed = λ key f q d t n w r. idle_act (acts.Subscribed key f q) ((before ++ w.came) ++ n) t w.did w.hub (λ c. refl) r;
     unsubscribed = λ key f o w r. idle_act (acts.Unsubscribed key f) ((before ++ w.came) ++ o.came) o.taken w.did w.hub (λ c. refl) r;
   }

@@ -14,7 +14,7 @@ use Rattle.mq_route.specs.declared.conn.Conn.{Conn}
 use Rattle.mq_route.specs.declared.act.Act.TheVariants as acts
 use Rattle.mq_route.specs.Copies.{will_message, retained_for}
 use Rattle.mq_route.specs.Hub.{end_of, with_end, up_on, for_key, copies_of}
-use Rattle.mq_route.specs.Work.{Work, said, with_sessions, put_where, does, publishes_next, place, place_all, have_room, deliver, last_will, subscribed, unsubscribed, retained_copies}
+use Rattle.mq_route.specs.Work.{Work, said, with_sessions, put_where, does, publishes_next, is_missed, place, place_all, have_room, deliver, last_will, subscribed, unsubscribed, retained_copies}
 use Rattle.mq_route.specs.Arrives.{answers, answers_all, granted}
 use Rattle.mq_route.proofs.Ends.{Alike, publishes_alike, taking, takings, NoUp, NoUps}
 use Rattle.mq_route.proofs.Changes.{owes, nothing, Debt, Inner, IsShort, up_put, up_put_where, retaining, subscribing, unsubscribing}
@@ -38,8 +38,10 @@ module _ {IsOwn : Conn → Type 0} (R : Debt → Work → Type 0) (inner : Inner
   unfolding place does
   place_keeps key m c t n w h =
       let e = end_of key w.hub.sessions in
-      inner.placed key m (publishes_next m e).out c t n (with_sessions (with_end key (publishes_next m e).end) w)
-      (inner.moves key (publishes_next m e).end (owes ((key, m) ∷ c) t n) w (publishes_alike m.qos (next_identifier e.last e.book) m e) h)
+      cond_both (is_missed key m w.hub) (said (acts.Missed key m) w) (said (acts.Placed key m) (does key (publishes_next m) w)) (R (owes c t n))
+      (λ is. inner.missed key m c t n w is h)
+      (λ is. inner.placed key m (publishes_next m e).out c t n (with_sessions (with_end key (publishes_next m e).end) w)
+      (inner.moves key (publishes_next m e).end (owes ((key, m) ∷ c) t n) w (publishes_alike m.qos (next_identifier e.last e.book) m e) h))
 
   pub place_all_keeps : (c t : List (ℕ × Message)) (n : List (ℕ × Packet)) (w : Work) → R (owes c t n) w → R (owes [] t n) (place_all c w)
   place_all_keeps [] t n w h = h
@@ -91,6 +93,7 @@ module _ {IsOwn : Conn → Type 0} (R : Debt → Work → Type 0) (inner : Inner
     took = λ c m t n w h. (inner.took c m t n w h.0, h.1);
     willed = λ c m w h. (inner.willed c m w h.0, h.1);
     placed = λ c m ps d t n w h. (inner.placed c m ps d t n w h.0, λ j up. h.1 j (sym (up_put_where key (up_on c w.hub.connections) ps w) ∙ up));
+    missed = λ c m d t n w is h. (inner.missed c m d t n w is h.0, h.1);
     subscribed = λ c f q d t n w h. (inner.subscribed c f q d t n w h.0, h.1);
     unsubscribed = λ c f o w h. (inner.unsubscribed c f o w h.0, h.1);
   }

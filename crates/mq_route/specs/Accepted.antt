@@ -1,4 +1,4 @@
--- Each placed copy of QoS 1 or 2 is accepted by the sender's book of its session (2.3.1, 4.3).
+-- Each copy of QoS 1 or 2 that is not missed is accepted by a sender's book (2.3.1, 4.3).
 use Rattle.std.specs.Prelude.{◌≡◌, ℕ, ◌≤◌, ◌==◌, Bool, true, false, ◌&&◌, List, [], ◌∷◌, ◌++◌, max, Option, Some, None, if◌then◌else◌}
 use Rattle.std.specs.List.{list_any}
 use Rattle.mq_packet.specs.declared.connack.ConnAck.TheVariants as connacks
@@ -23,6 +23,7 @@ use Rattle.mq_route.specs.declared.act.Act.TheVariants as acts
 use Rattle.mq_route.specs.declared.close.HubClose.{HubClose}
 use Rattle.mq_route.specs.declared.close.HubClose.TheVariants.{Own, TargetFull, TakenOver, PeerEnded}
 use Rattle.mq_route.specs.declared.config.HubConfig.{HubConfig}
+use Rattle.mq_route.specs.declared.config.WhenFull.TheVariants.{ClosePublisher}
 use Rattle.mq_route.specs.declared.conn.Conn.{Conn}
 use Rattle.mq_route.specs.declared.event.HubEvent.{HubEvent}
 use Rattle.mq_route.specs.declared.event.HubEvent.TheVariants.{Opened, Bytes, Ended, Tick, Collect}
@@ -30,10 +31,10 @@ use Rattle.mq_route.specs.declared.reply.HubReply.{HubReply}
 use Rattle.mq_route.specs.declared.connection_state.ConnectionState.{ConnectionState}
 use Rattle.mq_route.specs.declared.connection_state.ConnectionState.TheVariants.{AwaitingConnect, ConnectedAs, Closed}
 use Rattle.mq_route.specs.Copies.{will_message, kept}
-use Rattle.mq_route.specs.Routed.{placed}
+use Rattle.mq_route.specs.Routed.{marked}
 use Rattle.mq_route.specs.Hub.{HubState, HubConnection, new_hub, stage_of, is_open, held_on, up_on, key_of, end_of, copies_of}
 use Rattle.mq_route.specs.Welcome.{client_of, refusal}
-use Rattle.mq_route.specs.Work.{Work, begin, said, put_on, does, place, have_room, will_after, close, subscribed, retained_copies}
+use Rattle.mq_route.specs.Work.{Work, begin, said, put_on, does, is_missed, place, have_room, will_after, close, subscribed, retained_copies}
 use Rattle.mq_route.specs.Arrives.{Growth, granted, due, answers, touched_on, takes, broken}
 use Rattle.mq_route.specs.Step.{holding, Comes, Arrives, Waits, Breaks, Starves, LetsGo, Ticks, Done, InTime, Late, Does, event_refusal, told}
 use Rattle.mq_route.specs.Runs.{Episode, Follows}
@@ -41,7 +42,7 @@ use Rattle.mq_route.specs.Dropped.{when_over}
 
 -- ---- a copy
 
--- A copy is placed for this client in this work.
+-- A copy is due for this client in this work: it is placed, or the client misses it.
 pub record Placing : Type 0 where
   pub key : ℕ
   pub message : Message
@@ -58,18 +59,22 @@ pub record IsAccept (placing : Placing) : Type 0 where
       let identifier = next_identifier e.last e.book in
       end_of placing.key (place placing.key placing.message placing.at).hub.sessions ≡ record e { book = accept identifier placing.message (is_up e.state) e.book; last = identifier }
 
--- each copy of QoS 1 or 2 is accepted
+-- the client misses the copy: its book is full, and the broker drops such copies
+abbrev pub is_miss : Placing → Bool
+is_miss placing = is_missed placing.key placing.message placing.at.hub
+
+-- each copy of QoS 1 or 2 that is not missed is accepted
 abbrev pub AreAccepts : List Placing → Type 0
 AreAccepts [] = Unit {0}
-AreAccepts (placing ∷ later) = (has_identifier placing.message.qos ≡ true → IsAccept placing) × AreAccepts later
+AreAccepts (placing ∷ later) = (is_miss placing ≡ false → has_identifier placing.message.qos ≡ true → IsAccept placing) × AreAccepts later
 
--- the placed messages of one client
-abbrev pub placed_for : ℕ → List Placing → List Message
-placed_for client [] = []
-placed_for client (placing ∷ later) =
-    if placing.key == client then placing.message ∷ placed_for client later else placed_for client later
+-- the messages of one client, each with whether it is missed
+abbrev pub marked_for : ℕ → List Placing → List (Bool × Message)
+marked_for client [] = []
+marked_for client (placing ∷ later) =
+    if placing.key == client then (is_miss placing, placing.message) ∷ marked_for client later else marked_for client later
 
--- ---- the copies that a step places, along the definitions of Work, Arrives and Step
+-- ---- the copies that a step makes due, along the definitions of Work, Arrives and Step
 
 -- the copies of a list
 abbrev pub placings : List (ℕ × Message) → Work → List Placing
@@ -191,10 +196,13 @@ pub record AcceptLaws : Type 0 where
   -- at most the capacity
   pub books : (config : HubConfig) → config.capacity ≤ 65535 → (episodes : List Episode) (hub : HubState) → Follows (new_hub config) episodes hub
       → (key : ℕ) → IsSoundEnd config.capacity (end_of key hub.sessions)
-  -- in each step of a run, each placed copy of QoS 1 or 2 is accepted
+  -- in each step of a run, each copy of QoS 1 or 2 that is due and not missed is accepted
   pub accepts : (config : HubConfig) → config.capacity ≤ 65535 → (before : List Episode) (hub : HubState) → Follows (new_hub config) before hub
       → (event : HubEvent) (reply : HubReply) (work : Work) → event_refusal event hub ≡ None → (does : Does hub event reply work) → AreAccepts (in_step hub event reply work does)
-  -- these copies are those that the acts of the step report, in order
-  pub placed_are : (config : HubConfig) → config.capacity ≤ 65535 → (before : List Episode) (hub : HubState) → Follows (new_hub config) before hub
+  -- under ClosePublisher, no copy is missed
+  pub none_missed : (config : HubConfig) → config.when_full ≡ ClosePublisher → config.capacity ≤ 65535 → (before : List Episode) (hub : HubState) → Follows (new_hub config) before hub
+      → (event : HubEvent) (reply : HubReply) (work : Work) → event_refusal event hub ≡ None → (does : Does hub event reply work) → list_any is_miss (in_step hub event reply work does) ≡ false
+  -- these copies are those that the acts of the step report as placed or missed, in order
+  pub marked_are : (config : HubConfig) → config.capacity ≤ 65535 → (before : List Episode) (hub : HubState) → Follows (new_hub config) before hub
       → (event : HubEvent) (reply : HubReply) (work : Work) → event_refusal event hub ≡ None → (does : Does hub event reply work)
-      → (client : ℕ) → placed client reply.acts ≡ placed_for client (in_step hub event reply work does)
+      → (client : ℕ) → marked client reply.acts ≡ marked_for client (in_step hub event reply work does)

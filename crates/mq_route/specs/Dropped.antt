@@ -10,6 +10,8 @@ use Rattle.mq_route.specs.declared.act.Act.TheVariants as acts
 use Rattle.mq_route.specs.declared.close.HubClose.{HubClose}
 use Rattle.mq_route.specs.declared.close.HubClose.TheVariants.{Own}
 use Rattle.mq_route.specs.declared.config.HubConfig.{HubConfig}
+use Rattle.mq_route.specs.declared.config.WhenFull.{WhenFull}
+use Rattle.mq_route.specs.declared.config.WhenFull.TheVariants.{ClosePublisher}
 use Rattle.mq_route.specs.declared.conn.Conn.{Conn}
 use Rattle.mq_route.specs.declared.event.HubEvent.{HubEvent}
 use Rattle.mq_route.specs.declared.event.HubEvent.TheVariants.{Opened, Bytes, Ended, Tick, Collect}
@@ -28,6 +30,7 @@ dropped_by (acts.WillDropped c) = c ∷ []
 dropped_by (acts.Up k c present) = []
 dropped_by (acts.Took c m) = []
 dropped_by (acts.Placed c m) = []
+dropped_by (acts.Missed c m) = []
 dropped_by (acts.Subscribed c f q) = []
 dropped_by (acts.Unsubscribed c f) = []
 dropped_by (acts.Will c m) = []
@@ -48,9 +51,9 @@ when_over conn why key terms work =
     remove_if terms.clean_session key (with_sessions (with_end key (over (end_of key work.hub.sessions))) (said (acts.Closed conn why) (shut conn work)))
 
 -- The client is connected and has a will, and its connection closes (3.1.2.5). Either an allocation
--- for the will fails; or, after the close, a session has too few packet identifiers free for its
--- copies of the will (2.3.1).
-pub record LosesWill (client : ℕ) (fits : Bool) (work : Work) : Type 0 where
+-- for the will fails; or the policy is ClosePublisher, and after the close a session has too few
+-- packet identifiers free for its copies of the will (2.3.1).
+pub record LosesWill (policy : WhenFull) (client : ℕ) (fits : Bool) (work : Work) : Type 0 where
   pub conn : Conn
   pub why : HubClose
   pub terms : ConnectionTerms
@@ -58,37 +61,38 @@ pub record LosesWill (client : ℕ) (fits : Bool) (work : Work) : Type 0 where
   pub connected : stage_of conn work.hub.connections ≡ ConnectedAs client terms last_activity
   pub will : Will
   pub has : will_after why terms.will ≡ Some will
-  pub short : let after = when_over conn why client terms work in (fits ≡ false) ⊎ (have_room (copies_of (will_message will) after.hub) after.hub ≡ false)
+  pub short : let after = when_over conn why client terms work in
+      (fits ≡ false) ⊎ ((policy ≡ ClosePublisher) × (have_room (copies_of (will_message will) after.hub) after.hub ≡ false))
 
 -- the client loses its will at one of the packets in these bytes, or at a fault
-abbrev pub ComesLosing : ℕ → (limits : Bounds) (conn : Conn) (bytes : List ℕ) (start stop : Work) → Comes limits conn bytes start stop → Type 0
-ComesLosing client limits conn bytes start stop (Arrives packet first rest growth work last on reads more) =
-    LosesWill client growth.will_fits work ⊎ ComesLosing client limits conn rest (takes conn packet growth work) last more
-ComesLosing client limits conn bytes start stop (Waits rest work on pending) = ⊥
-ComesLosing client limits conn bytes start stop (Breaks rest fault fits work on faulty) = LosesWill client fits work
-ComesLosing client limits conn bytes start stop (Starves rest fits work on some) = LosesWill client fits work
-ComesLosing client limits conn bytes start stop (LetsGo rest work closed) = ⊥
+abbrev pub ComesLosing : WhenFull → ℕ → (limits : Bounds) (conn : Conn) (bytes : List ℕ) (start stop : Work) → Comes limits conn bytes start stop → Type 0
+ComesLosing policy client limits conn bytes start stop (Arrives packet first rest growth work last on reads more) =
+    LosesWill policy client growth.will_fits work ⊎ ComesLosing policy client limits conn rest (takes conn packet growth work) last more
+ComesLosing policy client limits conn bytes start stop (Waits rest work on pending) = ⊥
+ComesLosing policy client limits conn bytes start stop (Breaks rest fault fits work on faulty) = LosesWill policy client fits work
+ComesLosing policy client limits conn bytes start stop (Starves rest fits work on some) = LosesWill policy client fits work
+ComesLosing policy client limits conn bytes start stop (LetsGo rest work closed) = ⊥
 
 -- the client loses its will when one of the late connections closes
-abbrev pub TicksLosing : ℕ → (now : ℕ) (xs : List HubConnection) (start stop : Work) → Ticks now xs start stop → Type 0
-TicksLosing client now xs start stop (Done work) = ⊥
-TicksLosing client now xs start stop (InTime x ys work last soon more) = TicksLosing client now ys work last more
-TicksLosing client now xs start stop (Late x ys fits work last late more) =
-    LosesWill client fits work ⊎ TicksLosing client now ys (close x.conn (Own reasons.KeepAlive) fits work) last more
+abbrev pub TicksLosing : WhenFull → ℕ → (now : ℕ) (xs : List HubConnection) (start stop : Work) → Ticks now xs start stop → Type 0
+TicksLosing policy client now xs start stop (Done work) = ⊥
+TicksLosing policy client now xs start stop (InTime x ys work last soon more) = TicksLosing policy client now ys work last more
+TicksLosing policy client now xs start stop (Late x ys fits work last late more) =
+    LosesWill policy client fits work ⊎ TicksLosing policy client now ys (close x.conn (Own reasons.KeepAlive) fits work) last more
 
 -- the client loses its will in the event
 abbrev pub IsLosingEvent : ℕ → (hub : HubState) (event : HubEvent) (reply : HubReply) (work : Work) → Does hub event reply work → Type 0
 IsLosingEvent client hub (Opened conn) reply work does = ⊥
 IsLosingEvent client hub (Bytes conn piece) reply work does =
-    ComesLosing client hub.config.limits conn (held_on conn hub.connections ++ piece) (holding conn [] (begin hub)) work does.0
-IsLosingEvent client hub (Ended conn) reply work does = LosesWill client does.0 (begin hub)
+    ComesLosing hub.config.when_full client hub.config.limits conn (held_on conn hub.connections ++ piece) (holding conn [] (begin hub)) work does.0
+IsLosingEvent client hub (Ended conn) reply work does = LosesWill hub.config.when_full client does.0 (begin hub)
 IsLosingEvent client hub (Tick now) reply work does =
-    TicksLosing client (max hub.clock now) hub.connections (begin (told now hub)) work does.0
+    TicksLosing hub.config.when_full client (max hub.clock now) hub.connections (begin (told now hub)) work does.0
 IsLosingEvent client hub (Collect conn) reply work does = ⊥
 
 pub record WillLaws : Type 0 where
-  -- in each step of a run, a client whose will is dropped has a reason: a failed allocation, or a
-  -- session without room for a copy
+  -- in each step of a run, a client whose will is dropped has a reason: a failed allocation, or,
+  -- under ClosePublisher alone, a session without room for a copy
   pub drops : (config : HubConfig) (before : List Episode) (hub : HubState) → Follows (new_hub config) before hub
       → (event : HubEvent) (reply : HubReply) (work : Work) → event_refusal event hub ≡ None → (does : Does hub event reply work)
       → (client : ℕ) → is_in client (dropped work.did) ≡ true → IsLosingEvent client hub event reply work does

@@ -14,6 +14,8 @@ use Rattle.mq_route.specs.declared.conn.Conn.{Conn}
 use Rattle.mq_route.specs.declared.act.Act.TheVariants as acts
 use Rattle.mq_route.specs.declared.close.HubClose.TheVariants.{Own, TakenOver, TargetFull, PeerEnded}
 use Rattle.mq_route.specs.declared.config.HubConfig.{HubConfig}
+use Rattle.mq_route.specs.declared.config.WhenFull.{WhenFull}
+use Rattle.mq_route.specs.declared.config.WhenFull.TheVariants.{ClosePublisher, DropCopy}
 use Rattle.mq_route.specs.Routed.{routed}
 use Rattle.mq_route.specs.Hub.{new_hub, waiting_on}
 use Rattle.mq_route.specs.Work.{Work, begin}
@@ -30,7 +32,7 @@ abbrev pub conn : ℕ → Conn
 conn n = record { worker = 0; nth = n }
 
 abbrev pub config : HubConfig
-config = record { limits = strict 1000; capacity = 10; window = None; max_conns = 10; max_sessions = 10; users = None }
+config = record { limits = strict 1000; capacity = 10; window = None; max_conns = 10; max_sessions = 10; users = None; when_full = ClosePublisher }
 
 -- a CONNECT
 abbrev pub hello : List ℕ → Bool → Option Will → Packet
@@ -101,6 +103,7 @@ tight = record {
         ∷ [];
     password = 112 ∷ [];
   } ∷ []);
+  when_full = ClosePublisher;
 }
 
 abbrev pub user : List ℕ → Option Will → List ℕ → Packet
@@ -111,10 +114,21 @@ abbrev pub strangers : Work
 strangers = run ((1, hello (99 ∷ []) true None) ∷ (2, user (99 ∷ []) None (113 ∷ [])) ∷ []) (open_three tight)
 
 -- `c` has an identifier in use when `p` publishes again
-abbrev pub full : Work
-full = run ((1, user (99 ∷ []) None (112 ∷ [])) ∷ (1, packets.Subscribe 1 (ask (35 ∷ []) Q2 ∷ []))
+abbrev pub full_under : WhenFull → Work
+full_under policy = run ((1, user (99 ∷ []) None (112 ∷ [])) ∷ (1, packets.Subscribe 1 (ask (35 ∷ []) Q2 ∷ []))
     ∷ (2, user (112 ∷ []) (Some (record { topic = 119 ∷ []; message = []; qos = Q1; retain = false })) (112 ∷ []))
-    ∷ (2, publish 1 (msg (97 ∷ []) [] Q1 false)) ∷ (2, publish 2 (msg (97 ∷ []) [] Q1 false)) ∷ []) (open_three tight)
+    ∷ (2, publish 1 (msg (97 ∷ []) [] Q1 false)) ∷ (2, publish 2 (msg (97 ∷ []) [] Q1 false)) ∷ []) (open_three (record tight { when_full = policy }))
+
+abbrev pub full : Work
+full = full_under ClosePublisher
+
+abbrev pub full_dropping : Work
+full_dropping = full_under DropCopy
+
+-- one identifier for two retained messages that match; the one of QoS 0 needs none
+abbrev pub retained_dropping : Work
+retained_dropping = run ((1, user (99 ∷ []) None (112 ∷ [])) ∷ (1, publish 1 (msg (97 ∷ []) (49 ∷ []) Q1 true)) ∷ (1, publish 2 (msg (98 ∷ []) (50 ∷ []) Q1 true))
+    ∷ (1, publish0 (msg (100 ∷ []) (51 ∷ []) Q0 true)) ∷ (1, packets.Subscribe 3 (ask (35 ∷ []) Q2 ∷ [])) ∷ []) (open_three (record tight { when_full = DropCopy }))
 
 -- The results of these runs.
 pub record Examples : Type 0 where
@@ -159,3 +173,13 @@ pub record Examples : Type 0 where
       ≡ acts.Up (conn 1) 0 false ∷ acts.Subscribed 0 (35 ∷ []) Q2 ∷ acts.Up (conn 2) 1 false ∷ acts.Took 1 (msg (97 ∷ []) [] Q1 false)
       ∷ acts.Placed 0 (msg (97 ∷ []) [] Q1 false)
       ∷ acts.Closed (conn 2) TargetFull ∷ acts.Removed 1 ∷ acts.WillDropped 1 ∷ []
+  -- under DropCopy, the full session misses the copy, and the publisher is acknowledged
+  pub full_dropping_acts : full_dropping.did
+      ≡ acts.Up (conn 1) 0 false ∷ acts.Subscribed 0 (35 ∷ []) Q2 ∷ acts.Up (conn 2) 1 false ∷ acts.Took 1 (msg (97 ∷ []) [] Q1 false)
+      ∷ acts.Placed 0 (msg (97 ∷ []) [] Q1 false) ∷ acts.Took 1 (msg (97 ∷ []) [] Q1 false) ∷ acts.Missed 0 (msg (97 ∷ []) [] Q1 false) ∷ []
+  pub full_dropping_bytes : waiting_on (conn 2) full_dropping.hub.connections ≡ 32 ∷ 2 ∷ 0 ∷ 0 ∷ 64 ∷ 2 ∷ 0 ∷ 1 ∷ 64 ∷ 2 ∷ 0 ∷ 2 ∷ []
+  -- under DropCopy, a SUBSCRIBE gets the retained messages for which its session has room
+  pub retained_dropping_acts : retained_dropping.did
+      ≡ acts.Up (conn 1) 0 false ∷ acts.Took 0 (msg (97 ∷ []) (49 ∷ []) Q1 true) ∷ acts.Took 0 (msg (98 ∷ []) (50 ∷ []) Q1 true)
+      ∷ acts.Took 0 (msg (100 ∷ []) (51 ∷ []) Q0 true) ∷ acts.Subscribed 0 (35 ∷ []) Q2 ∷ acts.Placed 0 (msg (97 ∷ []) (49 ∷ []) Q1 true)
+      ∷ acts.Missed 0 (msg (98 ∷ []) (50 ∷ []) Q1 true) ∷ acts.Placed 0 (msg (100 ∷ []) (51 ∷ []) Q0 true) ∷ []

@@ -16,6 +16,7 @@ use Rattle.mq_route.specs.declared.act.Act.TheVariants as acts
 use Rattle.mq_route.specs.declared.close.HubClose.{HubClose}
 use Rattle.mq_route.specs.declared.close.HubClose.TheVariants.{Own, TargetFull, TakenOver, PeerEnded}
 use Rattle.mq_route.specs.declared.config.HubConfig.{HubConfig}
+use Rattle.mq_route.specs.declared.config.WhenFull.TheVariants.{ClosePublisher, DropCopy}
 use Rattle.mq_route.specs.declared.conn.Conn.{Conn}
 use Rattle.mq_route.specs.declared.event.HubEvent.{HubEvent}
 use Rattle.mq_route.specs.declared.event.HubEvent.TheVariants.{Opened, Bytes, Ended, Tick, Collect}
@@ -39,6 +40,7 @@ full_by (acts.Closed k why) = if_full why k
 full_by (acts.Up k c present) = []
 full_by (acts.Took c m) = []
 full_by (acts.Placed c m) = []
+full_by (acts.Missed c m) = []
 full_by (acts.Subscribed c f q) = []
 full_by (acts.Unsubscribed c f) = []
 full_by (acts.Will c m) = []
@@ -97,10 +99,10 @@ ComesTooMuch log capacity limits conn bytes start stop (Breaks rest fault fits w
 ComesTooMuch log capacity limits conn bytes start stop (Starves rest fits work on some) = ⊥
 ComesTooMuch log capacity limits conn bytes start stop (LetsGo rest work closed) = ⊥
 
--- the event has bytes, one of their packets is too much, and its connection is the only one that
--- closes for this reason
+-- copies without room are not dropped; the event has bytes, one of their packets is too much, and
+-- its connection is the only one that closes for this reason
 abbrev pub IsFullEvent : List Act → (hub : HubState) (event : HubEvent) (reply : HubReply) (work : Work) → Does hub event reply work → Type 0
-IsFullEvent log hub (Bytes conn piece) reply work does = (full_closes work.did ≡ conn ∷ [])
+IsFullEvent log hub (Bytes conn piece) reply work does = (hub.config.when_full ≡ ClosePublisher) × (full_closes work.did ≡ conn ∷ [])
     × ComesTooMuch log hub.config.capacity hub.config.limits conn (held_on conn hub.connections ++ piece) (holding conn [] (begin hub)) work does.0
 IsFullEvent log hub (Opened conn) reply work does = ⊥
 IsFullEvent log hub (Ended conn) reply work does = ⊥
@@ -113,3 +115,6 @@ pub record FullLaws : Type 0 where
   pub closes : (config : HubConfig) (before : List Episode) (hub : HubState) → Follows (new_hub config) before hub
       → (event : HubEvent) (reply : HubReply) (work : Work) → event_refusal event hub ≡ None → (does : Does hub event reply work)
       → (full_closes work.did ≡ []) ⊎ IsFullEvent (acts_of before) hub event reply work does
+  -- under DropCopy, no connection closes because a session is full
+  pub never : (config : HubConfig) → config.when_full ≡ DropCopy → (before : List Episode) (hub : HubState) → Follows (new_hub config) before hub
+      → (event : HubEvent) (reply : HubReply) (work : Work) → event_refusal event hub ≡ None → Does hub event reply work → full_closes work.did ≡ []

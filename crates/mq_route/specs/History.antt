@@ -31,6 +31,7 @@ changes_row client topic_filter (acts.Removed c) = client == c
 changes_row client topic_filter (acts.Up k c present) = false
 changes_row client topic_filter (acts.Took c m) = false
 changes_row client topic_filter (acts.Placed c m) = false
+changes_row client topic_filter (acts.Missed c m) = false
 changes_row client topic_filter (acts.Will c m) = false
 changes_row client topic_filter (acts.WillDropped c) = false
 changes_row client topic_filter (acts.Closed k why) = false
@@ -53,6 +54,7 @@ ends_connection client k (acts.Up j c present) = c == client
 ends_connection client k (acts.Closed j why) = same_conn k j
 ends_connection client k (acts.Took c m) = false
 ends_connection client k (acts.Placed c m) = false
+ends_connection client k (acts.Missed c m) = false
 ends_connection client k (acts.Subscribed c f q) = false
 ends_connection client k (acts.Unsubscribed c f) = false
 ends_connection client k (acts.Will c m) = false
@@ -67,6 +69,7 @@ published (acts.Took c m) = Some m
 published (acts.Will c m) = Some m
 published (acts.Up k c present) = None
 published (acts.Placed c m) = None
+published (acts.Missed c m) = None
 published (acts.Subscribed c f q) = None
 published (acts.Unsubscribed c f) = None
 published (acts.WillDropped c) = None

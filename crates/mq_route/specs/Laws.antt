@@ -8,9 +8,10 @@ use Rattle.mq_route.specs.declared.act.Act.{Act}
 use Rattle.mq_route.specs.declared.act.Act.TheVariants as acts
 use Rattle.mq_route.specs.declared.conn.Conn.{Conn}
 use Rattle.mq_route.specs.declared.config.HubConfig.{HubConfig}
+use Rattle.mq_route.specs.declared.config.WhenFull.TheVariants.{ClosePublisher}
 use Rattle.mq_route.specs.declared.event.HubEvent.{HubEvent}
 use Rattle.mq_route.specs.declared.reply.HubReply.{HubReply}
-use Rattle.mq_route.specs.Routed.{routed, placed, taken, seen, copies_for}
+use Rattle.mq_route.specs.Routed.{routed, placed, missed, settled, taken, seen, copies_for}
 use Rattle.mq_route.specs.Hub.{HubState, new_hub, knows, stage_of, is_for, waiting_on, copies_of}
 use Rattle.mq_route.specs.Step.{HubStep}
 use Rattle.mq_route.specs.Runs.{Episode, Follows, Stays, acts_of, sent_in, came_in, on_conn, is_on, written}
@@ -22,8 +23,15 @@ for_client c [] = []
 for_client c (x ∷ xs) = if x.0 == c then x.1 ∷ for_client c xs else for_client c xs
 
 pub record RoutingLaws : Type 0 where
-  -- the messages placed for a client are those that the acts route to it
-  pub placed_is_routed : (config : HubConfig) (episodes : List Episode) (hub : HubState) → Follows (new_hub config) episodes hub
+  -- the messages that were placed for a client or that it missed, in the order of the acts, are
+  -- those that the acts route to it
+  pub settled_is_routed : (config : HubConfig) (episodes : List Episode) (hub : HubState) → Follows (new_hub config) episodes hub
+      → (client : ℕ) → settled client (acts_of episodes) ≡ routed client (acts_of episodes)
+  -- under ClosePublisher, nothing is missed
+  pub nothing_missed : (config : HubConfig) → config.when_full ≡ ClosePublisher → (episodes : List Episode) (hub : HubState) → Follows (new_hub config) episodes hub
+      → (client : ℕ) → missed client (acts_of episodes) ≡ []
+  -- so the messages placed for a client are those that the acts route to it
+  pub placed_is_routed : (config : HubConfig) → config.when_full ≡ ClosePublisher → (episodes : List Episode) (hub : HubState) → Follows (new_hub config) episodes hub
       → (client : ℕ) → placed client (acts_of episodes) ≡ routed client (acts_of episodes)
   -- the copies that a message makes due now are those that would be routed
   pub due_is_routed : (config : HubConfig) (episodes : List Episode) (hub : HubState) → Follows (new_hub config) episodes hub
@@ -37,6 +45,7 @@ pub record TakingLaws : Type 0 where
 -- the act places a copy for the client that is connected on a connection
 unfoldable pub places_on : Conn → HubState → Act → Bool
 places_on conn hub (acts.Placed client message) = is_for client (stage_of conn hub.connections)
+places_on conn hub (acts.Missed client message) = false
 places_on conn hub (acts.Took publisher message) = false
 places_on conn hub (acts.Will publisher message) = false
 places_on conn hub (acts.Subscribed client topic_filter qos) = false

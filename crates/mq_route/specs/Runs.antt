@@ -10,7 +10,7 @@ use Rattle.mq_route.specs.declared.config.HubConfig.{HubConfig}
 use Rattle.mq_route.specs.declared.reply.HubReply.{HubReply}
 use Rattle.mq_route.specs.declared.trace.ClientLog.{ClientLog}
 use Rattle.mq_route.specs.declared.trace.HubTrace.{HubTrace}
-use Rattle.mq_route.specs.Routed.{same_conn, placed, taken}
+use Rattle.mq_route.specs.Routed.{same_conn, placed, missed, taken}
 use Rattle.mq_route.specs.Hub.{HubState, new_hub}
 use Rattle.mq_route.specs.Work.{Work}
 use Rattle.mq_route.specs.Step.{Does, event_refusal}
@@ -82,7 +82,10 @@ Stays conn (episode ∷ episodes) = (ends_it conn episode.event ≡ false) × St
 abbrev pub AreAccounts : ℕ → List Act → List ClientLog → Type 0
 AreAccounts client log [] = Unit {0}
 AreAccounts client log (account ∷ more) =
-    (account.taken ≡ taken client log) × (account.placed ≡ placed client log) × AreAccounts (client + 1) log more
+    (account.taken ≡ taken client log)
+    × (account.placed ≡ placed client log)
+    × (account.missed ≡ missed client log)
+    × AreAccounts (client + 1) log more
 
 -- From a new broker, these events result in these replies and this broker.
 pub record IsRun (config : HubConfig) (events : List HubEvent) (hub : HubState) (trace : HubTrace) : Type 0 where

@@ -1,5 +1,5 @@
 -- The state of a step in progress, and its elementary changes.
-use Rattle.std.specs.Prelude.{ℕ, ◌-◌, Bool, true, false, ◌&&◌, ◌==◌, nat_le, List, [], ◌∷◌, ◌++◌, length, map, Option, Some, None, if◌then◌else◌}
+use Rattle.std.specs.Prelude.{ℕ, ◌-◌, Bool, true, false, ◌&&◌, ◌||◌, ◌==◌, nat_le, List, [], ◌∷◌, ◌++◌, length, map, Option, Some, None, if◌then◌else◌}
 use Rattle.std.specs.List.{list_all, count_by}
 use Rattle.mq_topic.specs.Rows.{with_row, without_row, without_client}
 use Rattle.mq_packet.specs.declared.connect.Will.{Will}
@@ -8,10 +8,12 @@ use Rattle.mq_packet.specs.declared.packet.Packet.{Packet}
 use Rattle.mq_packet.specs.declared.packet.Request.{Request}
 use Rattle.mq_packet.specs.Encoding.{encodings}
 use Rattle.mq_flow.specs.Next.{next_identifier}
-use Rattle.mq_flow.specs.Sender.{uses}
+use Rattle.mq_flow.specs.Sender.{uses, is_full}
 use Rattle.mq_end.specs.declared.reason.CloseReason.TheVariants.{Left}
 use Rattle.mq_end.specs.End.{End, Reply, over}
 use Rattle.mq_end.specs.Both.{has_identifier, publishes}
+use Rattle.mq_route.specs.declared.config.WhenFull.{WhenFull}
+use Rattle.mq_route.specs.declared.config.WhenFull.TheVariants.{ClosePublisher, DropCopy}
 use Rattle.mq_route.specs.declared.conn.Conn.{Conn}
 use Rattle.mq_route.specs.declared.act.Act.{Act}
 use Rattle.mq_route.specs.declared.act.Act.TheVariants as acts
@@ -80,11 +82,27 @@ does key move work =
 abbrev pub publishes_next : Message → End → Reply
 publishes_next message e = publishes (next_identifier e.last e.book) message e
 
--- a copy is placed for a client (3.3.5)
-unfoldable pub place : ℕ → Message → Work → Work
-place key message work = said (acts.Placed key message) (does key (publishes_next message) work)
+-- copies without room are dropped
+abbrev pub drops_copies : WhenFull → Bool
+drops_copies ClosePublisher = false
+drops_copies DropCopy = true
 
--- copies are placed one after another
+-- the copy needs an identifier, and the client's session has none free (2.3.1)
+abbrev pub lacks_room : ℕ → Message → HubState → Bool
+lacks_room key message hub = has_identifier message.qos && is_full hub.config.capacity (end_of key hub.sessions).book
+
+-- the client misses the copy
+abbrev pub is_missed : ℕ → Message → HubState → Bool
+is_missed key message hub = drops_copies hub.config.when_full && lacks_room key message hub
+
+-- a copy that is due is placed for a client (3.3.5), or the client misses it and nothing else
+-- changes
+unfoldable pub place : ℕ → Message → Work → Work
+place key message work =
+    if is_missed key message work.hub then said (acts.Missed key message) work
+    else said (acts.Placed key message) (does key (publishes_next message) work)
+
+-- copies are placed or missed one after another
 abbrev pub place_all : List (ℕ × Message) → Work → Work
 place_all [] work = work
 place_all (x ∷ xs) work = place_all xs (place x.0 x.1 work)
@@ -94,11 +112,15 @@ abbrev pub needs : ℕ → List (ℕ × Message) → ℕ
 needs key copies = count_by (λ x. x.0 == key && has_identifier x.1.qos) copies
 
 -- each session has enough identifiers free for its copies (2.3.1)
-unfoldable pub have_room : List (ℕ × Message) → HubState → Bool
-have_room copies hub =
+unfoldable pub all_fit : List (ℕ × Message) → HubState → Bool
+all_fit copies hub =
     list_all (λ s. nat_le (needs s.key copies) (hub.config.capacity - length (uses s.end.book))) hub.sessions
 
--- after this act, a message is retained (3.3.1.3), and its copies are placed (3.3.5)
+-- copies without room are dropped, or there is room for all
+unfoldable pub have_room : List (ℕ × Message) → HubState → Bool
+have_room copies hub = drops_copies hub.config.when_full || all_fit copies hub
+
+-- after this act, a message is retained (3.3.1.3), and its copies are placed or missed (3.3.5)
 unfoldable pub deliver : Act → Message → Work → Work
 deliver act message work =
     place_all (copies_of message work.hub) (said act (record work { hub = record work.hub { retained = kept message work.hub.retained } }))

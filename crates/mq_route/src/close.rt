@@ -12,7 +12,8 @@ pub enum HubClose {
     /// The connection's end closed it, or the broker refused its CONNECT (3.2.2.3).
     #[error("{0}")]
     Own(CloseReason),
-    /// A session that is due a message has no packet identifier free (2.3.1).
+    /// A session that is due a message has no packet identifier free (2.3.1), and the broker is
+    /// configured with [`WhenFull::ClosePublisher`](crate::WhenFull).
     #[error("a session that is due a message has no packet identifier free")]
     TargetFull,
     /// The client connected again on another connection (3.1.4).

@@ -1,5 +1,7 @@
 //! Broker configuration.
 
+ghost use Rattle.std.specs.Prelude.{◌≡◌};
+
 use mq_decode::Limits;
 use mq_end::BoxedList;
 use mq_packet::Binary;
@@ -10,6 +12,18 @@ use mq_wire::Text;
 pub struct User {
     pub name: Text,
     pub password: Binary,
+}
+
+/// The treatment of a copy of QoS 1 or 2 whose session has no packet identifier free (2.3.1).
+#[derive(Clone, Copy, Debug, Default, PartialEq, Eq)]
+pub enum WhenFull {
+    /// The PUBLISH or SUBSCRIBE that makes the copy due closes its connection and has no other
+    /// effect. A will is dropped.
+    #[default]
+    ClosePublisher,
+    /// The copy is dropped with an act `Missed`. The packet takes effect, and other copies are
+    /// placed.
+    DropCopy,
 }
 
 /// Broker configuration.
@@ -29,4 +43,6 @@ pub struct HubConfig {
     pub max_sessions: usize,
     /// The users that may connect; `None` lets anyone connect (3.1.3.4).
     pub users: Option<BoxedList<User>>,
+    /// The treatment of a copy whose session has no packet identifier free.
+    pub when_full: WhenFull,
 }

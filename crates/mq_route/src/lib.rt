@@ -18,7 +18,7 @@ mod trace;
 
 pub use crate::act::Act;
 pub use crate::close::HubClose;
-pub use crate::config::{HubConfig, User};
+pub use crate::config::{HubConfig, User, WhenFull};
 pub use crate::conn::Conn;
 pub use crate::connection_state::{ConnectionState, ConnectionTerms};
 pub use crate::event::HubEvent;

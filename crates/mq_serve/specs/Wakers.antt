@@ -1,7 +1,7 @@
 -- The workers that must be woken after a step of another worker.
 use Rattle.std.specs.Prelude.{ℕ, Bool, true, false, ◌||◌, if◌then◌else◌, nat_eq, List, [], ◌∷◌, Option, Some, None}
 use Rattle.mq_route.specs.declared.act.Act.{Act}
-use Rattle.mq_route.specs.declared.act.Act.TheVariants.{Up, Took, Placed, Subscribed, Unsubscribed, Will, WillDropped, Closed, Removed}
+use Rattle.mq_route.specs.declared.act.Act.TheVariants.{Up, Took, Placed, Missed, Subscribed, Unsubscribed, Will, WillDropped, Closed, Removed}
 use Rattle.mq_serve.specs.declared.wakers.Seat.{Seat}
 
 abbrev pub is_client : ℕ → Option ℕ → Bool
@@ -23,6 +23,7 @@ after_act number (Up conn client present) seat =
     if nat_eq conn.worker number then record seat { client = Some client } else seat
 after_act number (Took client message) seat = seat
 after_act number (Placed client message) seat = call_if (serves client seat) seat
+after_act number (Missed client message) seat = seat
 after_act number (Subscribed client filter qos) seat = seat
 after_act number (Unsubscribed client filter) seat = seat
 after_act number (Will client message) seat = seat

@@ -2,9 +2,10 @@
 
 ghost use Rattle.std.specs.Prelude.{◌≡◌, None};
 ghost use Rattle.mq_decode.specs.Limits.{strict};
+ghost use Rattle.mq_route.specs.declared.config.WhenFull.TheVariants.{ClosePublisher};
 
 use mq_decode::Limits;
-use mq_route::HubConfig;
+use mq_route::{HubConfig, WhenFull};
 
 /// The maximum remaining length of a packet, in bytes (2.2.3).
 const MOST: u32 = 1_048_576;
@@ -18,7 +19,8 @@ const PLACES: usize = 1_000;
 /// The configuration of the programs' broker.
 ///
 /// Packets have at most 1 MiB, and a session has at most 100 identifiers in use. There is no
-/// receive window. At most 1,000 connections and 1,000 sessions exist. Anybody may connect.
+/// receive window. At most 1,000 connections and 1,000 sessions exist. Anybody may connect. A
+/// message for a full session closes its publisher.
 pub fn broker_config() -> HubConfig
     ensures { result ≡ record {
       limits = strict 1048576;
@@ -27,6 +29,7 @@ pub fn broker_config() -> HubConfig
       max_conns = 1000;
       max_sessions = 1000;
       users = None;
+      when_full = ClosePublisher;
     } }
 {
     HubConfig {
@@ -36,5 +39,6 @@ pub fn broker_config() -> HubConfig
         max_conns: PLACES,
         max_sessions: PLACES,
         users: None,
+        when_full: WhenFull::ClosePublisher,
     }
 }

@@ -5,7 +5,7 @@ use crate::hostile::ledger::{WINDOW, number_of_close};
 use crate::hostile::tally::{ACTS, CLOSES, HUB_REFUSALS, Tally};
 use bytes::Bytes;
 use mq_decode::{Limits, PacketView, View, view};
-use mq_hub::{Act, Conn, Hub, HubClose, HubConfig, HubEvent, HubRefusal, HubReply};
+use mq_hub::{Act, Conn, Hub, HubClose, HubConfig, HubEvent, HubRefusal, HubReply, WhenFull};
 use std::alloc::{AllocError, Global};
 
 /// How many connections there are.
@@ -54,6 +54,7 @@ fn new_hub(alloc: Global, limits: Limits) -> Hub {
         max_conns: 3,
         max_sessions: 3,
         users: None,
+        when_full: WhenFull::ClosePublisher,
     };
     Hub::new(alloc, config)
 }
@@ -69,6 +70,7 @@ fn number_of(act: &Act) -> usize {
         Act::WillDropped(_) => 7,
         Act::Closed(_, _) => 8,
         Act::Removed(_) => 9,
+        Act::Missed(_, _) => 10,
     }
 }
 

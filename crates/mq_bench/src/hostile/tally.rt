@@ -26,7 +26,7 @@ pub(crate) const HAPPENINGS: [&str; 7] = [
     "pong",
 ];
 
-pub(crate) const ACTS: [&str; 9] = [
+pub(crate) const ACTS: [&str; 10] = [
     "up",
     "took",
     "placed",
@@ -36,6 +36,7 @@ pub(crate) const ACTS: [&str; 9] = [
     "will-dropped",
     "closed",
     "removed",
+    "missed",
 ];
 
 /// How often each of some names came, by its number from 1 on. It displays as those that came, with

@@ -1,7 +1,7 @@
 -- A planned delivery, and tables with room for it.
-use Rattle.std.specs.Prelude.{◌≡◌, ℕ, ◌<◌, length, IfSome}
+use Rattle.std.specs.Prelude.{◌≡◌, ℕ, ◌<◌, [], length, IfSome}
 use Rattle.mq_hub.specs.declared.publish.delivery.DeliveryPlan.{DeliveryPlan}
-use Rattle.mq_hub.specs.Inside.Placement.{placed_acts, AreApart, AreReady, AreSameButRoom}
+use Rattle.mq_hub.specs.Inside.Placement.{AreApart, AreReady, AreSameButRoom}
 use Rattle.mq_hub.specs.Inside.View.{HubTables}
 
 -- The tables are the same, except for room.
@@ -11,16 +11,17 @@ pub record AreTablesAlike (old new : HubTables) : Type 0 where
   pub list : AreSameButRoom old.sessions.list new.sessions.list
   pub connections : new.connections ≡ old.connections
 
--- A plan: the message to retain under its own name, at most one copy for each client, and the acts
--- that report the copies.
+-- A plan: the message to retain under its own name, and at most one copy for each client.
 pub record IsPlanned (s : DeliveryPlan) : Type 0 where
   pub named : IfSome s.kept (λ named. named.0 ≡ named.1.topic)
   pub apart : AreApart s.copies.items
-  pub says : s.placed.items ≡ placed_acts s.copies.items
+  pub blank : s.acts.items ≡ []
 
 -- Tables and an act log with room for a plan, and for `more` bytes more in each session that gets a
 -- copy.
 pub record IsReserved (more : ℕ) (s : DeliveryPlan) (t : HubTables) (free : ℕ) : Type 0 where
+  pub named : IfSome s.kept (λ named. named.0 ≡ named.1.topic)
+  pub apart : AreApart s.copies.items
   pub retained : 0 < t.retained.room
   pub ready : AreReady more t.sessions.list s.copies.items
-  pub room : length s.placed.items < free
+  pub room : length s.acts.items < free

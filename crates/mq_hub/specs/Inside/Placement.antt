@@ -1,9 +1,10 @@
 -- Placing copies of messages for clients (3.3.5, 3.8.4).
-use Rattle.std.specs.Prelude.{◌≡◌, ⊤, ℕ, ◌≤◌, ◌==◌, Bool, true, false, if◌then◌else◌, List, [], ◌∷◌, ◌++◌, map, Some, None, is_some, IfSome, IfNone, Result, Err, OnOk, IfErr}
+use Rattle.std.specs.Prelude.{◌≡◌, ⊤, ℕ, ◌-◌, ◌≤◌, ◌==◌, ◌&&◌, Bool, true, false, if◌then◌else◌, List, [], ◌∷◌, ◌++◌, length, map, Some, None, is_some, IfSome, IfNone, Result, Err, OnOk, IfErr}
 use Rattle.std.specs.List.{AllByRecursion, flat_map, list_any}
 use Rattle.mq_topic.specs.declared.qos.Qos.{Qos}
 use Rattle.mq_packet.specs.declared.message.Message.{Message}
 use Rattle.mq_packet.specs.Encoding.{encodings}
+use Rattle.mq_flow.specs.Sender.{is_full, uses}
 use Rattle.mq_end.specs.declared.refusal.PublishRefusal.{PublishRefusal}
 use Rattle.mq_end.specs.declared.refusal.PublishRefusal.TheVariants as refusals
 use Rattle.mq_end.specs.Both.{has_identifier}
@@ -16,8 +17,9 @@ use Rattle.mq_end.specs.State.{EndState, no_room}
 use Rattle.mq_route.specs.declared.act.Act.{Act}
 use Rattle.mq_route.specs.declared.act.Act.TheVariants as acts
 use Rattle.mq_route.specs.Copies.{copy_by}
-use Rattle.mq_route.specs.Hub.{HubState, HubConnection, for_key, up_on}
-use Rattle.mq_route.specs.Work.{publishes_next}
+use Rattle.mq_route.specs.declared.config.HubConfig.{HubConfig}
+use Rattle.mq_route.specs.Hub.{HubState, HubConnection, end_of, for_key, up_on}
+use Rattle.mq_route.specs.Work.{drops_copies, publishes_next}
 use Rattle.mq_hub.specs.declared.sessions.session.BrokerSession.{BrokerSession}
 use Rattle.mq_hub.specs.Inside.Invariant.{AreApart as AreLinesApart}
 use Rattle.mq_hub.specs.Inside.View.{HubTables}
@@ -138,6 +140,51 @@ placed_all (c ∷ cs) ts = placed_all cs (placed_at c.0 c.1 ts)
 -- the acts that report the copies
 abbrev pub placed_acts : List (ℕ × Message) → List Act
 placed_acts cs = map (λ c. acts.Placed c.0 c.1) cs
+
+-- ---- copies that are missed
+
+-- a copy that is due is missed (2.3.1)
+abbrev pub misses : HubConfig → List BrokerSession → ℕ × Message → Bool
+misses config ts c = drops_copies config.when_full && (has_identifier c.1.qos && is_full config.capacity (end_of c.0 (sessions_of ts)).book)
+
+-- the copies that are placed, if these are due one after another
+abbrev pub kept_copies : HubConfig → List (ℕ × Message) → List BrokerSession → List (ℕ × Message)
+kept_copies config [] ts = []
+kept_copies config (c ∷ cs) ts = if misses config ts c then kept_copies config cs ts else c ∷ kept_copies config cs (placed_at c.0 c.1 ts)
+
+-- the acts that report them as placed or missed
+abbrev pub settled_acts : HubConfig → List (ℕ × Message) → List BrokerSession → List Act
+settled_acts config [] ts = []
+settled_acts config (c ∷ cs) ts =
+    if misses config ts c then acts.Missed c.0 c.1 ∷ settled_acts config cs ts
+    else acts.Placed c.0 c.1 ∷ settled_acts config cs (placed_at c.0 c.1 ts)
+
+-- the first of these messages for which this number of identifiers suffices (2.3.1)
+abbrev pub first_fitting : ℕ → List Message → List Message
+first_fitting free [] = []
+first_fitting free (m ∷ ms) =
+    if has_identifier m.qos && free == 0 then first_fitting free ms
+    else m ∷ first_fitting (if has_identifier m.qos then free - 1 else free) ms
+
+-- the acts that report them and the other ones, for a client
+abbrev pub fitting_acts : ℕ → ℕ → List Message → List Act
+fitting_acts key free [] = []
+fitting_acts key free (m ∷ ms) =
+    if has_identifier m.qos && free == 0 then acts.Missed key m ∷ fitting_acts key free ms
+    else acts.Placed key m ∷ fitting_acts key (if has_identifier m.qos then free - 1 else free) ms
+
+-- the number of free identifiers of a session (2.3.1)
+abbrev pub free_of : EndState → ℕ
+free_of s = s.capacity - length (uses s.end.book)
+
+-- the sender's book of each client's end is the same
+abbrev pub HaveSameBooks : List BrokerSession → List BrokerSession → Type 0
+HaveSameBooks old new = (key : ℕ) → (end_of key (sessions_of new)).book ≡ (end_of key (sessions_of old)).book
+
+-- Copies that are due are settled: which of them are placed, and the acts that report all of them.
+pub record Settles (config : HubConfig) (ts : List BrokerSession) (due placed : List (ℕ × Message)) (report : List Act) : Type 0 where
+  pub kept : placed ≡ kept_copies config due ts
+  pub says : report ≡ settled_acts config due ts
 
 -- What placing requires of the tables: keys ascend, names of connections are distinct, and each
 -- client is connected on at most one connection.

@@ -4,6 +4,9 @@ use Rattle.mq_topic.specs.Rows.{Row}
 use Rattle.mq_packet.specs.declared.message.Message.{Message}
 use Rattle.mq_packet.specs.declared.packet.Request.{Request}
 use Rattle.mq_end.specs.declared.packet_outcome.PacketOutcome.{PacketOutcome}
+use Rattle.mq_route.specs.declared.act.Act.{Act}
+use Rattle.mq_route.specs.declared.config.HubConfig.{HubConfig}
+use Rattle.mq_route.specs.declared.config.WhenFull.{WhenFull}
 use Rattle.mq_route.specs.Arrives.{granted}
 use Rattle.mq_route.specs.Hub.{for_key}
 use Rattle.mq_route.specs.Work.{retained_copies}
@@ -11,7 +14,8 @@ use Rattle.mq_hub.specs.declared.sessions.call.Call.{Call}
 use Rattle.mq_hub.specs.declared.sessions.call.Call.TheVariants.{Grants}
 use Rattle.mq_hub.specs.declared.sessions.session.BrokerSession.{BrokerSession}
 use Rattle.mq_hub.specs.Inside.Calls.{ServesAt}
-use Rattle.mq_hub.specs.Inside.Placement.{placed_all, AreSameButRoom, IsReadyAt}
+use Rattle.mq_hub.specs.Inside.Placement.{placed_all, AreSameButRoom, IsReadyAt, Settles}
+use Rattle.mq_hub.specs.Inside.Invariant.{HubInvariant}
 use Rattle.mq_hub.specs.Inside.View.{HubTables}
 use Rattle.mq_hub.specs.Inside.Subscriptions.{with_rows}
 
@@ -33,13 +37,14 @@ pub record Answers (key : ℕ) (call : Call) (set : List Row) (old new : HubTabl
   pub retained : new.retained ≡ old.retained
   pub connections : new.connections ≡ old.connections
 
--- The tables after a SUBSCRIBE: its rows are set, SUBACK is queued, and then these messages are
--- placed for the client.
-pub record Subscribes (key : ℕ) (id : ℕ) (requests : List Request) (old new : HubTables) : Type 0 where
+-- The tables after a SUBSCRIBE: its rows are set, SUBACK is queued, and then the retained messages
+-- are settled, as the policy says. These messages are placed, and these acts report all.
+pub record Subscribes (key : ℕ) (id : ℕ) (requests : List Request) (policy : WhenFull) (old new : HubTables) (says : List Act) : Type 0 where
   pub between : HubTables
   pub answers : Answers key (Grants id (granted requests)) (with_rows key requests old.rows) old between
   pub messages : List Message
-  pub due : for_key key messages ≡ retained_copies key requests old.retained.messages
+  pub settles : (config : HubConfig) (next_key : ℕ) → config.when_full ≡ policy → HubInvariant config next_key between
+      → Settles config between.sessions.list (retained_copies key requests old.retained.messages) (for_key key messages) says
   pub ready : IsReadyAt key messages 0 between.sessions.list
   pub list : new.sessions.list ≡ placed_all (for_key key messages) between.sessions.list
   pub rows : new.rows ≡ between.rows

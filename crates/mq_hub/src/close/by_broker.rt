@@ -34,7 +34,9 @@ impl<S: FilterStore> HubOver<S> {
         ensures room { log.old.room ≤ log.new.room + 3 }
     {
         match self.key(conn) {
-            Some(key) => self.tables.close_up(self.alloc, conn, key, why, log),
+            Some(key) => self
+                .tables
+                .close_up(self.alloc, self.config.when_full, conn, key, why, log),
             None => self.close_idle(conn, why, log),
         }
     }

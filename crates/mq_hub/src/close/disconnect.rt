@@ -11,7 +11,7 @@ use crate::acts::ActLog;
 use crate::tables::Tables;
 use mq_end::CloseReason;
 use mq_packet::Will;
-use mq_route::{Act, Conn, ConnectionState, ConnectionTerms, HubClose};
+use mq_route::{Act, Conn, ConnectionState, ConnectionTerms, HubClose, WhenFull};
 use mq_topic::{ClientKey, FilterStore};
 use std::alloc::Global;
 
@@ -44,7 +44,7 @@ impl<S: FilterStore> Tables<S> {
         requires up { key_on (stage_of conn self.old.connections.connections) ≡ Some key }
         requires clean { is_clean (stage_of conn self.old.connections.connections) ≡ false }
         requires room { 0 < log.old.room }
-        ensures proceeds { Proceeds (λ fits. parts conn why key false) self.old log.old.acts self.new log.new.acts }
+        ensures proceeds { (policy : WhenFull) → Proceeds policy (λ fits. parts conn why key false) self.old log.old.acts self.new log.new.acts }
         ensures will { result ≡ will_left why (stage_of conn self.old.connections.connections) }
         ensures away { up_on key self.new.connections.connections ≡ None }
         ensures clients { (n : List ℕ) → key_of n (sessions_of self.new.sessions.list) ≡ key_of n (sessions_of self.old.sessions.list) }
@@ -68,7 +68,7 @@ impl<S: FilterStore> Tables<S> {
         requires up { key_on (stage_of conn self.old.connections.connections) ≡ Some key }
         requires clean { is_clean (stage_of conn self.old.connections.connections) ≡ true }
         requires room { 1 < log.old.room }
-        ensures proceeds { Proceeds (λ fits. parts conn why key true) self.old log.old.acts self.new log.new.acts }
+        ensures proceeds { (policy : WhenFull) → Proceeds policy (λ fits. parts conn why key true) self.old log.old.acts self.new log.new.acts }
         ensures will { result ≡ will_left why (stage_of conn self.old.connections.connections) }
         ensures away { up_on key self.new.connections.connections ≡ None }
         ensures gone { (n : List ℕ) → key_of n (sessions_of self.old.sessions.list) ≡ Some key
@@ -95,7 +95,7 @@ impl<S: FilterStore> Tables<S> {
         requires hubs { AreHubTables self.old }
         requires up { key_on (stage_of conn self.old.connections.connections) ≡ Some key }
         requires room { 1 < log.old.room }
-        ensures proceeds { Proceeds (λ fits. parts conn why key (is_clean (stage_of conn self.old.connections.connections)))
+        ensures proceeds { (policy : WhenFull) → Proceeds policy (λ fits. parts conn why key (is_clean (stage_of conn self.old.connections.connections)))
             self.old log.old.acts self.new log.new.acts }
         ensures will { result ≡ will_left why (stage_of conn self.old.connections.connections) }
         ensures away { up_on key self.new.connections.connections ≡ None }
@@ -118,6 +118,7 @@ impl<S: FilterStore> Tables<S> {
     pub(crate) fn close_up(
         &mut self,
         alloc: Global,
+        when_full: WhenFull,
         conn: Conn,
         key: ClientKey,
         why: HubClose,
@@ -126,7 +127,7 @@ impl<S: FilterStore> Tables<S> {
         requires hubs { AreHubTables self.old }
         requires up { key_on (stage_of conn self.old.connections.connections) ≡ Some key }
         requires room { 3 ≤ log.old.room }
-        ensures proceeds { Proceeds (close conn why) self.old log.old.acts self.new log.new.acts }
+        ensures proceeds { Proceeds when_full (close conn why) self.old log.old.acts self.new log.new.acts }
         ensures away { up_on key self.new.connections.connections ≡ None }
         ensures clients { is_clean (stage_of conn self.old.connections.connections) ≡ false
             → (n : List ℕ) → key_of n (sessions_of self.new.sessions.list) ≡ key_of n (sessions_of self.old.sessions.list) }
@@ -135,6 +136,6 @@ impl<S: FilterStore> Tables<S> {
         ensures room { log.old.room ≤ log.new.room + 3 }
     {
         let will = self.leave(alloc, conn, key, why, log);
-        self.last_will(alloc, key, will, log);
+        self.last_will(alloc, when_full, key, will, log);
     }
 }

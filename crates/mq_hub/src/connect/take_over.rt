@@ -16,7 +16,7 @@ use crate::acts::ActLog;
 use crate::hub::HubOver;
 use crate::tables::Tables;
 use mq_packet::{BoxedConnect, Connect};
-use mq_route::{Act, Conn, ConnectionState, HubClose};
+use mq_route::{Act, Conn, ConnectionState, HubClose, WhenFull};
 use mq_topic::{ClientKey, FilterStore};
 use mq_wire::Text;
 use std::alloc::{AllocError, Global};
@@ -30,18 +30,25 @@ impl<S: FilterStore> Tables<S> {
 
     // Closes the connection of a client for another one (3.1.4), publishes its will or reports it
     // as dropped, and ends its session (3.1.2.4). Room reserved before stays reserved.
-    fn take_over_ending(&mut self, alloc: Global, conn: Conn, key: ClientKey, log: &mut ActLog)
+    fn take_over_ending(
+        &mut self,
+        alloc: Global,
+        when_full: WhenFull,
+        conn: Conn,
+        key: ClientKey,
+        log: &mut ActLog,
+    )
         requires hubs { AreHubTables self.old }
         requires up { key_on (stage_of conn self.old.connections.connections) ≡ Some key }
         requires room { 4 ≤ log.old.room }
-        ensures proceeds { Proceeds (λ fits w. remove_if (not (is_clean (stage_of conn self.old.connections.connections))) key (close conn TakenOver fits w))
+        ensures proceeds { Proceeds when_full (λ fits w. remove_if (not (is_clean (stage_of conn self.old.connections.connections))) key (close conn TakenOver fits w))
             self.old log.old.acts self.new log.new.acts }
         ensures gone { (n : List ℕ) → key_of n (sessions_of self.old.sessions.list) ≡ Some key
             → key_of n (sessions_of self.new.sessions.list) ≡ None }
         ensures room { log.old.room ≤ log.new.room + 4 }
     {
         let ends = self.is_clean(conn);
-        self.close_up(alloc, conn, key, HubClose::TakenOver, log);
+        self.close_up(alloc, when_full, conn, key, HubClose::TakenOver, log);
         if !ends {
             self.remove(key);
             log.push(Act::Removed(key));
@@ -94,7 +101,9 @@ impl<S: FilterStore> HubOver<S> {
         let beginning = self.beginning(connect, client)?;
         log.reserve_more(5)?;
         self.tables.reserve_session()?;
-        self.tables.take_over_ending(self.alloc, other, key, log);
+        let when_full = self.config.when_full;
+        self.tables
+            .take_over_ending(self.alloc, when_full, other, key, log);
         self.tables.begin(conn, beginning, self.clock);
         self.next_key += 1;
         log.push(Act::Up(conn, next, false));

@@ -25,7 +25,7 @@ use crate::publish::recipients::will_message;
 use crate::tables::Tables;
 use mq_end::ByteQueue;
 use mq_packet::{BoxedConnect, Connect, Message, Will};
-use mq_route::{Act, Conn, ConnectionState, ConnectionTerms, HubClose};
+use mq_route::{Act, Conn, ConnectionState, ConnectionTerms, HubClose, WhenFull};
 use mq_topic::{ClientKey, FilterStore};
 use std::alloc::{AllocError, Global};
 
@@ -167,7 +167,7 @@ impl<S: FilterStore> Tables<S> {
         requires lasts { is_clean (stage_of conn self.old.connections.connections) ≡ false }
         requires waiting { IfSome (session_at key self.old.sessions.list) (λ t. waiting ≡ t.end.output) }
         requires room { 0 < log.old.room }
-        ensures proceeds { Proceeds (λ fits. parts conn TakenOver key false) self.old log.old.acts self.new log.new.acts }
+        ensures proceeds { (policy : WhenFull) → Proceeds policy (λ fits. parts conn TakenOver key false) self.old log.old.acts self.new log.new.acts }
         ensures will { result ≡ will_left TakenOver (stage_of conn self.old.connections.connections) }
         ensures away { up_on key self.new.connections.connections ≡ None }
         ensures limits { self.new.connections.limits ≡ self.old.connections.limits }
@@ -185,6 +185,7 @@ impl<S: FilterStore> Tables<S> {
     fn take_over_keeping(
         &mut self,
         alloc: Global,
+        when_full: WhenFull,
         conn: Conn,
         key: ClientKey,
         waiting: ByteQueue,
@@ -195,7 +196,7 @@ impl<S: FilterStore> Tables<S> {
         requires lasts { is_clean (stage_of conn self.old.connections.connections) ≡ false }
         requires waiting { IfSome (session_at key self.old.sessions.list) (λ t. waiting ≡ t.end.output) }
         requires room { 2 ≤ log.old.room }
-        ensures proceeds { Proceeds (close conn TakenOver) self.old log.old.acts self.new log.new.acts }
+        ensures proceeds { Proceeds when_full (close conn TakenOver) self.old log.old.acts self.new log.new.acts }
         ensures away { up_on key self.new.connections.connections ≡ None }
         ensures connect_end { (c : Connect) → self.old.connections.limits.most < 2 ^ 28
             → HasConnectRoomAt c key (will_messages (will_left TakenOver (stage_of conn self.old.connections.connections))) 0 self.old.sessions.list
@@ -203,7 +204,7 @@ impl<S: FilterStore> Tables<S> {
         ensures room { log.old.room ≤ log.new.room + 2 }
     {
         let will = self.leave_with(conn, key, waiting, log);
-        self.last_will(alloc, key, will, log);
+        self.last_will(alloc, when_full, key, will, log);
     }
 }
 
@@ -239,8 +240,9 @@ impl<S: FilterStore> HubOver<S> {
         log.reserve_more(3)?;
         self.tables
             .reserve_connect(key, connect.as_connect(), messages.as_slice())?;
+        let when_full = self.config.when_full;
         self.tables
-            .take_over_keeping(self.alloc, other, key, waiting, log);
+            .take_over_keeping(self.alloc, when_full, other, key, waiting, log);
         self.tables
             .resume_when_ready(conn, key, connect, terms, self.clock);
         log.push(Act::Up(conn, key, true));

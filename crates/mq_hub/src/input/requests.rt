@@ -37,8 +37,9 @@ fn closing_reason(packet: &Packet) -> Option<CloseReason>
 }
 
 impl<S: FilterStore> HubOver<S> {
-    /// Handles a SUBSCRIBE (3.8.4). Closes the connection if the session has too few free
-    /// identifiers for the retained messages (2.3.1).
+    /// Handles a SUBSCRIBE (3.8.4). If the session has too few free identifiers for the retained
+    /// messages (2.3.1), the ones without room are missed, or the connection is closed, as the
+    /// configuration says.
     pub(crate) fn take_subscribe(
         &mut self,
         conn: Conn,

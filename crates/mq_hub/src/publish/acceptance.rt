@@ -6,7 +6,7 @@ ghost use Rattle.mq_packet.specs.Publication.{fits_delivery};
 ghost use Rattle.mq_route.specs.Hub.{end_of};
 ghost use Rattle.mq_hub.specs.Inside.Requests.{AreAlike, Answers};
 ghost use Rattle.mq_hub.specs.Inside.Calls.{CanServe, publish_call, reply_of};
-ghost use Rattle.mq_hub.specs.Inside.Placement.{AreReady};
+ghost use Rattle.mq_hub.specs.Inside.Placement.{AreReady, HaveSameBooks};
 ghost use Rattle.mq_hub.specs.Inside.Sessions.{sessions_of};
 
 use crate::tables::Tables;
@@ -32,6 +32,7 @@ impl<S: FilterStore> Tables<S> {
         ensures ok { OnOk result (Answers key (publish_call now message.now delivery) self.old.rows self.old self.new) }
         ensures ready { OnOk result ((copies : List (ℕ × Message)) → AreReady 7 self.old.sessions.list copies
             → AreReady 0 self.new.sessions.list copies) }
+        ensures books { OnOk result (HaveSameBooks self.old.sessions.list self.new.sessions.list) }
         ensures err { OnErr result (AreAlike self.old self.new) }
     {
         let _ = self.sessions.take_publish(key, now, message, delivery)?;

@@ -1,21 +1,24 @@
 //! Retains a message and places its copies for the subscribers (3.3.1.3, 3.3.5).
 
-ghost use Rattle.std.specs.Prelude.{◌≡◌, ◌+◌, ◌≤◌, ◌<◌, ◌++◌, ℕ, length, IfSome};
+ghost use Rattle.std.specs.Prelude.{◌≡◌, ◌+◌, ◌≤◌, ◌<◌, ◌++◌, [], ℕ, length, true, IfOk, IfSome, Ok};
 ghost use Rattle.mq_packet.specs.declared.message.Message.{Message};
 ghost use Rattle.mq_route.specs.declared.config.HubConfig.{HubConfig};
 ghost use Rattle.mq_route.specs.Copies.{kept};
-ghost use Rattle.mq_route.specs.Hub.{copies_of};
-ghost use Rattle.mq_route.specs.Work.{deliver};
+ghost use Rattle.mq_route.specs.Hub.{HubState, copies_of};
+ghost use Rattle.mq_route.specs.Work.{deliver, have_room};
 ghost use Rattle.mq_hub.specs.Inside.Refinement.{Refines};
-ghost use Rattle.mq_hub.specs.Inside.Placement.{placed_acts, placed_all, with_retained, with_list, AreApart, AreReady, CanPlace};
+ghost use Rattle.mq_hub.specs.Inside.Placement.{placed_all, with_retained, with_list, AreApart, AreFor, AreReady, AreSameButRoom, AreStillReady, CanPlace, HasSessions, Settles};
 ghost use Rattle.mq_hub.specs.Inside.Retained.{IsKeptOf};
 ghost use Rattle.mq_hub.specs.Inside.View.{HubTables, hub_of};
 
 use crate::acts::ActLog;
-use crate::publish::enqueue::{PlannedCopy, place_all};
+use crate::publish::enqueue::{PlannedCopy, make_room, place_all, push_placed};
+use crate::publish::settle::{SettledCopies, settle};
 use crate::retained::{Retained, RetainedEntry};
 use crate::sessions::table::Sessions;
-use mq_route::Act;
+use mq_route::{Act, WhenFull};
+use std::alloc::{AllocError, Global};
+use std::mem;
 
 /// Everything that delivering a message needs, besides the message.
 #[derive(Drop)]
@@ -24,8 +27,8 @@ pub(crate) struct DeliveryPlan {
     pub(crate) kept: Option<RetainedEntry>,
     /// The copies for the subscribers.
     pub(crate) copies: Vec<PlannedCopy>,
-    /// The acts that report the copies.
-    pub(crate) placed: Vec<Act>,
+    /// The acts that report the copies as placed or missed; none before room is reserved.
+    pub(crate) acts: Vec<Act>,
 }
 
 /// Appends acts for which there is room.
@@ -40,6 +43,47 @@ pub(crate) fn push_all(log: &mut ActLog, acts: Vec<Act>)
 }
 
 impl DeliveryPlan {
+    /// Makes room in each subscriber's session for its copy, and for `more` bytes besides, and
+    /// prepares the acts. If a session has no free identifier for its copy (2.3.1), the copy is
+    /// dropped from the plan, or `false` is returned, as `when_full` says.
+    #[inline(always)]
+    pub(crate) fn make_room(
+        &mut self,
+        alloc: Global,
+        sessions: &mut Sessions,
+        when_full: WhenFull,
+        more: usize,
+    ) -> Result<bool, AllocError>
+        requires apart { AreApart self.old.copies.items }
+        requires due { AreFor sessions.old.list self.old.copies.items }
+        requires acts { self.old.acts.items ≡ [] }
+        ensures enough { IfOk result (λ enough. (h : HubState) → HasSessions sessions.old.list h → h.config.when_full ≡ when_full
+            → enough ≡ have_room self.old.copies.items h) }
+        ensures settles { result ≡ Ok true → (h : HubState) → HasSessions sessions.old.list h → h.config.when_full ≡ when_full
+            → Settles h.config sessions.old.list self.old.copies.items self.new.copies.items self.new.acts.items }
+        ensures apart { result ≡ Ok true → AreApart self.new.copies.items }
+        ensures ready { result ≡ Ok true → AreReady more sessions.new.list self.new.copies.items }
+        ensures count { result ≡ Ok true → length self.new.acts.items ≡ length self.old.copies.items }
+        ensures kept { self.new.kept ≡ self.old.kept }
+        ensures same { AreSameButRoom sessions.old.list sessions.new.list }
+        ensures still { AreStillReady sessions.old.list sessions.new.list }
+        ensures room { sessions.new.room ≡ sessions.old.room }
+    {
+        match when_full {
+            WhenFull::ClosePublisher => {
+                push_placed(&mut self.acts, self.copies.as_slice())?;
+                make_room(sessions, self.copies.as_slice(), more)
+            }
+            WhenFull::DropCopy => {
+                let copies = mem::replace(&mut self.copies, Vec::new(alloc));
+                let SettledCopies { kept, acts } = settle(alloc, sessions, copies, more)?;
+                self.copies = kept;
+                self.acts = acts;
+                Ok(true)
+            }
+        }
+    }
+
     /// Retains the message (3.3.1.3) and places its copies (3.3.5), after an act that reports the
     /// message as taken or as a will.
     #[inline(always)]
@@ -53,27 +97,22 @@ impl DeliveryPlan {
         requires named { IfSome self.kept (λ named. named.0 ≡ named.1.topic) }
         requires retained { 0 < retained.old.room }
         requires apart { AreApart self.copies.items }
-        requires says { self.placed.items ≡ placed_acts self.copies.items }
         requires ready { AreReady 0 sessions.old.list self.copies.items }
-        requires room { length self.placed.items < log.old.room }
+        requires room { length self.acts.items < log.old.room }
         ensures goes { (m : Message) (config : HubConfig) (clock : ℕ) (next_key : ℕ) (t : HubTables) → IsKeptOf m self.kept
             → t.sessions.list ≡ sessions.old.list → t.retained.messages ≡ retained.old.messages → CanPlace t
-            → copies_of m (hub_of config clock next_key t) ≡ self.copies.items
+            → Settles config sessions.old.list (copies_of m (hub_of config clock next_key t)) self.copies.items self.acts.items
             → Refines (deliver act m) (hub_of config clock next_key t) log.old.acts
             (hub_of config clock next_key (with_list sessions.new.list (with_retained retained.new.messages t))) log.new.acts }
         ensures retained { (m : Message) → IsKeptOf m self.kept → retained.new.messages ≡ kept m retained.old.messages }
         ensures list { sessions.new.list ≡ placed_all self.copies.items sessions.old.list }
         ensures room { sessions.new.room ≡ sessions.old.room }
-        ensures left { log.old.room ≤ log.new.room + length self.placed.items + 1 }
+        ensures left { log.old.room ≤ log.new.room + length self.acts.items + 1 }
     {
-        let DeliveryPlan {
-            kept,
-            copies,
-            placed,
-        } = self;
+        let DeliveryPlan { kept, copies, acts } = self;
         retained.retain_planned(kept);
         log.push(act);
-        push_all(log, placed);
+        push_all(log, acts);
         place_all(sessions, copies);
     }
 }

@@ -1,15 +1,15 @@
 //! The copies of a message, and their place in the sessions of the subscribers (3.3.5, 3.8.4).
 
-ghost use Rattle.std.specs.Prelude.{◌≡◌, ◌≤◌, ◌++◌, ◌&&◌, ℕ, List, true, false, IfOk, OnOk, Ok};
+ghost use Rattle.std.specs.Prelude.{◌≡◌, ◌≤◌, ◌++◌, ◌∷◌, ◌&&◌, [], ℕ, List, not, true, false, IfOk, OnOk, Ok};
 ghost use Rattle.mq_packet.specs.declared.message.Message.{Message};
 ghost use Rattle.mq_route.specs.Hub.{HubState, copies_of, for_key};
 ghost use Rattle.mq_route.specs.declared.act.Act.{Act};
 ghost use Rattle.mq_route.specs.declared.config.HubConfig.{HubConfig};
-ghost use Rattle.mq_route.specs.Work.{have_room, place_all, retained_copies};
+ghost use Rattle.mq_route.specs.Work.{all_fit, lacks_room, place_all, retained_copies};
 ghost use Rattle.mq_end.specs.Sizes.{publish_size};
 ghost use Rattle.mq_hub.specs.Inside.Refinement.{Refines};
 ghost use Rattle.mq_hub.specs.Inside.Invariant.{HubInvariant};
-ghost use Rattle.mq_hub.specs.Inside.Placement.{copies_found, is_among, placed_all, AreApart, AreFor, AreReady, AreSameButRoom, AreStillReady, AreUpAlike};
+ghost use Rattle.mq_hub.specs.Inside.Placement.{copies_found, is_among, placed_all, AreApart, AreFor, AreReady, AreSameButRoom, AreStillReady, AreUpAlike, Settles};
 ghost use Rattle.mq_hub.specs.Inside.Placement.{placed_acts, with_list, CanPlace, HasSessions, IsFor, IsReadyAt};
 ghost use Rattle.mq_hub.specs.Inside.View.{HubTables, hub_of};
 
@@ -101,7 +101,9 @@ pub(crate) fn make_room_for(
 ) -> Result<bool, AllocError>
     requires { IsFor key messages.now sessions.old.list }
     ensures enough { IfOk result (λ enough. (cs : List (ℕ × Message)) (h : HubState) → HasSessions sessions.old.list h
-        → is_among key cs ≡ false → have_room (for_key key messages.now ++ cs) h ≡ (enough && have_room cs h)) }
+        → is_among key cs ≡ false → all_fit (for_key key messages.now ++ cs) h ≡ (enough && all_fit cs h)) }
+    ensures one { IfOk result (λ enough. (m : Message) (h : HubState) → HasSessions sessions.old.list h
+        → messages.now ≡ m ∷ [] → lacks_room key m h ≡ not enough) }
     ensures ready { result ≡ Ok true → IsReadyAt key messages.now more sessions.new.list }
     ensures same { AreSameButRoom sessions.old.list sessions.new.list }
     ensures still { AreStillReady sessions.old.list sessions.new.list }
@@ -123,7 +125,7 @@ pub(crate) fn make_room(
 ) -> Result<bool, AllocError>
     requires apart { AreApart copies.now }
     requires due { AreFor sessions.old.list copies.now }
-    ensures enough { IfOk result (λ enough. (h : HubState) → HasSessions sessions.old.list h → enough ≡ have_room copies.now h) }
+    ensures enough { IfOk result (λ enough. (h : HubState) → HasSessions sessions.old.list h → enough ≡ all_fit copies.now h) }
     ensures ready { result ≡ Ok true → AreReady more sessions.new.list copies.now }
     ensures same { AreSameButRoom sessions.old.list sessions.new.list }
     ensures still { AreStillReady sessions.old.list sessions.new.list }
@@ -163,9 +165,9 @@ fn publish_all(sessions: &mut Sessions, copies: Vec<PlannedCopy>)
 /// Places messages for a client, whose session must have room for them (3.3.5).
 pub(crate) fn place_for(sessions: &mut Sessions, key: ClientKey, messages: Vec<Message>)
     requires { IsReadyAt key messages.items 0 sessions.old.list }
-    ensures goes { (config : HubConfig) (clock : ℕ) (next_key : ℕ) (t : HubTables) (said : List Act) → t.sessions.list ≡ sessions.old.list → CanPlace t
-        → Refines (place_all (for_key key messages.items)) (hub_of config clock next_key t) said
-        (hub_of config clock next_key (with_list sessions.new.list t)) (said ++ placed_acts (for_key key messages.items)) }
+    ensures goes { (config : HubConfig) (clock : ℕ) (next_key : ℕ) (t : HubTables) (said says : List Act) (due : List (ℕ × Message))
+        → t.sessions.list ≡ sessions.old.list → CanPlace t → Settles config sessions.old.list due (for_key key messages.items) says
+        → Refines (place_all due) (hub_of config clock next_key t) said (hub_of config clock next_key (with_list sessions.new.list t)) (said ++ says) }
     ensures list { sessions.new.list ≡ placed_all (for_key key messages.items) sessions.old.list }
     ensures room { sessions.new.room ≡ sessions.old.room }
 {
@@ -176,9 +178,9 @@ pub(crate) fn place_for(sessions: &mut Sessions, key: ClientKey, messages: Vec<M
 pub(crate) fn place_all(sessions: &mut Sessions, copies: Vec<PlannedCopy>)
     requires apart { AreApart copies.items }
     requires ready { AreReady 0 sessions.old.list copies.items }
-    ensures goes { (config : HubConfig) (clock : ℕ) (next_key : ℕ) (t : HubTables) (said : List Act) → t.sessions.list ≡ sessions.old.list → CanPlace t
-        → Refines (place_all copies.items) (hub_of config clock next_key t) said
-        (hub_of config clock next_key (with_list sessions.new.list t)) (said ++ placed_acts copies.items) }
+    ensures goes { (config : HubConfig) (clock : ℕ) (next_key : ℕ) (t : HubTables) (said says : List Act) (due : List (ℕ × Message))
+        → t.sessions.list ≡ sessions.old.list → CanPlace t → Settles config sessions.old.list due copies.items says
+        → Refines (place_all due) (hub_of config clock next_key t) said (hub_of config clock next_key (with_list sessions.new.list t)) (said ++ says) }
     ensures list { sessions.new.list ≡ placed_all copies.items sessions.old.list }
     ensures room { sessions.new.room ≡ sessions.old.room }
 {

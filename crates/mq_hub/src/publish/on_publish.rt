@@ -27,8 +27,8 @@ const ACKNOWLEDGEMENT: usize = 7;
 
 impl<S: FilterStore> HubOver<S> {
     // Takes a PUBLISH whose message is new: the publisher's end answers, and the message is
-    // delivered. Returns `false`, with nothing changed, if a session has too few free identifiers
-    // for its copies (2.3.1).
+    // delivered. If a session has no free identifier for its copy (2.3.1), the copy is missed, or
+    // `false` is returned, with nothing changed, as the configuration says.
     #[inline(always)]
     fn on_publish(
         &mut self,
@@ -54,8 +54,12 @@ impl<S: FilterStore> HubOver<S> {
         let now = self.clock;
         let delivery = publish.delivery();
         let message = publish.into_message();
-        let plan = self.tables.plan_delivery(self.alloc, &message)?;
-        if !self.tables.reserve_delivery(&plan, ACKNOWLEDGEMENT, log)? {
+        let mut plan = self.tables.plan_delivery(self.alloc, &message)?;
+        let when_full = self.config.when_full;
+        if !self
+            .tables
+            .reserve_delivery(self.alloc, when_full, &mut plan, ACKNOWLEDGEMENT, log)?
+        {
             return Ok(false);
         }
         self.tables.take_publish(key, now, &message, delivery)?;
@@ -63,8 +67,8 @@ impl<S: FilterStore> HubOver<S> {
         Ok(true)
     }
 
-    // Takes a PUBLISH whose message is new. Closes the connection if a session has too few free
-    // identifiers for its copies (2.3.1).
+    // Takes a PUBLISH whose message is new. If a session has no free identifier for its copy
+    // (2.3.1), the copy is missed, or the connection is closed, as the configuration says.
     #[inline(always)]
     fn take_handed(
         &mut self,
@@ -92,8 +96,8 @@ impl<S: FilterStore> HubOver<S> {
     }
 
     /// Handles a PUBLISH (3.3): its message is delivered and the publisher's end answers. Closes
-    /// the connection if a session has too few free identifiers for its copies (2.3.1), or if the
-    /// identifier does not fit the receive window.
+    /// the connection if the identifier does not fit the receive window, or if a session has no
+    /// free identifier for its copy (2.3.1) and the configuration says so.
     #[inline(always)]
     pub(crate) fn take_publish(
         &mut self,

@@ -8,18 +8,18 @@ ghost use Rattle.mq_route.specs.Hub.{HubState, copies_of};
 ghost use Rattle.mq_route.specs.Work.{have_room, deliver};
 ghost use Rattle.mq_hub.specs.Inside.Refinement.{Refines};
 ghost use Rattle.mq_hub.specs.Inside.Invariant.{HubInvariant};
-ghost use Rattle.mq_hub.specs.Inside.Placement.{placed_all, AreApart, AreFor, AreStillReady, HasSessions};
+ghost use Rattle.mq_hub.specs.Inside.Placement.{placed_all, AreFor, AreStillReady, HasSessions, Settles};
 ghost use Rattle.mq_hub.specs.Inside.Retained.{IsKeptOf};
 ghost use Rattle.mq_hub.specs.Inside.View.{hub_of};
 ghost use Rattle.mq_hub.specs.Inside.DeliveryPlan.{AreTablesAlike, IsPlanned, IsReserved};
 
 use crate::acts::ActLog;
 use crate::publish::delivery::DeliveryPlan;
-use crate::publish::enqueue::{copies_of, make_room, push_placed};
+use crate::publish::enqueue::copies_of;
 use crate::retained::to_retain;
 use crate::tables::Tables;
 use mq_packet::Message;
-use mq_route::Act;
+use mq_route::{Act, WhenFull};
 use mq_topic::FilterStore;
 use std::alloc::{AllocError, Global};
 
@@ -39,32 +39,36 @@ impl<S: FilterStore> Tables<S> {
             → publish_size message.now ≤ config.limits.most → AreFor self.now.sessions.list s.copies.items) }
     {
         let copies = copies_of(alloc, &self.store, &self.connections, message)?;
-        let mut placed = Vec::new(alloc);
-        push_placed(&mut placed, copies.as_slice())?;
         let kept = to_retain(message)?;
         Ok(DeliveryPlan {
             kept,
             copies,
-            placed,
+            acts: Vec::new(alloc),
         })
     }
 
     /// Makes room for a planned delivery: among the retained messages, in the sessions of the
-    /// subscribers (with `more` bytes besides), and for its acts. Returns `false` if a session has
-    /// too few free identifiers for its copies (2.3.1). Otherwise nothing but reserved capacity
-    /// changes, also on `Err`.
+    /// subscribers (with `more` bytes besides), and for its acts. If a session has no free
+    /// identifier for its copy (2.3.1), the copy is dropped from the plan, or `false` is returned,
+    /// as `when_full` says. Otherwise nothing but reserved capacity changes, also on `Err`.
     #[inline(always)]
     pub(crate) fn reserve_delivery(
         &mut self,
-        plan: &DeliveryPlan,
+        alloc: Global,
+        when_full: WhenFull,
+        plan: &mut DeliveryPlan,
         more: usize,
         log: &mut ActLog,
     ) -> Result<bool, AllocError>
-        requires apart { AreApart plan.now.copies.items }
-        requires due { AreFor self.old.sessions.list plan.now.copies.items }
-        ensures enough { IfOk result (λ enough. (h : HubState) → HasSessions self.old.sessions.list h → enough ≡ have_room plan.now.copies.items h) }
-        ensures ready { result ≡ Ok true → IsReserved more plan.now self.new log.new.room }
-        ensures left { result ≡ Ok true → log.old.room + length plan.now.placed.items < log.new.room }
+        requires planned { IsPlanned plan.old }
+        requires due { AreFor self.old.sessions.list plan.old.copies.items }
+        ensures enough { IfOk result (λ enough. (h : HubState) → HasSessions self.old.sessions.list h → h.config.when_full ≡ when_full
+            → enough ≡ have_room plan.old.copies.items h) }
+        ensures settles { result ≡ Ok true → (h : HubState) → HasSessions self.old.sessions.list h → h.config.when_full ≡ when_full
+            → Settles h.config self.old.sessions.list plan.old.copies.items plan.new.copies.items plan.new.acts.items }
+        ensures ready { result ≡ Ok true → IsReserved more plan.new self.new log.new.room }
+        ensures left { result ≡ Ok true → log.old.room + length plan.new.acts.items < log.new.room }
+        ensures kept { plan.new.kept ≡ plan.old.kept }
         ensures alike { AreTablesAlike self.old self.new }
         ensures still { AreStillReady self.old.sessions.list self.new.sessions.list }
         ensures sessions { self.new.sessions.room ≡ self.old.sessions.room }
@@ -72,18 +76,17 @@ impl<S: FilterStore> Tables<S> {
         ensures room { log.old.room ≤ log.new.room }
     {
         self.retained.reserve(1)?;
-        log.reserve_more(plan.placed.len() + 1)?;
-        make_room(&mut self.sessions, plan.copies.as_slice(), more)
+        log.reserve_more(plan.copies.len() + 1)?;
+        plan.make_room(alloc, &mut self.sessions, when_full, more)
     }
 
     /// Delivers a message for which room was reserved, after an act that reports it as taken or as
     /// a will: it is retained (3.3.1.3) and its copies are placed (3.3.5).
     #[inline(always)]
     pub(crate) fn deliver(&mut self, act: Act, plan: DeliveryPlan, log: &mut ActLog)
-        requires planned { IsPlanned plan }
         requires ready { IsReserved 0 plan self.old log.old.room }
         ensures goes { (m : Message) (config : HubConfig) (clock next_key : ℕ) → IsKeptOf m plan.kept → HubInvariant config next_key self.old
-            → copies_of m (hub_of config clock next_key self.old) ≡ plan.copies.items
+            → Settles config self.old.sessions.list (copies_of m (hub_of config clock next_key self.old)) plan.copies.items plan.acts.items
             → Refines (deliver act m) (hub_of config clock next_key self.old) log.old.acts
             (hub_of config clock next_key self.new) log.new.acts }
         ensures keeps { (m : Message) (config : HubConfig) (next_key : ℕ) → IsKeptOf m plan.kept → HubInvariant config next_key self.old
@@ -91,7 +94,7 @@ impl<S: FilterStore> Tables<S> {
         ensures list { self.new.sessions.list ≡ placed_all plan.copies.items self.old.sessions.list }
         ensures sessions { self.new.sessions.room ≡ self.old.sessions.room }
         ensures connections { self.new.connections ≡ self.old.connections }
-        ensures room { log.old.room ≤ log.new.room + length plan.placed.items + 1 }
+        ensures room { log.old.room ≤ log.new.room + length plan.acts.items + 1 }
     {
         plan.deliver_copies(act, &mut self.retained, &mut self.sessions, log);
     }

@@ -10,7 +10,7 @@ ghost use Rattle.mq_end.specs.Receiving.{told_of};
 ghost use Rattle.mq_hub.specs.Inside.Calls.{IsAllowed, Serves, publish_call};
 ghost use Rattle.mq_hub.specs.Inside.Output.{Collects};
 ghost use Rattle.mq_hub.specs.Inside.Close.{parted};
-ghost use Rattle.mq_hub.specs.Inside.Placement.{published, IsReady, Readies};
+ghost use Rattle.mq_hub.specs.Inside.Placement.{free_of, published, IsReady, Readies};
 ghost use Rattle.mq_hub.specs.Inside.ConnectRoom.{left, connected_end};
 
 use crate::connect::resume::connect_end;
@@ -191,6 +191,16 @@ impl BoxedSession {
     {
         let session = &mut *self.session;
         connect_end(&mut session.end, connect, now);
+    }
+}
+
+/// Returns the number of free identifiers of an end that has a session (2.3.1).
+pub(crate) fn free_of(end: &ServerEnd) -> usize
+    ensures { end.now.end.known ≡ true → result ≡ free_of end.now }
+{
+    match end.session() {
+        Some(session) => session.sender.left(),
+        None => 0,
     }
 }
 

@@ -13,12 +13,12 @@ ghost use Rattle.mq_end.specs.Receiving.{told_of};
 ghost use Rattle.mq_hub.specs.Inside.Calls.{CanServe, ServesAt, publish_call};
 ghost use Rattle.mq_hub.specs.Inside.Output.{CollectsAt};
 ghost use Rattle.mq_hub.specs.Inside.Close.{parted};
-ghost use Rattle.mq_hub.specs.Inside.Placement.{placed_at, AreSameButRoom, AreStillReady, IsReadyAt, ReadiesAt};
+ghost use Rattle.mq_hub.specs.Inside.Placement.{free_of, placed_at, AreSameButRoom, AreStillReady, IsReadyAt, ReadiesAt};
 ghost use Rattle.mq_hub.specs.Inside.ConnectRoom.{left, connected_end, HasConnectRoomAt, IsEnlarged};
 ghost use Rattle.mq_hub.specs.Inside.Sessions.{sessions_of, session_at, with_server, without_key, AreBelow, AreAscending};
 
 use crate::sessions::call::Call;
-use crate::sessions::session::{BoxedSession, BrokerSession};
+use crate::sessions::session::{BoxedSession, BrokerSession, free_of};
 use bytes::Bytes;
 use mq_end::{ByteQueue, PacketOutcome, PublishOutcome, PublishRefusal, ServerEnd};
 use mq_packet::{BoxedConnect, Connect, Delivery, Message};
@@ -184,6 +184,16 @@ impl Sessions {
         ensures { result ≡ key_of client.now (sessions_of self.now.list) }
     {
         self.keys.get(client).copied()
+    }
+
+    /// Returns the number of free identifiers of a client's session (2.3.1).
+    pub(crate) fn free(&self, key: ClientKey) -> usize
+        ensures { IfSome (session_at key self.now.list) (λ t. t.end.end.known ≡ true → result ≡ free_of t.end) }
+    {
+        match self.get(key) {
+            Some(session) => free_of(&session.end),
+            None => 0,
+        }
     }
 
     pub(crate) fn get(&self, key: ClientKey) -> Option<&BrokerSession>

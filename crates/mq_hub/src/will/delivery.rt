@@ -16,27 +16,29 @@ use crate::acts::ActLog;
 use crate::tables::Tables;
 use mq_end::size_laws;
 use mq_packet::Message;
-use mq_route::Act;
+use mq_route::{Act, WhenFull};
 use mq_topic::{ClientKey, FilterStore};
 use std::alloc::{AllocError, Global};
 
 impl<S: FilterStore> Tables<S> {
     /// Delivers the message of a client's will, after an act that reports it (3.1.2.5): it is
-    /// retained (3.3.1.3), and its copies are placed (3.3.5). Returns `false` if a session has too
-    /// few free identifiers for its copies (2.3.1). Then, and on `Err`, only reserved capacity may
-    /// have changed. Room that was reserved before stays reserved.
+    /// retained (3.3.1.3), and its copies are placed (3.3.5). If a session has no free identifier
+    /// for its copy (2.3.1), the copy is missed, or `false` is returned, as `when_full` says. Then,
+    /// and on `Err`, only reserved capacity may have changed. Room that was reserved before stays
+    /// reserved.
     pub(crate) fn try_deliver(
         &mut self,
         alloc: Global,
+        when_full: WhenFull,
         key: ClientKey,
         message: Message,
         log: &mut ActLog,
     ) -> Result<bool, AllocError>
         requires hubs { AreHubTables self.old }
         requires within { publish_size message ≤ self.old.connections.limits.most }
-        ensures goes { result ≡ Ok true → (config : HubConfig) (clock next_key : ℕ) → HubInvariant config next_key self.old
+        ensures goes { result ≡ Ok true → (config : HubConfig) (clock next_key : ℕ) → HubInvariant config next_key self.old → config.when_full ≡ when_full
             → Refines (deliver (Act.Will key message) message) (hub_of config clock next_key self.old) log.old.acts (hub_of config clock next_key self.new) log.new.acts }
-        ensures enough { IfOk result (λ enough. (config : HubConfig) (clock next_key : ℕ) → HubInvariant config next_key self.old
+        ensures enough { IfOk result (λ enough. (config : HubConfig) (clock next_key : ℕ) → HubInvariant config next_key self.old → config.when_full ≡ when_full
             → enough ≡ have_room (copies_of message (hub_of config clock next_key self.old)) (hub_of config clock next_key self.old)) }
         ensures full { result ≡ Ok false → AreTablesAlike self.old self.new × (log.new.acts ≡ log.old.acts) }
         ensures err { OnErr result (AreTablesAlike self.old self.new × (log.new.acts ≡ log.old.acts)) }
@@ -45,8 +47,8 @@ impl<S: FilterStore> Tables<S> {
         ensures room { log.old.room ≤ log.new.room }
     {
         size_laws();
-        let plan = self.plan_delivery(alloc, &message)?;
-        if !self.reserve_delivery(&plan, 0, log)? {
+        let mut plan = self.plan_delivery(alloc, &message)?;
+        if !self.reserve_delivery(alloc, when_full, &mut plan, 0, log)? {
             return Ok(false);
         }
         self.deliver(Act::Will(key, message), plan, log);

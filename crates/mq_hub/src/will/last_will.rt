@@ -17,26 +17,27 @@ use crate::acts::ActLog;
 use crate::publish::recipients::will_message;
 use crate::tables::Tables;
 use mq_packet::Will;
-use mq_route::Act;
+use mq_route::{Act, WhenFull};
 use mq_topic::{ClientKey, FilterStore};
 use std::alloc::{AllocError, Global};
 
 impl<S: FilterStore> Tables<S> {
-    // Delivers the message of a will. Returns `false` if a session has too few free identifiers for
-    // its copies.
+    // Delivers the message of a will. Returns `false` if a session has no free identifier for its
+    // copy and `when_full` closes the publisher.
     fn deliver_will(
         &mut self,
         alloc: Global,
+        when_full: WhenFull,
         key: ClientKey,
         will: &Will,
         log: &mut ActLog,
     ) -> Result<bool, AllocError>
         requires hubs { AreHubTables self.old }
         requires within { publish_size (will_message will.now) ≤ self.old.connections.limits.most }
-        ensures goes { result ≡ Ok true → (config : HubConfig) (clock next_key : ℕ) → HubInvariant config next_key self.old
+        ensures goes { result ≡ Ok true → (config : HubConfig) (clock next_key : ℕ) → HubInvariant config next_key self.old → config.when_full ≡ when_full
             → Refines (deliver (Act.Will key (will_message will.now)) (will_message will.now)) (hub_of config clock next_key self.old) log.old.acts
             (hub_of config clock next_key self.new) log.new.acts }
-        ensures enough { IfOk result (λ enough. (config : HubConfig) (clock next_key : ℕ) → HubInvariant config next_key self.old
+        ensures enough { IfOk result (λ enough. (config : HubConfig) (clock next_key : ℕ) → HubInvariant config next_key self.old → config.when_full ≡ when_full
             → enough ≡ have_room (copies_of (will_message will.now) (hub_of config clock next_key self.old)) (hub_of config clock next_key self.old)) }
         ensures full { result ≡ Ok false → AreTablesAlike self.old self.new × (log.new.acts ≡ log.old.acts) }
         ensures err { OnErr result (AreTablesAlike self.old self.new × (log.new.acts ≡ log.old.acts)) }
@@ -45,17 +46,24 @@ impl<S: FilterStore> Tables<S> {
         ensures room { log.old.room ≤ log.new.room }
     {
         let message = will_message(will)?;
-        self.try_deliver(alloc, key, message, log)
+        self.try_deliver(alloc, when_full, key, message, log)
     }
 
     // Whether a will was published. If not, only reserved capacity may have changed.
-    fn try_will(&mut self, alloc: Global, key: ClientKey, will: &Will, log: &mut ActLog) -> bool
+    fn try_will(
+        &mut self,
+        alloc: Global,
+        when_full: WhenFull,
+        key: ClientKey,
+        will: &Will,
+        log: &mut ActLog,
+    ) -> bool
         requires hubs { AreHubTables self.old }
         requires within { publish_size (will_message will.now) ≤ self.old.connections.limits.most }
-        ensures published { result ≡ true → (config : HubConfig) (clock next_key : ℕ) → HubInvariant config next_key self.old
+        ensures published { result ≡ true → (config : HubConfig) (clock next_key : ℕ) → HubInvariant config next_key self.old → config.when_full ≡ when_full
             → Refines (last_will key (Some will.now) true) (hub_of config clock next_key self.old) log.old.acts
             (hub_of config clock next_key self.new) log.new.acts }
-        ensures dropped { result ≡ false → (config : HubConfig) (clock next_key : ℕ) → HubInvariant config next_key self.old
+        ensures dropped { result ≡ false → (config : HubConfig) (clock next_key : ℕ) → HubInvariant config next_key self.old → config.when_full ≡ when_full
             → (fits : Bool) × ((fits && have_room (copies_of (will_message will.now) (hub_of config clock next_key self.old))
             (hub_of config clock next_key self.old)) ≡ false) }
         ensures same { result ≡ false → AreTablesAlike self.old self.new × (log.new.acts ≡ log.old.acts) }
@@ -63,35 +71,44 @@ impl<S: FilterStore> Tables<S> {
         ensures connect_end { KeepsConnectRoom (will_messages (Some will.now)) self.old self.new }
         ensures room { log.old.room ≤ log.new.room }
     {
-        match self.deliver_will(alloc, key, will, log) {
+        match self.deliver_will(alloc, when_full, key, will, log) {
             Ok(shared) => shared,
             Err(_) => false,
         }
     }
 
-    fn publish_will(&mut self, alloc: Global, key: ClientKey, will: &Will, log: &mut ActLog)
+    fn publish_will(
+        &mut self,
+        alloc: Global,
+        when_full: WhenFull,
+        key: ClientKey,
+        will: &Will,
+        log: &mut ActLog,
+    )
         requires hubs { AreHubTables self.old }
         requires within { publish_size (will_message will.now) ≤ self.old.connections.limits.most }
         requires room { 0 < log.old.room }
-        ensures goes { (config : HubConfig) (clock next_key : ℕ) → HubInvariant config next_key self.old
+        ensures goes { (config : HubConfig) (clock next_key : ℕ) → HubInvariant config next_key self.old → config.when_full ≡ when_full
             → (fits : Bool) × Refines (last_will key (Some will.now) fits) (hub_of config clock next_key self.old) log.old.acts
             (hub_of config clock next_key self.new) log.new.acts }
         ensures spares { Spares self.old self.new }
         ensures connect_end { KeepsConnectRoom (will_messages (Some will.now)) self.old self.new }
         ensures room { log.old.room ≤ log.new.room + 1 }
     {
-        let published = self.try_will(alloc, key, will, log);
+        let published = self.try_will(alloc, when_full, key, will, log);
         if !published {
             log.push(Act::WillDropped(key));
         }
     }
 
-    /// Publishes the will of a client, if it has one (3.1.2.5). Reports it as dropped if a session
-    /// has too few free identifiers for its copies (2.3.1), or if an allocation fails. Room that
-    /// was reserved before stays reserved.
+    /// Publishes the will of a client, if it has one (3.1.2.5). If a session has no free identifier
+    /// for its copy (2.3.1), the copy is missed, or the will is reported as dropped, as `when_full`
+    /// says. It is also dropped if an allocation fails. Room that was reserved before stays
+    /// reserved.
     pub(crate) fn last_will(
         &mut self,
         alloc: Global,
+        when_full: WhenFull,
         key: ClientKey,
         will: Option<Will>,
         log: &mut ActLog,
@@ -99,7 +116,7 @@ impl<S: FilterStore> Tables<S> {
         requires hubs { AreHubTables self.old }
         requires within { IsWillWithin self.old.connections.limits.most will }
         requires room { 0 < log.old.room }
-        ensures goes { (config : HubConfig) (clock next_key : ℕ) → HubInvariant config next_key self.old
+        ensures goes { (config : HubConfig) (clock next_key : ℕ) → HubInvariant config next_key self.old → config.when_full ≡ when_full
             → (fits : Bool) × Refines (last_will key will fits) (hub_of config clock next_key self.old) log.old.acts
             (hub_of config clock next_key self.new) log.new.acts }
         ensures spares { Spares self.old self.new }
@@ -107,7 +124,7 @@ impl<S: FilterStore> Tables<S> {
         ensures room { log.old.room ≤ log.new.room + 1 }
     {
         match will {
-            Some(will) => self.publish_will(alloc, key, &will, log),
+            Some(will) => self.publish_will(alloc, when_full, key, &will, log),
             None => {}
         }
     }

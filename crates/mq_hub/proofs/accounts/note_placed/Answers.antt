@@ -21,7 +21,7 @@ returns c =
     let d : ClientLog = c.index-accounts-at.result in
     let here : p < length list = omega (arith, c.if-at-accounts.false, c.get-at.ensures) in
     on_ok c.append.result
-    (λ is. ap (λ (ms : List Message). slice_set list at (record { taken = (get_or list at d).taken; placed = ms })) is
+    (λ is. ap (λ (ms : List Message). slice_set list at (record (get_or list at d) { placed = ms })) is
     ∙ ap (λ (n : ℕ). slice_set list n (record (get_or list n d) { placed = (get_or list n d).placed ++ m ∷ [] })) c.get-at.ensures
     ∙ ap (λ (a : ClientLog). slice_set list p a) (sym (placed_own p m (get_or list p d)))
     ∙ sym (found (Placed p m) p (placed_other p m) 0 p d list (omega arith) here))

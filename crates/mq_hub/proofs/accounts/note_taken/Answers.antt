@@ -21,7 +21,7 @@ returns c =
     let d : ClientLog = c.index-accounts-at.result in
     let here : p < length list = omega (arith, c.if-at-accounts.false, c.get-at.ensures) in
     on_ok c.append.result
-    (λ is. ap (λ (ms : List Message). slice_set list at (record { taken = ms; placed = (get_or list at d).placed })) is
+    (λ is. ap (λ (ms : List Message). slice_set list at (record (get_or list at d) { taken = ms })) is
     ∙ ap (λ (n : ℕ). slice_set list n (record (get_or list n d) { taken = (get_or list n d).taken ++ m ∷ [] })) c.get-at.ensures
     ∙ ap (λ (a : ClientLog). slice_set list p a) (sym (took_own p m (get_or list p d)))
     ∙ sym (found (Took p m) p (took_other p m) 0 p d list (omega arith) here))

@@ -1,11 +1,11 @@
 use Rattle.std.proofs.Common.{◌≡◌, ℕ, refl}
 use Rattle.std.proofs.lemmas.Result.{IfOk-weaker}
 use Rattle.mq_flow.specs.Receiver.{none_received}
-use Rattle.mq_route.specs.Routed.{placed, routed, taken}
+use Rattle.mq_route.specs.Routed.{placed, routed, settled, taken}
 use Rattle.mq_route.specs.Runs.{IsRun, came_in}
 use Rattle.mq_route.specs.Taken.{handed_from, of_client}
 use Rattle.mq_hub.specs.Run.{IsTraced, acts_in}
-use Rattle.mq_hub.proofs.RunLemmas.{pair_gives, run_is, run_routes, run_takes}
+use Rattle.mq_hub.proofs.RunLemmas.{pair_gives, run_is, run_routes, run_settles, run_takes}
 use Rattle.mq_hub.proofs.run.hub_run_over.Goals as goal
 
 pub returns-clause-run : goal.returns-clause-run
@@ -20,11 +20,19 @@ returns-clause-run g c =
     c.traced-traced.ensures.trace)
 
 pub returns-clause-routed : goal.returns-clause-routed
-returns-clause-routed g c =
+returns-clause-routed g c = λ closes.
     let config = c.args.config in
     let events = c.args.events.now in
     IfOk-weaker c.pair_with.result (λ r. IsRun config events r.0 r.1) (λ r. (k : ℕ) → placed k (acts_in r.1) ≡ routed k (acts_in r.1))
-    (λ r run. run_routes config events r.0 r.1 run c.routing_laws.ensures)
+    (λ r run. run_routes config events r.0 r.1 run c.routing_laws.ensures closes)
+    (returns-clause-run g c)
+
+pub returns-clause-settled : goal.returns-clause-settled
+returns-clause-settled g c =
+    let config = c.args.config in
+    let events = c.args.events.now in
+    IfOk-weaker c.pair_with.result (λ r. IsRun config events r.0 r.1) (λ r. (k : ℕ) → settled k (acts_in r.1) ≡ routed k (acts_in r.1))
+    (λ r run. run_settles config events r.0 r.1 run c.routing_laws.ensures)
     (returns-clause-run g c)
 
 pub returns-clause-taken : goal.returns-clause-taken

@@ -1,4 +1,4 @@
-use Rattle.std.proofs.Common.{◌≡◌, ◌≤◌, ◌<◌, ◌∙◌, true, false, Ok, refl, sym, ap, subst}
+use Rattle.std.proofs.Common.{◌≡◌, ◌≤◌, ◌<◌, ◌∙◌, ℕ, List, true, false, Ok, refl, sym, ap, subst}
 use Rattle.mq_packet.specs.declared.message.Message.{Message}
 use Rattle.mq_packet.specs.declared.packet.Packet.TheVariants as packets
 use Rattle.mq_packet.specs.Publication.{Publication}
@@ -11,11 +11,13 @@ use Rattle.mq_route.specs.Work.{close, have_room, deliver}
 use Rattle.mq_hub.specs.declared.publish.reception.Reception.TheVariants.{Handed}
 use Rattle.mq_hub.specs.Inside.Refinement.{Refines}
 use Rattle.mq_hub.specs.Inside.Reception.{IsReceived}
+use Rattle.mq_hub.specs.Inside.Placement.{Settles}
 use Rattle.mq_hub.specs.Inside.Retained.{IsKeptOf, RetainedTable}
 use Rattle.mq_hub.specs.Inside.View.{HubTables, hub_of}
 use Rattle.mq_hub.proofs.FirstPackets.{err_any}
 use Rattle.mq_hub.proofs.GrantedRows.{on_seen}
 use Rattle.mq_hub.proofs.NewPublish.{can_hand, copies_handed, handed_as, handed_goes, kept_handed, kept_unhanded, publish_of, same_publish, same_unhanded, stays_ready, taken_as, unhanded_goes}
+use Rattle.mq_hub.proofs.MissedCopies.{room_same_books, settles_alike}
 use Rattle.mq_hub.proofs.DeliveryInvariant.{enough_seen, goes_as, has_sessions, hub_alike, kept_alike}
 use Rattle.mq_hub.proofs.hub.HubOver.on_publish.Goals as goal
 
@@ -39,14 +41,18 @@ take_publish-requires-clause-stays g c =
     stays_ready h.config h.clock h.next_key c.args.key h.tables c.reserve_delivery.new.self c.self.invariant c.reserve_delivery.ensures.alike on.conn on.is (publish_of c.into_message-message.result c.delivery-delivery.result)
     (handed_as c.args.publish (publish_of c.into_message-message.result c.delivery-delivery.result) c.args.self.now (hub_of h.config h.clock h.next_key h.tables) c.args.key (same_publish c.args.publish c.into_message-message.result c.delivery-delivery.result c.into_message-message.ensures c.delivery-delivery.ensures.value) c.self.view_is c.requires.handed)
 
-pub deliver-requires-clause-ready : goal.deliver-requires-clause-ready
-deliver-requires-clause-ready g c =
+pub deliver-requires : goal.deliver-requires
+deliver-requires g c =
     let was = c.in_ok-reserve_delivery.ensures.ready (ap Ok c.if-not-branch.false) in
     let a = c.in_ok-take_publish.ensures.ok in
     record {
-      retained = subst (λ (r : RetainedTable). 0 < r.room) (sym a.retained) was.retained;
-      ready = c.in_ok-take_publish.ensures.ready c.in_ok-plan.plan.copies.items was.ready;
-      room = was.room;
+      ready = record {
+        named = was.named;
+        apart = was.apart;
+        retained = subst (λ (r : RetainedTable). 0 < r.room) (sym a.retained) was.retained;
+        ready = c.in_ok-take_publish.ensures.ready c.reserve_delivery.new.plan.copies.items was.ready;
+        room = was.room;
+      };
     }
 
 pub invariant_of-self : goal.invariant_of-self
@@ -80,7 +86,7 @@ returns-then-not-branch-clause-closed g c = λ full conn fits new says goes.
     let handed = subst (λ (s : HubState). IsReceived Handed m (end_of key s.sessions)) (sym c.self.view_is) c.requires.handed in
     let room : false ≡ have_room (copies_of m.message old) old =
     enough_seen false m.message c.in_ok-plan.plan.copies.items old old
-    (sym c.if-not-branch.true ∙ c.in_ok-reserve_delivery.ensures.enough old (has_sessions h.config h.clock h.next_key t c.self.invariant))
+    (sym c.if-not-branch.true ∙ c.in_ok-reserve_delivery.ensures.enough old (has_sessions h.config h.clock h.next_key t c.self.invariant) refl)
     (subst (λ (n : Message). c.in_ok-plan.plan.copies.items ≡ copies_of n old) c.into_message-message.ensures (c.in_ok-plan.ensures.copies h.config h.clock h.next_key)) refl in
     subst (λ (s : HubState). Refines (on_connected_packet conn key (packets.Publish m) fits) s c.args.log.now.acts new says) c.self.view_is
     (unhanded_goes h.config h.clock h.next_key key t c.reserve_delivery.new.self c.self.invariant c.reserve_delivery.ensures.alike on.conn on.is m handed
@@ -109,7 +115,8 @@ invariant_of-self-2 g c =
     let m = c.args.publish in
     let on = on_seen h.config h.clock h.next_key h.tables c.args.self.now key c.self.view_is c.requires.up in
     let handed = subst (λ (s : HubState). IsReceived Handed m (end_of key s.sessions)) (sym c.self.view_is) c.requires.handed in
-    c.deliver.ensures.keeps m.message h.config h.next_key (subst (λ (n : Message). IsKeptOf n c.in_ok-plan.plan.kept) c.into_message-message.ensures c.in_ok-plan.ensures.kept)
+    c.deliver.ensures.keeps m.message h.config h.next_key
+    (subst (λ k. IsKeptOf m.message k) (sym c.reserve_delivery.ensures.kept) (subst (λ (n : Message). IsKeptOf n c.in_ok-plan.plan.kept) c.into_message-message.ensures c.in_ok-plan.ensures.kept))
     (kept_handed h.config h.clock h.next_key key h.tables c.reserve_delivery.new.self c.self.invariant c.reserve_delivery.ensures.alike on.conn on.is m handed
     c.take_publish.new.self (taken_as (publish_of c.into_message-message.result c.delivery-delivery.result) m c.args.key h.clock c.reserve_delivery.new.self c.take_publish.new.self (same_publish c.args.publish c.into_message-message.result c.delivery-delivery.result c.into_message-message.ensures c.delivery-delivery.ensures.value) c.in_ok-take_publish.ensures.ok))
     (subst (λ (s : HubState). publish_size m.message ≤ s.config.limits.most) (sym c.self.view_is) c.requires.within)
@@ -130,17 +137,24 @@ returns-clause-takes g c = λ done conn fits.
     let handed = subst (λ (b : HubState). IsReceived Handed m (end_of key b.sessions)) (sym c.self.view_is) c.requires.handed in
     let a = taken_as (publish_of c.into_message-message.result c.delivery-delivery.result) m key h.clock p u (same_publish c.args.publish c.into_message-message.result c.delivery-delivery.result c.into_message-message.ensures c.delivery-delivery.ensures.value) c.in_ok-take_publish.ensures.ok in
     let planned = subst (λ (n : Message). s.copies.items ≡ copies_of n old) c.into_message-message.ensures (c.in_ok-plan.ensures.copies h.config h.clock h.next_key) in
-    let due : copies_of m.message here ≡ s.copies.items =
-    copies_handed h.config h.clock h.next_key key t p c.self.invariant c.reserve_delivery.ensures.alike on.conn on.is m handed u a ∙ sym planned in
+    let r = c.reserve_delivery.new.plan in
+    let due : s.copies.items ≡ copies_of m.message here =
+    planned ∙ sym (copies_handed h.config h.clock h.next_key key t p c.self.invariant c.reserve_delivery.ensures.alike on.conn on.is m handed u a) in
+    let settles : Settles h.config u.sessions.list (copies_of m.message here) r.copies.items r.acts.items =
+    subst (λ (cs : List (ℕ × Message)). Settles h.config u.sessions.list cs r.copies.items r.acts.items) due
+    (settles_alike h.config t.sessions.list u.sessions.list s.copies.items r.copies.items r.acts.items c.in_ok-plan.ensures.planned.apart
+    (λ k. c.in_ok-take_publish.ensures.books k ∙ room_same_books t.sessions.list p.sessions.list c.reserve_delivery.ensures.alike.list k)
+    (c.in_ok-reserve_delivery.ensures.settles (ap Ok c.if-not-branch.false) old (has_sessions h.config h.clock h.next_key t c.self.invariant) refl)) in
     let room : true ≡ have_room (copies_of m.message old) old =
     enough_seen true m.message s.copies.items old old
-    (sym c.if-not-branch.false ∙ c.in_ok-reserve_delivery.ensures.enough old (has_sessions h.config h.clock h.next_key t c.self.invariant)) planned refl in
+    (sym c.if-not-branch.false ∙ c.in_ok-reserve_delivery.ensures.enough old (has_sessions h.config h.clock h.next_key t c.self.invariant) refl) planned refl in
     let shared : Refines (deliver (acts.Took key m.message) m.message) here c.args.log.now.acts after c.deliver.new.log.acts =
     subst (λ (n : Message). Refines (deliver (acts.Took key n) m.message) here c.args.log.now.acts after c.deliver.new.log.acts) (ap (λ (x : Publication). x.message) (same_publish c.args.publish c.into_message-message.result c.delivery-delivery.result c.into_message-message.ensures c.delivery-delivery.ensures.value))
     (goes_as (acts.Took key c.into_message-message.result) m.message m.message here here after c.reserve_delivery.new.log.acts c.args.log.now.acts
     c.deliver.new.log.acts refl refl c.reserve_delivery.ensures.acts
-    (c.deliver.ensures.goes m.message h.config h.clock h.next_key (subst (λ (n : Message). IsKeptOf n c.in_ok-plan.plan.kept) c.into_message-message.ensures c.in_ok-plan.ensures.kept)
-    (kept_handed h.config h.clock h.next_key key t p c.self.invariant c.reserve_delivery.ensures.alike on.conn on.is m handed u a) due)) in
+    (c.deliver.ensures.goes m.message h.config h.clock h.next_key
+    (subst (λ k. IsKeptOf m.message k) (sym c.reserve_delivery.ensures.kept) (subst (λ (n : Message). IsKeptOf n c.in_ok-plan.plan.kept) c.into_message-message.ensures c.in_ok-plan.ensures.kept))
+    (kept_handed h.config h.clock h.next_key key t p c.self.invariant c.reserve_delivery.ensures.alike on.conn on.is m handed u a) settles)) in
     subst (λ (b : HubState). Refines (on_connected_packet conn key (packets.Publish m) fits) b c.args.log.now.acts after c.deliver.new.log.acts) c.self.view_is
     (handed_goes h.config h.clock h.next_key key t p c.self.invariant c.reserve_delivery.ensures.alike on.conn on.is m handed u a
     conn fits after c.args.log.now.acts c.deliver.new.log.acts (sym room) shared)

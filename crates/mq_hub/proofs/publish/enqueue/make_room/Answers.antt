@@ -1,9 +1,9 @@
 use Rattle.std.proofs.Common.{◌≡◌, ◌∙◌, ◌+◌, ◌<◌, ◌∷◌, ◌++◌, ◌&&◌, [], ℕ, suc, List, Bool, false, Ok, length, take, drop, sym, ap, subst, add-one, arith}
 use Rattle.mq_packet.specs.declared.message.Message.{Message}
 use Rattle.mq_route.specs.Hub.{for_key}
-use Rattle.mq_route.specs.Work.{have_room}
+use Rattle.mq_route.specs.Work.{all_fit}
 use Rattle.mq_hub.specs.Inside.Placement.{AreReady, IsFor, IsReadyAt, is_among}
-use Rattle.mq_hub.proofs.SessionRoom.{all_at, all_more, apart_at, are_for_same, drop_at, has_same, room_none, still_all, ended}
+use Rattle.mq_hub.proofs.SessionRoom.{all_at, all_more, apart_at, are_for_same, drop_at, has_same, fit_none, still_all, ended}
 use Rattle.mq_hub.proofs.publish.enqueue.make_room.Goals as goal
 
 pub make_room_for-requires : goal.make_room_for-requires
@@ -31,10 +31,10 @@ returns-then-not-branch-clause-enough c = λ h has.
     let none = subst (λ (x : ℕ × Message). is_among x.0 rest ≡ false) (sym c.due-item.is) (apart_at cs i d l c.requires.apart) in
     let now = has_same c.args.sessions.now.list c.loop-due.sessions.list h c.loop-due.invariant.same has in
     let front = drop_at cs i d l ∙ ap (λ (x : ℕ × Message). x ∷ rest) (sym c.due-item.is) in
-    let says = subst (λ (ms : List Message). have_room (for_key d.0 ms ++ rest) h ≡ (c.in_ok-make_room_for.field-0 && have_room rest h)) c.from_ref.ensures.value
+    let says = subst (λ (ms : List Message). all_fit (for_key d.0 ms ++ rest) h ≡ (c.in_ok-make_room_for.field-0 && all_fit rest h)) c.from_ref.ensures.value
     (c.in_ok-make_room_for.ensures.enough rest h now none) in
-    sym (c.loop-due.invariant.enough h has ∙ ap (λ (xs : List (ℕ × Message)). have_room xs h) front ∙ says
-    ∙ ap (λ (b : Bool). b && have_room rest h) c.if-not-branch.true)
+    sym (c.loop-due.invariant.enough h has ∙ ap (λ (xs : List (ℕ × Message)). all_fit xs h) front ∙ says
+    ∙ ap (λ (b : Bool). b && all_fit rest h) c.if-not-branch.true)
 
 pub loop-due-preserved : goal.loop-due-preserved
 loop-due-preserved c =
@@ -56,11 +56,11 @@ loop-due-preserved c =
       due = are_for_same old new cs c.make_room_for.ensures.same c.loop-due.invariant.due;
       enough = λ h has.
           let now = has_same c.args.sessions.now.list old h c.loop-due.invariant.same has in
-          let says = subst (λ (ms : List Message). have_room (for_key d.0 ms ++ rest) h ≡ (c.in_ok-make_room_for.field-0 && have_room rest h)) c.from_ref.ensures.value
+          let says = subst (λ (ms : List Message). all_fit (for_key d.0 ms ++ rest) h ≡ (c.in_ok-make_room_for.field-0 && all_fit rest h)) c.from_ref.ensures.value
           (c.in_ok-make_room_for.ensures.enough rest h now none) in
-          c.loop-due.invariant.enough h has ∙ ap (λ (xs : List (ℕ × Message)). have_room xs h) front ∙ says
-          ∙ ap (λ (b : Bool). b && have_room rest h) enough
-          ∙ ap (λ (n : ℕ). have_room (drop n cs) h) (sym one);
+          c.loop-due.invariant.enough h has ∙ ap (λ (xs : List (ℕ × Message)). all_fit xs h) front ∙ says
+          ∙ ap (λ (b : Bool). b && all_fit rest h) enough
+          ∙ ap (λ (n : ℕ). all_fit (drop n cs) h) (sym one);
       ready = subst (λ (n : ℕ). AreReady c.args.more new (take n cs)) (sym one)
           (all_more (λ x. IsReadyAt x.0 (x.1 ∷ []) c.args.more new) cs i d l (still_all c.args.more old new (take i cs) c.make_room_for.ensures.still c.loop-due.invariant.ready) own_ready);
       same = c.make_room_for.ensures.same ∙ c.loop-due.invariant.same;
@@ -72,4 +72,4 @@ pub returns-clause-enough : goal.returns-clause-enough
 returns-clause-enough c = λ h has.
     let cs = c.args.copies.now in
     let i = c.loop-due.due-index in
-    sym (c.loop-due.invariant.enough h has ∙ ap (λ (xs : List (ℕ × Message)). have_room xs h) (ended cs i (omega (arith, c.loop-due-test.false))) ∙ room_none h)
+    sym (c.loop-due.invariant.enough h has ∙ ap (λ (xs : List (ℕ × Message)). all_fit xs h) (ended cs i (omega (arith, c.loop-due-test.false))) ∙ fit_none h)

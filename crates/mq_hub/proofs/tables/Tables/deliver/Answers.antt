@@ -8,7 +8,7 @@ use Rattle.mq_hub.proofs.tables.Tables.deliver.Goals as goal
 pub returns-clause-keeps : goal.returns-clause-keeps
 returns-clause-keeps g c = λ m config next_key is keeps within.
     let s = c.args.plan in
-    kept_shared config next_key m s.copies.items c.args.self.now _ keeps within c.requires.planned.apart c.requires.ready.ready
+    kept_shared config next_key m s.copies.items c.args.self.now _ keeps within c.requires.ready.apart c.requires.ready.ready
     (ap (λ (v : HubTables). v.rows) c.self.view_is) (ap (λ (v : HubTables). v.connections) c.self.view_is)
     (c.deliver_copies.ensures.retained m is ∙ ap (λ (v : HubTables). kept m v.retained.messages) c.self.view_is)
     (c.deliver_copies.ensures.list ∙ ap (λ (v : HubTables). placed_all s.copies.items v.sessions.list) c.self.view_is)

@@ -12,22 +12,22 @@ use Rattle.mq_hub.proofs.tables.Tables.take_over_keeping.Goals as goal
 
 pub last_will-requires-clause-hubs : goal.last_will-requires-clause-hubs
 last_will-requires-clause-hubs g c =
-    hubs_after _ c.args.self.now c.leave_with-will.new.self c.args.log.now.acts c.leave_with-will.new.log.acts c.requires.hubs c.leave_with-will.ensures.proceeds
+    hubs_after c.args.when_full _ c.args.self.now c.leave_with-will.new.self c.args.log.now.acts c.leave_with-will.new.log.acts c.requires.hubs (c.leave_with-will.ensures.proceeds c.args.when_full)
 
 pub last_will-requires-clause-within : goal.last_will-requires-clause-within
 last_will-requires-clause-within g c =
-    will_after_close _ c.args.conn TakenOver c.leave_with-will.result c.args.self.now c.leave_with-will.new.self c.args.log.now.acts
+    will_after_close c.args.when_full _ c.args.conn TakenOver c.leave_with-will.result c.args.self.now c.leave_with-will.new.self c.args.log.now.acts
     c.leave_with-will.new.log.acts
-    c.requires.hubs c.leave_with-will.ensures.proceeds c.leave_with-will.ensures.will
+    c.requires.hubs (c.leave_with-will.ensures.proceeds c.args.when_full) c.leave_with-will.ensures.will
 
 pub returns-clause-proceeds : goal.returns-clause-proceeds
 returns-clause-proceeds g c =
     let k = c.args.conn in
     let key = c.args.key in
     let first =
-    subst (λ (b : Bool). Proceeds (λ fits. parts k TakenOver key b) c.args.self.now c.args.log.now.acts c.leave_with-will.new.self c.leave_with-will.new.log.acts)
-    (sym c.requires.lasts) c.leave_with-will.ensures.proceeds in
-    proceeds_closed k TakenOver key c.leave_with-will.result c.args.self.now c.leave_with-will.new.self c.last_will.new.self c.args.log.now.acts
+    subst (λ (b : Bool). Proceeds c.args.when_full (λ fits. parts k TakenOver key b) c.args.self.now c.args.log.now.acts c.leave_with-will.new.self c.leave_with-will.new.log.acts)
+    (sym c.requires.lasts) (c.leave_with-will.ensures.proceeds c.args.when_full) in
+    proceeds_closed c.args.when_full k TakenOver key c.leave_with-will.result c.args.self.now c.leave_with-will.new.self c.last_will.new.self c.args.log.now.acts
     c.leave_with-will.new.log.acts c.last_will.new.log.acts c.requires.up c.leave_with-will.ensures.will first c.last_will.ensures.goes
     c.last_will.ensures.spares
 

@@ -1,0 +1,10 @@
+use Rattle.std.proofs.Common.{◌≡◌, ◌+◌, ◌++◌, length}
+use Rattle.mq_hub.specs.Inside.Placement.{first_fitting, fitting_acts}
+use Rattle.mq_hub.proofs.publish.settle.settle_messages.Given as goal
+
+abbrev pub invariant-loop-message : goal.invariant-loop-message
+invariant-loop-message l = record {
+  kept : l.settled.kept.items ++ first_fitting l.left l.message-iterator.rest.items ≡ first_fitting l.free l.fn.messages.items;
+  acts : l.settled.acts.items ++ fitting_acts l.key l.left l.message-iterator.rest.items ≡ fitting_acts l.key l.free l.fn.messages.items;
+  count : length l.settled.acts.items + length l.message-iterator.rest.items ≡ length l.fn.messages.items;
+}
