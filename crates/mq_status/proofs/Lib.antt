@@ -1,0 +1,5 @@
+mod Growing
+mod Heads
+mod Joined
+mod Safe
+mod Visible
