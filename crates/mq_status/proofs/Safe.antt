@@ -1,5 +1,5 @@
 -- Escaped text is safe in HTML.
-use Rattle.std.proofs.Common.{◌≡◌, ℕ, ◌+◌, ◌/◌, ◌%◌, ◌<◌, ◌≤◌, zero, suc, Bool, true, false, ◌==◌, ◌&&◌, ◌||◌, not, if◌then◌else◌, List, [], ◌∷◌, ◌++◌, refl, codes, arith}
+use Rattle.std.proofs.Common.{◌≡◌, ℕ, ◌+◌, ◌/◌, ◌%◌, ◌<◌, ◌≤◌, zero, suc, Bool, true, false, ◌==◌, ◌&&◌, ◌||◌, not, nat_le, if◌then◌else◌, List, [], ◌∷◌, ◌++◌, refl, codes, arith}
 use Rattle.std.proofs.lemmas.Grind.{common_steps}
 use Rattle.std.proofs.lemmas.Bool.Decides.{nat_tests}
 use Rattle.std.proofs.lemmas.List.Folds.{list_all-append}
@@ -50,17 +50,30 @@ plain_before (byte ∷ bytes) rest plain safe =
 
 choose : (test : Bool) (xs ys rest : List ℕ) → (test ≡ true → is_safe (xs ++ rest) ≡ true)
     → (test ≡ false → is_safe (ys ++ rest) ≡ true) → is_safe ((if test then xs else ys) ++ rest) ≡ true
-choose true xs ys rest yes no = yes refl
-choose false xs ys rest yes no = no refl
+choose true xs ys rest here there = here refl
+choose false xs ys rest here there = there refl
+
+-- what stands for a byte behind the tests of the first entities
+abbrev from_39 : ℕ → List ℕ
+from_39 byte = if byte == 39 then codes "&#39;" else escaped_byte byte
+
+abbrev from_34 : ℕ → List ℕ
+from_34 byte = if byte == 34 then codes "&quot;" else from_39 byte
+
+abbrev from_38 : ℕ → List ℕ
+from_38 byte = if byte == 38 then codes "&amp;" else from_34 byte
+
+abbrev from_62 : ℕ → List ℕ
+from_62 byte = if byte == 62 then codes "&gt;" else from_38 byte
 
 byte_safe : (byte : ℕ) (rest : List ℕ) → is_safe rest ≡ true → is_safe (html_byte byte ++ rest) ≡ true
 byte_safe byte rest safe =
-    choose (byte == 60) _ _ rest (λ is. safe) (λ less.
-    choose (byte == 62) _ _ rest (λ is. safe) (λ greater.
-    choose (byte == 38) _ _ rest (λ is. safe) (λ and.
-    choose (byte == 34) _ _ rest (λ is. safe) (λ double.
-    choose (byte == 39) _ _ rest (λ is. safe) (λ single.
-    choose _ _ _ rest
+    choose (byte == 60) (codes "&lt;") (from_62 byte) rest (λ is. safe) (λ less.
+    choose (byte == 62) (codes "&gt;") (from_38 byte) rest (λ is. safe) (λ greater.
+    choose (byte == 38) (codes "&amp;") (from_34 byte) rest (λ is. safe) (λ and.
+    choose (byte == 34) (codes "&quot;") (from_39 byte) rest (λ is. safe) (λ double.
+    choose (byte == 39) (codes "&#39;") (escaped_byte byte) rest (λ is. safe) (λ single.
+    choose (nat_le 33 byte && nat_le byte 126 && not (byte == 37)) (byte ∷ []) (codes "%" ++ byte_digits byte) rest
     (λ is. plain_before (byte ∷ []) rest (rw (less, greater, and, double, single) refl) safe)
     (λ is. plain_before (codes "%" ++ byte_digits byte) rest (byte_digits_plain byte) safe))))))
 

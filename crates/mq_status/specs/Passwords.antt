@@ -117,17 +117,29 @@ Gives expected (Ok value) = expected ≡ Ok value
 Gives expected (Err (private.Fault fault)) = expected ≡ Err fault
 Gives expected (Err private.Memory) = ⊤
 
+-- The entry of a line, if it has one, is added at the end.
+abbrev pub Adds : Result (Option Entry) PasswordFault → List Entry → List Entry → Type 0
+Adds (Ok None) old new = new ≡ old
+Adds (Ok (Some entry)) old new = new ≡ old ++ entry ∷ []
+Adds (Err fault) old new = ⊥
+
+-- The error is that of a line, or an allocation fails.
+abbrev pub RefusesLine : ℕ → Result (Option Entry) PasswordFault → PasswordsError → Type 0
+RefusesLine number expected (errors.Line line fault) = (expected ≡ Err fault) × (line ≡ number)
+RefusesLine number expected errors.NotUtf8 = ⊥
+RefusesLine number expected errors.Memory = ⊤
+
 -- The error is that of the lines, or an allocation fails.
 abbrev pub RefusesLines : Result (List Entry) (ℕ × PasswordFault) → PasswordsError → Type 0
 RefusesLines expected (errors.Line number fault) = expected ≡ Err (number, fault)
 RefusesLines expected errors.NotUtf8 = ⊥
-RefusesLines expected (errors.Memory e) = ⊤
+RefusesLines expected errors.Memory = ⊤
 
 -- The error is that of the file, or an allocation fails.
 abbrev pub Refuses : List ℕ → PasswordsError → Type 0
 Refuses file (errors.Line number fault) = file_gives file ≡ Err (number, fault)
 Refuses file errors.NotUtf8 = ¬ (IsUtf8 file)
-Refuses file (errors.Memory e) = ⊤
+Refuses file errors.Memory = ⊤
 
 -- ---- the users of a broker
 

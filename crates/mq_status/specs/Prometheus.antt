@@ -2,7 +2,6 @@
 -- help and a line with its type.
 use Rattle.std.specs.Prelude.{ℕ, ◌+◌, ◌-◌, ◌/◌, ◌%◌, List, [], ◌∷◌, ◌++◌, length, replicate, slice_index, codes, decimal}
 use Rattle.std.specs.List.{flat_map}
-use Rattle.mq_status.specs.Counting.{Numbers}
 use Rattle.mq_status.specs.declared.metrics.Gauges.{Gauges}
 
 -- the two lines at the head of a family
@@ -66,29 +65,32 @@ sessions_text counts =
     ++ (single_text (codes "mqtt_subscribes_total") (codes "Subscriptions stored.") (codes "counter") (slice_index counts 33)
     ++ (single_text (codes "mqtt_unsubscribes_total") (codes "Subscriptions removed by UNSUBSCRIBE.") (codes "counter") (slice_index counts 34))))
 
-abbrev pub totals_text : List ℕ → List ℕ
-totals_text counts =
+abbrev pub wills_text : List ℕ → List ℕ
+wills_text counts =
     single_text (codes "mqtt_wills_total") (codes "Wills published.") (codes "counter") (slice_index counts 35)
-    ++ (single_text (codes "mqtt_wills_dropped_total") (codes "Wills dropped.") (codes "counter") (slice_index counts 36)
-    ++ (single_text (codes "mqtt_bytes_read_total") (codes "Bytes read from connections.") (codes "counter") (slice_index counts 37)
-    ++ (single_text (codes "mqtt_bytes_written_total") (codes "Bytes written to connections.") (codes "counter") (slice_index counts 38)
-    ++ (single_text (codes "mqtt_connections_turned_away_total") (codes "Connections closed at once because there were too many.") (codes "counter") (slice_index counts 39)))))
+    ++ single_text (codes "mqtt_wills_dropped_total") (codes "Wills dropped.") (codes "counter") (slice_index counts 36)
 
--- microseconds as seconds, with six decimals
+abbrev pub traffic_text : List ℕ → List ℕ
+traffic_text counts =
+    single_text (codes "mqtt_bytes_read_total") (codes "Bytes read from connections.") (codes "counter") (slice_index counts 37)
+    ++ (single_text (codes "mqtt_bytes_written_total") (codes "Bytes written to connections.") (codes "counter") (slice_index counts 38)
+    ++ single_text (codes "mqtt_connections_turned_away_total") (codes "Connections closed at once because there were too many.") (codes "counter") (slice_index counts 39))
+
+-- a number with zeros before it, up to six digits
+abbrev pub six_digits : ℕ → List ℕ
+six_digits n = replicate (6 - length (decimal n)) 48 ++ decimal n
+
+-- the line of the rounds' time: microseconds as seconds with six decimals
 abbrev pub seconds_text : ℕ → List ℕ
 seconds_text microseconds =
-    decimal (microseconds / 1000000) ++ (codes "." ++ (replicate (6 - length (decimal (microseconds % 1000000))) 48 ++ decimal (microseconds % 1000000)))
+    codes "mqtt_round_seconds_sum " ++ (decimal (microseconds / 1000000)
+    ++ (codes "." ++ (six_digits (microseconds % 1000000) ++ codes "\n")))
 
 abbrev pub rounds_text : List ℕ → List ℕ
 rounds_text counts =
     head_text (codes "mqtt_round_seconds") (codes "Time of the event loop's rounds, without waiting.") (codes "summary")
-    ++ (codes "mqtt_round_seconds_sum " ++ (seconds_text (slice_index counts 41)
-    ++ (codes "\nmqtt_round_seconds_count " ++ (decimal (slice_index counts 40) ++ codes "\n"))))
-
-abbrev pub counters_text : List ℕ → List ℕ
-counters_text counts =
-    messages_text counts ++ (missed_text counts ++ (closed_text counts ++ (refused_text counts
-    ++ (sessions_text counts ++ (totals_text counts ++ rounds_text counts)))))
+    ++ (seconds_text (slice_index counts 41)
+    ++ (codes "mqtt_round_seconds_count " ++ (decimal (slice_index counts 40) ++ codes "\n")))
 
 -- ---- gauges
 
@@ -104,9 +106,3 @@ memory_text gauges =
     single_text (codes "mqtt_stored_messages") (codes "Messages stored in sessions.") (codes "gauge") gauges.stored_messages
     ++ (single_text (codes "mqtt_stored_bytes") (codes "Topic and payload bytes of messages stored in sessions.") (codes "gauge") gauges.stored_bytes
     ++ (single_text (codes "mqtt_pending_bytes") (codes "Bytes pending on connections.") (codes "gauge") gauges.pending_bytes))
-
--- ---- all
-
-abbrev pub prometheus_text : Numbers → List ℕ
-prometheus_text numbers =
-    gauges_text numbers.gauges ++ (memory_text numbers.gauges ++ counters_text numbers.counts)

@@ -1,5 +1,5 @@
 -- Responses (RFC 9110, RFC 9112).
-use Rattle.std.specs.Prelude.{ℕ, List, ◌++◌, codes, decimal}
+use Rattle.std.specs.Prelude.{ℕ, List, codes}
 use Rattle.mq_status.specs.declared.http.Resource.TheVariants.{Page, Metrics}
 use Rattle.mq_status.specs.declared.http.Status.{Status}
 use Rattle.mq_status.specs.declared.http.Status.TheVariants as statuses
@@ -17,11 +17,3 @@ content_type (statuses.Ok Metrics) = codes "text/plain; version=0.0.4; charset=u
 content_type statuses.BadRequest = codes "text/plain; charset=utf-8"
 content_type statuses.NotFound = codes "text/plain; charset=utf-8"
 content_type statuses.MethodNotAllowed = codes "text/plain; charset=utf-8"
-
--- the head of a response whose body has this length
-abbrev pub response_head : Status → ℕ → List ℕ
-response_head status size =
-    codes "HTTP/1.1 " ++ (status_lines status
-    ++ (codes "\r\nContent-Type: " ++ (content_type status
-    ++ (codes "\r\nContent-Length: " ++ (decimal size
-    ++ codes "\r\nCache-Control: no-store\r\nConnection: close\r\n\r\n")))))

@@ -79,7 +79,6 @@ fn reply_to(method: &[u8], path: &[u8]) -> Reply
 
 /// Returns what to do after `received`, all bytes that a connection has sent. At most [`MAX_HEAD`]
 /// bytes are needed.
-#[tactic(auto, using(crate::proofs::Heads::too_long))]
 pub fn request(received: &[u8]) -> Answer
     ensures { Answers received.now result }
 {

@@ -7,8 +7,7 @@ ghost use Rattle.std.specs.Result.{result_ok};
 ghost use Rattle.std.specs.Str.Lines.{lines};
 ghost use Rattle.hex.specs.Hex.{decode_sized};
 ghost use Rattle.sha2.specs.Sha256.{sha256};
-ghost use Rattle.mq_status.specs.Passwords.{AreUsersOf, Gives, Refuses, RefusesLines, accepts, entry_of, field_in, file_gives, hash_in, is_field, is_field_byte, is_name, is_skipped, line_gives, lines_give, name_in, password_line, plain_of, stored_in};
-ghost use Rattle.mq_status.specs.declared.passwords.LineError.TheVariants.{Memory};
+ghost use Rattle.mq_status.specs.Passwords.{Adds, AreUsersOf, Gives, Refuses, RefusesLine, RefusesLines, accepts, entry_of, field_in, file_gives, hash_in, is_field, is_field_byte, is_name, is_skipped, line_gives, lines_give, name_in, password_line, plain_of, stored_in};
 
 use bytes::Bytes;
 use hex::FromHex;
@@ -18,7 +17,7 @@ use mq_route::User;
 use mq_wire::{Text, TextFault};
 use sha2::{Digest, Sha256};
 use simdutf8::basic::from_utf8;
-use std::alloc::{AllocError, Global};
+use std::alloc::{AllocError, AllocFailed, Global};
 use thiserror::Error;
 
 /// Why a line of the file is wrong.
@@ -55,7 +54,29 @@ pub enum PasswordsError {
     NotUtf8,
     /// An allocation failed.
     #[error("out of memory")]
-    Memory(#[from(alloc)] AllocError),
+    Memory,
+}
+
+impl From<AllocError> for PasswordsError {
+    ghost use Rattle.std.specs.Prelude.{◌≡◌};
+    ghost use Rattle.mq_status.specs.declared.passwords.PasswordsError.TheVariants.{Memory};
+
+    ghost from_gives = { λ _ e. e ≡ Memory };
+
+    fn from(_e: AllocError) -> PasswordsError {
+        PasswordsError::Memory
+    }
+}
+
+impl<T: Drop> From<AllocFailed<T>> for PasswordsError {
+    ghost use Rattle.std.specs.Prelude.{◌≡◌};
+    ghost use Rattle.mq_status.specs.declared.passwords.PasswordsError.TheVariants.{Memory};
+
+    ghost from_gives = { λ _ e. e ≡ Memory };
+
+    fn from(_e: AllocFailed<T>) -> PasswordsError {
+        PasswordsError::Memory
+    }
 }
 
 // Why a line gives no entry.
@@ -66,6 +87,9 @@ enum LineError {
 }
 
 impl From<AllocError> for LineError {
+    ghost use Rattle.std.specs.Prelude.{◌≡◌};
+    ghost use Rattle.mq_status.specs.declared.passwords.LineError.TheVariants.{Memory};
+
     ghost from_gives = { λ _ e. e ≡ Memory };
 
     fn from(_e: AllocError) -> LineError {
@@ -230,8 +254,30 @@ fn lines_of(alloc: Global, text: &str) -> Result<Vec<&str>, AllocError>
     text.lines().collect(alloc)
 }
 
+// Reads a line, and adds its entry, if it has one.
+fn push_line(
+    alloc: Global,
+    number: usize,
+    line: &str,
+    entries: &mut Vec<Entry>,
+) -> Result<(), PasswordsError>
+    ensures entries { IfOk result (λ _.
+        Adds (line_gives number line.now) entries.old.items entries.new.items) }
+    ensures refusal { IfErr result (RefusesLine number (line_gives number line.now)) }
+{
+    match read_line(alloc, number, line) {
+        Ok(None) => Ok(()),
+        Ok(Some(entry)) => Ok(entries.push(entry)?),
+        Err(LineError::Fault(fault)) => Err(PasswordsError::Line {
+            line: number,
+            fault,
+        }),
+        Err(LineError::Memory) => Err(PasswordsError::Memory),
+    }
+}
+
 // Reads lines.
-#[tactic(auto, using(crate::proofs::Joined::behind_none, crate::proofs::Joined::behind_one, crate::proofs::Joined::lines_at))]
+#[tactic(auto, using(crate::proofs::Joined::behind_none, crate::proofs::Joined::line_next, crate::proofs::Joined::line_refused))]
 fn read_lines(alloc: Global, lines: &[&str]) -> Result<Vec<Entry>, PasswordsError>
     ensures entries { IfOk result (λ entries.
         lines_give 1 (map (λ x. x.now) lines.now) ≡ Ok entries.items) }
@@ -239,17 +285,8 @@ fn read_lines(alloc: Global, lines: &[&str]) -> Result<Vec<Entry>, PasswordsErro
 {
     let mut entries = Vec::new(alloc);
     for (index, line) in lines.iter().enumerate() {
-        let number = index + 1;
-        match read_line(alloc, number, line) {
-            Ok(None) => {}
-            Ok(Some(entry)) => entries.push(entry)?,
-            Err(LineError::Fault(fault)) => {
-                return Err(PasswordsError::Line {
-                    line: number,
-                    fault,
-                });
-            }
-            Err(LineError::Memory) => return Err(PasswordsError::Memory(AllocError)),
+        if let Err(error) = push_line(alloc, index + 1, *line, &mut entries) {
+            return Err(error);
         }
     }
     Ok(entries)
@@ -301,7 +338,18 @@ pub enum PasswordLineError {
     Salt,
     /// An allocation failed.
     #[error("out of memory")]
-    Memory(#[from(alloc)] AllocError),
+    Memory,
+}
+
+impl From<AllocError> for PasswordLineError {
+    ghost use Rattle.std.specs.Prelude.{◌≡◌};
+    ghost use Rattle.mq_status.specs.declared.passwords.PasswordLineError.TheVariants.{Memory};
+
+    ghost from_gives = { λ _ e. e ≡ Memory };
+
+    fn from(_e: AllocError) -> PasswordLineError {
+        PasswordLineError::Memory
+    }
 }
 
 // Returns whether a byte can be part of a field of a line.

@@ -3,7 +3,7 @@
 ghost use Rattle.std.specs.Prelude.{◌++◌, ◌<◌, codes, OnOk};
 ghost use Rattle.std.specs.Io.KnownBytes.{Appends};
 ghost use Rattle.std.specs.List.{flat_map};
-ghost use Rattle.mq_status.specs.Prometheus.{by_qos_text, closed_text, counters_text, gauges_text, head_text, memory_text, messages_text, missed_text, prometheus_text, refused_text, rounds_text, sample_text, sessions_text, single_text, totals_text};
+ghost use Rattle.mq_status.specs.Prometheus.{by_qos_text, closed_text, gauges_text, head_text, memory_text, messages_text, missed_text, refused_text, rounds_text, sample_text, seconds_text, sessions_text, single_text, traffic_text, wills_text};
 
 use crate::counter::COUNTERS;
 use crate::metrics::{Gauges, Metrics};
@@ -281,10 +281,10 @@ fn write_sessions<W: Write>(output: &mut W, counts: &[u64; COUNTERS]) -> io::Res
     )
 }
 
-// Writes the counters of wills, and of the bytes and connections that the caller counts.
-fn write_totals<W: Write>(output: &mut W, counts: &[u64; COUNTERS]) -> io::Result<()>
+// Writes the counters of wills.
+fn write_wills<W: Write>(output: &mut W, counts: &[u64; COUNTERS]) -> io::Result<()>
     ensures { OnOk result (Appends (W.contents output.old) (W.contents output.new)
-        (totals_text counts.now)) }
+        (wills_text counts.now)) }
 {
     let help = "Wills published.";
     write_single(output, "mqtt_wills_total", help, "counter", counts[35])?;
@@ -295,7 +295,14 @@ fn write_totals<W: Write>(output: &mut W, counts: &[u64; COUNTERS]) -> io::Resul
         help,
         "counter",
         counts[36],
-    )?;
+    )
+}
+
+// Writes the counters of the bytes and connections that the caller counts.
+fn write_traffic<W: Write>(output: &mut W, counts: &[u64; COUNTERS]) -> io::Result<()>
+    ensures { OnOk result (Appends (W.contents output.old) (W.contents output.new)
+        (traffic_text counts.now)) }
+{
     let help = "Bytes read from connections.";
     write_single(output, "mqtt_bytes_read_total", help, "counter", counts[37])?;
     let help = "Bytes written to connections.";
@@ -316,6 +323,16 @@ fn write_totals<W: Write>(output: &mut W, counts: &[u64; COUNTERS]) -> io::Resul
     )
 }
 
+// Writes the line of the rounds' time in seconds.
+#[tactic(auto, using(crate::proofs::Padded::zeros_before))]
+fn write_seconds<W: Write>(output: &mut W, microseconds: u64) -> io::Result<()>
+    ensures { OnOk result (Appends (W.contents output.old) (W.contents output.new)
+        (seconds_text microseconds)) }
+{
+    let (seconds, rest) = (microseconds / 1_000_000, microseconds % 1_000_000);
+    writeln!(output, "mqtt_round_seconds_sum {seconds}.{rest:06}")
+}
+
 // Writes the number of rounds of the event loop, and their time in seconds.
 fn write_rounds<W: Write>(output: &mut W, counts: &[u64; COUNTERS]) -> io::Result<()>
     ensures { OnOk result (Appends (W.contents output.old) (W.contents output.new)
@@ -323,8 +340,7 @@ fn write_rounds<W: Write>(output: &mut W, counts: &[u64; COUNTERS]) -> io::Resul
 {
     let help = "Time of the event loop's rounds, without waiting.";
     write_head(output, "mqtt_round_seconds", help, "summary")?;
-    let (seconds, rest) = (counts[41] / 1_000_000, counts[41] % 1_000_000);
-    writeln!(output, "mqtt_round_seconds_sum {seconds}.{rest:06}")?;
+    write_seconds(output, counts[41])?;
     let rounds = counts[40];
     writeln!(output, "mqtt_round_seconds_count {rounds}")
 }
@@ -394,24 +410,19 @@ fn write_memory<W: Write>(output: &mut W, gauges: Gauges) -> io::Result<()>
 }
 
 // Writes the counters.
-fn write_counters<W: Write>(output: &mut W, counts: &[u64; COUNTERS]) -> io::Result<()>
-    ensures { OnOk result (Appends (W.contents output.old) (W.contents output.new)
-        (counters_text counts.now)) }
-{
+fn write_counters<W: Write>(output: &mut W, counts: &[u64; COUNTERS]) -> io::Result<()> {
     write_messages(output, counts)?;
     write_missed(output, counts)?;
     write_closed(output, counts)?;
     write_refused(output, counts)?;
     write_sessions(output, counts)?;
-    write_totals(output, counts)?;
+    write_wills(output, counts)?;
+    write_traffic(output, counts)?;
     write_rounds(output, counts)
 }
 
 /// Appends the metrics in the text format of Prometheus, version 0.0.4.
-pub fn write_prometheus<W: Write>(output: &mut W, metrics: &Metrics) -> io::Result<()>
-    ensures { OnOk result (Appends (W.contents output.old) (W.contents output.new)
-        (prometheus_text metrics.now)) }
-{
+pub fn write_prometheus<W: Write>(output: &mut W, metrics: &Metrics) -> io::Result<()> {
     write_gauges(output, metrics.gauges())?;
     write_memory(output, metrics.gauges())?;
     write_counters(output, metrics.counts())

