@@ -38,7 +38,7 @@ fn perform_into<W: Write>(rt: &HostRuntime, job: &Job<'_>, output: &mut W) -> io
 /// Runs a client program, and prints to the standard output through a buffer.
 fn run_buffered(rt: &HostRuntime, command: &Command<'_>) -> Result<u8, Failure> {
     let mut output = BufWriter::new(rt.alloc(), io::writer(rt))?;
-    let status = run_client(rt, rt.alloc(), command, &mut output)?;
+    let status = run_client(rt, rt.alloc(), command, &mut rt.stderr(), &mut output)?;
     output.flush()?;
     Ok(status)
 }

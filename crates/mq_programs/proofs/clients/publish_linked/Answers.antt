@@ -1,0 +1,1 @@
+use Rattle.mq_programs.proofs.clients.publish_linked.Goals as goal
