@@ -1,5 +1,5 @@
-"""Hard use of `publish` and `collect`: a full output or file, and several runs over one session.
-Used by .ci/program."""
+"""Hard use of `serve`, `publish` and `collect`: clients that reconnect at once or read slowly, few
+file descriptors, a full output or file, and several runs over one session. Used by .ci/program."""
 
 import contextlib
 import os
@@ -102,6 +102,103 @@ def run(words, limit=120, **how):
 
 def publish_words(program, port, *words, name="p"):
     return [program, "publish", "--port", port, "--id", name, "--topic", "t", *words]
+
+
+# ---- serve
+
+
+def reconnects(program, expect, rounds=300):
+    """A client sends CONNECT with a will, PUBLISH and DISCONNECT, closes, and connects again at once. No will is published and no message lost."""
+    core = next(iter(os.sched_getaffinity(0)))
+    on_one_core = lambda: os.sched_setaffinity(0, {core})
+
+    def behind():
+        # The client goes first, so that bytes of two connections wait when the broker runs.
+        on_one_core()
+        os.nice(10)
+
+    with broker(program, before=behind) as (_, port):
+        watch = client(port, connect(b"watch", keep_alive=0), subscribe(b"#"))
+        read_packet(watch)
+
+        def rush():
+            on_one_core()
+            for nth in range(rounds):
+                with client(port, connect(b"again", will=b"will"), publish(b"m", b"%d" % nth), DISCONNECT):
+                    pass
+            client(port, connect(b"last"), publish(b"end", b"")).close()
+
+        thread = threading.Thread(target=rush)
+        thread.start()
+        wills, numbers = 0, []
+        while True:
+            _, body = read_packet(watch)
+            topic, payload = body[2 : 2 + body[1]], body[2 + body[1] :]
+            if topic == b"end":
+                break
+            wills += topic == b"will"
+            if topic == b"m":
+                numbers.append(int(payload))
+        thread.join()
+        expect("serve: a client reconnects at once: wills, lost messages", (wills, rounds - len(numbers)), (0, 0))
+
+
+def slow_reader(program, expect):
+    """A client that reads 150 MB at 13 MB/s, and pings in time, stays connected."""
+    with broker(program) as (_, port):
+        count, size, rate = 150, 1_000_000, 13_000_000
+        for nth in range(count):
+            with client(port, connect(b"filler"), publish(b"big/%d" % nth, b"x" * size, qos=1, retain=True)) as stream:
+                read_packet(stream)
+        reader = socket.socket()
+        reader.setsockopt(socket.SOL_SOCKET, socket.SO_RCVBUF, 65_536)
+        reader.settimeout(20)
+        reader.connect(("127.0.0.1", port))
+        reader.sendall(connect(b"reader", keep_alive=4) + subscribe(b"big/#"))
+        # Another client, so that another worker passes the time to the broker.
+        other = client(port, connect(b"other", keep_alive=4))
+        begun, found, pinged = time.monotonic(), 0, 0.0
+        try:
+            while found < count * size:
+                passed = time.monotonic() - begun
+                if passed - pinged > 0.5:
+                    reader.sendall(PINGREQ)
+                    other.sendall(PINGREQ)
+                    pinged = passed
+                if found > passed * rate:
+                    time.sleep(0.01)
+                    continue
+                more = reader.recv(65_536)
+                if not more:
+                    break
+                found += len(more)
+        except OSError:
+            pass
+        expect("serve: a reader that takes 13 MB/s and pings gets 150 MB", found >= count * size, True)
+        # It is still a client: a message comes to it.
+        last = b"the last message"
+        other.sendall(publish(b"big/last", last))
+        rest, reader_end = b"", time.monotonic() + 10
+        with contextlib.suppress(OSError):
+            while last not in rest and time.monotonic() < reader_end:
+                more = reader.recv(65_536)
+                if not more:
+                    break
+                rest = rest[-100:] + more
+        expect("serve: a slow reader that pings stays connected", last in rest, True)
+
+
+def few_descriptors(program, expect):
+    """`serve` goes on accepting when file descriptors are free again."""
+    few = lambda: resource.setrlimit(resource.RLIMIT_NOFILE, (19, 19))
+    with broker(program, workers=6, before=few) as (process, port):
+        with contextlib.ExitStack() as stack:
+            for _ in range(16):
+                stack.enter_context(socket.create_connection(("127.0.0.1", port))).sendall(connect(b""))
+            time.sleep(0.5)
+        told = run(publish_words(program, port, "--qos", 1, "after"), limit=30)
+        expect("serve: after no descriptor was free", told, (0, "published 1\n", ""))
+        expect("serve: it goes on", process.poll(), None)
 
 
 # ---- publish --session
@@ -271,7 +368,7 @@ def killed_collect(program, expect, count=5):
 
 def check(program, expect):
     """Runs all checks."""
-    for it in (pairs, held_session, files, lost_session, full_output, killed_collect):
+    for it in (reconnects, slow_reader, few_descriptors, pairs, held_session, files, lost_session, full_output, killed_collect):
         try:
             it(program, expect)
         except (OSError, subprocess.SubprocessError, ValueError, IndexError) as fault:

@@ -65,7 +65,9 @@ where
     let words: Vec<&str> = words.iter().map(|word| word.as_str()).collect(alloc)?;
     match job(alloc, words.as_slice()) {
         Ok(Command::Job(job)) => perform_job(rt, &job),
-        Ok(Command::Serve(words)) => run_serve(host, alloc, &words, &mut io::writer(rt)),
+        Ok(Command::Serve(words)) => {
+            run_serve(host, alloc, &words, &mut rt.stderr(), &mut io::writer(rt))
+        },
         Ok(Command::Loopback(source)) => run_looped(rt, host, source),
         Ok(client) => run_buffered(rt, &client),
         Err(WordsFault::Words(error)) => {
