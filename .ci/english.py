@@ -8,6 +8,7 @@ in double quotes.
 It is a fault if
 - there are `LIMIT_PER_THOUSAND` or more hits of .ci/phrases.py in a thousand words (if the limit is
   0, each hit is a fault);
+- a page, or the doc comments (`//!`, `///`) of a source file, has more hits than .ci/doc-hits allows;
 - there is a hit in the first `FIRST_SCREEN` lines of README.md;
 - a line of prose is longer than `WIDTH` columns, unless it is in a table or can't be broken;
 - README.md has more than `README_LINES` lines;
@@ -26,7 +27,8 @@ part of the last line, and the block must be everything from one to the other:
 A line `// ..` of the block represents lines that are left out. Common indentation is ignored.
 
 .ci/phrases-kept lists the exceptions, one a line: a path, a colon and a space, and the text that
-contains the hit.
+contains the hit. .ci/doc-hits lists the files that are not rewritten yet: the number of hits that a
+file may have in its doc comments, and its path. Other files may have none.
 """
 
 import ast
@@ -50,10 +52,7 @@ CELL_WORDS = 12
 NOUN_FILES = ["mq_hub"]
 NOUNS = {"retained"}
 # Crates, files and folders that are not rewritten yet.
-NOT_YET = {
-    "bench/loopback.sh", "bench/loopback_load.c", "bench/refuse.c", "bench/same_tests.c",
-    ".ci/interop", ".ci/printed.py", ".ci/refusals",
-}
+NOT_YET = set()
 
 PARTICIPLES = set(
     "begun bound broken brought built chosen come done drawn driven fallen found given gone grown"
@@ -277,7 +276,7 @@ def prose_files():
             folders[:] = sorted(it for it in folders if it != "out")
             names = sorted(it for it in names if it.endswith(wanted))
             paths.extend(os.path.relpath(f"{at}/{it}", ROOT) for it in names)
-    data = ("words", "phrases-kept")
+    data = ("words", "phrases-kept", "doc-hits")
     paths.extend(f".ci/{it}" for it in sorted(os.listdir(f"{ROOT}/.ci")) if it not in data)
     return [it for it in paths if os.path.isfile(f"{ROOT}/{it}")]
 
@@ -321,6 +320,12 @@ class Kept:
         return [": ".join(it) for it in self.entries if it not in self.used]
 
 
+def doc_limits():
+    """The number of hits that the doc comments of a file may have, by its path."""
+    lines = [it.split() for it in read(".ci/doc-hits").splitlines() if it[:1].isdigit()]
+    return {path: int(count) for count, path in lines}
+
+
 class Page:
     """The findings in one file. A hit is a line number, the found text and the replacement."""
 
@@ -333,6 +338,11 @@ class Page:
             (prose.line_at(start), prose.raw[start:end].strip(" .;:!?"), instead)
             for start, end, instead in prose.hits()
             if not kept.allow(prose, start, end)
+        ]
+        lines = text.split("\n")
+        self.doc_hits = [
+            it for it in self.hits
+            if path.endswith(".md") or re.match(r"\s*//[/!]", lines[it[0] - 1])
         ]
         self.wide = wide_lines(path, text)
         self.lines = text.count("\n")
@@ -475,6 +485,14 @@ def look(faults):
         faults.extend(fault for it in counted for _, fault in it.faults())
         text = f"{rate:.2f} hits in a thousand words; the limit is {LIMIT_PER_THOUSAND}"
         faults.append(f"prose: {text}")
+    limits = doc_limits()
+    for it in counted:
+        most = limits.get(it.path, 0)
+        if len(it.doc_hits) > most:
+            lines = {line for line, _, _ in it.doc_hits}
+            faults.extend(fault for line, fault in it.faults() if line in lines)
+            count = len(it.doc_hits)
+            faults.append(f"{it.path}: hits in doc comments or a page: {count}; the limit is {most}")
     for it in counted:
         faults.extend(f"{it.path}:{line}: prose of more than {WIDTH} columns" for line in it.wide)
         if it.path == "README.md":
@@ -528,6 +546,10 @@ def report(pages, paths):
     sentences, cells = sum(it.long_sentences for it in pages), sum(it.long_cells for it in pages)
     print(f"pages: {sentences} sentences over {SENTENCE_WORDS} words")
     print(f"pages: {cells} cells of tables over {CELL_WORDS} words")
+    limits = doc_limits()
+    low = [it for it in pages if len(it.doc_hits) < limits.get(it.path, 0)]
+    for it in low:
+        print(f".ci/doc-hits can have {len(it.doc_hits)} for {it.path}")
     done = [it for it in sorted(NOT_YET) if not fails(it, pages)]
     if done:
         print("NOT_YET can lose: " + ", ".join(done))

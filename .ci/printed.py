@@ -1,9 +1,10 @@
-"""What the program is given, what it prints of that, byte for byte, and its status: the rows that .ci/program runs. Bytes of packets are spelled by hand
-from chapters 2 and 3 of the standard."""
+"""The rows that .ci/program runs: arguments and input, the exact output, and the status.
 
-# The digits that `show` is given, its status, and what it prints. The bytes, given as a file, print the same.
+The bytes of packets were written by hand from chapters 2 and 3 of the standard."""
+
+# The digits for `show`, its status, and its output. The bytes as a file give the same output.
 SHOWN = [
-    # Nothing, and what is no pair of digits.
+    # No digits, and invalid digits.
     ("", 0, ""),
     ("c", 2, "bad hex\n"),
     ("c00", 2, "bad hex\n"),
@@ -38,7 +39,7 @@ SHOWN = [
     ("900400010180", 0, "SUBACK id=1 1 128\n"),
     ("a2050002000161", 0, "UNSUBSCRIBE id=2 a\n"),
     ("a209000200016100022f62", 0, "UNSUBSCRIBE id=2 a /b\n"),
-    # Less than a whole packet.
+    # An incomplete packet.
     ("c0", 1, "held 1\n"),
     ("3005000361", 1, "held 5\n"),
     ("30050003612f62", 0, "PUBLISH topic=a/b qos=0 dup=0 retain=0 payload=\n"),
@@ -80,7 +81,7 @@ SHOWN_LENIENT = [
     ("c08000c001", 1, "PINGREQ\nfault F8 at 1 in packet at 3\n"),
 ]
 
-# The digits of a file's bytes, the status of `check`, and what it prints.
+# The digits of a file's bytes, the status of `check`, and its output.
 CHECKED = [
     ("", 0, "packets 0\n"),
     ("c000e000", 0, "packets 2\n"),
@@ -99,7 +100,7 @@ CHECKED_LENIENT = [
     ("c08000c001", 1, "packets 1\nfault F8 at 1 in packet at 3\n"),
 ]
 
-# A filter, a name, the status of `match`, and what it prints (4.7).
+# A filter, a name, the status of `match`, and its output (4.7).
 MATCHED = [
     ("sport/#", "sport", 0, "yes\n"),
     ("sport/+", "sport", 1, "no\n"),
@@ -117,7 +118,7 @@ MATCHED = [
     ("a", "", 2, "name N1\n"),
 ]
 
-# A connection comes up: the lines of a schedule, and what `replay` prints of them.
+# A handshake: the lines of a schedule, and the output of `replay`.
 HANDSHAKE = """\
 world 65536 4
 open
@@ -131,7 +132,7 @@ to c 20020000
 c up 0
 """
 
-# Schedules that go on after it: what each is, its lines, and what is printed.
+# Schedules that continue after it: the name, its lines, and the output.
 AFTER_HANDSHAKE = [
     # A publish of quality of service 2 that a drop cuts.
     (
@@ -163,7 +164,7 @@ s>c qos1 accepted 0 handed 0 held 0
 s>c qos2 accepted 0 handed 0 held 0
 """,
     ),
-    # It came, and its PUBREC is lost.
+    # The message arrived, and its PUBREC is lost.
     (
         "a lost PUBREC",
         """\
@@ -254,7 +255,8 @@ s>c qos1 accepted 0 handed 0 held 0
 s>c qos2 accepted 0 handed 0 held 0
 """,
     ),
-    # The client asks whether the server is there, and the server waits for a packet one and a half times the keep-alive (3.1.2.10).
+    # The client sends PINGREQ, and the server waits for a packet for one and a half keep-alives
+    # (3.1.2.10).
     (
         "silence",
         """\
@@ -292,7 +294,8 @@ s>c qos1 accepted 0 handed 0 held 0
 s>c qos2 accepted 0 handed 0 held 0
 """,
     ),
-    # Messages of quality of service 0 have no identifier; what comes to a server without a connection is lost, and a side that has none is not dropped.
+    # Messages of QoS 0 have no identifier. Bytes to a server without a connection are lost, and a
+    # side without a connection is not dropped.
     (
         "bytes that are lost",
         """\
@@ -422,8 +425,8 @@ s>c qos1 accepted 0 handed 0 held 0
 s>c qos2 accepted 0 handed 0 held 0
 """,
     ),
-    # The remaining length of a PUBLISH is 64 with a payload of 59 bytes (2.2.3, 3.3); a server without a session takes no message, and a client that is
-    # not connected none of quality of service 0.
+    # The remaining length of a PUBLISH is 64 with a payload of 59 bytes (2.2.3, 3.3). A server
+    # without a session accepts no message, and a client without a connection none of QoS 0.
     (
         "messages that are refused",
         """\
@@ -444,7 +447,8 @@ s>c qos1 accepted 0 handed 0 held 0
 s>c qos2 accepted 0 handed 0 held 0
 """,
     ),
-    # A client leaves with DISCONNECT (3.14), and not before it has a connection; both sides keep their sessions (3.1.2.4).
+    # A client disconnects (3.14), but not before it is connected; both sides keep their sessions
+    # (3.1.2.4).
     (
         "leaving and settling",
         """\
@@ -587,7 +591,7 @@ s>c qos1 accepted 0 handed 0 held 0
 s>c qos2 accepted 0 handed 0 held 0
 """,
     ),
-    # Messages are on their way both ways, and their acknowledgements.
+    # Messages and their acknowledgements are in flight in both directions.
     (
         "a restart amid messages",
         """\
@@ -639,7 +643,7 @@ s>c qos1 accepted 1 handed 2 held 0
 s>c qos2 accepted 1 handed 1 held 0
 """,
     ),
-    # An identifier is released (4.3.3); the next message has the one after the last that was given (2.3.1).
+    # An identifier is released (4.3.3); the next message has the one after the last (2.3.1).
     (
         "a restart after PUBREC",
         """\
@@ -683,7 +687,7 @@ s>c qos1 accepted 0 handed 0 held 0
 s>c qos2 accepted 0 handed 0 held 0
 """,
     ),
-    # The receiving window stays, and what is in it.
+    # The receive window and its identifiers are kept.
     (
         "a restart with a full window",
         """\
@@ -724,8 +728,8 @@ s>c qos2 accepted 2 handed 1 held 2
     ),
 ]
 
-# A side with a receiving window of one place, to which two messages of quality of service 2 come; how often all settles after that; what is printed then;
-# and how many messages were handed on and are held.
+# A side with a receive window of one, at which two messages of QoS 2 arrive: the number of settles
+# after that, the output, and the numbers of messages that were delivered and are held.
 WINDOW = """\
 world 65536 4 1
 open
@@ -783,10 +787,10 @@ SETTLED = [
 NOTHING = "accepted 0 handed 0 held 0"
 TOTALS = "c>s qos1 {}\nc>s qos2 {}\ns>c qos1 {}\ns>c qos2 {}\n"
 
-# First lines of a schedule behind which nothing stands.
+# First lines of a schedule that has no other line.
 FIRST_LINES = ["world 65536 4 1", "world 65536 4 65535\n", "world 65536 4 01"]
 
-# Texts that are no schedule, and what is printed; the status is 2.
+# Texts that are not a schedule, and the output; the status is 2.
 NO_SCHEDULES = [
     ("", "line 1: not an event\n"),
     ("\n", "line 1: not an event\n"),
@@ -810,7 +814,7 @@ NO_SCHEDULES = [
     ("world \udcff", "file not read\n"),
 ]
 
-# Words that are refused with status 2, and what the first line of the standard error says of them.
+# Arguments that are refused with status 2, and the first line of standard error.
 MISSING, UNEXPECTED, INVALID, TWICE = "were not provided", "unexpected argument", "invalid value", "cannot be used multiple times"
 REFUSED = [
     ("", "Reads and writes MQTT 3.1.1"),
@@ -859,7 +863,8 @@ REFUSED = [
     (f"collect --port=1 --filter=f --qos=1 --count=1 --id={65_536 * 'a'}", "an ID has 65,535 bytes at most"),
 ]
 
-# Words that are refused with advice: the command in the usage line, the first line without `error: `, and the tip.
+# Arguments that are refused with advice: the command in the usage line, the first line without
+# `error: `, and the tip.
 CLIENT_TIP = "'-h' prints help and has no value; the broker is always at 127.0.0.1"
 ADVISED = [
     ("sub", "<COMMAND>", "unrecognized subcommand 'sub'", "use 'collect'"),
@@ -889,7 +894,7 @@ BAD_TOPICS = [
     (["collect", "--id", "p", "--qos", "1", "--count", "1", "--filter", "a/#/b"], (2, b"filter N6\n", b"mqtt: topic filter 'a/#/b': `#` must be alone in the last level (N6)\n")),
 ]
 
-# Words that ask for help: the whole of what is printed, or how it ends; the status is 0.
+# Arguments that ask for help: the output, or its end; the status is 0.
 SHOW_HELP = """\
 Prints the packets of a byte stream, one per line, and how the stream ends
 

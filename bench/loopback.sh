@@ -1,11 +1,13 @@
 #!/usr/bin/env bash
-# Loads two brokers with messages over 127.0.0.1, in turn at each load: `mqtt serve`, and mosquitto where it is installed. A table has the messages a second
-# that each of them delivers; after it stands how long a message takes. What the load is stands in loopback_load.c.
+# Loads two brokers with messages over 127.0.0.1, in turn at each load: `mqtt serve`, and mosquitto
+# if it is installed. Prints a table of the messages a second that each of them delivers, then the
+# latencies. loopback_load.c describes the load.
 #
 #     bench/loopback.sh MQTT [DELIVERIES]
 #
-# In each run so many messages are delivered with quality of service 2, 100,000 where no number is given, twice as many with 1 and four times as many with 0.
-# Each run has a broker of its own, at a free port, which ends with it. The status is 1 where a run went wrong; the others are made all the same.
+# Each run delivers the given number of messages with quality of service 2, or 100,000; twice as
+# many with 1 and four times as many with 0. It has a broker of its own, at a free port, which ends
+# with it. The status is 1 if a run failed; the others are made all the same.
 set -u
 program=${1:?the first argument is the program mqtt}
 deliveries=${2:-100000}
@@ -49,7 +51,7 @@ ends() {
     return 1
 }
 
-# Starts `mqtt serve` for so many connections, each with a worker, and takes down its port.
+# Starts `mqtt serve` for this number of connections, each with a worker, and notes its port.
 start_mqtt() {
     local nth
     : >"$folder/broker"
@@ -65,7 +67,8 @@ start_mqtt() {
     return 1
 }
 
-# Starts mosquitto, which keeps nothing on the disk, drops no message, and sends its bytes at once, as ours does.
+# Starts mosquitto. Like `mqtt serve` it stores nothing on disk, drops no message, and sends its
+# bytes at once.
 start_mosquitto() {
     port=$("$folder/load" port) || return 1
     cat >"$folder/mosquitto.conf" <<END
@@ -92,8 +95,8 @@ finish_mosquitto() {
     kill -0 "$broker" 2>/dev/null || fault="mosquitto ended: $(tail -n 1 "$folder/broker")"
 }
 
-# Loads a broker that takes so many connections: `load_broker BROKER CONNECTIONS WORDS`, with the words of the load behind its port. What the load prints is
-# in $told, and what is wrong in $fault.
+# Loads a broker for this number of connections: `load_broker BROKER CONNECTIONS WORDS`. WORDS are
+# the arguments of the load after its port. Its output is in $told, and an error in $fault.
 load_broker() {
     local name=$1 connections=$2
     shift 2

@@ -1,15 +1,21 @@
 /*
- * A load for a broker of MQTT 3.1.1 at 127.0.0.1. All its clients are in one thread, around one poll(): publishers that publish messages of
- * 16 bytes under one topic name as fast as they can, and subscribers that each get all of them. Nothing is timed before each subscriber has its SUBACK.
+ * A load for a broker of MQTT 3.1.1 at 127.0.0.1. Nothing of it is proved. All its clients are in
+ * one thread, around one poll(). Publishers publish messages of 16 bytes to one topic as fast as
+ * they can, and each subscriber gets all of them. The time starts when each subscriber has its
+ * SUBACK.
  *
- *     loopback_load PORT pairs PUBLISHERS SUBSCRIBERS QOS MESSAGES     messages a second: how many were delivered, to all subscribers
- *                                                                     together, by the time from the first PUBLISH to the last delivery
- *     loopback_load PORT latency QOS                                   how long a message takes, of 500 a second for 5 seconds
- *     loopback_load port                                               a port that is free
+ *     loopback_load PORT pairs PUBLISHERS SUBSCRIBERS QOS MESSAGES
+ *         messages a second: deliveries to all subscribers together, by the time from the first
+ *         PUBLISH to the last delivery
+ *     loopback_load PORT latency QOS
+ *         the latency of messages, of which 500 a second are sent for 5 seconds
+ *     loopback_load port
+ *         a free port
  *
- * MESSAGES are those of all publishers together. Each subscriber has to get every message once, and those of each publisher in order, with the
- * quality of service that they were published with; all flows of quality of service 1 and 2 are made to their end. Whatever else comes, or 30
- * seconds that go by, end the load: it says why, prints what came until then, and its status is 1. Nothing is proved of it.
+ * MESSAGES is the number of messages of all publishers together. Each subscriber must get every
+ * message once, those of each publisher in order, with the published quality of service. All flows
+ * of quality of service 1 and 2 must be completed. Anything else, or 30 seconds, ends the load: it
+ * prints the reason and the messages until then, with status 1.
  */
 #define _POSIX_C_SOURCE 200809L
 
@@ -45,10 +51,12 @@
 #define PACED_MESSAGES 2500
 
 /*
- * How many messages of quality of service 1 and 2 may be on their way at a time, of all publishers together: those that some subscriber has not yet
- * acknowledged to the end. A session of `mqtt serve` has room for 100, and a message that finds it full costs its publisher the connection. A third of that
- * always fits, where half of it doesn't: until the broker reads from a subscriber again, its session may hold as many messages that were
- * acknowledged since it last read and before it last wrote, as many that were acknowledged since it wrote, and as many new ones.
+ * The maximum number of messages of quality of service 1 and 2 in flight, of all publishers
+ * together: those that some subscriber has not completely acknowledged. A session of `mqtt serve`
+ * has room for 100, and a message that exceeds it closes the connection of its publisher. A third
+ * of that always fits, but half of it does not. Until the broker reads from a subscriber again, its
+ * session may hold this number of messages three times: those acknowledged between its last read
+ * and its last write, those acknowledged since that write, and new ones.
  */
 #define IN_FLIGHT 33
 
@@ -71,25 +79,26 @@ struct client {
     int number;
     int socket;
     bool is_ready;
-    /* The bytes that came and are no whole packet, and those that wait to be sent. */
+    /* The received bytes of an incomplete packet, and pending output. */
     uint8_t in[ROOM];
     size_t in_size;
     uint8_t out[ROOM];
     size_t out_begin;
     size_t out_end;
-    /* Of a publisher: how many messages it has to publish, how many it has published, and of how many the flow is not at its end. For each packet
-       identifier, the kind of packet that has to come next, or 0. */
+    /* Of a publisher: the numbers of messages to publish, of published ones, and of incomplete
+       flows. For each packet identifier, the type of the next expected packet, or 0. */
     uint32_t wanted;
     uint32_t published;
     uint32_t in_flight;
     uint8_t awaited[65536];
-    /* Of a subscriber: how many messages came, of how many the flow is at its end, and which one of each publisher is the next. */
+    /* Of a subscriber: the numbers of received messages and of completed flows, and the next one of
+       each publisher. */
     uint64_t came;
     uint64_t through;
     uint32_t next[MOST_CLIENTS];
 };
 
-/* The publishers stand before the subscribers. */
+/* The publishers, then the subscribers. */
 static struct client clients[MOST_CLIENTS];
 static int publishers;
 static int subscribers;
@@ -98,7 +107,7 @@ static uint32_t messages;
 static bool is_paced;
 static uint16_t port;
 
-/* What was done, and when: the first PUBLISH, the last delivery, and the time of the processor at both. */
+/* The times of the first PUBLISH and of the last delivery, and the processor time at both. */
 static uint64_t begun;
 static uint64_t first;
 static uint64_t last;
@@ -108,7 +117,7 @@ static uint32_t published;
 static uint64_t came;
 static int turn;
 
-/* How long each message of `latency` took, and how many of them were sent more than an interval late. */
+/* The time of each message of `latency`, and the number of those sent over an interval late. */
 static uint64_t delays[PACED_MESSAGES];
 static uint32_t late;
 
@@ -123,7 +132,7 @@ static size_t publish_size(void)
     return 2 + 2 + strlen(topic) + (qos > 0 ? 2 : 0) + PAYLOAD;
 }
 
-/* ---- what is told */
+/* ---- Output */
 
 static uint64_t time_of(clockid_t clock)
 {
@@ -143,7 +152,7 @@ static int by_size(const void *one, const void *other)
     return a < b ? -1 : a > b;
 }
 
-/* That delay within which so many of a hundred messages came. */
+/* The delay within which this percentage of the messages arrived. */
 static double delay_of(unsigned of_hundred)
 {
     return came == 0 ? 0 : (double)delays[(came * of_hundred + 99) / 100 - 1] / (double)MILLISECOND;
@@ -163,7 +172,7 @@ static void tell(void)
     printf(", the load was busy %.0f%% of it)\n", took == 0 ? 0 : (double)(last_busy - first_busy) * 100 / (double)took);
 }
 
-/* Says why the load ends, and what came until now. */
+/* Prints the reason for the end of the load, and the messages until now. */
 static _Noreturn void give_up(const char *form, ...)
 {
     va_list parts;
@@ -224,7 +233,7 @@ static bool has_output(const struct client *client)
     return client->out_begin < client->out_end;
 }
 
-/* Sends what waits, as far as the socket takes it. */
+/* Sends pending output, as far as the socket accepts it. */
 static void flush(struct client *client)
 {
     while (has_output(client)) {
@@ -264,7 +273,7 @@ static void take_suback(struct client *client, const uint8_t *packet)
     client->is_ready = true;
 }
 
-/* A message of a publisher: its payload has the publisher's number, the message's own, and when it was sent. */
+/* A message of a publisher: its payload has the publisher's number, its own number and its time. */
 static void take_publish(struct client *client, const uint8_t *packet, uint64_t moment)
 {
     const uint8_t *at = packet + 2 + 2 + strlen(topic);
@@ -318,7 +327,7 @@ static void take_pubrel(struct client *client, const uint8_t *packet)
     client->through++;
 }
 
-/* Whether a packet is of this kind, and has so many bytes after its first two. */
+/* Whether a packet is of this type, with this number of bytes after its first two. */
 static bool has_form(const uint8_t *packet, uint8_t kind, size_t size)
 {
     return packet[0] == kind && packet[1] == size;
@@ -346,8 +355,8 @@ static void take_packet(struct client *client, const uint8_t *packet, uint64_t m
         give_up("%s %d got a packet that begins with %02x %02x", role(client), client->number, packet[0], packet[1]);
 }
 
-/* Takes the whole packets that came. No packet that may come has more than 127 bytes after the first two, and each is at least as long as its answer;
-   so there is room for the answers wherever nothing waited to be sent. */
+/* Takes the complete packets. An expected packet has at most 127 bytes after the first two, and is
+   at least as long as its response. So there is room for the responses if no output is pending. */
 static void take_packets(struct client *client, uint64_t moment)
 {
     const uint8_t *at = client->in;
@@ -361,7 +370,7 @@ static void take_packets(struct client *client, uint64_t moment)
     client->in_size = left;
 }
 
-/* Reads once, and answers what came. */
+/* Reads once, and responds to the packets. */
 static void take_in(struct client *client)
 {
     uint64_t before = came, moment;
@@ -414,7 +423,7 @@ static void publish(struct client *client, uint64_t moment)
     published++;
 }
 
-/* How many messages of quality of service 1 and 2 are on their way. */
+/* The number of messages of quality of service 1 and 2 in flight. */
 static uint32_t on_their_way(void)
 {
     uint64_t least = published;
@@ -469,7 +478,7 @@ static bool are_ready(void)
     return true;
 }
 
-/* Whether every message came to each subscriber, and no flow is left open. */
+/* Whether each subscriber received every message, and all flows are complete. */
 static bool are_done(void)
 {
     int i;
@@ -483,7 +492,7 @@ static bool are_done(void)
     return true;
 }
 
-/* How many milliseconds are left until this moment, rounded up. */
+/* The number of milliseconds until this time, rounded up. */
 static int left_until(uint64_t moment)
 {
     uint64_t at = now();
@@ -502,7 +511,8 @@ static int wait_limit(bool is_publishing)
     return due == 0 ? 1 : due < limit ? due : limit;
 }
 
-/* What is waited for at a client. One whose output waits isn't read, so that there is room for what it answers. */
+/* The events to poll for at a client. A client with pending output isn't read, so that there is
+   room for its responses. */
 static short events_of(const struct client *client, bool is_publishing)
 {
     if (has_output(client))
@@ -551,7 +561,7 @@ static struct sockaddr_in address_of(uint16_t number)
     return address;
 }
 
-/* Begins a connection and waits for it. Whether it stands; if not, errno says why. */
+/* Opens a connection and waits for it. Returns whether it is open; if not, errno has the reason. */
 static bool reach(int one)
 {
     struct sockaddr_in address = address_of(port);

@@ -1,5 +1,6 @@
-/* Refuses one allocation of a program: the one of the number that stands in REFUSE, counted from 1. It is loaded before the C library
-   (LD_PRELOAD). Where the program got that far, a line on standard error says so at its end. Nothing is proved of it. */
+/* Refuses one allocation of a program: the one with the number in REFUSE, counted from 1. It is
+   loaded before the C library (LD_PRELOAD). If the program made that allocation, a line on standard
+   error says so at its end. Nothing of it is proved. */
 
 #include <errno.h>
 #include <stddef.h>

@@ -1,17 +1,19 @@
 /*
- * Control packets of MQTT 3.1.1 in plain C, beside which `mq_bench` can be held: each packet of the streams that
- * `mq_bench` goes through is found and tested as `view` tests it, and nothing of it is owned. Tested are the type and
- * its flags, the remaining length, UTF-8 and U+0000 of every text, wildcards of names and filters, identifiers, the
- * flags of CONNECT, codes, lists, and that a packet has no bytes left. Nothing is proved of it.
+ * Control packets of MQTT 3.1.1 in plain C, to compare with `mq_bench`. Nothing of it is proved.
  *
- * The same packets are then read once more and owned, which is to be held against `feed`: after the same tests each
- * text, payload and binary is copied to memory of its own, and so are lists; the packets of 65,536 bytes are kept in
- * a list and then let go of, as `mq_bench` does after each piece.
+ * Each packet of the streams of `mq_bench` is found and tested as `view` tests it, without a copy.
+ * Tested are the type and its flags, the remaining length, UTF-8 and U+0000 of every text,
+ * wildcards of names and filters, identifiers, the flags of CONNECT, codes, lists, and that a
+ * packet has no bytes left.
+ *
+ * Then the same packets are read again and owned, to compare with `feed`. After the same tests each
+ * text, payload, binary and list is copied to memory of its own. The packets of 65,536 bytes are
+ * kept in a list and then freed, as `mq_bench` does after each piece.
  *
  *     make bench-c
  *
- * A scan (the sum of all bytes) is timed in the same run, as `mq_bench` does it, so that ratios can be held against
- * each other although two programs measured them.
+ * A scan (the sum of all bytes) is timed in the same run, as in `mq_bench`, so that the ratios of
+ * two programs can be compared.
  */
 #include <stdbool.h>
 #include <stdint.h>
@@ -38,7 +40,7 @@ struct part {
     size_t size;
 };
 
-/* What lies in a packet: nothing of it is copied. */
+/* The fields of a packet, which are not copied. */
 struct packet {
     uint8_t first;
     uint16_t id;
@@ -84,7 +86,7 @@ static bool take_part(struct fields *fields, struct part *part)
     return true;
 }
 
-/* How many bytes the code point at the front has (Unicode 3.9, table 3-7); 0 where none stands there, or U+0000. */
+/* The number of bytes of the first code point (Unicode 3.9, table 3-7); 0 if there is none, and for U+0000. */
 static size_t code_point(const uint8_t *at, size_t left)
 {
     uint8_t first = at[0], least = 0x80, most = 0xbf;
@@ -135,7 +137,7 @@ static uint64_t equal_or_high(uint64_t bytes, uint8_t one)
     return (bytes | ~(no | other)) & 0x8080808080808080u;
 }
 
-/* The same as above; what is plain ASCII is passed over eight bytes at a time. */
+/* The same as above; plain ASCII is skipped eight bytes at a time. */
 static bool is_text(struct part part, bool is_name)
 {
     uint64_t bytes, odd = 0;
@@ -267,7 +269,7 @@ static bool take_fields(struct fields *fields, struct packet *packet)
     }
 }
 
-/* The packet at the front; no size where it is not whole or has a fault. */
+/* The packet at the front; without a size if it is incomplete or faulty. */
 static struct packet packet_at(const uint8_t *bytes, size_t count)
 {
     struct packet packet = {0}, none = {0};
@@ -633,7 +635,7 @@ static int compare(const void *a, const void *b)
 /* One of the two works over the packets. */
 typedef uint64_t (*work)(const uint8_t *, size_t, uint64_t *);
 
-/* The middle one of the times that a work takes; below 0 where it doesn't go to the stream's end. */
+/* The median of the times of a work; below 0 if it does not reach the stream's end. */
 static double time_of(work work, const struct buffer *stream, uint64_t packets, uint64_t *sum)
 {
     double times[ROUNDS];

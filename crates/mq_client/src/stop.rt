@@ -1,11 +1,11 @@
-//! Where a client program stopped early.
+//! The early stop of a client program.
 
 ghost use Rattle.std.specs.Prelude.{◌≡◌};
 
 use crate::client::LoadFailure;
 use crate::error::ClientError;
 
-/// Where a client program stopped early, for a message to its user.
+/// The early stop of a client program, for a message to its user.
 #[derive(Clone, Copy, Debug, PartialEq, Eq)]
 pub enum Stop {
     /// The session was not loaded.

@@ -9,7 +9,7 @@ pub(crate) enum Outcome {
     Same,
     /// A world stopped because an allocation failed, and its previous results are the same.
     Stopped,
-    /// A call failed for lack of memory and was repeated; all results are the same.
+    /// An allocation of a call failed and the call was repeated; all results are the same.
     Again,
     /// The first other answer names the refusal.
     GoesOn,

@@ -1,4 +1,4 @@
-//! What arrives at an end of either side.
+//! Bytes that arrive at an end of either side.
 
 use crate::brief::add_progress;
 use crate::values::{bytes_of, view_of};

@@ -19,11 +19,11 @@ pub struct Acceptor {
     listener: TcpListener,
     left: u32,
     is_broken: bool,
-    // The error number of the failure for good.
+    // The error number of the permanent failure.
     code: i32,
 }
 
-/// What an acceptor returns.
+/// The result of accepting.
 pub enum Accepted {
     /// A connection.
     Connection(TcpStream),
@@ -33,7 +33,7 @@ pub enum Accepted {
     Never,
 }
 
-/// What follows a failure to accept a connection.
+/// The next try after a failure to accept a connection.
 #[derive(Clone, Copy, Debug, PartialEq, Eq)]
 pub enum AfterFailure {
     /// The listener tries again at once: a signal interrupted it, or a peer gave up.
@@ -64,15 +64,15 @@ impl Acceptor {
         self.left
     }
 
-    /// Why the listener can't accept connections any more, if it failed for good.
+    /// Why the listener can't accept connections any more, if it failed permanently.
     pub fn failure(&self) -> ErrorKind {
         io::Error::from_raw_os_error(self.code).kind()
     }
 
     /// Waits for the next connection and accepts it.
     ///
-    /// Returns `Never` if all connections were accepted, and forever after the listener failed for
-    /// good.
+    /// Returns `Never` if all connections were accepted, and forever after the listener failed
+    /// permanently.
     pub fn take(&mut self) -> Accepted
         ensures taken { IsTaken self.old.left self.old.is_broken result self.new.left self.new.is_broken }
         ensures done { (self.old.left ≡ 0) ⊎ (self.old.is_broken ≡ true) → result ≡ Accepted.Never }

@@ -8,7 +8,7 @@ use mq_stream::Broken;
 use std::io;
 use std::io::Write;
 
-/// How a writer goes on after a failed write.
+/// The next action of a writer after a failed write.
 #[derive(Clone, Copy, Debug, PartialEq, Eq)]
 pub enum WriteNext {
     /// The write is tried again.
@@ -19,7 +19,7 @@ pub enum WriteNext {
     Fail,
 }
 
-/// Decides how a writer goes on.
+/// Decides the next action of a writer.
 pub trait Patience {
     /// Called after a write took bytes.
     fn on_progress(&mut self);

@@ -1,4 +1,4 @@
-//! The order in which workers pass on what they read.
+//! The order in which workers pass on the bytes that they read.
 
 ghost use Rattle.std.specs.Prelude.{◌≡◌};
 ghost use Rattle.std.specs.List.{list_all};
@@ -6,7 +6,7 @@ ghost use Rattle.mq_serve.specs.ReadOrder.{after_empty_read, is_later, is_read};
 
 use std::alloc::{AllocError, Global};
 
-/// What a worker reads.
+/// The reading of a worker.
 #[derive(Clone, Copy, Debug, PartialEq, Eq)]
 pub struct ReadSeat {
     /// The connection that it serves.
@@ -19,7 +19,7 @@ pub struct ReadSeat {
     pub is_waiting: bool,
 }
 
-/// What each worker reads. Connections are numbered in the order in which they were accepted.
+/// The readings of all workers. Connections are numbered in the order in which they were accepted.
 ///
 /// A client that leaves and connects again may be served by another worker. Its first connection
 /// must be read to its end before the first bytes of the second one are passed to the broker.
@@ -83,7 +83,7 @@ impl ReadOrder {
         })
     }
 
-    /// What each worker reads, in the order of their numbers.
+    /// The readings of the workers, in the order of their numbers.
     pub fn seats(&self) -> &[ReadSeat] {
         self.seats.as_slice()
     }

@@ -1,4 +1,4 @@
-//! Wakers of workers that wait at their connections.
+//! Wakers of workers that are waiting at their connections.
 
 ghost use Rattle.std.specs.Prelude.{◌≡◌};
 ghost use Rattle.mq_serve.specs.Wakers.{after_act, after_acts, call_if, serves};
@@ -39,7 +39,7 @@ impl Wakers {
     }
 }
 
-/// A worker's access to the order in which workers pass on what they read.
+/// A worker's access to the order in which workers pass on the bytes that they read.
 #[derive(Clone, Copy)]
 pub struct ReadTurns<'a> {
     wakers: &'a Wakers,
