@@ -44,6 +44,16 @@ pub unlocked_done : {E : Type 0} (r : Result ℕ E) (a b : Option (List ℕ)) (f
 unlocked_done (Ok status) a b file forgotten id t halt printed is = (halt_line halt, printed, inl (inr (inl (halt, is, refl))))
 unlocked_done (Err e) a b file forgotten id t halt printed is = tt
 
+-- the lock was taken
+pub locked_done : {E : Type 0} (r : Result ℕ E) (a b : Option (List ℕ)) (file : List ℕ) (forgotten : Bool) (id : List ℕ) (t : Publications) → IfOk r (λ status. Prints a b (IsSessionDone None file forgotten id t status))
+    → IfOk r (λ status. Prints a b (IsLockedRun file forgotten id t status))
+locked_done r a b file forgotten id t own = in_other_words r a b (IsSessionDone None file forgotten id t) (IsLockedRun file forgotten id t) (λ status text p. inl p) own
+
+-- a name leads to the file of a session
+pub linked_done : {E : Type 0} (r : Result ℕ E) (a b : Option (List ℕ)) (file : List ℕ) (forgotten : Bool) (id : List ℕ) (t : Publications) → IfOk r (λ status. Prints a b (IsLockedRun file forgotten id t status))
+    → IfOk r (λ status. Prints a b (IsSessionRun forgotten id t status))
+linked_done r a b file forgotten id t own = in_other_words r a b (IsLockedRun file forgotten id t) (IsSessionRun forgotten id t) (λ status text p. (file, p)) own
+
 -- a fault other than a failed allocation is the first one of the argument
 fault_found : {T : Type 0} (p : Result T TopicFault) (found : Option TopicFault) (fault : TopicFault) → p ≡ Err fault → IfSome found (λ first. IsErrOf p first)
     → IfNone found (IfErr p (λ why. why ≡ Memory)) → fault ≢ Memory → found ≡ Some fault
