@@ -88,7 +88,7 @@ pub record IsServe (command : Option (Text × List Row)) (serve : Serve) : Type 
   pub some : 1 ≤ serve.workers
   pub few : serve.workers ≤ 64
 
--- the words of `publish`; without texts they name a session
+-- The words of `publish`. Without texts they name a session, and only a named session is forgotten.
 pub record IsPublish (command : Option (Text × List Row)) (publish : Publish) : Type 0 where
   pub port : GivesNumber command (codes "publish") (codes "PORT") publish.port
   pub id : GivesId command (codes "publish") publish.id.now
@@ -97,7 +97,9 @@ pub record IsPublish (command : Option (Text × List Row)) (publish : Publish) :
   pub retain : GivesFlag command (codes "publish") (codes "RETAIN") publish.retain
   pub session : HasWord command (codes "publish") (codes "SESSION") (option_map (λ file. file.now) publish.session)
   pub texts : GivesTexts command (codes "publish") (codes "TEXT") (map (λ text. text.now) publish.texts.items)
+  pub forget : GivesFlag command (codes "publish") (codes "FORGET") publish.forget
   pub some : publish.session ≡ None → publish.texts.items ≢ []
+  pub named : publish.session ≡ None → publish.forget ≡ false
 
 -- the words of `collect`
 pub record IsCollect (command : Option (Text × List Row)) (collect : Collect) : Type 0 where

@@ -67,10 +67,10 @@ client_words name topics = with_rule (with_rule (with_rule (with_rule (new_app n
 abbrev pub texts_rule : Rule
 texts_rule = record (new_rule (codes "TEXT")) { action = Some Append }
 
--- `publish`, of a client with `--topic TOPIC`, and `[--retain] [--session FILE] TEXT..`
+-- `publish`, of a client with `--topic TOPIC`, and `[--retain] [--session FILE] [--forget] TEXT..`
 abbrev pub publish_words : App
 publish_words =
-    with_rule (with_rule (with_rule (client_words (codes "publish") (text_rule (codes "TOPIC") (codes "topic"))) (flag_rule (codes "RETAIN") (codes "retain"))) (file_rule (codes "SESSION") (codes "session"))) texts_rule
+    with_rule (with_rule (with_rule (with_rule (client_words (codes "publish") (text_rule (codes "TOPIC") (codes "topic"))) (flag_rule (codes "RETAIN") (codes "retain"))) (file_rule (codes "SESSION") (codes "session"))) (flag_rule (codes "FORGET") (codes "forget"))) texts_rule
 
 -- `collect`, of a client with `--filter FILTER`, and `--count COUNT [--clean]`
 abbrev pub collect_words : App

@@ -55,6 +55,8 @@ pub struct Publish<'a> {
     pub retain: bool,
     /// The file that keeps the session from one run to the next.
     pub session: Option<&'a str>,
+    /// The session in the file is given up, and a new one begins. Only with a session file.
+    pub forget: bool,
     /// The payloads, one message each. Empty only with a session file.
     pub texts: Vec<&'a str>,
 }

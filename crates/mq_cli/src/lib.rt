@@ -2,6 +2,7 @@
 //! any input and writer.
 #![tactic(auto)]
 
+mod advice;
 mod count;
 mod failure;
 mod front;

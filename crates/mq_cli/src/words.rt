@@ -5,7 +5,8 @@ ghost use Rattle.clap.specs.Words.{subcommand_of, subcommand_rows_of};
 ghost use Rattle.mq_cli.specs.CommandLine.{GivesFlag, GivesId, GivesNumber, GivesQos, GivesSource, GivesTexts, GivesWord, HasWord, IsCollect, IsCommandOf, IsDigitsJob, IsJobOf, IsPublish, IsServe, IsSource};
 ghost use Rattle.mq_cli.specs.Grammar.{program_words};
 
-use crate::grammar::command_line;
+use crate::advice::advised;
+use crate::grammar::{command_line, shown_command};
 use crate::jobs::{Collect, Command, Job, Publish, Serve, Source};
 use clap::error::ErrorKind;
 use clap::{ArgMatches, Error as ParseError};
@@ -261,7 +262,8 @@ fn publish_with<'a>(matches: &ArgMatches<'a>, texts: Vec<&'a str>) -> Option<Pub
         → IsPublish (subcommand_rows_of matches.now) publish)) }
 {
     let session = given_of(matches, "publish", "SESSION")?;
-    if texts.is_empty() && session.is_none() {
+    let forget = flag_of(matches, "publish", "FORGET")?;
+    if session.is_none() && (texts.is_empty() || forget) {
         return None;
     }
     Some(Publish {
@@ -271,6 +273,7 @@ fn publish_with<'a>(matches: &ArgMatches<'a>, texts: Vec<&'a str>) -> Option<Pub
         qos: qos_of(matches, "publish")?,
         retain: flag_of(matches, "publish", "RETAIN")?,
         session,
+        forget,
         texts,
     })
 }
@@ -334,21 +337,52 @@ fn command_of<'a>(
 }
 
 // The error for arguments that the parser accepts although they are not a command.
-fn complaint(matches: &ArgMatches<'_>) -> (ErrorKind, &'static str) {
+fn complaint(matches: &ArgMatches<'_>) -> (&'static str, ErrorKind, &'static str) {
     match matches.subcommand_name() {
-        Some("serve") => (ErrorKind::ValueValidation, "serve has 1 to 64 workers"),
-        Some("publish") if id_of(matches, "publish").is_some() => (
-            ErrorKind::MissingRequiredArgument,
-            "publish wants TEXT, or --session FILE",
+        Some("serve") => (
+            "serve",
+            ErrorKind::ValueValidation,
+            "serve has 1 to 64 workers",
         ),
-        Some("publish" | "collect") => (
+        Some("publish") if id_of(matches, "publish").is_none() => (
+            "publish",
+            ErrorKind::ValueValidation,
+            "an ID has 65,535 bytes at most",
+        ),
+        Some("publish") => (
+            "publish",
+            ErrorKind::MissingRequiredArgument,
+            match flag_of(matches, "publish", "FORGET") {
+                Some(true) => "publish wants --session FILE with --forget",
+                _ => "publish wants TEXT, or --session FILE",
+            },
+        ),
+        Some("collect") => (
+            "collect",
             ErrorKind::ValueValidation,
             "an ID has 65,535 bytes at most",
         ),
         _ => (
+            "show",
             ErrorKind::MissingRequiredArgument,
             "show wants HEX or --file FILE, and not both",
         ),
+    }
+}
+
+// The command of a command line, with the errors of the parser.
+fn parsed<'a>(alloc: Global, words: &'a [&'a str]) -> Result<Command<'a>, WordsFault>
+    ensures { IfOk result
+        (IsCommandOf (subcommand_of program_words (map (λ word. word.now) words.entry.now))) }
+{
+    let mut line = command_line(alloc)?;
+    let matches = line.try_get_matches_from_mut(words)?;
+    match command_of(alloc, &matches)? {
+        Some(command) => Ok(command),
+        None => {
+            let (name, kind, message) = complaint(&matches);
+            Err(shown_command(alloc, name)?.error(kind, message)?.into())
+        }
     }
 }
 
@@ -358,13 +392,8 @@ pub fn job<'a>(alloc: Global, words: &'a [&'a str]) -> Result<Command<'a>, Words
     ensures { IfOk result
         (IsCommandOf (subcommand_of program_words (map (λ word. word.now) words.entry.now))) }
 {
-    let mut line = command_line(alloc)?;
-    let matches = line.try_get_matches_from_mut(words)?;
-    match command_of(alloc, &matches)? {
-        Some(command) => Ok(command),
-        None => {
-            let (kind, message) = complaint(&matches);
-            Err(line.error(kind, message)?.into())
-        }
+    match parsed(alloc, words) {
+        Err(WordsFault::Words(error)) => Err(advised(alloc, words, error)),
+        done => done,
     }
 }

@@ -7,6 +7,7 @@
 
 mod clients;
 mod loopback;
+mod reason;
 mod server;
 
 pub use crate::clients::{run_client, run_collect, run_publish};

@@ -38,7 +38,7 @@ fn perform_into<W: Write>(rt: &HostRuntime, job: &Job<'_>, output: &mut W) -> io
 /// Runs a client program, and prints to the standard output through a buffer.
 fn run_buffered(rt: &HostRuntime, command: &Command<'_>) -> Result<u8, Failure> {
     let mut output = BufWriter::new(rt.alloc(), io::writer(rt))?;
-    let status = run_client(rt, rt.alloc(), command, &mut output)?;
+    let status = run_client(rt, rt.alloc(), command, &mut rt.stderr(), &mut output)?;
     output.flush()?;
     Ok(status)
 }
@@ -65,7 +65,9 @@ where
     let words: Vec<&str> = words.iter().map(|word| word.as_str()).collect(alloc)?;
     match job(alloc, words.as_slice()) {
         Ok(Command::Job(job)) => perform_job(rt, &job),
-        Ok(Command::Serve(words)) => run_serve(host, alloc, &words, &mut io::writer(rt)),
+        Ok(Command::Serve(words)) => {
+            run_serve(host, alloc, &words, &mut rt.stderr(), &mut io::writer(rt))
+        },
         Ok(Command::Loopback(source)) => run_looped(rt, host, source),
         Ok(client) => run_buffered(rt, &client),
         Err(WordsFault::Words(error)) => {
