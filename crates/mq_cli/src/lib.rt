@@ -2,6 +2,7 @@
 //! any input and writer.
 #![tactic(auto)]
 
+mod broker;
 mod count;
 mod failure;
 mod front;
@@ -16,6 +17,7 @@ mod stream;
 mod streaming;
 mod words;
 
+pub use crate::broker::Broker;
 pub use crate::count::{CountEnd, CountFault, PacketCount, count_packets};
 pub use crate::failure::{Failure, exit_status};
 pub use crate::input::{Fallible, JobInput};

@@ -1,0 +1,212 @@
+-- The connections of one broker after a step, or after a call of one socket.
+use Rattle.std.proofs.Common.{◌≡◌, ◌<◌, ℕ, zero, suc, Bool, true, false, cond, List, [], ◌∷◌, ◌++◌, length, get_or, set, Option, Some, None, IfSome, eqb, eqb-true, eq-eqb, true≢false, append_assoc, append-nil, refl, sym, ap, ap₂, subst, ◌∙◌, arith}
+use Rattle.std.specs.Io.KnownBytes.{append_known}
+use Rattle.mq_route.specs.declared.conn.Conn.{Conn}
+use Rattle.mq_route.specs.declared.event.HubEvent.{HubEvent}
+use Rattle.mq_route.specs.declared.event.HubEvent.TheVariants.{Opened, Bytes, Ended, Tick, Collect}
+use Rattle.mq_route.specs.declared.reply.HubReply.{HubReply}
+use Rattle.mq_route.specs.declared.refusal.HubRefusal.{HubRefusal}
+use Rattle.mq_route.specs.Hub.{HubState}
+use Rattle.mq_route.specs.Runs.{Episode, Follows}
+use Rattle.mq_route.specs.Step.{Does, HubStep, event_refusal}
+use Rattle.mq_loop.specs.Accounts.{Account, Carries, CarriesAt, IsServed, Line, account_from, account_of, account_step, line_at, name_at, opened, served_state, unopened}
+use Rattle.mq_loop.specs.Sockets.{Sends}
+
+-- ---- lists and options
+
+set_same : (lines : List (Option Line)) (q : ℕ) (x : Option Line) → q < length lines → line_at q (set lines q x) ≡ x
+set_same [] q x within = absurd (omega (arith, within))
+set_same (y ∷ ys) zero x within = refl
+set_same (y ∷ ys) (suc q) x within = set_same ys q x (omega (arith, within))
+
+set_other : (lines : List (Option Line)) (q p : ℕ) (x : Option Line) → (q ≡ p → ⊥) → line_at p (set lines q x) ≡ line_at p lines
+set_other [] q p x apart = refl
+set_other (y ∷ ys) zero zero x apart = absurd (apart refl)
+set_other (y ∷ ys) zero (suc p) x apart = refl
+set_other (y ∷ ys) (suc q) zero x apart = refl
+set_other (y ∷ ys) (suc q) (suc p) x apart = set_other ys q p x (λ same. apart (ap suc same))
+
+none_more : (lines : List (Option Line)) (p : ℕ) → line_at p (lines ++ None ∷ []) ≡ line_at p lines
+none_more [] zero = refl
+none_more [] (suc p) = refl
+none_more (y ∷ ys) zero = refl
+none_more (y ∷ ys) (suc p) = none_more ys p
+
+known_so : (o : Option (List ℕ)) (P Q : List ℕ → Type 0) → ((bytes : List ℕ) → P bytes → Q bytes) → IfSome o P → IfSome o Q
+known_so None P Q so h = tt
+known_so (Some bytes) P Q so h = so bytes h
+
+known_more : (o : Option (List ℕ)) (more : List ℕ) (P Q : List ℕ → Type 0) → ((bytes : List ℕ) → P bytes → Q (bytes ++ more)) → IfSome o P → IfSome (append_known o more) Q
+known_more None more P Q so h = tt
+known_more (Some bytes) more P Q so h = so bytes h
+
+-- ---- one step more
+
+follows_last : (h mid g : HubState) (es : List Episode) (e : Episode) → Follows h es mid → event_refusal e.event mid ≡ None → Does mid e.event e.reply e.work
+    → g ≡ e.work.hub → Follows h (es ++ e ∷ []) g
+follows_last h mid g [] e f right does after =
+    (subst (λ (b : HubState). event_refusal e.event b ≡ None) f right, subst (λ (b : HubState). Does b e.event e.reply e.work) f does, after)
+follows_last h mid g (x ∷ es) e f right does after = (f.0, f.1, follows_last x.work.hub mid g es e f.2 right does after)
+
+account_last : (k : Conn) (es : List Episode) (e : Episode) (a : Account) → account_from k (es ++ e ∷ []) a ≡ account_step k e.event e.reply (account_from k es a)
+account_last k [] e a = refl
+account_last k (x ∷ es) e a = account_last k es e (account_step k x.event x.reply a)
+
+-- a step that keeps what each place carries
+served_step : (base h g : HubState) (lines new : List (Option Line)) (event : HubEvent) (reply : HubReply) → IsServed (served_state base h lines)
+    → HubStep h event reply g
+    → ((p : ℕ) (a : Account) → CarriesAt a (line_at p lines) → CarriesAt (account_step (name_at p) event reply a) (line_at p new))
+    → IsServed (served_state base g new)
+served_step base h g lines new event reply s step keeps =
+    let e : Episode = record { event = event; reply = reply; work = step.work } in
+    record {
+      made = s.made ++ e ∷ [];
+      follows = follows_last base h g s.made e s.follows step.right step.does step.after;
+      carries = λ p.
+          subst (λ (a : Account). CarriesAt a (line_at p new)) (sym (account_last (name_at p) s.made e unopened))
+          (keeps p (account_of (name_at p) s.made) (s.carries p));
+    }
+
+-- The account of one place changes, and the line there.
+at_place : (q : ℕ) (lines : List (Option Line)) (x : Option Line) (event : HubEvent) (reply : HubReply) (after : Account → Account)
+    → ((p : ℕ) (a : Account) → account_step (name_at p) event reply a ≡ cond (eqb q p) (after a) a) → q < length lines
+    → ((a : Account) → CarriesAt a (line_at q lines) → CarriesAt (after a) x)
+    → (p : ℕ) (a : Account) → CarriesAt a (line_at p lines) → CarriesAt (account_step (name_at p) event reply a) (line_at p (set lines q x))
+at_place q lines x event reply after is within own p a c = go (eqb q p) refl
+  where
+    go : (b : Bool) → eqb q p ≡ b → CarriesAt (account_step (name_at p) event reply a) (line_at p (set lines q x))
+    go true e =
+        let same : q ≡ p = eqb-true q p e in
+        let here : CarriesAt (after a) x = own a (subst (λ (n : ℕ). CarriesAt a (line_at n lines)) (sym same) c) in
+        let line : line_at p (set lines q x) ≡ x = subst (λ (n : ℕ). line_at n (set lines q x) ≡ x) same (set_same lines q x within) in
+        subst (λ (b : Account). CarriesAt b (line_at p (set lines q x))) (sym (is p a ∙ ap (λ (t : Bool). cond t (after a) a) e))
+        (subst (λ (l : Option Line). CarriesAt (after a) l) (sym line) here)
+    go false e =
+        let line = set_other lines q p x (λ same. true≢false (sym (eq-eqb q p same) ∙ e)) in
+        subst (λ (b : Account). CarriesAt b (line_at p (set lines q x))) (sym (is p a ∙ ap (λ (t : Bool). cond t (after a) a) e))
+        (subst (λ (l : Option Line). CarriesAt a l) (sym line) c)
+
+-- the line of one place changes, without a step
+line_served : (base h : HubState) (lines : List (Option Line)) (q : ℕ) (x : Option Line) → IsServed (served_state base h lines) → q < length lines
+    → ((a : Account) → CarriesAt a (line_at q lines) → CarriesAt a x) → IsServed (served_state base h (set lines q x))
+line_served base h lines q x s within own = record { made = s.made; follows = s.follows; carries = λ p. go p (eqb q p) refl }
+  where
+    go : (p : ℕ) (b : Bool) → eqb q p ≡ b → CarriesAt (account_of (name_at p) s.made) (line_at p (set lines q x))
+    go p true e =
+        let same : q ≡ p = eqb-true q p e in
+        subst (λ (n : ℕ). CarriesAt (account_of (name_at n) s.made) (line_at n (set lines q x))) same
+        (subst (λ (l : Option Line). CarriesAt (account_of (name_at q) s.made) l) (sym (set_same lines q x within))
+        (own (account_of (name_at q) s.made) (s.carries q)))
+    go p false e =
+        subst (λ (l : Option Line). CarriesAt (account_of (name_at p) s.made) l)
+        (sym (set_other lines q p x (λ same. true≢false (sym (eq-eqb q p same) ∙ e)))) (s.carries p)
+
+-- ---- each call
+
+pub new_served : (h : HubState) → IsServed (served_state h h [])
+new_served h = record { made = []; follows = refl; carries = λ p. refl }
+
+pub place_served : (base h : HubState) (lines : List (Option Line)) → IsServed (served_state base h lines) → IsServed (served_state base h (lines ++ None ∷ []))
+place_served base h lines s = record {
+  made = s.made;
+  follows = s.follows;
+  carries = λ p. subst (λ (l : Option Line). CarriesAt (account_of (name_at p) s.made) l) (sym (none_more lines p)) (s.carries p);
+}
+
+pub tick_served : (base h g : HubState) (lines : List (Option Line)) (now : ℕ) (reply : HubReply) → IsServed (served_state base h lines) → HubStep h (Tick now) reply g
+    → IsServed (served_state base g lines)
+tick_served base h g lines now reply s step = served_step base h g lines lines (Tick now) reply s step (λ p a c. c)
+
+pub open_served : (base h g : HubState) (lines : List (Option Line)) (q : ℕ) (line : Line) (reply : HubReply) → IsServed (served_state base h lines)
+    → HubStep h (Opened (name_at q)) reply g → q < length lines → IfSome line.came (λ bytes. bytes ≡ []) → IfSome line.went (λ bytes. bytes ≡ []) → line.kept ≡ []
+    → IsServed (served_state base g (set lines q (Some line)))
+open_served base h g lines q line reply s step within came went kept =
+    let carried : Carries opened line = record {
+      is_open = refl;
+      came = λ whole. came;
+      went = known_so line.went (λ bytes. bytes ≡ []) (λ bytes. bytes ++ line.kept ≡ []) (λ bytes is. ap₂ (λ (a b : List ℕ). a ++ b) is kept) went;
+    } in
+    served_step base h g lines (set lines q (Some line)) (Opened (name_at q)) reply s step
+    (at_place q lines (Some line) (Opened (name_at q)) reply (λ a. opened) (λ p a. refl) within (λ a c. carried))
+
+pub end_served : (base h g : HubState) (lines : List (Option Line)) (q : ℕ) (reply : HubReply) → IsServed (served_state base h lines) → HubStep h (Ended (name_at q)) reply g
+    → q < length lines → IsServed (served_state base g (set lines q None))
+end_served base h g lines q reply s step within =
+    served_step base h g lines (set lines q None) (Ended (name_at q)) reply s step
+    (at_place q lines None (Ended (name_at q)) reply (λ a. unopened) (λ p a. refl) within (λ a c. refl))
+
+pub read_served : (base h g : HubState) (lines : List (Option Line)) (q : ℕ) (old new : Line) (piece : List ℕ) (reply : HubReply) → IsServed (served_state base h lines)
+    → HubStep h (Bytes (name_at q) piece) reply g → q < length lines → line_at q lines ≡ Some old → new ≡ record old { came = append_known old.came piece }
+    → IsServed (served_state base g (set lines q (Some new)))
+read_served base h g lines q old new piece reply s step within is so =
+    served_step base h g lines (set lines q (Some new)) (Bytes (name_at q) piece) reply s step
+    (at_place q lines (Some new) (Bytes (name_at q) piece) reply (λ a. record a { took = a.took ++ piece }) (λ p a. refl) within own)
+  where
+    read : (a : Account) → Carries a old → Carries (record a { took = a.took ++ piece }) (record old { came = append_known old.came piece })
+    read a c = record {
+      is_open = c.is_open;
+      came = λ whole.
+          known_more old.came piece (λ bytes. bytes ≡ a.took) (λ bytes. bytes ≡ a.took ++ piece) (λ bytes e. ap (λ (b : List ℕ). b ++ piece) e) (c.came whole);
+      went = c.went;
+    }
+
+    own : (a : Account) → CarriesAt a (line_at q lines) → CarriesAt (record a { took = a.took ++ piece }) (Some new)
+    own a c = subst (λ (l : Line). Carries (record a { took = a.took ++ piece }) l) (sym so) (read a (subst (λ (l : Option Line). CarriesAt a l) is c))
+
+pub lost_served : (base h : HubState) (lines : List (Option Line)) (q : ℕ) (old new : Line) (came : Option (List ℕ)) → IsServed (served_state base h lines)
+    → q < length lines → line_at q lines ≡ Some old → new ≡ record old { came = came; broken = true } → IsServed (served_state base h (set lines q (Some new)))
+lost_served base h lines q old new came s within is so = line_served base h lines q (Some new) s within own
+  where
+    lost : (a : Account) → Carries a old → Carries a (record old { came = came; broken = true })
+    lost a c = record { is_open = c.is_open; came = λ whole. absurd (true≢false whole); went = c.went }
+
+    own : (a : Account) → CarriesAt a (line_at q lines) → CarriesAt a (Some new)
+    own a c = subst (λ (l : Line). Carries a l) (sym so) (lost a (subst (λ (l : Option Line). CarriesAt a l) is c))
+
+pub same_served : (base h : HubState) (lines : List (Option Line)) (q : ℕ) (old new : Line) → IsServed (served_state base h lines) → q < length lines
+    → line_at q lines ≡ Some old → new ≡ old → IsServed (served_state base h (set lines q (Some new)))
+same_served base h lines q old new s within is so =
+    line_served base h lines q (Some new) s within
+    (λ a c. subst (λ (l : Line). Carries a l) (sym so) (subst (λ (l : Option Line). CarriesAt a l) is c))
+
+pub flush_served : (base h : HubState) (lines : List (Option Line)) (q : ℕ) (old new : Line) → IsServed (served_state base h lines) → q < length lines
+    → line_at q lines ≡ Some old → Sends old.went old.kept new.went new.kept → new ≡ record old { went = new.went; kept = new.kept }
+    → IsServed (served_state base h (set lines q (Some new)))
+flush_served base h lines q old new s within is sends so = line_served base h lines q (Some new) s within own
+  where
+    parts : (a : Account) (bytes : List ℕ) → bytes ++ old.kept ≡ a.collected → (bytes ++ sends.0) ++ new.kept ≡ a.collected
+    parts a bytes e = append_assoc bytes sends.0 new.kept ∙ (ap (λ (b : List ℕ). bytes ++ b) (sym sends.1) ∙ e)
+
+    went : (a : Account) → Carries a old → IfSome new.went (λ bytes. bytes ++ new.kept ≡ a.collected)
+    went a c =
+        subst (λ (o : Option (List ℕ)). IfSome o (λ bytes. bytes ++ new.kept ≡ a.collected)) (sym sends.2)
+        (known_more old.went sends.0 (λ bytes. bytes ++ old.kept ≡ a.collected) (λ bytes. bytes ++ new.kept ≡ a.collected) (parts a) c.went)
+
+    sent : (a : Account) → Carries a old → Carries a (record old { went = new.went; kept = new.kept })
+    sent a c = record { is_open = c.is_open; came = c.came; went = went a c }
+
+    own : (a : Account) → CarriesAt a (line_at q lines) → CarriesAt a (Some new)
+    own a c = subst (λ (l : Line). Carries a l) (sym so) (sent a (subst (λ (l : Option Line). CarriesAt a l) is c))
+
+pub collect_served : (base h g : HubState) (lines : List (Option Line)) (q : ℕ) (old new : Line) (reply : HubReply) → IsServed (served_state base h lines)
+    → HubStep h (Collect (name_at q)) reply g → q < length lines → line_at q lines ≡ Some old → old.kept ≡ [] → new ≡ record old { kept = reply.output }
+    → IsServed (served_state base g (set lines q (Some new)))
+collect_served base h g lines q old new reply s step within is empty so =
+    served_step base h g lines (set lines q (Some new)) (Collect (name_at q)) reply s step
+    (at_place q lines (Some new) (Collect (name_at q)) reply (λ a. record a { collected = a.collected ++ reply.output }) (λ p a. refl) within own)
+  where
+    parts : (a : Account) (bytes : List ℕ) → bytes ++ old.kept ≡ a.collected → bytes ++ reply.output ≡ a.collected ++ reply.output
+    parts a bytes e =
+        ap (λ (b : List ℕ). b ++ reply.output) (sym (append-nil bytes) ∙ (ap (λ (b : List ℕ). bytes ++ b) (sym empty) ∙ e))
+
+    collected : (a : Account) → Carries a old → Carries (record a { collected = a.collected ++ reply.output }) (record old { kept = reply.output })
+    collected a c = record {
+      is_open = c.is_open;
+      came = c.came;
+      went = known_so old.went (λ bytes. bytes ++ old.kept ≡ a.collected) (λ bytes. bytes ++ reply.output ≡ a.collected ++ reply.output) (parts a) c.went;
+    }
+
+    own : (a : Account) → CarriesAt a (line_at q lines) → CarriesAt (record a { collected = a.collected ++ reply.output }) (Some new)
+    own a c =
+        subst (λ (l : Line). Carries (record a { collected = a.collected ++ reply.output }) l) (sym so)
+        (collected a (subst (λ (l : Option Line). CarriesAt a l) is c))
