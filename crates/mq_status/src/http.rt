@@ -1,0 +1,97 @@
+//! Requests.
+
+use httparse::Status as Parsed;
+use httparse::spans::{EMPTY_HEADER_SPAN, parse_request};
+
+/// The greatest length of a request's head.
+pub const MAX_HEAD: usize = 8192;
+
+/// The resource of a request.
+#[derive(Clone, Copy, Debug, PartialEq, Eq)]
+pub enum Resource {
+    /// `/`, the status page.
+    Page,
+    /// `/metrics`, the metrics for Prometheus.
+    Metrics,
+}
+
+/// The status of a response.
+#[derive(Clone, Copy, Debug, PartialEq, Eq)]
+pub enum Status {
+    /// 200: the resource follows.
+    Ok(Resource),
+    /// 400: the head is not one of HTTP/1.
+    BadRequest,
+    /// 404: the path is neither `/` nor `/metrics`.
+    NotFound,
+    /// 405: the method is neither GET nor HEAD.
+    MethodNotAllowed,
+}
+
+/// The response to a request.
+#[derive(Clone, Copy, Debug, PartialEq, Eq)]
+pub struct Reply {
+    /// Its status.
+    pub status: Status,
+    /// The response has no body, because the method is HEAD.
+    pub head_only: bool,
+}
+
+/// What an HTTP server does with the bytes that it read from a connection.
+#[derive(Clone, Copy, Debug, PartialEq, Eq)]
+pub enum Answer {
+    /// Read more: the head is not complete yet.
+    Pending,
+    /// Close the connection: the head is longer than [`MAX_HEAD`].
+    Close,
+    /// Write the response of [`crate::write_response`], then close the connection.
+    Respond(Reply),
+}
+
+// The resource of a path.
+fn resource_at(path: &[u8]) -> Option<Resource> {
+    match path {
+        b"/" => Some(Resource::Page),
+        b"/metrics" => Some(Resource::Metrics),
+        _ => None,
+    }
+}
+
+// The response to a method and a path.
+fn reply_to(method: &[u8], path: &[u8]) -> Reply {
+    let head_only = method == b"HEAD".as_slice();
+    if !head_only && method != b"GET".as_slice() {
+        return Reply {
+            status: Status::MethodNotAllowed,
+            head_only,
+        };
+    }
+    let status = match resource_at(path) {
+        Some(resource) => Status::Ok(resource),
+        None => Status::NotFound,
+    };
+    Reply { status, head_only }
+}
+
+/// Returns what to do after `received`, all bytes that a connection has sent.
+pub fn request(received: &[u8]) -> Answer {
+    let mut headers = [EMPTY_HEADER_SPAN; 64];
+    match parse_request(received, &mut headers) {
+        Ok(Parsed::Complete(head)) => {
+            if head.len > MAX_HEAD {
+                return Answer::Close;
+            }
+            Answer::Respond(reply_to(head.method.of(received), head.path.of(received)))
+        }
+        Ok(Parsed::Partial) => {
+            if received.len() >= MAX_HEAD {
+                return Answer::Close;
+            }
+            Answer::Pending
+        }
+        Err(_) => Answer::Respond(Reply {
+            status: Status::BadRequest,
+            head_only: false,
+        }),
+    }
+}

@@ -1,0 +1,5 @@
+//! Tests of `mq_status`.
+#![tactic(auto)]
+
+#[cfg(test)]
+mod http;
