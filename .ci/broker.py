@@ -178,7 +178,8 @@ def too_many_connections(program):
             other.ping()
         for client in clients[1:]:
             client.ping()
-        assert any(re.fullmatch(r"refused 127\.0\.0\.1:\d+ too many connections", it) for it in broker.lines())
+        refused = r'refused address=127\.0\.0\.1:\d+ reason="too many connections"'
+        assert any(re.fullmatch(refused, it) for it in broker.lines())
         for client in clients:
             client.socket.close()
 
@@ -193,7 +194,7 @@ def no_descriptor(program):
         for _ in range(100):
             ready, _, _ = select.select([it.socket for it in clients], [], [], 0.2)
             served = ready
-            if len(ready) >= 5 and any("cannot accept" in it for it in broker.lines()):
+            if len(ready) >= 5 and any("not-accepting" in it for it in broker.lines()):
                 break
         count = len(served)
         assert 5 <= count < 40, count
@@ -241,7 +242,8 @@ def silent_reader(program):
             publisher.ping()
             grown = broker.memory() - before
             assert grown < 16 << 20, f"QoS {qos}: {grown} bytes more"
-            assert "slow client slow" in broker.lines(), broker.lines()[-5:]
+            slow_line = re.compile(r"slow client=slow pending=\d+")
+            assert any(slow_line.fullmatch(it) for it in broker.lines()), broker.lines()[-5:]
 
 
 def leaving(program):
@@ -346,9 +348,71 @@ def arguments(program):
             process.stdout.close()
 
 
+def passwords(program):
+    """Only the users of the file may connect."""
+    with tempfile.NamedTemporaryFile() as file:
+        file.write(b"alice:secret\nbob:other\n")
+        file.flush()
+        with Broker(program, "--passwords", file.name) as broker:
+            for name, password, code in (("alice", "secret", 0), ("alice", "other", 4), ("carol", "secret", 4), (None, None, 4)):
+                with Client(broker) as client:
+                    flags = 2 | (0xC0 if name else 0)
+                    body = text("MQTT") + bytes([4, flags, 0, 0]) + text("c")
+                    client.send(packet(0x10, body + (text(name) + text(password) if name else b"")))
+                    answer = client.expect(0x20)
+                    assert answer[0] == 0 and (answer[1] == 0) == (code == 0), (name, password, answer)
+            for _ in range(100):
+                refused = [it for it in broker.lines() if it.startswith("refused")]
+                if len(refused) == 3:
+                    break
+                time.sleep(0.05)
+            assert len(refused) == 3, refused
+        file.seek(0)
+        file.truncate()
+        file.write(b"no colon\n")
+        file.flush()
+        ran = subprocess.run([program, "broker", "--passwords", file.name], capture_output=True, timeout=LIMIT, check=False)
+        assert (ran.returncode, ran.stdout) == (2, b"") and b"line 1" in ran.stderr, ran
+
+
+def ask(port, request):
+    """The response to an HTTP request."""
+    with socket.create_connection(("127.0.0.1", port), timeout=LIMIT) as stream:
+        stream.sendall(request)
+        response = b""
+        while True:
+            data = stream.recv(65_536)
+            if not data:
+                return response
+            response += data
+
+
+def metrics(program):
+    """The metrics and the page are served over HTTP, on the same loop."""
+    with socket.create_server(("127.0.0.1", 0)) as free:
+        port = free.getsockname()[1]
+    with Broker(program, "--quiet", "--metrics", f"127.0.0.1:{port}") as broker, Client(broker, "c") as client:
+        client.subscribe("t", 0)
+        for _ in range(3):
+            client.send(publish("t", b"x"))
+            client.expect(0x30)
+        for method, size in ((b"GET", 500), (b"HEAD", 0)):
+            head, _, body = ask(port, method + b" /metrics HTTP/1.1\r\nHost: x\r\n\r\n").partition(b"\r\n\r\n")
+            assert head.startswith(b"HTTP/1.1 200 OK\r\n"), head
+            assert len(body) >= size and (size or not body), body
+            if body:
+                assert re.search(rb'(?m)^mqtt\w*messages\w*in\w*\{qos="0"\} 3$', body), body
+        assert b"<title>" in ask(port, b"GET / HTTP/1.1\r\nHost: x\r\n\r\n")
+        assert ask(port, b"POST / HTTP/1.1\r\n\r\n").startswith(b"HTTP/1.1 405 ")
+        assert ask(port, b"GET /other HTTP/1.1\r\n\r\n").startswith(b"HTTP/1.1 404 ")
+        with contextlib.suppress(ConnectionError):
+            assert ask(port, b"GET / HTTP/1.1\r\nX: " + 9_000 * b"x") == b""
+        client.ping()
+
+
 TESTS = [
     arguments, many_connections, too_many_connections, no_descriptor, silent_reader, leaving,
-    silent_connections, endless_publisher,
+    silent_connections, endless_publisher, passwords, metrics,
 ]
 
 

@@ -7,11 +7,13 @@
 #![tactic(auto)]
 
 mod acceptor;
+mod counted;
 mod end;
 mod log;
 mod options;
 mod peers;
 mod server;
+mod status_port;
 
 pub use crate::end::BrokerEnd;
 pub use crate::log::{Log, LogLevel};

@@ -2,15 +2,16 @@
 
 use crate::peers::{Peer, Peers};
 use mq_end::CloseReason;
-use mq_line::Escaped;
 use mq_loop::Report;
-use mq_packet::RefusalCode;
 use mq_route::HubClose;
+use mq_status::{LogLine, write_log};
+use mq_topic::ClientKey;
+use std::alloc::Global;
+use std::io;
 use std::io::Write;
 use std::net::SocketAddr;
-use std::{fmt, io};
 
-/// Which lines a log has.
+/// The lines of a log.
 #[derive(Clone, Copy, Debug, PartialEq, Eq, PartialOrd, Ord)]
 pub enum LogLevel {
     /// None.
@@ -24,35 +25,19 @@ pub enum LogLevel {
 /// A log. A line that can't be written is lost.
 #[derive(Drop)]
 pub struct Log<W: Write> {
+    alloc: Global,
     output: W,
     level: LogLevel,
 }
 
-// A client, by its identifier or by the key of its session, or the address of its connection.
-#[derive(Clone, Copy)]
-struct Name<'a>(&'a Peer);
-
-impl fmt::Display for Name<'_> {
-    fn fmt<W: fmt::Write>(&self, f: &mut fmt::Formatter<W>) -> fmt::Result {
-        let peer = self.0;
-        match (&peer.client, peer.key) {
-            (Some(client), _) => Escaped(client.as_str()).fmt(f),
-            (None, Some(key)) => {
-                let number = key.get();
-                write!(f, "#{number}")
-            }
-            (None, None) => {
-                let address = peer.address;
-                write!(f, "{address}")
-            }
-        }
-    }
-}
-
 impl<W: Write> Log<W> {
     /// A log that writes to `output`.
-    pub fn new(output: W, level: LogLevel) -> Log<W> {
-        Log { output, level }
+    pub fn new(alloc: Global, output: W, level: LogLevel) -> Log<W> {
+        Log {
+            alloc,
+            output,
+            level,
+        }
     }
 
     // Whether the log has lines of this level.
@@ -63,107 +48,116 @@ impl<W: Write> Log<W> {
     /// Writes that the broker listens.
     pub(crate) fn listening(&mut self, address: SocketAddr) {
         if self.has(LogLevel::Normal) {
-            let _ = writeln!(self.output, "listening {address}");
+            let _ = writeln!(self.output, "listening address={address}");
         }
     }
 
     /// Writes that a connection was accepted.
     pub(crate) fn opened(&mut self, address: SocketAddr) {
         if self.has(LogLevel::Verbose) {
-            let _ = writeln!(self.output, "opened {address}");
+            let _ = writeln!(self.output, "opened address={address}");
         }
     }
 
     /// Writes that a connection was accepted and closed, because there are too many.
     pub(crate) fn turned_away(&mut self, address: SocketAddr) {
         if self.has(LogLevel::Normal) {
-            let _ = writeln!(self.output, "refused {address} too many connections");
+            let _ = writeln!(
+                self.output,
+                "refused address={address} reason=\"too many connections\""
+            );
         }
     }
 
     /// Writes that no connection can be accepted now.
     pub(crate) fn not_accepting(&mut self, error: &io::Error) {
         if self.has(LogLevel::Normal) {
-            let _ = writeln!(self.output, "cannot accept: {error}");
+            let _ = writeln!(self.output, "not-accepting reason=\"{error}\"");
         }
     }
 
-    /// Writes what a round reported.
-    pub(crate) fn report(&mut self, report: &Report, peers: &Peers) {
+    /// Writes a report of a round. `pending` is the number of bytes that are pending on the
+    /// connection of a slow client.
+    pub(crate) fn report(&mut self, report: &Report, peers: &Peers, pending: usize) {
         if !self.has(LogLevel::Normal) {
             return;
         }
-        let _ = match report {
-            Report::Connected {
-                place,
-                is_resumed,
-                ..
-            } => self.connected(peers.get(*place), *is_resumed),
-            Report::Closed { place, why } => self.closed(peers.get(*place), *why),
-            Report::Slow { place } => self.about("slow client", peers.get(*place)),
-            Report::SessionEnded { place, key } => {
-                let peer = match place {
-                    Some(place) => peers.get(*place),
-                    None => None,
-                };
-                match peer {
-                    Some(peer) => self.about("session ended", Some(peer)),
-                    None => {
-                        let number = key.get();
-                        writeln!(self.output, "session ended #{number}")
-                    }
-                }
-            }
-            Report::Ended { place } => self.ended(peers.get(*place)),
+        let place = match report {
+            Report::Connected { place, .. }
+            | Report::Closed { place, .. }
+            | Report::Slow { place }
+            | Report::Ended { place } => Some(*place),
+            Report::SessionEnded { place, .. } => *place,
+        };
+        let peer = match place {
+            Some(place) => peers.get(place),
+            None => None,
+        };
+        let _ = match (report, peer) {
+            (Report::SessionEnded { key, .. }, peer) => self.session_ended(*key, peer),
+            (_, None) => Ok(()),
+            (Report::Connected { .. }, Some(peer)) => self.connected(peer),
+            (Report::Closed { why, .. }, Some(peer)) => self.closed(peer, *why),
+            (Report::Slow { .. }, Some(peer)) => self.slow(peer, pending),
+            (Report::Ended { .. }, Some(peer)) => self.ended(peer.address),
         };
     }
 
-    fn about(&mut self, what: &str, peer: Option<&Peer>) -> io::Result<()> {
-        let Some(peer) = peer else {
-            return Ok(());
-        };
-        let name = Name(peer);
-        writeln!(self.output, "{what} {name}")
-    }
-
-    fn connected(&mut self, peer: Option<&Peer>, is_resumed: bool) -> io::Result<()> {
-        let Some(peer) = peer else {
-            return Ok(());
-        };
-        let name = Name(peer);
+    fn connected(&mut self, peer: &Peer) -> io::Result<()> {
+        let client = client_of(self.alloc, peer)?;
         let address = peer.address;
-        if is_resumed {
-            writeln!(self.output, "connected {name} {address} resumed")
-        } else {
-            writeln!(self.output, "connected {name} {address}")
-        }
+        let address = format!(in self.alloc; "{address}")?;
+        let line = LogLine::Connected {
+            client: client.as_str(),
+            address: address.as_str(),
+        };
+        write_log(&mut self.output, line)
     }
 
-    fn closed(&mut self, peer: Option<&Peer>, why: HubClose) -> io::Result<()> {
-        let Some(peer) = peer else {
-            return Ok(());
-        };
-        let name = Name(peer);
-        let code = why.code();
-        match why {
-            HubClose::Own(CloseReason::Refused(refusal)) => {
-                let number = refusal.number();
-                let words = refusal_words(refusal);
-                writeln!(self.output, "refused {name} {code} {words} ({number})")
-            }
-            _ => writeln!(self.output, "closed {name} {code} {why}"),
+    fn closed(&mut self, peer: &Peer, reason: HubClose) -> io::Result<()> {
+        if peer.key.is_some() {
+            let client = client_of(self.alloc, peer)?;
+            let line = LogLine::Closed {
+                client: client.as_str(),
+                reason,
+            };
+            return write_log(&mut self.output, line);
         }
-    }
-
-    fn ended(&mut self, peer: Option<&Peer>) -> io::Result<()> {
-        if !self.has(LogLevel::Verbose) {
-            return Ok(());
-        }
-        let Some(peer) = peer else {
-            return Ok(());
-        };
         let address = peer.address;
-        writeln!(self.output, "ended {address}")
+        let address = format!(in self.alloc; "{address}")?;
+        let address = address.as_str();
+        let line = match reason {
+            HubClose::Own(CloseReason::Refused(code)) => LogLine::Refused { address, code },
+            _ => LogLine::ClosedEarly { address, reason },
+        };
+        write_log(&mut self.output, line)
+    }
+
+    fn slow(&mut self, peer: &Peer, pending: usize) -> io::Result<()> {
+        let client = client_of(self.alloc, peer)?;
+        let line = LogLine::Slow {
+            client: client.as_str(),
+            pending: pending as u64,
+        };
+        write_log(&mut self.output, line)
+    }
+
+    fn session_ended(&mut self, key: ClientKey, peer: Option<&Peer>) -> io::Result<()> {
+        let client = match peer {
+            Some(peer) => client_of(self.alloc, peer)?,
+            None => key_name(self.alloc, key)?,
+        };
+        let line = LogLine::SessionEnded {
+            client: client.as_str(),
+        };
+        write_log(&mut self.output, line)
+    }
+
+    fn ended(&mut self, address: SocketAddr) -> io::Result<()> {
+        if self.has(LogLevel::Verbose) {
+            writeln!(self.output, "ended address={address}")?;
+        }
+        Ok(())
     }
 
     /// Writes the lines that are buffered.
@@ -172,13 +166,16 @@ impl<W: Write> Log<W> {
     }
 }
 
-// Why a CONNECT was refused, in words (3.2.2.3).
-fn refusal_words(code: RefusalCode) -> &'static str {
-    match code {
-        RefusalCode::UnacceptableProtocolVersion => "unacceptable protocol version",
-        RefusalCode::IdentifierRejected => "identifier rejected",
-        RefusalCode::ServerUnavailable => "server unavailable",
-        RefusalCode::BadUserNameOrPassword => "bad user name or password",
-        RefusalCode::NotAuthorized => "not authorized",
+// The client identifier of a peer, or the number of its session if the identifier is not known.
+fn client_of(alloc: Global, peer: &Peer) -> io::Result<String> {
+    match (&peer.client, peer.key) {
+        (Some(client), _) => Ok(String::from_str(alloc, client.as_str())?),
+        (None, Some(key)) => key_name(alloc, key),
+        (None, None) => Ok(String::new(alloc)),
     }
+}
+
+fn key_name(alloc: Global, key: ClientKey) -> io::Result<String> {
+    let number = key.get();
+    Ok(format!(in alloc; "#{number}")?)
 }

@@ -3,11 +3,12 @@
 ghost use Rattle.std.specs.Prelude.{◌≡◌, ◌<◌, ◌≤◌, None, IfSome};
 
 use mq_decode::Limits;
-use mq_route::HubConfig;
+use mq_end::BoxedList;
+use mq_route::{HubConfig, User};
 use std::net::SocketAddr;
 
 /// Options of a broker.
-#[derive(Clone, Copy, Debug)]
+#[derive(Debug, Drop)]
 pub struct BrokerOptions {
     /// The address to listen on; port 0 picks a free port.
     pub listen: SocketAddr,
@@ -21,6 +22,10 @@ pub struct BrokerOptions {
     pub capacity: u16,
     /// The number of bytes that may be placed for a connection whose socket takes none.
     pub max_waiting: usize,
+    /// The users that may connect; `None` lets anyone connect (3.1.3.4).
+    pub users: Option<BoxedList<User>>,
+    /// The address of the metrics, which are served over HTTP.
+    pub metrics: Option<SocketAddr>,
 }
 
 impl BrokerOptions {
@@ -29,8 +34,8 @@ impl BrokerOptions {
         Limits::new(self.max_packet)
     }
 
-    /// The configuration of the broker. Anybody may connect.
-    pub(crate) fn config(&self, limits: Limits) -> HubConfig
+    /// The configuration of the broker.
+    pub(crate) fn into_config(self, limits: Limits) -> HubConfig
         ensures capacity { 0 < result.capacity }
         ensures window { result.window ≡ None }
     {
@@ -40,7 +45,7 @@ impl BrokerOptions {
             window: None,
             max_conns: self.max_connections,
             max_sessions: self.max_sessions,
-            users: None,
+            users: self.users,
         }
     }
 }

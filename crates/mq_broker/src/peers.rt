@@ -51,6 +51,17 @@ impl Peers {
         self.peers[at].as_ref()
     }
 
+    /// The client identifier of the connection at a place, if it is known.
+    pub(crate) fn client(&self, place: u32) -> Result<Option<Text>, AllocError> {
+        let Some(peer) = self.get(place) else {
+            return Ok(None);
+        };
+        match &peer.client {
+            Some(client) => Ok(Some(client.clone()?)),
+            None => Ok(None),
+        }
+    }
+
     /// Stores the client of the connection at a place.
     pub(crate) fn set_client(&mut self, place: u32, key: ClientKey, client: Option<Text>) {
         let at = place as usize;

@@ -1,22 +1,23 @@
 //! The loop of a broker over sockets.
 
-ghost use Rattle.std.specs.Prelude.{◌≡◌};
-
 use crate::acceptor::{Accepted, accept};
+use crate::counted::Counted;
 use crate::end::BrokerEnd;
 use crate::log::Log;
 use crate::options::BrokerOptions;
 use crate::peers::Peers;
+use crate::status_port::{FIRST, LISTENER as STATUS_LISTENER, SLOTS, StatusPort};
 use mio::net::{TcpListener, TcpStream};
 use mio::{Events, Interest, Poll, Token};
 use mq_hub::Hub;
 use mq_loop::{EventLoop, LoopLimits, NonBlocking, Report};
+use mq_status::{Counter, MAX_ROWS, Metrics, RowState, SessionRow, write_response};
 use mq_stream::{Clock, Elapsed};
-use std::alloc::Global;
+use std::alloc::{AllocError, Global};
 use std::io::Write;
 use std::net::{Net, SocketAddr};
-use std::time;
 use std::time::{Duration, Instant};
+use std::{io, time};
 
 /// The number of bytes that a connection may send in one round, if others are ready.
 const SHARE: usize = 262_144;
@@ -30,6 +31,9 @@ const RETRY: u64 = 100;
 /// The maximum number of events of one wait.
 const MOST_EVENTS: usize = 16_384;
 
+/// The maximum number of connections that are accepted before a round.
+const MOST_ACCEPTS: u32 = 256;
+
 /// The token of the listener. Other tokens are places.
 const LISTENER: Token = Token(usize::MAX);
 
@@ -38,14 +42,15 @@ const LISTENER: Token = Token(usize::MAX);
 struct Server<W: Write> {
     poll: Poll,
     listener: TcpListener,
-    connections: EventLoop<NonBlocking<TcpStream>>,
+    connections: EventLoop<NonBlocking<TcpStream>, Counted>,
+    status: Option<StatusPort>,
     peers: Peers,
     log: Log<W>,
     most: usize,
     // Connections may be pending at the listener.
     may_accept: bool,
-    // An accept failed, and must be tried again.
-    has_failed: bool,
+    // The time of the last accept, in milliseconds, if it failed and must be tried again.
+    failed_at: Option<u64>,
 }
 
 /// Runs a broker until its listener fails. Writes `listening ADDR:PORT` to `output`.
@@ -55,7 +60,7 @@ struct Server<W: Write> {
 pub fn run_broker<R: Net + time::Clock, W: Write, L: Write + Drop>(
     rt: &R,
     alloc: Global,
-    options: &BrokerOptions,
+    options: BrokerOptions,
     output: &mut W,
     log: Log<L>,
 ) -> BrokerEnd {
@@ -74,13 +79,12 @@ impl<L: Write + Drop> Server<L> {
     fn open<R: Net>(
         rt: &R,
         alloc: Global,
-        options: &BrokerOptions,
+        options: BrokerOptions,
         log: Log<L>,
     ) -> Result<Server<L>, BrokerEnd> {
         let Some(packets) = options.packets() else {
             return Err(BrokerEnd::PacketLimit);
         };
-        let hub = Hub::new(alloc, options.config(packets));
         let limits = LoopLimits {
             share: SHARE,
             most_owed: options.max_waiting,
@@ -101,15 +105,23 @@ impl<L: Write + Drop> Server<L> {
             Ok(()) => {}
             Err(error) => return Err(BrokerEnd::of_wait(&error)),
         }
+        let status = match options.metrics {
+            Some(address) => Some(StatusPort::open(rt, alloc, &poll, address)?),
+            None => None,
+        };
+        let most = options.max_connections;
+        let hub = Hub::new(alloc, options.into_config(packets));
+        let counted = Counted(Metrics::new());
         Ok(Server {
             poll,
             listener,
-            connections: EventLoop::new(alloc, hub, limits),
+            connections: EventLoop::new(alloc, hub, limits, counted),
+            status,
             peers: Peers::new(alloc),
             log,
-            most: options.max_connections,
+            most,
             may_accept: true,
-            has_failed: false,
+            failed_at: None,
         })
     }
 
@@ -139,9 +151,12 @@ impl<L: Write + Drop> Server<L> {
         for _ in 0..u64::MAX {
             self.wait(&mut events, now)?;
             now = clock.now();
-            self.accept_all()?;
+            self.accept_all(now)?;
+            let began = Instant::now(rt);
             self.connections.round(now, buffer.as_mut_slice());
+            self.count_round(rt, began);
             self.take_reports();
+            self.answer_requests(alloc, &events);
         }
         Ok(())
     }
@@ -151,10 +166,6 @@ impl<L: Write + Drop> Server<L> {
         let limit = self.limit(now);
         if let Err(error) = self.poll.poll(events, limit) {
             return Err(BrokerEnd::of_wait(&error));
-        }
-        if self.has_failed {
-            self.has_failed = false;
-            self.may_accept = true;
         }
         for event in events.iter() {
             if event.token() == LISTENER {
@@ -171,9 +182,82 @@ impl<L: Write + Drop> Server<L> {
         Ok(())
     }
 
+    // Counts a round and its time.
+    fn count_round<R: time::Clock>(&mut self, rt: &R, began: io::Result<Instant>) {
+        let Ok(began) = began else {
+            return;
+        };
+        let Ok(time) = began.elapsed(rt) else {
+            return;
+        };
+        let time = u64::try_from(time.as_micros()).unwrap_or(u64::MAX);
+        self.connections.observer_mut().0.count_round(time);
+    }
+
+    // Serves the metrics to those that ask for them.
+    fn answer_requests(&mut self, alloc: Global, events: &Events<Global>) {
+        for event in events.iter() {
+            let Token(token) = event.token();
+            if event.token() == STATUS_LISTENER {
+                if let Some(status) = &mut self.status {
+                    status.accept_all(&self.poll);
+                }
+            } else if token >= FIRST && token - FIRST < SLOTS {
+                self.answer(alloc, token - FIRST);
+            }
+        }
+    }
+
+    fn answer(&mut self, alloc: Global, slot: usize) {
+        let Some(status) = &mut self.status else {
+            return;
+        };
+        let Some(reply) = status.continue_at(slot) else {
+            return;
+        };
+        let Ok(rows) = self.set_gauges(alloc) else {
+            return;
+        };
+        let mut response = Vec::new(alloc);
+        let metrics = &self.connections.observer().0;
+        if write_response(alloc, &mut response, reply, metrics, rows.as_slice()).is_err() {
+            return;
+        }
+        if let Some(status) = &mut self.status {
+            status.respond(slot, response);
+        }
+    }
+
+    // Measures the gauges. Returns the rows of the connections with the most bytes pending.
+    fn set_gauges(&mut self, alloc: Global) -> Result<Vec<SessionRow>, AllocError> {
+        let mut gauges = self.connections.observer().0.gauges();
+        gauges.connections = self.connections.len() as u64;
+        gauges.sessions = self.connections.hub().sessions()?.len() as u64;
+        gauges.pending_bytes = 0;
+        let mut rows = Vec::new(alloc);
+        for place in 0..self.connections.places() {
+            let pending = self.connections.pending(place) as u64;
+            gauges.pending_bytes = gauges.pending_bytes.saturating_add(pending);
+            if pending > 0 && rows.len() < MAX_ROWS {
+                if let Some(client) = self.peers.client(place)? {
+                    rows.push(SessionRow {
+                        client,
+                        stored_messages: 0,
+                        stored_bytes: 0,
+                        pending_bytes: pending,
+                        missed: 0,
+                        state: RowState::Slow,
+                    })?;
+                }
+            }
+        }
+        self.connections.observer_mut().0.set_gauges(gauges);
+        Ok(rows)
+    }
+
     // The maximum time to wait. `None` if there is no limit.
     fn limit(&self, now: u64) -> Option<Duration> {
-        if self.connections.is_due() {
+        if self.may_accept || self.connections.is_due() {
             return Some(Duration::from_millis(0));
         }
         let deadline = self.connections.hub().next_deadline();
@@ -181,7 +265,7 @@ impl<L: Write + Drop> Server<L> {
             Some(deadline) => Some(deadline.saturating_sub(now).max(RETRY)),
             None => None,
         };
-        if self.has_failed {
+        if self.failed_at.is_some() {
             limit = Some(RETRY);
         }
         match limit {
@@ -190,19 +274,33 @@ impl<L: Write + Drop> Server<L> {
         }
     }
 
-    // Accepts each connection that is there.
-    fn accept_all(&mut self) -> Result<(), BrokerEnd> {
-        if !self.may_accept {
+    // Accepts the connections that are pending, up to a number.
+    fn accept_all(&mut self, now: u64) -> Result<(), BrokerEnd> {
+        let is_retry = match self.failed_at {
+            Some(failed_at) => now >= failed_at.saturating_add(RETRY),
+            None => false,
+        };
+        if !self.may_accept && !is_retry {
             return Ok(());
         }
-        self.may_accept = false;
-        for _ in 0..u64::MAX {
+        self.may_accept = true;
+        for _ in 0..MOST_ACCEPTS {
             match accept(&self.listener) {
-                Accepted::Stream(stream, address) => self.open_connection(stream, address),
-                Accepted::Nothing => return Ok(()),
+                Accepted::Stream(stream, address) => {
+                    self.failed_at = None;
+                    self.open_connection(stream, address);
+                }
+                Accepted::Nothing => {
+                    self.may_accept = false;
+                    self.failed_at = None;
+                    return Ok(());
+                }
                 Accepted::NotNow(error) => {
-                    self.log.not_accepting(&error);
-                    self.has_failed = true;
+                    self.may_accept = false;
+                    if self.failed_at.is_none() {
+                        self.log.not_accepting(&error);
+                    }
+                    self.failed_at = Some(now);
                     return Ok(());
                 }
                 Accepted::Dead => return Err(BrokerEnd::Listener),
@@ -214,6 +312,8 @@ impl<L: Write + Drop> Server<L> {
     // Serves a connection, or drops it if there are too many or an allocation fails.
     fn open_connection(&mut self, stream: TcpStream, address: SocketAddr) {
         if self.connections.len() >= self.most {
+            let metrics = &mut self.connections.observer_mut().0;
+            metrics.add(Counter::TurnedAway, 1);
             self.log.turned_away(address);
             return;
         }
@@ -260,10 +360,14 @@ impl<L: Write + Drop> Server<L> {
                 };
                 self.peers.set_client(*place, *key, client);
             }
-            self.log.report(&report, &self.peers);
+            let pending = match &report {
+                Report::Slow { place } => self.connections.pending(*place),
+                _ => 0,
+            };
+            self.log.report(&report, &self.peers, pending);
             if let Report::Ended { place } = &report {
                 self.peers.remove(*place);
-                if self.has_failed {
+                if self.failed_at.is_some() {
                     self.may_accept = true;
                 }
             }
@@ -273,7 +377,7 @@ impl<L: Write + Drop> Server<L> {
 }
 
 // Writes the line of the listener.
-fn write_address<W: Write>(output: &mut W, address: SocketAddr) -> std::io::Result<()> {
+fn write_address<W: Write>(output: &mut W, address: SocketAddr) -> io::Result<()> {
     writeln!(output, "listening {address}")?;
     output.flush()
 }

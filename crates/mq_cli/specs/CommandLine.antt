@@ -122,6 +122,8 @@ pub record IsBroker (command : Option (Text × List Row)) (broker : Broker) : Ty
   pub max_packet : IsLimit command (codes "MAX_PACKET") 1048576 broker.max_packet
   pub capacity : IsLimit command (codes "CAPACITY") 1000 broker.capacity
   pub max_waiting : IsLimit command (codes "MAX_WAITING") 1048576 broker.max_waiting
+  pub passwords : HasWord command (codes "broker") (codes "PASSWORDS") (option_map (λ file. file.now) broker.passwords)
+  pub metrics : HasWord command (codes "broker") (codes "METRICS") (option_map (λ text. text.now) broker.metrics)
   pub log : HasWord command (codes "broker") (codes "LOG") (option_map (λ file. file.now) broker.log)
   pub quiet : GivesFlag command (codes "broker") (codes "QUIET") broker.quiet
   pub verbose : GivesFlag command (codes "broker") (codes "VERBOSE") broker.verbose

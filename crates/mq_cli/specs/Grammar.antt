@@ -107,6 +107,10 @@ abbrev pub with_limits : App → App
 with_limits app =
     with_rule (with_rule (with_rule app (limit_rule (codes "MAX_PACKET") (codes "max-packet") (Signed (pos 1) (pos 268435455)))) (limit_rule (codes "CAPACITY") (codes "capacity") (Signed (pos 1) (pos 65535)))) (limit_rule (codes "MAX_WAITING") (codes "max-waiting") (Signed (pos 0) (pos 4294967295)))
 
+-- the file of the passwords, and the address of the metrics
+abbrev pub with_extras : App → App
+with_extras app = with_rule (with_rule app (file_rule (codes "PASSWORDS") (codes "passwords"))) (file_rule (codes "METRICS") (codes "metrics"))
+
 -- the file of the log, and its lines
 abbrev pub with_logs : App → App
 with_logs app =
@@ -114,7 +118,7 @@ with_logs app =
 
 -- `broker`, whose options can all be left out
 abbrev pub broker_words : App
-broker_words = with_logs (with_limits (with_tables (with_rule (new_app (codes "broker")) (file_rule (codes "LISTEN") (codes "listen")))))
+broker_words = with_logs (with_extras (with_limits (with_tables (with_rule (new_app (codes "broker")) (file_rule (codes "LISTEN") (codes "listen"))))))
 
 -- `broker`, `loopback FILE`
 abbrev pub program_words : App

@@ -4,7 +4,7 @@ ghost use Rattle.std.specs.Prelude.{◌≡◌, false, IfOk, IfSome};
 ghost use Rattle.clap.specs.Words.{app_of, rule_of, subcommand_rows_of};
 ghost use Rattle.clap.specs.declared.builder.command.Command.TheViews.{out-Command};
 ghost use Rattle.mq_cli.specs.CommandLine.{IsBroker, IsLimit};
-ghost use Rattle.mq_cli.specs.Grammar.{broker_words, limit_rule, with_limits, with_logs, with_tables};
+ghost use Rattle.mq_cli.specs.Grammar.{broker_words, limit_rule, with_extras, with_limits, with_logs, with_tables};
 
 use crate::grammar::{Texts, file_option, flag, new_command, with_arg};
 use crate::words::{flag_of, given_of, number_of};
@@ -27,6 +27,10 @@ pub struct Broker<'a> {
     pub capacity: u16,
     /// The number of bytes that may wait for a connection whose socket takes none.
     pub max_waiting: u32,
+    /// The file of the user names and passwords; `None` lets anyone connect (3.1.3.4).
+    pub passwords: Option<&'a str>,
+    /// The address and the port of the metrics, as given.
+    pub metrics: Option<&'a str>,
     /// The file of the log; `None` for the standard error.
     pub log: Option<&'a str>,
     /// The log has no lines.
@@ -94,6 +98,17 @@ fn with_limits<'a>(alloc: Global, command: Command<'a>) -> Result<Command<'a>, A
     )
 }
 
+// The command with the options of the passwords and of the metrics.
+fn with_extras<'a>(alloc: Global, command: Command<'a>) -> Result<Command<'a>, AllocError>
+    ensures words { IfOk result (λ new. app_of new ≡ with_extras (app_of command.entry)) }
+    ensures local { IfOk result (λ new. (out-Command new).has_globals ≡ (out-Command command.entry).has_globals) }
+{
+    let help = "Accepts only the users of this file, one NAME:PASSWORD per line";
+    let command = with_arg(command, file_option(alloc, "PASSWORDS", "passwords", help))?;
+    let help = "Serves metrics over HTTP at this address and port";
+    with_arg(command, file_option(alloc, "METRICS", "metrics", help))
+}
+
 // The command with the options of the log.
 fn with_logs<'a>(alloc: Global, command: Command<'a>) -> Result<Command<'a>, AllocError>
     ensures words { IfOk result (λ new. app_of new ≡ with_logs (app_of command.entry)) }
@@ -123,6 +138,7 @@ pub(crate) fn broker_command<'a>(alloc: Global) -> Result<Command<'a>, AllocErro
     let command = with_arg(command, file_option(alloc, "LISTEN", "listen", help))?;
     let command = with_tables(alloc, command)?;
     let command = with_limits(alloc, command)?;
+    let command = with_extras(alloc, command)?;
     with_logs(alloc, command)
 }
 
@@ -159,6 +175,8 @@ pub(crate) fn broker_of<'a>(matches: &ArgMatches<'a>) -> Option<Broker<'a>>
         max_packet: limit_of_32_bits(matches, "MAX_PACKET", 1_048_576)?,
         capacity: limit_of_16_bits(matches, "CAPACITY", 1_000)?,
         max_waiting: limit_of_32_bits(matches, "MAX_WAITING", 1_048_576)?,
+        passwords: given_of(matches, "broker", "PASSWORDS")?,
+        metrics: given_of(matches, "broker", "METRICS")?,
         log: given_of(matches, "broker", "LOG")?,
         quiet: flag_of(matches, "broker", "QUIET")?,
         verbose: flag_of(matches, "broker", "VERBOSE")?,

@@ -1,1 +1,1 @@
-mod CarriedBytes
+pub mod CarriedBytes

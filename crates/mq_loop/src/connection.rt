@@ -1,6 +1,6 @@
 //! One connection: its socket, and the output that the socket has not taken.
 
-ghost use Rattle.std.specs.Prelude.{◌≡◌, [], true, false};
+ghost use Rattle.std.specs.Prelude.{◌≡◌, [], true, false, length};
 ghost use Rattle.mq_loop.specs.declared.connection.Flushed.TheVariants.{All};
 ghost use Rattle.mq_loop.specs.Sockets.{ComesIn, Sends};
 
@@ -63,6 +63,13 @@ impl<S: Socket> Connection<S> {
         ensures { result ≡ false → self.now.kept ≡ [] }
     {
         !self.kept.is_empty()
+    }
+
+    /// The number of bytes that are kept.
+    pub fn kept(&self) -> usize
+        ensures { result ≡ length self.now.kept }
+    {
+        self.kept.len()
     }
 
     /// Whether bytes were lost, because an allocation failed. The connection must then be ended.

@@ -11,6 +11,7 @@
 
 mod connection;
 mod event_loop;
+mod observer;
 mod read_size;
 mod report;
 mod seat;
@@ -19,6 +20,7 @@ mod socket;
 
 pub use crate::connection::{Connection, Flushed};
 pub use crate::event_loop::{EventLoop, LoopLimits};
+pub use crate::observer::{NoObserver, Observer};
 pub use crate::report::Report;
 pub use crate::served::{Heard, Served};
 pub use crate::socket::{NonBlocking, Socket, WriteOutcome};

@@ -40,9 +40,14 @@ pub struct Served<S: Socket> {
 }
 
 impl<S: Socket> Model for Served<S> {
+    ghost use Rattle.std.specs.Coded.{codes, coded_ℕ};
+    ghost use Rattle.std.specs.FinSet as set;
+    ghost use Rattle.std.specs.Ordering.{nat_cmp};
     ghost use Rattle.mq_loop.specs.Accounts.{IsServed, ServedState, served_state};
 
     ghost Value = { ServedState };
+
+    ghost coded = { Prim.hlevel (codes, set.code {R = nat_cmp} coded_ℕ) };
 
     ghost view = { λ s. served_state s.base.value s.hub s.connections.items };
 
@@ -76,6 +81,7 @@ fn take_in(alloc: Global, hub: &mut Hub, place: u32, bytes: &[u8]) -> Option<Hub
 
 impl<S: Socket + Drop> Served<S> {
     /// A broker that serves no connection yet.
+    #[tactic(auto, using(crate::proofs::CarriedBytes::new_served))]
     pub fn new(alloc: Global, hub: Hub) -> Served<S>
         ensures { result ≡ record { base = hub; hub = hub; lines = [] } }
     {
@@ -102,6 +108,7 @@ impl<S: Socket + Drop> Served<S> {
     }
 
     /// Adds a place without a connection. Returns the place, or an error if there are 2^32.
+    #[tactic(auto, using(crate::proofs::CarriedBytes::place_served))]
     pub fn add_place(&mut self) -> Result<u32, AllocError>
         ensures ok { OnOk result (self.new ≡ record self.old { lines = self.old.lines ++ None ∷ [] }) }
         ensures place { IfOk result (λ place. place ≡ length self.old.lines) }
@@ -118,6 +125,7 @@ impl<S: Socket + Drop> Served<S> {
     ///
     /// Errors, on which the socket is dropped: `ConnInUse` if the place has a connection, or if it
     /// does not exist; `Memory` if an allocation fails.
+    #[tactic(auto, using(crate::proofs::CarriedBytes::open_served))]
     pub fn open(&mut self, place: u32, socket: S) -> Result<HubReply, HubRefusal>
         requires came { IfSome (S.came socket) (λ bytes. bytes ≡ []) }
         requires went { IfSome (S.went socket) (λ bytes. bytes ≡ []) }
@@ -136,6 +144,7 @@ impl<S: Socket + Drop> Served<S> {
     }
 
     /// Tells the broker the current time, in milliseconds.
+    #[tactic(auto, using(crate::proofs::CarriedBytes::tick_served))]
     pub fn tick(&mut self, now: u64) -> Result<HubReply, HubRefusal>
         ensures step { IfOk result (λ reply. HubStep self.old.hub (Tick now) reply self.new.hub) }
         ensures lines { self.new.lines ≡ self.old.lines }
@@ -146,6 +155,7 @@ impl<S: Socket + Drop> Served<S> {
 
     /// Reads from a connection into `buffer`, which must not be empty, and makes the broker's step
     /// with the bytes that came.
+    #[tactic(auto, using(crate::proofs::CarriedBytes::read_served, crate::proofs::CarriedBytes::lost_served, crate::proofs::CarriedBytes::same_served))]
     pub fn read(&mut self, place: u32, buffer: &mut [u8]) -> Heard {
         let at = place as usize;
         if at >= self.connections.len() {
@@ -180,7 +190,20 @@ impl<S: Socket + Drop> Served<S> {
         }
     }
 
+    /// The number of bytes of output that are kept for a connection.
+    pub fn kept(&self, place: u32) -> usize {
+        let at = place as usize;
+        if at >= self.connections.len() {
+            return 0;
+        }
+        match &self.connections[at] {
+            Some(connection) => connection.kept(),
+            None => 0,
+        }
+    }
+
     /// Writes the output that is kept for a connection, as far as its socket takes it.
+    #[tactic(auto, using(crate::proofs::CarriedBytes::flush_served))]
     pub fn flush(&mut self, place: u32) -> Flushed {
         let at = place as usize;
         if at >= self.connections.len() {
@@ -194,6 +217,7 @@ impl<S: Socket + Drop> Served<S> {
 
     /// Collects the pending output of a connection, unless output is kept for it, and keeps it to
     /// be written. Returns the reply, or `None` if nothing was collected.
+    #[tactic(auto, using(crate::proofs::CarriedBytes::collect_served))]
     pub fn collect(&mut self, place: u32) -> Result<Option<bool>, HubRefusal> {
         let at = place as usize;
         if at >= self.connections.len() {
@@ -211,6 +235,7 @@ impl<S: Socket + Drop> Served<S> {
     }
 
     /// Ends a connection, and drops its socket. Returns `None` if the place has no connection.
+    #[tactic(auto, using(crate::proofs::CarriedBytes::end_served))]
     pub fn end(&mut self, place: u32) -> Result<Option<HubReply>, HubRefusal> {
         let at = place as usize;
         if at >= self.connections.len() || self.connections[at].is_none() {

@@ -4,14 +4,14 @@ use crate::packets::{CONNACK, DISCONNECT, SUBACK, connect, publish, subscribe};
 use crate::wires::{Pipe, Wire, cell_of};
 use mq_decode::Limits;
 use mq_hub::Hub;
-use mq_loop::{EventLoop, LoopLimits, NonBlocking, Report};
+use mq_loop::{EventLoop, LoopLimits, NoObserver, NonBlocking, Report};
 use mq_route::HubConfig;
 use std::alloc::{AllocError, Global};
 use std::cell::RefCell;
 use std::io::ErrorKind;
 use std::test::Fail;
 
-type Loop<'a> = EventLoop<NonBlocking<Wire<'a>>>;
+type Loop<'a> = EventLoop<NonBlocking<Wire<'a>>, NoObserver>;
 
 fn new_loop<'a>(alloc: Global, most_owed: usize) -> Result<Loop<'a>, Fail> {
     let packets = Limits::new(1_048_576).ok_or("no limits")?;
@@ -28,7 +28,7 @@ fn new_loop<'a>(alloc: Global, most_owed: usize) -> Result<Loop<'a>, Fail> {
         most_owed,
         packets,
     };
-    Ok(EventLoop::new(alloc, Hub::new(alloc, config), limits))
+    Ok(EventLoop::new(alloc, Hub::new(alloc, config), limits, NoObserver))
 }
 
 // Opens a connection over the socket with this number.
@@ -107,16 +107,17 @@ fn gets_all(alloc: Global, piece: usize, hitch: Option<ErrorKind>) -> Result<boo
     let mut connections = new_loop(alloc, 1_000_000)?;
     let _ = open(&mut connections, &pipes, 0)?;
     let _ = open(&mut connections, &pipes, 1)?;
-    run(alloc, &mut connections, 2, 200)?;
+    let rounds = if piece < 8 { 320 } else { 40 };
+    run(alloc, &mut connections, 2, rounds)?;
     let _ = open(&mut connections, &pipes, 2)?;
-    run(alloc, &mut connections, 3, 200)?;
+    run(alloc, &mut connections, 3, rounds)?;
     let bytes = expected(alloc, 40, 3)?;
     Ok(took(&pipes, 0, bytes.as_slice()) && took(&pipes, 1, bytes.as_slice()))
 }
 
 #[test]
 fn writes_of_each_length_lose_nothing(rt: HostRuntime) -> Result<(), Fail> {
-    for piece in 1..150 {
+    for piece in 1..60 {
         for hitch in [
             None,
             Some(ErrorKind::Interrupted),
@@ -139,7 +140,7 @@ fn survives(alloc: Global, most: usize) -> Result<bool, Fail> {
     let mut connections = new_loop(alloc, 1_000_000)?;
     let _ = open(&mut connections, &pipes, 0)?;
     let _ = open(&mut connections, &pipes, 1)?;
-    run(alloc, &mut connections, 2, 4)?;
+    run(alloc, &mut connections, 2, 10)?;
     let _ = open(&mut connections, &pipes, 2)?;
     run(alloc, &mut connections, 3, 20)?;
     let bytes = expected(alloc, 40, 2)?;
