@@ -1,13 +1,11 @@
 -- The bytes of a connection, packet by packet.
-use Rattle.std.proofs.Common.{◌≡◌, ℕ, ◌+◌, ◌<◌, Bool, true, false, List, [], ◌∷◌, ◌++◌, length, take, drop, Some, None, refl, sym, ap}
+use Rattle.std.proofs.Common.{◌≡◌, ◌⊎◌, ℕ, ◌+◌, ◌<◌, ◌≤◌, Bool, true, false, List, [], ◌∷◌, ◌++◌, inl, inr, length, take, Some, None, refl, sym, ap}
 use Rattle.std.proofs.Common.{subst, ◌∙◌, arith, true≢false}
 use Rattle.std.proofs.lemmas.Bool.{cond-true}
-use Rattle.std.proofs.lemmas.List.{append_assoc, length-append, take-append-drop}
-use Rattle.mq_packet.specs.declared.packet.Packet.{Packet}
-use Rattle.mq_packet.specs.Encoding.{fields, first_byte}
+use Rattle.std.proofs.lemmas.List.{append_assoc}
+use Rattle.std.proofs.Math.Seq.{take-length}
 use Rattle.mq_decode.specs.declared.fault.DecodeFault.{DecodeFault}
-use Rattle.mq_decode.specs.declared.fault.FaultKind.{FaultKind}
-use Rattle.mq_decode.specs.Grammar.{Faulty, AtFirst, AtLength, AtSize, AtField, Pending, Reads}
+use Rattle.mq_decode.specs.Grammar.{Faulty, Pending}
 use Rattle.mq_decode.specs.Limits.{Bounds}
 use Rattle.mq_end.specs.declared.reason.CloseReason.TheVariants as reasons
 use Rattle.mq_route.specs.declared.act.Act.{Act}
@@ -19,93 +17,71 @@ use Rattle.mq_route.specs.declared.reply.HubReply.{HubReply}
 use Rattle.mq_route.specs.Arrives.{on_malformed, takes}
 use Rattle.mq_route.specs.Hub.{HubState, HubConnection, held_on, is_open, knows, stage_of}
 use Rattle.mq_route.specs.Step.{Arrives, Waits, Breaks, Starves, LetsGo, HubStep, holding}
+use Rattle.mq_route.specs.StepSome.{HubStepSome}
 use Rattle.mq_route.specs.Work.{Work, begin, close}
 use Rattle.mq_hub.specs.Inside.Input.{HandlesBytes, RefinesBytes, HandlesPacket, with_held}
 use Rattle.mq_hub.specs.Inside.Refinement.{Refines}
 use Rattle.mq_hub.proofs.ConnectionTable.{unknown_shut}
 
--- a result from here on is a result of all bytes
-abbrev pub LeadsOn : Bounds → Conn → List ℕ → HubState → List Act → List ℕ → HubState → List Act → Type 0
-LeadsOn limits k all old said left new says = (end : HubState) (ends : List Act) → RefinesBytes limits k left new says end ends
-    → RefinesBytes limits k all old said end ends
-
--- a packet has at least one byte
-some_bytes : (lenient : Bool) (p : Packet) (b : List ℕ) → Reads lenient p b → 0 < length b
-some_bytes false p b reads = let w : length b ≡ length (first_byte p ∷ reads.len ++ fields p) = ap length reads.bytes in omega (arith, w)
-some_bytes true p b reads = let w : length b ≡ length (first_byte p ∷ reads.len ++ fields p) = ap length reads.bytes in omega (arith, w)
-
--- so less is left behind one
-pub less_left : (limits : Bounds) (k : Conn) (held rest : List ℕ) (used : ℕ) (old new : HubState) (said says : List Act)
-    → HandlesPacket limits k held rest used old said new says → 0 < length held + length (take used rest)
-less_left limits k held rest used old new said says taken =
-    let w = some_bytes limits.lenient taken.packet (held ++ take used rest) taken.reads.0 in
-    let v = length-append held (take used rest) in
-    omega (arith, w, v)
-
--- malformed bytes are at least one
-pub faulty_some : (limits : Bounds) (b : List ℕ) (kind : FaultKind) (place : ℕ) → Faulty limits b kind place → 0 < length b
-faulty_some limits b kind place (AtFirst f) = let w : length b ≡ length (f.first ∷ f.rest) = ap length f.bytes in omega (arith, w)
-faulty_some limits b kind place (AtLength f) = let w : length b ≡ length (f.first ∷ f.rest) = ap length f.bytes in omega (arith, w)
-faulty_some limits b kind place (AtSize f) = let w : length b ≡ length (f.first ∷ f.len ++ f.rest) = ap length f.bytes in omega (arith, w)
-faulty_some limits b kind place (AtField f) = let w : length b ≡ length (f.first ∷ f.len ++ (f.body ++ f.rest)) = ap length f.bytes in omega (arith, w)
-
-module _ (limits : Bounds) (k : Conn) where
+module _ (limits : Bounds) (k : Conn) (most : ℕ) where
   open_so_far : (h : HubState) (w : Work) → w.hub ≡ h → is_open (stage_of k h.connections) ≡ true → is_open (stage_of k w.hub.connections) ≡ true
   open_so_far h w e is_on = ap (λ (x : HubState). is_open (stage_of k x.connections)) e ∙ is_on
 
-  parts : (held rest : List ℕ) (used : ℕ) → (held ++ take used rest) ++ drop used rest ≡ held ++ rest
-  parts held rest used = append_assoc held (take used rest) (drop used rest) ∙ ap (λ (b : List ℕ). held ++ b) (take-append-drop used rest)
-
-  -- a packet came, and then the rest
-  pub arrives_by : (held rest : List ℕ) (used : ℕ) (old new end : HubState) (said says ends : List Act) → is_open (stage_of k old.connections) ≡ true
-      → HandlesPacket limits k held rest used old said new says → RefinesBytes limits k (drop used rest) new says end ends
-      → RefinesBytes limits k (held ++ rest) old said end ends
-  arrives_by held rest used old new end said says ends is_on t later = λ w e f.
+  -- a packet came, and then the rest: there is none, or the acts are below the limit
+  pub arrives_by : (held rest more : List ℕ) (used : ℕ) (old new end : HubState) (said says ends : List Act) → is_open (stage_of k old.connections) ≡ true
+      → HandlesPacket limits k held rest used old said new says → (more ≡ []) ⊎ (length says < most) → RefinesBytes limits k most more new says end ends
+      → RefinesBytes limits k most (held ++ (take used rest ++ more)) old said end ends
+  arrives_by held rest more used old new end said says ends is_on t gap later = λ w e f.
       let v : Work = takes k t.packet t.growth w in
       let c = later v (t.goes.hub w e f) (t.goes.did w e f) in
       let all = held ++ take used rest in
-      subst (λ (b : List ℕ). HandlesBytes limits k b w end ends) (parts held rest used) (record {
+      subst (λ (b : List ℕ). HandlesBytes limits k most b w end ends) (append_assoc held (take used rest) more) (record {
         after = c.after;
-        comes = Arrives t.packet all (drop used rest) t.growth w c.after (open_so_far old w e is_on) t.reads c.comes;
+        comes = Arrives t.packet all more t.growth w c.after (open_so_far old w e is_on) t.reads c.comes;
+        sparing = (subst (λ (acts : List Act). (more ≡ []) ⊎ (length acts < most)) (sym (t.goes.did w e f)) gap, c.sparing);
         hub = c.hub;
         did = c.did;
       })
 
   -- they are an incomplete packet, and are held
   pub waits_by : (b : List ℕ) (old : HubState) (said : List Act) → is_open (stage_of k old.connections) ≡ true → Pending limits b
-      → RefinesBytes limits k b old said (with_held k b old) said
+      → RefinesBytes limits k most b old said (with_held k b old) said
   waits_by b old said is_on pending = λ w e f. record {
     after = holding k b w;
     comes = Waits b w (open_so_far old w e is_on) pending;
+    sparing = tt;
     hub = ap (with_held k b) e;
     did = f;
   }
 
   -- they are malformed
   pub breaks_by : (b : List ℕ) (fault : DecodeFault) (fits : Bool) (old new : HubState) (said says : List Act) → is_open (stage_of k old.connections) ≡ true
-      → Faulty limits b fault.kind fault.place → Refines (on_malformed k fault fits) old said new says → RefinesBytes limits k b old said new says
+      → Faulty limits b fault.kind fault.place → Refines (on_malformed k fault fits) old said new says → RefinesBytes limits k most b old said new says
   breaks_by b fault fits old new said says is_on faulty goes = λ w e f. record {
     after = on_malformed k fault fits w;
     comes = Breaks b fault fits w (open_so_far old w e is_on) faulty;
+    sparing = tt;
     hub = goes.hub w e f;
     did = goes.did w e f;
   }
 
   -- an allocation failed for them
   pub starves_by : (b : List ℕ) (fits : Bool) (old new : HubState) (said says : List Act) → is_open (stage_of k old.connections) ≡ true → 0 < length b
-      → Refines (close k (Own reasons.Memory) fits) old said new says → RefinesBytes limits k b old said new says
+      → Refines (close k (Own reasons.Memory) fits) old said new says → RefinesBytes limits k most b old said new says
   starves_by b fits old new said says is_on some goes = λ w e f. record {
     after = close k (Own reasons.Memory) fits w;
     comes = Starves b fits w (open_so_far old w e is_on) some;
+    sparing = tt;
     hub = goes.hub w e f;
     did = goes.did w e f;
   }
 
   -- the connection is closed and drops them
-  pub lets_go_by : (b : List ℕ) (old : HubState) (said : List Act) → is_open (stage_of k old.connections) ≡ false → RefinesBytes limits k b old said old said
+  pub lets_go_by : (b : List ℕ) (old : HubState) (said : List Act) → is_open (stage_of k old.connections) ≡ false → RefinesBytes limits k most b old said old said
   lets_go_by b old said closed = λ w e f. record {
     after = w;
     comes = LetsGo b w (ap (λ (x : HubState). is_open (stage_of k x.connections)) e ∙ closed);
+    sparing = tt;
     hub = e;
     did = f;
   }
@@ -120,21 +96,38 @@ open_known k xs is_on = go (knows k xs) refl
     go true e = e
     go false e = absurd (true≢false (sym is_on ∙ ap is_open (unknown_shut k xs e)))
 
--- the result of the held bytes and those that came is the step of these
-pub received_by : (h mid new : HubState) (k : Conn) (piece b : List ℕ) (limits : Bounds) (said says : List Act) (r : HubReply) → knows k h.connections ≡ true
-    → mid ≡ with_held k [] h → said ≡ [] → b ≡ held_on k h.connections ++ piece → limits ≡ h.config.limits → RefinesBytes limits k b mid said new says
-    → r ≡ record { acts = says; output = []; alive = is_open (stage_of k new.connections) } → HubStep h (Bytes k piece) r new
-received_by h mid new k piece b limits said says r known mid_is said_is bytes same comes reply =
+-- the result of the held bytes and of the first bytes that came is the step of these
+pub some_received : (h mid new : HubState) (k : Conn) (piece held : List ℕ) (limits : Bounds) (most taken : ℕ) (said says : List Act) (r : HubReply)
+    → knows k h.connections ≡ true → mid ≡ with_held k [] h → said ≡ [] → held ≡ held_on k h.connections → limits ≡ h.config.limits
+    → taken ≤ length piece → RefinesBytes limits k most (held ++ take taken piece) mid said new says
+    → (taken ≡ length piece) ⊎ (most ≤ length says)
+    → r ≡ record { acts = says; output = []; alive = is_open (stage_of k new.connections) } → HubStepSome h k piece most r taken new
+some_received h mid new k piece held limits most taken said says r known mid_is said_is bytes same within comes enough reply =
     let w : Work = holding k [] (begin h) in
-    let came : HandlesBytes h.config.limits k (held_on k h.connections ++ piece) w new says =
-    subst (λ (l : Bounds). HandlesBytes l k (held_on k h.connections ++ piece) w new says) same
-    (subst (λ (x : List ℕ). HandlesBytes limits k x w new says) bytes (comes w (sym mid_is) (sym said_is))) in
+    let front = take taken piece in
+    let came : HandlesBytes h.config.limits k most (held_on k h.connections ++ front) w new says =
+    subst (λ (l : Bounds). HandlesBytes l k most (held_on k h.connections ++ front) w new says) same
+    (subst (λ (x : List ℕ). HandlesBytes limits k most (x ++ front) w new says) bytes (comes w (sym mid_is) (sym said_is))) in
     record {
-      right = cond-true (knows k h.connections) None (Some refusals.UnknownConn) known;
-      work = came.after;
-      does = (
-        came.comes,
-        reply ∙ λ i. record { acts = sym came.did i; output = []; alive = is_open (stage_of k (sym came.hub i).connections) },
-      );
-      after = sym came.hub;
+      within = within;
+      step = record {
+        right = cond-true (knows k h.connections) None (Some refusals.UnknownConn) known;
+        work = came.after;
+        does = (
+          came.comes,
+          reply ∙ λ i. record { acts = sym came.did i; output = []; alive = is_open (stage_of k (sym came.hub i).connections) },
+        );
+        after = sym came.hub;
+      };
+      sparing = came.sparing;
+      enough = subst (λ (acts : List Act). (taken ≡ length piece) ⊎ (most ≤ length acts)) (sym (ap (λ (x : HubReply). x.acts) reply)) enough;
     }
+
+-- a step of all bytes
+pub all_received : (h new : HubState) (k : Conn) (piece : List ℕ) (most taken : ℕ) (r : HubReply) → HubStepSome h k piece most r taken new
+    → length r.acts < most → HubStep h (Bytes k piece) r new
+all_received h new k piece most taken r some few = go some.enough
+  where
+    go : (taken ≡ length piece) ⊎ (most ≤ length r.acts) → HubStep h (Bytes k piece) r new
+    go (inl all) = subst (λ (b : List ℕ). HubStep h (Bytes k b) r new) (ap (λ (n : ℕ). take n piece) all ∙ take-length piece) some.step
+    go (inr many) = absurd (omega (arith, few, many))

@@ -54,3 +54,4 @@ pub mod PlacedCopies
 pub mod ByteWalk
 pub mod LateWalk
 pub mod RunLemmas
+pub mod PendingBytes

@@ -1,6 +1,6 @@
 //! The acts of a step, as they are collected for its reply.
 
-ghost use Rattle.std.specs.Prelude.{◌≡◌, ◌+◌, ◌≤◌, ◌<◌, [], ◌∷◌, ◌++◌, OnOk};
+ghost use Rattle.std.specs.Prelude.{◌≡◌, ◌+◌, ◌≤◌, ◌<◌, [], ◌∷◌, ◌++◌, length, OnOk};
 
 use bytes::Bytes;
 use mq_end::BoxedList;
@@ -58,6 +58,14 @@ impl ActLog {
             return Err(AllocError);
         };
         self.reserve(room)
+    }
+
+    /// Returns the number of acts.
+    pub(crate) fn count(&self) -> usize
+        ensures value { result ≡ length self.now.acts }
+        ensures few { result < 18446744073709551615 }
+    {
+        self.acts.len()
     }
 
     /// Appends an act.

@@ -1,10 +1,11 @@
 //! One event of a broker (4.2).
 
-ghost use Rattle.std.specs.Prelude.{◌≡◌, None, Err, IfOk, IfErr, IfSome, OnErr};
+ghost use Rattle.std.specs.Prelude.{◌≡◌, ◌<◌, length, None, Err, IfOk, IfErr, IfSome, OnErr};
 ghost use Rattle.mq_route.specs.Step.{HubStep, event_refusal};
+ghost use Rattle.mq_route.specs.StepSome.{HubStepSome};
 
 use crate::hub::HubOver;
-use mq_route::{HubEvent, HubRefusal, HubReply};
+use mq_route::{Conn, HubEvent, HubRefusal, HubReply};
 use mq_topic::FilterStore;
 
 impl<S: FilterStore> HubOver<S> {
@@ -33,5 +34,29 @@ impl<S: FilterStore> HubOver<S> {
             HubEvent::Tick(now) => self.on_tick(*now),
             HubEvent::Collect(conn) => self.on_collect(*conn),
         }
+    }
+
+    /// Handles the front of the bytes that come on a connection, up to the packet with which the
+    /// step reaches `most_acts` acts, or all of them. Returns the reply and the number of bytes
+    /// used; the caller passes the others in a later call. At least one packet is handled, and at
+    /// least one byte is used of a piece that is not empty. The piece is not copied.
+    ///
+    /// Errors as [`HubOver::step`] with `Bytes`.
+    pub fn step_some(
+        &mut self,
+        conn: Conn,
+        piece: &[u8],
+        most_acts: usize,
+    ) -> Result<(HubReply, usize), HubRefusal>
+        ensures step { IfOk result (λ r. HubStepSome self.old conn piece.now most_acts r.0 r.1 self.new) }
+        ensures some { IfOk result (λ r. 0 < length piece.now → 0 < r.1) }
+        ensures refused { IfSome (event_refusal (HubEvent.Bytes conn piece.now) self.old) (λ why. result ≡ Err why) }
+        ensures memory { event_refusal (HubEvent.Bytes conn piece.now) self.old ≡ None → IfErr result (λ why. why ≡ HubRefusal.Memory) }
+        ensures err { OnErr result (self.new ≡ self.old) }
+    {
+        if !self.knows(conn) {
+            return Err(HubRefusal::UnknownConn);
+        }
+        self.on_some_bytes(conn, piece, most_acts)
     }
 }

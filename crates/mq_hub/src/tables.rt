@@ -2,6 +2,7 @@
 
 ghost use Rattle.std.specs.Prelude.{◌≡◌, ◌≤◌, ℕ, List, Some, None, [], ◌∷◌, ◌++◌, true, false, OnOk, OnErr, IfOk, IsSome, IfSome};
 ghost use Rattle.mq_route.specs.Hub.{held_on, is_open, key_of, key_on, knows, stage_of, waiting_on, with_connection, without_connection};
+ghost use Rattle.mq_hub.specs.Inside.Connections.{IsDecoding};
 ghost use Rattle.mq_hub.specs.Inside.Output.{CollectsAt};
 ghost use Rattle.mq_hub.specs.Inside.Input.{touched_at, holds};
 ghost use Rattle.mq_hub.specs.Inside.Close.{left_with, parted};
@@ -166,10 +167,10 @@ impl<S: FilterStore> Tables<S> {
 
     pub(crate) fn swap_decoder(&mut self, conn: Conn, decoder: &mut Decoder)
         requires known { knows conn self.old.connections.connections ≡ true }
-        requires reading { (decoder.old.limit ≡ self.old.connections.limits) × (decoder.old.failed ≡ None) }
+        requires reading { IsDecoding self.old.connections.limits decoder.old }
         ensures connections { self.new.connections.connections ≡ with_connection (holds decoder.old.held) conn self.old.connections.connections }
         ensures held { decoder.new.held ≡ held_on conn self.old.connections.connections }
-        ensures reading { (decoder.new.limit ≡ self.old.connections.limits) × (decoder.new.failed ≡ None) }
+        ensures reading { IsDecoding self.old.connections.limits decoder.new }
         ensures limits { self.new.connections.limits ≡ self.old.connections.limits }
         ensures rest { self.new ≡ record self.old { connections = self.new.connections } }
     {

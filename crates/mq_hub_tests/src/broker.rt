@@ -28,18 +28,18 @@ pub(crate) struct Kind {
     pub(crate) has_user: bool,
 }
 
-const WIDE: Kind = Kind {
+pub(crate) const WIDE: Kind = Kind {
     capacity: 100,
     max_conns: 100,
     max_sessions: 100,
     has_user: false,
 };
 
-// A table: its name, what its brokers are like, and its rows.
-type Table = (&'static str, Kind, &'static [Row]);
+/// A table: its name, what its brokers are like, and its rows.
+pub(crate) type Table = (&'static str, Kind, &'static [Row]);
 
-// All tables of rows.
-const TABLES: [Table; 24] = [
+/// All tables of rows.
+pub(crate) const TABLES: [Table; 24] = [
     ("refused", WIDE, &rows::REFUSED),
     ("routed", WIDE, &rows::ROUTED),
     ("level", WIDE, &rows::LEVEL),
@@ -104,7 +104,7 @@ fn one_user(alloc: Global) -> Result<BoxedList<User>, Fail> {
     Ok(BoxedList::from_vec(users))
 }
 
-fn config(alloc: Global, kind: Kind) -> Result<HubConfig, Fail>
+pub(crate) fn config(alloc: Global, kind: Kind) -> Result<HubConfig, Fail>
     ensures capacity { IfOk result (λ c. 0 < c.capacity) }
     ensures window { IfOk result (λ c. c.window ≡ None) }
 {
@@ -123,7 +123,7 @@ fn config(alloc: Global, kind: Kind) -> Result<HubConfig, Fail>
     })
 }
 
-fn answer<S: FilterStore>(
+pub(crate) fn answer<S: FilterStore>(
     alloc: Global,
     hub: &mut HubOver<S>,
     happens: Happens,

@@ -4,6 +4,8 @@
 #[cfg(test)]
 mod broker;
 #[cfg(test)]
+mod portions;
+#[cfg(test)]
 mod rows;
 #[cfg(test)]
 mod told;

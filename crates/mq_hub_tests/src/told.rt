@@ -26,12 +26,12 @@ pub(crate) enum Happens {
 /// A row: what happens, and what the broker does then.
 pub(crate) type Row = (Happens, &'static str);
 
-// The connection of this number.
-fn conn(nth: u32) -> Conn {
+/// The connection of this number.
+pub(crate) fn conn(nth: u32) -> Conn {
     Conn { worker: 0, nth }
 }
 
-fn bytes_of(alloc: Global, hex: &str) -> Result<Bytes, Fail> {
+pub(crate) fn bytes_of(alloc: Global, hex: &str) -> Result<Bytes, Fail> {
     let bytes = hex::decode(alloc, hex).ok().ok_or("no hexadecimal")?;
     Ok(Bytes::copy_from_slice(alloc, bytes.as_slice())?)
 }
@@ -99,8 +99,8 @@ fn act(alloc: Global, act: &Act) -> Result<String, Fail> {
     }
 }
 
-// Acts one after another.
-fn acts(alloc: Global, acts: &[Act]) -> Result<String, Fail> {
+/// Acts one after another.
+pub(crate) fn acts(alloc: Global, acts: &[Act]) -> Result<String, Fail> {
     let mut text = String::new(alloc);
     for done in acts {
         if !text.is_empty() {

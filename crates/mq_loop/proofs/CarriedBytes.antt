@@ -118,12 +118,12 @@ pub tick_served : (base h g : HubState) (lines : List (Option Line)) (now : ℕ)
 tick_served base h g lines now reply s step = served_step base h g lines lines (Tick now) reply s step (λ p a c. c)
 
 pub open_served : (base h g : HubState) (lines : List (Option Line)) (q : ℕ) (line : Line) (reply : HubReply) → IsServed (served_state base h lines)
-    → HubStep h (Opened (name_at q)) reply g → q < length lines → IfSome line.came (λ bytes. bytes ≡ []) → IfSome line.went (λ bytes. bytes ≡ []) → line.kept ≡ []
+    → HubStep h (Opened (name_at q)) reply g → q < length lines → IfSome line.came (λ bytes. bytes ≡ []) → IfSome line.went (λ bytes. bytes ≡ []) → line.unread ≡ [] → line.kept ≡ []
     → IsServed (served_state base g (set lines q (Some line)))
-open_served base h g lines q line reply s step within came went kept =
+open_served base h g lines q line reply s step within came went unread kept =
     let carried : Carries opened line = record {
       is_open = refl;
-      came = λ whole. came;
+      came = λ whole. known_so line.came (λ bytes. bytes ≡ []) (λ bytes. bytes ≡ [] ++ line.unread) (λ bytes e. e ∙ sym unread) came;
       went = known_so line.went (λ bytes. bytes ≡ []) (λ bytes. bytes ++ line.kept ≡ []) (λ bytes is. ap₂ (λ (a b : List ℕ). a ++ b) is kept) went;
     } in
     served_step base h g lines (set lines q (Some line)) (Opened (name_at q)) reply s step
@@ -135,23 +135,61 @@ end_served base h g lines q reply s step within =
     served_step base h g lines (set lines q None) (Ended (name_at q)) reply s step
     (at_place q lines None (Ended (name_at q)) reply (λ a. unopened) (λ p a. refl) within (λ a c. refl))
 
-pub read_served : (base h g : HubState) (lines : List (Option Line)) (q : ℕ) (old new : Line) (piece : List ℕ) (reply : HubReply) → IsServed (served_state base h lines)
-    → HubStep h (Bytes (name_at q) piece) reply g → q < length lines → line_at q lines ≡ Some old → new ≡ record old { came = append_known old.came piece }
-    → IsServed (served_state base g (set lines q (Some new)))
-read_served base h g lines q old new piece reply s step within is so =
-    served_step base h g lines (set lines q (Some new)) (Bytes (name_at q) piece) reply s step
-    (at_place q lines (Some new) (Bytes (name_at q) piece) reply (λ a. record a { took = a.took ++ piece }) (λ p a. refl) within own)
+pub read_served : (base h g : HubState) (lines : List (Option Line)) (q : ℕ) (old new : Line) (piece front rest : List ℕ) (reply : HubReply)
+    → IsServed (served_state base h lines) → HubStep h (Bytes (name_at q) front) reply g → q < length lines → line_at q lines ≡ Some old → old.unread ≡ []
+    → piece ≡ front ++ rest → new ≡ record old { came = append_known old.came piece; unread = rest } → IsServed (served_state base g (set lines q (Some new)))
+read_served base h g lines q old new piece front rest reply s step within is empty parts so =
+    served_step base h g lines (set lines q (Some new)) (Bytes (name_at q) front) reply s step
+    (at_place q lines (Some new) (Bytes (name_at q) front) reply (λ a. record a { took = a.took ++ front }) (λ p a. refl) within own)
   where
-    read : (a : Account) → Carries a old → Carries (record a { took = a.took ++ piece }) (record old { came = append_known old.came piece })
+    more : (a : Account) (bytes : List ℕ) → bytes ≡ a.took ++ old.unread → bytes ++ piece ≡ (a.took ++ front) ++ rest
+    more a bytes e =
+        let all : bytes ≡ a.took = e ∙ (ap (λ (b : List ℕ). a.took ++ b) empty ∙ append-nil a.took) in
+        ap₂ (λ (b c : List ℕ). b ++ c) all parts ∙ sym (append_assoc a.took front rest)
+
+    read : (a : Account) → Carries a old → Carries (record a { took = a.took ++ front }) (record old { came = append_known old.came piece; unread = rest })
     read a c = record {
       is_open = c.is_open;
       came = λ whole.
-          known_more old.came piece (λ bytes. bytes ≡ a.took) (λ bytes. bytes ≡ a.took ++ piece) (λ bytes e. ap (λ (b : List ℕ). b ++ piece) e) (c.came whole);
+          known_more old.came piece (λ bytes. bytes ≡ a.took ++ old.unread) (λ bytes. bytes ≡ (a.took ++ front) ++ rest) (more a) (c.came whole);
       went = c.went;
     }
 
-    own : (a : Account) → CarriesAt a (line_at q lines) → CarriesAt (record a { took = a.took ++ piece }) (Some new)
-    own a c = subst (λ (l : Line). Carries (record a { took = a.took ++ piece }) l) (sym so) (read a (subst (λ (l : Option Line). CarriesAt a l) is c))
+    own : (a : Account) → CarriesAt a (line_at q lines) → CarriesAt (record a { took = a.took ++ front }) (Some new)
+    own a c = subst (λ (l : Line). Carries (record a { took = a.took ++ front }) l) (sym so) (read a (subst (λ (l : Option Line). CarriesAt a l) is c))
+
+pub unread_served : (base h g : HubState) (lines : List (Option Line)) (q : ℕ) (old new : Line) (front rest : List ℕ) (reply : HubReply)
+    → IsServed (served_state base h lines) → HubStep h (Bytes (name_at q) front) reply g → q < length lines → line_at q lines ≡ Some old
+    → old.unread ≡ front ++ rest → new ≡ record old { unread = rest } → IsServed (served_state base g (set lines q (Some new)))
+unread_served base h g lines q old new front rest reply s step within is parts so =
+    served_step base h g lines (set lines q (Some new)) (Bytes (name_at q) front) reply s step
+    (at_place q lines (Some new) (Bytes (name_at q) front) reply (λ a. record a { took = a.took ++ front }) (λ p a. refl) within own)
+  where
+    more : (a : Account) (bytes : List ℕ) → bytes ≡ a.took ++ old.unread → bytes ≡ (a.took ++ front) ++ rest
+    more a bytes e = e ∙ (ap (λ (b : List ℕ). a.took ++ b) parts ∙ sym (append_assoc a.took front rest))
+
+    read : (a : Account) → Carries a old → Carries (record a { took = a.took ++ front }) (record old { unread = rest })
+    read a c = record {
+      is_open = c.is_open;
+      came = λ whole. known_so old.came (λ bytes. bytes ≡ a.took ++ old.unread) (λ bytes. bytes ≡ (a.took ++ front) ++ rest) (more a) (c.came whole);
+      went = c.went;
+    }
+
+    own : (a : Account) → CarriesAt a (line_at q lines) → CarriesAt (record a { took = a.took ++ front }) (Some new)
+    own a c = subst (λ (l : Line). Carries (record a { took = a.took ++ front }) l) (sym so) (read a (subst (λ (l : Option Line). CarriesAt a l) is c))
+
+pub lost_step_served : (base h g : HubState) (lines : List (Option Line)) (q : ℕ) (old new : Line) (front : List ℕ) (came : Option (List ℕ)) (reply : HubReply)
+    → IsServed (served_state base h lines) → HubStep h (Bytes (name_at q) front) reply g → q < length lines → line_at q lines ≡ Some old
+    → new ≡ record old { came = came; broken = true } → IsServed (served_state base g (set lines q (Some new)))
+lost_step_served base h g lines q old new front came reply s step within is so =
+    served_step base h g lines (set lines q (Some new)) (Bytes (name_at q) front) reply s step
+    (at_place q lines (Some new) (Bytes (name_at q) front) reply (λ a. record a { took = a.took ++ front }) (λ p a. refl) within own)
+  where
+    lost : (a : Account) → Carries a old → Carries (record a { took = a.took ++ front }) (record old { came = came; broken = true })
+    lost a c = record { is_open = c.is_open; came = λ whole. absurd (true≢false whole); went = c.went }
+
+    own : (a : Account) → CarriesAt a (line_at q lines) → CarriesAt (record a { took = a.took ++ front }) (Some new)
+    own a c = subst (λ (l : Line). Carries (record a { took = a.took ++ front }) l) (sym so) (lost a (subst (λ (l : Option Line). CarriesAt a l) is c))
 
 pub lost_served : (base h : HubState) (lines : List (Option Line)) (q : ℕ) (old new : Line) (came : Option (List ℕ)) → IsServed (served_state base h lines)
     → q < length lines → line_at q lines ≡ Some old → new ≡ record old { came = came; broken = true } → IsServed (served_state base h (set lines q (Some new)))

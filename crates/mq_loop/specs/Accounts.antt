@@ -41,20 +41,21 @@ abbrev pub account_of : Conn → List Episode → Account
 account_of conn made = account_from conn made unopened
 
 -- A connection, for contracts: the bytes read from its socket and those that the socket took, if
--- they are known; the output that is kept for it; and whether bytes were read that no step took,
--- because an allocation failed.
+-- they are known; the bytes that were read and wait for a step; the output that is kept for it; and
+-- whether bytes that were read are lost, because an allocation failed.
 pub record Line : Type 0 where
   pub came : Option (List ℕ)
   pub went : Option (List ℕ)
+  pub unread : List ℕ
   pub kept : List ℕ
   pub broken : Bool
 
 -- A connection carries the bytes of its account, in order: those that were read are those that its
--- steps took, unless some were lost; those that its socket took, followed by those that are kept,
--- are those that its `Collect`s returned.
+-- steps took, followed by those that wait for a step, unless some are lost; those that its socket
+-- took, followed by those that are kept, are those that its `Collect`s returned.
 pub record Carries (account : Account) (line : Line) : Type 0 where
   pub is_open : account.is_open ≡ true
-  pub came : line.broken ≡ false → IfSome line.came (λ bytes. bytes ≡ account.took)
+  pub came : line.broken ≡ false → IfSome line.came (λ bytes. bytes ≡ account.took ++ line.unread)
   pub went : IfSome line.went (λ bytes. bytes ++ line.kept ≡ account.collected)
 
 -- a place has a connection that carries its bytes, or none that is open

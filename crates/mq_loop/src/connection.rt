@@ -1,12 +1,13 @@
 //! One connection: its socket, and the output that the socket has not taken.
 
-ghost use Rattle.std.specs.Prelude.{◌≡◌, [], true, false, length};
+ghost use Rattle.std.specs.Prelude.{◌≡◌, ◌≤◌, ◌⊎◌, [], true, false, drop, length};
 ghost use Rattle.mq_loop.specs.declared.connection.Flushed.TheVariants.{All};
 ghost use Rattle.mq_loop.specs.Sockets.{ComesIn, Sends};
 
 use crate::socket::{Socket, WriteOutcome};
 use bytes::Bytes;
 use mq_stream::ReadOutcome;
+use std::alloc::Global;
 use std::marker::Model;
 
 /// How far kept output was written.
@@ -20,10 +21,12 @@ pub enum Flushed {
     Failed,
 }
 
-/// A connection: its socket, and the collected output that the socket has not taken.
+/// A connection: its socket, bytes that were read and wait for a step, and collected output that
+/// the socket has not taken.
 #[derive(Drop)]
 pub struct Connection<S: Socket> {
     socket: S,
+    unread: Bytes,
     kept: Bytes,
     is_broken: bool,
 }
@@ -36,6 +39,7 @@ impl<S: Socket> Model for Connection<S> {
     ghost view = { λ c. record {
       came = S.came c.socket;
       went = S.went c.socket;
+      unread = c.unread;
       kept = c.kept;
       broken = c.is_broken;
     } };
@@ -47,12 +51,14 @@ impl<S: Socket> Connection<S> {
         ensures { result ≡ record {
           came = S.came socket;
           went = S.went socket;
+          unread = [];
           kept = [];
           broken = false;
         } }
     {
         Connection {
             socket,
+            unread: Bytes::new(),
             kept: Bytes::new(),
             is_broken: false,
         }
@@ -92,6 +98,32 @@ impl<S: Socket> Connection<S> {
         ensures { self.new ≡ record self.old { broken = true } }
     {
         self.is_broken = true;
+    }
+
+    /// The bytes that were read and wait for a step.
+    pub fn unread(&self) -> &[u8]
+        ensures { result.now ≡ self.now.unread }
+    {
+        self.unread.as_slice()
+    }
+
+    /// Drops the first bytes of those that wait for a step.
+    pub fn skip_unread(&mut self, count: usize)
+        requires { count ≤ length self.old.unread }
+        ensures { self.new ≡ record self.old { unread = drop count self.old.unread } }
+    {
+        self.unread.advance(count);
+    }
+
+    /// Stores bytes that wait for a step. If an allocation fails, marks that they are lost.
+    pub fn keep_unread(&mut self, alloc: Global, bytes: &[u8])
+        ensures { (self.new ≡ record self.old { unread = bytes.now })
+            ⊎ (self.new ≡ record self.old { broken = true }) }
+    {
+        match Bytes::copy_from_slice(alloc, bytes) {
+            Ok(bytes) => self.unread = bytes,
+            Err(_) => self.is_broken = true,
+        }
     }
 
     /// Keeps collected output. Nothing must be kept before.

@@ -12,7 +12,6 @@
 mod connection;
 mod event_loop;
 mod observer;
-mod read_size;
 mod report;
 mod seat;
 mod served;

@@ -1,6 +1,5 @@
 //! The notes of the loop about a connection.
 
-use crate::read_size::ReadSize;
 use mq_topic::ClientKey;
 
 /// The notes of the loop about the connection at a place.
@@ -16,7 +15,6 @@ pub(crate) struct Seat {
     pub(crate) client: Option<ClientKey>,
     /// The number of bytes that were placed for the client since its output was last collected.
     pub(crate) owed: usize,
-    pub(crate) read_size: ReadSize,
     /// The connection is in the list of those that may have bytes to read.
     pub(crate) is_ready: bool,
     /// It is in the list of those that may have output at the broker.
@@ -38,7 +36,6 @@ impl Seat {
             empty_at: age,
             client: None,
             owed: 0,
-            read_size: ReadSize::new(),
             is_ready: false,
             is_marked: false,
             is_over: false,

@@ -1,13 +1,12 @@
 //! A broker and the connections that it serves.
 
-ghost use Rattle.std.specs.Prelude.{◌≡◌, ◌<◌, ◌∷◌, [], ◌++◌, None, Some, IfErr, IfNone, IfOk, IfSome, OnErr, OnOk, length, slice_set};
+ghost use Rattle.std.specs.Prelude.{◌≡◌, ◌≤◌, ◌<◌, ◌∷◌, [], ◌++◌, None, Some, IfErr, IfNone, IfOk, IfSome, OnErr, OnOk, length, slice_set, take};
 ghost use Rattle.mq_route.specs.declared.event.HubEvent.TheVariants.{Bytes as BytesSeen, Collect, Ended, Opened, Tick};
 ghost use Rattle.mq_route.specs.Step.{HubStep};
 ghost use Rattle.mq_loop.specs.Accounts.{IsServed, line_at, name_at};
 
 use crate::connection::{Connection, Flushed};
 use crate::socket::Socket;
-use bytes::Bytes;
 use mq_hub::Hub;
 use mq_route::{Conn, HubEvent, HubRefusal, HubReply};
 use mq_stream::ReadOutcome;
@@ -15,10 +14,14 @@ use std::alloc::{AllocError, Global};
 use std::marker::Model;
 use std::snapshot::Snapshot;
 
+/// The number of acts after which a step takes no further packet.
+const MOST_ACTS: usize = 8_192;
+
 /// The outcome of a read from a connection.
 #[derive(Debug, Drop)]
 pub enum Heard {
-    /// This number of bytes was read, and the broker made a step with them.
+    /// The broker made a step. This number of bytes was read for it; 0 if it took bytes that were
+    /// read before.
     Step(usize, HubReply),
     /// No byte was read.
     Nothing,
@@ -64,17 +67,15 @@ fn name_at(place: u32) -> Conn
     }
 }
 
-// Makes the step of bytes that were read on a connection. On `None` an allocation failed, and no
-// step was made.
-fn take_in(alloc: Global, hub: &mut Hub, place: u32, bytes: &[u8]) -> Option<HubReply>
-    ensures step { IfSome result (λ reply. HubStep hub.old (BytesSeen (name_at place) bytes.now) reply hub.new) }
+// Makes the step of the front of these bytes, which must not be empty. Returns the reply and the
+// number of bytes that the step took. On `None` an allocation failed, and no step was made.
+fn take_some(hub: &mut Hub, place: u32, bytes: &[u8]) -> Option<(HubReply, usize)>
+    ensures step { IfSome result (λ r. HubStep hub.old (BytesSeen (name_at place) (take r.1 bytes.now)) r.0 hub.new) }
+    ensures within { IfSome result (λ r. r.1 ≤ length bytes.now) }
     ensures none { IfNone result (hub.new ≡ hub.old) }
 {
-    let Ok(piece) = Bytes::copy_from_slice(alloc, bytes) else {
-        return None;
-    };
-    match hub.step(&HubEvent::Bytes(name_at(place), piece)) {
-        Ok(reply) => Some(reply),
+    match hub.step_some(name_at(place), bytes, MOST_ACTS) {
+        Ok((reply, count)) => Some((reply, count)),
         Err(_) => None,
     }
 }
@@ -131,7 +132,7 @@ impl<S: Socket + Drop> Served<S> {
         requires went { IfSome (S.went socket) (λ bytes. bytes ≡ []) }
         ensures step { IfOk result (λ reply. HubStep self.old.hub (Opened (name_at place)) reply self.new.hub) }
         ensures line { OnOk result (self.new.lines ≡ slice_set self.old.lines place
-            (Some record { came = S.came socket; went = S.went socket; kept = []; broken = false })) }
+            (Some record { came = S.came socket; went = S.went socket; unread = []; kept = []; broken = false })) }
         ensures err { OnErr result (self.new ≡ self.old) }
     {
         let at = place as usize;
@@ -153,9 +154,9 @@ impl<S: Socket + Drop> Served<S> {
         self.hub.step(&HubEvent::Tick(now))
     }
 
-    /// Reads from a connection into `buffer`, which must not be empty, and makes the broker's step
-    /// with the bytes that came.
-    #[tactic(auto, using(crate::proofs::CarriedBytes::read_served, crate::proofs::CarriedBytes::lost_served, crate::proofs::CarriedBytes::same_served))]
+    /// Makes the broker's step with bytes of a connection: with those that wait for a step, or else
+    /// with bytes that are read into `buffer`, which must not be empty.
+    #[tactic(auto, using(crate::proofs::CarriedBytes::read_served, crate::proofs::CarriedBytes::lost_step_served, crate::proofs::CarriedBytes::lost_served, crate::proofs::CarriedBytes::same_served, crate::proofs::CarriedBytes::unread_served))]
     pub fn read(&mut self, place: u32, buffer: &mut [u8]) -> Heard {
         let at = place as usize;
         if at >= self.connections.len() {
@@ -164,17 +165,46 @@ impl<S: Socket + Drop> Served<S> {
         let Some(connection) = &mut self.connections[at] else {
             return Heard::Nothing;
         };
+        if connection.is_broken() {
+            return Heard::Over;
+        }
+        if !connection.unread().is_empty() {
+            return match take_some(&mut self.hub, place, connection.unread()) {
+                Some((reply, used)) => {
+                    connection.skip_unread(used);
+                    Heard::Step(0, reply)
+                }
+                None => Heard::Over,
+            };
+        }
         let count = match connection.read(buffer) {
             ReadOutcome::Bytes(count) => count,
             ReadOutcome::Nothing => return Heard::Nothing,
             ReadOutcome::End | ReadOutcome::Failed => return Heard::Over,
         };
-        match take_in(self.alloc, &mut self.hub, place, &buffer[..count]) {
-            Some(reply) => Heard::Step(count, reply),
+        match take_some(&mut self.hub, place, &buffer[..count]) {
+            Some((reply, used)) => {
+                if used < count {
+                    connection.keep_unread(self.alloc, &buffer[used..count]);
+                }
+                Heard::Step(count, reply)
+            }
             None => {
                 connection.mark_broken();
                 Heard::Over
             }
+        }
+    }
+
+    /// Whether bytes of a connection wait for a step, or were lost.
+    pub fn has_unread(&self, place: u32) -> bool {
+        let at = place as usize;
+        if at >= self.connections.len() {
+            return false;
+        }
+        match &self.connections[at] {
+            Some(connection) => connection.is_broken() || !connection.unread().is_empty(),
+            None => false,
         }
     }
 

@@ -157,13 +157,13 @@ fn a_socket_that_fails_in_a_write_ends_alone(rt: HostRuntime) -> Result<(), Fail
     Ok(())
 }
 
-// Whether each of these clients gets a message.
-fn serves_many(alloc: Global, count: u16) -> Result<bool, Fail> {
+// Whether each of these clients gets all messages of one piece, for which one step is not enough.
+fn serves_many(alloc: Global, count: u16, messages: u32) -> Result<bool, Fail> {
     let mut list = Vec::new(alloc);
     for client in 0..count {
         list.push(subscriber(alloc, client, b't')?)?;
     }
-    list.push(publisher(alloc, 10, 1)?)?;
+    list.push(publisher(alloc, 10, messages)?)?;
     let pipes = RefCell::new(list);
     let mut connections = new_loop(alloc, 1_000_000)?;
     let places = u32::from(count);
@@ -172,8 +172,8 @@ fn serves_many(alloc: Global, count: u16) -> Result<bool, Fail> {
     }
     run(alloc, &mut connections, places, 2)?;
     let _ = open(&mut connections, &pipes, usize::from(count))?;
-    run(alloc, &mut connections, places + 1, 3)?;
-    let bytes = expected(alloc, 10, 1)?;
+    run(alloc, &mut connections, places + 1, 8)?;
+    let bytes = expected(alloc, 10, messages)?;
     for number in 0..usize::from(count) {
         if !took(&pipes, number, bytes.as_slice()) {
             return Ok(false);
@@ -184,7 +184,7 @@ fn serves_many(alloc: Global, count: u16) -> Result<bool, Fail> {
 
 #[test]
 fn a_thousand_connections_are_served(rt: HostRuntime) -> Result<(), Fail> {
-    let is_fine = serves_many(rt.alloc(), 999)?;
+    let is_fine = serves_many(rt.alloc(), 999, 12)?;
     assert!(rt; is_fine);
     Ok(())
 }

@@ -24,7 +24,7 @@ use Rattle.mq_route.specs.Hub.{HubState, HubSession, HubConnection, no_end, new_
 use Rattle.mq_route.specs.Work.{Work, said, with_connections, with_sessions, staged, shut, put_on, put_where, does, have_room, remove, remove_if, will_after}
 use Rattle.mq_route.specs.Arrives.{new_session, touched_on}
 use Rattle.mq_route.specs.Dropped.{when_over}
-use Rattle.mq_route.proofs.Lines.{Mild, Names, Ups, upper, names_changed, ups_changed, upper_map, grown, same_conn-itself}
+use Rattle.mq_route.proofs.Lines.{Mild, Names, Ups, upper, names_changed, ups_changed, upper_map, up_map, grown, same_conn-itself}
 use Rattle.mq_route.proofs.Uppers.{Apart, IsIdle, apart_map, unless, upper_closed, apart_closed, upper_at, unless_other, upper_risen, apart_risen}
 use Rattle.mq_route.proofs.Sessions.{has, has_with, has_without, has_new, each_there, each_with, each_without, each_new}
 use Rattle.mq_route.proofs.Ends.{Alike, GoesOn, takings}
@@ -64,16 +64,30 @@ closing k why key terms w = when_over k why key terms w
 abbrev pub rising : Conn → ℕ → ConnectionTerms → ℕ → (End → Reply) → Bool → Work → Work
 rising k key terms last_activity move present w = said (acts.Up k key present) (does key move (staged k (ConnectedAs key terms last_activity) w))
 
--- The changes when copies are placed and subscriptions change.
-pub record Inner (R : Debt → Work → Type 0) : Type 0 where
-  pub put : (k : Conn) (ps : List Packet) (o : Debt) (w : Work) → R o w → R o (put_on k ps w)
+-- no restriction on the connections of packets
+abbrev pub Everywhere : Conn → Type 0
+Everywhere k = Unit {0}
+
+-- The changes when copies are placed and subscriptions change. `IsOwn` restricts the connections on
+-- which packets are sent that are no copies.
+pub record Inner (IsOwn : Conn → Type 0) (R : Debt → Work → Type 0) : Type 0 where
+  pub put : (k : Conn) (ps : List Packet) (o : Debt) (w : Work) → IsOwn k → R o w → R o (put_on k ps w)
   pub moves : (key : ℕ) (e : End) (o : Debt) (w : Work) → Alike e (end_of key w.hub.sessions) → R o w → R o (with_sessions (with_end key e) w)
   pub took : (key : ℕ) (m : Message) (t : List (ℕ × Message)) (n : List (ℕ × Packet)) (w : Work) → R (owes [] ((key, m) ∷ t) n) w → R (owes (copies_of m w.hub) t n) (retaining (acts.Took key m) m w)
   pub willed : (key : ℕ) (m : Message) (w : Work) → R nothing w → R (owes (copies_of m w.hub) [] []) (retaining (acts.Will key m) m w)
-  pub placed : (key : ℕ) (m : Message) (c t : List (ℕ × Message)) (n : List (ℕ × Packet)) (w : Work) → R (owes ((key, m) ∷ c) t n) w → R (owes c t n) (said (acts.Placed key m) w)
+  pub placed : (key : ℕ) (m : Message) (ps : List Packet) (c t : List (ℕ × Message)) (n : List (ℕ × Packet)) (w : Work)
+      → R (owes ((key, m) ∷ c) t n) w → R (owes c t n) (said (acts.Placed key m) (put_where (up_on key w.hub.connections) ps w))
   pub subscribed : (key : ℕ) (f : List ℕ) (q : Qos) (c t : List (ℕ × Message)) (n : List (ℕ × Packet)) (w : Work)
       → R (owes c t n) w → R (owes (c ++ for_key key (retained_for f q w.hub.retained)) t n) (subscribing key f q w)
   pub unsubscribed : (key : ℕ) (f : List ℕ) (o : Debt) (w : Work) → R o w → R o (unsubscribing key f w)
+
+-- sent packets keep a property
+abbrev pub Sends : (Debt → Work → Type 0) → Type 0
+Sends R = (k : Conn) (ps : List Packet) (o : Debt) (w : Work) → R o w → R o (put_on k ps w)
+
+pub sent_where : (R : Debt → Work → Type 0) → Sends R → (to : Option Conn) (ps : List Packet) (o : Debt) (w : Work) → R o w → R o (put_where to ps w)
+sent_where R put None ps o w h = h
+sent_where R put (Some k) ps o w h = put k ps o w h
 
 -- ---- invariants of sessions and connections
 
@@ -98,7 +112,7 @@ IsShort m fits w = (fits && have_room (copies_of (will_message m) w.hub) w.hub) 
 
 -- The changes when packets arrive and connections open and close. `May` restricts the reasons for a
 -- close, and `Near` the works at which it happens.
-pub record Outer (R : Debt → Work → Type 0) (May : HubClose → Type 0) (Near : Bool → Work → Type 0) : Type 0 where
+pub record Outer (IsOwn : Conn → Type 0) (R : Debt → Work → Type 0) (May : HubClose → Type 0) (Near : Bool → Work → Type 0) : Type 0 where
   pub mild : (f : HubConnection → HubConnection) (k : Conn) (o : Debt) (w : Work) → Mild f → R o w → R o (with_connections (with_connection f k) w)
   pub gets : (key : ℕ) (p : Packet) (w : Work) → Sound w.hub → has key w.hub.sessions ≡ true → (end_of key w.hub.sessions).state ≡ Connected → GoesOn key p (end_of key w.hub.sessions) (server_gets p (end_of key w.hub.sessions))
       → R nothing w → R (owes [] (takings key (server_gets p (end_of key w.hub.sessions)).happenings) ((key, p) ∷ [])) (with_sessions (with_end key (server_gets p (end_of key w.hub.sessions)).end) w)
@@ -109,7 +123,7 @@ pub record Outer (R : Debt → Work → Type 0) (May : HubClose → Type 0) (Nea
       → (m : Will) → will_after why terms.will ≡ Some m → IsShort m fits (closing k why key terms w) → R nothing (closing k why key terms w) → R nothing (said (acts.WillDropped key) (closing k why key terms w))
   pub removes : (key : ℕ) (w : Work) → Sound w.hub → upper key w.hub.connections ≡ None → R nothing w → R nothing (remove key w)
   pub begins : (client : List ℕ) (w : Work) → Sound w.hub → R nothing w → R nothing (new_session client w)
-  pub rises : (k : Conn) (key : ℕ) (terms : ConnectionTerms) (last_activity : ℕ) (move : End → Reply) (present : Bool) (w : Work) → Sound w.hub → knows k w.hub.connections ≡ true → stage_of k w.hub.connections ≡ AwaitingConnect
+  pub rises : (k : Conn) (key : ℕ) (terms : ConnectionTerms) (last_activity : ℕ) (move : End → Reply) (present : Bool) (w : Work) → IsOwn k → Sound w.hub → knows k w.hub.connections ≡ true → stage_of k w.hub.connections ≡ AwaitingConnect
       → upper key w.hub.connections ≡ None → has key w.hub.sessions ≡ true → (move (end_of key w.hub.sessions)).end.state ≡ Connected → (move (end_of key w.hub.sessions)).end.clean ≡ terms.clean_session → (move (end_of key w.hub.sessions)).end.received ≡ (end_of key w.hub.sessions).received
       → R nothing w → R nothing (rising k key terms last_activity move present w)
 
@@ -201,14 +215,14 @@ pub sound_put_where : (to : Option Conn) (ps : List Packet) (w : Work) → Sound
 sound_put_where None ps w s = s
 sound_put_where (Some k) ps w s = sound_put k ps w s
 
-pub sound_inner : Inner (λ o w. Sound w.hub)
-sound_inner = record {
-  put = λ k ps o w s. sound_put k ps w s;
+pub sound_inner : (IsOwn : Conn → Type 0) → Inner IsOwn (λ o w. Sound w.hub)
+sound_inner IsOwn = record {
+  put = λ k ps o w own s. sound_put k ps w s;
   moves = λ key e o w alike s. ended_as key e w.hub.connections w.hub.next_key w.hub.sessions
       (λ there. alike_tied (upper key w.hub.connections) (has key w.hub.sessions) e (end_of key w.hub.sessions) alike there (s.tied key)) s;
   took = λ key m t n w s. s;
   willed = λ key m w s. s;
-  placed = λ key m c t n w s. s;
+  placed = λ key m ps c t n w s. sound_put_where (up_on key w.hub.connections) ps w s;
   subscribed = λ key f q c t n w s. s;
   unsubscribed = λ key f o w s. s;
 }
@@ -236,6 +250,17 @@ sound_shuts k w s free = record {
   tied = λ c. subst (λ (o : Option (Conn × Bool)). Tied o (has c w.hub.sessions) (end_of c w.hub.sessions))
       (sym (upper_closed closed_line k names_shut idle_shut w.hub.connections s.apart c ∙ unless_other k c w.hub.connections s.apart (free c))) (s.tied c);
 }
+
+-- sent packets keep the connection of each client
+pub up_put : (c : ℕ) (k : Conn) (ps : List Packet) (w : Work) → up_on c (put_on k ps w).hub.connections ≡ up_on c w.hub.connections
+unfolding put_on
+up_put c k ps w =
+    let f = grown (encodings ps) in
+    up_map (changed f k) (names_changed f k (names_grown (encodings ps))) (ups_changed f k (ups_grown (encodings ps))) c w.hub.connections
+
+pub up_put_where : (c : ℕ) (to : Option Conn) (ps : List Packet) (w : Work) → up_on c (put_where to ps w).hub.connections ≡ up_on c w.hub.connections
+up_put_where c None ps w = refl
+up_put_where c (Some k) ps w = up_put c k ps w
 
 -- a client's connection, after a connection closed
 pub upper_shut : (k : Conn) (c : ℕ) (w : Work) → Apart w.hub.connections → upper c (shut k w).hub.connections ≡ unless k (upper c w.hub.connections)

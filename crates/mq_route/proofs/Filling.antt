@@ -1,10 +1,10 @@
 -- A connection closes for a full session only at a packet that is too much.
-use Rattle.std.proofs.Common.{◌≡◌, ◌⊎◌, inl, inr, ℕ, ◌+◌, ◌<◌, Bool, true, false, ◌&&◌, cond, List, [], ◌∷◌, ◌++◌, map, max, Option, Some, None, refl, sym, ap, ap₂, subst, subst₂, ◌∙◌, true≢false, append_assoc, append-nil, nat_le, ◌-◌, length, arith, le-leb, eqb}
+use Rattle.std.proofs.Common.{◌≡◌, ◌⊎◌, inl, inr, ℕ, ◌+◌, ◌<◌, Bool, true, false, ◌&&◌, cond, List, [], ◌∷◌, ◌++◌, map, max, Option, Some, None, refl, sym, ap, ap₂, subst, subst₂, ◌∙◌, true≢false, append-nil, nat_le, ◌-◌, length, arith, le-leb, eqb}
 use Rattle.std.proofs.lemmas.Bool.{and_from, cond_both, leb-false}
 use Rattle.mq_flow.specs.Sender.{uses}
 use Rattle.std.proofs.lemmas.List.Concat.{flat_map-append}
 use Rattle.std.proofs.lemmas.List.Sums.{sum_by-cons}
-use Rattle.std.specs.List.{list_all, flat_map, count_by}
+use Rattle.std.specs.List.{list_all}
 use Rattle.mq_topic.specs.declared.qos.Qos.{Qos}
 use Rattle.mq_topic.specs.declared.qos.Qos.TheVariants.{Q0, Q1, Q2}
 use Rattle.mq_topic.specs.Rows.{with_row}
@@ -40,15 +40,15 @@ use Rattle.mq_route.specs.declared.connection_state.ConnectionState.TheVariants.
 use Rattle.mq_route.specs.declared.connection_state.ConnectionTerms.{ConnectionTerms}
 use Rattle.mq_route.specs.Copies.{retained_for}
 use Rattle.mq_route.specs.Routed.{Seen, seen, seen_after, routes, routed_from, copies_for}
-use Rattle.mq_route.specs.Hub.{HubState, HubSession, HubConnection, new_hub, stage_of, is_open, key_on, held_on, up_on, end_of, with_end, for_key, copies_of}
+use Rattle.mq_route.specs.Hub.{HubState, HubSession, new_hub, stage_of, is_open, key_on, held_on, up_on, end_of, with_end, for_key}
 use Rattle.mq_route.specs.Work.{Work, begin, said, with_sessions, staged, shut, put_on, put_where, does, needs, have_room, remove, remove_if, retained_copies, will_after, leaves_behind, close}
 use Rattle.mq_route.specs.Arrives.{Growth, due, due_by, new_session, touched, touched_on, answers_all, replies, dispatch_packet, arrives, takes}
 use Rattle.mq_route.specs.Step.{holding, Comes, Arrives, Waits, Breaks, Starves, LetsGo, Does, told}
-use Rattle.mq_route.specs.Runs.{Episode, Follows, acts_of}
+use Rattle.mq_route.specs.Runs.{acts_of}
 use Rattle.mq_route.specs.Laws.{for_client}
 use Rattle.mq_route.specs.Full.{if_full, full_by, full_closes, IsPublishOrSubscribe, asked_by, asked, identifiers_for, IsAmong, IsTooMuch, ComesTooMuch, IsFullEvent, FullLaws}
-use Rattle.mq_route.proofs.Changes.{Anywhere, anywhere, Freely, freely, Debt, nothing, Inner, Outer, Ways, Sound, closing, rising, sound_put, sound_mild}
-use Rattle.mq_route.proofs.Walk.{put_where_keeps, last_will_keeps}
+use Rattle.mq_route.proofs.Changes.{Anywhere, anywhere, Freely, freely, Debt, owes, nothing, Everywhere, Inner, sent_where, Outer, Ways, Sound, closing, rising, sound_put, sound_mild}
+use Rattle.mq_route.proofs.Walk.{last_will_keeps}
 use Rattle.mq_route.proofs.Frames.{closed_shut}
 use Rattle.mq_route.proofs.Steps.{heard_mild, stage_heard, takes_both, breaks_both, close_both, holding_both, ticks_both, ended_both}
 use Rattle.mq_route.proofs.Events.{sound_new}
@@ -79,14 +79,16 @@ module _ (L : List Conn) (X : Type 0) where
   unfolding put_on
   put_few k ps o w r = r
 
-  inner : Inner Few
+  inner : Inner Everywhere Few
   unfolding full_by
   inner = record {
-    put = put_few;
+    put = λ k ps o w own r. put_few k ps o w r;
     moves = λ key e o w alike r. r;
     took = λ key m t n w r. few_more w.did (acts.Took key m) refl r;
     willed = λ key m w r. few_more w.did (acts.Will key m) refl r;
-    placed = λ key m c t n w r. few_more w.did (acts.Placed key m) refl r;
+    placed = λ key m ps c t n w r.
+        let v = put_where (up_on key w.hub.connections) ps w in
+        few_more v.did (acts.Placed key m) refl (sent_where Few put_few (up_on key w.hub.connections) ps (owes ((key, m) ∷ c) t n) w r);
     subscribed = λ key f q c t n w r. few_more w.did (acts.Subscribed key f q) refl r;
     unsubscribed = λ key f o w r. few_more w.did (acts.Unsubscribed key f) refl r;
   }
@@ -119,9 +121,9 @@ module _ (L : List Conn) (X : Type 0) where
       let e = end_of key w.hub.sessions in
       let u = with_sessions (with_end key (move e).end) v in
       let d = put_where (up_on key v.hub.connections) (move e).out u in
-      few_more d.did (acts.Up k key present) refl (put_where_keeps Few inner (up_on key v.hub.connections) (move e).out nothing u r)
+      few_more d.did (acts.Up k key present) refl (sent_where Few put_few (up_on key v.hub.connections) (move e).out nothing u r)
 
-  outer : Outer Few May Anywhere
+  outer : Outer Everywhere Few May Anywhere
   outer = record {
     mild = λ f k o w m r. r;
     gets = λ key p w s there up g r. r;
@@ -132,7 +134,7 @@ module _ (L : List Conn) (X : Type 0) where
     drops = λ k why key terms last_activity fits w near stage m has short r. drops_few key (closing k why key terms w) r;
     removes = λ key w s none r. removes_few key w r;
     begins = λ client w s r. begins_few client w r;
-    rises = λ k key terms last_activity move present w s known free none there up clean received r. rises_few k key terms last_activity move present w r;
+    rises = λ k key terms last_activity move present w own s known free none there up clean received r. rises_few k key terms last_activity move present w r;
   }
 
   ways : Ways May
@@ -347,10 +349,10 @@ module _ (store : StoreLaws) (log : List Act) (config : HubConfig) where
       → (full_closes w2.did ≡ []) ⊎ ((full_closes w2.did ≡ k ∷ []) × ComesTooMuch log config.capacity limits k b w w2 c)
   few_comes limits k b w w2 (Arrives p first rest g v v2 on reads more) s told none =
       let X : Type 0 = IsFull k p (touched_on k v) in
-      let t = takes_both (Few [] X) (May [] X) Anywhere (inner [] X) (outer [] X) (ways [] X) anywhere k p g v tt
+      let t = takes_both (Few [] X) (May [] X) Anywhere (inner [] X) (outer [] X) (ways [] X) anywhere k p g v tt tt
       (λ key up state short. inr (record { key = key; up = up; state = state; short = short })) (s, inl none) in
-      let a = takes_both (routing.Tells store log) Freely Anywhere (routing.inner store log) (routing.outer store log) freely anywhere k p g v tt (λ key up state short. tt) (s, told.0) in
-      let same = takes_both (reading.Same config) Freely Anywhere (reading.same_inner config) (reading.same_outer config) freely anywhere k p g v tt (λ key up state short. tt) (s, told.1) in
+      let a = takes_both (routing.Tells store log) Freely Anywhere (routing.inner store log) (routing.outer store log) freely anywhere k p g v tt tt (λ key up state short. tt) (s, told.0) in
+      let same = takes_both (reading.Same config) Freely Anywhere (reading.same_inner config) (reading.same_outer config) freely anywhere k p g v tt tt (λ key up state short. tt) (s, told.1) in
       go t.1 (λ none. few_comes limits k rest (takes k p g v) v2 more t.0 (a.1, same.1) none)
     where
       now : Work
@@ -372,7 +374,7 @@ module _ (store : StoreLaws) (log : List Act) (config : HubConfig) where
       go (inr x) ih = here x (takes_full k p g v s none x) ih
   few_comes limits k b w w2 (Waits c v on pending) s told none = inl none
   few_comes limits k b w w2 (Breaks c fault fits v on faulty) s told none =
-      inl (only (breaks_both (Few [] ⊥) (May [] ⊥) Anywhere (inner [] ⊥) (outer [] ⊥) (ways [] ⊥) anywhere k fault fits v tt (s, inl none)).1)
+      inl (only (breaks_both (Few [] ⊥) (May [] ⊥) Anywhere (inner [] ⊥) (outer [] ⊥) (ways [] ⊥) anywhere k fault fits v tt tt (s, inl none)).1)
   few_comes limits k b w w2 (Starves c fits v on some) s told none =
       inl (only (close_both (Few [] ⊥) (May [] ⊥) Anywhere (inner [] ⊥) (outer [] ⊥) (ways [] ⊥) anywhere k (Own reasons.Memory) fits v tt (inl (λ k. refl)) (s, inl none)).1)
   few_comes limits k b w w2 (LetsGo c v closed) s told none = inl none

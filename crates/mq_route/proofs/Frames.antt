@@ -1,5 +1,5 @@
 -- Placing copies and closing a connection leave other connections and sessions unchanged.
-use Rattle.std.proofs.Common.{◌≡◌, ℕ, Bool, true, false, cond, List, [], refl, sym, subst, ◌∙◌}
+use Rattle.std.proofs.Common.{◌≡◌, ℕ, Bool, true, false, cond, List, [], ◌∷◌, refl, sym, subst, ◌∙◌}
 use Rattle.mq_packet.specs.Encoding.{encodings}
 use Rattle.mq_end.specs.End.{over}
 use Rattle.mq_route.specs.declared.act.Act.TheVariants as acts
@@ -8,11 +8,11 @@ use Rattle.mq_route.specs.declared.close.HubClose.{HubClose}
 use Rattle.mq_route.specs.declared.connection_state.ConnectionState.{ConnectionState}
 use Rattle.mq_route.specs.declared.connection_state.ConnectionState.TheVariants.{AwaitingConnect, ConnectedAs, Closed}
 use Rattle.mq_route.specs.Routed.{same_conn}
-use Rattle.mq_route.specs.Hub.{HubConnection, changed, with_connection, stage_of, is_clean, end_of, with_end}
+use Rattle.mq_route.specs.Hub.{HubConnection, changed, with_connection, stage_of, is_clean, up_on, end_of, with_end}
 use Rattle.mq_route.specs.Work.{Work, said, with_sessions, put_on, shut, remove, remove_if, will_after, leaves_behind, close}
 use Rattle.mq_route.proofs.Lines.{grown, names_changed, stage_here, stage_there, stage_map, upper, upper_map, ups_changed}
 use Rattle.mq_route.proofs.Sessions.{has, has_with}
-use Rattle.mq_route.proofs.Changes.{Inner, names_grown, ups_grown}
+use Rattle.mq_route.proofs.Changes.{owes, Everywhere, Inner, Sends, sent_where, names_grown, ups_grown}
 use Rattle.mq_route.proofs.Walk.{last_will_keeps}
 
 -- a function of the connections that doesn't depend on pending output
@@ -33,14 +33,17 @@ pub upper_firm : (c : ℕ) → Firm (upper c)
 upper_firm c b k xs = upper_map (changed (grown b) k) (names_changed (grown b) k (names_grown b)) (ups_changed (grown b) k (ups_grown b)) c xs
 
 module _ {A : Type 0} (F : List HubConnection → A) (firm : Firm F) (v : A) where
-  pub lines_inner : Inner (λ o w. F w.hub.connections ≡ v)
+  lines_put : Sends (λ o w. F w.hub.connections ≡ v)
   unfolding put_on
+  lines_put k ps o w h = firm (encodings ps) k w.hub.connections ∙ h
+
+  pub lines_inner : Inner Everywhere (λ o w. F w.hub.connections ≡ v)
   lines_inner = record {
-    put = λ k ps o w h. firm (encodings ps) k w.hub.connections ∙ h;
+    put = λ k ps o w own h. lines_put k ps o w h;
     moves = λ key e o w alike h. h;
     took = λ key m t n w h. h;
     willed = λ key m w h. h;
-    placed = λ key m c t n w h. h;
+    placed = λ key m ps c t n w h. sent_where (λ o w. F w.hub.connections ≡ v) lines_put (up_on key w.hub.connections) ps (owes ((key, m) ∷ c) t n) w h;
     subscribed = λ key f q c t n w h. h;
     unsubscribed = λ key f o w h. h;
   }
@@ -77,14 +80,17 @@ closed_other k n why fits w apart =
 
 -- ---- sessions
 
-pub has_inner : (c : ℕ) (b : Bool) → Inner (λ o w. has c w.hub.sessions ≡ b)
+has_put : (c : ℕ) (b : Bool) → Sends (λ o w. has c w.hub.sessions ≡ b)
 unfolding put_on
+has_put c b k ps o w h = h
+
+pub has_inner : (c : ℕ) (b : Bool) → Inner Everywhere (λ o w. has c w.hub.sessions ≡ b)
 has_inner c b = record {
-  put = λ k ps o w h. h;
+  put = λ k ps o w own h. has_put c b k ps o w h;
   moves = λ key e o w alike h. has_with key e c w.hub.sessions ∙ h;
   took = λ key m t n w h. h;
   willed = λ key m w h. h;
-  placed = λ key m c t n w h. h;
+  placed = λ key m ps d t n w h. sent_where (λ o w. has c w.hub.sessions ≡ b) (has_put c b) (up_on key w.hub.connections) ps (owes ((key, m) ∷ d) t n) w h;
   subscribed = λ key f q c t n w h. h;
   unsubscribed = λ key f o w h. h;
 }

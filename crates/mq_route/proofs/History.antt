@@ -1,5 +1,5 @@
 -- The effect of a list of acts, by the last act that matters.
-use Rattle.std.proofs.Common.{◌≡◌, ◌⊎◌, inl, inr, ℕ, Bool, true, false, not, ◌&&◌, ◌||◌, cond, List, [], ◌∷◌, ◌++◌, fold, map, filter, Option, Some, None, refl, sym, ap, ap₂, subst, ◌∙◌, eqb, eqb-true, eq-eqb, true≢false, append_assoc}
+use Rattle.std.proofs.Common.{◌≡◌, ◌⊎◌, inl, inr, ℕ, Bool, true, false, not, ◌&&◌, ◌||◌, cond, List, [], ◌∷◌, ◌++◌, fold, filter, Option, Some, None, refl, sym, ap, ap₂, subst, ◌∙◌, eqb, eqb-true, eq-eqb, true≢false}
 use Rattle.std.proofs.lemmas.Bool.{cond-true, cond-false, cond_both, and_parts, or_parts, false_from_ne_true}
 use Rattle.std.proofs.lemmas.Slice.Eq.{bytes_eq-Decides}
 use Rattle.std.proofs.lemmas.Map.Text.{is_eq-slice_cmp}
@@ -10,7 +10,7 @@ use Rattle.std.specs.Ordering.{nat_cmp, is_eq, ordering_then}
 use Rattle.std.specs.declared.cmp.Ordering.{Ordering}
 use Rattle.std.specs.declared.cmp.Ordering.TheVariants.{Less, Equal, Greater}
 use Rattle.mq_topic.specs.declared.qos.Qos.{Qos}
-use Rattle.mq_topic.specs.Rows.{row_qos, is_key, with_row, without_row, without_client}
+use Rattle.mq_topic.specs.Rows.{row_qos, is_key}
 use Rattle.mq_topic.specs.StoreLaws.{StoreLaws}
 use Rattle.mq_packet.specs.declared.message.Message.{Message}
 use Rattle.mq_route.specs.declared.act.Act.{Act}
@@ -19,7 +19,6 @@ use Rattle.mq_route.specs.declared.conn.Conn.{Conn}
 use Rattle.mq_route.specs.Copies.{is_hidden_name, is_of, replaced, kept}
 use Rattle.mq_route.specs.Routed.{same_conn, Seen, nothing_seen, unless_on, seen_after, seen}
 use Rattle.mq_route.specs.History.{Since, changes_row, Subscribes, Connects, ends_connection, published, may_retain, is_empty, IsRetained, Retains, is_newer, replaces, is_clearing, clears, IsIn, has_name, AreApart, precedes, IsOlder, HistoryLaws}
-use Rattle.mq_route.proofs.Lines.{one_conn, same_conn-itself}
 use Rattle.mq_route.proofs.Routing.{nat_ties}
 
 -- ---- the last act that matters

@@ -8,6 +8,7 @@ mod Frames
 mod Steps
 mod Events
 mod Output
+mod Reaching
 mod Routing
 mod Taking
 mod Rows

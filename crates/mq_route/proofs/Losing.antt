@@ -1,5 +1,5 @@
 -- Each dropped will has a reason.
-use Rattle.std.proofs.Common.{◌≡◌, ◌⊎◌, inl, inr, ℕ, Bool, true, false, ◌&&◌, ◌||◌, cond, List, [], ◌∷◌, ◌++◌, map, length, nat_le, ◌-◌, max, Option, Some, None, is_some, refl, sym, ap, ap₂, subst, ◌∙◌, append-nil, eqb, eqb-true, true≢false}
+use Rattle.std.proofs.Common.{◌≡◌, ◌⊎◌, inl, inr, ℕ, Bool, true, false, ◌&&◌, ◌||◌, cond, List, [], ◌∷◌, ◌++◌, map, length, nat_le, ◌-◌, max, Some, is_some, refl, sym, ap, ap₂, subst, ◌∙◌, append-nil, eqb, eqb-true, true≢false}
 use Rattle.std.proofs.lemmas.List.Concat.{flat_map-append}
 use Rattle.std.specs.List.{flat_map, list_all}
 use Rattle.mq_topic.specs.Rows.{matched, without_client}
@@ -24,14 +24,13 @@ use Rattle.mq_route.specs.declared.connection_state.ConnectionState.TheVariants.
 use Rattle.mq_route.specs.declared.connection_state.ConnectionTerms.{ConnectionTerms}
 use Rattle.mq_route.specs.Routed.{same_conn}
 use Rattle.mq_route.specs.Copies.{will_message, copy_by, is_hidden_name}
-use Rattle.mq_route.specs.Hub.{HubState, HubConnection, new_hub, is_connection, is_for, changed, with_connection, stage_of, is_open, held_on, up_on, end_of, with_end, without_session, for_key, copies_of}
+use Rattle.mq_route.specs.Hub.{HubState, HubConnection, new_hub, is_connection, is_for, changed, stage_of, is_open, held_on, up_on, end_of, with_end, without_session, for_key, copies_of}
 use Rattle.mq_route.specs.Work.{Work, begin, said, with_sessions, staged, shut, put_on, put_where, does, needs, have_room, remove, remove_if, will_after, close}
 use Rattle.mq_route.specs.Arrives.{new_session, touched, touched_on, takes}
 use Rattle.mq_route.specs.Step.{holding, Comes, Arrives, Waits, Breaks, Starves, LetsGo, Ticks, Done, InTime, Late, Does, told}
 use Rattle.mq_route.specs.Dropped.{dropped_by, dropped, is_in, LosesWill, ComesLosing, TicksLosing, IsLosingEvent, WillLaws}
 use Rattle.mq_route.proofs.Lines.{one_conn, Names, Ups, grown, names_changed, ups_changed, stage_there}
-use Rattle.mq_route.proofs.Changes.{Debt, nothing, Freely, freely, Inner, Outer, Nearby, IsShort, Sound, closing, rising, closed_line, names_grown, ups_grown}
-use Rattle.mq_route.proofs.Walk.{put_where_keeps}
+use Rattle.mq_route.proofs.Changes.{Debt, owes, nothing, Freely, freely, Everywhere, Inner, sent_where, Outer, Nearby, IsShort, Sound, closing, rising, closed_line, names_grown, ups_grown}
 use Rattle.mq_route.proofs.Frames.{stage_firm}
 use Rattle.mq_route.proofs.Steps.{heard_mild, stage_heard, takes_both, breaks_both, close_both, holding_both, ended_both}
 use Rattle.mq_route.proofs.Events.{sound_new}
@@ -194,14 +193,16 @@ module _ (fits : Bool) (w : Work) where
   unfolding put_on
   put_few k ps o v r = r
 
-  inner : Inner Few
+  inner : Inner Everywhere Few
   unfolding dropped_by
   inner = record {
-    put = put_few;
+    put = λ k ps o v own r. put_few k ps o v r;
     moves = λ key e o v alike r. r;
     took = λ key m t n v r. few_more v.did (acts.Took key m) refl r;
     willed = λ key m v r. few_more v.did (acts.Will key m) refl r;
-    placed = λ key m c t n v r. few_more v.did (acts.Placed key m) refl r;
+    placed = λ key m ps c t n v r.
+        let u = put_where (up_on key v.hub.connections) ps v in
+        few_more u.did (acts.Placed key m) refl (sent_where Few put_few (up_on key v.hub.connections) ps (owes ((key, m) ∷ c) t n) v r);
     subscribed = λ key f q c t n v r. few_more v.did (acts.Subscribed key f q) refl r;
     unsubscribed = λ key f o v r. few_more v.did (acts.Unsubscribed key f) refl r;
   }
@@ -237,9 +238,9 @@ module _ (fits : Bool) (w : Work) where
       let e = end_of key v.hub.sessions in
       let x = with_sessions (with_end key (move e).end) u in
       let d = put_where (up_on key u.hub.connections) (move e).out x in
-      few_more d.did (acts.Up k key present) refl (put_where_keeps Few inner (up_on key u.hub.connections) (move e).out nothing x r)
+      few_more d.did (acts.Up k key present) refl (sent_where Few put_few (up_on key u.hub.connections) (move e).out nothing x r)
 
-  outer : Outer Few Freely (IsNear fits w)
+  outer : Outer Everywhere Few Freely (IsNear fits w)
   outer = record {
     mild = λ f k o v m r. r;
     gets = λ key p v s there up g r. r;
@@ -251,14 +252,14 @@ module _ (fits : Bool) (w : Work) where
         drops_few key (closing k why key terms v).did (loses fits w other k why key terms last_activity v near stage m has short) r;
     removes = λ key v s none r. removes_few key v r;
     begins = λ client v s r. begins_few client v r;
-    rises = λ k key terms last_activity move present v s known free none there up clean received r. rises_few k key terms last_activity move present v r;
+    rises = λ k key terms last_activity move present v own s known free none there up clean received r. rises_few k key terms last_activity move present v r;
   }
 
 few_comes : (limits : Bounds) (k : Conn) (b : List ℕ) (w w2 : Work) (comes : Comes limits k b w w2) → Sound w.hub → (c : ℕ) → is_in c (dropped w2.did) ≡ true
     → (is_in c (dropped w.did) ≡ true) ⊎ ComesLosing c limits k b w w2 comes
 few_comes limits k b w w2 (Arrives p first rest g v v2 on reads more) s c i =
     let f = g.will_fits in
-    let t = takes_both (Few f v) Freely (IsNear f v) (inner f v) (outer f v) freely (nearby f v) k p g v (at_itself f v) (λ key up state short. tt) (s, λ c i. inl i) in
+    let t = takes_both (Few f v) Freely (IsNear f v) (inner f v) (outer f v) freely (nearby f v) k p g v tt (at_itself f v) (λ key up state short. tt) (s, λ c i. inl i) in
     go (t.1 c) (few_comes limits k rest (takes k p g v) v2 more t.0 c i)
   where
     go : (is_in c (dropped (takes k p g v).did) ≡ true → (is_in c (dropped v.did) ≡ true) ⊎ LosesWill c g.will_fits v)
@@ -272,7 +273,7 @@ few_comes limits k b w w2 (Arrives p first rest g v v2 on reads more) s c i =
         now (inr x) = inr (inl x)
 few_comes limits k b w w2 (Waits c v on pending) s n i = inl i
 few_comes limits k b w w2 (Breaks c fault fits v on faulty) s n i =
-    (breaks_both (Few fits v) Freely (IsNear fits v) (inner fits v) (outer fits v) freely (nearby fits v) k fault fits v (at_itself fits v) (s, λ c i. inl i)).1 n i
+    (breaks_both (Few fits v) Freely (IsNear fits v) (inner fits v) (outer fits v) freely (nearby fits v) k fault fits v tt (at_itself fits v) (s, λ c i. inl i)).1 n i
 few_comes limits k b w w2 (Starves c fits v on some) s n i =
     (close_both (Few fits v) Freely (IsNear fits v) (inner fits v) (outer fits v) freely (nearby fits v) k (Own reasons.Memory) fits v (at_itself fits v) tt (s, λ c i. inl i)).1 n i
 few_comes limits k b w w2 (LetsGo c v closed) s n i = inl i

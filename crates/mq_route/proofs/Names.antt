@@ -1,16 +1,14 @@
 -- An assigned client identifier is the least that is free.
-use Rattle.std.proofs.Common.{◌≡◌, ◌⊎◌, inl, inr, ℕ, zero, suc, ◌+◌, ◌^◌, ◌<◌, ◌≤◌, Bool, true, false, ◌||◌, cond, List, [], ◌∷◌, ◌++◌, map, length, drop, Option, Some, None, is_some, refl, sym, ap, subst, ◌∙◌, eqb, eqb-true, eq-eqb, true≢false, arith}
+use Rattle.std.proofs.Common.{◌≡◌, ℕ, zero, suc, ◌+◌, ◌^◌, ◌<◌, ◌≤◌, Bool, true, false, ◌||◌, cond, List, [], ◌∷◌, map, length, drop, Option, Some, None, is_some, refl, sym, ap, subst, ◌∙◌, eqb, eqb-true, eq-eqb, true≢false, arith}
 use Rattle.std.proofs.lemmas.Bool.{cond-true, cond-false, false_from_ne_true, eqb-false}
 use Rattle.std.proofs.lemmas.List.{length-map}
 use Rattle.std.proofs.lemmas.Map.Steps.{le-length_from_below}
 use Rattle.std.proofs.lemmas.Slice.Eq.{bytes_eq-Decides}
 use Rattle.std.proofs.lemmas.Fmt.{decimal_injective}
-use Rattle.std.specs.Fmt.{decimal}
 use Rattle.std.specs.List.{list_any}
 use Rattle.std.specs.Str.{bytes_eq}
-use Rattle.mq_packet.specs.declared.connect.Connect.{Connect}
 use Rattle.mq_route.specs.Hub.{HubSession, key_of}
-use Rattle.mq_route.specs.Welcome.{made_up, made_up_from, client_of}
+use Rattle.mq_route.specs.Welcome.{made_up, made_up_from}
 use Rattle.mq_route.specs.Names.{IsLeastFree, NameLaws}
 
 -- the name is in use

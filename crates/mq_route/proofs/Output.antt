@@ -13,18 +13,16 @@ use Rattle.mq_route.specs.declared.reply.HubReply.{HubReply}
 use Rattle.mq_route.specs.declared.connection_state.ConnectionState.TheVariants.{ConnectedAs}
 use Rattle.mq_route.specs.declared.connection_state.ConnectionTerms.{ConnectionTerms}
 use Rattle.mq_route.specs.Routed.{same_conn}
-use Rattle.mq_route.specs.Hub.{HubState, HubConnection, new_hub, is_connection, knows, waiting_on, stage_of, changed, with_connection, without_connection, is_open, held_on, up_on, end_of, with_end}
+use Rattle.mq_route.specs.Hub.{HubState, HubConnection, is_connection, knows, waiting_on, stage_of, changed, with_connection, without_connection, is_open, held_on, up_on, end_of, with_end}
 use Rattle.mq_route.specs.Work.{Work, begin, said, with_sessions, staged, shut, put_on, does, remove, remove_if}
 use Rattle.mq_route.specs.Arrives.{new_session}
 use Rattle.mq_route.specs.Step.{Does, event_refusal, opened, ended, ended_open, collected, told, holding}
 use Rattle.mq_route.specs.Runs.{Episode, Follows, Stays, ends_it, collects, written_by, written, sent_in, on_conn}
-use Rattle.mq_route.specs.Laws.{OutputLaws}
 use Rattle.mq_route.proofs.Lines.{one_conn, Names, Bytes as BytesStay, grown, names_changed, bytes_changed, knows_map, waiting_map, put_here, put_there}
 use Rattle.mq_route.proofs.Uppers.{newcomer, risen}
-use Rattle.mq_route.proofs.Changes.{Anywhere, anywhere, Freely, freely, Debt, nothing, Inner, Outer, Sound, names_grown, closed_line}
-use Rattle.mq_route.proofs.Walk.{put_where_keeps}
+use Rattle.mq_route.proofs.Changes.{Anywhere, anywhere, Freely, freely, Debt, owes, nothing, Everywhere, Inner, sent_where, Outer, Sound, names_grown, closed_line}
 use Rattle.mq_route.proofs.Steps.{comes_both, holding_both, ticks_both, ended_both}
-use Rattle.mq_route.proofs.Events.{sound_new, not_known, sound_opened, sound_collected, sound_without, ended_idle, emptied}
+use Rattle.mq_route.proofs.Events.{not_known, sound_opened, sound_collected, sound_without, ended_idle, emptied}
 
 -- ---- the packets of a connection
 
@@ -75,13 +73,13 @@ module _ (n : Conn) (base : List ℕ) where
           ∙ r.1
           ∙ ap (λ (l : List Packet). base ++ encodings l) (sym (on_conn-append n w.sent (map (λ p. (k, p)) ps) ∙ ap (λ (l : List Packet). on_conn n w.sent ++ l) (on_conn-other k n ps e) ∙ append-nil (on_conn n w.sent)))
 
-  pub inner : Inner Grows
+  pub inner : Inner Everywhere Grows
   inner = record {
-    put = put_grows;
+    put = λ k ps o w own r. put_grows k ps o w r;
     moves = λ key e o w alike r. r;
     took = λ key m t c w r. r;
     willed = λ key m w r. r;
-    placed = λ key m d t c w r. r;
+    placed = λ key m ps d t c w r. sent_where Grows put_grows (up_on key w.hub.connections) ps (owes ((key, m) ∷ d) t c) w r;
     subscribed = λ key f q d t c w r. r;
     unsubscribed = λ key f o w r. r;
   }
@@ -106,13 +104,13 @@ module _ (n : Conn) (base : List ℕ) where
   rises_grows k key terms last_activity move w r =
       let v = staged k (ConnectedAs key terms last_activity) w in
       let e = end_of key w.hub.sessions in
-      put_where_keeps Grows inner (up_on key v.hub.connections) (move e).out nothing (with_sessions (with_end key (move e).end) v)
+      sent_where Grows put_grows (up_on key v.hub.connections) (move e).out nothing (with_sessions (with_end key (move e).end) v)
       (quiet (changed (risen k key terms last_activity) k) w (names_changed (risen k key terms last_activity) k (λ x. refl)) (bytes_changed (risen k key terms last_activity) k (λ x. refl)) nothing r)
 
   pub holds_grows : (k : Conn) (b : List ℕ) (w : Work) → Grows nothing w → Grows nothing (holding k b w)
   holds_grows k b w r = quiet (changed (λ x. record x { held = b }) k) w (names_changed (λ x. record x { held = b }) k (λ x. refl)) (bytes_changed (λ x. record x { held = b }) k (λ x. refl)) nothing r
 
-  pub outer : Outer Grows Freely Anywhere
+  pub outer : Outer Everywhere Grows Freely Anywhere
   outer = record {
     mild = λ f k o w m r. quiet (changed f k) w (names_changed f k (λ x. (m x).0)) (bytes_changed f k (λ x. (m x).1)) o r;
     gets = λ key p w s there up g r. r;
@@ -122,7 +120,7 @@ module _ (n : Conn) (base : List ℕ) where
     drops = λ k why key terms last_activity fits w near stage m has short r. r;
     removes = λ key w s none r. remove_grows key w r;
     begins = λ client w s r. begins_grows client w r;
-    rises = λ k key terms last_activity move present w s known free none there up clean received r. rises_grows k key terms last_activity move w r;
+    rises = λ k key terms last_activity move present w own s known free none there up clean received r. rises_grows k key terms last_activity move w r;
   }
 
 -- the connection's output is taken
@@ -143,18 +141,18 @@ emptied_here n (x ∷ xs) = go (is_connection n x) refl (emptied_here n xs)
 abbrev pub Any : Debt → Work → Type 0
 Any o w = Unit {0}
 
-pub any_inner : Inner Any
+pub any_inner : Inner Everywhere Any
 any_inner = record {
-  put = λ k ps o w r. tt;
+  put = λ k ps o w own r. tt;
   moves = λ key e o w alike r. tt;
   took = λ key m t c w r. tt;
   willed = λ key m w r. tt;
-  placed = λ key m d t c w r. tt;
+  placed = λ key m ps d t c w r. tt;
   subscribed = λ key f q d t c w r. tt;
   unsubscribed = λ key f o w r. tt;
 }
 
-pub any_outer : Outer Any Freely Anywhere
+pub any_outer : Outer Everywhere Any Freely Anywhere
 any_outer = record {
   mild = λ f k o w m r. tt;
   gets = λ key p w s there up g r. tt;
@@ -164,7 +162,7 @@ any_outer = record {
   drops = λ k why key terms last_activity fits w near stage m has short r. tt;
   removes = λ key w s none r. tt;
   begins = λ client w s r. tt;
-  rises = λ k key terms last_activity move present w s known free none there up clean received r. tt;
+  rises = λ k key terms last_activity move present w own s known free none there up clean received r. tt;
 }
 
 -- ---- events
@@ -192,7 +190,7 @@ knows_opened n k (x ∷ xs) h = go (is_connection n x) (knows_opened n k xs) h
     go false ih e = ih e
 
 -- the end of a connection leaves the others unchanged
-kept_line : (n k : Conn) → same_conn k n ≡ false → (xs : List HubConnection) → (knows n (without_connection k xs) ≡ knows n xs) × (waiting_on n (without_connection k xs) ≡ waiting_on n xs)
+pub kept_line : (n k : Conn) → same_conn k n ≡ false → (xs : List HubConnection) → (knows n (without_connection k xs) ≡ knows n xs) × (waiting_on n (without_connection k xs) ≡ waiting_on n xs)
 kept_line n k apart [] = (refl, refl)
 kept_line n k apart (x ∷ xs) = go (is_connection k x) refl (kept_line n k apart xs)
   where
@@ -235,7 +233,7 @@ leaves n h (Opened k) r w right d stays s known =
 leaves n h (Bytes k piece) r w right d stays s known =
     let base = waiting_on n h.connections in
     let start = holding_both (Grows n base) Freely Anywhere (inner n base) (outer n base) freely anywhere k [] (begin h) (λ r. holds_grows n base k [] (begin h) r) (s, begins_at n h known) in
-    let end = comes_both (Grows n base) Freely Anywhere (inner n base) (outer n base) freely anywhere (λ fits w. tt) tt h.config.limits k (holds_grows n base k) (held_on k h.connections ++ piece) (holding k [] (begin h)) w d.0 start in
+    let end = comes_both (Grows n base) Freely Anywhere (inner n base) (outer n base) freely anywhere (λ fits w. tt) tt h.config.limits k tt (holds_grows n base k) (held_on k h.connections ++ piece) (holding k [] (begin h)) w d.0 start in
     grew n h (Bytes k piece) r w refl end.0 end.1
 leaves n h (Ended k) r w right d stays s known =
     let base = waiting_on n h.connections in
@@ -257,7 +255,7 @@ leaves n h (Collect k) r w right d stays s known =
 -- a run keeps the invariants of sessions and connections
 pub sound_event : (h : HubState) (e : HubEvent) (r : HubReply) (w : Work) → event_refusal e h ≡ None → Does h e r w → Sound h → Sound w.hub
 sound_event h (Opened k) r w right d s = subst (λ (w : Work). Sound w.hub) (sym d.0) (sound_opened k h (not_known k h right) s)
-sound_event h (Bytes k piece) r w right d s = (comes_both Any Freely Anywhere any_inner any_outer freely anywhere (λ fits w. tt) tt h.config.limits k (λ b v r. tt) (held_on k h.connections ++ piece) (holding k [] (begin h)) w d.0 (holding_both Any Freely Anywhere any_inner any_outer freely anywhere k [] (begin h) (λ r. tt) (s, tt))).0
+sound_event h (Bytes k piece) r w right d s = (comes_both Any Freely Anywhere any_inner any_outer freely anywhere (λ fits w. tt) tt h.config.limits k tt (λ b v r. tt) (held_on k h.connections ++ piece) (holding k [] (begin h)) w d.0 (holding_both Any Freely Anywhere any_inner any_outer freely anywhere k [] (begin h) (λ r. tt) (s, tt))).0
 sound_event h (Ended k) r w right d s =
     let v = ended_open k (is_open (stage_of k h.connections)) d.0 (begin h) in
     subst (λ (w : Work). Sound w.hub) (sym d.1) (sound_without k v (ended_idle k d.0 (begin h)) (ended_both Any Freely Anywhere any_inner any_outer freely anywhere k (is_open (stage_of k h.connections)) d.0 (begin h) tt (s, tt)).0)
@@ -268,7 +266,7 @@ pub sound_run : (es : List Episode) (h h2 : HubState) → Follows h es h2 → So
 sound_run [] h h2 f s = subst Sound (sym f) s
 sound_run (e ∷ es) h h2 f s = sound_run es e.work.hub h2 f.2 (sound_event h e.event e.reply e.work f.0 f.1 s)
 
-written_is : (n : Conn) (es : List Episode) (h h2 : HubState) → Follows h es h2 → Stays n es → Sound h → knows n h.connections ≡ true → written n es ++ waiting_on n h2.connections ≡ waiting_on n h.connections ++ encodings (on_conn n (sent_in es))
+pub written_is : (n : Conn) (es : List Episode) (h h2 : HubState) → Follows h es h2 → Stays n es → Sound h → knows n h.connections ≡ true → written n es ++ waiting_on n h2.connections ≡ waiting_on n h.connections ++ encodings (on_conn n (sent_in es))
 written_is n [] h h2 f st s known = ap (λ (h : HubState). waiting_on n h.connections) f ∙ sym (append-nil (waiting_on n h.connections))
 written_is n (e ∷ es) h h2 f st s known =
     let l = leaves n h e.event e.reply e.work f.0 f.1 st.0 s known in
@@ -281,8 +279,3 @@ written_is n (e ∷ es) h h2 f st s known =
     ∙ ap (λ (b : List ℕ). b ++ encodings later) l.2
     ∙ append_assoc (waiting_on n h.connections) (encodings first) (encodings later)
     ∙ ap (λ (b : List ℕ). waiting_on n h.connections ++ b) (sym (flat_map-append encoding first later) ∙ ap encodings (sym (on_conn-append n e.work.sent (sent_in es))))
-
-pub laws : OutputLaws
-laws = record {
-  written_is_put_out = λ config before h after h2 f g k stays known. written_is k after h h2 g stays (sound_run before (new_hub config) h f (sound_new config)) known;
-}

@@ -1,5 +1,5 @@
 -- The packets that are read are those that the bytes encode.
-use Rattle.std.proofs.Common.{◌≡◌, ℕ, Bool, true, false, not, cond, ◌&&◌, ◌||◌, List, [], ◌∷◌, ◌++◌, map, max, Option, Some, None, refl, sym, ap, subst, ◌∙◌, true≢false, append_assoc, append-nil}
+use Rattle.std.proofs.Common.{◌≡◌, ℕ, Bool, true, false, not, cond, ◌&&◌, ◌||◌, List, [], ◌∷◌, ◌++◌, max, Option, Some, None, refl, sym, ap, subst, ◌∙◌, true≢false, append_assoc, append-nil}
 use Rattle.std.proofs.lemmas.Bool.{cond-true, cond-false, cond_both}
 use Rattle.mq_packet.specs.declared.packet.Packet.{Packet}
 use Rattle.mq_packet.specs.Encoding.{encodings}
@@ -14,7 +14,6 @@ use Rattle.mq_end.specs.Server.{level_refused}
 use Rattle.mq_end.specs.State.{is_level, server_faulted}
 use Rattle.mq_route.specs.declared.conn.Conn.{Conn}
 use Rattle.mq_route.specs.declared.act.Act.TheVariants as acts
-use Rattle.mq_route.specs.declared.close.HubClose.{HubClose}
 use Rattle.mq_route.specs.declared.close.HubClose.TheVariants.{Own}
 use Rattle.mq_route.specs.declared.config.HubConfig.{HubConfig}
 use Rattle.mq_route.specs.declared.event.HubEvent.{HubEvent}
@@ -25,18 +24,17 @@ use Rattle.mq_route.specs.declared.connection_state.ConnectionState.TheVariants.
 use Rattle.mq_route.specs.declared.connection_state.ConnectionTerms.{ConnectionTerms}
 use Rattle.mq_route.specs.Routed.{same_conn}
 use Rattle.mq_route.specs.Hub.{HubState, HubConnection, new_hub, is_connection, knows, stage_of, held_on, changed, with_connection, without_connection, is_open, up_on, end_on, end_of, with_end}
-use Rattle.mq_route.specs.Work.{Work, begin, said, with_connections, with_sessions, staged, shut, put_on, put_where, does, remove, remove_if, close}
+use Rattle.mq_route.specs.Work.{Work, begin, said, with_connections, with_sessions, staged, shut, put_on, does, remove, remove_if, close}
 use Rattle.mq_route.specs.Arrives.{new_session, takes, broken, closes_by, on_malformed}
-use Rattle.mq_route.specs.Step.{holding, Comes, Arrives, Waits, Breaks, Starves, LetsGo, Does, event_refusal, opened, ended, ended_open, collected, told}
+use Rattle.mq_route.specs.Step.{holding, Comes, Arrives, Waits, Breaks, Starves, LetsGo, Does, event_refusal, ended_open, told}
 use Rattle.mq_route.specs.Runs.{Episode, Follows, Stays, ends_it}
-use Rattle.mq_route.specs.Reading.{reads_in, read_by, read_on, bytes_to, arrived, IsRead, ReadLaws}
-use Rattle.mq_route.proofs.Lines.{one_conn, same_conn-itself, Names, grown, names_changed, stage_here, stage_there, stage_map, helds_changed, opens_changed, held_map, open_map, held_there, held_here, open_known}
+use Rattle.mq_route.specs.Reading.{reads_in, read_by, read_on, bytes_to, arrived, ReadLaws}
+use Rattle.mq_route.proofs.Lines.{one_conn, same_conn-itself, Names, grown, names_changed, stage_here, stage_there, helds_changed, opens_changed, held_map, open_map, held_there, held_here, open_known}
 use Rattle.mq_route.proofs.Uppers.{newcomer, risen}
-use Rattle.mq_route.proofs.Changes.{Anywhere, anywhere, Freely, freely, Debt, nothing, Inner, Outer, Sound, names_grown, closed_line, closing, rising}
-use Rattle.mq_route.proofs.Walk.{put_where_keeps}
+use Rattle.mq_route.proofs.Changes.{Anywhere, anywhere, Freely, freely, Debt, owes, nothing, Everywhere, Inner, Sends, sent_where, Outer, Sound, names_grown, closed_line, rising}
 use Rattle.mq_route.proofs.Frames.{Firm, stage_firm, closed_shut}
 use Rattle.mq_route.proofs.Steps.{comes_both, holding_both, ticks_both, ended_both}
-use Rattle.mq_route.proofs.Events.{sound_new, not_known, emptied}
+use Rattle.mq_route.proofs.Events.{sound_new, emptied}
 use Rattle.mq_route.proofs.Output.{leaves, sound_event, sound_run}
 use Rattle.mq_route.proofs.Logging.{logs_event}
 
@@ -46,14 +44,17 @@ module _ (c : HubConfig) where
   abbrev pub Same : Debt → Work → Type 0
   Same o w = w.hub.config ≡ c
 
-  pub same_inner : Inner Same
+  same_put : Sends Same
   unfolding put_on
+  same_put k ps o w r = r
+
+  pub same_inner : Inner Everywhere Same
   same_inner = record {
-    put = λ k ps o w r. r;
+    put = λ k ps o w own r. same_put k ps o w r;
     moves = λ key e o w alike r. r;
     took = λ key m t n w r. r;
     willed = λ key m w r. r;
-    placed = λ key m d t n w r. r;
+    placed = λ key m ps d t n w r. sent_where Same same_put (up_on key w.hub.connections) ps (owes ((key, m) ∷ d) t n) w r;
     subscribed = λ key f q d t n w r. r;
     unsubscribed = λ key f o w r. r;
   }
@@ -72,9 +73,9 @@ module _ (c : HubConfig) where
   same_risen k key terms last_activity move present w r =
       let v = staged k (ConnectedAs key terms last_activity) w in
       let e = end_of key w.hub.sessions in
-      put_where_keeps Same same_inner (up_on key v.hub.connections) (move e).out nothing (with_sessions (with_end key (move e).end) v) r
+      sent_where Same same_put (up_on key v.hub.connections) (move e).out nothing (with_sessions (with_end key (move e).end) v) r
 
-  pub same_outer : Outer Same Freely Anywhere
+  pub same_outer : Outer Everywhere Same Freely Anywhere
   same_outer = record {
     mild = λ f k o w m r. r;
     gets = λ key p w s there up g r. r;
@@ -84,14 +85,14 @@ module _ (c : HubConfig) where
     drops = λ k why key terms last_activity fits w near stage m has short r. r;
     removes = λ key w s none r. same_removed true key w r;
     begins = λ client w s r. same_begun client w r;
-    rises = λ k key terms last_activity move present w s known fresh none there up clean received r. same_risen k key terms last_activity move present w r;
+    rises = λ k key terms last_activity move present w own s known fresh none there up clean received r. same_risen k key terms last_activity move present w r;
   }
 
 same_event : (h : HubState) (e : HubEvent) (r : HubReply) (w : Work) → Does h e r w → Sound h → w.hub.config ≡ h.config
 same_event h (Opened k) r w d s = ap (λ (w : Work). w.hub.config) d.0
 same_event h (Bytes k piece) r w d s =
     let c = h.config in
-    (comes_both (Same c) Freely Anywhere (same_inner c) (same_outer c) freely anywhere (λ fits w. tt) tt h.config.limits k (λ b v r. r) (held_on k h.connections ++ piece) (holding k [] (begin h)) w d.0
+    (comes_both (Same c) Freely Anywhere (same_inner c) (same_outer c) freely anywhere (λ fits w. tt) tt h.config.limits k tt (λ b v r. r) (held_on k h.connections ++ piece) (holding k [] (begin h)) w d.0
     (holding_both (Same c) Freely Anywhere (same_inner c) (same_outer c) freely anywhere k [] (begin h) (λ r. r) (s, refl))).1
 same_event h (Ended k) r w d s =
     let c = h.config in
@@ -120,13 +121,13 @@ module _ (n : Conn) (A : Type 0) (kept : List ℕ) where
   put_still k ps o w r up =
       let s = r (ap is_open (sym (stage_firm n (encodings ps) k w.hub.connections)) ∙ up) in (s.0, held_firm n (encodings ps) k w.hub.connections ∙ s.1)
 
-  still_inner : Inner Still
+  still_inner : Inner Everywhere Still
   still_inner = record {
-    put = put_still;
+    put = λ k ps o w own r. put_still k ps o w r;
     moves = λ key e o w alike r. r;
     took = λ key m t c w r. r;
     willed = λ key m w r. r;
-    placed = λ key m d t c w r. r;
+    placed = λ key m ps d t c w r. sent_where Still put_still (up_on key w.hub.connections) ps (owes ((key, m) ∷ d) t c) w r;
     subscribed = λ key f q d t c w r. r;
     unsubscribed = λ key f o w r. r;
   }
@@ -170,9 +171,9 @@ module _ (n : Conn) (A : Type 0) (kept : List ℕ) where
   risen_still k key terms last_activity move present w fresh r =
       let v = staged k (ConnectedAs key terms last_activity) w in
       let e = end_of key w.hub.sessions in
-      put_where_keeps Still still_inner (up_on key v.hub.connections) (move e).out nothing (with_sessions (with_end key (move e).end) v) (staged_still k key terms last_activity w fresh r)
+      sent_where Still put_still (up_on key v.hub.connections) (move e).out nothing (with_sessions (with_end key (move e).end) v) (staged_still k key terms last_activity w fresh r)
 
-  still_outer : Outer Still Freely Anywhere
+  still_outer : Outer Everywhere Still Freely Anywhere
   still_outer = record {
     mild = λ f k o w m r up.
         let s = r (sym (open_map (changed f k) (names_changed f k (λ x. (m x).0)) (opens_changed f k (λ x. (m x).5)) n w.hub.connections) ∙ up) in
@@ -184,7 +185,7 @@ module _ (n : Conn) (A : Type 0) (kept : List ℕ) where
     drops = λ k why key terms last_activity fits w near stage m has short r. r;
     removes = λ key w s none r. removed_still true key w r;
     begins = λ client w s r. begun_still client w r;
-    rises = λ k key terms last_activity move present w s known fresh none there up clean received r. risen_still k key terms last_activity move present w fresh r;
+    rises = λ k key terms last_activity move present w own s known fresh none there up clean received r. risen_still k key terms last_activity move present w fresh r;
   }
 
 -- ---- bytes of a connection
@@ -311,7 +312,7 @@ reads_event n h (Bytes k piece) r w right d stays s known = go (same_conn k n) r
         let b = held_on n h.connections in
         let holds : (c : List ℕ) (v : Work) → Still n A b nothing v → Still n A b nothing (holding k c v) = λ c v r. other_still n A b k (λ x. record x { held = c }) (λ x. refl) apart v r in
         let start = holding_both (Still n A b) Freely Anywhere (still_inner n A b) (still_outer n A b) freely anywhere k [] (begin h) (holds [] (begin h)) (s, begins_still n h) in
-        let end = comes_both (Still n A b) Freely Anywhere (still_inner n A b) (still_outer n A b) freely anywhere (λ fits w. tt) tt h.config.limits k holds (held_on k h.connections ++ piece) (holding k [] (begin h)) w d.0 start in
+        let end = comes_both (Still n A b) Freely Anywhere (still_inner n A b) (still_outer n A b) freely anywhere (λ fits w. tt) tt h.config.limits k tt holds (held_on k h.connections ++ piece) (holding k [] (begin h)) w d.0 start in
         subst (λ (t : Bool). ReadsIn n h.config.limits (cond t packets []) (held_on n h.connections ++ cond t piece []) h w.hub) (sym apart) (quiet n h.config.limits h w end.1)
 reads_event n h (Ended k) r w right d stays s known =
     let A : Type 0 = is_open (stage_of n h.connections) ≡ true in

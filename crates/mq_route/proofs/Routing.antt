@@ -35,7 +35,7 @@ use Rattle.mq_route.specs.Runs.{Episode, Follows, acts_of}
 use Rattle.mq_route.specs.Laws.{RoutingLaws, for_client}
 use Rattle.mq_route.proofs.Lines.{grown, upper, conn_in, up_is, up_map, names_changed, ups_changed}
 use Rattle.mq_route.proofs.Uppers.{IsIdle, unless_is, upper_risen, upper_opened, upper_without}
-use Rattle.mq_route.proofs.Changes.{Anywhere, anywhere, Freely, freely, Debt, nothing, Inner, Outer, Sound, closing, rising, names_grown, ups_grown, upper_shut}
+use Rattle.mq_route.proofs.Changes.{Anywhere, anywhere, Freely, freely, Debt, owes, nothing, Everywhere, Inner, sent_where, Outer, Sound, closing, rising, names_grown, ups_grown, upper_shut}
 use Rattle.mq_route.proofs.Steps.{comes_both, holding_both, ticks_both, ended_both}
 use Rattle.mq_route.proofs.Events.{sound_new, ended_idle, emptied, emptied_names, emptied_ups}
 use Rattle.mq_route.proofs.Output.{sound_event}
@@ -243,13 +243,15 @@ module _ (store : StoreLaws) where
     unfolding seen_after routes placed_by
     unsubscribed_tells key f due w a = says (acts.Unsubscribed key f) w (record w.hub { rows = without_row key f w.hub.rows }) due due a (λ c. refl) (λ c. append-nil (for_client c due))
 
-    pub inner : Inner Tells
+    pub inner : Inner Everywhere Tells
     inner = record {
-      put = put_tells;
+      put = λ k ps o w own a. put_tells k ps o w a;
       moves = λ key e o w alike a. a;
       took = λ key m t n w a. took_tells key m w a;
       willed = λ key m w a. willed_tells key m w a;
-      placed = λ key m due t n w a. placed_tells key m due w a;
+      placed = λ key m ps due t n w a.
+          let to = up_on key w.hub.connections in
+          placed_tells key m due (put_where to ps w) (sent_where Tells put_tells to ps (owes ((key, m) ∷ due) t n) w a);
       subscribed = λ key f q due t n w a. subscribed_tells key f q due w a;
       unsubscribed = λ key f o w a. unsubscribed_tells key f o.copies w a;
     }
@@ -316,7 +318,7 @@ module _ (store : StoreLaws) where
         looks (log ++ w.did) w.hub (record w.hub { connections = with_connection f k w.hub.connections }) []
         (lines_as w.hub (with_connection f k w.hub.connections) (λ c. up_map (changed f k) (names_changed f k (λ x. refl)) (ups_changed f k (λ x. (λ c. refl, refl))) c w.hub.connections)) a
 
-    pub outer : Outer Tells Freely Anywhere
+    pub outer : Outer Everywhere Tells Freely Anywhere
     outer = record {
       mild = λ f k o w m a. looks (log ++ w.did) w.hub (record w.hub { connections = with_connection f k w.hub.connections }) o.copies
           (lines_as w.hub (with_connection f k w.hub.connections) (λ c. up_map (changed f k) (names_changed f k (λ x. (m x).0)) (ups_changed f k (λ x. ((m x).2, (m x).3))) c w.hub.connections)) a;
@@ -327,7 +329,7 @@ module _ (store : StoreLaws) where
       drops = λ k why key terms last_activity fits w near stage m has short a. dropped_tells key (closing k why key terms w) a;
       removes = λ key w s none a. removes_tells key w a;
       begins = λ client w s a. begins_tells client w a;
-      rises = λ k key terms last_activity move present w s known fresh none there up clean received a. rises_tells k key terms last_activity move present w s known (subst IsIdle (sym fresh) (λ c. refl)) none a;
+      rises = λ k key terms last_activity move present w own s known fresh none there up clean received a. rises_tells k key terms last_activity move present w s known (subst IsIdle (sym fresh) (λ c. refl)) none a;
     }
 
   -- ---- events
@@ -349,7 +351,7 @@ module _ (store : StoreLaws) where
       (subst (λ (w : Work). Agrees (log ++ w.did) w.hub []) (sym d.0) (looks [] (log ++ []) h (opened k h) [] (lines_as [] h (opened k h).connections same) (starts log h a)))
   tells_event log h (Bytes k piece) r w right d s a =
       let start = holding_both (Tells log) Freely Anywhere (inner log) (outer log) freely anywhere k [] (begin h) (λ t. holds_tells log k [] (begin h) t) (s, starts log h a) in
-      let end = comes_both (Tells log) Freely Anywhere (inner log) (outer log) freely anywhere (λ fits w. tt) tt h.config.limits k (holds_tells log k) (held_on k h.connections ++ piece) (holding k [] (begin h)) w d.0 start in
+      let end = comes_both (Tells log) Freely Anywhere (inner log) (outer log) freely anywhere (λ fits w. tt) tt h.config.limits k tt (holds_tells log k) (held_on k h.connections ++ piece) (holding k [] (begin h)) w d.0 start in
       acted log h r w (acts_in _ _ d.1) end.1
   tells_event log h (Ended k) r w right d s a =
       let v = ended_open k (is_open (stage_of k h.connections)) d.0 (begin h) in

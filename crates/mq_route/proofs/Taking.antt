@@ -27,8 +27,7 @@ use Rattle.mq_route.specs.Laws.{TakingLaws, for_client}
 use Rattle.mq_route.proofs.Uppers.{upper_at}
 use Rattle.mq_route.proofs.Sessions.{has, has_with, has_without, end_without, end_with_other, each_there, each_with, each_new}
 use Rattle.mq_route.proofs.Ends.{GoesOn, takings}
-use Rattle.mq_route.proofs.Changes.{Anywhere, anywhere, Freely, freely, Debt, owes, nothing, Inner, Outer, Sound, is_tied, closing, rising}
-use Rattle.mq_route.proofs.Walk.{put_where_keeps}
+use Rattle.mq_route.proofs.Changes.{Anywhere, anywhere, Freely, freely, Debt, owes, nothing, Everywhere, Inner, sent_where, Outer, Sound, is_tied, closing, rising}
 use Rattle.mq_route.proofs.Steps.{comes_both, holding_both, ticks_both, ended_both}
 use Rattle.mq_route.proofs.Events.{sound_new}
 use Rattle.mq_route.proofs.Output.{sound_event}
@@ -136,14 +135,16 @@ module _ (log : List Act) (before : List (ℕ × Packet)) where
     r.2,
   )
 
-  pub inner : Inner Hands
+  pub inner : Inner Everywhere Hands
   unfolding taken_by
   inner = record {
-    put = put_hands;
+    put = λ k ps o w own r. put_hands k ps o w r;
     moves = λ key e o w alike r. ends_hands key e ((before ++ w.came) ++ o.came) o.taken (log ++ w.did) w.hub alike.2 r;
     took = λ key m t n w r. took_hands key m t ((before ++ w.came) ++ n) w.did w.hub r;
     willed = λ key m w r. idle_act (acts.Will key m) ((before ++ w.came) ++ []) [] w.did w.hub (λ c. refl) r;
-    placed = λ key m d t n w r. idle_act (acts.Placed key m) ((before ++ w.came) ++ n) t w.did w.hub (λ c. refl) r;
+    placed = λ key m ps d t n w r.
+        let v = put_where (up_on key w.hub.connections) ps w in
+        idle_act (acts.Placed key m) ((before ++ v.came) ++ n) t v.did v.hub (λ c. refl) (sent_where Hands put_hands (up_on key w.hub.connections) ps (owes ((key, m) ∷ d) t n) w r);
     subscribed = λ key f q d t n w r. idle_act (acts.Subscribed key f q) ((before ++ w.came) ++ n) t w.did w.hub (λ c. refl) r;
     unsubscribed = λ key f o w r. idle_act (acts.Unsubscribed key f) ((before ++ w.came) ++ o.came) o.taken w.did w.hub (λ c. refl) r;
   }
@@ -261,10 +262,10 @@ module _ (log : List Act) (before : List (ℕ × Packet)) where
       let xs = (before ++ w.came) ++ [] in
       let u = with_sessions (with_end key (move e).end) v in
       let d = put_where (up_on key v.hub.connections) (move e).out u in
-      let q = put_where_keeps Hands inner (up_on key v.hub.connections) (move e).out nothing u (ends_hands key (move e).end xs [] (log ++ w.did) v.hub same r) in
+      let q = sent_where Hands put_hands (up_on key v.hub.connections) (move e).out nothing u (ends_hands key (move e).end xs [] (log ++ w.did) v.hub same r) in
       idle_act (acts.Up k key present) ((before ++ d.came) ++ []) [] d.did d.hub (λ c. refl) q
 
-  pub outer : Outer Hands Freely Anywhere
+  pub outer : Outer Everywhere Hands Freely Anywhere
   outer = record {
     mild = λ f k o w m r. r;
     gets = λ key p w s there up g r. gets_hands key p w s there g r;
@@ -274,7 +275,7 @@ module _ (log : List Act) (before : List (ℕ × Packet)) where
     drops = λ k why key terms last_activity fits w near stage m has short r. drops_hands key (closing k why key terms w) r;
     removes = λ key w s none r. removes_hands key w r;
     begins = begins_hands;
-    rises = λ k key terms last_activity move present w s known free none there up clean received r. rises_hands k key terms last_activity move present w received r;
+    rises = λ k key terms last_activity move present w own s known free none there up clean received r. rises_hands k key terms last_activity move present w received r;
   }
 
 -- ---- events
@@ -300,7 +301,7 @@ hands_event log before h (Opened k) r w right d s a =
 hands_event log before h (Bytes k piece) r w right d s a =
     let R = Hands log before in
     let start = holding_both R Freely Anywhere (inner log before) (outer log before) freely anywhere k [] (begin h) (λ r. r) (s, starts log before h a) in
-    let end = comes_both R Freely Anywhere (inner log before) (outer log before) freely anywhere (λ fits w. tt) tt h.config.limits k (λ b v r. r) (held_on k h.connections ++ piece) (holding k [] (begin h)) w d.0 start in
+    let end = comes_both R Freely Anywhere (inner log before) (outer log before) freely anywhere (λ fits w. tt) tt h.config.limits k tt (λ b v r. r) (held_on k h.connections ++ piece) (holding k [] (begin h)) w d.0 start in
     ends log before r w (acts_in _ _ d.1) end.1
 hands_event log before h (Ended k) r w right d s a =
     let end = ended_both (Hands log before) Freely Anywhere (inner log before) (outer log before) freely anywhere k (is_open (stage_of k h.connections)) d.0 (begin h) tt (s, starts log before h a) in

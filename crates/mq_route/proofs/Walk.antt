@@ -1,5 +1,5 @@
 -- A step keeps the properties that its changes keep.
-use Rattle.std.proofs.Common.{◌≡◌, ℕ, Bool, ◌&&◌, List, [], ◌∷◌, ◌++◌, Option, Some, None, refl, sym, subst, append_assoc, append-nil}
+use Rattle.std.proofs.Common.{◌≡◌, ℕ, Bool, ◌&&◌, List, [], ◌∷◌, ◌++◌, Option, Some, None, refl, sym, subst, ◌∙◌, append_assoc, append-nil}
 use Rattle.std.proofs.lemmas.Bool.{cond_both}
 use Rattle.mq_packet.specs.declared.connect.Will.{Will}
 use Rattle.mq_packet.specs.declared.message.Message.{Message}
@@ -17,25 +17,29 @@ use Rattle.mq_route.specs.Hub.{end_of, with_end, up_on, for_key, copies_of}
 use Rattle.mq_route.specs.Work.{Work, said, with_sessions, put_where, does, publishes_next, place, place_all, have_room, deliver, last_will, subscribed, unsubscribed, retained_copies}
 use Rattle.mq_route.specs.Arrives.{answers, answers_all, granted}
 use Rattle.mq_route.proofs.Ends.{Alike, publishes_alike, taking, takings, NoUp, NoUps}
-use Rattle.mq_route.proofs.Changes.{owes, nothing, Debt, Inner, IsShort, retaining, subscribing, unsubscribing}
+use Rattle.mq_route.proofs.Changes.{owes, nothing, Debt, Inner, IsShort, up_put, up_put_where, retaining, subscribing, unsubscribing}
 
-module _ (R : Debt → Work → Type 0) (inner : Inner R) where
-  pub put_where_keeps : (to : Option Conn) (ps : List Packet) (o : Debt) (w : Work) → R o w → R o (put_where to ps w)
-  put_where_keeps None ps o w h = h
-  put_where_keeps (Some k) ps o w h = inner.put k ps o w h
+module _ {IsOwn : Conn → Type 0} (R : Debt → Work → Type 0) (inner : Inner IsOwn R) where
+  -- the connection, if there is one, is the event's own
+  abbrev pub AllOwn : Option Conn → Type 0
+  AllOwn to = (k : Conn) → to ≡ Some k → IsOwn k
 
-  pub does_keeps : (key : ℕ) (move : End → Reply) (o : Debt) (w : Work) → Alike (move (end_of key w.hub.sessions)).end (end_of key w.hub.sessions) → R o w → R o (does key move w)
+  pub put_where_keeps : (to : Option Conn) (ps : List Packet) (o : Debt) (w : Work) → AllOwn to → R o w → R o (put_where to ps w)
+  put_where_keeps None ps o w own h = h
+  put_where_keeps (Some k) ps o w own h = inner.put k ps o w (own k refl) h
+
+  does_keeps : (key : ℕ) (move : End → Reply) (o : Debt) (w : Work) → Alike (move (end_of key w.hub.sessions)).end (end_of key w.hub.sessions) → AllOwn (up_on key w.hub.connections) → R o w → R o (does key move w)
   unfolding does
-  does_keeps key move o w alike h =
-      put_where_keeps (up_on key w.hub.connections) (move (end_of key w.hub.sessions)).out o (with_sessions (with_end key (move (end_of key w.hub.sessions)).end) w)
+  does_keeps key move o w alike own h =
+      put_where_keeps (up_on key w.hub.connections) (move (end_of key w.hub.sessions)).out o (with_sessions (with_end key (move (end_of key w.hub.sessions)).end) w) own
       (inner.moves key (move (end_of key w.hub.sessions)).end o w alike h)
 
   place_keeps : (key : ℕ) (m : Message) (c t : List (ℕ × Message)) (n : List (ℕ × Packet)) (w : Work) → R (owes ((key, m) ∷ c) t n) w → R (owes c t n) (place key m w)
-  unfolding place
+  unfolding place does
   place_keeps key m c t n w h =
       let e = end_of key w.hub.sessions in
-      inner.placed key m c t n (does key (publishes_next m) w)
-      (does_keeps key (publishes_next m) (owes ((key, m) ∷ c) t n) w (publishes_alike m.qos (next_identifier e.last e.book) m e) h)
+      inner.placed key m (publishes_next m e).out c t n (with_sessions (with_end key (publishes_next m e).end) w)
+      (inner.moves key (publishes_next m e).end (owes ((key, m) ∷ c) t n) w (publishes_alike m.qos (next_identifier e.last e.book) m e) h)
 
   pub place_all_keeps : (c t : List (ℕ × Message)) (n : List (ℕ × Packet)) (w : Work) → R (owes c t n) w → R (owes [] t n) (place_all c w)
   place_all_keeps [] t n w h = h
@@ -72,21 +76,52 @@ module _ (R : Debt → Work → Type 0) (inner : Inner R) where
   unsubscribed_keeps key [] o w h = h
   unsubscribed_keeps key (f ∷ fs) o w h = unsubscribed_keeps key fs o (unsubscribing key f w) (inner.unsubscribed key f o w h)
 
-  answers_keeps : (k : Conn) (key : ℕ) (told : Happening) (t : List (ℕ × Message)) (n : List (ℕ × Packet)) (w : Work) → NoUp told → R (owes [] (taking key told ++ t) n) w → R (owes [] t n) (answers k key told w)
-  unfolding answers
-  answers_keeps k key (happens.Up present) t n w quiet h = absurd quiet
-  answers_keeps k key (happens.Handed m) t n w quiet h = took_keeps key m t n w h
-  answers_keeps k key (happens.Subscribe i requests) t n w quiet h =
-      let v = subscribed key requests w in
-      place_all_keeps (retained_copies key requests w.hub.retained) t n (does key (subacks i (granted requests)) v)
-      (does_keeps key (subacks i (granted requests)) (owes (retained_copies key requests w.hub.retained) t n) v (refl, refl, refl) (subscribed_keeps key requests [] t n w h))
-  answers_keeps k key (happens.Unsubscribe i filters) t n w quiet h =
-      does_keeps key (unsubacks i) (owes [] t n) (unsubscribed key filters w) (refl, refl, refl) (unsubscribed_keeps key filters (owes [] t n) w h)
-  answers_keeps k key (happens.SubAck i codes) t n w quiet h = h
-  answers_keeps k key (happens.UnsubAck i) t n w quiet h = h
-  answers_keeps k key happens.Pong t n w quiet h = h
+module _ {IsOwn : Conn → Type 0} (R : Debt → Work → Type 0) (inner : Inner IsOwn R) (key : ℕ) where
+  -- the client is connected on the event's own connection, if it is
+  abbrev IsHome : Work → Type 0
+  IsHome w = (k : Conn) → up_on key w.hub.connections ≡ Some k → IsOwn k
 
-  pub answers_all_keeps : (k : Conn) (key : ℕ) (told : List Happening) (n : List (ℕ × Packet)) (w : Work) → NoUps told → R (owes [] (takings key told) n) w → R (owes [] [] n) (answers_all k key told w)
-  answers_all_keeps k key [] n w quiet h = h
-  answers_all_keeps k key (told ∷ later) n w quiet h =
-      answers_all_keeps k key later n (answers k key told w) quiet.1 (answers_keeps k key told (takings key later) n w quiet.0 h)
+  abbrev Home : Debt → Work → Type 0
+  Home o w = R o w × IsHome w
+
+  home : Inner IsOwn Home
+  home = record {
+    put = λ k ps o w own h. (inner.put k ps o w own h.0, λ j up. h.1 j (sym (up_put key k ps w) ∙ up));
+    moves = λ c e o w alike h. (inner.moves c e o w alike h.0, h.1);
+    took = λ c m t n w h. (inner.took c m t n w h.0, h.1);
+    willed = λ c m w h. (inner.willed c m w h.0, h.1);
+    placed = λ c m ps d t n w h. (inner.placed c m ps d t n w h.0, λ j up. h.1 j (sym (up_put_where key (up_on c w.hub.connections) ps w) ∙ up));
+    subscribed = λ c f q d t n w h. (inner.subscribed c f q d t n w h.0, h.1);
+    unsubscribed = λ c f o w h. (inner.unsubscribed c f o w h.0, h.1);
+  }
+
+  answers_home : (k : Conn) (told : Happening) (t : List (ℕ × Message)) (n : List (ℕ × Packet)) (w : Work) → NoUp told → Home (owes [] (taking key told ++ t) n) w → Home (owes [] t n) (answers k key told w)
+  unfolding answers
+  answers_home k (happens.Up present) t n w quiet h = absurd quiet
+  answers_home k (happens.Handed m) t n w quiet h = took_keeps Home home key m t n w h
+  answers_home k (happens.Subscribe i requests) t n w quiet h =
+      let v = subscribed key requests w in
+      let copies = retained_copies key requests w.hub.retained in
+      let g = subscribed_keeps Home home key requests [] t n w h in
+      place_all_keeps Home home copies t n (does key (subacks i (granted requests)) v)
+      (does_keeps Home home key (subacks i (granted requests)) (owes copies t n) v (refl, refl, refl) g.1 g)
+  answers_home k (happens.Unsubscribe i filters) t n w quiet h =
+      let g = unsubscribed_keeps Home home key filters (owes [] t n) w h in
+      does_keeps Home home key (unsubacks i) (owes [] t n) (unsubscribed key filters w) (refl, refl, refl) g.1 g
+  answers_home k (happens.SubAck i codes) t n w quiet h = h
+  answers_home k (happens.UnsubAck i) t n w quiet h = h
+  answers_home k happens.Pong t n w quiet h = h
+
+  answers_all_home : (k : Conn) (told : List Happening) (n : List (ℕ × Packet)) (w : Work) → NoUps told → Home (owes [] (takings key told) n) w → Home (owes [] [] n) (answers_all k key told w)
+  answers_all_home k [] n w quiet h = h
+  answers_all_home k (told ∷ later) n w quiet h =
+      answers_all_home k later n (answers k key told w) quiet.1 (answers_home k told (takings key later) n w quiet.0 h)
+
+  -- the client's packets are sent on the event's own connection
+  pub answers_all_keeps : (k : Conn) (told : List Happening) (n : List (ℕ × Packet)) (move : End → Reply) (w : Work) → NoUps told → IsHome w
+      → R (owes [] (takings key told) n) (with_sessions (with_end key (move (end_of key w.hub.sessions)).end) w) → R (owes [] [] n) (answers_all k key told (does key move w))
+  unfolding does
+  answers_all_keeps k told n move w quiet own h =
+      let v = with_sessions (with_end key (move (end_of key w.hub.sessions)).end) w in
+      (answers_all_home k told n (put_where (up_on key w.hub.connections) (move (end_of key w.hub.sessions)).out v) quiet
+      (put_where_keeps Home home (up_on key w.hub.connections) (move (end_of key w.hub.sessions)).out (owes [] (takings key told) n) v own (h, own))).0

@@ -1,13 +1,19 @@
 -- Laws of every run of a broker.
-use Rattle.std.specs.Prelude.{◌≡◌, ℕ, true, List, [], ◌∷◌, ◌++◌, ◌==◌, if◌then◌else◌}
+use Rattle.std.specs.Prelude.{◌≡◌, ℕ, Bool, true, false, List, [], ◌∷◌, ◌++◌, ◌==◌, if◌then◌else◌}
+use Rattle.std.specs.List.{list_any}
 use Rattle.mq_packet.specs.declared.message.Message.{Message}
 use Rattle.mq_packet.specs.Encoding.{encodings}
 use Rattle.mq_flow.specs.Receiver.{none_received}
+use Rattle.mq_route.specs.declared.act.Act.{Act}
+use Rattle.mq_route.specs.declared.act.Act.TheVariants as acts
 use Rattle.mq_route.specs.declared.conn.Conn.{Conn}
 use Rattle.mq_route.specs.declared.config.HubConfig.{HubConfig}
+use Rattle.mq_route.specs.declared.event.HubEvent.{HubEvent}
+use Rattle.mq_route.specs.declared.reply.HubReply.{HubReply}
 use Rattle.mq_route.specs.Routed.{routed, placed, taken, seen, copies_for}
-use Rattle.mq_route.specs.Hub.{HubState, new_hub, knows, waiting_on, copies_of}
-use Rattle.mq_route.specs.Runs.{Episode, Follows, Stays, acts_of, sent_in, came_in, on_conn, written}
+use Rattle.mq_route.specs.Hub.{HubState, new_hub, knows, stage_of, is_for, waiting_on, copies_of}
+use Rattle.mq_route.specs.Step.{HubStep}
+use Rattle.mq_route.specs.Runs.{Episode, Follows, Stays, acts_of, sent_in, came_in, on_conn, is_on, written}
 use Rattle.mq_route.specs.Taken.{handed_from, of_client}
 
 -- the messages for one client among copies
@@ -28,6 +34,18 @@ pub record TakingLaws : Type 0 where
   pub taken_is_handed : (config : HubConfig) (episodes : List Episode) (hub : HubState) → Follows (new_hub config) episodes hub
       → (client : ℕ) → taken client (acts_of episodes) ≡ handed_from none_received (of_client client (came_in episodes))
 
+-- the act places a copy for the client that is connected on a connection
+unfoldable pub places_on : Conn → HubState → Act → Bool
+places_on conn hub (acts.Placed client message) = is_for client (stage_of conn hub.connections)
+places_on conn hub (acts.Took publisher message) = false
+places_on conn hub (acts.Will publisher message) = false
+places_on conn hub (acts.Subscribed client topic_filter qos) = false
+places_on conn hub (acts.Unsubscribed client topic_filter) = false
+places_on conn hub (acts.Up other client present) = false
+places_on conn hub (acts.Closed other why) = false
+places_on conn hub (acts.Removed client) = false
+places_on conn hub (acts.WillDropped client) = false
+
 pub record OutputLaws : Type 0 where
   -- from any time in a run, until a connection ends: its written bytes and its pending output are
   -- the output that was pending, and the encodings of the packets that are sent on it
@@ -35,3 +53,9 @@ pub record OutputLaws : Type 0 where
       → Follows (new_hub config) before hub → Follows hub after later_hub
       → (conn : Conn) → Stays conn after → knows conn hub.connections ≡ true
       → written conn after ++ waiting_on conn later_hub.connections ≡ waiting_on conn hub.connections ++ encodings (on_conn conn (sent_in after))
+  -- a step changes the pending output of a connection only if its event is on the connection, or if
+  -- it places a copy for the client that is connected on the connection before the step
+  pub others_unchanged : (config : HubConfig) (before : List Episode) (hub : HubState) → Follows (new_hub config) before hub
+      → (event : HubEvent) (reply : HubReply) (later_hub : HubState) → HubStep hub event reply later_hub
+      → (conn : Conn) → is_on conn event ≡ false → list_any (places_on conn hub) reply.acts ≡ false
+      → waiting_on conn later_hub.connections ≡ waiting_on conn hub.connections

@@ -16,3 +16,4 @@ pub mod Accepted
 pub mod History
 pub mod Names
 pub mod Reading
+pub mod StepSome

@@ -65,6 +65,14 @@ ends_it conn (Bytes other piece) = false
 ends_it conn (Tick now) = false
 ends_it conn (Collect other) = false
 
+-- the event is on a connection
+abbrev pub is_on : Conn → HubEvent → Bool
+is_on conn (Opened other) = same_conn other conn
+is_on conn (Bytes other piece) = same_conn other conn
+is_on conn (Ended other) = same_conn other conn
+is_on conn (Tick now) = false
+is_on conn (Collect other) = same_conn other conn
+
 -- no event ends the connection
 abbrev pub Stays : Conn → List Episode → Type 0
 Stays conn [] = Unit {0}

@@ -14,7 +14,8 @@ use mq_flow::{identifier_laws, next_laws};
 use mq_topic::store_laws;
 
 /// The bytes written on a connection, and its pending output, are the encodings of the packets that
-/// are sent on it (4.6).
+/// are sent on it (4.6). A step changes the pending output of a connection only if its event is on
+/// the connection, or if it places a copy for the connected client.
 pub fn output_laws()
     ensures { OutputLaws }
 {}

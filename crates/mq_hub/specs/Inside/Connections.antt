@@ -2,7 +2,9 @@
 use Rattle.std.specs.Prelude.{◌≡◌, ◌≤◌, ℕ, ◌==◌, List, [], ◌∷◌, map, slice_get, Bool, true, false, Option, Some, None, is_some, if◌then◌else◌}
 use Rattle.std.specs.List.{AllByRecursion, IsDistinct, count_by}
 use Rattle.std.specs.Map.{keys_of}
+use Rattle.mq_decode.specs.Grammar.{Pending}
 use Rattle.mq_decode.specs.Limits.{Bounds}
+use Rattle.mq_decode.specs.State.{State}
 use Rattle.mq_route.specs.declared.conn.Conn.{Conn}
 use Rattle.mq_route.specs.declared.connection_state.ConnectionState.{ConnectionState}
 use Rattle.mq_route.specs.Hub.{HubConnection, key_on}
@@ -32,9 +34,13 @@ connections_of es = map (λ e. connection_of e.1) es
 abbrev pub IsNamedAt : Conn → ℕ → List (Conn × Connection) → Type 0
 IsNamedAt k n es = (e : Conn × Connection) × (slice_get es n ≡ Some e) × (same_conn k e.0 ≡ true)
 
--- its decoder has these limits, and met no error
+-- a decoder has these limits, met no error, and holds no whole packet
+abbrev pub IsDecoding : Bounds → State → Type 0
+IsDecoding limits d = (d.limit ≡ limits) × (d.failed ≡ None) × Pending limits d.held
+
+-- so does the decoder of a connection
 abbrev pub IsReading : Bounds → Connection → Type 0
-IsReading limits c = (c.decoder.limit ≡ limits) × (c.decoder.failed ≡ None)
+IsReading limits c = IsDecoding limits c.decoder
 
 -- How connections are served: the limits of their packets, and the alarms.
 pub record Service : Type 0 where

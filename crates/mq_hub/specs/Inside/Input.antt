@@ -9,6 +9,7 @@ use Rattle.mq_route.specs.Arrives.{Growth, touched, takes}
 use Rattle.mq_route.specs.Hub.{HubState, HubConnection, with_connection}
 use Rattle.mq_route.specs.Work.{Work}
 use Rattle.mq_route.specs.Step.{Comes}
+use Rattle.mq_route.specs.StepSome.{IsSparing}
 use Rattle.mq_hub.specs.declared.input.decoder.Next.{Next}
 use Rattle.mq_hub.specs.declared.input.decoder.Next.TheVariants.{Packet as Arrived, Waits, Closed}
 use Rattle.mq_hub.specs.Inside.Refinement.{Refines}
@@ -29,17 +30,19 @@ with_held k b h = record h { connections = with_connection (holds b) k h.connect
 abbrev pub with_touched : Conn → HubState → HubState
 with_touched k h = record h { connections = with_connection (touched_at h.clock) k h.connections }
 
--- these bytes on a connection lead to this broker and these acts
-pub record HandlesBytes (limits : Bounds) (k : Conn) (b : List ℕ) (w : Work) (new : HubState) (says : List Act) : Type 0 where
+-- These bytes on a connection lead to this broker and these acts. A packet with bytes after it
+-- leaves the number of acts below the limit.
+pub record HandlesBytes (limits : Bounds) (k : Conn) (most : ℕ) (b : List ℕ) (w : Work) (new : HubState) (says : List Act) : Type 0 where
   pub after : Work
   pub comes : Comes limits k b w after
+  pub sparing : IsSparing most limits k b w after comes
   pub hub : after.hub ≡ new
   pub did : after.did ≡ says
 
 -- If a step has led to the broker `old` and the acts `said`, then with these bytes it leads to
 -- `new` and `says`.
-abbrev pub RefinesBytes : Bounds → Conn → List ℕ → HubState → List Act → HubState → List Act → Type 0
-RefinesBytes limits k b old said new says = (w : Work) → w.hub ≡ old → w.did ≡ said → HandlesBytes limits k b w new says
+abbrev pub RefinesBytes : Bounds → Conn → ℕ → List ℕ → HubState → List Act → HubState → List Act → Type 0
+RefinesBytes limits k most b old said new says = (w : Work) → w.hub ≡ old → w.did ≡ said → HandlesBytes limits k most b w new says
 
 -- a packet came, whose bytes are those that were held and the front of these
 pub record HandlesPacket (limits : Bounds) (k : Conn) (held rest : List ℕ) (used : ℕ)
@@ -55,7 +58,7 @@ pub record HandlesPacket (limits : Bounds) (k : Conn) (held rest : List ℕ) (us
 abbrev pub IsNext : Bounds → Conn → List ℕ → List ℕ → HubState → List Act → Next → HubState → List Act → List ℕ → Type 0
 IsNext limits k held rest old said (Arrived used) new says left = HandlesPacket limits k held rest used old said new says × (left ≡ [])
 IsNext limits k held rest old said Waits new says left = Pending limits (held ++ rest) × (new ≡ old) × (says ≡ said) × (left ≡ held ++ rest)
-IsNext limits k held rest old said Closed new says left = RefinesBytes limits k (held ++ rest) old said new says
+IsNext limits k held rest old said Closed new says left = (most : ℕ) → RefinesBytes limits k most (held ++ rest) old said new says
 
 -- decoding can go on: the connection was not closed
 abbrev pub goes_on : Next → Bool

@@ -56,7 +56,7 @@ impl<S: FilterStore> HubOver<S> {
         requires open { is_open (stage_of conn self.old.connections) ≡ true }
         requires room { 3 ≤ log.old.room }
         ensures comes { (limits : Bounds) (b : List ℕ) → IsFront limits b (Err error)
-            → RefinesBytes limits conn b self.old log.old.acts self.new log.new.acts }
+            → (most : ℕ) → RefinesBytes limits conn most b self.old log.old.acts self.new log.new.acts }
     {
         match error {
             DecodeError::Fault(fault) => match self.on_malformed(conn, fault, log) {

@@ -11,7 +11,7 @@ ghost use Rattle.mq_route.specs.Hub.{held_on, key_on, knows, stage_of, up_on, wa
 ghost use Rattle.mq_route.specs.Routed.{same_conn};
 ghost use Rattle.mq_route.specs.Welcome.{up_count};
 ghost use Rattle.mq_hub.specs.Inside.Alarms.{AreAwaited, AreAwaitedBut};
-ghost use Rattle.mq_hub.specs.Inside.Connections.{connection_of, connections_of, IsNamedAt, IsReading};
+ghost use Rattle.mq_hub.specs.Inside.Connections.{connection_of, connections_of, IsDecoding, IsNamedAt, IsReading};
 ghost use Rattle.mq_hub.specs.Inside.Tick.{AreInTime, HasLate, HasLateNamed};
 
 use crate::connections::connection::{BoxedConnection, Connection};
@@ -370,10 +370,10 @@ impl Connections {
 
     pub(crate) fn swap_decoder(&mut self, conn: Conn, decoder: &mut Decoder)
         requires known { knows conn self.old.connections ≡ true }
-        requires reading { (decoder.old.limit ≡ self.old.limits) × (decoder.old.failed ≡ None) }
+        requires reading { IsDecoding self.old.limits decoder.old }
         ensures connections { self.new.connections ≡ with_connection (λ x. record x { held = decoder.old.held }) conn self.old.connections }
         ensures held { decoder.new.held ≡ held_on conn self.old.connections }
-        ensures reading { (decoder.new.limit ≡ self.old.limits) × (decoder.new.failed ≡ None) }
+        ensures reading { IsDecoding self.old.limits decoder.new }
         ensures limits { self.new.limits ≡ self.old.limits }
         ensures room { self.new.room ≡ self.old.room }
         ensures up_room { self.new.up_room ≡ self.old.up_room }

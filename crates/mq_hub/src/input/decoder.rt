@@ -3,6 +3,7 @@
 ghost use Rattle.std.specs.Prelude.{◌≡◌, None, true, IfSome};
 ghost use Rattle.mq_end.specs.End.{is_up};
 ghost use Rattle.mq_route.specs.Hub.{end_of, held_on, key_on, knows, stage_of};
+ghost use Rattle.mq_hub.specs.Inside.Connections.{IsDecoding};
 ghost use Rattle.mq_hub.specs.Inside.Input.{with_touched, with_held};
 
 use crate::hub::HubOver;
@@ -34,10 +35,10 @@ impl<S: FilterStore> HubOver<S> {
 
     pub(crate) fn swap_decoder(&mut self, conn: Conn, decoder: &mut Decoder)
         requires known { knows conn self.old.connections ≡ true }
-        requires reading { (decoder.old.limit ≡ self.old.config.limits) × (decoder.old.failed ≡ None) }
+        requires reading { IsDecoding self.old.config.limits decoder.old }
         ensures hub { self.new ≡ with_held conn decoder.old.held self.old }
         ensures held { decoder.new.held ≡ held_on conn self.old.connections }
-        ensures reading { (decoder.new.limit ≡ self.old.config.limits) × (decoder.new.failed ≡ None) }
+        ensures reading { IsDecoding self.old.config.limits decoder.new }
     {
         self.tables.swap_decoder(conn, decoder);
     }

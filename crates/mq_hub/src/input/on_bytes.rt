@@ -1,8 +1,11 @@
 //! Handles the bytes that come on a connection (4.2).
 
-ghost use Rattle.std.specs.Prelude.{◌≡◌, ◌≤◌, ◌++◌, [], None, true, IfOk, IfErr, OnErr};
+ghost use Rattle.std.specs.Prelude.{◌≡◌, ◌⊎◌, ◌≤◌, ◌<◌, ◌++◌, ℕ, List, [], None, true, length, take, IfOk, IfErr, OnErr};
+ghost use Rattle.mq_route.specs.declared.act.Act.{Act};
 ghost use Rattle.mq_route.specs.Hub.{held_on, is_open, knows, stage_of};
 ghost use Rattle.mq_route.specs.Step.{HubStep};
+ghost use Rattle.mq_route.specs.StepSome.{HubStepSome};
+ghost use Rattle.mq_hub.specs.Inside.Connections.{IsDecoding};
 ghost use Rattle.mq_hub.specs.Inside.Input.{RefinesBytes, IsNext, goes_on, with_held};
 
 use crate::acts::ActLog;
@@ -25,10 +28,10 @@ impl<S: FilterStore> HubOver<S> {
         log: &mut ActLog,
     ) -> Next
         requires open { is_open (stage_of conn self.old.connections) ≡ true }
-        requires reading { (decoder.old.limit ≡ self.old.config.limits) × (decoder.old.failed ≡ None) }
+        requires reading { IsDecoding self.old.config.limits decoder.old }
         requires room { 3 ≤ log.old.room }
         ensures next { IsNext self.old.config.limits conn decoder.old.held bytes.now self.old log.old.acts result self.new log.new.acts decoder.new.held }
-        ensures reading { goes_on result ≡ true → (decoder.new.limit ≡ self.old.config.limits) × (decoder.new.failed ≡ None) }
+        ensures reading { goes_on result ≡ true → IsDecoding self.old.config.limits decoder.new }
         ensures config { goes_on result ≡ true → self.new.config ≡ self.old.config }
         ensures room { goes_on result ≡ true → is_open (stage_of conn self.new.connections) ≡ true → 3 ≤ log.new.room }
     {
@@ -45,27 +48,55 @@ impl<S: FilterStore> HubOver<S> {
         }
     }
 
-    // Handles the packets of a piece one after another, until the connection closes. The decoder
-    // holds the incomplete packet at the end; it holds nothing once the connection is closed (4.2,
-    // 4.8).
-    fn on_piece(&mut self, conn: Conn, decoder: &mut Decoder, piece: &[u8], log: &mut ActLog)
-        requires reading { (decoder.old.limit ≡ self.old.config.limits) × (decoder.old.failed ≡ None) }
+    // Puts back the decoder of a connection, unless the connection is closed. It must hold nothing.
+    fn put_back(&mut self, conn: Conn, place: usize, decoder: &mut Decoder)
+        requires reading { IsDecoding self.old.config.limits decoder.old }
+        requires held { decoder.old.held ≡ [] }
+        ensures { (most : ℕ) (said : List Act) → RefinesBytes self.old.config.limits conn most [] self.old said self.new said }
+    {
+        if self.is_open_near(conn, place) {
+            self.swap_decoder(conn, decoder);
+        }
+    }
+
+    // Handles the packets of a piece one after another, until the connection closes or the step has
+    // `most_acts` acts. Returns the number of bytes used. The decoder holds the incomplete packet
+    // at the end; it holds nothing once the connection is closed (4.2, 4.8).
+    fn on_piece(
+        &mut self,
+        conn: Conn,
+        decoder: &mut Decoder,
+        piece: &[u8],
+        most_acts: usize,
+        log: &mut ActLog,
+    ) -> usize
+        requires reading { IsDecoding self.old.config.limits decoder.old }
         requires room { 3 ≤ log.old.room }
-        ensures { RefinesBytes self.old.config.limits conn (decoder.old.held ++ piece.now) self.old log.old.acts self.new log.new.acts }
+        ensures within { result ≤ length piece.now }
+        ensures some { 0 < length piece.now → 0 < result }
+        ensures comes { RefinesBytes self.old.config.limits conn most_acts (decoder.old.held ++ take result piece.now) self.old log.old.acts self.new log.new.acts }
+        ensures enough { (result ≡ length piece.now) ⊎ (most_acts ≤ length log.new.acts) }
     {
         let place = self.tables.connections.place_of(conn);
         let mut used = 0;
         while self.is_open_near(conn, place) {
             let (_, rest) = piece.split_at(used);
             match self.on_next_packet(conn, place, decoder, rest, log) {
-                Next::Packet(count) => used += count,
+                Next::Packet(count) => {
+                    used += count;
+                    if log.count() >= most_acts {
+                        self.put_back(conn, place, decoder);
+                        return used;
+                    }
+                }
                 Next::Waits => {
                     self.swap_decoder(conn, decoder);
-                    return;
+                    return piece.len();
                 }
-                Next::Closed => return,
+                Next::Closed => return piece.len(),
             }
         }
+        piece.len()
     }
 
     // Takes the decoder out of a connection and leaves an empty one in its place.
@@ -73,7 +104,7 @@ impl<S: FilterStore> HubOver<S> {
         requires { knows conn self.old.connections ≡ true }
         ensures hub { self.new ≡ with_held conn [] self.old }
         ensures held { result.held ≡ held_on conn self.old.connections }
-        ensures reading { (result.limit ≡ self.old.config.limits) × (result.failed ≡ None) }
+        ensures reading { IsDecoding self.old.config.limits result }
     {
         let mut decoder = Decoder::new(self.alloc, self.config.limits);
         self.swap_decoder(conn, &mut decoder);
@@ -81,11 +112,19 @@ impl<S: FilterStore> HubOver<S> {
     }
 
     /// Handles the bytes that come on a connection (4.2): its whole packets one after another,
-    /// until it closes. The connection holds the incomplete packet at the end. Bytes of a closed
-    /// connection are dropped.
-    pub(crate) fn on_bytes(&mut self, conn: Conn, piece: &[u8]) -> Result<HubReply, HubRefusal>
+    /// until it closes or the step has `most_acts` acts. Returns the reply and the number of bytes
+    /// used. The connection holds the incomplete packet at the end. Bytes of a closed connection
+    /// are dropped.
+    pub(crate) fn on_some_bytes(
+        &mut self,
+        conn: Conn,
+        piece: &[u8],
+        most_acts: usize,
+    ) -> Result<(HubReply, usize), HubRefusal>
         requires { knows conn self.old.connections ≡ true }
-        ensures step { IfOk result (λ reply. HubStep self.old (HubEvent.Bytes conn piece.now) reply self.new) }
+        ensures step { IfOk result (λ r. HubStepSome self.old conn piece.now most_acts r.0 r.1 self.new) }
+        ensures some { IfOk result (λ r. 0 < length piece.now → 0 < r.1) }
+        ensures few { IfOk result (λ r. length r.0.acts < 18446744073709551615) }
         ensures memory { IfErr result (λ why. why ≡ HubRefusal.Memory) }
         ensures err { OnErr result (self.new ≡ self.old) }
     {
@@ -94,7 +133,18 @@ impl<S: FilterStore> HubOver<S> {
             return Err(HubRefusal::Memory);
         }
         let mut decoder = self.take_decoder(conn);
-        self.on_piece(conn, &mut decoder, piece, &mut log);
-        Ok(log.into_reply(self.is_open(conn)))
+        let used = self.on_piece(conn, &mut decoder, piece, most_acts, &mut log);
+        Ok((log.into_reply(self.is_open(conn)), used))
+    }
+
+    /// Handles all bytes that come on a connection (4.2), as [`HubOver::on_some_bytes`].
+    pub(crate) fn on_bytes(&mut self, conn: Conn, piece: &[u8]) -> Result<HubReply, HubRefusal>
+        requires { knows conn self.old.connections ≡ true }
+        ensures step { IfOk result (λ reply. HubStep self.old (HubEvent.Bytes conn piece.now) reply self.new) }
+        ensures memory { IfErr result (λ why. why ≡ HubRefusal.Memory) }
+        ensures err { OnErr result (self.new ≡ self.old) }
+    {
+        let (reply, _) = self.on_some_bytes(conn, piece, usize::MAX)?;
+        Ok(reply)
     }
 }

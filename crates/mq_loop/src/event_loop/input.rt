@@ -122,8 +122,8 @@ impl<S: Socket + Drop, O: Observer + Drop> EventLoop<S, O> {
         }
         let is_fresh = seat.client.is_none();
         let has_hung_up = seat.has_hung_up;
-        let size = seat.read_size.get().min(buffer.len());
-        match self.served.read(place, &mut buffer[..size]) {
+        let size = buffer.len();
+        match self.served.read(place, buffer) {
             Heard::Nothing => {
                 self.note_empty(place);
                 None
@@ -140,9 +140,8 @@ impl<S: Socket + Drop, O: Observer + Drop> EventLoop<S, O> {
                 if is_fresh && count <= size {
                     self.report_client(place, &reply, &buffer[..count]);
                 }
-                let seat = self.seat(place)?;
-                seat.read_size = seat.read_size.after(count, acts);
-                if count < size && !has_hung_up {
+                let is_short = count > 0 && count < size && !has_hung_up;
+                if is_short && !self.served.has_unread(place) {
                     self.note_empty(place);
                     return None;
                 }

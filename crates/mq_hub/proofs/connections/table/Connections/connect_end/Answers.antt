@@ -7,6 +7,7 @@ use Rattle.mq_hub.specs.declared.connections.connection.Connection.{Connection}
 use Rattle.mq_hub.specs.Inside.Connections.{service, ConnectionList, connections_of, connection_of, AreConnections}
 use Rattle.mq_hub.specs.Inside.Alarms.{IsAwaited}
 use Rattle.mq_hub.proofs.RingTimes.{alarm_awaited, found_name, still_all_awaited}
+use Rattle.mq_hub.proofs.PendingBytes.{same_decoding}
 use Rattle.mq_hub.proofs.ConnectionTable.{Entry, awaited_of, kept_anew, are_named, still_all, changed, served_at, kept_rise, found_by, up_is}
 use Rattle.mq_hub.proofs.connections.table.Connections.connect_end.Goals as goal
 
@@ -44,7 +45,7 @@ invariant_of-self-2 c =
     ∙ ap (λ (v : ConnectionList). stage_of k v.connections) c.self.view_is ∙ c.requires.stage in
     subst (λ (rs : List Entry). AreConnections next rs (get eqb new) (hash_map_len new)) (sym (c.get_mut.follows.holds w).0)
     (kept_rise next k c.args.key es own w (get eqb ups) (get eqb new) (hash_map_len ups) (hash_map_len new) kept there (ap (λ (x : Connection). x.conn) says)
-    ((ap (λ (x : Connection). x.decoder.limit) says ∙ read.0.0, ap (λ (x : Connection). x.decoder.failed) says ∙ read.0.1), subst (λ (n : Conn). IsAwaited alarms n w.stage) name (alarm_awaited alarms k c.last_in_time.result w.stage c.set.ensures.rings c.last_in_time.ensures))
+    (same_decoding by.bounds own.decoder w.decoder (ap (λ (x : Connection). x.decoder) says) read.0, subst (λ (n : Conn). IsAwaited alarms n w.stage) name (alarm_awaited alarms k c.last_in_time.result w.stage c.set.ensures.rings c.last_in_time.ensures))
     (ap key_on fresh) (ap (λ (x : Connection). key_on x.stage) says)
     (sym (up_is c.args.key es) ∙ ap (λ (v : ConnectionList). up_on c.args.key v.connections) c.self.view_is ∙ c.requires.client)
     c.add_connected.ensures.found c.add_connected.ensures.len)

@@ -1,10 +1,12 @@
 use Rattle.std.proofs.Common.{◌∙◌, List, eqb, refl, true≢false, sym, ap, subst}
 use Rattle.std.specs.HashMap.{get, hash_map_len}
+use Rattle.mq_decode.specs.Limits.{Bounds}
 use Rattle.mq_decode.specs.State.{State}
 use Rattle.mq_route.specs.Hub.{HubConnection, held_on, key_on, knows, with_connection}
 use Rattle.mq_hub.specs.declared.connections.connection.Connection.{Connection}
-use Rattle.mq_hub.specs.Inside.Connections.{service, ConnectionList, connections_of, connection_of, AreConnections}
+use Rattle.mq_hub.specs.Inside.Connections.{service, ConnectionList, connections_of, connection_of, AreConnections, IsDecoding}
 use Rattle.mq_hub.proofs.RingTimes.{same_awaited}
+use Rattle.mq_hub.proofs.PendingBytes.{same_decoding}
 use Rattle.mq_hub.proofs.ConnectionTable.{Entry, are_named, still_all, changed, served_at, kept_same, lacks, found_by}
 use Rattle.mq_hub.proofs.connections.table.Connections.swap_decoder.Goals as goal
 
@@ -34,7 +36,7 @@ invariant_of-self-2 c =
     let says = c.swap_decoder.ensures.own in
     subst (λ (rs : List Entry). AreConnections by rs (get eqb ups) (hash_map_len ups)) (sym (c.get_mut.follows.holds w).0)
     (kept_same by c.args.conn es own w (get eqb ups) (hash_map_len ups) c.self.invariant there (ap (λ (x : Connection). x.conn) says)
-    ((ap (λ (x : Connection). x.decoder.limit) says ∙ c.requires.reading.0 ∙ sym bounds, ap (λ (x : Connection). x.decoder.failed) says ∙ c.requires.reading.1), same_awaited by.alarms own w (ap (λ (x : Connection). x.conn) says) (ap (λ (x : Connection). x.stage) says) (served_at by c.args.conn es own c.self.invariant.served there).1)
+    (same_decoding by.bounds c.args.decoder.now w.decoder (ap (λ (x : Connection). x.decoder) says) (subst (λ (l : Bounds). IsDecoding l c.args.decoder.now) (sym bounds) c.requires.reading), same_awaited by.alarms own w (ap (λ (x : Connection). x.conn) says) (ap (λ (x : Connection). x.stage) says) (served_at by c.args.conn es own c.self.invariant.served there).1)
     (ap (λ (x : Connection). key_on x.stage) says))
 
 pub returns-clause-connections : goal.returns-clause-connections
@@ -55,7 +57,7 @@ returns-clause-held c =
 
 pub returns-clause-reading : goal.returns-clause-reading
 returns-clause-reading c =
-    let read = served_at (service c.self.inside.limits c.self.inside.alarms) c.args.conn c.self.inside.by_conn.entries c.in-Some.boxed.now c.self.invariant.served (sym c.in-Some.ensures.value) in (
-      ap (λ (d : State). d.limit) c.swap_decoder.ensures.other ∙ read.0.0 ∙ ap (λ (v : ConnectionList). v.limits) c.self.view_is,
-      ap (λ (d : State). d.failed) c.swap_decoder.ensures.other ∙ read.0.1,
-    )
+    let own = c.in-Some.boxed.now in
+    let read = served_at (service c.self.inside.limits c.self.inside.alarms) c.args.conn c.self.inside.by_conn.entries own c.self.invariant.served (sym c.in-Some.ensures.value) in
+    subst (λ (l : Bounds). IsDecoding l c.swap_decoder.new.decoder) (ap (λ (v : ConnectionList). v.limits) c.self.view_is)
+    (same_decoding c.self.inside.limits own.decoder c.swap_decoder.new.decoder c.swap_decoder.ensures.other read.0)

@@ -4,6 +4,7 @@ use Rattle.mq_route.specs.Hub.{HubConnection, key_on, knows, waiting_on, with_co
 use Rattle.mq_hub.specs.declared.connections.connection.Connection.{Connection}
 use Rattle.mq_hub.specs.Inside.Connections.{service, ConnectionList, connections_of, connection_of, AreConnections}
 use Rattle.mq_hub.proofs.RingTimes.{same_awaited}
+use Rattle.mq_hub.proofs.PendingBytes.{same_decoding}
 use Rattle.mq_hub.proofs.ConnectionTable.{Entry, are_named, still_all, changed, served_at, kept_same, lacks, found_by}
 use Rattle.mq_hub.proofs.connections.table.Connections.swap_waiting.Goals as goal
 
@@ -33,7 +34,7 @@ invariant_of-self-2 c =
     let read = served_at by c.args.conn es own c.self.invariant.served there in
     subst (λ (rs : List Entry). AreConnections by rs (get eqb ups) (hash_map_len ups)) (sym (c.get_mut.follows.holds w).0)
     (kept_same by c.args.conn es own w (get eqb ups) (hash_map_len ups) c.self.invariant there (ap (λ (x : Connection). x.conn) says)
-    ((ap (λ (x : Connection). x.decoder.limit) says ∙ read.0.0, ap (λ (x : Connection). x.decoder.failed) says ∙ read.0.1), same_awaited by.alarms own w (ap (λ (x : Connection). x.conn) says) (ap (λ (x : Connection). x.stage) says) read.1)
+    (same_decoding by.bounds own.decoder w.decoder (ap (λ (x : Connection). x.decoder) says) read.0, same_awaited by.alarms own w (ap (λ (x : Connection). x.conn) says) (ap (λ (x : Connection). x.stage) says) read.1)
     (ap (λ (x : Connection). key_on x.stage) says))
 
 pub returns-clause-connections : goal.returns-clause-connections

@@ -7,6 +7,7 @@ use Rattle.mq_hub.specs.declared.connections.connection.Connection.{Connection}
 use Rattle.mq_hub.specs.Inside.Connections.{service, ConnectionList, connections_of, connection_of, AreConnections}
 use Rattle.mq_hub.specs.Inside.Alarms.{IsAwaited}
 use Rattle.mq_hub.proofs.RingTimes.{alarm_awaited, found_name, heard_awaited, still_all_awaited}
+use Rattle.mq_hub.proofs.PendingBytes.{same_decoding}
 use Rattle.mq_hub.proofs.ConnectionTable.{Entry, awaited_of, kept_anew, are_named, still_all, changed, served_at, kept_same, heard_key, lacks, never_none, own_at, own_key, set_at, unknown_shut}
 use Rattle.mq_hub.proofs.connections.table.Connections.touched.Goals as goal
 
@@ -52,7 +53,7 @@ invariant_of-self-then-is_earlier c =
     subst (λ (rs : List Entry). AreConnections next rs (get eqb ups) (hash_map_len ups))
     (sym (set_at k c.in-Some.index es w c.self.invariant.distinct c.in-Some.ensures.some))
     (kept_same next k es own w (get eqb ups) (hash_map_len ups) kept there (ap (λ (x : Connection). x.conn) c.touched.ensures) (
-      (ap (λ (x : Connection). x.decoder.limit) c.touched.ensures ∙ read.0.0, ap (λ (x : Connection). x.decoder.failed) c.touched.ensures ∙ read.0.1),
+      same_decoding by.bounds own.decoder w.decoder (ap (λ (x : Connection). x.decoder) c.touched.ensures) read.0,
       subst (λ (n : Conn). IsAwaited alarms n w.stage) name (alarm_awaited alarms k c.last_in_time.result w.stage c.set.ensures.rings c.last_in_time.ensures),
     )
     (ap (λ (x : Connection). key_on x.stage) c.touched.ensures ∙ heard_key c.args.now own.stage))
@@ -71,7 +72,7 @@ invariant_of-self-else-is_earlier c =
     subst (λ (rs : List Entry). AreConnections by rs (get eqb ups) (hash_map_len ups))
     (sym (set_at k c.in-Some.index es w c.self.invariant.distinct c.in-Some.ensures.some))
     (kept_same by k es own w (get eqb ups) (hash_map_len ups) c.self.invariant there conn (
-      (ap (λ (x : Connection). x.decoder.limit) c.touched.ensures ∙ read.0.0, ap (λ (x : Connection). x.decoder.failed) c.touched.ensures ∙ read.0.1),
+      same_decoding by.bounds own.decoder w.decoder (ap (λ (x : Connection). x.decoder) c.touched.ensures) read.0,
       heard_awaited by.alarms own w c.args.now conn (ap (λ (x : Connection). x.stage) c.touched.ensures) (c.is_active_after-is_earlier.ensures c.if-is_earlier.false) read.1,
     )
     (ap (λ (x : Connection). key_on x.stage) c.touched.ensures ∙ heard_key c.args.now own.stage))

@@ -1,0 +1,14 @@
+use Rattle.std.proofs.Common.{◌∙◌, [], ap, subst}
+use Rattle.mq_route.specs.Hub.{HubState}
+use Rattle.mq_hub.proofs.InputBytes.{some_received}
+use Rattle.mq_hub.proofs.hub.HubOver.on_some_bytes.Goals as goal
+
+pub returns-clause-step : goal.returns-clause-step
+returns-clause-step g c =
+    let mid = c.take_decoder-decoder.new.self in
+    some_received c.args.self.now mid c.on_piece-used.new.self c.args.conn c.args.piece.now c.take_decoder-decoder.result.held mid.config.limits c.args.most_acts
+    c.on_piece-used.result c.reserve.new.self.acts c.on_piece-used.new.log.acts c.into_reply.result c.requires c.take_decoder-decoder.ensures.hub
+    (c.reserve.ensures.same ∙ c.new-log.ensures) c.take_decoder-decoder.ensures.held
+    (ap (λ (x : HubState). x.config.limits) c.take_decoder-decoder.ensures.hub)
+    c.on_piece-used.ensures.within c.on_piece-used.ensures.comes c.on_piece-used.ensures.enough
+    (c.into_reply.ensures ∙ λ i. record { acts = c.on_piece-used.new.log.acts; output = []; alive = c.is_open.ensures i })
