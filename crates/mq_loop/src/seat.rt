@@ -21,6 +21,8 @@ pub(crate) struct Seat {
     pub(crate) is_marked: bool,
     /// It is in the list of those that must be ended.
     pub(crate) is_over: bool,
+    /// A read of this round was large.
+    pub(crate) had_large_read: bool,
     /// The peer will send nothing more.
     pub(crate) has_hung_up: bool,
     /// The broker closed it.
@@ -39,6 +41,7 @@ impl Seat {
             is_ready: false,
             is_marked: false,
             is_over: false,
+            had_large_read: false,
             has_hung_up: false,
             is_closed: false,
         }

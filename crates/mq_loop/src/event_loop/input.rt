@@ -17,6 +17,10 @@ use std::mem;
 /// milliseconds.
 const PATIENCE: u64 = 100;
 
+/// The size of a read, in bytes, after which more may arrive at once, because the peer had no room
+/// to send it.
+const LARGE_READ: usize = 16_384;
+
 /// The part of a connection's share that an act uses, in bytes.
 const ACT: usize = 16;
 
@@ -58,9 +62,15 @@ impl<S: Socket + Drop, O: Observer + Drop> EventLoop<S, O> {
         }
     }
 
-    // A connection that used its share has more to read. It holds the connections that were opened
-    // after it last had nothing to read.
+    // A connection that used its share has more to read, and holds newer ones.
     fn put_off(&mut self, place: u32) {
+        self.hold_newer(place);
+        self.list_ready(place);
+    }
+
+    // A connection may have more to read. It holds the connections that were opened after it last
+    // had nothing to read.
+    fn hold_newer(&mut self, place: u32) {
         let Some(seat) = self.seat(place) else {
             return;
         };
@@ -69,14 +79,15 @@ impl<S: Socket + Drop, O: Observer + Drop> EventLoop<S, O> {
         if has_hung_up {
             self.hung_up_after = self.hung_up_after.min(empty_at);
         }
-        self.list_ready(place);
     }
 
-    // A connection has nothing more to read now.
+    // A connection has nothing more to read now. After a large read its peer may have waited for
+    // room to send more, which arrives at once.
     fn note_empty(&mut self, place: u32) {
         let opened = self.opened;
-        if let Some(seat) = self.seat(place) {
-            seat.empty_at = opened;
+        match self.seat(place) {
+            Some(seat) if !seat.had_large_read => seat.empty_at = opened,
+            _ => self.hold_newer(place),
         }
     }
 
@@ -85,6 +96,7 @@ impl<S: Socket + Drop, O: Observer + Drop> EventLoop<S, O> {
     fn hear(&mut self, place: u32, buffer: &mut [u8]) {
         if let Some(seat) = self.seat(place) {
             seat.is_ready = false;
+            seat.had_large_read = false;
         }
         if self.must_wait(place) {
             self.list_ready(place);
@@ -139,6 +151,11 @@ impl<S: Socket + Drop, O: Observer + Drop> EventLoop<S, O> {
                 self.mark(place);
                 if is_fresh && count <= size {
                     self.report_client(place, &reply, &buffer[..count]);
+                }
+                if count >= LARGE_READ {
+                    if let Some(seat) = self.seat(place) {
+                        seat.had_large_read = true;
+                    }
                 }
                 let is_short = count > 0 && count < size && !has_hung_up;
                 if is_short && !self.served.has_unread(place) {
