@@ -1,6 +1,6 @@
 //! A broker and the connections that it serves.
 
-ghost use Rattle.std.specs.Prelude.{◌≡◌, ◌≤◌, ◌<◌, ◌∷◌, [], ◌++◌, None, Some, IfErr, IfNone, IfOk, IfSome, OnErr, OnOk, length, slice_set, take};
+ghost use Rattle.std.specs.Prelude.{◌≡◌, ◌≤◌, ◌<◌, ◌∷◌, [], ◌++◌, false, None, Some, IfErr, IfNone, IfOk, IfSome, OnErr, OnOk, length, slice_set, take};
 ghost use Rattle.mq_route.specs.declared.event.HubEvent.TheVariants.{Bytes as BytesSeen, Collect, Ended, Opened, Tick};
 ghost use Rattle.mq_route.specs.Step.{HubStep};
 ghost use Rattle.mq_loop.specs.Accounts.{IsServed, line_at, name_at};
