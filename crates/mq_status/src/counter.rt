@@ -12,7 +12,7 @@ use mq_topic::Qos;
 pub const COUNTERS: usize = 42;
 
 /// Why a client misses a message.
-#[derive(Clone, Copy, Debug, PartialEq, Eq)]
+#[derive(Clone, Copy)]
 pub enum MissReason {
     /// Its session has no room for a message of quality of service 1 or 2.
     SessionFull,
@@ -21,7 +21,7 @@ pub enum MissReason {
 }
 
 /// A counter of a broker. Each starts at 0, never decreases, and stops at the greatest `u64`.
-#[derive(Clone, Copy, Debug)]
+#[derive(Clone, Copy)]
 pub enum Counter {
     /// Messages accepted from clients (4.3).
     MessagesIn(Qos),

@@ -1,5 +1,8 @@
 //! Requests.
 
+ghost use Rattle.std.specs.Prelude.{◌≡◌};
+ghost use Rattle.mq_status.specs.Http.{Answers, path_status, reply_of};
+
 use httparse::Status as Parsed;
 use httparse::spans::{EMPTY_HEADER_SPAN, parse_request};
 
@@ -48,33 +51,37 @@ pub enum Answer {
     Respond(Reply),
 }
 
-// The resource of a path.
-fn resource_at(path: &[u8]) -> Option<Resource> {
-    match path {
-        b"/" => Some(Resource::Page),
-        b"/metrics" => Some(Resource::Metrics),
-        _ => None,
+// The status of a path, if the method is allowed.
+fn path_status(path: &[u8]) -> Status
+    ensures { result ≡ path_status path.now }
+{
+    if path == b"/".as_slice() {
+        return Status::Ok(Resource::Page);
     }
+    if path == b"/metrics".as_slice() {
+        return Status::Ok(Resource::Metrics);
+    }
+    Status::NotFound
 }
 
 // The response to a method and a path.
-fn reply_to(method: &[u8], path: &[u8]) -> Reply {
+fn reply_to(method: &[u8], path: &[u8]) -> Reply
+    ensures { result ≡ reply_of method.now path.now }
+{
     let head_only = method == b"HEAD".as_slice();
-    if !head_only && method != b"GET".as_slice() {
-        return Reply {
-            status: Status::MethodNotAllowed,
-            head_only,
-        };
-    }
-    let status = match resource_at(path) {
-        Some(resource) => Status::Ok(resource),
-        None => Status::NotFound,
+    let status = if head_only || method == b"GET".as_slice() {
+        path_status(path)
+    } else {
+        Status::MethodNotAllowed
     };
     Reply { status, head_only }
 }
 
-/// Returns what to do after `received`, all bytes that a connection has sent.
-pub fn request(received: &[u8]) -> Answer {
+/// Returns what to do after `received`, all bytes that a connection has sent. At most [`MAX_HEAD`]
+/// bytes are needed.
+pub fn request(received: &[u8]) -> Answer
+    ensures { Answers received.now result }
+{
     let mut headers = [EMPTY_HEADER_SPAN; 64];
     match parse_request(received, &mut headers) {
         Ok(Parsed::Complete(head)) => {

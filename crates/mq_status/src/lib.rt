@@ -24,9 +24,9 @@ mod prometheus;
 mod response;
 
 pub use crate::counter::{COUNTERS, Counter, MissReason};
-pub use crate::html::HtmlEscaped;
+pub use crate::html::{HtmlEscaped, html_laws};
 pub use crate::http::{Answer, MAX_HEAD, Reply, Resource, Status, request};
-pub use crate::log::{LogLine, write_log};
+pub use crate::log::{LogLine, log_laws, write_log};
 pub use crate::metrics::{Gauges, Metrics};
 pub use crate::page::{MAX_ROWS, RowState, SessionRow, write_page};
 pub use crate::passwords::{

@@ -1,5 +1,10 @@
 //! The status page.
 
+ghost use Rattle.std.specs.Prelude.{◌≡◌, OnOk};
+ghost use Rattle.std.specs.List.{flat_map};
+ghost use Rattle.std.specs.Io.KnownBytes.{Appends};
+ghost use Rattle.mq_status.specs.Page.{row_text, state_word};
+
 use crate::counter::COUNTERS;
 use crate::html::HtmlEscaped;
 use crate::metrics::{Gauges, Metrics};
@@ -76,7 +81,7 @@ const TOTALS: [&str; 11] = [
 ];
 
 /// The state of a session, as the page shows it.
-#[derive(Clone, Copy, Debug, PartialEq, Eq)]
+#[derive(Clone, Copy)]
 pub enum RowState {
     /// Its client is connected.
     Connected,
@@ -89,7 +94,7 @@ pub enum RowState {
 }
 
 /// A row of the page: a session.
-#[derive(Debug, Drop)]
+#[derive(Drop)]
 pub struct SessionRow {
     /// The client identifier.
     pub client: Text,
@@ -106,7 +111,10 @@ pub struct SessionRow {
 }
 
 impl RowState {
-    fn word(self) -> &'static str {
+    // The word of the page for it.
+    fn word(self) -> &'static str
+        ensures { result.now ≡ state_word self }
+    {
         match self {
             RowState::Connected => "connected",
             RowState::Away => "away",
@@ -117,7 +125,10 @@ impl RowState {
 }
 
 // Writes a row of the table of sessions.
-fn write_row<W: Write>(output: &mut W, row: &SessionRow) -> io::Result<()> {
+fn write_row<W: Write>(output: &mut W, row: &SessionRow) -> io::Result<()>
+    ensures { OnOk result (Appends (W.contents output.old) (W.contents output.new)
+        (row_text row.now)) }
+{
     let client = HtmlEscaped(row.client.as_str());
     let (messages, bytes) = (row.stored_messages, row.stored_bytes);
     let (pending, missed, state) = (row.pending_bytes, row.missed, row.state.word());
@@ -128,7 +139,10 @@ fn write_row<W: Write>(output: &mut W, row: &SessionRow) -> io::Result<()> {
 }
 
 // Writes the rows of the table of sessions.
-fn write_rows<W: Write>(output: &mut W, rows: &[SessionRow]) -> io::Result<()> {
+fn write_rows<W: Write>(output: &mut W, rows: &[SessionRow]) -> io::Result<()>
+    ensures { OnOk result (Appends (W.contents output.old) (W.contents output.new)
+        (flat_map row_text rows.now)) }
+{
     for row in rows {
         write_row(output, row)?;
     }

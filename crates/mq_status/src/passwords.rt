@@ -1,16 +1,23 @@
 //! The file of passwords.
 
-ghost use Rattle.std.specs.Prelude.{◌≡◌};
-ghost use Rattle.mq_status.specs.declared.passwords.LineError.TheVariants.{Memory};
+ghost use Rattle.std.specs.Prelude.{◌≡◌, ◌++◌, ◌↔◌, true, false, map, Ok, IfOk, IfErr, IsErrOf};
+ghost use Rattle.std.specs.String.{string_bytes};
+ghost use Rattle.std.specs.List.{list_all};
+ghost use Rattle.std.specs.Result.{result_ok};
+ghost use Rattle.std.specs.Str.Lines.{lines};
+ghost use Rattle.hex.specs.Hex.{decode_sized};
+ghost use Rattle.sha2.specs.Sha256.{sha256};
+ghost use Rattle.mq_status.specs.Passwords.{Adds, AreUsersOf, Gives, Refuses, RefusesLine, RefusesLines, accepts, entry_of, field_in, file_gives, hash_in, is_field, is_field_byte, is_name, is_skipped, line_gives, lines_give, name_in, password_line, plain_of, stored_in};
 
 use bytes::Bytes;
+use hex::FromHex;
 use mq_end::BoxedList;
 use mq_packet::Binary;
 use mq_route::User;
 use mq_wire::{Text, TextFault};
 use sha2::{Digest, Sha256};
 use simdutf8::basic::from_utf8;
-use std::alloc::{AllocError, Global};
+use std::alloc::{AllocError, AllocFailed, Global};
 use thiserror::Error;
 
 /// Why a line of the file is wrong.
@@ -22,9 +29,6 @@ pub enum PasswordFault {
     /// The name is empty.
     #[error("the name is empty")]
     NoName,
-    /// The name is not valid UTF-8.
-    #[error("the name is not UTF-8")]
-    NotUtf8,
     /// The name has more than 65,535 bytes or contains U+0000 (1.5.3).
     #[error("the name is not a text of MQTT")]
     NotText,
@@ -45,19 +49,47 @@ pub enum PasswordsError {
     /// A line is wrong. Lines are counted from 1.
     #[error("line {line}: {fault}")]
     Line { line: usize, fault: PasswordFault },
+    /// The file is not UTF-8.
+    #[error("the file is not UTF-8")]
+    NotUtf8,
     /// An allocation failed.
     #[error("out of memory")]
-    Memory(#[from(alloc)] AllocError),
+    Memory,
+}
+
+impl From<AllocError> for PasswordsError {
+    ghost use Rattle.std.specs.Prelude.{◌≡◌};
+    ghost use Rattle.mq_status.specs.declared.passwords.PasswordsError.TheVariants.{Memory};
+
+    ghost from_gives = { λ _ e. e ≡ Memory };
+
+    fn from(_e: AllocError) -> PasswordsError {
+        PasswordsError::Memory
+    }
+}
+
+impl<T: Drop> From<AllocFailed<T>> for PasswordsError {
+    ghost use Rattle.std.specs.Prelude.{◌≡◌};
+    ghost use Rattle.mq_status.specs.declared.passwords.PasswordsError.TheVariants.{Memory};
+
+    ghost from_gives = { λ _ e. e ≡ Memory };
+
+    fn from(_e: AllocFailed<T>) -> PasswordsError {
+        PasswordsError::Memory
+    }
 }
 
 // Why a line gives no entry.
-#[derive(Debug, Drop)]
+#[derive(Drop)]
 enum LineError {
     Fault(PasswordFault),
     Memory,
 }
 
 impl From<AllocError> for LineError {
+    ghost use Rattle.std.specs.Prelude.{◌≡◌};
+    ghost use Rattle.mq_status.specs.declared.passwords.LineError.TheVariants.{Memory};
+
     ghost from_gives = { λ _ e. e ≡ Memory };
 
     fn from(_e: AllocError) -> LineError {
@@ -66,7 +98,7 @@ impl From<AllocError> for LineError {
 }
 
 /// A stored password.
-#[derive(Debug, Drop)]
+#[derive(Drop)]
 pub enum Stored {
     /// The password.
     Plain(Binary),
@@ -75,7 +107,7 @@ pub enum Stored {
 }
 
 /// An entry of the file.
-#[derive(Debug, Drop)]
+#[derive(Drop)]
 pub struct Entry {
     /// The number of its line, from 1 on.
     pub line: usize,
@@ -86,7 +118,9 @@ pub struct Entry {
 }
 
 // The digest of a salt followed by a password.
-fn digest_of(salt: &[u8], password: &[u8]) -> [u8; 32] {
+fn digest_of(salt: &[u8], password: &[u8]) -> [u8; 32]
+    ensures { result ≡ sha256 (salt.now ++ password.now) }
+{
     let mut hasher = Sha256::new();
     hasher.update(salt);
     hasher.update(password);
@@ -95,111 +129,189 @@ fn digest_of(salt: &[u8], password: &[u8]) -> [u8; 32] {
 
 impl Stored {
     /// Returns whether this is the stored password.
-    pub fn check(&self, password: &[u8]) -> bool {
+    pub fn check(&self, password: &[u8]) -> bool
+        ensures { result ≡ accepts self.now password.now }
+    {
         match self {
             Stored::Plain(stored) => stored.as_slice() == password,
-            Stored::Sha256 { salt, digest } => *digest == digest_of(salt.as_slice(), password),
+            Stored::Sha256 { salt, digest } => {
+                digest.as_slice() == digest_of(salt.as_slice(), password).as_slice()
+            }
         }
     }
 }
 
-// The parts of `bytes` before and behind the first `mark`, or `None` if there is none.
-fn split_at(bytes: &[u8], mark: u8) -> Option<(&[u8], &[u8])> {
-    let place = bytes.iter().position(|byte| *byte == mark)?;
-    Some((&bytes[..place], &bytes[place + 1..]))
-}
-
 // Copies a password or a salt.
-fn copy_field(alloc: Global, bytes: &[u8]) -> Result<Binary, LineError> {
-    let bytes = Bytes::copy_from_slice(alloc, bytes)?;
+fn copy_field(alloc: Global, text: &str) -> Result<Binary, LineError>
+    ensures { Gives (field_in text.now) result }
+{
+    let bytes = Bytes::copy_from_slice(alloc, text.as_bytes())?;
     match Binary::new(bytes) {
         Some(field) => Ok(field),
         None => Err(LineError::Fault(PasswordFault::TooLong)),
     }
 }
 
+// Reads `HEX`.
+fn read_digest(digits: &str) -> Option<[u8; 32]>
+    ensures { result ≡ result_ok (decode_sized digits.now 32) }
+{
+    <[u8; 32] as FromHex>::from_hex(digits).ok()
+}
+
 // Reads `SALT:HEX`.
-fn read_hash(alloc: Global, bytes: &[u8]) -> Result<Stored, LineError> {
-    let Some((salt, digits)) = split_at(bytes, b':') else {
+fn read_hash(alloc: Global, text: &str) -> Result<Stored, LineError>
+    ensures { Gives (hash_in text.now) result }
+{
+    let Some((salt, digits)) = text.split_once(':') else {
         return Err(LineError::Fault(PasswordFault::NotHash));
     };
-    let mut digest = [0; 32];
-    if hex::decode_to_slice(digits, &mut digest).is_err() {
+    let Some(digest) = read_digest(digits) else {
         return Err(LineError::Fault(PasswordFault::NotHash));
-    }
+    };
     let salt = copy_field(alloc, salt)?;
     Ok(Stored::Sha256 { salt, digest })
 }
 
-// Reads what follows the colon behind the name.
-fn read_stored(alloc: Global, bytes: &[u8]) -> Result<Stored, LineError> {
-    if let Some(hash) = bytes.strip_prefix(b"sha256:") {
-        return read_hash(alloc, hash);
+// Reads a plain password.
+fn read_plain(alloc: Global, text: &str) -> Result<Stored, LineError>
+    ensures { Gives (plain_of (field_in text.now)) result }
+{
+    match copy_field(alloc, text) {
+        Ok(password) => Ok(Stored::Plain(password)),
+        Err(error) => Err(error),
     }
-    Ok(Stored::Plain(copy_field(alloc, bytes)?))
+}
+
+// Reads a stored password, plain or hashed.
+fn read_stored(alloc: Global, text: &str) -> Result<Stored, LineError>
+    ensures { Gives (stored_in text.now) result }
+{
+    if let Some((kind, hash)) = text.split_once(':') {
+        if kind == "sha256" {
+            return read_hash(alloc, hash);
+        }
+    }
+    read_plain(alloc, text)
 }
 
 // Reads a name.
-fn read_name(alloc: Global, bytes: &[u8]) -> Result<Text, LineError> {
-    if bytes.is_empty() {
+fn read_name(alloc: Global, text: &str) -> Result<Text, LineError>
+    ensures { Gives (name_in text.now) result }
+{
+    if text.is_empty() {
         return Err(LineError::Fault(PasswordFault::NoName));
     }
-    let Ok(name) = from_utf8(bytes) else {
-        return Err(LineError::Fault(PasswordFault::NotUtf8));
-    };
-    match Text::new(alloc, name) {
+    match Text::new(alloc, text) {
         Ok(name) => Ok(name),
         Err(TextFault::Memory) => Err(LineError::Memory),
-        Err(_) => Err(LineError::Fault(PasswordFault::NotText)),
+        Err(TextFault::TooLong) => Err(LineError::Fault(PasswordFault::NotText)),
+        Err(TextFault::Nul) => Err(LineError::Fault(PasswordFault::NotText)),
     }
 }
 
-// Reads a line without its end; `None` if it is empty or a comment.
-fn read_line(alloc: Global, line: &[u8]) -> Result<Option<(Text, Stored)>, LineError> {
-    if line.is_empty() || line[0] == b'#' {
-        return Ok(None);
-    }
-    let Some((name, password)) = split_at(line, b':') else {
-        return Err(LineError::Fault(PasswordFault::NoColon));
-    };
+// Returns whether a line is empty or a comment.
+fn is_skipped(line: &str) -> bool
+    ensures { result ≡ is_skipped line.now }
+{
+    let bytes = line.as_bytes();
+    bytes.is_empty() || bytes[0] == b'#'
+}
+
+// Reads an entry.
+fn read_entry(alloc: Global, number: usize, name: &str, password: &str) -> Result<Entry, LineError>
+    ensures { Gives (entry_of number (name_in name.now) (stored_in password.now)) result }
+{
     let name = read_name(alloc, name)?;
     let stored = read_stored(alloc, password)?;
-    Ok(Some((name, stored)))
+    Ok(Entry {
+        line: number,
+        name,
+        stored,
+    })
 }
 
-/// Reads a file of passwords. A line is `NAME:PASSWORD` or `NAME:sha256:SALT:HEX`, where HEX is the
-/// SHA-256 digest of SALT followed by the password, in hexadecimal. It ends with a line feed; a
-/// carriage return before it is no part of the line. Empty lines and lines that begin with `#` are
-/// skipped. A name may have several lines, each with a password of its own.
-pub fn read_passwords(alloc: Global, file: &[u8]) -> Result<Vec<Entry>, PasswordsError> {
+// Reads a line.
+fn read_line(alloc: Global, number: usize, line: &str) -> Result<Option<Entry>, LineError>
+    ensures { Gives (line_gives number line.now) result }
+{
+    if is_skipped(line) {
+        return Ok(None);
+    }
+    match line.split_once(':') {
+        Some((name, password)) => match read_entry(alloc, number, name, password) {
+            Ok(entry) => Ok(Some(entry)),
+            Err(error) => Err(error),
+        },
+        None => Err(LineError::Fault(PasswordFault::NoColon)),
+    }
+}
+
+// The lines of a text.
+fn lines_of(alloc: Global, text: &str) -> Result<Vec<&str>, AllocError>
+    ensures { IfOk result (λ parts. map (λ x. x.now) parts.items ≡ lines text.now) }
+{
+    text.lines().collect(alloc)
+}
+
+// Reads a line, and adds its entry, if it has one.
+fn push_line(
+    alloc: Global,
+    number: usize,
+    line: &str,
+    entries: &mut Vec<Entry>,
+) -> Result<(), PasswordsError>
+    ensures entries { IfOk result (λ _.
+        Adds (line_gives number line.now) entries.old.items entries.new.items) }
+    ensures refusal { IfErr result (RefusesLine number (line_gives number line.now)) }
+{
+    match read_line(alloc, number, line) {
+        Ok(None) => Ok(()),
+        Ok(Some(entry)) => Ok(entries.push(entry)?),
+        Err(LineError::Fault(fault)) => Err(PasswordsError::Line {
+            line: number,
+            fault,
+        }),
+        Err(LineError::Memory) => Err(PasswordsError::Memory),
+    }
+}
+
+// Reads lines.
+#[tactic(auto, using(crate::proofs::Joined::behind_none, crate::proofs::Joined::line_next, crate::proofs::Joined::line_refused))]
+fn read_lines(alloc: Global, lines: &[&str]) -> Result<Vec<Entry>, PasswordsError>
+    ensures entries { IfOk result (λ entries.
+        lines_give 1 (map (λ x. x.now) lines.now) ≡ Ok entries.items) }
+    ensures refusal { IfErr result (RefusesLines (lines_give 1 (map (λ x. x.now) lines.now))) }
+{
     let mut entries = Vec::new(alloc);
-    let mut number: usize = 0;
-    for line in file.split(|byte| *byte == b'\n') {
-        number += 1;
-        let line = line.strip_suffix(b"\r").unwrap_or(line);
-        match read_line(alloc, line) {
-            Ok(None) => {}
-            Ok(Some((name, stored))) => entries.push(Entry {
-                line: number,
-                name,
-                stored,
-            })?,
-            Err(LineError::Fault(fault)) => {
-                return Err(PasswordsError::Line {
-                    line: number,
-                    fault,
-                });
-            }
-            Err(LineError::Memory) => return Err(PasswordsError::Memory(AllocError)),
+    for (index, line) in lines.iter().enumerate() {
+        if let Err(error) = push_line(alloc, index + 1, *line, &mut entries) {
+            return Err(error);
         }
     }
     Ok(entries)
 }
 
+/// Reads a file of passwords. A line is `NAME:PASSWORD` or `NAME:sha256:SALT:HEX`, where HEX is the
+/// SHA-256 digest of SALT followed by the password, in hexadecimal. Empty lines and lines that
+/// begin with `#` are skipped. A name may have several lines, each with a password of its own.
+pub fn read_passwords(alloc: Global, file: &[u8]) -> Result<Vec<Entry>, PasswordsError>
+    ensures entries { IfOk result (λ entries. file_gives file.now ≡ Ok entries.items) }
+    ensures refusal { IfErr result (Refuses file.now) }
+{
+    let Ok(text) = from_utf8(file) else {
+        return Err(PasswordsError::NotUtf8);
+    };
+    let lines = lines_of(alloc, text)?;
+    read_lines(alloc, lines.as_slice())
+}
+
 /// Returns the users of a broker. Error: `Line` with the fault `Hashed` at the first entry whose
 /// password is not plain. The broker compares plain passwords until its definition of a login
 /// knows hashes.
-pub fn plain_users(alloc: Global, entries: Vec<Entry>) -> Result<BoxedList<User>, PasswordsError> {
+pub fn plain_users(alloc: Global, entries: Vec<Entry>) -> Result<BoxedList<User>, PasswordsError>
+    ensures { IfOk result (AreUsersOf entries.items) }
+{
     let mut users = Vec::new(alloc);
     for entry in entries {
         let Entry { line, name, stored } = entry;
@@ -217,35 +329,72 @@ pub fn plain_users(alloc: Global, entries: Vec<Entry>) -> Result<BoxedList<User>
 /// Why a line of a file of passwords can't be written.
 #[derive(Debug, Drop, Error)]
 pub enum PasswordLineError {
-    /// The name is empty, begins with `#`, is no text of MQTT, or has a colon or a control
+    /// The name is empty, begins with `#`, has over 65,535 bytes, or has a colon or a control
     /// character.
     #[error("the name can't stand in a file of passwords")]
     Name,
-    /// The salt has a colon or a control character, or more than 65,535 bytes.
+    /// The salt has over 65,535 bytes, or has a colon or a control character.
     #[error("the salt can't stand in a file of passwords")]
     Salt,
     /// An allocation failed.
     #[error("out of memory")]
-    Memory(#[from(alloc)] AllocError),
+    Memory,
 }
 
-// Returns whether a text can stand between the colons of a line.
-fn is_field(text: &str) -> bool {
-    text.len() < 65_536
-        && text
-            .as_bytes()
-            .iter()
-            .all(|byte| *byte >= 32 && *byte != b':')
+impl From<AllocError> for PasswordLineError {
+    ghost use Rattle.std.specs.Prelude.{◌≡◌};
+    ghost use Rattle.mq_status.specs.declared.passwords.PasswordLineError.TheVariants.{Memory};
+
+    ghost from_gives = { λ _ e. e ≡ Memory };
+
+    fn from(_e: AllocError) -> PasswordLineError {
+        PasswordLineError::Memory
+    }
 }
 
-/// Returns the line `NAME:sha256:SALT:HEX`, without a line end, for a file of passwords.
+// Returns whether a byte can be part of a field of a line.
+fn is_field_byte(byte: u8) -> bool
+    ensures { result ≡ is_field_byte byte }
+{
+    byte >= 32 && byte != b':'
+}
+
+// Returns whether each byte can be part of a field of a line.
+fn has_field_bytes(text: &[u8]) -> bool
+    ensures { result ≡ list_all is_field_byte text.now }
+{
+    text.iter().all(|byte| is_field_byte(*byte))
+}
+
+// Returns whether a text can be a field of a line.
+fn is_field(text: &str) -> bool
+    ensures { result ≡ is_field text.now }
+{
+    text.len() <= 65_535 && has_field_bytes(text.as_bytes())
+}
+
+// Returns whether a text can be the name in a line.
+fn is_name(text: &str) -> bool
+    ensures { result ≡ is_name text.now }
+{
+    !is_skipped(text) && is_field(text)
+}
+
+/// Returns the line `NAME:sha256:SALT:HEX`, without a line end, for a file of passwords. The salt
+/// should be random, and of at least 16 characters.
 pub fn password_line(
     alloc: Global,
     name: &str,
     salt: &str,
     password: &[u8],
-) -> Result<String, PasswordLineError> {
-    if name.is_empty() || name.as_bytes()[0] == b'#' || !is_field(name) {
+) -> Result<String, PasswordLineError>
+    ensures line { IfOk result (λ line.
+        string_bytes line ≡ password_line name.now salt.now password.now) }
+    ensures name { IsErrOf result PasswordLineError.Name ↔ (is_name name.now ≡ false) }
+    ensures salt { IsErrOf result PasswordLineError.Salt
+        ↔ ((is_name name.now ≡ true) × (is_field salt.now ≡ false)) }
+{
+    if !is_name(name) {
         return Err(PasswordLineError::Name);
     }
     if !is_field(salt) {

@@ -1,236 +1,429 @@
 //! Metrics as Prometheus text.
 
-use crate::counter::Counter;
+ghost use Rattle.std.specs.Prelude.{◌++◌, ◌<◌, codes, OnOk};
+ghost use Rattle.std.specs.Io.KnownBytes.{Appends};
+ghost use Rattle.std.specs.List.{flat_map};
+ghost use Rattle.mq_status.specs.Prometheus.{by_qos_text, closed_text, gauges_text, head_text, memory_text, messages_text, missed_text, refused_text, rounds_text, sample_text, seconds_text, sessions_text, single_text, traffic_text, wills_text};
+
+use crate::counter::COUNTERS;
 use crate::metrics::{Gauges, Metrics};
 use std::io;
 use std::io::Write;
 
-// Writes the head of a family of samples.
-fn write_head<W: Write>(output: &mut W, name: &str, help: &str, kind: &str) -> io::Result<()> {
-    writeln!(output, "# HELP {name} {help}")?;
-    writeln!(output, "# TYPE {name} {kind}")
+// A sample of a family, and the value of its label.
+#[derive(Clone, Copy)]
+struct Sample {
+    label: &'static str,
+    value: u64,
 }
 
-// Writes a family with one sample.
+// Writes the head of a family.
+fn write_head<W: Write>(output: &mut W, name: &str, help: &str, kind: &str) -> io::Result<()>
+    ensures { OnOk result (Appends (W.contents output.old) (W.contents output.new)
+        (head_text name.now help.now kind.now)) }
+{
+    writeln!(output, "# HELP {name} {help}\n# TYPE {name} {kind}")
+}
+
+// Writes a sample of a family.
+fn write_sample<W: Write>(
+    output: &mut W,
+    name: &str,
+    key: &str,
+    label: &str,
+    value: u64,
+) -> io::Result<()>
+    ensures { OnOk result (Appends (W.contents output.old) (W.contents output.new)
+        (sample_text name.now key.now label.now value)) }
+{
+    writeln!(output, "{name}{{{key}=\"{label}\"}} {value}")
+}
+
+// Writes the samples of a family.
+fn write_samples<W: Write>(
+    output: &mut W,
+    name: &str,
+    key: &str,
+    samples: &[Sample],
+) -> io::Result<()>
+    ensures { OnOk result (Appends (W.contents output.old) (W.contents output.new)
+        (flat_map (λ s. sample_text name.now key.now s.label.now s.value) samples.now)) }
+{
+    for sample in samples {
+        write_sample(output, name, key, sample.label, sample.value)?;
+    }
+    Ok(())
+}
+
+// Writes a family of counters.
+fn write_family<W: Write>(
+    output: &mut W,
+    name: &str,
+    help: &str,
+    key: &str,
+    samples: &[Sample],
+) -> io::Result<()>
+    ensures { OnOk result (Appends (W.contents output.old) (W.contents output.new)
+        (head_text name.now help.now (codes "counter")
+        ++ flat_map (λ s. sample_text name.now key.now s.label.now s.value) samples.now)) }
+{
+    write_head(output, name, help, "counter")?;
+    write_samples(output, name, key, samples)
+}
+
+// Writes a family of one sample.
 fn write_single<W: Write>(
     output: &mut W,
     name: &str,
     help: &str,
     kind: &str,
     value: u64,
-) -> io::Result<()> {
+) -> io::Result<()>
+    ensures { OnOk result (Appends (W.contents output.old) (W.contents output.new)
+        (single_text name.now help.now kind.now value)) }
+{
     write_head(output, name, help, kind)?;
     writeln!(output, "{name} {value}")
 }
 
-// Writes a family of counters, one sample for each value of its label.
-fn write_family<W: Write>(
+// Writes a family of counters with one sample for each quality of service, the first at `place`.
+fn write_by_qos<W: Write>(
     output: &mut W,
     name: &str,
     help: &str,
-    label: &str,
-    values: &[&str],
-    counts: &[u64],
-) -> io::Result<()> {
-    write_head(output, name, help, "counter")?;
-    for (value, count) in values.iter().zip(counts) {
-        writeln!(output, "{name}{{{label}=\"{value}\"}} {count}")?;
-    }
-    Ok(())
+    counts: &[u64; COUNTERS],
+    place: usize,
+) -> io::Result<()>
+    requires { place < 40 }
+    ensures { OnOk result (Appends (W.contents output.old) (W.contents output.new)
+        (by_qos_text name.now help.now counts.now place)) }
+{
+    let samples = [
+        Sample {
+            label: "0",
+            value: counts[place],
+        },
+        Sample {
+            label: "1",
+            value: counts[place + 1],
+        },
+        Sample {
+            label: "2",
+            value: counts[place + 2],
+        },
+    ];
+    write_family(output, name, help, "qos", &samples)
 }
 
-// The name and the help of a family.
-#[derive(Clone, Copy)]
-struct Family {
-    name: &'static str,
-    help: &'static str,
+// Writes the counters of messages that come in and go out.
+fn write_messages<W: Write>(output: &mut W, counts: &[u64; COUNTERS]) -> io::Result<()>
+    ensures { OnOk result (Appends (W.contents output.old) (W.contents output.new)
+        (messages_text counts.now)) }
+{
+    let help = "Messages accepted from clients.";
+    write_by_qos(output, "mqtt_messages_in_total", help, counts, 0)?;
+    let help = "Topic and payload bytes of messages accepted from clients.";
+    write_by_qos(output, "mqtt_message_bytes_in_total", help, counts, 3)?;
+    let help = "Copies of messages placed for clients.";
+    write_by_qos(output, "mqtt_messages_out_total", help, counts, 6)?;
+    let help = "Topic and payload bytes of copies placed for clients.";
+    write_by_qos(output, "mqtt_message_bytes_out_total", help, counts, 9)
 }
 
-const GAUGES: [Family; 7] = [
-    Family {
-        name: "mqtt_connections",
-        help: "Connections that are open.",
-    },
-    Family {
-        name: "mqtt_sessions",
-        help: "Sessions that are stored.",
-    },
-    Family {
-        name: "mqtt_subscriptions",
-        help: "Subscriptions of all sessions.",
-    },
-    Family {
-        name: "mqtt_retained_messages",
-        help: "Retained messages.",
-    },
-    Family {
-        name: "mqtt_stored_messages",
-        help: "Messages stored in sessions.",
-    },
-    Family {
-        name: "mqtt_stored_bytes",
-        help: "Topic and payload bytes of messages stored in sessions.",
-    },
-    Family {
-        name: "mqtt_pending_bytes",
-        help: "Bytes pending on connections.",
-    },
-];
-
-// In the order of the counters from `Connected` on.
-const TOTALS: [Family; 9] = [
-    Family {
-        name: "mqtt_connects_accepted_total",
-        help: "CONNECT packets accepted.",
-    },
-    Family {
-        name: "mqtt_sessions_ended_total",
-        help: "Sessions removed.",
-    },
-    Family {
-        name: "mqtt_subscribes_total",
-        help: "Subscriptions stored.",
-    },
-    Family {
-        name: "mqtt_unsubscribes_total",
-        help: "Subscriptions removed by UNSUBSCRIBE.",
-    },
-    Family {
-        name: "mqtt_wills_total",
-        help: "Wills published.",
-    },
-    Family {
-        name: "mqtt_wills_dropped_total",
-        help: "Wills dropped.",
-    },
-    Family {
-        name: "mqtt_bytes_read_total",
-        help: "Bytes read from connections.",
-    },
-    Family {
-        name: "mqtt_bytes_written_total",
-        help: "Bytes written to connections.",
-    },
-    Family {
-        name: "mqtt_connections_turned_away_total",
-        help: "Connections closed at once because there were too many.",
-    },
-];
-
-const QOS: [&str; 3] = ["0", "1", "2"];
-
-const CLOSES: [&str; 12] = [
-    "C1", "C2", "C3", "C4", "C5", "C6", "C7", "C8", "C9", "C10", "C11", "C12",
-];
-
-// Writes the counters of messages.
-fn write_messages<W: Write>(output: &mut W, counts: &[u64; 42]) -> io::Result<()> {
-    write_family(
-        output,
-        "mqtt_messages_in_total",
-        "Messages accepted from clients.",
-        "qos",
-        &QOS,
-        &counts[0..3],
-    )?;
-    write_family(
-        output,
-        "mqtt_message_bytes_in_total",
-        "Topic and payload bytes of messages accepted from clients.",
-        "qos",
-        &QOS,
-        &counts[3..6],
-    )?;
-    write_family(
-        output,
-        "mqtt_messages_out_total",
-        "Copies of messages placed for clients.",
-        "qos",
-        &QOS,
-        &counts[6..9],
-    )?;
-    write_family(
-        output,
-        "mqtt_message_bytes_out_total",
-        "Topic and payload bytes of copies placed for clients.",
-        "qos",
-        &QOS,
-        &counts[9..12],
-    )?;
-    write_family(
-        output,
-        "mqtt_messages_missed_total",
-        "Copies that a client missed.",
-        "reason",
-        &["session_full", "output_full"],
-        &counts[12..14],
-    )
+// Writes the counters of missed messages.
+fn write_missed<W: Write>(output: &mut W, counts: &[u64; COUNTERS]) -> io::Result<()>
+    ensures { OnOk result (Appends (W.contents output.old) (W.contents output.new)
+        (missed_text counts.now)) }
+{
+    let samples = [
+        Sample {
+            label: "session_full",
+            value: counts[12],
+        },
+        Sample {
+            label: "output_full",
+            value: counts[13],
+        },
+    ];
+    let (name, help) = ("mqtt_messages_missed_total", "Copies that a client missed.");
+    write_family(output, name, help, "reason", &samples)
 }
 
-// Writes the counters of connections.
-fn write_connections<W: Write>(output: &mut W, counts: &[u64; 42]) -> io::Result<()> {
-    write_family(
-        output,
+// Writes the counters of closed connections.
+fn write_closed<W: Write>(output: &mut W, counts: &[u64; COUNTERS]) -> io::Result<()>
+    ensures { OnOk result (Appends (W.contents output.old) (W.contents output.new)
+        (closed_text counts.now)) }
+{
+    let samples = [
+        Sample {
+            label: "C1",
+            value: counts[14],
+        },
+        Sample {
+            label: "C2",
+            value: counts[15],
+        },
+        Sample {
+            label: "C3",
+            value: counts[16],
+        },
+        Sample {
+            label: "C4",
+            value: counts[17],
+        },
+        Sample {
+            label: "C5",
+            value: counts[18],
+        },
+        Sample {
+            label: "C6",
+            value: counts[19],
+        },
+        Sample {
+            label: "C7",
+            value: counts[20],
+        },
+        Sample {
+            label: "C8",
+            value: counts[21],
+        },
+        Sample {
+            label: "C9",
+            value: counts[22],
+        },
+        Sample {
+            label: "C10",
+            value: counts[23],
+        },
+        Sample {
+            label: "C11",
+            value: counts[24],
+        },
+        Sample {
+            label: "C12",
+            value: counts[25],
+        },
+    ];
+    let (name, help) = (
         "mqtt_connections_closed_total",
         "Connections closed, by reason.",
-        "code",
-        &CLOSES,
-        &counts[14..26],
-    )?;
+    );
+    write_family(output, name, help, "code", &samples)
+}
+
+// Writes the counters of refused CONNECT packets.
+fn write_refused<W: Write>(output: &mut W, counts: &[u64; COUNTERS]) -> io::Result<()>
+    ensures { OnOk result (Appends (W.contents output.old) (W.contents output.new)
+        (refused_text counts.now)) }
+{
+    let samples = [
+        Sample {
+            label: "1",
+            value: counts[26],
+        },
+        Sample {
+            label: "2",
+            value: counts[27],
+        },
+        Sample {
+            label: "3",
+            value: counts[28],
+        },
+        Sample {
+            label: "4",
+            value: counts[29],
+        },
+        Sample {
+            label: "5",
+            value: counts[30],
+        },
+    ];
+    let help = "CONNECT packets refused, by return code.";
     write_family(
         output,
         "mqtt_connects_refused_total",
-        "CONNECT packets refused, by return code.",
+        help,
         "code",
-        &["1", "2", "3", "4", "5"],
-        &counts[26..31],
+        &samples,
     )
 }
 
-// Writes the counters without a label.
-fn write_totals<W: Write>(output: &mut W, counts: &[u64; 42]) -> io::Result<()> {
-    for (total, count) in TOTALS.iter().zip(&counts[31..40]) {
-        write_single(output, total.name, total.help, "counter", *count)?;
-    }
-    Ok(())
-}
-
-// Writes the gauges.
-fn write_gauges<W: Write>(output: &mut W, gauges: Gauges) -> io::Result<()> {
-    let values = [
-        gauges.connections,
-        gauges.sessions,
-        gauges.subscriptions,
-        gauges.retained,
-        gauges.stored_messages,
-        gauges.stored_bytes,
-        gauges.pending_bytes,
-    ];
-    for (gauge, value) in GAUGES.iter().zip(&values) {
-        write_single(output, gauge.name, gauge.help, "gauge", *value)?;
-    }
-    Ok(())
-}
-
-// Writes the number of rounds and their time in seconds.
-fn write_rounds<W: Write>(output: &mut W, rounds: u64, microseconds: u64) -> io::Result<()> {
-    let (seconds, rest) = (microseconds / 1_000_000, microseconds % 1_000_000);
-    write_head(
+// Writes the counters of sessions and subscriptions.
+fn write_sessions<W: Write>(output: &mut W, counts: &[u64; COUNTERS]) -> io::Result<()>
+    ensures { OnOk result (Appends (W.contents output.old) (W.contents output.new)
+        (sessions_text counts.now)) }
+{
+    let help = "CONNECT packets accepted.";
+    write_single(
         output,
-        "mqtt_round_seconds",
-        "Time of the event loop's rounds, without waiting.",
-        "summary",
+        "mqtt_connects_accepted_total",
+        help,
+        "counter",
+        counts[31],
     )?;
-    writeln!(output, "mqtt_round_seconds_sum {seconds}.{rest:06}")?;
+    let help = "Sessions removed.";
+    write_single(
+        output,
+        "mqtt_sessions_ended_total",
+        help,
+        "counter",
+        counts[32],
+    )?;
+    let help = "Subscriptions stored.";
+    write_single(output, "mqtt_subscribes_total", help, "counter", counts[33])?;
+    let help = "Subscriptions removed by UNSUBSCRIBE.";
+    write_single(
+        output,
+        "mqtt_unsubscribes_total",
+        help,
+        "counter",
+        counts[34],
+    )
+}
+
+// Writes the counters of wills.
+fn write_wills<W: Write>(output: &mut W, counts: &[u64; COUNTERS]) -> io::Result<()>
+    ensures { OnOk result (Appends (W.contents output.old) (W.contents output.new)
+        (wills_text counts.now)) }
+{
+    let help = "Wills published.";
+    write_single(output, "mqtt_wills_total", help, "counter", counts[35])?;
+    let help = "Wills dropped.";
+    write_single(
+        output,
+        "mqtt_wills_dropped_total",
+        help,
+        "counter",
+        counts[36],
+    )
+}
+
+// Writes the counters of the bytes and connections that the caller counts.
+fn write_traffic<W: Write>(output: &mut W, counts: &[u64; COUNTERS]) -> io::Result<()>
+    ensures { OnOk result (Appends (W.contents output.old) (W.contents output.new)
+        (traffic_text counts.now)) }
+{
+    let help = "Bytes read from connections.";
+    write_single(output, "mqtt_bytes_read_total", help, "counter", counts[37])?;
+    let help = "Bytes written to connections.";
+    write_single(
+        output,
+        "mqtt_bytes_written_total",
+        help,
+        "counter",
+        counts[38],
+    )?;
+    let help = "Connections closed at once because there were too many.";
+    write_single(
+        output,
+        "mqtt_connections_turned_away_total",
+        help,
+        "counter",
+        counts[39],
+    )
+}
+
+// Writes the line of the rounds' time in seconds.
+#[tactic(auto, using(crate::proofs::Padded::zeros_before))]
+fn write_seconds<W: Write>(output: &mut W, microseconds: u64) -> io::Result<()>
+    ensures { OnOk result (Appends (W.contents output.old) (W.contents output.new)
+        (seconds_text microseconds)) }
+{
+    let (seconds, rest) = (microseconds / 1_000_000, microseconds % 1_000_000);
+    writeln!(output, "mqtt_round_seconds_sum {seconds}.{rest:06}")
+}
+
+// Writes the number of rounds of the event loop, and their time in seconds.
+fn write_rounds<W: Write>(output: &mut W, counts: &[u64; COUNTERS]) -> io::Result<()>
+    ensures { OnOk result (Appends (W.contents output.old) (W.contents output.new)
+        (rounds_text counts.now)) }
+{
+    let help = "Time of the event loop's rounds, without waiting.";
+    write_head(output, "mqtt_round_seconds", help, "summary")?;
+    write_seconds(output, counts[41])?;
+    let rounds = counts[40];
     writeln!(output, "mqtt_round_seconds_count {rounds}")
+}
+
+// Writes the gauges of the broker.
+fn write_gauges<W: Write>(output: &mut W, gauges: Gauges) -> io::Result<()>
+    ensures { OnOk result (Appends (W.contents output.old) (W.contents output.new)
+        (gauges_text gauges)) }
+{
+    let help = "Connections that are open.";
+    write_single(
+        output,
+        "mqtt_connections",
+        help,
+        "gauge",
+        gauges.connections,
+    )?;
+    let help = "Sessions that are stored.";
+    write_single(output, "mqtt_sessions", help, "gauge", gauges.sessions)?;
+    let help = "Subscriptions of all sessions.";
+    write_single(
+        output,
+        "mqtt_subscriptions",
+        help,
+        "gauge",
+        gauges.subscriptions,
+    )?;
+    let help = "Retained messages.";
+    write_single(
+        output,
+        "mqtt_retained_messages",
+        help,
+        "gauge",
+        gauges.retained,
+    )
+}
+
+// Writes the gauges of memory.
+fn write_memory<W: Write>(output: &mut W, gauges: Gauges) -> io::Result<()>
+    ensures { OnOk result (Appends (W.contents output.old) (W.contents output.new)
+        (memory_text gauges)) }
+{
+    let help = "Messages stored in sessions.";
+    write_single(
+        output,
+        "mqtt_stored_messages",
+        help,
+        "gauge",
+        gauges.stored_messages,
+    )?;
+    let help = "Topic and payload bytes of messages stored in sessions.";
+    write_single(
+        output,
+        "mqtt_stored_bytes",
+        help,
+        "gauge",
+        gauges.stored_bytes,
+    )?;
+    let help = "Bytes pending on connections.";
+    write_single(
+        output,
+        "mqtt_pending_bytes",
+        help,
+        "gauge",
+        gauges.pending_bytes,
+    )
+}
+
+// Writes the counters.
+fn write_counters<W: Write>(output: &mut W, counts: &[u64; COUNTERS]) -> io::Result<()> {
+    write_messages(output, counts)?;
+    write_missed(output, counts)?;
+    write_closed(output, counts)?;
+    write_refused(output, counts)?;
+    write_sessions(output, counts)?;
+    write_wills(output, counts)?;
+    write_traffic(output, counts)?;
+    write_rounds(output, counts)
 }
 
 /// Appends the metrics in the text format of Prometheus, version 0.0.4.
 pub fn write_prometheus<W: Write>(output: &mut W, metrics: &Metrics) -> io::Result<()> {
     write_gauges(output, metrics.gauges())?;
-    write_messages(output, metrics.counts())?;
-    write_connections(output, metrics.counts())?;
-    write_totals(output, metrics.counts())?;
-    let rounds = metrics.count(Counter::Rounds);
-    write_rounds(output, rounds, metrics.count(Counter::RoundMicroseconds))
+    write_memory(output, metrics.gauges())?;
+    write_counters(output, metrics.counts())
 }
