@@ -1,11 +1,14 @@
 -- The connections of one broker after a step, or after a call of one socket.
-use Rattle.std.proofs.Common.{◌≡◌, ◌<◌, ℕ, zero, suc, Bool, true, false, cond, List, [], ◌∷◌, ◌++◌, length, get_or, set, Option, Some, None, IfSome, eqb, eqb-true, eq-eqb, true≢false, append_assoc, append-nil, refl, sym, ap, ap₂, subst, ◌∙◌, arith}
+use Rattle.std.proofs.Common.{◌≡◌, ◌<◌, ◌≤◌, ◌⊎◌, inl, inr, ◌==◌, ◌-◌, length-take, ℕ, zero, suc, Bool, true, false, cond, List, [], ◌∷◌, ◌++◌, length, set, Option, Some, None, IfSome, eqb, eqb-true, eq-eqb, true≢false, take, drop, append_assoc, append-nil, refl, sym, ap, ap₂, subst, ◌∙◌, arith}
+use Rattle.std.proofs.lemmas.List.{take_all, take-append-drop}
+use Rattle.std.proofs.lemmas.Bool.Decides.{nat_tests}
+use Rattle.bytes.proofs.Ranges.{drop-take_less}
+use Rattle.std.specs.Prelude.{slice_index_or}
 use Rattle.std.specs.Io.KnownBytes.{append_known}
 use Rattle.mq_route.specs.declared.conn.Conn.{Conn}
 use Rattle.mq_route.specs.declared.event.HubEvent.{HubEvent}
 use Rattle.mq_route.specs.declared.event.HubEvent.TheVariants.{Opened, Bytes, Ended, Tick, Collect}
 use Rattle.mq_route.specs.declared.reply.HubReply.{HubReply}
-use Rattle.mq_route.specs.declared.refusal.HubRefusal.{HubRefusal}
 use Rattle.mq_route.specs.Hub.{HubState}
 use Rattle.mq_route.specs.Runs.{Episode, Follows}
 use Rattle.mq_route.specs.Step.{Does, HubStep, event_refusal}
@@ -248,3 +251,71 @@ collect_served base h g lines q old new reply s step within is empty so =
     own a c =
         subst (λ (l : Line). Carries (record a { collected = a.collected ++ reply.output }) l) (sym so)
         (collected a (subst (λ (l : Option Line). CarriesAt a l) is c))
+
+-- a step with the front of the bytes that were read before
+pub unread_step_served : (base h g : HubState) (lines : List (Option Line)) (q : ℕ) (old new : Line) (unread : List ℕ) (n : ℕ) (reply : HubReply)
+    → IsServed (served_state base h lines) → HubStep h (Bytes (name_at q) (take n unread)) reply g → unread ≡ old.unread → q < length lines
+    → line_at q lines ≡ Some old → new ≡ record old { unread = drop n old.unread } → IsServed (served_state base g (set lines q (Some new)))
+unread_step_served base h g lines q old new unread n reply s step same within is so =
+    unread_served base h g lines q old new (take n old.unread) (drop n old.unread) reply s
+    (subst (λ (bytes : List ℕ). HubStep h (Bytes (name_at q) (take n bytes)) reply g) same step) within is
+    (sym (take-append-drop n old.unread)) so
+
+pub line_here : (lines : List (Option Line)) (q : ℕ) (line : Option Line) → q < length lines → line ≡ slice_index_or lines q line → line_at q lines ≡ line
+line_here [] q line within e = absurd (omega (arith, within))
+line_here (y ∷ ys) zero line within e = sym e
+line_here (y ∷ ys) (suc q) line within e = line_here ys q line (omega (arith, within)) e
+
+-- no step was made, and the connection is as before
+pub none_served : (base h g : HubState) (lines : List (Option Line)) (q : ℕ) (old : Line) → IsServed (served_state base h lines) → g ≡ h
+    → q < length lines → line_at q lines ≡ Some old → IsServed (served_state base g (set lines q (Some old)))
+none_served base h g lines q old s same within is =
+    subst (λ (hub : HubState). IsServed (served_state base hub (set lines q (Some old)))) (sym same)
+    (same_served base h lines q old old s within is refl)
+
+pub no_bytes : (xs : List ℕ) → true ≡ (length xs == 0) → xs ≡ []
+no_bytes [] h = refl
+no_bytes (x ∷ xs) h = absurd (grind (arith, nat_tests))
+
+front_rest : (n count : ℕ) (buffer : List ℕ) → n ≤ count → take count buffer ≡ take n (take count buffer) ++ take (count - n) (drop n buffer)
+front_rest n count buffer within =
+    sym (take-append-drop n (take count buffer)) ∙ ap (λ (b : List ℕ). take n (take count buffer) ++ b) (drop-take_less buffer n count within)
+
+front_all : (n count : ℕ) (buffer : List ℕ) → count ≤ n → take count buffer ≡ take n (take count buffer) ++ []
+front_all n count buffer within =
+    sym (take_all n (take count buffer) (omega (arith, length-take count buffer))) ∙ sym (append-nil (take n (take count buffer)))
+
+-- a step with the front of bytes that were read; the rest is kept, or lost
+pub rest_served : (base h g : HubState) (lines : List (Option Line)) (q : ℕ) (old mid new : Line) (buffer : List ℕ) (n count : ℕ) (reply : HubReply)
+    → IsServed (served_state base h lines) → HubStep h (Bytes (name_at q) (take n (take count buffer))) reply g → q < length lines → line_at q lines ≡ Some old → old.unread ≡ []
+    → mid.came ≡ append_known old.came (take count buffer) → mid ≡ record old { came = mid.came } → n ≤ count
+    → (new ≡ record mid { unread = take (count - n) (drop n buffer) }) ⊎ (new ≡ record mid { broken = true }) → IsServed (served_state base g (set lines q (Some new)))
+rest_served base h g lines q old mid new buffer n count reply s step within is empty came same part (inl kept) =
+    let rest : List ℕ = take (count - n) (drop n buffer) in
+    read_served base h g lines q old new (take count buffer) (take n (take count buffer)) rest reply s step within is empty (front_rest n count buffer part)
+    (kept ∙ (ap (λ (m : Line). record m { unread = rest }) same ∙ ap (λ (c : Option (List ℕ)). record old { came = c; unread = rest }) came))
+rest_served base h g lines q old mid new buffer n count reply s step within is empty came same part (inr lost) =
+    lost_step_served base h g lines q old new (take n (take count buffer)) mid.came reply s step within is
+    (lost ∙ ap (λ (m : Line). record m { broken = true }) same)
+
+-- a step with all bytes that were read
+pub all_served : (base h g : HubState) (lines : List (Option Line)) (q : ℕ) (old mid : Line) (buffer : List ℕ) (n count : ℕ) (reply : HubReply)
+    → IsServed (served_state base h lines) → HubStep h (Bytes (name_at q) (take n (take count buffer))) reply g → q < length lines → line_at q lines ≡ Some old → old.unread ≡ []
+    → mid.came ≡ append_known old.came (take count buffer) → mid ≡ record old { came = mid.came } → count ≤ n → IsServed (served_state base g (set lines q (Some mid)))
+all_served base h g lines q old mid buffer n count reply s step within is empty came same all =
+    read_served base h g lines q old mid (take count buffer) (take n (take count buffer)) [] reply s step within is empty (front_all n count buffer all)
+    (same ∙ (ap (λ (c : Option (List ℕ)). record old { came = c }) came ∙ ap (λ (b : List ℕ). record old { came = append_known old.came (take count buffer); unread = b }) empty))
+
+-- no step was made, and bytes that were read are lost
+pub none_lost_served : (base h g : HubState) (lines : List (Option Line)) (q : ℕ) (old mid new : Line) → IsServed (served_state base h lines) → g ≡ h
+    → q < length lines → line_at q lines ≡ Some old → mid ≡ record old { came = mid.came } → new ≡ record mid { broken = true }
+    → IsServed (served_state base g (set lines q (Some new)))
+none_lost_served base h g lines q old mid new s same within is read lost =
+    subst (λ (hub : HubState). IsServed (served_state base hub (set lines q (Some new)))) (sym same)
+    (lost_served base h lines q old new mid.came s within is (lost ∙ ap (λ (m : Line). record m { broken = true }) read))
+
+-- the line of one place is written as it was
+pub untouched_served : (base h : HubState) (lines : List (Option Line)) (q : ℕ) (line : Option Line) → IsServed (served_state base h lines) → q < length lines
+    → line_at q lines ≡ line → IsServed (served_state base h (set lines q line))
+untouched_served base h lines q line s within is =
+    line_served base h lines q line s within (λ a c. subst (λ (l : Option Line). CarriesAt a l) is c)

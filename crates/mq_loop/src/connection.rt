@@ -135,6 +135,7 @@ impl<S: Socket> Connection<S> {
     }
 
     /// Writes the kept output, as far as the socket takes it.
+    #[tactic(auto, using(crate::proofs::Sent::sends_none))]
     pub fn flush(&mut self) -> Flushed
         ensures went { Sends self.old.went self.old.kept self.new.went self.new.kept }
         ensures rest { self.new ≡ record self.old { went = self.new.went; kept = self.new.kept } }

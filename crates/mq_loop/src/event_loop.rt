@@ -1,5 +1,7 @@
 //! Rounds of a loop over all connections.
 
+ghost use Rattle.std.specs.Prelude.{◌≡◌, [], IfSome};
+
 mod acts;
 mod input;
 mod output;
@@ -187,7 +189,11 @@ impl<S: Socket + Drop, O: Observer + Drop> EventLoop<S, O> {
     ///
     /// The next round does not read from it, so that bytes which arrived earlier on other
     /// connections are handled first. Returns false, and drops the socket, if an allocation fails.
-    pub fn open(&mut self, place: u32, socket: S) -> bool {
+    /// The socket must be fresh.
+    pub fn open(&mut self, place: u32, socket: S) -> bool
+        requires came { IfSome (S.came socket) (λ bytes. bytes ≡ []) }
+        requires went { IfSome (S.went socket) (λ bytes. bytes ≡ []) }
+    {
         if self.vacant.last().copied() != Some(place) {
             return false;
         }

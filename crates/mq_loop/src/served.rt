@@ -156,7 +156,7 @@ impl<S: Socket + Drop> Served<S> {
 
     /// Makes the broker's step with bytes of a connection: with those that wait for a step, or else
     /// with bytes that are read into `buffer`, which must not be empty.
-    #[tactic(auto, using(crate::proofs::CarriedBytes::read_served, crate::proofs::CarriedBytes::lost_step_served, crate::proofs::CarriedBytes::lost_served, crate::proofs::CarriedBytes::same_served, crate::proofs::CarriedBytes::unread_served))]
+    #[tactic(auto, using(crate::proofs::CarriedBytes::same_served, crate::proofs::CarriedBytes::none_served))]
     pub fn read(&mut self, place: u32, buffer: &mut [u8]) -> Heard {
         let at = place as usize;
         if at >= self.connections.len() {
@@ -233,7 +233,6 @@ impl<S: Socket + Drop> Served<S> {
     }
 
     /// Writes the output that is kept for a connection, as far as its socket takes it.
-    #[tactic(auto, using(crate::proofs::CarriedBytes::flush_served))]
     pub fn flush(&mut self, place: u32) -> Flushed {
         let at = place as usize;
         if at >= self.connections.len() {

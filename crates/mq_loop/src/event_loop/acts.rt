@@ -33,11 +33,10 @@ impl<S: Socket + Drop, O: Observer + Drop> EventLoop<S, O> {
                     });
                 }
                 Act::Removed(key) => {
-                    let place = match closed {
-                        Some((place, client)) if client == *key => Some(place),
-                        _ => None,
-                    };
-                    self.report(Report::SessionEnded { place, key: *key });
+                    self.report(Report::SessionEnded {
+                        place: place_of(&closed, key),
+                        key: *key,
+                    });
                 }
                 _ => {}
             }
@@ -85,5 +84,13 @@ impl<S: Socket + Drop, O: Observer + Drop> EventLoop<S, O> {
             self.report(Report::Slow { place });
             self.put_over(place);
         }
+    }
+}
+
+// The place of a client's connection, if this is the one that was closed.
+fn place_of(closed: &Option<(u32, ClientKey)>, key: &ClientKey) -> Option<u32> {
+    match closed {
+        Some((place, client)) if client == key => Some(*place),
+        _ => None,
     }
 }
