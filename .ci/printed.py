@@ -925,6 +925,7 @@ HELPS = [
     ("--help", STATUSES),
     ("check -h", "\nExample: mqtt check stream.bin\n"),
     ("serve --help", "\nExample: mqtt serve --port 1883 --connections 3 --workers 1\n"),
+    ("broker --help", "\nExample: mqtt broker --listen 0.0.0.0:1883\n"),
     ("publish --help", "\nExample: mqtt publish --port 1883 --id p --topic a/b --qos 2 hi yo\n"),
     ("collect --help", "\nExample: mqtt collect --port 1883 --id c --filter 'a/#' --qos 2 --count 2\n"),
 ]

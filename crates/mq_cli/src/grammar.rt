@@ -5,6 +5,7 @@ ghost use Rattle.clap.specs.Words.{App, app_of, new_app, rule_of, with_rule, wit
 ghost use Rattle.clap.specs.declared.builder.command.Command.TheViews.{out-Command};
 ghost use Rattle.mq_cli.specs.Grammar.{bare_words, check_words, client_words, collect_words, file_rule, flag_rule, job_words, lenient_rule, match_words, number_rule, port_rule, program_words, publish_words, qos_rule, random_words, serve_words, show_words, socket_words, stream_words, text_rule, texts_rule, word_words};
 
+use crate::broker::broker_command;
 use clap::builder::ValueParser;
 use clap::{Arg, ArgAction, Command, value_parser};
 use std::alloc::{AllocError, Global};
@@ -49,10 +50,10 @@ Example: mqtt collect --port 1883 --id c --filter 'a/#' --qos 2 --count 2";
 
 // The help texts of a command.
 #[derive(Clone, Copy)]
-struct Texts<'a> {
-    name: &'a str,
-    about: &'a str,
-    example: &'a str,
+pub(crate) struct Texts<'a> {
+    pub(crate) name: &'a str,
+    pub(crate) about: &'a str,
+    pub(crate) example: &'a str,
 }
 
 // A command with one required argument.
@@ -71,7 +72,7 @@ fn word_command<'a>(
 }
 
 // A command without arguments.
-fn new_command<'a>(alloc: Global, texts: Texts<'a>) -> Command<'a>
+pub(crate) fn new_command<'a>(alloc: Global, texts: Texts<'a>) -> Command<'a>
     ensures words { app_of result ≡ new_app texts.entry.name.now }
     ensures local { (out-Command result).has_globals ≡ false }
 {
@@ -81,7 +82,7 @@ fn new_command<'a>(alloc: Global, texts: Texts<'a>) -> Command<'a>
 }
 
 // Adds an argument.
-fn with_arg<'a>(command: Command<'a>, arg: Arg<'a>) -> Result<Command<'a>, AllocError>
+pub(crate) fn with_arg<'a>(command: Command<'a>, arg: Arg<'a>) -> Result<Command<'a>, AllocError>
     requires { arg.global ≡ false }
     ensures words { IfOk result
         (λ new. app_of new ≡ with_rule (app_of command.entry) (rule_of arg.entry)) }
@@ -107,7 +108,7 @@ fn with_command<'a>(
 }
 
 // A flag.
-fn flag<'a>(alloc: Global, word: &'a str, name: &'a str, help: &'a str) -> Arg<'a>
+pub(crate) fn flag<'a>(alloc: Global, word: &'a str, name: &'a str, help: &'a str) -> Arg<'a>
     ensures rule { rule_of result ≡ flag_rule word.now name.now }
     ensures local { result.global ≡ false }
 {
@@ -127,7 +128,7 @@ fn lenient_flag<'a>(alloc: Global) -> Arg<'a>
 }
 
 // An optional file name.
-fn file_option<'a>(alloc: Global, word: &'a str, name: &'a str, help: &'a str) -> Arg<'a>
+pub(crate) fn file_option<'a>(alloc: Global, word: &'a str, name: &'a str, help: &'a str) -> Arg<'a>
     ensures rule { rule_of result ≡ file_rule word.now name.now }
     ensures local { result.global ≡ false }
 {
@@ -424,6 +425,7 @@ pub(crate) fn command_line<'a>(alloc: Global) -> Result<Command<'a>, AllocError>
     ensures { IfOk result (λ command. app_of command ≡ program_words) }
 {
     let line = socket_commands(alloc)?;
+    let line = with_command(line, broker_command(alloc))?;
     with_command(line, loopback_command(alloc))
 }
 

@@ -6,6 +6,7 @@ ghost use Rattle.mq_cli.specs.CommandLine.{GivesFlag, GivesId, GivesNumber, Give
 ghost use Rattle.mq_cli.specs.Grammar.{program_words};
 
 use crate::advice::advised;
+use crate::broker::broker_of;
 use crate::grammar::{command_line, shown_command};
 use crate::jobs::{Collect, Command, Job, Publish, Serve, Source};
 use clap::error::ErrorKind;
@@ -48,7 +49,11 @@ impl From<ParseError> for WordsFault {
 }
 
 // The value of an argument, if this command was given.
-fn given_of<'a>(matches: &ArgMatches<'a>, command: &str, word: &str) -> Option<Option<&'a str>>
+pub(crate) fn given_of<'a>(
+    matches: &ArgMatches<'a>,
+    command: &str,
+    word: &str,
+) -> Option<Option<&'a str>>
     ensures { IfSome result (λ value. HasWord (subcommand_rows_of matches.now)
         command.now word.now (option_map (λ text. text.now) value)) }
 {
@@ -81,7 +86,7 @@ fn source_of<'a>(matches: &ArgMatches<'a>, command: &str, word: &str) -> Option<
     Some(file_or_input(word_of(matches, command, word)?))
 }
 
-fn flag_of(matches: &ArgMatches<'_>, command: &str, word: &str) -> Option<bool>
+pub(crate) fn flag_of(matches: &ArgMatches<'_>, command: &str, word: &str) -> Option<bool>
     ensures { IfSome result
         (GivesFlag (subcommand_rows_of matches.now) command.now word.now) }
 {
@@ -89,7 +94,7 @@ fn flag_of(matches: &ArgMatches<'_>, command: &str, word: &str) -> Option<bool>
     Some(met.get_flag(word))
 }
 
-fn number_of(matches: &ArgMatches<'_>, command: &str, word: &str) -> Option<u64>
+pub(crate) fn number_of(matches: &ArgMatches<'_>, command: &str, word: &str) -> Option<u64>
     ensures { IfSome result
         (GivesNumber (subcommand_rows_of matches.now) command.now word.now) }
 {
@@ -323,6 +328,9 @@ fn command_of<'a>(
     }
     if let Some(serve) = serve_of(matches) {
         return Ok(Some(Command::Serve(serve)));
+    }
+    if let Some(broker) = broker_of(matches) {
+        return Ok(Some(Command::Broker(broker)));
     }
     if let Some(collect) = collect_of(matches) {
         return Ok(Some(Command::Collect(collect)));
