@@ -34,8 +34,8 @@ impl BrokerOptions {
         Limits::new(self.max_packet)
     }
 
-    /// The configuration of the broker: a client whose session is full misses messages, and their
-    /// publishers go on.
+    /// The configuration of the broker. A client whose session is full misses messages; their
+    /// publishers stay connected.
     pub(crate) fn into_config(self, limits: Limits) -> HubConfig
         ensures capacity { 0 < result.capacity }
         ensures window { result.window ≡ None }
