@@ -7,7 +7,7 @@ ARGS ?= --help
 STREAMS ?= small publish16 publish1024 publish65536 mixed
 export RT
 
-.PHONY: all help test prove program interop refusals install try bench-c bench-loopback clean
+.PHONY: all help test prove lib lib-test program interop refusals install install-lib try bench-c bench-loopback clean
 
 # Stops with one line if the kit's command, or a C compiler, is missing.
 need_kit = $(if $(shell command -v $(RT) 2>/dev/null),,$(error $(RT) is not on the path: README explains it under "Requirements"))
@@ -28,18 +28,39 @@ bin/mqtt: $(shell .ci/build --sources mqtt)
 	@.ci/build mqtt bin/mqtt
 	@rm -f bin/mqtt.proved
 
+# Builds the library for C as it is written, or from its proved archive if `rt lib` has made one.
+lib: lib/libposkvari.a lib/pkgconfig/poskvari.pc
+
+lib_proved = crates/mq_ffi/out/libmq_ffi.a
+lib/libposkvari.a: $(shell .ci/lib --sources) $(wildcard $(lib_proved))
+	$(need_kit)
+	$(need_cc)
+	@.ci/lib $(if $(wildcard $(lib_proved)),--proved) lib/libposkvari.a
+
+lib/pkgconfig/poskvari.pc: Makefile
+	@mkdir -p lib/pkgconfig
+	@printf '%s\n' 'prefix=$(PREFIX)' 'Name: poskvari' 'Description: MQTT 3.1.1 packets and client' \
+	    'Version: 0' 'Libs: -L$${prefix}/lib -lposkvari' 'Cflags: -I$${prefix}/include' >$@
+
+# Tests the library and its examples, against bin/mqtt.
+lib-test: lib bin/mqtt
+	.ci/lib-test bin/mqtt
+
 help:
 	@echo 'make                  builds bin/mqtt without a proof, and runs a demonstration'
 	@echo 'make test             runs every test and stored run, and proves nothing'
 	@echo 'make prove            proves every crate, and leaves the proved program in bin/mqtt'
+	@echo 'make lib              builds the library for C in lib/'
+	@echo 'make lib-test         tests the library, and runs its examples against bin/mqtt'
 	@echo 'make install          installs the proved program below PREFIX; with UNPROVED=1 any bin/mqtt'
+	@echo 'make install-lib      installs the library for C and its header below PREFIX'
 	@echo 'make program          runs bin/mqtt on the rows of .ci/printed.py and the snippets of README'
 	@echo 'make interop          runs bin/mqtt against mosquitto, if that is installed'
 	@echo 'make refusals         makes each allocation of worked sections fail in turn; needs a C compiler'
 	@echo 'make try ARGS=..      runs mqtt compiled with checks of each access to memory'
 	@echo 'make bench-c          measures plain C over the streams of mq_bench'
 	@echo 'make bench-loopback   measures the broker over 127.0.0.1'
-	@echo 'make clean            removes bin/'
+	@echo 'make clean            removes bin/ and lib/'
 
 # Every test and stored run of the code as it is written.
 test: bin/mqtt
@@ -73,6 +94,14 @@ install: $(if $(filter 1,$(UNPROVED)),bin/mqtt)
 	mkdir -p $(DESTDIR)$(PREFIX)/bin
 	install -m 755 bin/mqtt $(DESTDIR)$(PREFIX)/bin/mqtt
 
+# Installs the library for C and its header.
+install-lib: lib
+	mkdir -p $(DESTDIR)$(PREFIX)/lib/pkgconfig $(DESTDIR)$(PREFIX)/include
+	install -m 644 lib/libposkvari.a $(DESTDIR)$(PREFIX)/lib/libposkvari.a
+	if test -f lib/libposkvari.so; then install -m 755 lib/libposkvari.so $(DESTDIR)$(PREFIX)/lib/; fi
+	install -m 644 include/poskvari.h $(DESTDIR)$(PREFIX)/include/poskvari.h
+	install -m 644 lib/pkgconfig/poskvari.pc $(DESTDIR)$(PREFIX)/lib/pkgconfig/poskvari.pc
+
 # Runs the program with checks of each access to memory: make try ARGS='show c000'
 try:
 	$(need_kit)
@@ -95,4 +124,4 @@ bench-loopback: bin/mqtt
 	CC='$(CC)' bench/loopback.sh bin/mqtt $(DELIVERIES)
 
 clean:
-	rm -rf bin
+	rm -rf bin lib

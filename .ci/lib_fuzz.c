@@ -1,0 +1,153 @@
+/* Calls the functions over bytes with packets, changed packets and random bytes, each in a block of
+ * its exact size, for a number of seconds: lib_fuzz SECONDS [START]. */
+#include <poskvari.h>
+#include <stdio.h>
+#include <stdlib.h>
+#include <string.h>
+#include <time.h>
+
+static uint64_t state;
+
+static uint32_t random_below(uint32_t most) {
+    state ^= state << 13;
+    state ^= state >> 7;
+    state ^= state << 17;
+    return (uint32_t)((state >> 16) % most);
+}
+
+#define CHECK(fact) \
+    do { \
+        if (!(fact)) { \
+            printf("line %d: %s\n", __LINE__, #fact); \
+            exit(1); \
+        } \
+    } while (0)
+
+static bool is_within(posk_field field, size_t size) {
+    return field.at <= size && field.size <= size - field.at;
+}
+
+/* The packet is written again, into a block of its size: the same bytes. */
+static void encode_again(const uint8_t *bytes, const posk_fields *f) {
+    for (size_t less = 0; less < 2; less++) {
+        size_t room = f->size - less;
+        uint8_t *out = malloc(room + 1);
+        CHECK(out);
+        memset(out, 0xa5, room + 1);
+        ptrdiff_t size = POSK_ERROR_ARGUMENT;
+        posk_field filter = {0, 0};
+        size_t at = f->list.at;
+        uint8_t qos = 0;
+        bool one = (f->kind == POSK_SUBSCRIBE || f->kind == POSK_UNSUBSCRIBE) &&
+                   posk_next_filter(bytes, f, &at, &filter, &qos) && at == f->size;
+        if (f->kind == POSK_PUBLISH)
+            size = posk_encode_publish(bytes + f->topic.at, f->topic.size, bytes + f->payload.at,
+                                       f->payload.size, f->qos, f->retain, f->dup, f->id, out, room);
+        else if (f->kind == POSK_CONNACK)
+            size = posk_encode_connack(f->session_present, f->code, out, room);
+        else if (f->kind == POSK_SUBSCRIBE && one)
+            size = posk_encode_subscribe(f->id, bytes + filter.at, filter.size, qos, out, room);
+        else if (f->kind == POSK_UNSUBSCRIBE && one)
+            size = posk_encode_unsubscribe(f->id, bytes + filter.at, filter.size, out, room);
+        else if (f->kind >= POSK_PINGREQ)
+            size = posk_encode_bare(f->kind, out, room);
+        else if (f->id && f->kind != POSK_SUBSCRIBE && f->kind != POSK_UNSUBSCRIBE &&
+                 f->kind != POSK_SUBACK)
+            size = posk_encode_acknowledgement(f->kind, f->id, out, room);
+        if (size != POSK_ERROR_ARGUMENT) {
+            if (less)
+                CHECK(size == POSK_ERROR_ROOM && out[0] == 0xa5);
+            else
+                CHECK(size == (ptrdiff_t)f->size && memcmp(out, bytes, f->size) == 0);
+        }
+        CHECK(out[room] == 0xa5);
+        free(out);
+    }
+}
+
+static int look(const uint8_t *data, size_t size) {
+    uint8_t *bytes = malloc(size ? size : 1);
+    CHECK(bytes);
+    memcpy(bytes, data, size);
+    posk_fields f;
+    posk_fault fault = {0, 0};
+    int code = posk_packet(bytes, size, POSK_MAX_PACKET, &f, &fault);
+    if (code == POSK_OK) {
+        CHECK(f.kind >= 1 && f.kind <= 14 && f.size <= size && f.qos <= 2);
+        CHECK(is_within(f.topic, size) && is_within(f.payload, size) && is_within(f.list, size));
+        CHECK(is_within(f.client_id, size) && is_within(f.user_name, size));
+        CHECK(is_within(f.password, size));
+        if (f.kind == POSK_PUBLISH)
+            CHECK(posk_name_check(bytes + f.topic.at, f.topic.size) == POSK_OK &&
+                  f.payload.at + f.payload.size == f.size);
+        encode_again(bytes, &f);
+    } else if (code == POSK_ERROR_MALFORMED) {
+        CHECK(fault.kind >= 1 && fault.kind <= 20 && fault.place <= size);
+    } else {
+        CHECK(code == POSK_MORE);
+    }
+    posk_session_check(bytes, size);
+    free(bytes);
+    return code;
+}
+
+/* A second opinion of a match (4.7), by recursion over levels. */
+static bool fits(const char *filter, const char *name) {
+    if (filter[0] == '#') return true;
+    if (filter[0] == '+') {
+        while (*name && *name != '/') name++;
+        filter++;
+    } else {
+        while (*filter && *filter != '/' && *filter == *name) filter++, name++;
+        if (*filter && *filter != '/') return false;
+        if (*name && *name != '/') return false;
+    }
+    if (!*filter) return !*name;
+    if (!*name) return strcmp(filter, "/#") == 0;
+    return fits(filter + 1, name + 1);
+}
+
+static void match(void) {
+    static const char *const parts[] = {"a", "b", "/", "+", "#", "$", "ab", "//"};
+    char filter[32] = "", name[32] = "";
+    for (uint32_t i = random_below(6); i > 0; i--) strcat(filter, parts[random_below(8)]);
+    for (uint32_t i = random_below(6); i > 0; i--) strcat(name, parts[random_below(8)]);
+    bool is_name = *name && !strpbrk(name, "+#");
+    int name_code = posk_name_check(name, strlen(name));
+    int filter_code = posk_filter_check(filter, strlen(filter));
+    int code = posk_match(filter, strlen(filter), name, strlen(name));
+    CHECK(name_code == (is_name ? POSK_OK : POSK_ERROR_NAME));
+    if (filter_code)
+        CHECK(code == filter_code);
+    else if (!is_name)
+        CHECK(code == POSK_ERROR_NAME);
+    else
+        CHECK(code == (fits(filter, name) && !(strchr("+#", filter[0]) && name[0] == '$')));
+}
+
+int main(int count, char **words) {
+    static const char *const seeds[] = {
+        "\x10\x23\0\4MQTT\4\xc6\0\x3c\0\2id\0\4gone\0\3bye\0\4name\0\2pw", "\x20\2\1\0",
+        "\x3b\x0a\0\3a/b\0\7xyz", "\x40\2\0\7", "\x62\2\0\7", "\x82\x0e\0\7\0\3a/+\1\0\3b/#\2",
+        "\x82\x08\0\7\0\3a/+\1", "\xa2\7\0\7\0\3a/+", "\x90\5\0\7\0\1\x80", "\xc0\0", "\xe0\0"};
+    static const size_t sizes[] = {37, 4, 12, 4, 4, 16, 10, 9, 7, 2, 2};
+    int seconds = count > 1 ? atoi(words[1]) : 10;
+    state = count > 2 ? strtoull(words[2], NULL, 10) : 88172645463325252ull;
+    time_t end = time(NULL) + seconds;
+    unsigned long rounds = 0, found = 0;
+    while (rounds % 1024 || time(NULL) < end) {
+        uint8_t data[64];
+        uint32_t seed = random_below(12);
+        size_t size = seed < 11 ? sizes[seed] : random_below(24);
+        if (seed < 11) memcpy(data, seeds[seed], size);
+        else for (size_t i = 0; i < size; i++) data[i] = (uint8_t)random_below(256);
+        for (uint32_t i = random_below(4); i > 0 && size; i--)
+            data[random_below((uint32_t)size)] = (uint8_t)random_below(256);
+        if (random_below(4) == 0) size = random_below((uint32_t)size + 1);
+        found += look(data, size) == POSK_OK;
+        match();
+        rounds++;
+    }
+    printf("%lu rounds, %lu packets\n", rounds, found);
+    return found == 0;
+}

@@ -1,0 +1,5 @@
+mod Lying
+mod Filling
+mod Texts
+mod Encoded
+mod Located

@@ -1,0 +1,44 @@
+-- Packets in a caller's buffer.
+use Rattle.std.specs.Prelude.{◌≡◌, ℕ, ◌+◌, ◌≤◌, ◌^◌, ◌<◌, List, ◌∷◌, ◌++◌, length, take, drop, Result, Ok, Err}
+use Rattle.mq_wire.specs.Length.{length_bytes}
+use Rattle.mq_packet.specs.declared.packet.Packet.{Packet}
+use Rattle.mq_packet.specs.Values.{IsPacket}
+use Rattle.mq_packet.specs.Encoding.{Encodes, encoded_size, fields}
+use Rattle.mq_bytes.specs.declared.fault.EncodeFault.{EncodeFault}
+use Rattle.mq_bytes.specs.declared.fault.EncodeFault.TheVariants.{Argument, TooLarge, Room}
+
+-- `new` is `old` with `front` over its first bytes.
+abbrev pub Filled : List ℕ → List ℕ → List ℕ → Type 0
+Filled old front new = new ≡ front ++ drop (length front) old
+
+-- The first `n` bytes of `new` are the encoding of the packet, and the others are those of `old`.
+pub record Holds (p : Packet) (old new : List ℕ) (n : ℕ) : Type 0 where
+  pub within : n ≤ length old
+  pub encodes : Encodes p (take n new)
+  pub rest : drop n new ≡ drop n old
+  pub same : length new ≡ length old
+
+-- `new` is `old` with a packet of this first byte and these fields over its first `n` bytes.
+abbrev pub Frames : ℕ → List ℕ → List ℕ → List ℕ → ℕ → Type 0
+Frames first body old new n =
+    Filled old (first ∷ length_bytes (length body) ++ body) new × (n ≡ encoded_size (length body))
+    × (n ≤ length old) × (length body < 2 ^ 28)
+
+-- The result of writing such a packet.
+abbrev pub EncodesParts : ℕ → List ℕ → List ℕ → List ℕ → Result ℕ EncodeFault → Type 0
+EncodesParts first body old new (Ok n) = Frames first body old new n
+EncodesParts first body old new (Err TooLarge) = (2 ^ 28 ≤ length body) × (new ≡ old)
+EncodesParts first body old new (Err Room) =
+    (length old < encoded_size (length body)) × (new ≡ old)
+EncodesParts first body old new (Err Argument) = ⊥
+
+-- The result of encoding a packet with these fields into a buffer: its number of bytes, or an
+-- error, and the buffer is unchanged. `TooLarge`: its remaining length would exceed 268,435,455
+-- (2.2.3). `Room`: it is longer than the buffer. `Argument`: there is no such packet.
+abbrev pub Gives : (Packet → Type 0) → List ℕ → List ℕ → Result ℕ EncodeFault → Type 0
+Gives Is old new (Ok n) = (p : Packet) × Is p × Holds p old new n
+Gives Is old new (Err TooLarge) =
+    (p : Packet) × Is p × (2 ^ 28 ≤ length (fields p)) × (new ≡ old)
+Gives Is old new (Err Room) =
+    (p : Packet) × Is p × (length old < encoded_size (length (fields p))) × (new ≡ old)
+Gives Is old new (Err Argument) = ((p : Packet) → IsPacket p → Is p → ⊥) × (new ≡ old)

@@ -1,0 +1,4 @@
+pub mod Checks
+pub mod Places
+pub mod Arguments
+pub mod Buffers

@@ -1,0 +1,51 @@
+-- The numbers that the functions return.
+use Rattle.std.specs.Prelude.{ℕ, Bool, true, false, Result, Ok, Err, ℤ, pos, negsuc}
+use Rattle.mq_embedded.specs.declared.fault.CallFault.{CallFault}
+use Rattle.mq_embedded.specs.declared.fault.CallFault.TheVariants as calls
+use Rattle.mq_bytes.specs.declared.fault.CheckFault.{CheckFault}
+use Rattle.mq_bytes.specs.declared.fault.CheckFault.TheVariants as checks
+use Rattle.mq_bytes.specs.declared.fault.EncodeFault.{EncodeFault}
+use Rattle.mq_bytes.specs.declared.fault.EncodeFault.TheVariants as encodes
+
+-- The code of a failed check; `negsuc n` is the number below -n.
+abbrev pub fault_code : CheckFault → ℤ
+fault_code checks.Memory = negsuc 0
+fault_code checks.Text = negsuc 4
+fault_code checks.Name = negsuc 5
+fault_code checks.Filter = negsuc 6
+fault_code checks.Session = negsuc 7
+
+abbrev pub check_code : Result (Unit {0}) CheckFault → ℤ
+check_code (Ok done) = pos 0
+check_code (Err fault) = fault_code fault
+
+abbrev pub match_code : Result Bool CheckFault → ℤ
+match_code (Ok false) = pos 0
+match_code (Ok true) = pos 1
+match_code (Err fault) = fault_code fault
+
+abbrev pub encode_code : Result ℕ EncodeFault → ℤ
+encode_code (Ok size) = pos size
+encode_code (Err encodes.Argument) = negsuc 1
+encode_code (Err encodes.Room) = negsuc 2
+encode_code (Err encodes.TooLarge) = negsuc 3
+
+-- The code of a refused call of a client.
+abbrev pub call_fault_code : CallFault → ℤ
+call_fault_code calls.Memory = negsuc 0
+call_fault_code calls.Argument = negsuc 1
+call_fault_code calls.Room = negsuc 2
+call_fault_code calls.TooLarge = negsuc 3
+call_fault_code calls.Session = negsuc 7
+call_fault_code calls.NotConnected = negsuc 9
+call_fault_code calls.Full = negsuc 10
+call_fault_code calls.Events = negsuc 11
+call_fault_code calls.AnotherClient = negsuc 12
+
+abbrev pub call_code : Result (Unit {0}) CallFault → ℤ
+call_code (Ok done) = pos 0
+call_code (Err fault) = call_fault_code fault
+
+abbrev pub id_code : Result ℕ CallFault → ℤ
+id_code (Ok id) = pos id
+id_code (Err fault) = call_fault_code fault
