@@ -185,6 +185,8 @@ pub fn run_client<R: Net + Clock + Files, W: Write>(
     match command {
         Command::Publish(words) => run_publish(rt, alloc, words, output),
         Command::Collect(words) => run_collect(rt, alloc, words, output),
-        Command::Job(_) | Command::Serve(_) | Command::Loopback(_) => Err(Failure::Words),
+        Command::Job(_) | Command::Serve(_) | Command::Loopback(_) | Command::Draw(_) => {
+            Err(Failure::Words)
+        }
     }
 }

@@ -1,0 +1,3 @@
+mod Escaping
+mod Lines
+mod Lanes

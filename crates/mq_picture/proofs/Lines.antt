@@ -1,0 +1,25 @@
+-- The lines of rows.
+use Rattle.std.proofs.Common.{◌≡◌, ℕ, ◌+◌, ◌<◌, List, [], ◌∷◌, ◌++◌, Option, length, take, get_or, sym, ap, subst, ◌∙◌, append_assoc, arith}
+use Rattle.std.proofs.lemmas.List.{append-nil, length-take-le, take_more}
+use Rattle.std.proofs.KnownBytes.{Appends-trans}
+use Rattle.std.specs.Io.KnownBytes.{Appends}
+use Rattle.mq_picture.specs.declared.rows.Row.{Row}
+use Rattle.mq_picture.specs.Image.{body_lines, lines_from, row_lines}
+
+-- a row more at the end
+pub lines_more : (n : ℕ) (rows : List Row) (row : Row) → lines_from n (rows ++ row ∷ []) ≡ lines_from n rows ++ row_lines (n + length rows) row
+lines_more n [] row = append-nil (row_lines n row) ∙ ap (λ k. row_lines k row) (omega arith)
+lines_more n (first ∷ rows) row =
+    let place : n + 1 + length rows ≡ n + length (first ∷ rows) = omega arith in
+    ap (λ t. row_lines n first ++ t) (lines_more (n + 1) rows row ∙ ap (λ k. lines_from (n + 1) rows ++ row_lines k row) place)
+    ∙ sym (append_assoc (row_lines n first) (lines_from (n + 1) rows) (row_lines (n + length (first ∷ rows)) row))
+
+-- the lines of the next row
+pub lines_next : (rows : List Row) (k : ℕ) (row : Row) (old mid new : Option (List ℕ)) → k < length rows → row ≡ get_or rows k row
+    → Appends old mid (body_lines (take k rows)) → Appends mid new (row_lines k row) → Appends old new (body_lines (take (k + 1) rows))
+lines_next rows k row old mid new below at before next =
+    let size : length (take k rows) ≡ k = length-take-le k rows (omega (arith, below)) in
+    let more : take k rows ++ row ∷ [] ≡ take (k + 1) rows = ap (λ z. take k rows ++ z ∷ []) at ∙ sym (take_more rows k row below) in
+    let lines : body_lines (take k rows) ++ row_lines k row ≡ body_lines (take (k + 1) rows) =
+    ap (λ n. body_lines (take k rows) ++ row_lines n row) (sym size) ∙ sym (lines_more 0 (take k rows) row) ∙ ap body_lines more in
+    subst (Appends old new) lines (Appends-trans old mid new (body_lines (take k rows)) (row_lines k row) before next)
