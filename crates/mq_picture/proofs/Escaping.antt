@@ -5,11 +5,11 @@ use Rattle.std.proofs.lemmas.Bool.{and_parts, cases_lt}
 use Rattle.mq_picture.specs.Texts.{EscapeLaw, is_entity, is_plain, xml_byte}
 
 -- whether a byte is written without a raw special byte
-is_safe : ℕ → Bool
+abbrev is_safe : ℕ → Bool
 is_safe byte = list_all is_plain (xml_byte byte) || is_entity (xml_byte byte)
 
 -- whether each byte below a number is
-are_safe : ℕ → Bool
+abbrev are_safe : ℕ → Bool
 are_safe zero = true
 are_safe (suc n) = is_safe n && are_safe n
 

@@ -19,7 +19,8 @@ pub lines_next : (rows : List Row) (k : ℕ) (row : Row) (old mid new : Option (
     → Appends old mid (body_lines (take k rows)) → Appends mid new (row_lines k row) → Appends old new (body_lines (take (k + 1) rows))
 lines_next rows k row old mid new below at before next =
     let size : length (take k rows) ≡ k = length-take-le k rows (omega (arith, below)) in
+    let place : length (take k rows) ≡ 0 + length (take k rows) = omega arith in
     let more : take k rows ++ row ∷ [] ≡ take (k + 1) rows = ap (λ z. take k rows ++ z ∷ []) at ∙ sym (take_more rows k row below) in
     let lines : body_lines (take k rows) ++ row_lines k row ≡ body_lines (take (k + 1) rows) =
-    ap (λ n. body_lines (take k rows) ++ row_lines n row) (sym size) ∙ sym (lines_more 0 (take k rows) row) ∙ ap body_lines more in
+    ap (λ n. body_lines (take k rows) ++ row_lines n row) (sym size) ∙ ap (λ n. body_lines (take k rows) ++ row_lines n row) place ∙ sym (lines_more 0 (take k rows) row) ∙ ap body_lines more in
     subst (Appends old new) lines (Appends-trans old mid new (body_lines (take k rows)) (row_lines k row) before next)
