@@ -1,5 +1,5 @@
 -- Arrows to one side.
-use Rattle.std.proofs.Common.{◌≡◌, ℕ, ◌+◌, ◌≤◌, Bool, true, if◌then◌else◌, slice_index_or, List, [], ◌∷◌, ◌++◌, All, map, refl, sym, ap, subst, ◌∙◌, append_assoc, arith}
+use Rattle.std.proofs.Common.{◌≡◌, ℕ, ◌+◌, ◌-◌, ◌≤◌, Bool, true, if◌then◌else◌, slice_index_or, List, [], ◌∷◌, ◌++◌, All, map, refl, sym, ap, subst, ◌∙◌, append_assoc, arith}
 use Rattle.std.specs.List.{flat_map, sum_by}
 use Rattle.std.proofs.lemmas.List.{append-nil, flat_map_more}
 use Rattle.std.proofs.lemmas.List.Elements.{All-push}
@@ -125,3 +125,15 @@ ends_less m n a b x y less h = record {
   notes = h.notes;
   fair = h.fair;
 }
+
+-- the last bytes are a part of the first packet
+pub part_ends : (count left : ℕ) (first mid after : Lane) (x y : List Row) → left ≤ count → Ends (count - left) first mid x y → after.to ≡ mid.to → after.packets.items ≡ mid.packets.items → after.arrived ≤ mid.arrived + left → Ends count first after x y
+part_ends count left first mid after x y less h to items arrived =
+    ends_less (count - left + left) count first after x y (omega (arith, less)) (ends_then (count - left) left first mid after x y y h (grows_ends left mid after y to items arrived))
+
+-- the missing bytes of the first packet arrived, and it became an arrow
+pub more_ends : (count left missing : ℕ) (first mid grown after : Lane) (x y z : List Row) → missing ≤ left → left ≤ count → Ends (count - left) first mid x y → grown.to ≡ mid.to → grown.packets.items ≡ mid.packets.items → grown.arrived ≤ mid.arrived + missing
+    → Ends 0 grown after y z → (left - missing ≤ count) × Ends (count - (left - missing)) first after x z
+more_ends count left missing first mid grown after x y z enough less h to items arrived k =
+    let step : Ends (count - left + missing) first grown x y = ends_then (count - left) missing first mid grown x y y h (grows_ends missing mid grown y to items arrived) in
+    (omega (arith, less), ends_less (count - left + missing + 0) (count - (left - missing)) first after x z (omega (arith, less, enough)) (ends_then (count - left + missing) 0 first grown after x y z step k))

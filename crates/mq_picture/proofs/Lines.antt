@@ -1,10 +1,11 @@
 -- The lines of rows.
-use Rattle.std.proofs.Common.{◌≡◌, ℕ, ◌+◌, ◌<◌, List, [], ◌∷◌, ◌++◌, Option, length, take, get_or, sym, ap, subst, ◌∙◌, append_assoc, arith}
+use Rattle.std.proofs.Common.{◌≡◌, ℕ, ◌+◌, ◌<◌, List, [], ◌∷◌, ◌++◌, Option, length, take, get_or, refl, sym, ap, subst, ◌∙◌, append_assoc, arith}
 use Rattle.std.proofs.lemmas.List.{append-nil, length-take-le, take_more}
 use Rattle.std.proofs.KnownBytes.{Appends-trans}
 use Rattle.std.specs.Io.KnownBytes.{Appends}
 use Rattle.mq_picture.specs.declared.rows.Row.{Row}
-use Rattle.mq_picture.specs.Image.{body_lines, lines_from, row_lines}
+use Rattle.mq_line.specs.Lines.{Prints}
+use Rattle.mq_picture.specs.Image.{IsHead, body_lines, first_text, lines_from, lines_text, row_lines}
 
 -- a row more at the end
 pub lines_more : (n : ℕ) (rows : List Row) (row : Row) → lines_from n (rows ++ row ∷ []) ≡ lines_from n rows ++ row_lines (n + length rows) row
@@ -24,3 +25,11 @@ lines_next rows k row old mid new below at before next =
     let lines : body_lines (take k rows) ++ row_lines k row ≡ body_lines (take (k + 1) rows) =
     ap (λ n. body_lines (take k rows) ++ row_lines n row) (sym size) ∙ ap (λ n. body_lines (take k rows) ++ row_lines n row) place ∙ sym (lines_more 0 (take k rows) row) ∙ ap body_lines more in
     subst (Appends old new) lines (Appends-trans old mid new (body_lines (take k rows)) (row_lines k row) before next)
+
+-- the head from its three parts
+pub head_lines : (style : List ℕ) (rows height : ℕ) (a b c d : Option (List ℕ)) → Appends a b (first_text height) → Appends b c style → Appends c d (lines_text rows height) → Prints a d (IsHead style rows)
+head_lines style rows height a b c d first colors lines = (
+  first_text height ++ (style ++ lines_text rows height),
+  Appends-trans a b d (first_text height) (style ++ lines_text rows height) first (Appends-trans b c d style (lines_text rows height) colors lines),
+  (height, refl),
+)

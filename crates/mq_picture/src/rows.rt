@@ -1,6 +1,6 @@
 //! The rows of a diagram.
 
-ghost use Rattle.std.specs.Prelude.{◌≡◌, ◌+◌, ◌++◌, ◌∷◌, [], List, drop, false, true, IfOk, IfSome, OnOk};
+ghost use Rattle.std.specs.Prelude.{◌≡◌, ◌<◌, ◌+◌, ◌^◌, ◌++◌, ◌∷◌, [], List, drop, false, true, IfOk, IfSome, OnOk};
 ghost use Rattle.mq_picture.specs.Lanes.{Ends, FirstFits, IsChart, left_at, waiting};
 ghost use Rattle.mq_picture.specs.Rows.{Draws, reaches};
 
@@ -77,8 +77,9 @@ impl Lane {
 
     // The number of bytes of the first packet that have not arrived, if there is a packet.
     fn missing(&self) -> Option<usize>
-        ensures { IfSome result (λ missing.
+        ensures enough { IfSome result (λ missing.
             FirstFits self.now.packets.items (self.now.arrived + missing)) }
+        ensures count { IfSome result (λ missing. self.now.arrived + missing < 2 ^ 64) }
     {
         let first = self.packets.front()?;
         Some((first.packet.size as usize).saturating_sub(self.arrived))

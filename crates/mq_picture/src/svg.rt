@@ -84,7 +84,8 @@ fn write_head<W: Write>(output: &mut W, rows: usize) -> io::Result<()>
     let height = rows.saturating_add(3);
     write_first(output, height)?;
     write_style(output)?;
-    write_lines(output, rows, height)
+    write_lines(output, rows, height)?;
+    Ok(())
 }
 
 // The class of the line of an arrow.
