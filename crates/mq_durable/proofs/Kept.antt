@@ -208,3 +208,7 @@ pub collect_call : {D : Type 0} (r : Outcome) (seen : D → List ℕ) (old new :
     → old.pending ≡ [] → OnOk r (new ≡ record old { hub = next }) → OnOk r (MakesCall seen (Collected conn) old new)
 collect_call {D} (Ok reply) seen old new conn next none is = (none, ap (λ (d : DurableState D). d.disk) is, ap (λ (d : DurableState D). d.pending) is ∙ none)
 collect_call (Err why) seen old new conn next none is = tt
+
+-- a broken one
+pub broken_err : {D : Type 0} (old : DurableState D) → old.condition ≡ Broken → old ≡ record old { condition = after_step (Err steps.Broken) old.condition }
+broken_err old is = λ i. record old { condition = (is ∙ sym (ap (λ (c : Condition). after_step (Err steps.Broken) c) is)) i }

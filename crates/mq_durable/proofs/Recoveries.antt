@@ -22,9 +22,9 @@ use Rattle.mq_durable.specs.declared.progress.Progress.{Progress}
 use Rattle.mq_durable.specs.Recovering.{AreEnds, AreKnownAmong, Continues, HasEnded, IsRecovering, later, latest, opened_by}
 use Rattle.mq_durable.specs.Replaying.{Replays}
 use Rattle.mq_durable.specs.State.{DurableState}
-use Rattle.mq_durable.proofs.Names.{step_clock, step_known}
+use Rattle.mq_durable.proofs.Names.{new_known, step_clock, step_known}
 use Rattle.mq_durable.specs.Memory.{reports_memory}
-use Rattle.mq_durable.proofs.Runs.{replays_all, replays_none}
+use Rattle.mq_durable.proofs.Runs.{replays_all, replays_none, replays_one}
 
 -- ---- entries
 
@@ -148,3 +148,24 @@ ended_all a b c first second = record {
 pub quiet : (b : Bool) → (if b then OutOfMemory else Sound) ≡ Sound → b ≡ false
 quiet true e = absurd cc
 quiet false e = refl
+
+-- a recovery that begins
+pub begins : (hub : HubState) (progress : Progress) → progress.hub ≡ hub → progress.clock ≡ 0 → progress.opened.items ≡ [] → hub.connections ≡ [] → hub.clock ≡ 0 → IsRecovering progress
+begins hub progress is time opened none zero = record {
+  known = subst (λ (l : List Conn). AreKnownAmong l progress.hub) (sym opened) (new_known progress.hub (ap (λ (h : HubState). h.connections) is ∙ none));
+  clock_is = time ∙ sym zero ∙ sym (ap (λ (h : HubState). h.clock) is);
+}
+
+-- the first of these connections ended, or is not known
+pub one_ended : {D : Type 0} (old new : DurableState D) (conn : Conn) (reply : HubReply) (after : Condition) → old.condition ≡ Sound → HubStep old.hub (Ended conn) reply new.hub
+    → new ≡ record old { hub = new.hub; pending = old.pending ++ Ended conn ∷ []; condition = after } → after ≡ (if reports_memory reply then OutOfMemory else Sound) → new.condition ≡ Sound
+    → HasEnded old new
+one_ended {D} old new conn reply after was step is condition sound = record {
+  base = ap (λ (d : DurableState D). d.base) is;
+  disk = ap (λ (d : DurableState D). d.disk) is;
+  sound = sound;
+  ends = Ended conn ∷ [];
+  pending = ap (λ (d : DurableState D). d.pending) is;
+  are_ends = (refl, tt);
+  replays = replays_one old.hub new.hub (Ended conn) reply step (quiet (reports_memory reply) (sym condition ∙ sym (ap (λ (d : DurableState D). d.condition) is) ∙ sound));
+}

@@ -1,7 +1,8 @@
 //! Restoring a broker from its journal.
 
-ghost use Rattle.std.specs.Prelude.{◌≡◌, ◌≢◌, ◌∷◌, [], List, IfOk, OnOk};
+ghost use Rattle.std.specs.Prelude.{◌≡◌, ◌≢◌, ◌⊎◌, ◌∷◌, [], List, true, IfOk, OnOk};
 ghost use Rattle.mq_log.specs.Blocks.{at_rest, gate, rest};
+ghost use Rattle.mq_log.specs.declared.reader.Tail.TheVariants.{Closed, Torn};
 ghost use Rattle.mq_log.specs.Journal.{IsSettled};
 ghost use Rattle.mq_route.specs.declared.conn.Conn.{Conn};
 ghost use Rattle.mq_durable.specs.declared.condition.Condition.TheVariants.{Sound};
@@ -40,6 +41,17 @@ impl Model for Recovery {
     ghost view = { λ r. r.progress.hub };
 
     ghost invariant = { λ r. IsRecovering r.progress };
+}
+
+// Whether a crash may leave a file that ends so.
+fn is_whole(tail: Tail) -> bool
+    ensures { result ≡ true → (tail ≡ Closed) ⊎ (tail ≡ Torn) }
+{
+    match tail {
+        Tail::Closed => true,
+        Tail::Torn => true,
+        Tail::CutShort | Tail::Damaged => false,
+    }
 }
 
 impl Recovery {
@@ -88,9 +100,8 @@ impl Recovery {
     {
         let Recovery { alloc, progress } = self;
         let contents = read_journal(alloc, file)?;
-        match contents.tail {
-            Tail::Closed | Tail::Torn => {}
-            Tail::CutShort | Tail::Damaged => return Err(RecoverError::Damaged(contents.tail)),
+        if !is_whole(contents.tail) {
+            return Err(RecoverError::Damaged(contents.tail));
         }
         let progress = progress.after(alloc, contents.entries.as_slice())?;
         Ok(Recovery { alloc, progress })
