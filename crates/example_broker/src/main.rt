@@ -101,6 +101,7 @@ fn run(rt: &HostRuntime) -> anyhow::Result<()> {
             max_sessions: 10,
             users: None,
             when_full: WhenFull::ClosePublisher,
+            connect_within: None,
         },
     );
     let mut devices = [

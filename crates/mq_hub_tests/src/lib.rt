@@ -8,4 +8,6 @@ mod dropping;
 #[cfg(test)]
 mod rows;
 #[cfg(test)]
+mod silent;
+#[cfg(test)]
 mod told;
