@@ -4,7 +4,7 @@ use Rattle.std.proofs.lemmas.List.{length-append, length-drop}
 use Rattle.std.proofs.Math.Seq.{drop-append_seam, take-append_seam}
 use Rattle.mq_bytes.specs.Buffers.{Filled}
 
--- what was written, and what is behind it
+-- the written bytes, and the bytes behind them
 pub filled_front : (old front new : List ℕ) → Filled old front new → take (length front) new ≡ front
 filled_front old front new f = ap (λ (z : List ℕ). take (length front) z) f ∙ take-append_seam front (drop (length front) old)
 

@@ -25,7 +25,7 @@ header_in true most p b n h = record { len = h.0.len; formed = h.0.formed; bytes
 pub header_of : (limits : Bounds) (p : Packet) (b : List ℕ) (n : ℕ) → ReadsWithin limits p (take n b) → Header limits p b n
 header_of limits p b n h = header_in limits.lenient limits.most p b n h
 
--- the buffer, with what is behind the packet
+-- the buffer, with the bytes behind the packet
 whole : (b : List ℕ) (n first : ℕ) (len body : List ℕ) → take n b ≡ first ∷ (len ++ body) → b ≡ first ∷ (len ++ (body ++ drop n b))
 whole b n first len body e = sym (take-append-drop n b) ∙ (ap (λ (z : List ℕ). z ++ drop n b) e ∙ ap (λ (z : List ℕ). first ∷ z) (append_assoc len body (drop n b)))
 

@@ -66,7 +66,7 @@ lies_second b at x y h =
 pub lies_first : (b : List ℕ) (at : ℕ) (x y : List ℕ) → Lies b at (counted x ++ y) → Lies b (at + 2) x
 lies_first b at x y h = lies_counted b at x (lies_front b at (counted x) y h)
 
--- what is behind the first of them
+-- the bytes behind the first of them
 pub lies_after : (b : List ℕ) (at : ℕ) (x y : List ℕ) → Lies b at (counted x ++ y) → Lies b ((at + 2) + length x) y
 lies_after b at x y h =
     let size = length-append (number (length x)) x in

@@ -183,7 +183,7 @@ pub misses_here : (c : ℕ × Message) (ts : List BrokerSession) (h : HubState) 
 misses_here c ts h has drops =
     rw drops (ap (λ ss. has_identifier c.1.qos && is_full h.config.capacity (end_of c.0 ss).book) (sym has.sessions))
 
--- what is true of all copies is true of those that are placed
+-- a fact about all copies holds for the placed ones
 pub all_settled : (P : ℕ × Message → Type 0) (config : HubConfig) (ts : List BrokerSession) (due kept : List (ℕ × Message)) (says : List Act) → AreApart due
     → Settles config ts due kept says → AllByRecursion P due → AllByRecursion P kept
 all_settled P config ts due kept says apart s all =
