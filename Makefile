@@ -7,7 +7,7 @@ ARGS ?= --help
 STREAMS ?= small publish16 publish1024 publish65536 mixed
 export RT
 
-.PHONY: all help test prove lib lib-test program interop refusals install install-lib try bench-c bench-loopback clean
+.PHONY: all help test prove lib lib-test program interop refusals install install-lib try bench-c bench-loopback bench-brokers clean
 
 # Stops with one line if the kit's command, or a C compiler, is missing.
 need_kit = $(if $(shell command -v $(RT) 2>/dev/null),,$(error $(RT) is not on the path: README explains it under "Requirements"))
@@ -59,7 +59,8 @@ help:
 	@echo 'make refusals         makes each allocation of worked sections fail in turn; needs a C compiler'
 	@echo 'make try ARGS=..      runs mqtt compiled with checks of each access to memory'
 	@echo 'make bench-c          measures plain C over the streams of mq_bench'
-	@echo 'make bench-loopback   measures the broker over 127.0.0.1'
+	@echo 'make bench-loopback   measures `mqtt serve` over 127.0.0.1'
+	@echo 'make bench-brokers    compares `mqtt broker` with mosquitto'
 	@echo 'make clean            removes bin/ and lib/'
 
 # Every test and stored run of the code as it is written.
@@ -122,6 +123,13 @@ bench-loopback: bin/mqtt
 	$(need_cc)
 	@$(note_unproved)
 	CC='$(CC)' bench/loopback.sh bin/mqtt $(DELIVERIES)
+
+# Compares `mqtt broker` with mosquitto in one run, each alone on processor 0:
+# make bench-brokers ROWS='1 to 32'
+bench-brokers: bin/mqtt
+	$(need_cc)
+	@$(note_unproved)
+	CC='$(CC)' bench/brokers.py bin/mqtt --rows '$(ROWS)'
 
 clean:
 	rm -rf bin lib

@@ -863,6 +863,37 @@ REFUSED = [
     (f"collect --port=1 --filter=f --qos=1 --count=1 --id={65_536 * 'a'}", "an ID has 65,535 bytes at most"),
 ]
 
+# Arguments that are refused with advice: the command in the usage line, the first line without
+# `error: `, and the tip.
+CLIENT_TIP = "'-h' prints help and has no value; the broker is always at 127.0.0.1"
+ADVISED = [
+    ("sub", "<COMMAND>", "unrecognized subcommand 'sub'", "use 'collect'"),
+    ("subscribe -t a", "<COMMAND>", "unrecognized subcommand 'subscribe'", "use 'collect'"),
+    ("pub -t a -m x", "<COMMAND>", "unrecognized subcommand 'pub'", "use 'publish'"),
+    ("publish -h localhost", "publish", "unexpected argument 'localhost' found", CLIENT_TIP),
+    ("collect --port=1 -hlocalhost", "collect", "unexpected argument '-hlocalhost' found", CLIENT_TIP),
+    ("show -h c000", "show", "unexpected argument 'c000' found", "'-h' prints help and has no value"),
+    ("collect --topic x", "collect", "unexpected argument '--topic' found", "collect has '--filter'"),
+    ("collect --topic=x", "collect", "unexpected argument '--topic' found", "collect has '--filter'"),
+    ("publish --filter=x", "publish", "unexpected argument '--filter' found", "publish has '--topic'"),
+    ("publish --port=x --id=p --topic=t --qos=1 x", "publish", "invalid value 'x' for '--port <PORT>': not a number from 0 to 65535", ""),
+    ("publish --port 1 --id=p --topic=t --qos 3 x", "publish", "invalid value '3' for '--qos <QOS>': not a number from 0 to 2", ""),
+    ("collect --port=1 --id=c --filter=f --qos=1 --count=many", "collect", "invalid value 'many' for '--count <COUNT>': not a number from 0 to 4294967295", ""),
+    ("serve --port=1 --connections=1 --workers=65", "serve", "invalid value '65' for '--workers <WORKERS>': not a number from 1 to 64", ""),
+    ("random --start=-1 --steps=1", "random", "invalid value '-1' for '--start <START>': not a number from 0 to 18446744073709551615", ""),
+    ("publish --port=1 --id=p --topic=t --qos=1", "publish", "publish wants TEXT, or --session FILE", ""),
+    ("publish --port=1 --id=p --topic=t --qos=1 --forget x", "publish", "publish wants --session FILE with --forget", ""),
+    ("show", "show", "show wants HEX or --file FILE, and not both", ""),
+]
+
+# Arguments behind the port that have an invalid topic; the status, the output and the reason.
+BAD_TOPICS = [
+    (["publish", "--id", "p", "--qos", "1", "--topic", "a/#", "x"], (2, b"name N4\n", b"mqtt: topic name 'a/#': wildcards are not allowed (N4)\n")),
+    (["publish", "--id", "p", "--qos", "1", "--topic", "", "x"], (2, b"name N1\n", b"mqtt: topic name '': it is empty (N1)\n")),
+    (["collect", "--id", "p", "--qos", "1", "--count", "1", "--filter", "a+"], (2, b"filter N5\n", b"mqtt: topic filter 'a+': `+` must be alone in its level (N5)\n")),
+    (["collect", "--id", "p", "--qos", "1", "--count", "1", "--filter", "a/#/b"], (2, b"filter N6\n", b"mqtt: topic filter 'a/#/b': `#` must be alone in the last level (N6)\n")),
+]
+
 # Arguments that ask for help: the output, or its end; the status is 0.
 SHOW_HELP = """\
 Prints the packets of a byte stream, one per line, and how the stream ends
@@ -894,6 +925,7 @@ HELPS = [
     ("--help", STATUSES),
     ("check -h", "\nExample: mqtt check stream.bin\n"),
     ("serve --help", "\nExample: mqtt serve --port 1883 --connections 3 --workers 1\n"),
+    ("broker --help", "\nExample: mqtt broker --listen 0.0.0.0:1883\n"),
     ("publish --help", "\nExample: mqtt publish --port 1883 --id p --topic a/b --qos 2 hi yo\n"),
     ("collect --help", "\nExample: mqtt collect --port 1883 --id c --filter 'a/#' --qos 2 --count 2\n"),
 ]

@@ -88,10 +88,9 @@ fn settle(rt: &impl Print, devices: &mut [Device; 2], hub: &mut Hub) -> anyhow::
     Ok(())
 }
 
-fn run(rt: &HostRuntime) -> anyhow::Result<()> {
-    let alloc = rt.alloc();
-    let limits = Limits::new(65_536).unwrap();
-    let mut hub = Hub::new(
+/// A broker for two clients that anybody may be.
+fn new_hub(alloc: Global, limits: Limits) -> Hub {
+    Hub::new(
         alloc,
         HubConfig {
             limits,
@@ -102,7 +101,13 @@ fn run(rt: &HostRuntime) -> anyhow::Result<()> {
             users: None,
             when_full: WhenFull::ClosePublisher,
         },
-    );
+    )
+}
+
+fn run(rt: &HostRuntime) -> anyhow::Result<()> {
+    let alloc = rt.alloc();
+    let limits = Limits::new(65_536).unwrap();
+    let mut hub = new_hub(alloc, limits);
     let mut devices = [
         new_device(alloc, "display", limits)?,
         new_device(alloc, "sensor", limits)?,

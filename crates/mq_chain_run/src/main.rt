@@ -15,6 +15,7 @@ mod round;
 
 use crate::fault::Fault;
 use crate::round::write_rounds;
+use std::fs::File;
 use std::io;
 use std::io::{BufWriter, Write};
 use std::net::{Net, TcpListener, TcpStream};
@@ -27,7 +28,12 @@ use std::time::Clock;
 /// Runs the rounds of the standard input. `host` is the same runtime, and starts the threads.
 fn run<R>(rt: &HostRuntime, host: &R) -> Result<(), Fault>
 where
-    R: Net<Listener = TcpListener, Stream = TcpStream> + Files + Threads + Wait + Clock + Sync,
+    R: Net<Listener = TcpListener, Stream = TcpStream>
+        + Files<File = File>
+        + Threads
+        + Wait
+        + Clock
+        + Sync,
 {
     let alloc = rt.alloc();
     let text = io::read_to_string(alloc, rt.reader())?;

@@ -4,13 +4,14 @@ use crate::fault::Fault;
 use mq_cli::{Command, Serve, job};
 use mq_programs::{run_client, run_serve_on};
 use std::alloc::{AllocError, Global};
-use std::fs;
+use std::fs::File;
 use std::io::{Read, Write};
 use std::net::{Net, TcpListener};
 use std::rt::Files;
 use std::sync::Wait;
 use std::thread::Threads;
 use std::time::Clock;
+use std::{fs, io};
 
 /// A program that has run.
 #[derive(Drop)]
@@ -73,7 +74,7 @@ fn run_dump<R: Files>(rt: &R, alloc: Global, name: &str) -> Result<Ran, Fault> {
 }
 
 /// Runs the program of a command line, with a broker on this port.
-pub(crate) fn run_line<R: Net + Clock + Files>(
+pub(crate) fn run_line<R: Net + Clock + Files<File = File>>(
     rt: &R,
     alloc: Global,
     line: &str,
@@ -86,6 +87,6 @@ pub(crate) fn run_line<R: Net + Clock + Files>(
     let words = words_of(alloc, line, port.as_str())?;
     let command = job(alloc, words.as_slice())?;
     let mut printed = Vec::new(alloc);
-    let status = run_client(rt, alloc, &command, &mut printed)?;
+    let status = run_client(rt, alloc, &command, &mut io::sink(), &mut printed)?;
     Ok(Ran { printed, status })
 }

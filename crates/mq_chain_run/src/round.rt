@@ -3,6 +3,7 @@
 use crate::fault::Fault;
 use crate::programs::{Ran, run_broker, run_line, serve_of};
 use std::alloc::Global;
+use std::fs::File;
 use std::io::Write;
 use std::net::{Ipv4Addr, Net, SocketAddr, TcpListener, TcpStream};
 use std::rt::Files;
@@ -21,7 +22,7 @@ fn write_ran<W: Write>(output: &mut W, printed: &[u8], status: u8) -> io::Result
 }
 
 // Runs the programs of the lines one after another, and returns their outputs.
-fn run_lines<R: Net + Clock + Files>(
+fn run_lines<R: Net + Clock + Files<File = File>>(
     rt: &R,
     alloc: Global,
     lines: &str,
@@ -45,7 +46,7 @@ fn knock<R: Net>(rt: &R, port: u16, connections: u32) {
 }
 
 // Runs the programs of the lines. Then opens the connections that the broker still waits for.
-fn run_clients<R: Net + Clock + Files>(
+fn run_clients<R: Net + Clock + Files<File = File>>(
     rt: &R,
     alloc: Global,
     lines: &str,
@@ -85,7 +86,12 @@ fn write_round<R, W: Write>(
     output: &mut W,
 ) -> Result<(), Fault>
 where
-    R: Net<Listener = TcpListener, Stream = TcpStream> + Files + Threads + Wait + Clock + Sync,
+    R: Net<Listener = TcpListener, Stream = TcpStream>
+        + Files<File = File>
+        + Threads
+        + Wait
+        + Clock
+        + Sync,
 {
     let words = serve_of(alloc, broker)?;
     let listener = TcpListener::bind(rt, (Ipv4Addr::LOCALHOST, words.port))?;
@@ -108,7 +114,12 @@ pub(crate) fn write_rounds<R, W: Write>(
     output: &mut W,
 ) -> Result<(), Fault>
 where
-    R: Net<Listener = TcpListener, Stream = TcpStream> + Files + Threads + Wait + Clock + Sync,
+    R: Net<Listener = TcpListener, Stream = TcpStream>
+        + Files<File = File>
+        + Threads
+        + Wait
+        + Clock
+        + Sync,
 {
     for round in text.split("\n\n") {
         let (remark, lines) = round.split_once('\n').ok_or(Fault::Line)?;

@@ -10,6 +10,7 @@ use Rattle.mq_cli.specs.declared.jobs.Source.{Source}
 use Rattle.mq_cli.specs.declared.jobs.Source.TheVariants.{File, Standard}
 use Rattle.mq_cli.specs.declared.jobs.Command.{Command}
 use Rattle.mq_cli.specs.declared.jobs.Command.TheVariants as commands
+use Rattle.mq_cli.specs.declared.broker.Broker.{Broker}
 use Rattle.mq_cli.specs.declared.jobs.Serve.{Serve}
 use Rattle.mq_cli.specs.declared.jobs.Publish.{Publish}
 use Rattle.mq_cli.specs.declared.jobs.Collect.{Collect}
@@ -88,7 +89,7 @@ pub record IsServe (command : Option (Text × List Row)) (serve : Serve) : Type 
   pub some : 1 ≤ serve.workers
   pub few : serve.workers ≤ 64
 
--- the words of `publish`; without texts they name a session
+-- The words of `publish`. Without texts they name a session, and only a named session is forgotten.
 pub record IsPublish (command : Option (Text × List Row)) (publish : Publish) : Type 0 where
   pub port : GivesNumber command (codes "publish") (codes "PORT") publish.port
   pub id : GivesId command (codes "publish") publish.id.now
@@ -97,7 +98,9 @@ pub record IsPublish (command : Option (Text × List Row)) (publish : Publish) :
   pub retain : GivesFlag command (codes "publish") (codes "RETAIN") publish.retain
   pub session : HasWord command (codes "publish") (codes "SESSION") (option_map (λ file. file.now) publish.session)
   pub texts : GivesTexts command (codes "publish") (codes "TEXT") (map (λ text. text.now) publish.texts.items)
+  pub forget : GivesFlag command (codes "publish") (codes "FORGET") publish.forget
   pub some : publish.session ≡ None → publish.texts.items ≢ []
+  pub named : publish.session ≡ None → publish.forget ≡ false
 
 -- the words of `collect`
 pub record IsCollect (command : Option (Text × List Row)) (collect : Collect) : Type 0 where
@@ -108,10 +111,30 @@ pub record IsCollect (command : Option (Text × List Row)) (collect : Collect) :
   pub count : GivesNumber command (codes "collect") (codes "COUNT") collect.count
   pub clean : GivesFlag command (codes "collect") (codes "CLEAN") collect.clean
 
+-- the number of this argument of `broker`, or its default if it was not given
+abbrev pub IsLimit : Option (Text × List Row) → Text → ℕ → ℕ → Type 0
+IsLimit command word default n =
+    GivesNumber command (codes "broker") word n ⊎ (HasWord command (codes "broker") word None × (n ≡ default))
+
+-- the words of `broker`
+pub record IsBroker (command : Option (Text × List Row)) (broker : Broker) : Type 0 where
+  pub listen : HasWord command (codes "broker") (codes "LISTEN") (option_map (λ text. text.now) broker.listen)
+  pub max_connections : IsLimit command (codes "MAX_CONNECTIONS") 10000 broker.max_connections
+  pub max_sessions : IsLimit command (codes "MAX_SESSIONS") 100000 broker.max_sessions
+  pub max_packet : IsLimit command (codes "MAX_PACKET") 1048576 broker.max_packet
+  pub capacity : IsLimit command (codes "CAPACITY") 1000 broker.capacity
+  pub max_waiting : IsLimit command (codes "MAX_WAITING") 1048576 broker.max_waiting
+  pub passwords : HasWord command (codes "broker") (codes "PASSWORDS") (option_map (λ file. file.now) broker.passwords)
+  pub metrics : HasWord command (codes "broker") (codes "METRICS") (option_map (λ text. text.now) broker.metrics)
+  pub log : HasWord command (codes "broker") (codes "LOG") (option_map (λ file. file.now) broker.log)
+  pub quiet : GivesFlag command (codes "broker") (codes "QUIET") broker.quiet
+  pub verbose : GivesFlag command (codes "broker") (codes "VERBOSE") broker.verbose
+
 -- the command that was met, and its values, are this one
 abbrev pub IsCommandOf : Option (Text × List Row) → Command → Type 0
 IsCommandOf command (commands.Job job) = IsJobOf command job
 IsCommandOf command (commands.Serve serve) = IsServe command serve
+IsCommandOf command (commands.Broker broker) = IsBroker command broker
 IsCommandOf command (commands.Publish publish) = IsPublish command publish
 IsCommandOf command (commands.Collect collect) = IsCollect command collect
 IsCommandOf command (commands.Loopback source) = GivesSource command (codes "loopback") (codes "FILE") source

@@ -13,7 +13,7 @@ use Rattle.mq_cli.specs.declared.front.Stop.TheVariants as stops
 use Rattle.mq_cli.specs.Stops.{IsTooLong}
 
 -- The bytes are these packets with this end: nothing, an incomplete packet, or a malformed packet
--- that begins where the packets end.
+-- that begins at the end of the packets.
 abbrev pub EndsAt : Bounds → List ℕ → List Packet → CountEnd → Type 0
 EndsAt limits bytes packets Whole = Reading limits bytes packets [] None
 EndsAt limits bytes packets Cut = (rest : List ℕ) × Reading limits bytes packets rest None × (0 < length rest)

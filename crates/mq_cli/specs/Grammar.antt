@@ -67,10 +67,10 @@ client_words name topics = with_rule (with_rule (with_rule (with_rule (new_app n
 abbrev pub texts_rule : Rule
 texts_rule = record (new_rule (codes "TEXT")) { action = Some Append }
 
--- `publish`, of a client with `--topic TOPIC`, and `[--retain] [--session FILE] TEXT..`
+-- `publish`, of a client with `--topic TOPIC`, and `[--retain] [--session FILE] [--forget] TEXT..`
 abbrev pub publish_words : App
 publish_words =
-    with_rule (with_rule (with_rule (client_words (codes "publish") (text_rule (codes "TOPIC") (codes "topic"))) (flag_rule (codes "RETAIN") (codes "retain"))) (file_rule (codes "SESSION") (codes "session"))) texts_rule
+    with_rule (with_rule (with_rule (with_rule (client_words (codes "publish") (text_rule (codes "TOPIC") (codes "topic"))) (flag_rule (codes "RETAIN") (codes "retain"))) (file_rule (codes "SESSION") (codes "session"))) (flag_rule (codes "FORGET") (codes "forget"))) texts_rule
 
 -- `collect`, of a client with `--filter FILTER`, and `--count COUNT [--clean]`
 abbrev pub collect_words : App
@@ -93,6 +93,33 @@ job_words = with_subcommand (with_subcommand (with_subcommand stream_words match
 abbrev pub socket_words : App
 socket_words = with_subcommand (with_subcommand (with_subcommand job_words serve_words.top) publish_words.top) collect_words.top
 
--- `loopback FILE`
+-- an option with a number of this kind
+abbrev pub limit_rule : Text → Text → ValueParser → Rule
+limit_rule word name kind = record (new_rule word) { long = Some name; parser = Some kind }
+
+-- the numbers of connections and of sessions: numbers of 32 bits
+abbrev pub with_tables : App → App
+with_tables app =
+    with_rule (with_rule app (limit_rule (codes "MAX_CONNECTIONS") (codes "max-connections") (Signed (pos 0) (pos 4294967295)))) (limit_rule (codes "MAX_SESSIONS") (codes "max-sessions") (Signed (pos 0) (pos 4294967295)))
+
+-- the limits of packets, sessions and pending output
+abbrev pub with_limits : App → App
+with_limits app =
+    with_rule (with_rule (with_rule app (limit_rule (codes "MAX_PACKET") (codes "max-packet") (Signed (pos 1) (pos 268435455)))) (limit_rule (codes "CAPACITY") (codes "capacity") (Signed (pos 1) (pos 65535)))) (limit_rule (codes "MAX_WAITING") (codes "max-waiting") (Signed (pos 0) (pos 4294967295)))
+
+-- the file of the passwords, and the address of the metrics
+abbrev pub with_extras : App → App
+with_extras app = with_rule (with_rule app (file_rule (codes "PASSWORDS") (codes "passwords"))) (file_rule (codes "METRICS") (codes "metrics"))
+
+-- the file of the log, and its lines
+abbrev pub with_logs : App → App
+with_logs app =
+    with_rule (with_rule (with_rule app (file_rule (codes "LOG") (codes "log"))) (flag_rule (codes "QUIET") (codes "quiet"))) (flag_rule (codes "VERBOSE") (codes "verbose"))
+
+-- `broker`, whose options can all be left out
+abbrev pub broker_words : App
+broker_words = with_logs (with_extras (with_limits (with_tables (with_rule (new_app (codes "broker")) (file_rule (codes "LISTEN") (codes "listen"))))))
+
+-- `broker`, `loopback FILE`
 abbrev pub program_words : App
-program_words = with_subcommand socket_words (word_words (codes "loopback") (codes "FILE")).top
+program_words = with_subcommand (with_subcommand socket_words broker_words.top) (word_words (codes "loopback") (codes "FILE")).top

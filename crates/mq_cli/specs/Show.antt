@@ -9,7 +9,7 @@ use Rattle.mq_cli.specs.declared.stream.StreamEnd.TheVariants.{Whole, Held, Faul
 use Rattle.mq_cli.specs.declared.stream.Shown.{Shown}
 
 -- The bytes are these packets with this end: nothing, an incomplete packet, or a malformed packet
--- that begins where the packets end.
+-- that begins at the end of the packets.
 abbrev pub Reads : Bounds → List ℕ → List Packet → StreamEnd → Type 0
 Reads limits bytes packets Whole = Reading limits bytes packets [] None
 Reads limits bytes packets (Held n) = (rest : List ℕ) × Reading limits bytes packets rest None × (n ≡ length rest) × (0 < n)

@@ -5,24 +5,55 @@ ghost use Rattle.clap.specs.Words.{App, app_of, new_app, rule_of, with_rule, wit
 ghost use Rattle.clap.specs.declared.builder.command.Command.TheViews.{out-Command};
 ghost use Rattle.mq_cli.specs.Grammar.{bare_words, check_words, client_words, collect_words, file_rule, flag_rule, job_words, lenient_rule, match_words, number_rule, port_rule, program_words, publish_words, qos_rule, random_words, serve_words, show_words, socket_words, stream_words, text_rule, texts_rule, word_words};
 
+use crate::broker::broker_command;
 use clap::builder::ValueParser;
 use clap::{Arg, ArgAction, Command, value_parser};
 use std::alloc::{AllocError, Global};
 
-/// The exit statuses, for the help.
-const STATUSES: &str = "Status:
+/// The codes and the exit statuses, for the help.
+const CODES_AND_STATUSES: &str = "Codes of a topic filter or topic name (`filter N..`, `name N..`):
+  N1 empty                          N4 `+` or `#` in a topic name
+  N2 contains U+0000                N5 a `+` that is not alone in its level
+  N3 more than 65,535 bytes         N6 a `#` that is not alone in the last level
+
+Status:
   0  success
   1  a fault, an incomplete packet, `no`, a failed or closed connection, or an unsaved session
   2  arguments, digits, a file, a filter, a name or a line of a file that can't be read
   3  out of memory
   4  the output failed or was closed";
 
+/// The end of the help of `match`.
+const MATCH_END: &str = "Codes of an invalid argument:
+  N1 empty                          N4 `+` or `#` in NAME
+  N2 contains U+0000                N5 a `+` that is not alone in its level
+  N3 more than 65,535 bytes         N6 a `#` that is not alone in the last level
+
+Example: mqtt match 'sport/#' sport";
+
+/// The end of the help of `publish`.
+const PUBLISH_END: &str = "Codes of an invalid topic: N1 empty, N2 contains U+0000, N3 more than
+65,535 bytes, N4 contains `+` or `#`.
+
+`closed C4` means that the broker has no session although the session file records one. It is
+unknown which pending messages arrived. Each further run reports it, until --forget gives up
+the pending messages or the file is removed.
+
+Example: mqtt publish --port 1883 --id p --topic a/b --qos 2 hi yo";
+
+/// The end of the help of `collect`.
+const COLLECT_END: &str = "Codes of an invalid filter: N1 empty, N2 contains U+0000, N3 more than
+65,535 bytes, N5 a `+` that is not alone in its level, N6 a `#` that is not alone in the last
+level.
+
+Example: mqtt collect --port 1883 --id c --filter 'a/#' --qos 2 --count 2";
+
 // The help texts of a command.
 #[derive(Clone, Copy)]
-struct Texts<'a> {
-    name: &'a str,
-    about: &'a str,
-    example: &'a str,
+pub(crate) struct Texts<'a> {
+    pub(crate) name: &'a str,
+    pub(crate) about: &'a str,
+    pub(crate) example: &'a str,
 }
 
 // A command with one required argument.
@@ -41,7 +72,7 @@ fn word_command<'a>(
 }
 
 // A command without arguments.
-fn new_command<'a>(alloc: Global, texts: Texts<'a>) -> Command<'a>
+pub(crate) fn new_command<'a>(alloc: Global, texts: Texts<'a>) -> Command<'a>
     ensures words { app_of result ≡ new_app texts.entry.name.now }
     ensures local { (out-Command result).has_globals ≡ false }
 {
@@ -51,7 +82,7 @@ fn new_command<'a>(alloc: Global, texts: Texts<'a>) -> Command<'a>
 }
 
 // Adds an argument.
-fn with_arg<'a>(command: Command<'a>, arg: Arg<'a>) -> Result<Command<'a>, AllocError>
+pub(crate) fn with_arg<'a>(command: Command<'a>, arg: Arg<'a>) -> Result<Command<'a>, AllocError>
     requires { arg.global ≡ false }
     ensures words { IfOk result
         (λ new. app_of new ≡ with_rule (app_of command.entry) (rule_of arg.entry)) }
@@ -77,7 +108,7 @@ fn with_command<'a>(
 }
 
 // A flag.
-fn flag<'a>(alloc: Global, word: &'a str, name: &'a str, help: &'a str) -> Arg<'a>
+pub(crate) fn flag<'a>(alloc: Global, word: &'a str, name: &'a str, help: &'a str) -> Arg<'a>
     ensures rule { rule_of result ≡ flag_rule word.now name.now }
     ensures local { result.global ≡ false }
 {
@@ -97,7 +128,7 @@ fn lenient_flag<'a>(alloc: Global) -> Arg<'a>
 }
 
 // An optional file name.
-fn file_option<'a>(alloc: Global, word: &'a str, name: &'a str, help: &'a str) -> Arg<'a>
+pub(crate) fn file_option<'a>(alloc: Global, word: &'a str, name: &'a str, help: &'a str) -> Arg<'a>
     ensures rule { rule_of result ≡ file_rule word.now name.now }
     ensures local { result.global ≡ false }
 {
@@ -146,7 +177,7 @@ fn match_command<'a>(alloc: Global) -> Result<Command<'a>, AllocError>
     let texts = Texts {
         name: "match",
         about: "Prints whether a topic filter matches a topic name",
-        example: "Example: mqtt match 'sport/#' sport",
+        example: MATCH_END,
     };
     let command = word_command(alloc, texts, "FILTER", "The topic filter")?;
     let name = Arg::new(alloc, "NAME")
@@ -287,7 +318,8 @@ fn texts_word<'a>(alloc: Global) -> Arg<'a>
         .action(ArgAction::Append)
 }
 
-// `publish --port PORT --id ID --topic TOPIC --qos QOS [--retain] [--session FILE] TEXT..`.
+// `publish --port PORT --id ID --topic TOPIC --qos QOS [--retain] [--session FILE [--forget]]
+// TEXT..`.
 fn publish_command<'a>(alloc: Global) -> Result<Command<'a>, AllocError>
     ensures words { IfOk result (λ command. app_of command ≡ publish_words) }
     ensures local { IfOk result (λ command. (out-Command command).has_globals ≡ false) }
@@ -295,7 +327,7 @@ fn publish_command<'a>(alloc: Global) -> Result<Command<'a>, AllocError>
     let texts = Texts {
         name: "publish",
         about: "Publishes texts as a client of a broker on this machine",
-        example: "Example: mqtt publish --port 1883 --id p --topic a/b --qos 2 hi yo",
+        example: PUBLISH_END,
     };
     let helps = [
         "The topic to publish to",
@@ -306,6 +338,8 @@ fn publish_command<'a>(alloc: Global) -> Result<Command<'a>, AllocError>
     let command = with_arg(command, flag(alloc, "RETAIN", "retain", retain))?;
     let kept = "Keeps the session in this file, and continues it if the file exists";
     let command = with_arg(command, file_option(alloc, "SESSION", "session", kept))?;
+    let forget = "Begins a new session, and gives up the pending messages of the one in the file";
+    let command = with_arg(command, flag(alloc, "FORGET", "forget", forget))?;
     with_arg(command, texts_word(alloc))
 }
 
@@ -317,7 +351,7 @@ fn collect_command<'a>(alloc: Global) -> Result<Command<'a>, AllocError>
     let texts = Texts {
         name: "collect",
         about: "Subscribes at a broker on this machine, and prints the messages",
-        example: "Example: mqtt collect --port 1883 --id c --filter 'a/#' --qos 2 --count 2",
+        example: COLLECT_END,
     };
     let helps = [
         "The topic filter to subscribe to",
@@ -353,7 +387,7 @@ fn bare_line<'a>(alloc: Global) -> Command<'a>
     Command::new(alloc, "mqtt")
         .version("0.1.0")
         .about("Reads and writes MQTT 3.1.1")
-        .after_help(STATUSES)
+        .after_help(CODES_AND_STATUSES)
         .subcommand_required(true)
         .arg_required_else_help(true)
 }
@@ -391,5 +425,22 @@ pub(crate) fn command_line<'a>(alloc: Global) -> Result<Command<'a>, AllocError>
     ensures { IfOk result (λ command. app_of command ≡ program_words) }
 {
     let line = socket_commands(alloc)?;
+    let line = with_command(line, broker_command(alloc))?;
     with_command(line, loopback_command(alloc))
+}
+
+/// The command of this name for the usage line of an error, or the whole command line.
+pub(crate) fn shown_command<'a>(alloc: Global, name: &str) -> Result<Command<'a>, AllocError> {
+    match name {
+        "show" => show_command(alloc)?.bin_name("mqtt show"),
+        "check" => check_command(alloc)?.bin_name("mqtt check"),
+        "match" => match_command(alloc)?.bin_name("mqtt match"),
+        "replay" => replay_command(alloc)?.bin_name("mqtt replay"),
+        "random" => random_command(alloc)?.bin_name("mqtt random"),
+        "serve" => serve_command(alloc)?.bin_name("mqtt serve"),
+        "publish" => publish_command(alloc)?.bin_name("mqtt publish"),
+        "collect" => collect_command(alloc)?.bin_name("mqtt collect"),
+        "loopback" => loopback_command(alloc)?.bin_name("mqtt loopback"),
+        _ => command_line(alloc),
+    }
 }

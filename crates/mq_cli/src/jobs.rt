@@ -3,6 +3,7 @@
 ghost use Rattle.std.specs.Prelude.{◌≡◌};
 ghost use Rattle.mq_cli.specs.CommandLine.{job_source};
 
+use crate::broker::Broker;
 use mq_topic::Qos;
 
 /// The source of a job's bytes.
@@ -21,6 +22,8 @@ pub enum Command<'a> {
     Job(Job<'a>),
     /// To serve as a broker.
     Serve(Serve),
+    /// To serve as a broker until it is stopped.
+    Broker(Broker<'a>),
     /// To publish texts as a client.
     Publish(Publish<'a>),
     /// Prints the messages that a client receives.
@@ -55,6 +58,8 @@ pub struct Publish<'a> {
     pub retain: bool,
     /// The file that keeps the session from one run to the next.
     pub session: Option<&'a str>,
+    /// The session in the file is given up, and a new one begins. Only with a session file.
+    pub forget: bool,
     /// The payloads, one message each. Empty only with a session file.
     pub texts: Vec<&'a str>,
 }

@@ -2,6 +2,8 @@
 //! any input and writer.
 #![tactic(auto)]
 
+mod advice;
+mod broker;
 mod count;
 mod failure;
 mod front;
@@ -16,6 +18,7 @@ mod stream;
 mod streaming;
 mod words;
 
+pub use crate::broker::Broker;
 pub use crate::count::{CountEnd, CountFault, PacketCount, count_packets};
 pub use crate::failure::{Failure, exit_status};
 pub use crate::input::{Fallible, JobInput};

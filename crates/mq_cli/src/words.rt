@@ -5,7 +5,9 @@ ghost use Rattle.clap.specs.Words.{subcommand_of, subcommand_rows_of};
 ghost use Rattle.mq_cli.specs.CommandLine.{GivesFlag, GivesId, GivesNumber, GivesQos, GivesSource, GivesTexts, GivesWord, HasWord, IsCollect, IsCommandOf, IsDigitsJob, IsJobOf, IsPublish, IsServe, IsSource};
 ghost use Rattle.mq_cli.specs.Grammar.{program_words};
 
-use crate::grammar::command_line;
+use crate::advice::advised;
+use crate::broker::broker_of;
+use crate::grammar::{command_line, shown_command};
 use crate::jobs::{Collect, Command, Job, Publish, Serve, Source};
 use clap::error::ErrorKind;
 use clap::{ArgMatches, Error as ParseError};
@@ -47,7 +49,11 @@ impl From<ParseError> for WordsFault {
 }
 
 // The value of an argument, if this command was given.
-fn given_of<'a>(matches: &ArgMatches<'a>, command: &str, word: &str) -> Option<Option<&'a str>>
+pub(crate) fn given_of<'a>(
+    matches: &ArgMatches<'a>,
+    command: &str,
+    word: &str,
+) -> Option<Option<&'a str>>
     ensures { IfSome result (λ value. HasWord (subcommand_rows_of matches.now)
         command.now word.now (option_map (λ text. text.now) value)) }
 {
@@ -80,7 +86,7 @@ fn source_of<'a>(matches: &ArgMatches<'a>, command: &str, word: &str) -> Option<
     Some(file_or_input(word_of(matches, command, word)?))
 }
 
-fn flag_of(matches: &ArgMatches<'_>, command: &str, word: &str) -> Option<bool>
+pub(crate) fn flag_of(matches: &ArgMatches<'_>, command: &str, word: &str) -> Option<bool>
     ensures { IfSome result
         (GivesFlag (subcommand_rows_of matches.now) command.now word.now) }
 {
@@ -88,7 +94,7 @@ fn flag_of(matches: &ArgMatches<'_>, command: &str, word: &str) -> Option<bool>
     Some(met.get_flag(word))
 }
 
-fn number_of(matches: &ArgMatches<'_>, command: &str, word: &str) -> Option<u64>
+pub(crate) fn number_of(matches: &ArgMatches<'_>, command: &str, word: &str) -> Option<u64>
     ensures { IfSome result
         (GivesNumber (subcommand_rows_of matches.now) command.now word.now) }
 {
@@ -261,7 +267,8 @@ fn publish_with<'a>(matches: &ArgMatches<'a>, texts: Vec<&'a str>) -> Option<Pub
         → IsPublish (subcommand_rows_of matches.now) publish)) }
 {
     let session = given_of(matches, "publish", "SESSION")?;
-    if texts.is_empty() && session.is_none() {
+    let forget = flag_of(matches, "publish", "FORGET")?;
+    if session.is_none() && (texts.is_empty() || forget) {
         return None;
     }
     Some(Publish {
@@ -271,6 +278,7 @@ fn publish_with<'a>(matches: &ArgMatches<'a>, texts: Vec<&'a str>) -> Option<Pub
         qos: qos_of(matches, "publish")?,
         retain: flag_of(matches, "publish", "RETAIN")?,
         session,
+        forget,
         texts,
     })
 }
@@ -321,6 +329,9 @@ fn command_of<'a>(
     if let Some(serve) = serve_of(matches) {
         return Ok(Some(Command::Serve(serve)));
     }
+    if let Some(broker) = broker_of(matches) {
+        return Ok(Some(Command::Broker(broker)));
+    }
     if let Some(collect) = collect_of(matches) {
         return Ok(Some(Command::Collect(collect)));
     }
@@ -334,21 +345,52 @@ fn command_of<'a>(
 }
 
 // The error for arguments that the parser accepts although they are not a command.
-fn complaint(matches: &ArgMatches<'_>) -> (ErrorKind, &'static str) {
+fn complaint(matches: &ArgMatches<'_>) -> (&'static str, ErrorKind, &'static str) {
     match matches.subcommand_name() {
-        Some("serve") => (ErrorKind::ValueValidation, "serve has 1 to 64 workers"),
-        Some("publish") if id_of(matches, "publish").is_some() => (
-            ErrorKind::MissingRequiredArgument,
-            "publish wants TEXT, or --session FILE",
+        Some("serve") => (
+            "serve",
+            ErrorKind::ValueValidation,
+            "serve has 1 to 64 workers",
         ),
-        Some("publish" | "collect") => (
+        Some("publish") if id_of(matches, "publish").is_none() => (
+            "publish",
+            ErrorKind::ValueValidation,
+            "an ID has 65,535 bytes at most",
+        ),
+        Some("publish") => (
+            "publish",
+            ErrorKind::MissingRequiredArgument,
+            match flag_of(matches, "publish", "FORGET") {
+                Some(true) => "publish wants --session FILE with --forget",
+                _ => "publish wants TEXT, or --session FILE",
+            },
+        ),
+        Some("collect") => (
+            "collect",
             ErrorKind::ValueValidation,
             "an ID has 65,535 bytes at most",
         ),
         _ => (
+            "show",
             ErrorKind::MissingRequiredArgument,
             "show wants HEX or --file FILE, and not both",
         ),
+    }
+}
+
+// The command of a command line, with the errors of the parser.
+fn parsed<'a>(alloc: Global, words: &'a [&'a str]) -> Result<Command<'a>, WordsFault>
+    ensures { IfOk result
+        (IsCommandOf (subcommand_of program_words (map (λ word. word.now) words.entry.now))) }
+{
+    let mut line = command_line(alloc)?;
+    let matches = line.try_get_matches_from_mut(words)?;
+    match command_of(alloc, &matches)? {
+        Some(command) => Ok(command),
+        None => {
+            let (name, kind, message) = complaint(&matches);
+            Err(shown_command(alloc, name)?.error(kind, message)?.into())
+        }
     }
 }
 
@@ -358,13 +400,8 @@ pub fn job<'a>(alloc: Global, words: &'a [&'a str]) -> Result<Command<'a>, Words
     ensures { IfOk result
         (IsCommandOf (subcommand_of program_words (map (λ word. word.now) words.entry.now))) }
 {
-    let mut line = command_line(alloc)?;
-    let matches = line.try_get_matches_from_mut(words)?;
-    match command_of(alloc, &matches)? {
-        Some(command) => Ok(command),
-        None => {
-            let (kind, message) = complaint(&matches);
-            Err(line.error(kind, message)?.into())
-        }
+    match parsed(alloc, words) {
+        Err(WordsFault::Words(error)) => Err(advised(alloc, words, error)),
+        done => done,
     }
 }

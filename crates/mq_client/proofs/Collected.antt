@@ -21,7 +21,7 @@ misses_none (Err (Closed reason)) rs p = (refl, p)
 misses_none (Err Lost) rs p = (refl, p)
 misses_none (Err (Refused why)) rs p = (refl, p)
 misses_none (Err NotSubscribed) rs p = (refl, p)
-misses_none (Err SaveError) rs p = (refl, p)
+misses_none (Err (SaveError kind)) rs p = (refl, p)
 misses_none (Err Memory) rs p = tt
 
 -- no happenings

@@ -205,7 +205,7 @@ reports_none (Closed reason) p = sym p
 reports_none Lost p = refl
 reports_none (Refused why) p = refl
 reports_none NotSubscribed p = refl
-reports_none SaveError p = tt
+reports_none (SaveError kind) p = tt
 reports_none Memory p = tt
 
 pub closes_none : {T : Type 0} → (r : Result T ClientError) → closes_of r ≡ [] → Closes r []

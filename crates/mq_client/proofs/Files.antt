@@ -1,5 +1,5 @@
 -- Files that are replaced.
-use Rattle.std.proofs.Common.{◌≡◌, ◌+◌, ℕ, List, [], ◌∷◌, ◌++◌, Option, Some, None, length, length-append, codes, refl, sym, ap, subst, ◌∙◌, inl, inr, arith}
+use Rattle.std.proofs.Common.{◌≡◌, ◌+◌, ℕ, List, [], ◌∷◌, ◌++◌, Option, Some, None, Result, Ok, Err, OnOk, OnErr, length, length-append, codes, refl, sym, ap, subst, ◌∙◌, inl, inr, arith}
 use Rattle.mq_client.specs.Disk.{Entry, IsLast, Moved, Replaced, Stays, Synced, Touched, Unchanged, Wrote, bytes_of, durable, history_of, newest, present, stands_of, synced}
 use Rattle.mq_client.specs.Keeping.{Holds}
 
@@ -68,6 +68,18 @@ replaced name draft form (Some a) (Some b) (Some c) (Some d) other w s m =
     let same : c name ≡ a name = s.0 name other ∙ w.0 name other in
     let grown : d name ≡ a name ++ durable form ∷ [] = m ∙ ap (λ z. z ++ present (c draft) ∷ []) same ∙ ap (λ e. a name ++ e ∷ []) entry in
     (ap present grown ∙ present_last (a name) (durable form), inr grown)
+
+-- the same, if the file was renamed
+pub replaced_if : {T E : Type 0} (r : Result T E) (name draft form : List ℕ) (h i j k : Option (List ℕ → List Entry)) → (name ≡ draft → ⊥) → Wrote draft form h i → Synced draft i j → OnOk r (Moved draft name j k)
+    → OnOk r (Replaced (history_of h name) (history_of k name) form)
+replaced_if (Ok x) name draft form h i j k other w s m = replaced name draft form h i j k other w s m
+replaced_if (Err e) name draft form h i j k other w s m = tt
+
+-- and otherwise it is unchanged
+pub unchanged_if : {T E : Type 0} (r : Result T E) (name draft form : List ℕ) (h i j k : Option (List ℕ → List Entry)) → (name ≡ draft → ⊥) → Wrote draft form h i → Synced draft i j → OnErr r (Stays name j k)
+    → OnErr r (Unchanged (history_of h name) (history_of k name))
+unchanged_if (Ok x) name draft form h i j k other w s m = tt
+unchanged_if (Err e) name draft form h i j k other w s m = unchanged_then _ _ _ (unchanged_then _ _ _ (wrote name draft form h i other w) (brought name draft i j other s)) (stayed name j k m)
 
 -- ---- the form that was written last
 

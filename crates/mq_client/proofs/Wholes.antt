@@ -1,5 +1,5 @@
 -- The whole programs.
-use Rattle.std.proofs.Common.{◌≡◌, ◌∙◌, ap, [], ℕ, Bool, true, List, Option, Result, Ok, Err, IfOk, OnOk, inl, inr, subst, sym}
+use Rattle.std.proofs.Common.{◌≡◌, ◌∙◌, ap, [], ℕ, Bool, true, false, List, Option, Result, Ok, Err, IfOk, OnOk, inl, inr, subst, sym}
 use Rattle.std.specs.Bool.{⊤}
 use Rattle.std.specs.Io.KnownBytes.{Appends}
 use Rattle.mq_line.specs.Lines.{Prints}
@@ -10,7 +10,7 @@ use Rattle.mq_client.specs.Course.{Moment}
 use Rattle.mq_client.specs.Program.{IsNewClient}
 use Rattle.mq_client.specs.declared.error.ClientError.{ClientError}
 use Rattle.mq_client.specs.Disk.{Entry, history_of, stands_of}
-use Rattle.mq_client.specs.Programs.{IsClientOf, IsDiscarded, IsKeptDone, IsMessagesDone, IsSessionDone, IsTextsDone}
+use Rattle.mq_client.specs.Programs.{IsClientOf, IsDiscarded, IsKeptDone, IsLostDone, IsMessagesDone, IsSessionDone, IsTextsDone}
 use Rattle.mq_client.specs.Publishing.{IsPublishDone, IsResumeDone, Published}
 use Rattle.mq_client.specs.Collecting.{IsCollectDone}
 
@@ -35,18 +35,24 @@ pub kept_done : {E : Type 0} → (r : Result ℕ E) (kept : Option (List ℕ)) (
 kept_done (Ok status) kept client t a b w v same keeps p = (p.0, p.1, inl (a, b, same, keeps, p.2))
 kept_done (Err e) kept client t a b w v same keeps p = tt
 
-pub session_done : {E : Type 0} → (r : Result ℕ E) (files : Option (List ℕ → List Entry)) (name id : List ℕ) (file : Option (List Entry)) (client : ClientState) (t : Publications) (w v : Option (List ℕ))
-    → IsClientOf files name id client → file ≡ history_of files name → IfOk r (λ status. Prints w v (IsKeptDone (stands_of file) client t status))
-    → IfOk r (λ status. Prints w v (IsSessionDone files name id t status))
-session_done (Ok status) files name id file client t w v own same p = (
+pub session_done : {E : Type 0} → (r : Result ℕ E) (files : Option (List ℕ → List Entry)) (name : List ℕ) (forgotten : Bool) (id : List ℕ) (file : Option (List Entry)) (client : ClientState) (t : Publications) (w v : Option (List ℕ))
+    → IsClientOf files name forgotten id false client → file ≡ history_of files name → IfOk r (λ status. Prints w v (IsKeptDone (stands_of file) client t status))
+    → IfOk r (λ status. Prints w v (IsSessionDone files name forgotten id t status))
+session_done (Ok status) files name forgotten id file client t w v own same p = (
   p.0,
   p.1,
   elim p.2 [
-    | inl x ↦ inl (x.0, x.1, subst (IsClientOf files name id) (sym x.2) own, x.3 ∙ ap stands_of same, x.4)
+    | inl x ↦ inl (x.0, x.1, subst (IsClientOf files name forgotten id false) (sym x.2) own, x.3 ∙ ap stands_of same, x.4)
     | inr halts ↦ inr (inl halts)
   ],
 )
-session_done (Err e) files name id file client t w v own same p = tt
+session_done (Err e) files name forgotten id file client t w v own same p = tt
+
+-- the file says that the server lost the session
+pub lost_done : {E : Type 0} → (r : Result ℕ E) (files : Option (List ℕ → List Entry)) (name : List ℕ) (forgotten : Bool) (id : List ℕ) (client : ClientState) (t : Publications) (w v : Option (List ℕ))
+    → IsClientOf files name forgotten id true client → IfOk r (λ status. Prints w v (IsLostDone client status)) → IfOk r (λ status. Prints w v (IsSessionDone files name forgotten id t status))
+lost_done (Ok status) files name forgotten id client t w v own p = (p.0, p.1, inr (inr (inr (client, own, p.2))))
+lost_done (Err e) files name forgotten id client t w v own p = tt
 
 -- nothing was published over a clean session
 pub discarded : (r : Result ⊤ ClientError) (id : List ℕ) (a b : Moment) (t : Publications) → IsNewClient id a.client → t.texts.now ≡ [] → OnOk r (Published a b true t) → OnOk r (IsDiscarded id)

@@ -121,8 +121,8 @@ pub record IsJust (a : Moment) (told : List Happening) (count : ℕ) : Type 0 wh
   pub went : Went a last [] before []
   pub needed : (after ≡ []) ⊎ IsNeeded last.client (length (flat_map handed before)) count
 
--- The happenings are printed. If all went well, at least `count` messages were delivered, and no
--- more than that took; every message is released (4.3.3), and the end is connected.
+-- The happenings are printed. If all went well, at least `count` messages were delivered, and each
+-- read was needed for that; every message is released (4.3.3), and the end is connected.
 pub record Gathers (a b : Moment) (old new : Option (List ℕ)) (count : ℕ) (r : Result ⊤ ClientError) : Type 0 where
   pub told : List Happening
   pub reasons : List CloseReason
@@ -135,8 +135,8 @@ pub record Gathers (a b : Moment) (old new : Option (List ℕ)) (count : ℕ) (r
   pub up : OnOk r (is_up b.client.link.end.state ≡ true)
 
 -- A connection began, and the subscription was requested once and granted. At least `count`
--- messages were delivered, and no more than that took; all are released. Then the client left.
--- `subscribed` is printed, and then each message.
+-- messages were delivered, and each read was needed for that. All messages are released. Then the
+-- client left. `subscribed` is printed, and then each message.
 pub record Collected (a b : Moment) (clean : Bool) (goal : CollectGoal) (text : List ℕ) : Type 0 where
   pub granted : Moment
   pub last : Moment

@@ -41,14 +41,14 @@ pub data Ask : Type 0 where
 pub data Step : Type 0 where
   -- a connection begins at this time, with clean session or not (3.1)
   Connect : ℕ → Bool → Step
-  -- The client is told this time (3.1.2.10) and then receives bytes. The happenings follow, and why
-  -- it closes, if it does.
+  -- The clock of the client is set to this time (3.1.2.10), and then the client receives bytes. The
+  -- happenings follow, and the reason for which it closes, if it does.
   Hear : ℕ → List ℕ → List Happening → Option CloseReason → Step
   -- a message is published (3.3)
   Publish : Message → Step
   -- a subscription is requested (3.8)
   Subscribe : List Request → Step
-  -- the client is told this time (3.1.2.10)
+  -- the clock of the client is set to this time (3.1.2.10)
   Tick : ℕ → Step
   -- the clock reports this time, and memory runs out before it is used
   Starve : ℕ → Step
@@ -148,10 +148,10 @@ abbrev pub closed : Step → List CloseReason
 closed (Hear now bytes happenings why) = option_to_list why
 closed s = []
 
--- Between two moments the end ran through steps, with these requests, happenings and reasons to
+-- Between two states the end ran through steps, with these requests, happenings and reasons to
 -- close. It received the bytes that came over the stream. The bytes that were sent are its output,
--- and before each write the session of that moment was saved. Every time that it was told is the
--- next report of the clock.
+-- and before each write the session of that state was saved. Its clock was set to each time that
+-- the clock reported, in order.
 pub record Went (a b : Moment) (asks : List Ask) (happenings : List Happening) (reasons : List CloseReason) : Type 0 where
   pub steps : List Step
   pub runs : Runs a.client steps b.client
@@ -170,7 +170,7 @@ pub record WentFirst (a b : Moment) (all : List Ask) (happenings : List Happenin
   pub parts : all ≡ asks ++ rest
   pub went : Went a b asks happenings reasons
 
--- The client is told a time that its clock reports, and nothing is sent or received.
+-- The clock of the client is set to a time that the clock reports, and nothing is sent or received.
 pub record Ticked (now : ℕ) (a b : Moment) : Type 0 where
   pub ticks : Ticks now a.client.link b.client.link
   pub coming : b.coming ≡ a.coming

@@ -97,7 +97,7 @@ Replaced None new form = new ≡ None
 Replaced (Some a) None form = ⊥
 Replaced (Some a) (Some b) form = (present b ≡ durable form) × ((b ≡ a) ⊎ (b ≡ a ++ durable form ∷ []))
 
--- the history of the file is what it was
+-- the history of the file is unchanged
 abbrev pub Unchanged : Option (List Entry) → Option (List Entry) → Type 0
 Unchanged None new = new ≡ None
 Unchanged (Some a) None = ⊥

@@ -12,7 +12,7 @@ halt_status (Closed reason) = 1
 halt_status Lost = 1
 halt_status (Refused why) = 1
 halt_status NotSubscribed = 1
-halt_status SaveError = 1
+halt_status (SaveError kind) = 1
 halt_status Memory = 3
 
 -- the reason for which the end closed, if the error reports one
@@ -21,7 +21,7 @@ halt_closes (Closed reason) = reason ∷ []
 halt_closes Lost = []
 halt_closes (Refused why) = []
 halt_closes NotSubscribed = []
-halt_closes SaveError = []
+halt_closes (SaveError kind) = []
 halt_closes Memory = []
 
 -- the same of a result
@@ -32,7 +32,7 @@ closes_of (Err error) = halt_closes error
 -- The end closed for these reasons, and the error says so. Only a session that could not be saved,
 -- or for which memory ran out, is reported in place of a reason.
 abbrev pub Reports : ClientError → List CloseReason → Type 0
-Reports SaveError reasons = ⊤
+Reports (SaveError kind) reasons = ⊤
 Reports Memory reasons = ⊤
 Reports error reasons = reasons ≡ halt_closes error
 
@@ -43,6 +43,6 @@ Closes (Err error) reasons = Reports error reasons
 
 -- 3 if memory ran out, else 2: the file, or its bytes, can't be read
 abbrev pub unloaded_status : LoadFailure → ℕ
-unloaded_status unloaded.Unread = 2
+unloaded_status (unloaded.Unread kind) = 2
 unloaded_status (unloaded.Session why) = 2
 unloaded_status unloaded.Memory = 3

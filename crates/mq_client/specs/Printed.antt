@@ -18,12 +18,12 @@ halt_line (Closed reason) = codes "closed " ++ (close_code reason ++ codes "\n")
 halt_line Lost = codes "connection failed\n"
 halt_line (Refused why) = codes "refused " ++ (refusal_code why ++ codes "\n")
 halt_line NotSubscribed = codes "not subscribed\n"
-halt_line SaveError = codes "session not written\n"
+halt_line (SaveError kind) = codes "session not written\n"
 halt_line Memory = codes "out of memory\n"
 
 -- why a file has no session to load
 abbrev pub unloaded_line : LoadFailure → List ℕ
-unloaded_line unloaded.Unread = codes "file not read\n"
+unloaded_line (unloaded.Unread kind) = codes "file not read\n"
 unloaded_line (unloaded.Session why) = codes "session " ++ (load_code why ++ codes "\n")
 unloaded_line unloaded.Memory = codes "out of memory\n"
 

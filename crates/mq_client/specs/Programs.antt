@@ -1,16 +1,19 @@
 -- The whole programs, over connections that are made for them.
-use Rattle.std.specs.Prelude.{◌≡◌, ◌⊎◌, ℕ, Bool, true, List, [], Option}
+use Rattle.std.specs.Prelude.{◌≡◌, ◌⊎◌, ℕ, Bool, true, false, List, [], ◌++◌, Option}
 use Rattle.mq_end.specs.Publishing.{ClientState}
+use Rattle.mq_end.specs.declared.reason.CloseReason.TheVariants.{SessionLost}
 use Rattle.mq_client.specs.declared.error.ClientError.{ClientError}
+use Rattle.mq_client.specs.declared.error.ClientError.TheVariants.{Closed}
 use Rattle.mq_client.specs.declared.client.LoadFailure.{LoadFailure}
 use Rattle.mq_client.specs.declared.collector.CollectGoal.{CollectGoal}
 use Rattle.mq_client.specs.declared.publisher.Publications.{Publications}
 use Rattle.mq_client.specs.Course.{Moment}
 use Rattle.mq_client.specs.Disk.{Contains, Entry, IsMissing, history_of, stands_of}
 use Rattle.mq_client.specs.Halts.{halt_status, unloaded_status}
-use Rattle.mq_client.specs.Printed.{halt_line, unloaded_line}
+use Rattle.mq_client.specs.Keeping.{marked_form}
+use Rattle.mq_client.specs.Printed.{halt_line, resumed_line, unloaded_line}
 use Rattle.mq_client.specs.Program.{GoesOn, IsNewClient}
-use Rattle.mq_client.specs.Publishing.{IsPublishDone, IsResumeDone, Published}
+use Rattle.mq_client.specs.Publishing.{IsPublishDone, IsResumeDone, Published, resumed_of}
 use Rattle.mq_client.specs.Collecting.{IsCollectDone}
 
 -- the program ended before there was a connection
@@ -35,13 +38,26 @@ abbrev pub IsDiscarded : List ℕ → Type 0
 IsDiscarded id =
     (a : Moment) × (b : Moment) × (t : Publications) × IsNewClient id a.client × (t.texts.now ≡ []) × Published a b true t
 
--- A client with this identifier. If there is no file of this name, it is new, and the server's
--- session was discarded. Otherwise it has the session that the bytes of the file are the saved form
--- of.
-abbrev pub IsClientOf : Option (List ℕ → List Entry) → List ℕ → List ℕ → ClientState → Type 0
-IsClientOf files name id c =
-    (IsMissing files name × IsNewClient id c × IsDiscarded id)
-    ⊎ ((bytes : List ℕ) × Contains files name bytes × GoesOn id bytes c)
+-- There is no session to continue with: it is forgotten, or there is no file of this name.
+abbrev pub IsAbsent : Option (List ℕ → List Entry) → List ℕ → Bool → Type 0
+IsAbsent files name forgotten = (forgotten ≡ true) ⊎ IsMissing files name
+
+-- The client has the session whose saved form is in the file of this name. The file says whether
+-- the server lost the session.
+abbrev pub IsLoadedOf : Option (List ℕ → List Entry) → List ℕ → List ℕ → Bool → ClientState → Type 0
+IsLoadedOf files name id lost c = (form : List ℕ) × Contains files name (marked_form lost form) × GoesOn id form c
+
+-- A client with this identifier. If there is no session to continue with, it is new, and the
+-- server's session was discarded. Otherwise it has the session in the file.
+abbrev pub IsClientOf : Option (List ℕ → List Entry) → List ℕ → Bool → List ℕ → Bool → ClientState → Type 0
+IsClientOf files name forgotten id lost c =
+    (IsAbsent files name forgotten × IsNewClient id c × IsDiscarded id × (lost ≡ false))
+    ⊎ IsLoadedOf files name id lost c
+
+-- An earlier run found out that the server lost the session of this client.
+abbrev pub IsLostDone : ClientState → ℕ → List ℕ → Type 0
+IsLostDone c status text =
+    (status ≡ 1) × (text ≡ resumed_line (resumed_of c.link.end) ++ halt_line (Closed SessionLost))
 
 -- the session was not loaded
 abbrev pub IsUnloaded : ℕ → List ℕ → Type 0
@@ -53,9 +69,11 @@ IsKeptDone kept client t status text =
     ((a : Moment) × (b : Moment) × (a.client ≡ client) × (a.kept ≡ kept) × IsResumeDone a b t status text)
     ⊎ HaltsBefore status text
 
--- `publish` by a client with this identifier, over the session in the file of this name
-abbrev pub IsSessionDone : Option (List ℕ → List Entry) → List ℕ → List ℕ → Publications → ℕ → List ℕ → Type 0
-IsSessionDone files name id t status text =
-    ((a : Moment) × (b : Moment) × IsClientOf files name id a.client × (a.kept ≡ stands_of (history_of files name))
-    × IsResumeDone a b t status text)
-    ⊎ (HaltsBefore status text ⊎ IsUnloaded status text)
+-- `publish` by a client with this identifier, over the session in the file of this name, or over a
+-- new one. If the file says that the server lost the session, that is reported.
+abbrev pub IsSessionDone : Option (List ℕ → List Entry) → List ℕ → Bool → List ℕ → Publications → ℕ → List ℕ → Type 0
+IsSessionDone files name forgotten id t status text =
+    ((a : Moment) × (b : Moment) × IsClientOf files name forgotten id false a.client
+    × (a.kept ≡ stands_of (history_of files name)) × IsResumeDone a b t status text)
+    ⊎ (HaltsBefore status text ⊎ (IsUnloaded status text
+    ⊎ ((c : ClientState) × IsClientOf files name forgotten id true c × IsLostDone c status text)))

@@ -1,12 +1,14 @@
 //! The client of the programs: new, or with a saved session.
 
-ghost use Rattle.std.specs.Prelude.{◌≡◌, ℕ, List, IfErr, IfOk, MatchOption};
+ghost use Rattle.std.specs.Prelude.{◌≡◌, ℕ, List, true, IfErr, IfOk, MatchOption};
 ghost use Rattle.mq_flow.specs.declared.saved.Saved as value;
 ghost use Rattle.mq_client.specs.Halts.{unloaded_status};
 ghost use Rattle.mq_client.specs.Disk.{Contains, IsMissing};
+ghost use Rattle.mq_client.specs.Keeping.{marked_form};
 ghost use Rattle.mq_client.specs.Program.{CanGoOn, GoesOn, IsNewClient, program_config};
 
 use crate::disk::Disk;
+use crate::lines::write_bytes;
 use mq_decode::Limits;
 use mq_end::{ClientConfig, ClientEnd};
 use mq_flow::{LoadError, Saved};
@@ -29,8 +31,8 @@ const KEEP_ALIVE: u16 = 60;
 #[derive(Clone, Copy, Debug, PartialEq, Eq, Error)]
 pub enum LoadFailure {
     /// The file could not be read.
-    #[error("the file was not read")]
-    Unread,
+    #[error("the file was not read: {0}")]
+    Unread(ErrorKind),
     /// Its bytes are not a session that the client can continue with.
     #[error("{0}")]
     Session(LoadError),
@@ -46,7 +48,7 @@ impl LoadFailure {
     {
         match self {
             LoadFailure::Memory => 3,
-            LoadFailure::Unread | LoadFailure::Session(_) => 2,
+            LoadFailure::Unread(_) | LoadFailure::Session(_) => 2,
         }
     }
 }
@@ -90,8 +92,37 @@ pub fn saved_client(alloc: Global, id: &Text, bytes: &[u8]) -> Result<ClientEnd,
 fn unread(error: &io::Error) -> LoadFailure {
     match error.kind() {
         ErrorKind::OutOfMemory => LoadFailure::Memory,
-        _ => LoadFailure::Unread,
+        kind => LoadFailure::Unread(kind),
     }
+}
+
+/// The client with the session in a file.
+#[derive(Drop)]
+pub struct Loaded {
+    /// The client.
+    pub client: ClientEnd,
+    /// The file says that the server lost the session.
+    pub is_lost: bool,
+}
+
+// The form of a session without its mark, and whether it has one.
+fn unmarked(bytes: &[u8]) -> (&[u8], bool)
+    ensures { bytes.now ≡ marked_form result.1 result.0.now }
+{
+    match bytes {
+        [b'L', b'O', b'S', b'T', form @ ..] => (form, true),
+        _ => (bytes, false),
+    }
+}
+
+/// The form of a session, with the mark that the server lost it.
+pub(crate) fn lost_form(alloc: Global, form: &[u8]) -> io::Result<Vec<u8>>
+    ensures { IfOk result (λ marked. marked.items ≡ marked_form true form.now) }
+{
+    let mut marked = Vec::new(alloc);
+    write_bytes(&mut marked, b"LOST")?;
+    write_bytes(&mut marked, form)?;
+    Ok(marked)
 }
 
 /// A client with this identifier and the session in a file. Returns `None` only if there is no file
@@ -101,16 +132,21 @@ pub fn load<D: Disk>(
     disk: &D,
     name: &str,
     id: &Text,
-) -> Result<Option<ClientEnd>, LoadFailure>
+) -> Result<Option<Loaded>, LoadFailure>
     ensures { IfOk result (λ found. MatchOption found (IsMissing (D.history disk.now) name.now)
-        (λ client. (bytes : List ℕ) × Contains (D.history disk.now) name.now bytes × GoesOn id.now bytes client)) }
+        (λ loaded. (form : List ℕ)
+        × Contains (D.history disk.now) name.now (marked_form loaded.is_lost form)
+        × GoesOn id.now form loaded.client)) }
 {
     match disk.read(alloc, name) {
-        Ok(Some(bytes)) => match saved_client(alloc, id, bytes.as_slice()) {
-            Ok(client) => Ok(Some(client)),
-            Err(LoadError::Memory) => Err(LoadFailure::Memory),
-            Err(why) => Err(LoadFailure::Session(why)),
-        },
+        Ok(Some(bytes)) => {
+            let (form, is_lost) = unmarked(bytes.as_slice());
+            match saved_client(alloc, id, form) {
+                Ok(client) => Ok(Some(Loaded { client, is_lost })),
+                Err(LoadError::Memory) => Err(LoadFailure::Memory),
+                Err(why) => Err(LoadFailure::Session(why)),
+            }
+        }
         Ok(None) => Ok(None),
         Err(error) => Err(unread(&error)),
     }

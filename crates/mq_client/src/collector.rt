@@ -14,6 +14,7 @@ use crate::error::ClientError;
 use crate::lines::{print_told, write_bytes, write_halt};
 use crate::peer::Peer;
 use crate::saver::SessionSaver;
+use crate::stop::Stop;
 use mq_end::Happening;
 use mq_packet::{NonEmpty, Request, SubAckCode};
 use mq_stream::{Clock, Stream};
@@ -281,8 +282,8 @@ fn gather<S: Stream, C: Clock, K: SessionSaver, W: Write>(
 }
 
 /// Connects, subscribes, prints `subscribed` and then each message that is delivered, until there
-/// are as many as wanted and all are released; then it leaves. `clean` is the clean session flag.
-/// Returns the status of the program.
+/// are enough and all are released; then it leaves. `clean` is the clean session flag. If it stops
+/// earlier, `stop` gets the reason. Returns the status of the program.
 ///
 /// A message is printed and flushed before its acknowledgement is sent, also if it comes before the
 /// subscription is granted.
@@ -291,6 +292,7 @@ pub fn collect<S: Stream, C: Clock, K: SessionSaver, W: Write>(
     peer: &mut Peer<S, C, K>,
     goal: &CollectGoal<'_>,
     clean: bool,
+    stop: &mut Option<Stop>,
     output: &mut W,
 ) -> io::Result<u8>
     ensures ok { IfOk result (λ status. Prints (W.contents output.old) (W.contents output.new)
@@ -302,18 +304,22 @@ pub fn collect<S: Stream, C: Clock, K: SessionSaver, W: Write>(
     let begun = begin(alloc, peer, goal, clean, &mut kept);
     if let Err(halt) = begun {
         print_told(alloc, output, kept.as_slice())?;
+        *stop = Some(Stop::Halted(peer.collect_halt(halt)));
         return write_halt(output, halt);
     }
     write_bytes(output, b"subscribed\n")?;
     print_told(alloc, output, kept.as_slice())?;
     if let Err(halt) = peer.write() {
+        *stop = Some(Stop::Halted(peer.collect_halt(halt)));
         return write_halt(output, halt);
     }
     let left = left_after(kept.as_slice(), goal.count);
     if let Err(halt) = gather(alloc, peer, left, output)? {
+        *stop = Some(Stop::Halted(peer.collect_halt(halt)));
         return write_halt(output, halt);
     }
     if let Err(halt) = peer.leave() {
+        *stop = Some(Stop::Halted(peer.collect_halt(halt)));
         return write_halt(output, halt);
     }
     Ok(0)

@@ -1,6 +1,7 @@
 //! Making connections.
 
 use mq_stream::{Broken, Clock, Elapsed, SocketStream, Stream};
+use std::io::ErrorKind;
 use std::net::{Net, OpenStream, SocketAddr};
 use std::time::{Duration, Instant};
 use std::{io, time};
@@ -34,6 +35,19 @@ pub struct Loopback<'a, R: Net + time::Clock> {
     pub rt: &'a R,
     /// The port.
     pub port: u16,
+    /// Why the last connection could not be made.
+    pub failure: Option<ErrorKind>,
+}
+
+impl<'a, R: Net + time::Clock> Loopback<'a, R> {
+    /// Makes connections to this port.
+    pub fn new(rt: &'a R, port: u16) -> Loopback<'a, R> {
+        Loopback {
+            rt,
+            port,
+            failure: None,
+        }
+    }
 }
 
 // A connection to this port, with its time limits.
@@ -56,7 +70,10 @@ impl<'a, R: Net + time::Clock> Dial<SocketStream<R::Stream>, Elapsed<'a, R>> for
                 stream: SocketStream(stream),
                 clock: Elapsed::since(self.rt, start),
             }),
-            Err(_) => Err(Broken),
+            Err(error) => {
+                self.failure = Some(error.kind());
+                Err(Broken)
+            }
         }
     }
 }

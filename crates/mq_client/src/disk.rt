@@ -5,10 +5,17 @@ ghost use Rattle.std.specs.IoError.{error_kind};
 ghost use Rattle.mq_client.specs.Disk.{Contains, Entry, IsMissing, Moved, Stays, Synced, Touched, Wrote};
 
 use std::alloc::Global;
-use std::fs::{File, OpenFile};
+use std::fs::{File, OpenFile, OpenOptions, Permissions};
 use std::io::{ErrorKind, Read, Write};
+use std::os::unix::fs::{OpenOptionsExt, PermissionsExt};
 use std::rt::Files;
 use std::{fs, io};
+
+/// The bits of a mode that are permissions.
+const PERMISSIONS: u32 = 0o777;
+
+/// The permissions of a new file: its owner may read and write it.
+pub(crate) const OWNER_ONLY: u32 = 0o600;
 
 /// Named files, as far as a session needs them.
 pub trait Disk {
@@ -20,8 +27,9 @@ pub trait Disk {
         ensures { IfOk result (λ found. MatchOption found (IsMissing (history self.now) name.now)
             (λ bytes. Contains (history self.now) name.now bytes.items)) };
 
-    /// Writes a whole file anew.
-    fn write(&mut self, name: &str, bytes: &[u8]) -> io::Result<()>
+    /// Writes a whole file anew, with the permissions of the file `like`. If there is no such file,
+    /// only the owner may read and write the new one.
+    fn write(&mut self, name: &str, like: &str, bytes: &[u8]) -> io::Result<()>
         ensures ok { OnOk result (Wrote name.now bytes.now (history self.old) (history self.new)) }
         ensures err { OnErr result (Touched name.now (history self.old) (history self.new)) };
 
@@ -34,6 +42,10 @@ pub trait Disk {
     fn rename(&mut self, from: &str, to: &str) -> io::Result<()>
         ensures ok { OnOk result (Moved from.now to.now (history self.old) (history self.new)) }
         ensures err { OnErr result (Stays to.now (history self.old) (history self.new)) };
+
+    /// Removes a file.
+    fn remove(&mut self, name: &str) -> io::Result<()>
+        ensures { Touched name.now (history self.old) (history self.new) };
 }
 
 /// The files of the system. No contract of the system says what a file has.
@@ -45,6 +57,15 @@ fn is_missing(error: &io::Error) -> bool
     ensures { IsTrue result ↔ (error_kind error.now ≡ ErrorKind.NotFound) }
 {
     error.kind() == ErrorKind::NotFound
+}
+
+// The permissions of a file, or those of a new one.
+fn mode_like<R: Files>(files: &R, name: &str) -> io::Result<u32> {
+    match fs::metadata(files, name) {
+        Ok(found) => Ok(found.permissions().mode() & PERMISSIONS),
+        Err(error) if is_missing(&error) => Ok(OWNER_ONLY),
+        Err(error) => Err(error),
+    }
 }
 
 impl<R: Files> Disk for SystemDisk<'_, R> {
@@ -59,8 +80,16 @@ impl<R: Files> Disk for SystemDisk<'_, R> {
         Ok(Some(bytes))
     }
 
-    fn write(&mut self, name: &str, bytes: &[u8]) -> io::Result<()> {
-        let mut file = fs::create(self.0, name)?;
+    fn write(&mut self, name: &str, like: &str, bytes: &[u8]) -> io::Result<()> {
+        let mode = mode_like(self.0, like)?;
+        let mut file = OpenOptions::new()
+            .write(true)
+            .create(true)
+            .truncate(true)
+            .mode(mode)
+            .open(self.0, name)?;
+        // The file may have existed, and the mask of the process may be narrower.
+        file.set_permissions(Permissions::from_mode(mode))?;
         file.write_all(bytes)?;
         file.flush()
     }
@@ -72,5 +101,9 @@ impl<R: Files> Disk for SystemDisk<'_, R> {
 
     fn rename(&mut self, from: &str, to: &str) -> io::Result<()> {
         fs::rename(self.0, from, to)
+    }
+
+    fn remove(&mut self, name: &str) -> io::Result<()> {
+        fs::remove_file(self.0, name)
     }
 }

@@ -5,6 +5,7 @@ ghost use Rattle.mq_client.specs.Halts.{halt_status};
 
 use mq_end::{CloseReason, PublishRefusal};
 use std::alloc::AllocError;
+use std::io::ErrorKind;
 use thiserror::Error;
 
 /// Why a client program stopped early.
@@ -23,8 +24,8 @@ pub enum ClientError {
     #[error("not subscribed")]
     NotSubscribed,
     /// The session could not be saved.
-    #[error("session not written")]
-    SaveError,
+    #[error("session not written: {0}")]
+    SaveError(ErrorKind),
     /// An allocation failed.
     #[error("out of memory")]
     Memory,
@@ -41,7 +42,7 @@ impl ClientError {
             | ClientError::Lost
             | ClientError::Refused(_)
             | ClientError::NotSubscribed
-            | ClientError::SaveError => { 1 }
+            | ClientError::SaveError(_) => { 1 }
         }
     }
 }

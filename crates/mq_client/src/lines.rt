@@ -75,7 +75,7 @@ fn write_error<W: Write>(output: &mut W, halt: ClientError) -> io::Result<()>
         ClientError::Lost => write_code(output, b"connection failed", ""),
         ClientError::Refused(why) => write_code(output, b"refused ", why.code()),
         ClientError::NotSubscribed => write_code(output, b"not subscribed", ""),
-        ClientError::SaveError => write_code(output, b"session not written", ""),
+        ClientError::SaveError(_) => write_code(output, b"session not written", ""),
         ClientError::Memory => write_code(output, b"out of memory", ""),
     }
 }
@@ -98,7 +98,7 @@ pub(crate) fn write_unloaded<W: Write>(output: &mut W, why: LoadFailure) -> io::
     ensures status { IfOk result (λ status. status ≡ unloaded_status why) }
 {
     match why {
-        LoadFailure::Unread => writeln!(output, "file not read")?,
+        LoadFailure::Unread(_) => writeln!(output, "file not read")?,
         LoadFailure::Session(why) => writeln!(output, "session {}", why.code())?,
         LoadFailure::Memory => writeln!(output, "out of memory")?,
     }

@@ -13,7 +13,8 @@ ghost use Rattle.mq_client.specs.Publishing.{resumed_of};
 
 use crate::error::ClientError;
 use crate::saver::{SaveError, SessionSaver};
-use mq_end::{ClientEnd, CloseReason, Progress, PublishRefusal, State};
+use crate::stop::Halt;
+use mq_end::{ClientEnd, CloseReason, Happening, Progress, PublishRefusal, State};
 use mq_flow::Sender;
 use mq_packet::{Message, NonEmpty, Request};
 use mq_stream::{Clock, Stream};
@@ -37,6 +38,11 @@ pub struct Peer<S: Stream, C: Clock, K: SessionSaver> {
     clock: C,
     keeper: K,
     quiet: u32,
+    // The number of messages that were published, of those that are not finished while the client
+    // has a session, and of those that were delivered.
+    accepted: usize,
+    open: usize,
+    delivered: usize,
 }
 
 impl<S: Stream, C: Clock, K: SessionSaver> Model for Peer<S, C, K> {
@@ -74,7 +80,7 @@ fn unkept(why: SaveError) -> ClientError
     ensures { halt_closes result ≡ [] }
 {
     match why {
-        SaveError::Unwritten => ClientError::SaveError,
+        SaveError::Unwritten(kind) => ClientError::SaveError(kind),
         SaveError::Memory => ClientError::Memory,
     }
 }
@@ -92,12 +98,28 @@ fn waits(why: PublishRefusal) -> Result<bool, ClientError>
     }
 }
 
-// The number of messages that a sender has not finished.
-fn in_use(sender: &Sender) -> usize
+/// The number of messages that a sender has not finished.
+pub(crate) fn in_use(sender: &Sender) -> usize
     ensures { result ≡ length sender.now.book.entries + length sender.now.book.released }
 {
     let _capacity = sender.capacity();
     sender.entries().count() + sender.released()
+}
+
+// The number of messages that a client has not finished, or the last number if it has no session.
+fn open_messages(client: &ClientEnd, last: usize) -> usize {
+    match client.session() {
+        Some(session) => in_use(&session.sender),
+        None => last,
+    }
+}
+
+// The number of messages that are delivered.
+fn messages_in(happenings: &[Happening]) -> usize {
+    happenings
+        .iter()
+        .filter(|happening| matches!(happening, Happening::Handed(_)))
+        .count()
 }
 
 impl<S: Stream, C: Clock, K: SessionSaver> Peer<S, C, K> {
@@ -116,6 +138,9 @@ impl<S: Stream, C: Clock, K: SessionSaver> Peer<S, C, K> {
             clock,
             keeper,
             quiet: 0,
+            accepted: 0,
+            open: 0,
+            delivered: 0,
         }
     }
 
@@ -139,6 +164,39 @@ impl<S: Stream, C: Clock, K: SessionSaver> Peer<S, C, K> {
         ensures { K.kept result.now ≡ self.now.kept }
     {
         &self.keeper
+    }
+
+    /// The client end and the session saver. Drops the stream.
+    pub fn into_parts(self) -> (ClientEnd, K)
+    where
+        S: Drop,
+        C: Drop,
+        ensures client { result.0 ≡ self.client }
+        ensures kept { K.kept result.1 ≡ self.kept }
+    {
+        (self.client, self.keeper)
+    }
+
+    // Where the program is halted that published over this peer.
+    pub(crate) fn publish_halt(&self, error: ClientError) -> Halt
+        ensures { result.error ≡ error }
+    {
+        Halt {
+            error,
+            done: self.accepted.saturating_sub(self.open),
+            is_silent: self.quiet >= MAX_QUIET,
+        }
+    }
+
+    // Where the program is halted that collected from this peer.
+    pub(crate) fn collect_halt(&self, error: ClientError) -> Halt
+        ensures { result.error ≡ error }
+    {
+        Halt {
+            error,
+            done: self.delivered,
+            is_silent: self.quiet >= MAX_QUIET,
+        }
     }
 
     // Tells the client the time that the clock reports, so that PINGREQ is sent in time (3.1.2.10).
@@ -236,7 +294,11 @@ impl<S: Stream, C: Clock, K: SessionSaver> Peer<S, C, K> {
     {
         let now = self.tick()?;
         let count = self.arrive(room)?;
-        Ok(self.client.receive(now, &room[..count]))
+        let progress = self.client.receive(now, &room[..count]);
+        let delivered = messages_in(progress.happenings.as_slice());
+        self.delivered = self.delivered.saturating_add(delivered);
+        self.open = open_messages(&self.client, self.open);
+        Ok(progress)
     }
 
     /// Receives the bytes of one read, which waits no longer than the stream's time limit. What the
@@ -266,7 +328,7 @@ impl<S: Stream, C: Clock, K: SessionSaver> Peer<S, C, K> {
         match closed {
             None => written,
             Some(reason) => match written {
-                Err(ClientError::SaveError) => Err(ClientError::SaveError),
+                Err(ClientError::SaveError(kind)) => Err(ClientError::SaveError(kind)),
                 Err(ClientError::Memory) => Err(ClientError::Memory),
                 _ => Err(ClientError::Closed(reason)),
             },
@@ -328,6 +390,8 @@ impl<S: Stream, C: Clock, K: SessionSaver> Peer<S, C, K> {
         if let Err(why) = self.client.publish(message) {
             return waits(why);
         }
+        self.accepted = self.accepted.saturating_add(1);
+        self.open = open_messages(&self.client, self.open);
         Ok(true)
     }
 

@@ -1,22 +1,28 @@
 //! The whole programs, over any connections and disks.
 
-ghost use Rattle.std.specs.Prelude.{◌≡◌, IfOk, OnOk};
+ghost use Rattle.std.specs.Prelude.{◌≡◌, true, IfOk, OnOk, MatchOption};
+ghost use Rattle.std.specs.Io.KnownBytes.{Appends};
 ghost use Rattle.mq_line.specs.Lines.{Prints};
-ghost use Rattle.mq_client.specs.Disk.{history_of, stands_of};
+ghost use Rattle.mq_client.specs.Disk.{Replaced, history_of, stands_of};
+ghost use Rattle.mq_client.specs.Halts.{halt_status};
+ghost use Rattle.mq_client.specs.Keeping.{marked_form, saved_of};
+ghost use Rattle.mq_client.specs.Printed.{halt_line};
 ghost use Rattle.mq_client.specs.Program.{IsNewClient};
-ghost use Rattle.mq_client.specs.Programs.{IsClientOf, IsDiscarded, IsKeptDone, IsMessagesDone, IsSessionDone, IsTextsDone};
+ghost use Rattle.mq_client.specs.Programs.{IsAbsent, IsClientOf, IsDiscarded, IsKeptDone, IsLoadedOf, IsLostDone, IsMessagesDone, IsSessionDone, IsTextsDone};
+ghost use Rattle.mq_client.specs.Publishing.{resumed_of};
 
-use crate::client::{LoadFailure, load, new_client};
+use crate::client::{LoadFailure, Loaded, load, new_client};
 use crate::collector::{CollectGoal, collect};
 use crate::dial::Dial;
 use crate::disk::Disk;
 use crate::error::ClientError;
 use crate::lines::{write_halt, write_unloaded};
-use crate::peer::Peer;
+use crate::peer::{Peer, in_use};
 use crate::publisher::{Publications, publish, publish_all, resume};
-use crate::saver::{NoSaver, SavingTo, SessionSaver};
+use crate::saver::{NoSaver, SaveError, SavingTo, SessionSaver};
 use crate::session_file::SessionFile;
-use mq_end::ClientEnd;
+use crate::stop::{Halt, Stop};
+use mq_end::{ClientEnd, CloseReason};
 use mq_stream::{Clock, Stream};
 use mq_wire::Text;
 use std::alloc::Global;
@@ -55,12 +61,27 @@ fn newly_connected<S: Stream, C: Clock, D: Dial<S, C>>(
     connected(new_client(alloc, id)?, dialer, NoSaver)
 }
 
+// Writes why a program stops before its first message, and returns its status.
+fn write_early<W: Write>(
+    stop: &mut Option<Stop>,
+    output: &mut W,
+    halt: ClientError,
+) -> io::Result<u8>
+    ensures printed { OnOk result
+        (Appends (W.contents output.old) (W.contents output.new) (halt_line halt)) }
+    ensures status { IfOk result (λ status. status ≡ halt_status halt) }
+{
+    *stop = Some(Stop::Halted(Halt::early(halt)));
+    write_halt(output, halt)
+}
+
 /// Makes a connection and publishes texts over a clean session, as [`publish`] does.
 pub fn publish_texts<S: Stream + Drop, C: Clock + Drop, D: Dial<S, C>, W: Write>(
     alloc: Global,
     id: &Text,
     texts: &Publications<'_>,
     dialer: &mut D,
+    stop: &mut Option<Stop>,
     output: &mut W,
 ) -> io::Result<u8>
     ensures { IfOk result (λ status. Prints (W.contents output.old) (W.contents output.new)
@@ -68,11 +89,11 @@ pub fn publish_texts<S: Stream + Drop, C: Clock + Drop, D: Dial<S, C>, W: Write>
 {
     match newly_connected(alloc, id, dialer) {
         Ok(mut peer) => {
-            let status = publish(alloc, &mut peer, texts, true, output);
+            let status = publish(alloc, &mut peer, texts, true, stop, output);
             drop(peer);
             status
         }
-        Err(halt) => write_halt(output, halt),
+        Err(halt) => write_early(stop, output, halt),
     }
 }
 
@@ -83,6 +104,7 @@ pub fn collect_messages<S: Stream + Drop, C: Clock + Drop, D: Dial<S, C>, W: Wri
     goal: &CollectGoal<'_>,
     clean: bool,
     dialer: &mut D,
+    stop: &mut Option<Stop>,
     output: &mut W,
 ) -> io::Result<u8>
     ensures { IfOk result (λ status. Prints (W.contents output.old) (W.contents output.new)
@@ -90,11 +112,11 @@ pub fn collect_messages<S: Stream + Drop, C: Clock + Drop, D: Dial<S, C>, W: Wri
 {
     match newly_connected(alloc, id, dialer) {
         Ok(mut peer) => {
-            let status = collect(alloc, &mut peer, goal, clean, output);
+            let status = collect(alloc, &mut peer, goal, clean, stop, output);
             drop(peer);
             status
         }
-        Err(halt) => write_halt(output, halt),
+        Err(halt) => write_early(stop, output, halt),
     }
 }
 
@@ -125,6 +147,15 @@ enum Unstarted {
     Halted(ClientError),
 }
 
+/// The session of `publish --session`.
+#[derive(Clone, Copy, Debug)]
+pub struct SessionOptions<'a> {
+    /// The name of its file.
+    pub name: &'a str,
+    /// The session in the file is given up, and a new one begins.
+    pub is_forgotten: bool,
+}
+
 // A new client whose session begins empty at both ends.
 fn anew<S: Stream + Drop, C: Clock + Drop, D: Dial<S, C>>(
     alloc: Global,
@@ -139,25 +170,90 @@ fn anew<S: Stream + Drop, C: Clock + Drop, D: Dial<S, C>>(
     Ok(new_client(alloc, id)?)
 }
 
-// The client with the session in a file, or a new one if there is no file.
+// The client with the session in a file, unless it is forgotten.
+fn loaded<F: Disk>(
+    alloc: Global,
+    id: &Text,
+    disk: &F,
+    session: SessionOptions<'_>,
+) -> Result<Option<Loaded>, LoadFailure>
+    ensures { IfOk result (λ found. MatchOption found
+        (IsAbsent (F.history disk.now) session.entry.name.now session.entry.is_forgotten)
+        (λ loaded. IsLoadedOf (F.history disk.now) session.entry.name.now id.now loaded.is_lost loaded.client)) }
+{
+    if session.is_forgotten {
+        return Ok(None);
+    }
+    load(alloc, disk, session.name, id)
+}
+
+// The client with the session in a file, or a new one if there is none to continue with.
 fn client_of<S: Stream + Drop, C: Clock + Drop, D: Dial<S, C>, F: Disk>(
     alloc: Global,
     id: &Text,
     texts: &Publications<'_>,
     disk: &F,
-    name: &str,
+    session: SessionOptions<'_>,
     dialer: &mut D,
-) -> Result<ClientEnd, Unstarted>
-    ensures { IfOk result (IsClientOf (F.history disk.now) name.now id.now) }
+) -> Result<Loaded, Unstarted>
+    ensures { IfOk result (λ l. IsClientOf (F.history disk.now) session.entry.name.now
+        session.entry.is_forgotten id.now l.is_lost l.client) }
 {
-    match load(alloc, disk, name, id) {
-        Ok(Some(client)) => Ok(client),
+    match loaded(alloc, id, disk, session) {
+        Ok(Some(loaded)) => Ok(loaded),
         Ok(None) => match anew(alloc, id, texts, dialer) {
-            Ok(client) => Ok(client),
+            Ok(client) => Ok(Loaded {
+                client,
+                is_lost: false,
+            }),
             Err(halt) => Err(Unstarted::Halted(halt)),
         },
         Err(why) => Err(Unstarted::LoadFailure(why)),
     }
+}
+
+// The number of messages of the client's session that are not finished (4.3.2, 4.3.3).
+fn unfinished(client: &ClientEnd) -> usize
+    ensures { result ≡ resumed_of client.now.link.end }
+{
+    match client.session() {
+        Some(session) => in_use(&session.sender),
+        None => 0,
+    }
+}
+
+// Reports that the server lost the session of a client, as an earlier run found out. The status of
+// the program.
+fn write_lost<W: Write>(client: &ClientEnd, output: &mut W) -> io::Result<u8>
+    ensures { IfOk result (λ status. Prints (W.contents output.old) (W.contents output.new)
+        (IsLostDone client.now status)) }
+{
+    let resumed = unfinished(client);
+    writeln!(output, "resumed {resumed}")?;
+    write_halt(output, ClientError::Closed(CloseReason::SessionLost))
+}
+
+// Whether the program stopped because the server lost the session.
+fn is_lost(stop: &Option<Stop>) -> bool {
+    match stop {
+        Some(Stop::Halted(halt)) => halt.error == ClientError::Closed(CloseReason::SessionLost),
+        _ => false,
+    }
+}
+
+// Marks the session of a client, which is in a file, as lost at the server.
+fn mark_lost<F: Disk>(
+    alloc: Global,
+    client: &ClientEnd,
+    file: &mut SessionFile<'_, F>,
+) -> Result<(), SaveError>
+    ensures { OnOk result (Replaced file.old file.new (marked_form true (saved_of client.now))) }
+{
+    let mut form = Vec::new(alloc);
+    if client.save(&mut form).is_err() {
+        return Err(SaveError::Memory);
+    }
+    file.mark_lost(form.as_slice())
 }
 
 // Publishes texts over the session of a client, which is saved to a file.
@@ -167,6 +263,7 @@ fn publish_kept<S: Stream + Drop, C: Clock + Drop, D: Dial<S, C>, F: Disk + Drop
     texts: &Publications<'_>,
     file: SessionFile<'_, F>,
     dialer: &mut D,
+    stop: &mut Option<Stop>,
     output: &mut W,
 ) -> io::Result<u8>
     ensures { IfOk result (λ status. Prints (W.contents output.old) (W.contents output.new)
@@ -175,36 +272,55 @@ fn publish_kept<S: Stream + Drop, C: Clock + Drop, D: Dial<S, C>, F: Disk + Drop
     let keeper = SavingTo { alloc, store: file };
     match connected(client, dialer, keeper) {
         Ok(mut peer) => {
-            let status = resume(alloc, &mut peer, texts, output);
-            drop(peer);
+            let status = resume(alloc, &mut peer, texts, stop, output);
+            let (client, mut keeper) = peer.into_parts();
+            if is_lost(stop) {
+                // Without the mark, the next run continues with the server's new session.
+                let _ = mark_lost(alloc, &client, &mut keeper.store);
+            }
+            drop(client);
+            drop(keeper);
             status
         }
-        Err(halt) => write_halt(output, halt),
+        Err(halt) => write_early(stop, output, halt),
     }
 }
 
 /// Publishes texts over the session in a file, as [`resume`] does.
 ///
-/// If there is no file of this name, a connection with a clean session is made first and left, so
-/// that the session begins empty at both ends. The file is first written after that.
+/// If there is no file of this name, or its session is forgotten, a connection with a clean session
+/// is made first and left, so that the session begins empty at both ends. The file is first written
+/// after that.
+///
+/// If the server lost the session, the file is marked. Further runs report that and make no
+/// connection, until the session is forgotten or the file removed.
 pub fn publish_session<S: Stream + Drop, C: Clock + Drop, D: Dial<S, C>, F: Disk + Drop, W: Write>(
     alloc: Global,
     id: &Text,
     texts: &Publications<'_>,
     disk: F,
-    name: &str,
+    session: SessionOptions<'_>,
     dialer: &mut D,
+    stop: &mut Option<Stop>,
     output: &mut W,
 ) -> io::Result<u8>
     ensures { IfOk result (λ status. Prints (W.contents output.old) (W.contents output.new)
-        (IsSessionDone (F.history disk) name.now id.now texts.now status)) }
+        (IsSessionDone (F.history disk) session.entry.name.now session.entry.is_forgotten id.now texts.now status)) }
 {
-    match client_of(alloc, id, texts, &disk, name, dialer) {
-        Ok(client) => {
-            let file = SessionFile::new(alloc, disk, name);
-            publish_kept(alloc, client, texts, file, dialer, output)
+    match client_of(alloc, id, texts, &disk, session, dialer) {
+        Ok(loaded) => {
+            if loaded.is_lost {
+                let lost = ClientError::Closed(CloseReason::SessionLost);
+                *stop = Some(Stop::Halted(Halt::early(lost)));
+                return write_lost(&loaded.client, output);
+            }
+            let file = SessionFile::new(alloc, disk, session.name);
+            publish_kept(alloc, loaded.client, texts, file, dialer, stop, output)
         }
-        Err(Unstarted::LoadFailure(why)) => write_unloaded(output, why),
-        Err(Unstarted::Halted(halt)) => write_halt(output, halt),
+        Err(Unstarted::LoadFailure(why)) => {
+            *stop = Some(Stop::Unloaded(why));
+            write_unloaded(output, why)
+        }
+        Err(Unstarted::Halted(halt)) => write_early(stop, output, halt),
     }
 }

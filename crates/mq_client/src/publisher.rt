@@ -9,6 +9,7 @@ use crate::error::ClientError;
 use crate::lines::write_halt;
 use crate::peer::Peer;
 use crate::saver::SessionSaver;
+use crate::stop::Stop;
 use bytes::Bytes;
 use mq_end::PublishRefusal;
 use mq_packet::{Message, Payload};
@@ -105,13 +106,14 @@ pub fn publish_all<S: Stream, C: Clock, K: SessionSaver>(
     peer.leave()
 }
 
-/// Does the same, and prints the number of texts or why it stopped. Returns the status of the
-/// program.
+/// Does the same, and prints the number of texts or why it stopped, which `stop` gets too. Returns
+/// the status of the program.
 pub fn publish<S: Stream, C: Clock, K: SessionSaver, W: Write>(
     alloc: Global,
     peer: &mut Peer<S, C, K>,
     texts: &Publications<'_>,
     clean: bool,
+    stop: &mut Option<Stop>,
     output: &mut W,
 ) -> io::Result<u8>
     ensures { IfOk result (λ status. Prints (W.contents output.old) (W.contents output.new)
@@ -122,7 +124,10 @@ pub fn publish<S: Stream, C: Clock, K: SessionSaver, W: Write>(
             writeln!(output, "published {}", texts.texts.len())?;
             Ok(0)
         }
-        Err(halt) => write_halt(output, halt),
+        Err(halt) => {
+            *stop = Some(Stop::Halted(peer.publish_halt(halt)));
+            write_halt(output, halt)
+        }
     }
 }
 
@@ -132,6 +137,7 @@ pub fn resume<S: Stream, C: Clock, K: SessionSaver, W: Write>(
     alloc: Global,
     peer: &mut Peer<S, C, K>,
     texts: &Publications<'_>,
+    stop: &mut Option<Stop>,
     output: &mut W,
 ) -> io::Result<u8>
     ensures { IfOk result (λ status. Prints (W.contents output.old) (W.contents output.new)
@@ -140,5 +146,5 @@ pub fn resume<S: Stream, C: Clock, K: SessionSaver, W: Write>(
     let resumed = peer.resumed();
     writeln!(output, "resumed {resumed}")?;
     output.flush()?;
-    publish(alloc, peer, texts, false, output)
+    publish(alloc, peer, texts, false, stop, output)
 }

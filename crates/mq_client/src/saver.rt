@@ -5,14 +5,15 @@ ghost use Rattle.mq_client.specs.Keeping.{Holds, saved_of};
 
 use mq_end::ClientEnd;
 use std::alloc::Global;
+use std::io::ErrorKind;
 use thiserror::Error;
 
 /// Why a session was not saved.
 #[derive(Clone, Copy, Debug, PartialEq, Eq, Error)]
 pub enum SaveError {
     /// It could not be written.
-    #[error("the session was not written")]
-    Unwritten,
+    #[error("the session was not written: {0}")]
+    Unwritten(ErrorKind),
     /// An allocation failed.
     #[error("out of memory")]
     Memory,

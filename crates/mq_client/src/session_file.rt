@@ -1,11 +1,14 @@
 //! A session in a file.
 
-ghost use Rattle.std.specs.Prelude.{◌≡◌, true, OnErr, OnOk};
+ghost use Rattle.std.specs.Prelude.{◌≡◌, ◌++◌, true, codes, OnErr, OnOk};
 ghost use Rattle.mq_client.specs.Disk.{Replaced, Unchanged, history_of, stands_of};
+ghost use Rattle.mq_client.specs.Keeping.{marked_form};
 
+use crate::client::lost_form;
 use crate::disk::Disk;
 use crate::saver::{SaveError, Store};
 use std::alloc::Global;
+use std::io;
 use std::marker::Model;
 
 /// The file of a session.
@@ -55,6 +58,19 @@ impl<'a, D: Disk> SessionFile<'a, D> {
         }
     }
 
+    /// Marks the session in the file, which has this saved form, as lost at the server. After an
+    /// error the file is unchanged.
+    pub fn mark_lost(&mut self, form: &[u8]) -> Result<(), SaveError>
+        ensures ok { OnOk result (Replaced self.old self.new (marked_form true form.now)) }
+        ensures err { OnErr result (Unchanged self.old self.new) }
+    {
+        self.last = None;
+        let Ok(marked) = lost_form(self.alloc, form) else {
+            return Err(SaveError::Memory);
+        };
+        put(self.alloc, &mut self.disk, self.name, marked.as_slice())
+    }
+
     /// Replaces the session in the file. After an error the old one is still there.
     #[tactic(auto, using(crate::proofs::Files::last_unchanged, crate::proofs::Files::last_replaced, crate::proofs::Files::unchanged_none))]
     pub fn save(&mut self, form: Vec<u8>) -> Result<(), SaveError>
@@ -80,6 +96,19 @@ impl<D: Disk> Store for SessionFile<'_, D> {
 }
 
 // Writes a draft, syncs it and renames it.
+fn replace_by<D: Disk>(disk: &mut D, draft: &str, name: &str, form: &[u8]) -> io::Result<()>
+    requires { draft.now ≡ name.now ++ codes ".new" }
+    ensures ok { OnOk result (Replaced (history_of (D.history disk.old) name.now)
+        (history_of (D.history disk.new) name.now) form.now) }
+    ensures err { OnErr result (Unchanged (history_of (D.history disk.old) name.now)
+        (history_of (D.history disk.new) name.now)) }
+{
+    disk.write(draft, name, form)?;
+    disk.sync(draft)?;
+    disk.rename(draft, name)
+}
+
+// Replaces a file by way of a draft. A draft that could not take its place is removed.
 fn put<D: Disk>(alloc: Global, disk: &mut D, name: &str, form: &[u8]) -> Result<(), SaveError>
     ensures ok { OnOk result (Replaced (history_of (D.history disk.old) name.now)
         (history_of (D.history disk.new) name.now) form.now) }
@@ -90,14 +119,11 @@ fn put<D: Disk>(alloc: Global, disk: &mut D, name: &str, form: &[u8]) -> Result<
         return Err(SaveError::Memory);
     };
     let draft = draft.as_str();
-    if let Err(_) = disk.write(draft, form) {
-        return Err(SaveError::Unwritten);
-    }
-    if let Err(_) = disk.sync(draft) {
-        return Err(SaveError::Unwritten);
-    }
-    match disk.rename(draft, name) {
+    match replace_by(disk, draft, name, form) {
         Ok(()) => Ok(()),
-        Err(_) => Err(SaveError::Unwritten),
+        Err(error) => {
+            let _ = disk.remove(draft);
+            Err(SaveError::Unwritten(error.kind()))
+        }
     }
 }

@@ -11,7 +11,7 @@ use std::test::Fail;
 // The status, the printed text and the written bytes of a collection.
 fn told_of(alloc: Global, peer: &mut Scripted, goal: &CollectGoal<'_>) -> Result<String, Fail> {
     let mut output = Vec::new(alloc);
-    let status = collect(alloc, peer, goal, false, &mut output)?;
+    let status = collect(alloc, peer, goal, false, &mut None, &mut output)?;
     let written = peer.stream().written.as_slice();
     told(alloc, status, output.as_slice(), written)
 }
@@ -187,7 +187,7 @@ fn unprinted(
         room,
         flushes,
     };
-    let status = collect(alloc, &mut peer, &goal, false, &mut output).unwrap_or(9);
+    let status = collect(alloc, &mut peer, &goal, false, &mut None, &mut output).unwrap_or(9);
     let written = peer.stream().written.as_slice();
     told(alloc, status, output.printed.as_slice(), written)
 }

@@ -64,8 +64,8 @@ impl mq_client::Disk for Lent<'_> {
         }
     }
 
-    fn write(&mut self, name: &str, bytes: &[u8]) -> io::Result<()> {
-        if name != "s.new" {
+    fn write(&mut self, name: &str, like: &str, bytes: &[u8]) -> io::Result<()> {
+        if name != "s.new" || like != "s" {
             return Err(refused());
         }
         self.0.is_synced.set(false);
@@ -100,6 +100,16 @@ impl mq_client::Disk for Lent<'_> {
             Vec::new(self.0.alloc)
         };
         match self.0.file.try_replace(Some(bytes)) {
+            Ok(_) => Ok(()),
+            Err(_) => Err(in_use()),
+        }
+    }
+
+    fn remove(&mut self, name: &str) -> io::Result<()> {
+        if name != "s.new" {
+            return Err(refused());
+        }
+        match self.0.draft.try_replace(Vec::new(self.0.alloc)) {
             Ok(_) => Ok(()),
             Err(_) => Err(in_use()),
         }

@@ -4,13 +4,14 @@ use mq_client::{Publications, SaveError, SessionSaver, publish};
 use mq_end::ClientEnd;
 use mq_topic::{Qos, TopicName};
 use std::alloc::Global;
+use std::io::ErrorKind;
 use std::process::Abort;
 use std::test::Fail;
 
 // The status, the printed text and the written bytes of a publication.
 fn told_of(alloc: Global, peer: &mut Scripted, texts: &Publications<'_>) -> Result<String, Fail> {
     let mut output = Vec::new(alloc);
-    let status = publish(alloc, peer, texts, true, &mut output)?;
+    let status = publish(alloc, peer, texts, true, &mut None, &mut output)?;
     let written = peer.stream().written.as_slice();
     told(alloc, status, output.as_slice(), written)
 }
@@ -162,7 +163,7 @@ struct Failing {
 impl SessionSaver for Failing {
     fn keep(&mut self, _client: &ClientEnd) -> Result<(), SaveError> {
         if self.saves == 0 {
-            return Err(SaveError::Unwritten);
+            return Err(SaveError::Unwritten(ErrorKind::Other));
         }
         self.saves -= 1;
         Ok(())
@@ -180,7 +181,7 @@ fn saved(alloc: Global, reads: &'static str, saves: u32) -> Result<String, Fail>
     };
     let mut peer = peer_with(alloc, line_of(reads), Failing { saves })?;
     let mut output = Vec::new(alloc);
-    let status = publish(alloc, &mut peer, &texts, false, &mut output)?;
+    let status = publish(alloc, &mut peer, &texts, false, &mut None, &mut output)?;
     let written = peer.stream().written.as_slice();
     told(alloc, status, output.as_slice(), written)
 }

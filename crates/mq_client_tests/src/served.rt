@@ -122,7 +122,7 @@ fn published(alloc: Global, qos: Qos, most: usize) -> Result<String, Fail> {
     };
     let mut peer = peer_of(alloc, most)?;
     let mut output = Vec::new(alloc);
-    let status = publish(alloc, &mut peer, &texts, true, &mut output)?;
+    let status = publish(alloc, &mut peer, &texts, true, &mut None, &mut output)?;
     told(
         alloc,
         status,
@@ -155,7 +155,7 @@ fn collected(alloc: Global, most: usize) -> Result<String, Fail> {
     };
     let mut peer = peer_of(alloc, most)?;
     let mut output = Vec::new(alloc);
-    let status = collect(alloc, &mut peer, &wish, true, &mut output)?;
+    let status = collect(alloc, &mut peer, &wish, true, &mut None, &mut output)?;
     told(
         alloc,
         status,

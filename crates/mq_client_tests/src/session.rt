@@ -4,7 +4,7 @@ use crate::compare::expect_told;
 use crate::disk::{Disk, Lent};
 use crate::script::bytes_of;
 use crate::side::{Dialer, Side};
-use mq_client::{Publications, publish_session};
+use mq_client::{Publications, SessionOptions, publish_session};
 use mq_topic::{Qos, TopicName};
 use mq_wire::Text;
 use std::alloc::Global;
@@ -14,6 +14,17 @@ use std::test::Fail;
 
 // The status and the printed text of a publication of these texts to `t` by the client `w`.
 fn run(alloc: Global, disk: &Disk, side: &RefCell<Side>, texts: &[&str]) -> Result<String, Fail> {
+    run_as(alloc, disk, side, texts, false)
+}
+
+// The same, over a new session if that in the file is forgotten.
+fn run_as(
+    alloc: Global,
+    disk: &Disk,
+    side: &RefCell<Side>,
+    texts: &[&str],
+    is_forgotten: bool,
+) -> Result<String, Fail> {
     let id = Text::new(alloc, "w")?;
     let topic = TopicName::parse(alloc, "t")?;
     let texts = Publications {
@@ -23,13 +34,18 @@ fn run(alloc: Global, disk: &Disk, side: &RefCell<Side>, texts: &[&str]) -> Resu
         texts,
     };
     let mut output = Vec::new(alloc);
+    let session = SessionOptions {
+        name: "s",
+        is_forgotten,
+    };
     let status = publish_session(
         alloc,
         &id,
         &texts,
         Lent(disk),
-        "s",
+        session,
         &mut Dialer(side),
+        &mut None,
         &mut output,
     )?;
     let mut told = String::new(alloc);
@@ -284,10 +300,34 @@ fn a_file_is_locked(rt: &impl Abort, alloc: Global) -> Result<(), Fail> {
     expect_told(rt, Ok(told), wanted, "locked")
 }
 
+// The server has no session for the client of the file. Each run reports that, and only the first
+// one connects, until the session is forgotten.
+fn a_session_is_lost(rt: &impl Abort, alloc: Global) -> Result<(), Fail> {
+    let file = bytes_of(alloc, "4d5153020001770100040001000000000000")?;
+    let disk = Disk::new(alloc, Some(file));
+    let side = RefCell::new(Side::new(alloc)?);
+    let lost = "1resumed 0|closed C4|4c4f53544d5153020001770100040001000000000000 1 ";
+    let forgotten = "0resumed 0|published 1|4d5153020001770100640001000000000000 3 x";
+    let later = "0resumed 0|published 1|4d5153020001770100640002000000000000 4 xx";
+    for (is_forgotten, wanted) in [
+        (false, lost),
+        (false, lost),
+        (true, forgotten),
+        (false, later),
+    ] {
+        let mut told = run_as(alloc, &disk, &side, &["x"], is_forgotten)?;
+        let left = left(alloc, &disk, &side)?;
+        told.push_str(left.as_str())?;
+        expect_told(rt, Ok(told), wanted, "a lost session")?;
+    }
+    Ok(())
+}
+
 #[test]
 fn all_hold(rt: HostRuntime) -> Result<(), Fail> {
     a_session_goes_on(&rt, rt.alloc())?;
     each_text_is_handed_on_once(&rt, rt.alloc())?;
     a_form_is_not_written(&rt, rt.alloc())?;
-    a_file_is_locked(&rt, rt.alloc())
+    a_file_is_locked(&rt, rt.alloc())?;
+    a_session_is_lost(&rt, rt.alloc())
 }

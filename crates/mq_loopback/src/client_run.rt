@@ -81,7 +81,7 @@ fn gather<S: Stream, C: Clock>(
     Err(ClientError::Lost)
 }
 
-/// Keeps delivered messages until there are as many as requested and all are released; then
+/// Keeps delivered messages until the requested number has come and all are released; then
 /// disconnects.
 pub(crate) fn collect<S: Stream, C: Clock>(
     peer: &mut Peer<S, C, NoSaver>,

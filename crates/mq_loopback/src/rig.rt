@@ -113,7 +113,7 @@ where
 fn end_of(error: &io::Error) -> ServeEnd {
     match error.kind() {
         ErrorKind::OutOfMemory => ServeEnd::Memory,
-        _ => ServeEnd::Net,
+        kind => ServeEnd::Net(kind),
     }
 }
 
@@ -133,8 +133,9 @@ where
     requires each { blank.parts ≡ workers }
     requires some { (0 < workers) × (workers ≤ 64) }
 {
-    let Ok(start) = Instant::now(rt) else {
-        return Err(RunError::Broker(ServeEnd::Net));
+    let start = match Instant::now(rt) {
+        Ok(start) => start,
+        Err(error) => return Err(RunError::Broker(ServeEnd::Net(error.kind()))),
     };
     let Rig { gate, streams } = rig;
     let records = Retention::Kept(JOURNAL);

@@ -1,5 +1,5 @@
 -- The output of the client programs, for their arguments.
-use Rattle.std.proofs.Common.{◌≡◌, ℕ, List, Option, Some, None, Result, Ok, Err, IfOk, inl, inr, subst, sym}
+use Rattle.std.proofs.Common.{◌≡◌, ℕ, Bool, List, Option, Some, None, Result, Ok, Err, IfOk, OnOk, inl, inr, refl, subst, sym}
 use Rattle.std.specs.Prelude.{◌≢◌, IfErr, IfNone, IfSome, IsErrOf}
 use Rattle.mq_line.specs.Lines.{Prints}
 use Rattle.mq_topic.specs.declared.fault.TopicFault.{TopicFault}
@@ -8,8 +8,12 @@ use Rattle.mq_cli.specs.declared.jobs.Collect.{Collect}
 use Rattle.mq_cli.specs.declared.jobs.Publish.{Publish}
 use Rattle.mq_client.specs.declared.collector.CollectGoal.{CollectGoal}
 use Rattle.mq_client.specs.declared.publisher.Publications.{Publications}
+use Rattle.mq_client.specs.declared.error.ClientError.{ClientError}
+use Rattle.mq_client.specs.Halts.{halt_status}
+use Rattle.mq_client.specs.Printed.{halt_line}
 use Rattle.mq_client.specs.Programs.{IsMessagesDone, IsSessionDone, IsTextsDone}
-use Rattle.mq_programs.specs.Runs.{AreTextsOf, IsBadTopic, IsCollected, IsPublished, IsGoalOf}
+use Rattle.mq_programs.specs.Runs.{AreTextsOf, IsBadTopic, IsCollected, IsLockedRun, IsPublished, IsGoalOf, IsSessionRun}
+use Rattle.std.specs.Io.KnownBytes.{Appends}
 
 -- the same output under another description
 pub in_other_words : {E : Type 0} (r : Result ℕ E) (a b : Option (List ℕ)) (P Q : ℕ → List ℕ → Type 0) → ((status : ℕ) (text : List ℕ) → P status text → Q status text) → IfOk r (λ status. Prints a b (P status))
@@ -29,10 +33,26 @@ published r a b id words t same none own =
     (λ status text p. (t, own, rw none (subst (λ i. IsTextsDone i t status text) same p)))
 
 pub resumed : {E : Type 0} (r : Result ℕ E) (a b : Option (List ℕ)) (id : List ℕ) (words : Publish) (t : Publications) (name : _) → id ≡ words.id.now → words.session ≡ Some name → AreTextsOf words t
-    → IfOk r (λ status. Prints a b (IsSessionDone None name.now id t status)) → IfOk r (λ status. Prints a b (IsPublished words status))
+    → IfOk r (λ status. Prints a b (IsSessionRun words.forget id t status)) → IfOk r (λ status. Prints a b (IsPublished words status))
 resumed r a b id words t name same some own =
-    in_other_words r a b (IsSessionDone None name.now id t) (IsPublished words)
-    (λ status text p. (t, own, rw some (subst (λ i. IsSessionDone None name.now i t status text) same p)))
+    in_other_words r a b (IsSessionRun words.forget id t) (IsPublished words)
+    (λ status text p. (t, own, rw some (subst (λ i. IsSessionRun words.forget i t status text) same p)))
+
+-- the lock could not be taken
+pub unlocked_done : {E : Type 0} (r : Result ℕ E) (a b : Option (List ℕ)) (file : List ℕ) (forgotten : Bool) (id : List ℕ) (t : Publications) (halt : ClientError) → OnOk r (Appends a b (halt_line halt)) → IfOk r (λ status. status ≡ halt_status halt)
+    → IfOk r (λ status. Prints a b (IsLockedRun file forgotten id t status))
+unlocked_done (Ok status) a b file forgotten id t halt printed is = (halt_line halt, printed, inl (inr (inl (halt, is, refl))))
+unlocked_done (Err e) a b file forgotten id t halt printed is = tt
+
+-- the lock was taken
+pub locked_done : {E : Type 0} (r : Result ℕ E) (a b : Option (List ℕ)) (file : List ℕ) (forgotten : Bool) (id : List ℕ) (t : Publications) → IfOk r (λ status. Prints a b (IsSessionDone None file forgotten id t status))
+    → IfOk r (λ status. Prints a b (IsLockedRun file forgotten id t status))
+locked_done r a b file forgotten id t own = in_other_words r a b (IsSessionDone None file forgotten id t) (IsLockedRun file forgotten id t) (λ status text p. inl p) own
+
+-- a name leads to the file of a session
+pub linked_done : {E : Type 0} (r : Result ℕ E) (a b : Option (List ℕ)) (file : List ℕ) (forgotten : Bool) (id : List ℕ) (t : Publications) → IfOk r (λ status. Prints a b (IsLockedRun file forgotten id t status))
+    → IfOk r (λ status. Prints a b (IsSessionRun forgotten id t status))
+linked_done r a b file forgotten id t own = in_other_words r a b (IsLockedRun file forgotten id t) (IsSessionRun forgotten id t) (λ status text p. (file, p)) own
 
 -- a fault other than a failed allocation is the first one of the argument
 fault_found : {T : Type 0} (p : Result T TopicFault) (found : Option TopicFault) (fault : TopicFault) → p ≡ Err fault → IfSome found (λ first. IsErrOf p first)

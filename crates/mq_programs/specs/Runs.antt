@@ -1,5 +1,5 @@
 -- What the client programs do for their arguments.
-use Rattle.std.specs.Prelude.{◌≡◌, ◌⊎◌, ℕ, List, Option, Some, None, MatchOption, codes}
+use Rattle.std.specs.Prelude.{◌≡◌, ◌⊎◌, ℕ, Bool, List, Option, Some, None, MatchOption, codes}
 use Rattle.mq_topic.specs.Fault.{filter_fault, name_fault}
 use Rattle.mq_topic.specs.declared.fault.TopicFault.{TopicFault}
 use Rattle.mq_cli.specs.declared.jobs.Collect.{Collect}
@@ -29,12 +29,24 @@ abbrev pub IsBadTopic : List ℕ → Option TopicFault → ℕ → List ℕ → 
 IsBadTopic kind found status text =
     (fault : TopicFault) × (found ≡ Some fault) × (status ≡ 2) × (text ≡ topic_line kind fault)
 
+-- another run uses the session
+abbrev pub IsInUse : ℕ → List ℕ → Type 0
+IsInUse status text = (status ≡ 1) × (text ≡ codes "session in use\n")
+
+-- the texts are published over the session in this file, unless another run uses it
+abbrev pub IsLockedRun : List ℕ → Bool → List ℕ → Publications → ℕ → List ℕ → Type 0
+IsLockedRun file forgotten id t status text = IsSessionDone None file forgotten id t status text ⊎ IsInUse status text
+
+-- the same over the session in some file, to which a name leads through symbolic links
+abbrev pub IsSessionRun : Bool → List ℕ → Publications → ℕ → List ℕ → Type 0
+IsSessionRun forgotten id t status text = (file : List ℕ) × IsLockedRun file forgotten id t status text
+
 -- The texts are published: over the session in the file that the arguments name, or over a clean
 -- session if they name none.
 abbrev pub IsPublished : Publish → ℕ → List ℕ → Type 0
 IsPublished words status text =
     (t : Publications) × AreTextsOf words t × MatchOption words.session (IsTextsDone words.id.now t status text)
-    (λ name. IsSessionDone None name.now words.id.now t status text)
+    (λ name. IsSessionRun words.forget words.id.now t status text)
 
 -- `publish` with these arguments
 abbrev pub IsPublishRun : Publish → ℕ → List ℕ → Type 0
@@ -55,6 +67,7 @@ IsCollectRun words status text =
 abbrev pub IsClientRun : Command → ℕ → List ℕ → Type 0
 IsClientRun (commands.Job job) status text = ⊥
 IsClientRun (commands.Serve serve) status text = ⊥
+IsClientRun (commands.Broker broker) status text = ⊥
 IsClientRun (commands.Publish publish) status text = IsPublishRun publish status text
 IsClientRun (commands.Collect collect) status text = IsCollectRun collect status text
 IsClientRun (commands.Loopback source) status text = ⊥

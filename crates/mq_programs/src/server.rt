@@ -3,7 +3,7 @@
 ghost use Rattle.std.specs.Prelude.{◌≡◌, ◌<◌, ◌≤◌, IfSome};
 
 use mq_cli::{Failure, Serve};
-use mq_serve::{ServeOptions, serve, serve_on};
+use mq_serve::{ServeEnd, ServeOptions, serve, serve_on};
 use std::alloc::Global;
 use std::io::Write;
 use std::net::{Net, TcpListener, TcpStream};
@@ -27,16 +27,38 @@ fn options_of(words: &Serve) -> Option<ServeOptions>
     })
 }
 
-/// Runs the broker at the port of the arguments. Flushes its line as soon as it listens.
-pub fn run_serve<R, W>(rt: &R, alloc: Global, words: &Serve, output: &mut W) -> Result<u8, Failure>
+// Says why the broker ended early. Nothing is reported if the output is not writable.
+fn explain_end<E: Write>(errors: &mut E, port: u16, end: Option<ServeEnd>) {
+    let _ = match end {
+        Some(ServeEnd::Listen(kind)) => {
+            writeln!(errors, "mqtt: cannot listen on 127.0.0.1:{port}: {kind}")
+        }
+        Some(end) => writeln!(errors, "mqtt: the broker ended early: {end}"),
+        None => Ok(()),
+    };
+}
+
+/// Runs the broker at the port of the arguments. Flushes its line as soon as it listens. `errors`
+/// gets a line that says why it ended early.
+pub fn run_serve<R, E, W>(
+    rt: &R,
+    alloc: Global,
+    words: &Serve,
+    errors: &mut E,
+    output: &mut W,
+) -> Result<u8, Failure>
 where
     R: Net<Listener = TcpListener, Stream = TcpStream> + Threads + Wait + Clock + Sync,
+    E: Write,
     W: Write,
 {
     let Some(options) = options_of(words) else {
         return Err(Failure::Words);
     };
-    Ok(serve(rt, alloc, words.port, options, output)?)
+    let mut end = None;
+    let status = serve(rt, alloc, words.port, options, &mut end, output);
+    explain_end(errors, words.port, end);
+    Ok(status?)
 }
 
 /// Runs the broker on a listener that exists already. Ignores the port of the arguments.
@@ -54,5 +76,5 @@ where
     let Some(options) = options_of(words) else {
         return Err(Failure::Words);
     };
-    Ok(serve_on(rt, alloc, listener, options, output)?)
+    Ok(serve_on(rt, alloc, listener, options, &mut None, output)?)
 }

@@ -5,7 +5,7 @@ use crate::hexes::{add_digits, bytes_of};
 use crate::outcome::Outcome;
 use crate::ran::{Ran, outcome};
 use crate::side::{Dialer, Side};
-use mq_client::{Publications, SystemDisk, publish_session};
+use mq_client::{Publications, SessionOptions, SystemDisk, publish_session};
 use mq_end::CloseReason;
 use mq_topic::{Qos, TopicName};
 use mq_wire::Text;
@@ -79,7 +79,20 @@ fn publish<R: Files>(
     let mut output = Vec::with_capacity(alloc, 4_096)?;
     let mut dialer = Dialer(side);
     let disk = SystemDisk(rt);
-    let status = publish_session(alloc, &id, &texts, disk, NAME, &mut dialer, &mut output)?;
+    let session = SessionOptions {
+        name: NAME,
+        is_forgotten: false,
+    };
+    let status = publish_session(
+        alloc,
+        &id,
+        &texts,
+        disk,
+        session,
+        &mut dialer,
+        &mut None,
+        &mut output,
+    )?;
     add_close(side, lines)?;
     for byte in output {
         lines.push(char::from(byte))?;

@@ -2,12 +2,12 @@
 
 ghost use Rattle.std.specs.Prelude.{◌≡◌, IfOk, None};
 
+use crate::arrivals::{receive, take_view};
 use crate::brief::{
-    add_asked, add_deadline, add_done, add_late, add_progress, add_published, add_session,
-    add_state,
+    add_asked, add_deadline, add_done, add_late, add_published, add_session, add_state,
 };
 use crate::sessions::Books;
-use crate::values::{add_hex, bytes_of, message, view_of};
+use crate::values::{add_hex, bytes_of, message};
 use crate::words::Words;
 use crate::wrong::Wrong;
 use mq_decode::Limits;
@@ -92,31 +92,6 @@ fn open(
     let clean = words.next() == Some("clean");
     client.connect(moment, clean)?;
     add_state(told, client.state())
-}
-
-// `view BYTES`: receives a packet that is borrowed from these bytes.
-fn take_view(
-    alloc: Global,
-    client: &mut ClientEnd,
-    moment: u64,
-    words: &mut Words<'_>,
-    told: &mut String,
-) -> Result<(), Wrong> {
-    let bytes = bytes_of(alloc, words)?;
-    let packet = view_of(bytes.as_slice())?;
-    add_progress(told, &client.on_view(moment, &packet))
-}
-
-// `receive BYTES`: these come.
-fn receive(
-    alloc: Global,
-    client: &mut ClientEnd,
-    moment: u64,
-    words: &mut Words<'_>,
-    told: &mut String,
-) -> Result<(), Wrong> {
-    let bytes = bytes_of(alloc, words)?;
-    add_progress(told, &client.receive(moment, bytes.as_slice()))
 }
 
 // `publish QOS BYTES`: a message to `t`.

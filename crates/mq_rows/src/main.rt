@@ -12,6 +12,7 @@
 //! differs. Bytes are hexadecimal digits; `78*60` is 60 times the same ones, and `-` none.
 #![tactic(auto)]
 
+mod arrivals;
 mod brief;
 mod clients;
 mod forms;

@@ -1,11 +1,12 @@
 //! Server ends: the result and the output of each call.
 
+use crate::arrivals::{receive, take_view};
 use crate::brief::{
     add_deadline, add_done, add_late, add_outcome, add_progress, add_published, add_session,
     add_state,
 };
 use crate::sessions::Books;
-use crate::values::{add_hex, bytes_of, message, packet_of, view_of};
+use crate::values::{add_hex, bytes_of, message, packet_of};
 use crate::words::{Words, qos_of};
 use crate::wrong::Wrong;
 use mq_end::{ByteQueue, ServerConfig, ServerEnd};
@@ -42,31 +43,6 @@ pub(crate) fn resume(
         return Err(Wrong::Words);
     }
     Ok(ServerEnd::with_session(alloc, config, books.session))
-}
-
-// `view BYTES`: receives a packet that is borrowed from these bytes.
-fn take_view(
-    alloc: Global,
-    server: &mut ServerEnd,
-    moment: u64,
-    words: &mut Words<'_>,
-    told: &mut String,
-) -> Result<(), Wrong> {
-    let bytes = bytes_of(alloc, words)?;
-    let packet = view_of(bytes.as_slice())?;
-    add_progress(told, &server.on_view(moment, &packet))
-}
-
-// `receive BYTES`: these come.
-fn receive(
-    alloc: Global,
-    server: &mut ServerEnd,
-    moment: u64,
-    words: &mut Words<'_>,
-    told: &mut String,
-) -> Result<(), Wrong> {
-    let bytes = bytes_of(alloc, words)?;
-    add_progress(told, &server.receive(moment, bytes.as_slice()))
 }
 
 fn take_whole(

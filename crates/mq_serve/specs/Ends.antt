@@ -1,9 +1,10 @@
 -- The end of a broker over sockets.
 use Rattle.std.specs.Prelude.{ℕ, zero, suc, List, [], ◌∷◌, Option, Some, None, Result, Ok, Err}
+use Rattle.std.specs.declared.io.ErrorKind.{ErrorKind}
 use Rattle.mq_book.specs.declared.work_end.WorkEnd.{WorkEnd}
 use Rattle.mq_book.specs.declared.work_end.WorkEnd.TheVariants as works
 use Rattle.mq_serve.specs.declared.serve_end.ServeEnd.{ServeEnd}
-use Rattle.mq_serve.specs.declared.serve_end.ServeEnd.TheVariants.{Net, JournalFull, Refused, Memory}
+use Rattle.mq_serve.specs.declared.serve_end.ServeEnd.TheVariants.{Listen, Net, JournalFull, Refused, Memory}
 use Rattle.mq_serve.specs.declared.server.Retention.{Retention}
 use Rattle.mq_serve.specs.declared.server.Retention.TheVariants.{Passing, Kept}
 
@@ -14,7 +15,8 @@ retention_limit (Kept limit) = limit
 
 -- the exit status of a program that ends early
 abbrev pub end_status : ServeEnd → ℕ
-end_status Net = 1
+end_status (Listen kind) = 1
+end_status (Net kind) = 1
 end_status JournalFull = 1
 end_status Refused = 1
 end_status Memory = 3
@@ -32,7 +34,7 @@ first_stop (Ok count ∷ ends) = first_stop ends
 first_stop (Err why ∷ ends) = Some why
 
 -- why a server is not finished: a worker stopped early, or connections were not accepted
-abbrev pub stop_of : Option WorkEnd → ℕ → Option ServeEnd
-stop_of (Some why) left = Some (end_of_work why)
-stop_of None zero = None
-stop_of None (suc left) = Some Net
+abbrev pub stop_of : Option WorkEnd → ℕ → ErrorKind → Option ServeEnd
+stop_of (Some why) left failure = Some (end_of_work why)
+stop_of None zero failure = None
+stop_of None (suc left) failure = Some (Net failure)

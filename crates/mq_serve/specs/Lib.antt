@@ -1,3 +1,5 @@
 pub mod Ends
 pub mod Printed
 pub mod Wakers
+pub mod ReadOrder
+pub mod Accepting

@@ -7,11 +7,12 @@ use Rattle.std.specs.Ordering.{nat_cmp}
 use Rattle.mq_line.specs.Lines.{escaped}
 use Rattle.mq_route.specs.Hub.{HubState}
 use Rattle.mq_serve.specs.declared.serve_end.ServeEnd.{ServeEnd}
-use Rattle.mq_serve.specs.declared.serve_end.ServeEnd.TheVariants.{Net, JournalFull, Refused, Memory}
+use Rattle.mq_serve.specs.declared.serve_end.ServeEnd.TheVariants.{Listen, Net, JournalFull, Refused, Memory}
 
 -- the reason of an early end
 abbrev pub end_line : ServeEnd → List ℕ
-end_line Net = codes "connection failed\n"
+end_line (Listen kind) = codes "connection failed\n"
+end_line (Net kind) = codes "connection failed\n"
 end_line JournalFull = codes "journal full\n"
 end_line Refused = codes "broker refused\n"
 end_line Memory = codes "out of memory\n"

@@ -1,9 +1,13 @@
 //! Acceptors of connections.
 
-ghost use Rattle.std.specs.Prelude.{◌≡◌, ◌+◌, ◌⊎◌, true, OnSome, IfNone, IsNone};
+ghost use Rattle.std.specs.Prelude.{◌≡◌, ◌⊎◌, true};
+ghost use Rattle.mq_serve.specs.Accepting.{IsTaken};
 
-use crate::polled_stream::{PolledStream, WorkerPoll};
+use crate::polled_stream::{PolledStream, ReadTurn, WorkerPoll};
+use crate::wakers::ReadTurns;
 use mq_book::ConnectionSource;
+use std::alloc::Global;
+use std::io;
 use std::io::ErrorKind;
 use std::net::{TcpListener, TcpStream};
 use std::sync::{Mutex, Wait};
@@ -15,6 +19,29 @@ pub struct Acceptor {
     listener: TcpListener,
     left: u32,
     is_broken: bool,
+    // The error number of the permanent failure.
+    code: i32,
+}
+
+/// The result of accepting.
+pub enum Accepted {
+    /// A connection.
+    Connection(TcpStream),
+    /// No connection can be accepted now, for example because no file descriptor is free.
+    Later,
+    /// No further connection will be accepted.
+    Never,
+}
+
+/// The next try after a failure to accept a connection.
+#[derive(Clone, Copy, Debug, PartialEq, Eq)]
+pub enum AfterFailure {
+    /// The listener tries again at once: a signal interrupted it, or a peer gave up.
+    AtOnce,
+    /// The listener tries again later.
+    Later,
+    /// The listener can't accept connections any more.
+    Never,
 }
 
 impl Acceptor {
@@ -26,6 +53,7 @@ impl Acceptor {
             listener,
             left: connections,
             is_broken: false,
+            code: 0,
         }
     }
 
@@ -36,40 +64,69 @@ impl Acceptor {
         self.left
     }
 
+    /// Why the listener can't accept connections any more, if it failed permanently.
+    pub fn failure(&self) -> ErrorKind {
+        io::Error::from_raw_os_error(self.code).kind()
+    }
+
     /// Waits for the next connection and accepts it.
     ///
-    /// Returns `None` if all connections were accepted, and forever after the listener fails.
-    pub fn take(&mut self) -> Option<TcpStream>
-        ensures some { OnSome result (self.new.left + 1 ≡ self.old.left) }
-        ensures none { IfNone result (self.new.left ≡ self.old.left) }
-        ensures done { (self.old.left ≡ 0) ⊎ (self.old.is_broken ≡ true) → IsNone result }
-        ensures over { IfNone result ((self.new.left ≡ 0) ⊎ (self.new.is_broken ≡ true)) }
+    /// Returns `Never` if all connections were accepted, and forever after the listener failed
+    /// permanently.
+    pub fn take(&mut self) -> Accepted
+        ensures taken { IsTaken self.old.left self.old.is_broken result self.new.left self.new.is_broken }
+        ensures done { (self.old.left ≡ 0) ⊎ (self.old.is_broken ≡ true) → result ≡ Accepted.Never }
     {
         if self.left == 0 || self.is_broken {
-            return None;
+            return Accepted::Never;
         }
-        let Some(stream) = accept(&self.listener) else {
-            self.is_broken = true;
-            return None;
-        };
-        self.left -= 1;
-        Some(stream)
+        match accept(&self.listener) {
+            Ok(stream) => {
+                self.left -= 1;
+                Accepted::Connection(stream)
+            }
+            Err(error) => match after_failure(error.kind(), error.raw_os_error()) {
+                AfterFailure::AtOnce | AfterFailure::Later => Accepted::Later,
+                AfterFailure::Never => {
+                    self.is_broken = true;
+                    self.code = error.raw_os_error().unwrap_or(0);
+                    Accepted::Never
+                }
+            },
+        }
+    }
+}
+
+// Whether this error number means that the listener is closed, is not a socket, or does not listen
+// (EBADF, EINVAL, ENOTSOCK, EOPNOTSUPP).
+fn is_dead(code: i32) -> bool {
+    matches!(code, 9 | 22 | 88 | 95)
+}
+
+// What follows a failure of this kind and with this error number.
+fn after_failure(kind: ErrorKind, code: Option<i32>) -> AfterFailure {
+    match (kind, code) {
+        (ErrorKind::Interrupted | ErrorKind::ConnectionAborted, _) => AfterFailure::AtOnce,
+        (_, Some(code)) if is_dead(code) => AfterFailure::Never,
+        _ => AfterFailure::Later,
     }
 }
 
 // Waits for a connection. Tries again after an interruption, and after a connection that its peer
 // gave up.
-fn accept(listener: &TcpListener) -> Option<TcpStream> {
+fn accept(listener: &TcpListener) -> io::Result<TcpStream> {
     for _ in 0..u64::MAX {
         match listener.accept() {
-            Ok((stream, _)) => return Some(stream),
-            Err(error) => match error.kind() {
-                ErrorKind::Interrupted | ErrorKind::ConnectionAborted => {}
-                _ => return None,
-            },
+            Ok((stream, _)) => return Ok(stream),
+            Err(error) => {
+                let next = after_failure(error.kind(), error.raw_os_error());
+                if next != AfterFailure::AtOnce {
+                    return Err(error);
+                }
+            }
         }
     }
-    None
+    Err(io::Error::from(ErrorKind::Interrupted))
 }
 
 /// A worker's access to the shared acceptor. One worker at a time waits for a connection.
@@ -78,16 +135,39 @@ pub struct WorkerAcceptor<'a, R: Wait + Clock> {
     rt: &'a R,
     acceptor: &'a Mutex<Acceptor>,
     poll: &'a Mutex<WorkerPoll>,
+    alloc: Global,
+    turns: Option<ReadTurns<'a>>,
 }
 
 impl<'a, R: Wait + Clock> WorkerAcceptor<'a, R> {
-    /// Access for the worker that polls its connections with `poll`.
+    /// Access for the worker that polls its connections with `poll`. With `turns`, its connections
+    /// pass on their first bytes in turn.
     pub fn new(
         rt: &'a R,
+        alloc: Global,
         acceptor: &'a Mutex<Acceptor>,
         poll: &'a Mutex<WorkerPoll>,
+        turns: Option<ReadTurns<'a>>,
     ) -> WorkerAcceptor<'a, R> {
-        WorkerAcceptor { rt, acceptor, poll }
+        WorkerAcceptor {
+            rt,
+            acceptor,
+            poll,
+            alloc,
+            turns,
+        }
+    }
+
+    // Accepts the next connection, which gets its number before another worker accepts one.
+    fn accept(&self) -> (Accepted, Option<ReadTurn<'a>>) {
+        let mut acceptor = self.acceptor.lock(self.rt);
+        let accepted = acceptor.take();
+        let turn = match (&accepted, self.turns) {
+            (Accepted::Connection(_), Some(turns)) => Some(ReadTurn::new(turns, self.rt)),
+            _ => None,
+        };
+        drop(acceptor);
+        (accepted, turn)
     }
 }
 
@@ -96,9 +176,19 @@ impl<'a, R: Wait + Clock> ConnectionSource for WorkerAcceptor<'a, R> {
 
     fn next(&mut self) -> Option<PolledStream<'a, R>> {
         for _ in 0..u64::MAX {
-            let stream = self.acceptor.lock(self.rt).take()?;
-            if let Ok(polled) = PolledStream::new(self.rt, self.poll, stream) {
-                return Some(polled);
+            if let Some(turns) = self.turns {
+                turns.leave(self.rt);
+            }
+            match self.accept() {
+                (Accepted::Connection(stream), turn) => {
+                    if let Ok(polled) = PolledStream::new(
+                        self.rt, self.alloc, self.poll, stream, turn,
+                    ) {
+                        return Some(polled);
+                    }
+                }
+                (Accepted::Later, _) => self.poll.lock(self.rt).pause(),
+                (Accepted::Never, _) => return None,
             }
         }
         None

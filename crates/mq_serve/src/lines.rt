@@ -18,7 +18,7 @@ pub fn write_end<W: Write>(output: &mut W, end: ServeEnd) -> io::Result<u8>
     ensures status { IfOk result (λ status. status ≡ end_status end) }
 {
     match end {
-        ServeEnd::Net => writeln!(output, "connection failed")?,
+        ServeEnd::Listen(_) | ServeEnd::Net(_) => writeln!(output, "connection failed")?,
         ServeEnd::JournalFull => writeln!(output, "journal full")?,
         ServeEnd::Refused => writeln!(output, "broker refused")?,
         ServeEnd::Memory => writeln!(output, "out of memory")?,

@@ -49,8 +49,9 @@ where
     requires some { (0 < options.workers) × (options.workers ≤ 64) }
     ensures { IfOk result (λ names. (hub : HubState) × AreSessions hub names.items) }
 {
-    let Ok(start) = Instant::now(rt) else {
-        return Err(ServeEnd::Net);
+    let start = match Instant::now(rt) {
+        Ok(start) => start,
+        Err(error) => return Err(ServeEnd::Net(error.kind())),
     };
     let acceptor = Acceptor::new(listener, options.connections);
     let (server, starts) = Server::<L>::open(
@@ -90,16 +91,28 @@ where
     serve_by::<Brand, R>(rt, alloc, blank, listener, options)
 }
 
+// Writes the reason for an early end, which `end` gets too. Returns the status of the program.
+fn end_early<W: Write>(
+    end: &mut Option<ServeEnd>,
+    output: &mut W,
+    why: ServeEnd,
+) -> io::Result<u8> {
+    *end = Some(why);
+    write_end(output, why)
+}
+
 /// Serves the connections of a listener, with workers in threads.
 ///
 /// A free worker takes the next connection. Prints the address of the listener; after all
 /// connections were served, the remaining sessions and the number of connections; or the reason of
-/// an early end. Returns the status of the program. `Err` means that the output failed.
+/// an early end, which `end` gets too. Returns the status of the program. `Err` means that the
+/// output failed.
 pub fn serve_on<R, W>(
     rt: &R,
     alloc: Global,
     listener: TcpListener,
     options: ServeOptions,
+    end: &mut Option<ServeEnd>,
     output: &mut W,
 ) -> io::Result<u8>
 where
@@ -107,8 +120,9 @@ where
     W: Write,
     requires { (0 < options.workers) × (options.workers ≤ 64) }
 {
-    let Ok(address) = listener.local_addr() else {
-        return write_end(output, ServeEnd::Net);
+    let address = match listener.local_addr() {
+        Ok(address) => address,
+        Err(error) => return end_early(end, output, ServeEnd::Listen(error.kind())),
     };
     writeln!(output, "listening {address}")?;
     output.flush()?;
@@ -117,7 +131,7 @@ where
             write_served(output, names.as_slice(), options.connections)?;
             Ok(0)
         }
-        Err(end) => write_end(output, end),
+        Err(why) => end_early(end, output, why),
     }
 }
 
@@ -129,6 +143,7 @@ pub fn serve<R, W>(
     alloc: Global,
     port: u16,
     options: ServeOptions,
+    end: &mut Option<ServeEnd>,
     output: &mut W,
 ) -> io::Result<u8>
 where
@@ -137,7 +152,7 @@ where
     requires { (0 < options.workers) × (options.workers ≤ 64) }
 {
     match TcpListener::bind(rt, (Ipv4Addr::LOCALHOST, port)) {
-        Ok(listener) => serve_on(rt, alloc, listener, options, output),
-        Err(_) => write_end(output, ServeEnd::Net),
+        Ok(listener) => serve_on(rt, alloc, listener, options, end, output),
+        Err(error) => end_early(end, output, ServeEnd::Listen(error.kind())),
     }
 }

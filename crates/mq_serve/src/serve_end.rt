@@ -5,14 +5,18 @@ ghost use Rattle.mq_serve.specs.Ends.{end_status};
 
 use mq_book::WorkEnd;
 use std::alloc::AllocError;
+use std::io::ErrorKind;
 use thiserror::Error;
 
 /// Why a broker over sockets ended before all its connections were served.
 #[derive(Clone, Copy, Debug, PartialEq, Eq, Error)]
 pub enum ServeEnd {
-    /// The port couldn't be opened, or a connection couldn't be accepted.
-    #[error("connection failed")]
-    Net,
+    /// The port could not be opened.
+    #[error("cannot listen: {0}")]
+    Listen(ErrorKind),
+    /// No more connections can be accepted, or the system could not serve them.
+    #[error("cannot accept connections: {0}")]
+    Net(ErrorKind),
     /// The journal is full, and no place is left for another entry.
     #[error("journal full")]
     JournalFull,
@@ -25,13 +29,13 @@ pub enum ServeEnd {
 }
 
 impl ServeEnd {
-    /// The exit status of the program: 3 for lack of memory, otherwise 1.
+    /// The exit status of the program: 3 if an allocation failed, otherwise 1.
     pub fn status(self) -> u8
         ensures { result ≡ end_status self }
     {
         match self {
             ServeEnd::Memory => 3,
-            ServeEnd::Net | ServeEnd::JournalFull | ServeEnd::Refused => 1,
+            ServeEnd::Listen(_) | ServeEnd::Net(_) | ServeEnd::JournalFull | ServeEnd::Refused => 1,
         }
     }
 }

@@ -10,7 +10,7 @@ use crate::audited_connections::serve_connections_audited;
 use crate::broker::broker_config;
 use crate::polled_stream::WorkerPoll;
 use crate::serve_end::ServeEnd;
-use crate::wakers::{WakeOthers, Wakers};
+use crate::wakers::{ReadTurns, WakeOthers, Wakers};
 use crate::workers::Workers;
 use mq_book::{
     AuditedWorker, Book, OnFull, Receipt, Share, SharedHub, WorkEnd, Worker, gather,
@@ -18,6 +18,7 @@ use mq_book::{
 };
 use mq_stream::Elapsed;
 use std::alloc::{AllocError, Global};
+use std::io::ErrorKind;
 use std::net::Net;
 use std::sync::ledger::{Blank, Ledger};
 use std::sync::{Mutex, Wait};
@@ -134,16 +135,17 @@ impl<L: Ledger> Server<L> {
     }
 
     // Serves connections until no more are to be accepted. Keeps no receipts.
-    fn serve_passing<R: Wait + Clock>(
-        &self,
-        rt: &R,
+    fn serve_passing<'x, R: Wait + Clock>(
+        &'x self,
+        rt: &'x R,
         share: Share<L>,
-        poll: &Mutex<WorkerPoll>,
+        poll: &'x Mutex<WorkerPoll>,
         buffer: &mut [u8],
     ) -> WorkerResult<L> {
         let (on_full, observer) = (OnFull::Checkpoint, WakeOthers(&self.wakers));
+        let turns = ReadTurns::new(&self.wakers, share.worker());
         let mut worker = Worker::new(rt, &self.shared, share, on_full, observer);
-        let mut source = WorkerAcceptor::new(rt, &self.acceptor, poll);
+        let mut source = WorkerAcceptor::new(rt, self.alloc, &self.acceptor, poll, Some(turns));
         let mut clock = Elapsed::since(rt, self.start);
         let end = serve_connections(&mut worker, self.alloc, &mut source, &mut clock, buffer);
         WorkerResult {
@@ -154,17 +156,17 @@ impl<L: Ledger> Server<L> {
     }
 
     // The same, with receipts.
-    fn serve_keeping<R: Wait + Clock>(
-        &self,
-        rt: &R,
+    fn serve_keeping<'x, R: Wait + Clock>(
+        &'x self,
+        rt: &'x R,
         share: Share<L>,
-        poll: &Mutex<WorkerPoll>,
+        poll: &'x Mutex<WorkerPoll>,
         buffer: &mut [u8],
     ) -> WorkerResult<L> {
         let alloc = self.alloc;
         let (on_full, observer) = (OnFull::Stop, WakeOthers(&self.wakers));
         let mut worker = AuditedWorker::new(rt, alloc, &self.shared, share, on_full, observer);
-        let mut source = WorkerAcceptor::new(rt, &self.acceptor, poll);
+        let mut source = WorkerAcceptor::new(rt, alloc, &self.acceptor, poll, None);
         let mut clock = Elapsed::since(rt, self.start);
         let end = serve_connections_audited(&mut worker, alloc, &mut source, &mut clock, buffer);
         let (share, receipts) = worker.into_parts();
@@ -193,8 +195,9 @@ impl<L: Ledger> Server<L> {
             acceptor,
             ..
         } = self;
-        let left = acceptor.into_inner().left();
-        match stop(first_stop(results.as_slice()), left) {
+        let acceptor = acceptor.into_inner();
+        let (left, failure) = (acceptor.left(), acceptor.failure());
+        match stop(first_stop(results.as_slice()), left, failure) {
             Some(why) => Err(why),
             None => Ok(finish(alloc, shared, results)?),
         }
@@ -234,8 +237,9 @@ fn worker_starts<L: Ledger, N: Net>(
     let mut starts = Vec::with_capacity(alloc, shares.len())?;
     let mut wakers = Vec::with_capacity(alloc, shares.len())?;
     for share in shares {
-        let Ok((poll, waker)) = WorkerPoll::new(net, alloc) else {
-            return Err(ServeEnd::Net);
+        let (poll, waker) = match WorkerPoll::new(net, alloc) {
+            Ok(made) => made,
+            Err(error) => return Err(ServeEnd::Net(error.kind())),
         };
         let Ok(()) = starts.push(WorkerStart { share, poll }) else {
             return Err(ServeEnd::Memory);
@@ -262,12 +266,12 @@ fn first_stop<L: Ledger>(results: &[WorkerResult<L>]) -> Option<WorkEnd>
 }
 
 // Why a server is not finished: a worker stopped early, or connections were not accepted.
-fn stop(stopped: Option<WorkEnd>, left: u32) -> Option<ServeEnd>
-    ensures { result ≡ stop_of stopped left }
+fn stop(stopped: Option<WorkEnd>, left: u32, failure: ErrorKind) -> Option<ServeEnd>
+    ensures { result ≡ stop_of stopped left failure }
 {
     match stopped {
         Some(why) => Some(ServeEnd::from(why)),
-        None if left > 0 => Some(ServeEnd::Net),
+        None if left > 0 => Some(ServeEnd::Net(failure)),
         None => None,
     }
 }

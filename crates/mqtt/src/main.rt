@@ -4,7 +4,8 @@
 use mq_cli::{
     Command, Failure, Fallible, Job, Source, WordsFault, exit_status, job, perform, perform_file,
 };
-use mq_programs::{run_client, run_loopback, run_serve};
+use mq_programs::{run_broker_command, run_client, run_loopback, run_serve};
+use std::fs::File;
 use std::io::{BufReader, BufWriter, Input, Write};
 use std::net::{Net, TcpListener, TcpStream};
 use std::process::ExitCode;
@@ -38,7 +39,7 @@ fn perform_into<W: Write>(rt: &HostRuntime, job: &Job<'_>, output: &mut W) -> io
 /// Runs a client program, and prints to the standard output through a buffer.
 fn run_buffered(rt: &HostRuntime, command: &Command<'_>) -> Result<u8, Failure> {
     let mut output = BufWriter::new(rt.alloc(), io::writer(rt))?;
-    let status = run_client(rt, rt.alloc(), command, &mut output)?;
+    let status = run_client(rt, rt.alloc(), command, &mut rt.stderr(), &mut output)?;
     output.flush()?;
     Ok(status)
 }
@@ -58,14 +59,24 @@ where
 /// Runs the given command and returns the exit status.
 fn run<R>(rt: &HostRuntime, host: &R) -> Result<u8, Failure>
 where
-    R: Net<Listener = TcpListener, Stream = TcpStream> + Files + Threads + Wait + Clock + Sync,
+    R: Net<Listener = TcpListener, Stream = TcpStream>
+        + Files<File = File>
+        + Threads
+        + Wait
+        + Clock
+        + Sync,
 {
     let alloc = rt.alloc();
     let words: Vec<String> = env::args(rt).map_err(Failure::of_words)?.collect(alloc)?;
     let words: Vec<&str> = words.iter().map(|word| word.as_str()).collect(alloc)?;
     match job(alloc, words.as_slice()) {
         Ok(Command::Job(job)) => perform_job(rt, &job),
-        Ok(Command::Serve(words)) => run_serve(host, alloc, &words, &mut io::writer(rt)),
+        Ok(Command::Serve(words)) => {
+            run_serve(host, alloc, &words, &mut rt.stderr(), &mut io::writer(rt))
+        }
+        Ok(Command::Broker(words)) => {
+            run_broker_command(host, alloc, &words, &mut io::writer(rt), rt.stderr())
+        }
         Ok(Command::Loopback(source)) => run_looped(rt, host, source),
         Ok(client) => run_buffered(rt, &client),
         Err(WordsFault::Words(error)) => {

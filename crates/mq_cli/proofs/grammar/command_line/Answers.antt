@@ -1,10 +1,12 @@
-use Rattle.std.proofs.Common.{◌≡◌, IfOk, subst, codes}
+use Rattle.std.proofs.Common.{◌≡◌, ◌∙◌, IfOk, ap, subst, codes}
 use Rattle.clap.specs.Words.{App, app_of, with_subcommand}
-use Rattle.mq_cli.specs.Grammar.{word_words}
+use Rattle.mq_cli.specs.Grammar.{broker_words, socket_words, word_words}
 use Rattle.mq_cli.proofs.grammar.command_line.Goals as goal
 
 pub returns : goal.returns
 returns c =
     let loops = word_words (codes "loopback") (codes "FILE") in
-    subst (λ (a : App). IfOk c.with_command.result (λ new. app_of new ≡ with_subcommand a loops.top)) c.in_ok-line.ensures
-    (c.with_command.ensures loops c.loopback_command.ensures.words)
+    let served : app_of c.in_ok-line-2.line ≡ with_subcommand socket_words broker_words.top =
+    c.in_ok-line-2.ensures broker_words c.broker_command.ensures.words ∙ ap (λ (a : App). with_subcommand a broker_words.top) c.in_ok-line.ensures in
+    subst (λ (a : App). IfOk c.with_command-2.result (λ new. app_of new ≡ with_subcommand a loops.top)) served
+    (c.with_command-2.ensures loops c.loopback_command.ensures.words)

@@ -7,9 +7,9 @@ returns-in_err-count-clause-lost g c = on_err _ _ (went_then _ _ _ [] [] [] [] [
 
 pub returns-clause-went : goal.returns-clause-went
 returns-clause-went g c =
-    let nothing = c.receive.ensures.nothing in
+    let nothing = c.receive-progress.ensures.nothing in
     took _ _ _ _ _ _ _ _ _ _ _ _ _ _ c.in_ok-now.ensures.ok c.in_ok-count.ensures.same (c.in_ok-count.ensures.ok).1 c.in_ok-count.ensures.written c.in_ok-count.ensures.kept c.in_ok-count.ensures.times c.self.view_is
-    (record { acknowledged = c.receive.result.acknowledged; live = c.receive.ensures.open; shut = λ q. (c.receive.ensures.closed q, (nothing q).0, (nothing q).2) })
+    (record { acknowledged = c.receive-progress.result.acknowledged; live = c.receive-progress.ensures.open; shut = λ q. (c.receive-progress.ensures.closed q, (nothing q).0, (nothing q).2) })
 
 pub returns-clause-silent : goal.returns-clause-silent
 returns-clause-silent g c = took_silent _ _ _ _ _ _ _ _ _ _ c.in_ok-now.ensures.ok c.in_ok-count.ensures.written c.self.view_is

@@ -3,7 +3,7 @@ use Rattle.clap.specs.Simple.{is_simple}
 use Rattle.clap.specs.Words.{App, Row, Text, subcommand_of}
 use Rattle.mq_cli.specs.CommandLine.{IsCommandOf}
 use Rattle.mq_cli.proofs.Matches.{program_is_simple}
-use Rattle.mq_cli.proofs.words.job.Goals as goal
+use Rattle.mq_cli.proofs.words.parsed.Goals as goal
 
 pub returns-in-Some : goal.returns-in-Some
 returns-in-Some c =

@@ -1,0 +1,437 @@
+#!/usr/bin/env python3
+"""Runs `mqtt broker` with many, silent, slow and leaving clients over real sockets.
+
+.ci/program runs these tests. Alone: .ci/broker.py PROGRAM [NAME..], where each NAME is one test.
+"""
+
+import contextlib
+import os
+import re
+import resource
+import select
+import socket
+import subprocess
+import sys
+import tempfile
+import threading
+import time
+
+LIMIT = 30
+
+
+def text(value):
+    data = value.encode() if isinstance(value, str) else value
+    return len(data).to_bytes(2, "big") + data
+
+
+def packet(first, body):
+    length, rest = b"", len(body)
+    while True:
+        rest, digit = rest >> 7, rest & 127
+        length += bytes([digit | (128 if rest else 0)])
+        if not rest:
+            return bytes([first]) + length + body
+
+
+def connect(client, clean=True, will=None, keep_alive=0):
+    flags = (2 if clean else 0) | (4 if will else 0)
+    body = text("MQTT") + bytes([4, flags]) + keep_alive.to_bytes(2, "big") + text(client)
+    return packet(0x10, body + (text(will[0]) + text(will[1]) if will else b""))
+
+
+def publish(topic, payload, qos=0, identifier=1):
+    head = text(topic) + (identifier.to_bytes(2, "big") if qos else b"")
+    return packet(0x30 | qos << 1, head + payload)
+
+
+def subscribe(topic_filter, qos):
+    return packet(0x82, b"\0\1" + text(topic_filter) + bytes([qos]))
+
+
+DISCONNECT = b"\xe0\0"
+PING, PONG = b"\xc0\0", b"\xd0\0"
+
+
+class Broker:
+    """A broker at a free port, with its log."""
+
+    def __init__(self, program, *words, files=None):
+        self.log = tempfile.NamedTemporaryFile(mode="r")
+        limit = (lambda: resource.setrlimit(resource.RLIMIT_NOFILE, (files, files))) if files else None
+        self.process = subprocess.Popen(
+            [program, "broker", "--listen", "127.0.0.1:0", "--log", self.log.name, *words],
+            stdout=subprocess.PIPE, stderr=subprocess.PIPE, preexec_fn=limit)
+        line = self.process.stdout.readline().decode()
+        found = re.fullmatch(r"listening 127\.0\.0\.1:(\d+)\n", line)
+        if not found:
+            raise AssertionError(f"the broker prints {line!r}")
+        self.port = int(found[1])
+
+    def __enter__(self):
+        return self
+
+    def __exit__(self, *_):
+        self.process.kill()
+        self.process.wait()
+        self.process.stdout.close()
+        self.process.stderr.close()
+        self.log.close()
+
+    def lines(self):
+        self.log.seek(0)
+        return self.log.read().splitlines()
+
+    def memory(self):
+        """The bytes of memory in use."""
+        with open(f"/proc/{self.process.pid}/statm", encoding="ascii") as file:
+            return int(file.read().split()[1]) * os.sysconf("SC_PAGE_SIZE")
+
+
+class Client:
+    """A client that is connected, unless no identifier is given."""
+
+    def __init__(self, broker, client=None, **options):
+        self.socket = socket.create_connection(("127.0.0.1", broker.port), timeout=LIMIT)
+        self.socket.setsockopt(socket.IPPROTO_TCP, socket.TCP_NODELAY, 1)
+        self.held = b""
+        if client is not None:
+            self.send(connect(client, **options))
+            self.expect(0x20)
+
+    def __enter__(self):
+        return self
+
+    def __exit__(self, *_):
+        self.socket.close()
+
+    def send(self, data):
+        self.socket.sendall(data)
+
+    def packet(self):
+        """The next packet: its first byte and its body. None at the end of the stream."""
+        while True:
+            for end in range(2, min(6, len(self.held) + 1)):
+                if self.held[end - 1] < 128:
+                    size = sum((it & 127) << 7 * nth for nth, it in enumerate(self.held[1:end]))
+                    if len(self.held) >= end + size:
+                        found = self.held[0], self.held[end : end + size]
+                        self.held = self.held[end + size :]
+                        return found
+                    break
+            data = self.socket.recv(262_144)
+            if not data:
+                return None
+            self.held += data
+
+    def expect(self, first):
+        found = self.packet()
+        if not found or found[0] & 0xF0 != first:
+            raise AssertionError(f"{found} came, and not a packet {first:02x}")
+        return found[1]
+
+    def subscribe(self, topic_filter, qos):
+        self.send(subscribe(topic_filter, qos))
+        self.expect(0x90)
+
+    def ping(self):
+        self.send(PING)
+        self.expect(0xD0)
+
+    def is_closed(self):
+        with contextlib.suppress(ConnectionError):
+            return self.socket.recv(1) == b""
+        return True
+
+
+def many_connections(program):
+    """2,000 clients are connected at once, each one subscribes, and each gets one message."""
+    soft, hard = resource.getrlimit(resource.RLIMIT_NOFILE)
+    resource.setrlimit(resource.RLIMIT_NOFILE, (max(soft, min(hard, 8_192)), hard))
+    with contextlib.ExitStack() as stack:
+        broker = stack.enter_context(Broker(program, "--quiet"))
+        clients = [stack.enter_context(Client(broker)) for _ in range(2_000)]
+        for nth, client in enumerate(clients):
+            client.send(connect(f"c{nth}") + subscribe("all", 1))
+        for client in clients:
+            client.expect(0x20)
+            client.expect(0x90)
+        publisher = stack.enter_context(Client(broker, "p"))
+        publisher.send(publish("all", b"x", 1))
+        publisher.expect(0x40)
+        for client in clients:
+            assert client.expect(0x30).endswith(b"x")
+        for client in clients[::2]:
+            client.socket.close()
+        for client in clients[1::2]:
+            client.ping()
+
+
+def too_many_connections(program):
+    """A connection beyond the maximum is closed, and counts no more after one has ended."""
+    with Broker(program, "--max-connections", "3") as broker:
+        clients = [Client(broker, f"c{nth}") for nth in range(3)]
+        with Client(broker) as further:
+            assert further.is_closed()
+        clients[0].send(DISCONNECT)
+        assert clients[0].is_closed()
+        with Client(broker, "c3") as other:
+            other.ping()
+        for client in clients[1:]:
+            client.ping()
+        refused = r'refused address=127\.0\.0\.1:\d+ reason="too many connections"'
+        assert any(re.fullmatch(refused, it) for it in broker.lines())
+        for client in clients:
+            client.socket.close()
+
+
+def no_descriptor(program):
+    """Without a free descriptor connections wait, and are accepted once one is free."""
+    with Broker(program, files=24) as broker, contextlib.ExitStack() as stack:
+        clients = [stack.enter_context(Client(broker)) for _ in range(40)]
+        for nth, client in enumerate(clients):
+            client.send(connect(f"c{nth}"))
+        served = []
+        for _ in range(100):
+            ready, _, _ = select.select([it.socket for it in clients], [], [], 0.2)
+            served = ready
+            if len(ready) >= 5 and any("not-accepting" in it for it in broker.lines()):
+                break
+        count = len(served)
+        assert 5 <= count < 40, count
+        for client in clients:
+            if client.socket in served:
+                client.expect(0x20)
+                client.ping()
+        for client in clients:
+            if client.socket in served:
+                client.socket.close()
+        rest = [it for it in clients if it.socket.fileno() >= 0]
+        while rest:
+            ready, _, _ = select.select([it.socket for it in rest], [], [], LIMIT)
+            assert ready, "no further connection was accepted"
+            for client in [it for it in rest if it.socket in ready]:
+                client.expect(0x20)
+                client.send(DISCONNECT)
+                client.socket.close()
+            rest = [it for it in rest if it.socket.fileno() >= 0]
+
+
+def silent_reader(program):
+    """A reader that reads nothing is ended under a flood of each QoS; others are served."""
+    for qos in (0, 1, 2):
+        with Broker(program, "--max-waiting", "1048576") as broker, contextlib.ExitStack() as stack:
+            slow = stack.enter_context(Client(broker, "slow"))
+            slow.subscribe("flood", qos)
+            other = stack.enter_context(Client(broker, "other"))
+            other.subscribe("calm", 0)
+            before = broker.memory()
+            publisher = stack.enter_context(Client(broker, "p"))
+            for nth in range(2_000):
+                if qos == 0:
+                    publisher.send(publish("flood", 16_384 * b"x"))
+                else:
+                    identifier = nth % 60_000 + 1
+                    publisher.send(publish("flood", 16_384 * b"x", qos, identifier))
+                    publisher.expect(0x40 if qos == 1 else 0x50)
+                    if qos == 2:
+                        publisher.send(packet(0x62, identifier.to_bytes(2, "big")))
+                        publisher.expect(0x70)
+                if nth % 100 == 0:
+                    other.send(publish("calm", b"c"))
+                    other.expect(0x30)
+            publisher.ping()
+            grown = broker.memory() - before
+            assert grown < 16 << 20, f"QoS {qos}: {grown} bytes more"
+            slow_line = re.compile(r"slow client=slow pending=\d+")
+            assert any(slow_line.fullmatch(it) for it in broker.lines()), broker.lines()[-5:]
+
+
+def leaving(program):
+    """A client that leaves and connects again at once loses no message and has no will."""
+    words = ["--quiet", "--max-waiting", "100000000"]
+    with Broker(program, *words) as broker, Client(broker, "reader") as reader:
+        reader.subscribe("#", 0)
+        messages, topics = [], set()
+
+        def read():
+            while "last" not in topics:
+                body = reader.expect(0x30)
+                size = int.from_bytes(body[:2], "big")
+                topic = body[2 : 2 + size].decode()
+                topics.add(topic)
+                if topic == "message":
+                    messages.append(int(body[2 + size :]))
+
+        thread = threading.Thread(target=read)
+        thread.start()
+        for nth in range(300):
+            with Client(broker) as client:
+                payload = str(nth).encode()
+                sent = connect("leaver", will=("will", "gone")) + publish("message", payload)
+                client.send(sent + (nth % 30) * publish("more", 20_000 * b"m") + DISCONNECT)
+                client.expect(0x20)
+        with Client(broker, "leaver") as client:
+            client.ping()
+        with Client(broker, "last") as last:
+            last.send(publish("last", b"."))
+            last.ping()
+        thread.join()
+        assert "will" not in topics, "a will was published"
+        assert messages == list(range(300)), f"{300 - len(messages)} messages were lost"
+
+
+def silent_connections(program):
+    """64 connections that send nothing, or half a packet, delay no other client."""
+    with Broker(program, "--quiet") as broker, contextlib.ExitStack() as stack:
+        silent = [stack.enter_context(Client(broker)) for _ in range(64)]
+        for nth, client in enumerate(silent):
+            client.send(connect("half")[: nth % 5])
+        reader = stack.enter_context(Client(broker, "reader"))
+        reader.subscribe("t", 2)
+        writer = stack.enter_context(Client(broker, "writer"))
+        for nth in range(200):
+            writer.send(publish("t", b"x", 1, nth + 1))
+            writer.expect(0x40)
+            reader.expect(0x30)
+            reader.send(packet(0x40, (nth + 1).to_bytes(2, "big")))
+
+
+def endless_publisher(program):
+    """Publishers that never stop do not keep others waiting."""
+    with Broker(program, "--quiet") as broker, contextlib.ExitStack() as stack:
+        stop = threading.Event()
+
+        def flood(client):
+            data = 1_000 * publish("flood", b"0123456789abcdef")
+            with contextlib.suppress(OSError):
+                while not stop.is_set():
+                    client.send(data)
+
+        floods = [stack.enter_context(Client(broker, f"f{nth}")) for nth in range(4)]
+        threads = [threading.Thread(target=flood, args=(it,)) for it in floods]
+        for thread in threads:
+            thread.start()
+        try:
+            longest = 0
+            for nth in range(20):
+                start = time.monotonic()
+                with Client(broker, f"c{nth}") as client:
+                    client.ping()
+                longest = max(longest, time.monotonic() - start)
+        finally:
+            stop.set()
+            for client in floods:
+                client.socket.shutdown(socket.SHUT_RDWR)
+            for thread in threads:
+                thread.join()
+        assert longest < 5, f"a client waited for {longest:.1f} s"
+
+
+def arguments(program):
+    """Addresses of IPv6, a taken address, and options that are refused."""
+    with Broker(program, "--quiet") as broker:
+        ran = subprocess.run([program, "broker", "--listen", f"127.0.0.1:{broker.port}"], capture_output=True, timeout=LIMIT, check=False)
+        assert (ran.returncode, ran.stdout) == (1, b""), ran
+        assert b"address is in use" in ran.stderr, ran
+    for words in (["--listen", "localhost"], ["--capacity", "0"], ["--max-packet", "268435456"], ["--log", "/nowhere/log"]):
+        ran = subprocess.run([program, "broker", *words], capture_output=True, timeout=LIMIT, check=False)
+        assert (ran.returncode, ran.stdout) == (2, b""), ran
+    with contextlib.suppress(OSError), socket.create_server(("::1", 0), family=socket.AF_INET6) as free:
+        port = free.getsockname()[1]
+        free.close()
+        process = subprocess.Popen([program, "broker", "--quiet", "--listen", f"[::1]:{port}"], stdout=subprocess.PIPE)
+        try:
+            assert process.stdout.readline() == b"listening [::1]:%d\n" % port
+        finally:
+            process.kill()
+            process.wait()
+            process.stdout.close()
+
+
+def passwords(program):
+    """Only the users of the file may connect."""
+    with tempfile.NamedTemporaryFile() as file:
+        file.write(b"alice:secret\nbob:other\n")
+        file.flush()
+        with Broker(program, "--passwords", file.name) as broker:
+            for name, password, code in (("alice", "secret", 0), ("alice", "other", 4), ("carol", "secret", 4), (None, None, 4)):
+                with Client(broker) as client:
+                    flags = 2 | (0xC0 if name else 0)
+                    body = text("MQTT") + bytes([4, flags, 0, 0]) + text("c")
+                    client.send(packet(0x10, body + (text(name) + text(password) if name else b"")))
+                    answer = client.expect(0x20)
+                    assert answer[0] == 0 and (answer[1] == 0) == (code == 0), (name, password, answer)
+            for _ in range(100):
+                refused = [it for it in broker.lines() if it.startswith("refused")]
+                if len(refused) == 3:
+                    break
+                time.sleep(0.05)
+            assert len(refused) == 3, refused
+        file.seek(0)
+        file.truncate()
+        file.write(b"no colon\n")
+        file.flush()
+        ran = subprocess.run([program, "broker", "--passwords", file.name], capture_output=True, timeout=LIMIT, check=False)
+        assert (ran.returncode, ran.stdout) == (2, b"") and b"line 1" in ran.stderr, ran
+
+
+def ask(port, request):
+    """The response to an HTTP request."""
+    with socket.create_connection(("127.0.0.1", port), timeout=LIMIT) as stream:
+        stream.sendall(request)
+        response = b""
+        while True:
+            data = stream.recv(65_536)
+            if not data:
+                return response
+            response += data
+
+
+def metrics(program):
+    """The metrics and the page are served over HTTP, on the same loop."""
+    with socket.create_server(("127.0.0.1", 0)) as free:
+        port = free.getsockname()[1]
+    with Broker(program, "--quiet", "--metrics", f"127.0.0.1:{port}") as broker, Client(broker, "c") as client:
+        client.subscribe("t", 0)
+        for _ in range(3):
+            client.send(publish("t", b"x"))
+            client.expect(0x30)
+        for method, size in ((b"GET", 500), (b"HEAD", 0)):
+            head, _, body = ask(port, method + b" /metrics HTTP/1.1\r\nHost: x\r\n\r\n").partition(b"\r\n\r\n")
+            assert head.startswith(b"HTTP/1.1 200 OK\r\n"), head
+            assert len(body) >= size and (size or not body), body
+            if body:
+                assert re.search(rb'(?m)^mqtt\w*messages\w*in\w*\{qos="0"\} 3$', body), body
+        assert b"<title>" in ask(port, b"GET / HTTP/1.1\r\nHost: x\r\n\r\n")
+        assert ask(port, b"POST / HTTP/1.1\r\n\r\n").startswith(b"HTTP/1.1 405 ")
+        assert ask(port, b"GET /other HTTP/1.1\r\n\r\n").startswith(b"HTTP/1.1 404 ")
+        with contextlib.suppress(ConnectionError):
+            assert ask(port, b"GET / HTTP/1.1\r\nX: " + 9_000 * b"x") == b""
+        client.ping()
+
+
+TESTS = [
+    arguments, many_connections, too_many_connections, no_descriptor, silent_reader, leaving,
+    silent_connections, endless_publisher, passwords, metrics,
+]
+
+
+def faults_of(program, names=()):
+    """The tests that fail, with the reason."""
+    for test in TESTS:
+        if names and test.__name__ not in names:
+            continue
+        try:
+            test(program)
+        except (AssertionError, OSError) as fault:
+            yield f"broker: {test.__name__}: {type(fault).__name__}: {str(fault)[:300]}"
+
+
+def main():
+    faults = list(faults_of(os.path.abspath(sys.argv[1]), sys.argv[2:]))
+    print("\n".join(faults) or "broker: nothing found to be wrong")
+    return 1 if faults else 0
+
+
+if __name__ == "__main__":
+    sys.exit(main())

@@ -1,0 +1,70 @@
+//! Reasons of a broker to end.
+
+use std::alloc::AllocError;
+use std::io;
+use std::io::ErrorKind;
+use thiserror::Error;
+
+/// Why a broker ended.
+#[derive(Clone, Copy, Debug, PartialEq, Eq, Error)]
+pub enum BrokerEnd {
+    /// The maximum remaining length is above that of the standard (2.2.3).
+    #[error("the maximum length of a packet is above 268435455 bytes")]
+    PacketLimit,
+    /// The address is in use.
+    #[error("the address is in use")]
+    AddressInUse,
+    /// The system does not allow the address.
+    #[error("the system does not allow this address")]
+    AddressRefused,
+    /// The listener, or the wait for connections, failed.
+    #[error("the listener failed")]
+    Listener,
+    /// The standard output failed.
+    #[error("output failed")]
+    Output,
+    /// An allocation failed.
+    #[error("out of memory")]
+    Memory,
+}
+
+impl BrokerEnd {
+    /// The exit status of the program: 2 for an invalid option, 3 if an allocation failed, 4 if the
+    /// output failed, otherwise 1.
+    pub fn status(self) -> u8 {
+        match self {
+            BrokerEnd::PacketLimit => 2,
+            BrokerEnd::Memory => 3,
+            BrokerEnd::Output => 4,
+            BrokerEnd::AddressInUse | BrokerEnd::AddressRefused | BrokerEnd::Listener => 1,
+        }
+    }
+
+    /// Why an address can't be listened on.
+    pub(crate) fn of_bind(error: &io::Error) -> BrokerEnd {
+        match error.kind() {
+            ErrorKind::AddrInUse => BrokerEnd::AddressInUse,
+            ErrorKind::OutOfMemory => BrokerEnd::Memory,
+            _ => BrokerEnd::AddressRefused,
+        }
+    }
+
+    /// Why a wait for connections failed.
+    pub(crate) fn of_wait(error: &io::Error) -> BrokerEnd {
+        match error.kind() {
+            ErrorKind::OutOfMemory => BrokerEnd::Memory,
+            _ => BrokerEnd::Listener,
+        }
+    }
+}
+
+impl From<AllocError> for BrokerEnd {
+    ghost use Rattle.std.specs.Prelude.{◌≡◌};
+    ghost use Rattle.mq_broker.specs.declared.end.BrokerEnd.TheVariants.{Memory};
+
+    ghost from_gives = { λ _ end. end ≡ Memory };
+
+    fn from(_e: AllocError) -> BrokerEnd {
+        BrokerEnd::Memory
+    }
+}

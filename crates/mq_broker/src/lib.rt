@@ -1,0 +1,21 @@
+//! A broker over sockets of the system: one event loop serves all connections, until it is stopped
+//! (4.2).
+//!
+//! A call that can fail for lack of memory says so in its return type; other calls never allocate
+//! unless stated otherwise. The crate is the edge of `mq_loop`: it accepts connections, waits until
+//! some are ready, and writes the log.
+#![tactic(auto)]
+
+mod acceptor;
+mod counted;
+mod end;
+mod log;
+mod options;
+mod peers;
+mod server;
+mod status_port;
+
+pub use crate::end::BrokerEnd;
+pub use crate::log::{Log, LogLevel};
+pub use crate::options::BrokerOptions;
+pub use crate::server::run_broker;

@@ -1,0 +1,184 @@
+//! The command `broker`: its definition and its arguments.
+
+ghost use Rattle.std.specs.Prelude.{◌≡◌, false, IfOk, IfSome};
+ghost use Rattle.clap.specs.Words.{app_of, rule_of, subcommand_rows_of};
+ghost use Rattle.clap.specs.declared.builder.command.Command.TheViews.{out-Command};
+ghost use Rattle.mq_cli.specs.CommandLine.{IsBroker, IsLimit};
+ghost use Rattle.mq_cli.specs.Grammar.{broker_words, limit_rule, with_extras, with_limits, with_logs, with_tables};
+
+use crate::grammar::{Texts, file_option, flag, new_command, with_arg};
+use crate::words::{flag_of, given_of, number_of};
+use clap::builder::ValueParser;
+use clap::{Arg, ArgMatches, Command, value_parser};
+use std::alloc::{AllocError, Global};
+
+/// A broker that runs until it is stopped.
+#[derive(Clone, Copy, Debug, PartialEq, Eq)]
+pub struct Broker<'a> {
+    /// The address and the port that it listens on, as given; `None` for 127.0.0.1:1883.
+    pub listen: Option<&'a str>,
+    /// The maximum number of connections.
+    pub max_connections: u32,
+    /// The maximum number of sessions.
+    pub max_sessions: u32,
+    /// The maximum remaining length of a packet, in bytes (2.2.3).
+    pub max_packet: u32,
+    /// The maximum number of packet identifiers in use in a session (2.3.1).
+    pub capacity: u16,
+    /// The number of bytes that may wait for a connection whose socket takes none.
+    pub max_waiting: u32,
+    /// The file of the user names and passwords; `None` lets anyone connect (3.1.3.4).
+    pub passwords: Option<&'a str>,
+    /// The address and the port of the metrics, as given.
+    pub metrics: Option<&'a str>,
+    /// The file of the log; `None` for the standard error.
+    pub log: Option<&'a str>,
+    /// The log has no lines.
+    pub quiet: bool,
+    /// The log also has lines about connections.
+    pub verbose: bool,
+}
+
+// An optional number.
+fn limit<'a>(
+    alloc: Global,
+    word: &'a str,
+    name: &'a str,
+    help: &'a str,
+    kind: ValueParser<'a>,
+) -> Arg<'a>
+    ensures rule { rule_of result ≡ limit_rule word.now name.now kind.entry }
+    ensures local { result.global ≡ false }
+{
+    Arg::new(alloc, word)
+        .long(name)
+        .help(help)
+        .value_parser(kind)
+}
+
+// The command with the options of the numbers of connections and sessions.
+fn with_tables<'a>(alloc: Global, command: Command<'a>) -> Result<Command<'a>, AllocError>
+    ensures words { IfOk result (λ new. app_of new ≡ with_tables (app_of command.entry)) }
+    ensures local { IfOk result (λ new. (out-Command new).has_globals ≡ (out-Command command.entry).has_globals) }
+{
+    let help = "The maximum number of connections [default: 10000]";
+    let kind = value_parser!(u32);
+    let command = with_arg(
+        command,
+        limit(alloc, "MAX_CONNECTIONS", "max-connections", help, kind),
+    )?;
+    let help = "The maximum number of sessions [default: 100000]";
+    let kind = value_parser!(u32);
+    with_arg(
+        command,
+        limit(alloc, "MAX_SESSIONS", "max-sessions", help, kind),
+    )
+}
+
+// The command with the limits of packets, sessions and pending output.
+fn with_limits<'a>(alloc: Global, command: Command<'a>) -> Result<Command<'a>, AllocError>
+    ensures words { IfOk result (λ new. app_of new ≡ with_limits (app_of command.entry)) }
+    ensures local { IfOk result (λ new. (out-Command new).has_globals ≡ (out-Command command.entry).has_globals) }
+{
+    let help = "The maximum length of a packet after its header, in bytes [default: 1048576]";
+    let kind = value_parser!(u32).range(1..=268_435_455);
+    let command = with_arg(
+        command,
+        limit(alloc, "MAX_PACKET", "max-packet", help, kind),
+    )?;
+    let help =
+        "The maximum number of unacknowledged messages of a session, 1 to 65535 [default: 1000]";
+    let kind = value_parser!(u16).range(1..=65_535);
+    let command = with_arg(command, limit(alloc, "CAPACITY", "capacity", help, kind))?;
+    let help = "The bytes that may wait for a client that reads none [default: 1048576]";
+    let kind = value_parser!(u32);
+    with_arg(
+        command,
+        limit(alloc, "MAX_WAITING", "max-waiting", help, kind),
+    )
+}
+
+// The command with the options of the passwords and of the metrics.
+fn with_extras<'a>(alloc: Global, command: Command<'a>) -> Result<Command<'a>, AllocError>
+    ensures words { IfOk result (λ new. app_of new ≡ with_extras (app_of command.entry)) }
+    ensures local { IfOk result (λ new. (out-Command new).has_globals ≡ (out-Command command.entry).has_globals) }
+{
+    let help = "Accepts only the users of this file, one NAME:PASSWORD per line";
+    let command = with_arg(command, file_option(alloc, "PASSWORDS", "passwords", help))?;
+    let help = "Serves metrics over HTTP at this address and port";
+    with_arg(command, file_option(alloc, "METRICS", "metrics", help))
+}
+
+// The command with the options of the log.
+fn with_logs<'a>(alloc: Global, command: Command<'a>) -> Result<Command<'a>, AllocError>
+    ensures words { IfOk result (λ new. app_of new ≡ with_logs (app_of command.entry)) }
+    ensures local { IfOk result (λ new. (out-Command new).has_globals ≡ (out-Command command.entry).has_globals) }
+{
+    let help = "Appends the log to this file; without it the log goes to standard error";
+    let command = with_arg(command, file_option(alloc, "LOG", "log", help))?;
+    let help = "Writes no log";
+    let command = with_arg(command, flag(alloc, "QUIET", "quiet", help))?;
+    let help = "Also logs connections without a client";
+    with_arg(command, flag(alloc, "VERBOSE", "verbose", help))
+}
+
+/// `broker [--listen ADDR:PORT] ..`.
+pub(crate) fn broker_command<'a>(alloc: Global) -> Result<Command<'a>, AllocError>
+    ensures words { IfOk result (λ command. app_of command ≡ broker_words) }
+    ensures local { IfOk result (λ command. (out-Command command).has_globals ≡ false) }
+{
+    let texts = Texts {
+        name: "broker",
+        about: "Runs a broker until it is stopped",
+        example: "Example: mqtt broker --listen 0.0.0.0:1883",
+    };
+    let help =
+        "The address and port to listen on; port 0 picks a free one [default: 127.0.0.1:1883]";
+    let command = new_command(alloc, texts);
+    let command = with_arg(command, file_option(alloc, "LISTEN", "listen", help))?;
+    let command = with_tables(alloc, command)?;
+    let command = with_limits(alloc, command)?;
+    let command = with_extras(alloc, command)?;
+    with_logs(alloc, command)
+}
+
+// A number, or its default if it was not given.
+fn limit_of(matches: &ArgMatches<'_>, word: &str, default: u64) -> Option<u64>
+    ensures { IfSome result (IsLimit (subcommand_rows_of matches.now) word.now default) }
+{
+    match given_of(matches, "broker", word)? {
+        None => Some(default),
+        Some(_) => number_of(matches, "broker", word),
+    }
+}
+
+fn limit_of_32_bits(matches: &ArgMatches<'_>, word: &str, default: u64) -> Option<u32>
+    ensures { IfSome result (IsLimit (subcommand_rows_of matches.now) word.now default) }
+{
+    u32::try_from(limit_of(matches, word, default)?).ok()
+}
+
+fn limit_of_16_bits(matches: &ArgMatches<'_>, word: &str, default: u64) -> Option<u16>
+    ensures { IfSome result (IsLimit (subcommand_rows_of matches.now) word.now default) }
+{
+    u16::try_from(limit_of(matches, word, default)?).ok()
+}
+
+/// The arguments of `broker`, if this command was given.
+pub(crate) fn broker_of<'a>(matches: &ArgMatches<'a>) -> Option<Broker<'a>>
+    ensures { IfSome result (IsBroker (subcommand_rows_of matches.now)) }
+{
+    Some(Broker {
+        listen: given_of(matches, "broker", "LISTEN")?,
+        max_connections: limit_of_32_bits(matches, "MAX_CONNECTIONS", 10_000)?,
+        max_sessions: limit_of_32_bits(matches, "MAX_SESSIONS", 100_000)?,
+        max_packet: limit_of_32_bits(matches, "MAX_PACKET", 1_048_576)?,
+        capacity: limit_of_16_bits(matches, "CAPACITY", 1_000)?,
+        max_waiting: limit_of_32_bits(matches, "MAX_WAITING", 1_048_576)?,
+        passwords: given_of(matches, "broker", "PASSWORDS")?,
+        metrics: given_of(matches, "broker", "METRICS")?,
+        log: given_of(matches, "broker", "LOG")?,
+        quiet: flag_of(matches, "broker", "QUIET")?,
+        verbose: flag_of(matches, "broker", "VERBOSE")?,
+    })
+}

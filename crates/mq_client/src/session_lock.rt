@@ -1,0 +1,110 @@
+//! The lock of a session in a file.
+
+use crate::disk::OWNER_ONLY;
+use std::alloc::{AllocError, Global};
+use std::fs::{File, OpenOptions, TryLockError};
+use std::io::ErrorKind;
+use std::os::unix::fs::{MetadataExt, OpenOptionsExt};
+use std::rt::Files;
+use std::{fs, io};
+
+/// The maximum number of symbolic links that are followed.
+const MOST_LINKS: u32 = 40;
+
+/// The maximum number of lock files that other runs may remove while the lock is taken.
+const MOST_TRIES: u32 = 1_000;
+
+// The name that a symbolic link gives: relative to the folder of the link, unless it is absolute.
+fn beside(alloc: Global, link: &str, target: &str) -> Result<String, AllocError> {
+    match (target.as_bytes(), link.rsplit_once('/')) {
+        ([b'/', ..], _) | (_, None) => String::from_str(alloc, target),
+        (_, Some((folder, _))) => format!(in alloc; "{folder}/{target}"),
+    }
+}
+
+/// The name of the file that a name leads to through symbolic links. The file may be missing.
+pub fn linked_name<R: Files>(rt: &R, alloc: Global, name: &str) -> io::Result<String> {
+    let mut name = String::from_str(alloc, name)?;
+    for _ in 0..MOST_LINKS {
+        match rt.read_link(alloc, name.as_str()) {
+            Ok(target) => name = beside(alloc, name.as_str(), target.as_str())?,
+            Err(_) => return Ok(name),
+        }
+    }
+    Err(io::Error::from(ErrorKind::FilesystemLoop))
+}
+
+/// The lock that a run holds on the session in a file.
+///
+/// The file itself is replaced at each save. So the lock is an advisory lock on a file of the same
+/// name with `.lock` behind it, which exists only while a run holds it or after the run was killed.
+#[derive(Drop)]
+pub struct SessionLock<'a, R: Files<File = File>> {
+    rt: &'a R,
+    name: String,
+    // No file if its folder is missing: nothing can be saved then.
+    file: Option<File>,
+}
+
+// Opens a lock file. Returns `None` if its folder is missing.
+fn open<R: Files<File = File>>(rt: &R, name: &str) -> io::Result<Option<File>> {
+    let opened = OpenOptions::new()
+        .write(true)
+        .create(true)
+        .mode(OWNER_ONLY)
+        .open(rt, name);
+    match opened {
+        Ok(file) => Ok(Some(file)),
+        Err(error) if error.kind() == ErrorKind::NotFound => Ok(None),
+        Err(error) => Err(error),
+    }
+}
+
+// Whether the open file is still the one of this name.
+fn is_named<R: Files>(rt: &R, file: &File, name: &str) -> io::Result<bool> {
+    let held = file.metadata()?;
+    match fs::metadata(rt, name) {
+        Ok(found) => Ok(found.ino() == held.ino() && found.dev() == held.dev()),
+        Err(error) => match error.kind() {
+            ErrorKind::NotFound => Ok(false),
+            _ => Err(error),
+        },
+    }
+}
+
+impl<'a, R: Files<File = File>> SessionLock<'a, R> {
+    /// Takes the lock of the session in the file of this name. Returns `None` if another run holds
+    /// it, and then changes nothing.
+    pub fn take(rt: &'a R, alloc: Global, name: &str) -> io::Result<Option<SessionLock<'a, R>>> {
+        let name = format!(in alloc; "{name}.lock")?;
+        for _ in 0..MOST_TRIES {
+            let Some(file) = open(rt, name.as_str())? else {
+                return Ok(Some(SessionLock {
+                    rt,
+                    name,
+                    file: None,
+                }));
+            };
+            match file.try_lock() {
+                Ok(()) => {}
+                Err(TryLockError::WouldBlock) => return Ok(None),
+                Err(TryLockError::Error(error)) => return Err(error),
+            }
+            if is_named(rt, &file, name.as_str())? {
+                return Ok(Some(SessionLock {
+                    rt,
+                    name,
+                    file: Some(file),
+                }));
+            }
+        }
+        Ok(None)
+    }
+
+    /// Removes the lock file, and releases the lock.
+    pub fn release(self) {
+        // A lock file that can't be removed is taken by the next run.
+        let _ = fs::remove_file(self.rt, self.name.as_str());
+        drop(self.file);
+    }
+}

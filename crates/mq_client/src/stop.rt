@@ -1,0 +1,39 @@
+//! The early stop of a client program.
+
+ghost use Rattle.std.specs.Prelude.{◌≡◌};
+
+use crate::client::LoadFailure;
+use crate::error::ClientError;
+
+/// The early stop of a client program, for a message to its user.
+#[derive(Clone, Copy, Debug, PartialEq, Eq)]
+pub enum Stop {
+    /// The session was not loaded.
+    Unloaded(LoadFailure),
+    /// The program was halted.
+    Halted(Halt),
+}
+
+/// Why and where a client program was halted.
+#[derive(Clone, Copy, Debug, PartialEq, Eq)]
+pub struct Halt {
+    /// Why.
+    pub error: ClientError,
+    /// The number of texts that were acknowledged, or of messages that arrived.
+    pub done: usize,
+    /// Whether the server sent nothing until the connection counted as lost.
+    pub is_silent: bool,
+}
+
+impl Halt {
+    /// A halt before the first message.
+    pub fn early(error: ClientError) -> Halt
+        ensures { result.error ≡ error }
+    {
+        Halt {
+            error,
+            done: 0,
+            is_silent: false,
+        }
+    }
+}

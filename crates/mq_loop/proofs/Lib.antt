@@ -1,0 +1,3 @@
+pub mod CarriedBytes
+pub mod Outcomes
+pub mod Sent

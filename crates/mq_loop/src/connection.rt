@@ -1,0 +1,156 @@
+//! One connection: its socket, and the output that the socket has not taken.
+
+ghost use Rattle.std.specs.Prelude.{◌≡◌, ◌≤◌, ◌⊎◌, [], true, false, drop, length};
+ghost use Rattle.mq_loop.specs.declared.connection.Flushed.TheVariants.{All};
+ghost use Rattle.mq_loop.specs.Sockets.{ComesIn, Sends};
+
+use crate::socket::{Socket, WriteOutcome};
+use bytes::Bytes;
+use mq_stream::ReadOutcome;
+use std::alloc::Global;
+use std::marker::Model;
+
+/// How far kept output was written.
+#[derive(Clone, Copy, Debug, PartialEq, Eq)]
+pub enum Flushed {
+    /// Nothing is kept any more.
+    All,
+    /// The socket takes no more now.
+    Blocked,
+    /// The socket failed.
+    Failed,
+}
+
+/// A connection: its socket, bytes that were read and wait for a step, and collected output that
+/// the socket has not taken.
+#[derive(Drop)]
+pub struct Connection<S: Socket> {
+    socket: S,
+    unread: Bytes,
+    kept: Bytes,
+    is_broken: bool,
+}
+
+impl<S: Socket> Model for Connection<S> {
+    ghost use Rattle.mq_loop.specs.Accounts.{Line};
+
+    ghost Value = { Line };
+
+    ghost view = { λ c. record {
+      came = S.came c.socket;
+      went = S.went c.socket;
+      unread = c.unread;
+      kept = c.kept;
+      broken = c.is_broken;
+    } };
+}
+
+impl<S: Socket> Connection<S> {
+    /// A connection over a socket, without output.
+    pub fn new(socket: S) -> Connection<S>
+        ensures { result ≡ record {
+          came = S.came socket;
+          went = S.went socket;
+          unread = [];
+          kept = [];
+          broken = false;
+        } }
+    {
+        Connection {
+            socket,
+            unread: Bytes::new(),
+            kept: Bytes::new(),
+            is_broken: false,
+        }
+    }
+
+    /// Whether output is kept, because the socket did not take it.
+    pub fn is_blocked(&self) -> bool
+        ensures { result ≡ false → self.now.kept ≡ [] }
+    {
+        !self.kept.is_empty()
+    }
+
+    /// The number of bytes that are kept.
+    pub fn kept(&self) -> usize
+        ensures { result ≡ length self.now.kept }
+    {
+        self.kept.len()
+    }
+
+    /// Whether bytes were lost, because an allocation failed. The connection must then be ended.
+    pub fn is_broken(&self) -> bool
+        ensures { result ≡ self.now.broken }
+    {
+        self.is_broken
+    }
+
+    /// Reads some of the bytes that have arrived into `buffer`, which must not be empty.
+    pub fn read(&mut self, buffer: &mut [u8]) -> ReadOutcome
+        ensures came { ComesIn self.old.came self.new.came buffer.new result }
+        ensures rest { self.new ≡ record self.old { came = self.new.came } }
+    {
+        self.socket.read(buffer)
+    }
+
+    /// Marks that bytes were lost.
+    pub fn mark_broken(&mut self)
+        ensures { self.new ≡ record self.old { broken = true } }
+    {
+        self.is_broken = true;
+    }
+
+    /// The bytes that were read and wait for a step.
+    pub fn unread(&self) -> &[u8]
+        ensures { result.now ≡ self.now.unread }
+    {
+        self.unread.as_slice()
+    }
+
+    /// Drops the first bytes of those that wait for a step.
+    pub fn skip_unread(&mut self, count: usize)
+        requires { count ≤ length self.old.unread }
+        ensures { self.new ≡ record self.old { unread = drop count self.old.unread } }
+    {
+        self.unread.advance(count);
+    }
+
+    /// Stores bytes that wait for a step. If an allocation fails, marks that they are lost.
+    pub fn keep_unread(&mut self, alloc: Global, bytes: &[u8])
+        ensures { (self.new ≡ record self.old { unread = bytes.now })
+            ⊎ (self.new ≡ record self.old { broken = true }) }
+    {
+        match Bytes::copy_from_slice(alloc, bytes) {
+            Ok(bytes) => self.unread = bytes,
+            Err(_) => self.is_broken = true,
+        }
+    }
+
+    /// Keeps collected output. Nothing must be kept before.
+    pub fn keep(&mut self, output: Bytes)
+        requires { self.old.kept ≡ [] }
+        ensures { self.new ≡ record self.old { kept = output } }
+    {
+        self.kept = output;
+    }
+
+    /// Writes the kept output, as far as the socket takes it.
+    #[tactic(auto, using(crate::proofs::Sent::sends_none))]
+    pub fn flush(&mut self) -> Flushed
+        ensures went { Sends self.old.went self.old.kept self.new.went self.new.kept }
+        ensures rest { self.new ≡ record self.old { went = self.new.went; kept = self.new.kept } }
+        ensures all { result ≡ All → self.new.kept ≡ [] }
+    {
+        for _ in 0..u64::MAX {
+            if self.kept.is_empty() {
+                return Flushed::All;
+            }
+            match self.socket.write(self.kept.as_slice()) {
+                WriteOutcome::Bytes(count) => self.kept.advance(count),
+                WriteOutcome::Nothing => return Flushed::Blocked,
+                WriteOutcome::Failed => return Flushed::Failed,
+            }
+        }
+        Flushed::Failed
+    }
+}

@@ -1,0 +1,277 @@
+//! A broker and the connections that it serves.
+
+ghost use Rattle.std.specs.Prelude.{◌≡◌, ◌≤◌, ◌<◌, ◌∷◌, [], ◌++◌, false, None, Some, IfErr, IfNone, IfOk, IfSome, OnErr, OnOk, length, slice_set, take};
+ghost use Rattle.mq_route.specs.declared.event.HubEvent.TheVariants.{Bytes as BytesSeen, Collect, Ended, Opened, Tick};
+ghost use Rattle.mq_route.specs.Step.{HubStep};
+ghost use Rattle.mq_loop.specs.Accounts.{IsServed, line_at, name_at};
+
+use crate::connection::{Connection, Flushed};
+use crate::socket::Socket;
+use mq_hub::Hub;
+use mq_route::{Conn, HubEvent, HubRefusal, HubReply};
+use mq_stream::ReadOutcome;
+use std::alloc::{AllocError, Global};
+use std::marker::Model;
+use std::snapshot::Snapshot;
+
+/// The number of acts after which a step takes no further packet.
+const MOST_ACTS: usize = 8_192;
+
+/// The outcome of a read from a connection.
+#[derive(Debug, Drop)]
+pub enum Heard {
+    /// The broker made a step. This number of bytes was read for it; 0 if it took bytes that were
+    /// read before.
+    Step(usize, HubReply),
+    /// No byte was read.
+    Nothing,
+    /// The connection must be ended: nothing more comes, its socket failed, or an allocation
+    /// failed.
+    Over,
+}
+
+/// A broker and the connections that it serves, each at a place.
+///
+/// The connection at place p has the name of worker 0 and number p. Its place may be used again
+/// after it has ended.
+#[derive(Drop)]
+pub struct Served<S: Socket> {
+    alloc: Global,
+    base: Snapshot<Hub>,
+    hub: Hub,
+    connections: Vec<Option<Connection<S>>>,
+}
+
+impl<S: Socket> Model for Served<S> {
+    ghost use Rattle.std.specs.Coded.{codes, coded_ℕ};
+    ghost use Rattle.std.specs.FinSet as set;
+    ghost use Rattle.std.specs.Ordering.{nat_cmp};
+    ghost use Rattle.mq_loop.specs.Accounts.{IsServed, ServedState, served_state};
+
+    ghost Value = { ServedState };
+
+    ghost coded = { Prim.hlevel (codes, set.code {R = nat_cmp} coded_ℕ) };
+
+    ghost view = { λ s. served_state s.base.value s.hub s.connections.items };
+
+    ghost invariant = { λ s. IsServed (served_state s.base.value s.hub s.connections.items) };
+}
+
+// The name of the connection at a place.
+fn name_at(place: u32) -> Conn
+    ensures { result ≡ name_at place }
+{
+    Conn {
+        worker: 0,
+        nth: place,
+    }
+}
+
+// Makes the step of the front of these bytes, which must not be empty. Returns the reply and the
+// number of bytes that the step took. On `None` an allocation failed, and no step was made.
+fn take_some(hub: &mut Hub, place: u32, bytes: &[u8]) -> Option<(HubReply, usize)>
+    ensures step { IfSome result (λ r. HubStep hub.old (BytesSeen (name_at place) (take r.1 bytes.now)) r.0 hub.new) }
+    ensures within { IfSome result (λ r. r.1 ≤ length bytes.now) }
+    ensures none { IfNone result (hub.new ≡ hub.old) }
+{
+    match hub.step_some(name_at(place), bytes, MOST_ACTS) {
+        Ok((reply, count)) => Some((reply, count)),
+        Err(_) => None,
+    }
+}
+
+impl<S: Socket + Drop> Served<S> {
+    /// A broker that serves no connection yet.
+    #[tactic(auto, using(crate::proofs::CarriedBytes::new_served))]
+    pub fn new(alloc: Global, hub: Hub) -> Served<S>
+        ensures { result ≡ record { base = hub; hub = hub; lines = [] } }
+    {
+        Served {
+            alloc,
+            base: Snapshot::of(&hub),
+            hub,
+            connections: Vec::new(alloc),
+        }
+    }
+
+    /// All steps form one chain of one broker, in which each connection carries its bytes.
+    pub fn laws(&self)
+        ensures { IsServed self.now }
+    {
+        let _ = &self.hub;
+    }
+
+    /// The broker.
+    pub fn hub(&self) -> &Hub
+        ensures { result.now ≡ self.now.hub }
+    {
+        &self.hub
+    }
+
+    /// Adds a place without a connection. Returns the place, or an error if there are 2^32.
+    #[tactic(auto, using(crate::proofs::CarriedBytes::place_served))]
+    pub fn add_place(&mut self) -> Result<u32, AllocError>
+        ensures ok { OnOk result (self.new ≡ record self.old { lines = self.old.lines ++ None ∷ [] }) }
+        ensures place { IfOk result (λ place. place ≡ length self.old.lines) }
+        ensures err { OnErr result (self.new ≡ self.old) }
+    {
+        let Ok(place) = u32::try_from(self.connections.len()) else {
+            return Err(AllocError);
+        };
+        self.connections.push(None)?;
+        Ok(place)
+    }
+
+    /// Opens a connection over a fresh socket at a place without a connection.
+    ///
+    /// Errors, on which the socket is dropped: `ConnInUse` if the place has a connection, or if it
+    /// does not exist; `Memory` if an allocation fails.
+    #[tactic(auto, using(crate::proofs::CarriedBytes::open_served))]
+    pub fn open(&mut self, place: u32, socket: S) -> Result<HubReply, HubRefusal>
+        requires came { IfSome (S.came socket) (λ bytes. bytes ≡ []) }
+        requires went { IfSome (S.went socket) (λ bytes. bytes ≡ []) }
+        ensures step { IfOk result (λ reply. HubStep self.old.hub (Opened (name_at place)) reply self.new.hub) }
+        ensures line { OnOk result (self.new.lines ≡ slice_set self.old.lines place
+            (Some record { came = S.came socket; went = S.went socket; unread = []; kept = []; broken = false })) }
+        ensures err { OnErr result (self.new ≡ self.old) }
+    {
+        let at = place as usize;
+        if at >= self.connections.len() || self.connections[at].is_some() {
+            return Err(HubRefusal::ConnInUse);
+        }
+        let reply = self.hub.step(&HubEvent::Opened(name_at(place)))?;
+        self.connections[at] = Some(Connection::new(socket));
+        Ok(reply)
+    }
+
+    /// Tells the broker the current time, in milliseconds.
+    #[tactic(auto, using(crate::proofs::CarriedBytes::tick_served))]
+    pub fn tick(&mut self, now: u64) -> Result<HubReply, HubRefusal>
+        ensures step { IfOk result (λ reply. HubStep self.old.hub (Tick now) reply self.new.hub) }
+        ensures lines { self.new.lines ≡ self.old.lines }
+        ensures err { OnErr result (self.new ≡ self.old) }
+    {
+        self.hub.step(&HubEvent::Tick(now))
+    }
+
+    /// Makes the broker's step with bytes of a connection: with those that wait for a step, or else
+    /// with bytes that are read into `buffer`, which must not be empty.
+    #[tactic(auto, using(crate::proofs::CarriedBytes::same_served, crate::proofs::CarriedBytes::none_served))]
+    pub fn read(&mut self, place: u32, buffer: &mut [u8]) -> Heard {
+        let at = place as usize;
+        if at >= self.connections.len() {
+            return Heard::Nothing;
+        }
+        let Some(connection) = &mut self.connections[at] else {
+            return Heard::Nothing;
+        };
+        if connection.is_broken() {
+            return Heard::Over;
+        }
+        if !connection.unread().is_empty() {
+            return match take_some(&mut self.hub, place, connection.unread()) {
+                Some((reply, used)) => {
+                    connection.skip_unread(used);
+                    Heard::Step(0, reply)
+                }
+                None => Heard::Over,
+            };
+        }
+        let count = match connection.read(buffer) {
+            ReadOutcome::Bytes(count) => count,
+            ReadOutcome::Nothing => return Heard::Nothing,
+            ReadOutcome::End | ReadOutcome::Failed => return Heard::Over,
+        };
+        match take_some(&mut self.hub, place, &buffer[..count]) {
+            Some((reply, used)) => {
+                if used < count {
+                    connection.keep_unread(self.alloc, &buffer[used..count]);
+                }
+                Heard::Step(count, reply)
+            }
+            None => {
+                connection.mark_broken();
+                Heard::Over
+            }
+        }
+    }
+
+    /// Whether bytes of a connection wait for a step, or were lost.
+    pub fn has_unread(&self, place: u32) -> bool {
+        let at = place as usize;
+        if at >= self.connections.len() {
+            return false;
+        }
+        match &self.connections[at] {
+            Some(connection) => connection.is_broken() || !connection.unread().is_empty(),
+            None => false,
+        }
+    }
+
+    /// Whether output is kept for a connection, because its socket did not take it.
+    pub fn is_blocked(&self, place: u32) -> bool {
+        let at = place as usize;
+        if at >= self.connections.len() {
+            return false;
+        }
+        match &self.connections[at] {
+            Some(connection) => connection.is_blocked(),
+            None => false,
+        }
+    }
+
+    /// The number of bytes of output that are kept for a connection.
+    pub fn kept(&self, place: u32) -> usize {
+        let at = place as usize;
+        if at >= self.connections.len() {
+            return 0;
+        }
+        match &self.connections[at] {
+            Some(connection) => connection.kept(),
+            None => 0,
+        }
+    }
+
+    /// Writes the output that is kept for a connection, as far as its socket takes it.
+    pub fn flush(&mut self, place: u32) -> Flushed {
+        let at = place as usize;
+        if at >= self.connections.len() {
+            return Flushed::All;
+        }
+        match &mut self.connections[at] {
+            Some(connection) => connection.flush(),
+            None => Flushed::All,
+        }
+    }
+
+    /// Collects the pending output of a connection, unless output is kept for it, and keeps it to
+    /// be written. Returns the reply, or `None` if nothing was collected.
+    #[tactic(auto, using(crate::proofs::CarriedBytes::collect_served))]
+    pub fn collect(&mut self, place: u32) -> Result<Option<bool>, HubRefusal> {
+        let at = place as usize;
+        if at >= self.connections.len() {
+            return Ok(None);
+        }
+        let Some(connection) = &mut self.connections[at] else {
+            return Ok(None);
+        };
+        if connection.is_blocked() {
+            return Ok(None);
+        }
+        let reply = self.hub.step(&HubEvent::Collect(name_at(place)))?;
+        connection.keep(reply.output);
+        Ok(Some(reply.alive))
+    }
+
+    /// Ends a connection, and drops its socket. Returns `None` if the place has no connection.
+    #[tactic(auto, using(crate::proofs::CarriedBytes::end_served))]
+    pub fn end(&mut self, place: u32) -> Result<Option<HubReply>, HubRefusal> {
+        let at = place as usize;
+        if at >= self.connections.len() || self.connections[at].is_none() {
+            return Ok(None);
+        }
+        let reply = self.hub.step(&HubEvent::Ended(name_at(place)))?;
+        self.connections[at] = None;
+        Ok(Some(reply))
+    }
+}

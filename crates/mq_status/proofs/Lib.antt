@@ -1,0 +1,6 @@
+mod Growing
+mod Heads
+mod Joined
+mod Padded
+mod Safe
+mod Visible

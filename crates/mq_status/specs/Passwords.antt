@@ -1,0 +1,172 @@
+-- A file of passwords.
+use Rattle.std.specs.Prelude.{◌≡◌, ℕ, ◌+◌, Bool, true, false, ◌&&◌, ◌||◌, not, ◌==◌, nat_le, nat_lt, List, [], ◌∷◌, ◌++◌, length, map, slice_index, codes, Option, Some, None, Result, Ok, Err, if◌then◌else◌, IsUtf8, ⊤}
+use Rattle.std.specs.List.{before_first, after_first, position_or_len, list_all}
+use Rattle.std.specs.Result.{result_ok}
+use Rattle.std.specs.Str.{bytes_eq}
+use Rattle.std.specs.Str.Lines.{lines}
+use Rattle.hex.specs.Hex.{decode_sized, encode_lower}
+use Rattle.sha2.specs.Sha256.{sha256}
+use Rattle.mq_wire.specs.Text.{has_nul}
+use Rattle.mq_route.specs.declared.config.User.{User}
+use Rattle.mq_status.specs.declared.passwords.Entry.{Entry}
+use Rattle.mq_status.specs.declared.passwords.LineError.{LineError}
+use Rattle.mq_status.specs.declared.passwords.LineError.TheVariants as private
+use Rattle.mq_status.specs.declared.passwords.PasswordFault.{PasswordFault}
+use Rattle.mq_status.specs.declared.passwords.PasswordFault.TheVariants.{NoColon, NoName, NotText, TooLong, NotHash}
+use Rattle.mq_status.specs.declared.passwords.PasswordsError.{PasswordsError}
+use Rattle.mq_status.specs.declared.passwords.PasswordsError.TheVariants as errors
+use Rattle.mq_status.specs.declared.passwords.Stored.{Stored}
+use Rattle.mq_status.specs.declared.passwords.Stored.TheVariants.{Plain, Sha256}
+
+-- ---- a stored password
+
+-- whether this is the stored password
+abbrev pub accepts : Stored → List ℕ → Bool
+accepts (Plain stored) password = bytes_eq stored password
+accepts (Sha256 salt digest) password = bytes_eq digest (sha256 (salt ++ password))
+
+-- ---- a line
+
+abbrev pub is_colon : ℕ → Bool
+is_colon byte = byte == 58
+
+abbrev pub has_colon : List ℕ → Bool
+has_colon text = nat_lt (position_or_len is_colon text) (length text)
+
+-- empty, or a comment
+abbrev pub is_skipped : List ℕ → Bool
+is_skipped line = length line == 0 || slice_index line 0 == 35
+
+-- at most as long as a field of CONNECT (3.1.3.5)
+abbrev pub fits : List ℕ → Bool
+fits field = nat_le (length field) 65535
+
+abbrev pub field_in : List ℕ → Result (List ℕ) PasswordFault
+field_in text = if fits text then Ok text else Err TooLong
+
+abbrev pub plain_of : Result (List ℕ) PasswordFault → Result Stored PasswordFault
+plain_of (Ok password) = Ok (Plain password)
+plain_of (Err fault) = Err fault
+
+-- `SALT` and the bytes of `HEX`
+abbrev pub hash_of : Result (List ℕ) PasswordFault → Option (List ℕ) → Result Stored PasswordFault
+hash_of salt None = Err NotHash
+hash_of (Ok salt) (Some digest) = Ok (Sha256 salt digest)
+hash_of (Err fault) (Some digest) = Err fault
+
+-- `SALT:HEX`
+abbrev pub hash_in : List ℕ → Result Stored PasswordFault
+hash_in text =
+    if has_colon text then hash_of (field_in (before_first is_colon text)) (result_ok (decode_sized (after_first is_colon text) 32)) else Err NotHash
+
+-- what follows the name and its colon
+abbrev pub stored_in : List ℕ → Result Stored PasswordFault
+stored_in text =
+    if has_colon text && bytes_eq (before_first is_colon text) (codes "sha256")
+    then hash_in (after_first is_colon text)
+    else plain_of (field_in text)
+
+-- a name is a text of MQTT (1.5.3)
+abbrev pub name_in : List ℕ → Result (List ℕ) PasswordFault
+name_in text =
+    if length text == 0 then Err NoName
+    else if fits text && not (has_nul text) then Ok text
+    else Err NotText
+
+abbrev pub entry_of : ℕ → Result (List ℕ) PasswordFault → Result Stored PasswordFault → Result Entry PasswordFault
+entry_of number (Err fault) stored = Err fault
+entry_of number (Ok name) (Err fault) = Err fault
+entry_of number (Ok name) (Ok stored) = Ok (record { line = number; name = name; stored = stored })
+
+-- `NAME:`, and a stored password
+abbrev pub entry_in : ℕ → List ℕ → Result Entry PasswordFault
+entry_in number line = entry_of number (name_in (before_first is_colon line)) (stored_in (after_first is_colon line))
+
+abbrev pub some_of : Result Entry PasswordFault → Result (Option Entry) PasswordFault
+some_of (Ok entry) = Ok (Some entry)
+some_of (Err fault) = Err fault
+
+-- the entry of a line, or why it has none
+abbrev pub line_gives : ℕ → List ℕ → Result (Option Entry) PasswordFault
+line_gives number line =
+    if is_skipped line then Ok None
+    else if has_colon line then some_of (entry_in number line)
+    else Err NoColon
+
+-- ---- a file
+
+-- the entries of a line come before those of the lines behind it
+abbrev pub before : Result (Option Entry) PasswordFault → ℕ → Result (List Entry) (ℕ × PasswordFault) → Result (List Entry) (ℕ × PasswordFault)
+before (Err fault) number rest = Err (number, fault)
+before (Ok None) number rest = rest
+before (Ok (Some entry)) number (Ok entries) = Ok (entry ∷ entries)
+before (Ok (Some entry)) number (Err fault) = Err fault
+
+-- the entries of lines that are numbered from `number` on, or the first fault with its line
+abbrev pub lines_give : ℕ → List (List ℕ) → Result (List Entry) (ℕ × PasswordFault)
+lines_give number [] = Ok []
+lines_give number (line ∷ more) = before (line_gives number line) number (lines_give (number + 1) more)
+
+-- the entries of a file, or its first fault
+abbrev pub file_gives : List ℕ → Result (List Entry) (ℕ × PasswordFault)
+file_gives file = lines_give 1 (lines file)
+
+-- The result is the expected one, unless an allocation fails.
+abbrev pub Gives : {A : Type 0} → Result A PasswordFault → Result A LineError → Type 0
+Gives expected (Ok value) = expected ≡ Ok value
+Gives expected (Err (private.Fault fault)) = expected ≡ Err fault
+Gives expected (Err private.Memory) = ⊤
+
+-- The entry of a line, if it has one, is added at the end.
+abbrev pub Adds : Result (Option Entry) PasswordFault → List Entry → List Entry → Type 0
+Adds (Ok None) old new = new ≡ old
+Adds (Ok (Some entry)) old new = new ≡ old ++ entry ∷ []
+Adds (Err fault) old new = ⊥
+
+-- The error is that of a line, or an allocation fails.
+abbrev pub RefusesLine : ℕ → Result (Option Entry) PasswordFault → PasswordsError → Type 0
+RefusesLine number expected (errors.Line line fault) = (expected ≡ Err fault) × (line ≡ number)
+RefusesLine number expected errors.NotUtf8 = ⊥
+RefusesLine number expected errors.Memory = ⊤
+
+-- The error is that of the lines, or an allocation fails.
+abbrev pub RefusesLines : Result (List Entry) (ℕ × PasswordFault) → PasswordsError → Type 0
+RefusesLines expected (errors.Line number fault) = expected ≡ Err (number, fault)
+RefusesLines expected errors.NotUtf8 = ⊥
+RefusesLines expected errors.Memory = ⊤
+
+-- The error is that of the file, or an allocation fails.
+abbrev pub Refuses : List ℕ → PasswordsError → Type 0
+Refuses file (errors.Line number fault) = file_gives file ≡ Err (number, fault)
+Refuses file errors.NotUtf8 = ¬ (IsUtf8 file)
+Refuses file errors.Memory = ⊤
+
+-- ---- the users of a broker
+
+abbrev pub login_of_entry : Entry → List ℕ × Stored
+login_of_entry entry = (entry.name, entry.stored)
+
+abbrev pub login_of_user : User → List ℕ × Stored
+login_of_user user = (user.name, Plain user.password)
+
+-- The users have the names and the plain passwords of the entries, in order.
+abbrev pub AreUsersOf : List Entry → List User → Type 0
+AreUsersOf entries users = map login_of_entry entries ≡ map login_of_user users
+
+-- ---- a line that is written
+
+-- the line of a name, a salt and a password
+abbrev pub password_line : List ℕ → List ℕ → List ℕ → List ℕ
+password_line name salt password =
+    name ++ (codes ":sha256:" ++ (salt ++ (codes ":" ++ encode_lower (sha256 (salt ++ password)))))
+
+-- neither a control character nor a colon
+abbrev pub is_field_byte : ℕ → Bool
+is_field_byte byte = nat_le 32 byte && not (is_colon byte)
+
+-- a text can be a field of a line
+abbrev pub is_field : List ℕ → Bool
+is_field text = fits text && list_all is_field_byte text
+
+abbrev pub is_name : List ℕ → Bool
+is_name text = not (is_skipped text) && is_field text

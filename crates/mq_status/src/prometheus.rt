@@ -1,0 +1,429 @@
+//! Metrics as Prometheus text.
+
+ghost use Rattle.std.specs.Prelude.{◌++◌, ◌<◌, codes, OnOk};
+ghost use Rattle.std.specs.Io.KnownBytes.{Appends};
+ghost use Rattle.std.specs.List.{flat_map};
+ghost use Rattle.mq_status.specs.Prometheus.{by_qos_text, closed_text, gauges_text, head_text, memory_text, messages_text, missed_text, refused_text, rounds_text, sample_text, seconds_text, sessions_text, single_text, traffic_text, wills_text};
+
+use crate::counter::COUNTERS;
+use crate::metrics::{Gauges, Metrics};
+use std::io;
+use std::io::Write;
+
+// A sample of a family, and the value of its label.
+#[derive(Clone, Copy)]
+struct Sample {
+    label: &'static str,
+    value: u64,
+}
+
+// Writes the head of a family.
+fn write_head<W: Write>(output: &mut W, name: &str, help: &str, kind: &str) -> io::Result<()>
+    ensures { OnOk result (Appends (W.contents output.old) (W.contents output.new)
+        (head_text name.now help.now kind.now)) }
+{
+    writeln!(output, "# HELP {name} {help}\n# TYPE {name} {kind}")
+}
+
+// Writes a sample of a family.
+fn write_sample<W: Write>(
+    output: &mut W,
+    name: &str,
+    key: &str,
+    label: &str,
+    value: u64,
+) -> io::Result<()>
+    ensures { OnOk result (Appends (W.contents output.old) (W.contents output.new)
+        (sample_text name.now key.now label.now value)) }
+{
+    writeln!(output, "{name}{{{key}=\"{label}\"}} {value}")
+}
+
+// Writes the samples of a family.
+fn write_samples<W: Write>(
+    output: &mut W,
+    name: &str,
+    key: &str,
+    samples: &[Sample],
+) -> io::Result<()>
+    ensures { OnOk result (Appends (W.contents output.old) (W.contents output.new)
+        (flat_map (λ s. sample_text name.now key.now s.label.now s.value) samples.now)) }
+{
+    for sample in samples {
+        write_sample(output, name, key, sample.label, sample.value)?;
+    }
+    Ok(())
+}
+
+// Writes a family of counters.
+fn write_family<W: Write>(
+    output: &mut W,
+    name: &str,
+    help: &str,
+    key: &str,
+    samples: &[Sample],
+) -> io::Result<()>
+    ensures { OnOk result (Appends (W.contents output.old) (W.contents output.new)
+        (head_text name.now help.now (codes "counter")
+        ++ flat_map (λ s. sample_text name.now key.now s.label.now s.value) samples.now)) }
+{
+    write_head(output, name, help, "counter")?;
+    write_samples(output, name, key, samples)
+}
+
+// Writes a family of one sample.
+fn write_single<W: Write>(
+    output: &mut W,
+    name: &str,
+    help: &str,
+    kind: &str,
+    value: u64,
+) -> io::Result<()>
+    ensures { OnOk result (Appends (W.contents output.old) (W.contents output.new)
+        (single_text name.now help.now kind.now value)) }
+{
+    write_head(output, name, help, kind)?;
+    writeln!(output, "{name} {value}")
+}
+
+// Writes a family of counters with one sample for each quality of service, the first at `place`.
+fn write_by_qos<W: Write>(
+    output: &mut W,
+    name: &str,
+    help: &str,
+    counts: &[u64; COUNTERS],
+    place: usize,
+) -> io::Result<()>
+    requires { place < 40 }
+    ensures { OnOk result (Appends (W.contents output.old) (W.contents output.new)
+        (by_qos_text name.now help.now counts.now place)) }
+{
+    let samples = [
+        Sample {
+            label: "0",
+            value: counts[place],
+        },
+        Sample {
+            label: "1",
+            value: counts[place + 1],
+        },
+        Sample {
+            label: "2",
+            value: counts[place + 2],
+        },
+    ];
+    write_family(output, name, help, "qos", &samples)
+}
+
+// Writes the counters of messages that come in and go out.
+fn write_messages<W: Write>(output: &mut W, counts: &[u64; COUNTERS]) -> io::Result<()>
+    ensures { OnOk result (Appends (W.contents output.old) (W.contents output.new)
+        (messages_text counts.now)) }
+{
+    let help = "Messages accepted from clients.";
+    write_by_qos(output, "mqtt_messages_in_total", help, counts, 0)?;
+    let help = "Topic and payload bytes of messages accepted from clients.";
+    write_by_qos(output, "mqtt_message_bytes_in_total", help, counts, 3)?;
+    let help = "Copies of messages placed for clients.";
+    write_by_qos(output, "mqtt_messages_out_total", help, counts, 6)?;
+    let help = "Topic and payload bytes of copies placed for clients.";
+    write_by_qos(output, "mqtt_message_bytes_out_total", help, counts, 9)
+}
+
+// Writes the counters of missed messages.
+fn write_missed<W: Write>(output: &mut W, counts: &[u64; COUNTERS]) -> io::Result<()>
+    ensures { OnOk result (Appends (W.contents output.old) (W.contents output.new)
+        (missed_text counts.now)) }
+{
+    let samples = [
+        Sample {
+            label: "session_full",
+            value: counts[12],
+        },
+        Sample {
+            label: "output_full",
+            value: counts[13],
+        },
+    ];
+    let (name, help) = ("mqtt_messages_missed_total", "Copies that a client missed.");
+    write_family(output, name, help, "reason", &samples)
+}
+
+// Writes the counters of closed connections.
+fn write_closed<W: Write>(output: &mut W, counts: &[u64; COUNTERS]) -> io::Result<()>
+    ensures { OnOk result (Appends (W.contents output.old) (W.contents output.new)
+        (closed_text counts.now)) }
+{
+    let samples = [
+        Sample {
+            label: "C1",
+            value: counts[14],
+        },
+        Sample {
+            label: "C2",
+            value: counts[15],
+        },
+        Sample {
+            label: "C3",
+            value: counts[16],
+        },
+        Sample {
+            label: "C4",
+            value: counts[17],
+        },
+        Sample {
+            label: "C5",
+            value: counts[18],
+        },
+        Sample {
+            label: "C6",
+            value: counts[19],
+        },
+        Sample {
+            label: "C7",
+            value: counts[20],
+        },
+        Sample {
+            label: "C8",
+            value: counts[21],
+        },
+        Sample {
+            label: "C9",
+            value: counts[22],
+        },
+        Sample {
+            label: "C10",
+            value: counts[23],
+        },
+        Sample {
+            label: "C11",
+            value: counts[24],
+        },
+        Sample {
+            label: "C12",
+            value: counts[25],
+        },
+    ];
+    let (name, help) = (
+        "mqtt_connections_closed_total",
+        "Connections closed, by reason.",
+    );
+    write_family(output, name, help, "code", &samples)
+}
+
+// Writes the counters of refused CONNECT packets.
+fn write_refused<W: Write>(output: &mut W, counts: &[u64; COUNTERS]) -> io::Result<()>
+    ensures { OnOk result (Appends (W.contents output.old) (W.contents output.new)
+        (refused_text counts.now)) }
+{
+    let samples = [
+        Sample {
+            label: "1",
+            value: counts[26],
+        },
+        Sample {
+            label: "2",
+            value: counts[27],
+        },
+        Sample {
+            label: "3",
+            value: counts[28],
+        },
+        Sample {
+            label: "4",
+            value: counts[29],
+        },
+        Sample {
+            label: "5",
+            value: counts[30],
+        },
+    ];
+    let help = "CONNECT packets refused, by return code.";
+    write_family(
+        output,
+        "mqtt_connects_refused_total",
+        help,
+        "code",
+        &samples,
+    )
+}
+
+// Writes the counters of sessions and subscriptions.
+fn write_sessions<W: Write>(output: &mut W, counts: &[u64; COUNTERS]) -> io::Result<()>
+    ensures { OnOk result (Appends (W.contents output.old) (W.contents output.new)
+        (sessions_text counts.now)) }
+{
+    let help = "CONNECT packets accepted.";
+    write_single(
+        output,
+        "mqtt_connects_accepted_total",
+        help,
+        "counter",
+        counts[31],
+    )?;
+    let help = "Sessions removed.";
+    write_single(
+        output,
+        "mqtt_sessions_ended_total",
+        help,
+        "counter",
+        counts[32],
+    )?;
+    let help = "Subscriptions stored.";
+    write_single(output, "mqtt_subscribes_total", help, "counter", counts[33])?;
+    let help = "Subscriptions removed by UNSUBSCRIBE.";
+    write_single(
+        output,
+        "mqtt_unsubscribes_total",
+        help,
+        "counter",
+        counts[34],
+    )
+}
+
+// Writes the counters of wills.
+fn write_wills<W: Write>(output: &mut W, counts: &[u64; COUNTERS]) -> io::Result<()>
+    ensures { OnOk result (Appends (W.contents output.old) (W.contents output.new)
+        (wills_text counts.now)) }
+{
+    let help = "Wills published.";
+    write_single(output, "mqtt_wills_total", help, "counter", counts[35])?;
+    let help = "Wills dropped.";
+    write_single(
+        output,
+        "mqtt_wills_dropped_total",
+        help,
+        "counter",
+        counts[36],
+    )
+}
+
+// Writes the counters of the bytes and connections that the caller counts.
+fn write_traffic<W: Write>(output: &mut W, counts: &[u64; COUNTERS]) -> io::Result<()>
+    ensures { OnOk result (Appends (W.contents output.old) (W.contents output.new)
+        (traffic_text counts.now)) }
+{
+    let help = "Bytes read from connections.";
+    write_single(output, "mqtt_bytes_read_total", help, "counter", counts[37])?;
+    let help = "Bytes written to connections.";
+    write_single(
+        output,
+        "mqtt_bytes_written_total",
+        help,
+        "counter",
+        counts[38],
+    )?;
+    let help = "Connections closed at once because there were too many.";
+    write_single(
+        output,
+        "mqtt_connections_turned_away_total",
+        help,
+        "counter",
+        counts[39],
+    )
+}
+
+// Writes the line of the rounds' time in seconds.
+#[tactic(auto, using(crate::proofs::Padded::zeros_before))]
+fn write_seconds<W: Write>(output: &mut W, microseconds: u64) -> io::Result<()>
+    ensures { OnOk result (Appends (W.contents output.old) (W.contents output.new)
+        (seconds_text microseconds)) }
+{
+    let (seconds, rest) = (microseconds / 1_000_000, microseconds % 1_000_000);
+    writeln!(output, "mqtt_round_seconds_sum {seconds}.{rest:06}")
+}
+
+// Writes the number of rounds of the event loop, and their time in seconds.
+fn write_rounds<W: Write>(output: &mut W, counts: &[u64; COUNTERS]) -> io::Result<()>
+    ensures { OnOk result (Appends (W.contents output.old) (W.contents output.new)
+        (rounds_text counts.now)) }
+{
+    let help = "Time of the event loop's rounds, without waiting.";
+    write_head(output, "mqtt_round_seconds", help, "summary")?;
+    write_seconds(output, counts[41])?;
+    let rounds = counts[40];
+    writeln!(output, "mqtt_round_seconds_count {rounds}")
+}
+
+// Writes the gauges of the broker.
+fn write_gauges<W: Write>(output: &mut W, gauges: Gauges) -> io::Result<()>
+    ensures { OnOk result (Appends (W.contents output.old) (W.contents output.new)
+        (gauges_text gauges)) }
+{
+    let help = "Connections that are open.";
+    write_single(
+        output,
+        "mqtt_connections",
+        help,
+        "gauge",
+        gauges.connections,
+    )?;
+    let help = "Sessions that are stored.";
+    write_single(output, "mqtt_sessions", help, "gauge", gauges.sessions)?;
+    let help = "Subscriptions of all sessions.";
+    write_single(
+        output,
+        "mqtt_subscriptions",
+        help,
+        "gauge",
+        gauges.subscriptions,
+    )?;
+    let help = "Retained messages.";
+    write_single(
+        output,
+        "mqtt_retained_messages",
+        help,
+        "gauge",
+        gauges.retained,
+    )
+}
+
+// Writes the gauges of memory.
+fn write_memory<W: Write>(output: &mut W, gauges: Gauges) -> io::Result<()>
+    ensures { OnOk result (Appends (W.contents output.old) (W.contents output.new)
+        (memory_text gauges)) }
+{
+    let help = "Messages stored in sessions.";
+    write_single(
+        output,
+        "mqtt_stored_messages",
+        help,
+        "gauge",
+        gauges.stored_messages,
+    )?;
+    let help = "Topic and payload bytes of messages stored in sessions.";
+    write_single(
+        output,
+        "mqtt_stored_bytes",
+        help,
+        "gauge",
+        gauges.stored_bytes,
+    )?;
+    let help = "Bytes pending on connections.";
+    write_single(
+        output,
+        "mqtt_pending_bytes",
+        help,
+        "gauge",
+        gauges.pending_bytes,
+    )
+}
+
+// Writes the counters.
+fn write_counters<W: Write>(output: &mut W, counts: &[u64; COUNTERS]) -> io::Result<()> {
+    write_messages(output, counts)?;
+    write_missed(output, counts)?;
+    write_closed(output, counts)?;
+    write_refused(output, counts)?;
+    write_sessions(output, counts)?;
+    write_wills(output, counts)?;
+    write_traffic(output, counts)?;
+    write_rounds(output, counts)
+}
+
+/// Appends the metrics in the text format of Prometheus, version 0.0.4.
+pub fn write_prometheus<W: Write>(output: &mut W, metrics: &Metrics) -> io::Result<()> {
+    write_gauges(output, metrics.gauges())?;
+    write_memory(output, metrics.gauges())?;
+    write_counters(output, metrics.counts())
+}
