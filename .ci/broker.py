@@ -333,7 +333,7 @@ def arguments(program):
         ran = subprocess.run([program, "broker", "--listen", f"127.0.0.1:{broker.port}"], capture_output=True, timeout=LIMIT, check=False)
         assert (ran.returncode, ran.stdout) == (1, b""), ran
         assert b"address is in use" in ran.stderr, ran
-    for words in (["--listen", "localhost"], ["--capacity", "0"], ["--max-packet", "268435456"], ["--log", "/nowhere/log"]):
+    for words in (["--listen", "localhost"], ["--capacity", "0"], ["--max-packet", "268435456"], ["--max-packet", "63"], ["--log", "/nowhere/log"]):
         ran = subprocess.run([program, "broker", *words], capture_output=True, timeout=LIMIT, check=False)
         assert (ran.returncode, ran.stdout) == (2, b""), ran
     with contextlib.suppress(OSError), socket.create_server(("::1", 0), family=socket.AF_INET6) as free:

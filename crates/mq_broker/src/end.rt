@@ -8,8 +8,8 @@ use thiserror::Error;
 /// Why a broker ended.
 #[derive(Clone, Copy, Debug, PartialEq, Eq, Error)]
 pub enum BrokerEnd {
-    /// The maximum remaining length is above that of the standard (2.2.3).
-    #[error("the maximum length of a packet is above 268435455 bytes")]
+    /// The maximum remaining length is below 64, or above that of the standard (2.2.3).
+    #[error("the maximum length of a packet must be 64 to 268435455 bytes")]
     PacketLimit,
     /// The address is in use.
     #[error("the address is in use")]

@@ -29,7 +29,8 @@ pub struct BrokerOptions {
 }
 
 impl BrokerOptions {
-    /// The limits of packets, or `None` if the maximum is above that of the standard (2.2.3).
+    /// The limits of packets. `None` if the maximum is below 64, or above that of the standard
+    /// (2.2.3).
     pub(crate) fn packets(&self) -> Option<Limits> {
         Limits::new(self.max_packet)
     }

@@ -105,7 +105,7 @@ with_tables app =
 -- the limits of packets, sessions and pending output
 abbrev pub with_limits : App → App
 with_limits app =
-    with_rule (with_rule (with_rule app (limit_rule (codes "MAX_PACKET") (codes "max-packet") (Signed (pos 1) (pos 268435455)))) (limit_rule (codes "CAPACITY") (codes "capacity") (Signed (pos 1) (pos 65535)))) (limit_rule (codes "MAX_WAITING") (codes "max-waiting") (Signed (pos 0) (pos 4294967295)))
+    with_rule (with_rule (with_rule app (limit_rule (codes "MAX_PACKET") (codes "max-packet") (Signed (pos 64) (pos 268435455)))) (limit_rule (codes "CAPACITY") (codes "capacity") (Signed (pos 1) (pos 65535)))) (limit_rule (codes "MAX_WAITING") (codes "max-waiting") (Signed (pos 0) (pos 4294967295)))
 
 -- the file of the passwords, and the address of the metrics
 abbrev pub with_extras : App → App

@@ -80,8 +80,9 @@ fn with_limits<'a>(alloc: Global, command: Command<'a>) -> Result<Command<'a>, A
     ensures words { IfOk result (λ new. app_of new ≡ with_limits (app_of command.entry)) }
     ensures local { IfOk result (λ new. (out-Command new).has_globals ≡ (out-Command command.entry).has_globals) }
 {
-    let help = "The maximum length of a packet after its header, in bytes [default: 1048576]";
-    let kind = value_parser!(u32).range(1..=268_435_455);
+    let help =
+        "The maximum length of a packet after its header, 64 to 268435455 bytes [default: 1048576]";
+    let kind = value_parser!(u32).range(64..=268_435_455);
     let command = with_arg(
         command,
         limit(alloc, "MAX_PACKET", "max-packet", help, kind),

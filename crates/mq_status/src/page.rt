@@ -28,7 +28,8 @@ body { margin: 1rem auto; max-width: 60rem; padding: 0 1rem; font: 1rem/1.4 syst
   color: #222; background: #fff }
 table { border-collapse: collapse }
 th, td { padding: .2rem .6rem; border-bottom: 1px solid #ccc; text-align: right }
-th:first-child, td:first-child { text-align: left; overflow-wrap: anywhere; font-weight: normal }
+th:first-child, td:first-child { text-align: left; overflow-wrap: anywhere; font-weight: normal;
+  min-width: 6rem }
 h1 { font-size: 1.4rem } h2 { font-size: 1.1rem }
 main > div { overflow-x: auto }
 @media (prefers-color-scheme: dark) {

@@ -7,10 +7,10 @@ use Rattle.mq_cli.proofs.broker.with_limits.Goals as goal
 
 pub returns-clause-words : goal.returns-clause-words
 returns-clause-words c =
-    let packet : Rule = limit_rule (codes "MAX_PACKET") (codes "max-packet") (Signed (pos 1) (pos 268435455)) in
+    let packet : Rule = limit_rule (codes "MAX_PACKET") (codes "max-packet") (Signed (pos 64) (pos 268435455)) in
     let capacity : Rule = limit_rule (codes "CAPACITY") (codes "capacity") (Signed (pos 1) (pos 65535)) in
     let waiting : Rule = limit_rule (codes "MAX_WAITING") (codes "max-waiting") (Signed (pos 0) (pos 4294967295)) in
-    let one : rule_of c.limit.result ≡ limit_rule (codes "MAX_PACKET") (codes "max-packet") (Signed (pos 1) (pos 268435455)) = search rules in
+    let one : rule_of c.limit.result ≡ limit_rule (codes "MAX_PACKET") (codes "max-packet") (Signed (pos 64) (pos 268435455)) = search rules in
     let two : rule_of c.limit-2.result ≡ limit_rule (codes "CAPACITY") (codes "capacity") (Signed (pos 1) (pos 65535)) = search rules in
     let three : rule_of c.limit-3.result ≡ limit_rule (codes "MAX_WAITING") (codes "max-waiting") (Signed (pos 0) (pos 4294967295)) = search rules in
     let first : app_of c.in_ok-command.command ≡ with_rule (app_of c.args.command) packet = c.in_ok-command.ensures.words ∙ ap (with_rule (app_of c.args.command)) one in
