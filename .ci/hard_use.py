@@ -144,9 +144,9 @@ def reconnects(program, expect, rounds=300):
 
 
 def slow_reader(program, expect):
-    """A client that reads 150 MB at 13 MB/s, and pings in time, stays connected."""
+    """A client that reads 150 MB at 13 MB/s, and pings in time, stays connected while more messages come."""
     with broker(program) as (_, port):
-        count, size, rate = 150, 1_000_000, 13_000_000
+        count, later, size, rate = 145, 5, 1_000_000, 13_000_000
         for nth in range(count):
             with client(port, connect(b"filler"), publish(b"big/%d" % nth, b"x" * size, qos=1, retain=True)) as stream:
                 read_packet(stream)
@@ -157,10 +157,13 @@ def slow_reader(program, expect):
         reader.sendall(connect(b"reader", keep_alive=4) + subscribe(b"big/#"))
         # Another client, so that another worker passes the time to the broker.
         other = client(port, connect(b"other", keep_alive=4))
-        begun, found, pinged = time.monotonic(), 0, 0.0
+        begun, found, pinged, sent = time.monotonic(), 0, 0.0, 0
         try:
-            while found < count * size:
+            while found < (count + later) * size:
                 passed = time.monotonic() - begun
+                if passed > 1 and sent < later:
+                    other.sendall(publish(b"big/later", b"x" * size))
+                    sent += 1
                 if passed - pinged > 0.5:
                     reader.sendall(PINGREQ)
                     other.sendall(PINGREQ)
@@ -174,7 +177,7 @@ def slow_reader(program, expect):
                 found += len(more)
         except OSError:
             pass
-        expect("serve: a reader that takes 13 MB/s and pings gets 150 MB", found >= count * size, True)
+        expect("serve: a reader that takes 13 MB/s and pings gets 150 MB", found >= (count + later) * size, True)
         # It is still a client: a message comes to it.
         last = b"the last message"
         other.sendall(publish(b"big/last", last))

@@ -25,7 +25,9 @@ fn collected(alloc: Global, line: Line, count: u32) -> Result<String, Fail> {
         count,
     };
     let mut peer = peer_at(alloc, line)?;
-    told_of(alloc, &mut peer, &goal)
+    let told = told_of(alloc, &mut peer, &goal);
+    drop(peer);
+    told
 }
 
 // A name, the reads, the number of messages that are wanted; and the status with the printed text
@@ -168,7 +170,19 @@ impl Write for Output {
     }
 }
 
-// The printed text and the written bytes of a collection whose output fails.
+// The printed text and the written bytes of a collection into this output.
+fn told_into(
+    alloc: Global,
+    peer: &mut Scripted,
+    goal: &CollectGoal<'_>,
+    mut output: Output,
+) -> Result<String, Fail> {
+    let status = collect(alloc, peer, goal, false, &mut None, &mut output).unwrap_or(9);
+    let written = peer.stream().written.as_slice();
+    told(alloc, status, output.printed.as_slice(), written)
+}
+
+// The same for two messages. The output has room for `room` bytes, and is flushed `flushes` times.
 fn unprinted(
     alloc: Global,
     reads: &'static str,
@@ -182,14 +196,14 @@ fn unprinted(
         count: 2,
     };
     let mut peer = peer_at(alloc, line_of(reads))?;
-    let mut output = Output {
+    let output = Output {
         printed: Vec::new(alloc),
         room,
         flushes,
     };
-    let status = collect(alloc, &mut peer, &goal, false, &mut None, &mut output).unwrap_or(9);
-    let written = peer.stream().written.as_slice();
-    told(alloc, status, output.printed.as_slice(), written)
+    let told = told_into(alloc, &mut peer, &goal, output);
+    drop(peer);
+    told
 }
 
 // A message that is not printed, or not flushed, is not acknowledged, whether it comes before

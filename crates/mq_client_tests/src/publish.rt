@@ -1,6 +1,6 @@
 use crate::compare::expect_told;
-use crate::script::{Line, Scripted, line_of, peer_at, peer_with, told};
-use mq_client::{Publications, SaveError, SessionSaver, publish};
+use crate::script::{Line, Script, Steps, line_of, peer_at, peer_with, told};
+use mq_client::{Peer, Publications, SaveError, SessionSaver, publish};
 use mq_end::ClientEnd;
 use mq_topic::{Qos, TopicName};
 use std::alloc::Global;
@@ -9,9 +9,14 @@ use std::process::Abort;
 use std::test::Fail;
 
 // The status, the printed text and the written bytes of a publication.
-fn told_of(alloc: Global, peer: &mut Scripted, texts: &Publications<'_>) -> Result<String, Fail> {
+fn told_of<K: SessionSaver>(
+    alloc: Global,
+    peer: &mut Peer<Script, Steps, K>,
+    texts: &Publications<'_>,
+    clean: bool,
+) -> Result<String, Fail> {
     let mut output = Vec::new(alloc);
-    let status = publish(alloc, peer, texts, true, &mut None, &mut output)?;
+    let status = publish(alloc, peer, texts, clean, &mut None, &mut output)?;
     let written = peer.stream().written.as_slice();
     told(alloc, status, output.as_slice(), written)
 }
@@ -27,7 +32,9 @@ fn published(alloc: Global, line: Line, qos: Qos, texts: &str) -> Result<String,
         texts: list.as_slice(),
     };
     let mut peer = peer_at(alloc, line)?;
-    told_of(alloc, &mut peer, &texts)
+    let told = told_of(alloc, &mut peer, &texts, true);
+    drop(peer);
+    told
 }
 
 // A name, the reads, the quality of service, the texts; and the status with the printed text and
@@ -180,10 +187,9 @@ fn saved(alloc: Global, reads: &'static str, saves: u32) -> Result<String, Fail>
         texts: &["x"],
     };
     let mut peer = peer_with(alloc, line_of(reads), Failing { saves })?;
-    let mut output = Vec::new(alloc);
-    let status = publish(alloc, &mut peer, &texts, false, &mut None, &mut output)?;
-    let written = peer.stream().written.as_slice();
-    told(alloc, status, output.as_slice(), written)
+    let told = told_of(alloc, &mut peer, &texts, false);
+    drop(peer);
+    told
 }
 
 // A session that can't be saved is reported, also if the connection was closed in the same step.

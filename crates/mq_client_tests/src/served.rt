@@ -104,14 +104,24 @@ impl Stream for Served {
     }
 }
 
-fn peer_of(alloc: Global, most: usize) -> Result<Peer<Served, Steps, NoSaver>, Fail> {
+// A client at a server.
+type ServedPeer = Peer<Served, Steps, NoSaver>;
+
+fn peer_of(alloc: Global, most: usize) -> Result<ServedPeer, Fail> {
     let client = new_client(alloc, 100)?;
     let served = Served::new(alloc, most)?;
     Ok(Peer::new(client, served, Steps { now: 0, step: 1 }, NoSaver))
 }
 
-// The status and output of a publication, and the payloads that the server received. A read gives
-// at most `most` bytes.
+// The status and output of a publication, and the payloads that the server received.
+fn told_of(alloc: Global, peer: &mut ServedPeer, texts: &Publications<'_>) -> Result<String, Fail> {
+    let mut output = Vec::new(alloc);
+    let status = publish(alloc, peer, texts, true, &mut None, &mut output)?;
+    let handed = peer.stream().handed.as_slice();
+    told(alloc, status, output.as_slice(), handed)
+}
+
+// The same. A read gives at most `most` bytes.
 fn published(alloc: Global, qos: Qos, most: usize) -> Result<String, Fail> {
     let topic = TopicName::parse(alloc, "a/b")?;
     let texts = Publications {
@@ -121,14 +131,9 @@ fn published(alloc: Global, qos: Qos, most: usize) -> Result<String, Fail> {
         texts: &["one", "two", "three"],
     };
     let mut peer = peer_of(alloc, most)?;
-    let mut output = Vec::new(alloc);
-    let status = publish(alloc, &mut peer, &texts, true, &mut None, &mut output)?;
-    told(
-        alloc,
-        status,
-        output.as_slice(),
-        peer.stream().handed.as_slice(),
-    )
+    let told = told_of(alloc, &mut peer, &texts);
+    drop(peer);
+    told
 }
 
 fn a_server_gets_each_text_once(rt: &impl Abort, alloc: Global) -> Result<(), Fail> {
@@ -146,22 +151,25 @@ fn a_server_gets_each_text_once(rt: &impl Abort, alloc: Global) -> Result<(), Fa
     Ok(())
 }
 
+// The status and output of a collection, and the payloads that the server received.
+fn told_to(alloc: Global, peer: &mut ServedPeer, goal: &CollectGoal<'_>) -> Result<String, Fail> {
+    let mut output = Vec::new(alloc);
+    let status = collect(alloc, peer, goal, true, &mut None, &mut output)?;
+    let handed = peer.stream().handed.as_slice();
+    told(alloc, status, output.as_slice(), handed)
+}
+
 fn collected(alloc: Global, most: usize) -> Result<String, Fail> {
     let filter = TopicFilter::parse(alloc, "a/#")?;
-    let wish = CollectGoal {
+    let goal = CollectGoal {
         filter: &filter,
         qos: Qos::Q2,
         count: 3,
     };
     let mut peer = peer_of(alloc, most)?;
-    let mut output = Vec::new(alloc);
-    let status = collect(alloc, &mut peer, &wish, true, &mut None, &mut output)?;
-    told(
-        alloc,
-        status,
-        output.as_slice(),
-        peer.stream().handed.as_slice(),
-    )
+    let told = told_to(alloc, &mut peer, &goal);
+    drop(peer);
+    told
 }
 
 fn messages_come_from_a_server(rt: &impl Abort, alloc: Global) -> Result<(), Fail> {

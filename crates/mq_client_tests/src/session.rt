@@ -91,18 +91,37 @@ fn left(alloc: Global, disk: &Disk, side: &RefCell<Side>) -> Result<String, Fail
     Ok(told)
 }
 
-// A run over a file of these hexadecimal digits, and the state after it.
-fn run_over(alloc: Global, file: Option<&str>, texts: &[&str]) -> Result<String, Fail> {
+// A run, and the state after it.
+fn run_and_left(
+    alloc: Global,
+    disk: &Disk,
+    side: &RefCell<Side>,
+    texts: &[&str],
+) -> Result<String, Fail> {
+    let mut told = run(alloc, disk, side, texts)?;
+    let left = left(alloc, disk, side)?;
+    told.push_str(left.as_str())?;
+    Ok(told)
+}
+
+// The same over a file of these hexadecimal digits, which may be locked.
+fn run_over(
+    alloc: Global,
+    file: Option<&str>,
+    is_locked: bool,
+    texts: &[&str],
+) -> Result<String, Fail> {
     let file = match file {
         Some(digits) => Some(bytes_of(alloc, digits)?),
         None => None,
     };
-    let disk = Disk::new(alloc, file);
     let side = RefCell::new(Side::new(alloc)?);
-    let mut told = run(alloc, &disk, &side, texts)?;
-    let left = left(alloc, &disk, &side)?;
-    told.push_str(left.as_str())?;
-    Ok(told)
+    let disk = Disk::new(alloc, file);
+    disk.is_locked.set(is_locked);
+    let told = run_and_left(alloc, &disk, &side, texts);
+    drop(disk);
+    drop(side);
+    told
 }
 
 // A name, the file before, and the texts; and the printed text with the state after the run.
@@ -160,26 +179,36 @@ static GONE_ON: [(&str, Option<&str>, &[&str], &str); 9] = [
 
 fn a_session_goes_on(rt: &impl Abort, alloc: Global) -> Result<(), Fail> {
     for (name, file, texts, wanted) in &GONE_ON {
-        let told = run_over(alloc, *file, *texts);
+        let told = run_over(alloc, *file, false, *texts);
         expect_told(rt, told, *wanted, *name)?;
     }
     Ok(())
 }
 
-// A run in which a write is lost after `cut` of its bytes, and a second run with these texts; and
-// the state after it.
+// A run and a second run with these texts, and the state after it.
+fn run_twice(
+    alloc: Global,
+    disk: &Disk,
+    side: &RefCell<Side>,
+    again: &[&str],
+) -> Result<String, Fail> {
+    let mut told = run(alloc, disk, side, &["x", "y"])?;
+    let second = run_and_left(alloc, disk, side, again)?;
+    told.push_str(second.as_str())?;
+    Ok(told)
+}
+
+// The same. In the first run a write is lost after `cut` of its bytes.
 fn lost_at(alloc: Global, lost_at: u32, cut: usize, again: &[&str]) -> Result<String, Fail> {
-    let disk = Disk::new(alloc, None);
     let mut side = Side::new(alloc)?;
     side.lost_at = lost_at;
     side.cut = cut;
     let side = RefCell::new(side);
-    let mut told = run(alloc, &disk, &side, &["x", "y"])?;
-    let second = run(alloc, &disk, &side, again)?;
-    told.push_str(second.as_str())?;
-    let left = left(alloc, &disk, &side)?;
-    told.push_str(left.as_str())?;
-    Ok(told)
+    let disk = Disk::new(alloc, None);
+    let told = run_twice(alloc, &disk, &side, again);
+    drop(disk);
+    drop(side);
+    told
 }
 
 // The connection is lost at each write in turn: CONNECT and DISCONNECT with a clean session,
@@ -234,20 +263,32 @@ fn writes_of(side: &RefCell<Side>) -> u32 {
     }
 }
 
-// A run on a disk that takes `renames` forms, and a second run on one that takes all; and the
-// number of writes of the first run.
-fn unwritten(alloc: Global, renames: u32, again: &[&str]) -> Result<String, Fail> {
-    let disk = Disk::new(alloc, None);
+// A run on a disk that takes `renames` forms, and the number of its writes; and a second run on a
+// disk that takes all.
+fn run_with_renames(
+    alloc: Global,
+    disk: &Disk,
+    side: &RefCell<Side>,
+    renames: u32,
+    again: &[&str],
+) -> Result<String, Fail> {
     disk.renames.set(renames);
-    let side = RefCell::new(Side::new(alloc)?);
-    let mut told = run(alloc, &disk, &side, &["x", "y"])?;
-    write!(told, "{} ", writes_of(&side))?;
+    let mut told = run(alloc, disk, side, &["x", "y"])?;
+    write!(told, "{} ", writes_of(side))?;
     disk.renames.set(u32::MAX);
-    let second = run(alloc, &disk, &side, again)?;
+    let second = run_and_left(alloc, disk, side, again)?;
     told.push_str(second.as_str())?;
-    let left = left(alloc, &disk, &side)?;
-    told.push_str(left.as_str())?;
     Ok(told)
+}
+
+// The same on a new disk.
+fn unwritten(alloc: Global, renames: u32, again: &[&str]) -> Result<String, Fail> {
+    let side = RefCell::new(Side::new(alloc)?);
+    let disk = Disk::new(alloc, None);
+    let told = run_with_renames(alloc, &disk, &side, renames, again);
+    drop(disk);
+    drop(side);
+    told
 }
 
 // The disk takes no form, one form, and so on: of CONNECT, CONNACK, the PUBLISHes, the PUBRECs and
@@ -289,38 +330,50 @@ fn a_form_is_not_written(rt: &impl Abort, alloc: Global) -> Result<(), Fail> {
 
 // A file that can't be opened is not taken for a missing one: no connection is made, and it stays.
 fn a_file_is_locked(rt: &impl Abort, alloc: Global) -> Result<(), Fail> {
-    let file = bytes_of(alloc, "4d5153020001770100040001000000000000")?;
-    let disk = Disk::new(alloc, Some(file));
-    disk.is_locked.set(true);
-    let side = RefCell::new(Side::new(alloc)?);
-    let mut told = run(alloc, &disk, &side, &["x"])?;
-    let left = left(alloc, &disk, &side)?;
-    told.push_str(left.as_str())?;
+    let file = "4d5153020001770100040001000000000000";
+    let told = run_over(alloc, Some(file), true, &["x"]);
     let wanted = "2file not read|4d5153020001770100040001000000000000 0 ";
-    expect_told(rt, Ok(told), wanted, "locked")
+    expect_told(rt, told, wanted, "locked")
+}
+
+// Runs with one text, over a new session if the other one is forgotten, and the state after each.
+fn run_some(
+    alloc: Global,
+    disk: &Disk,
+    side: &RefCell<Side>,
+    forgets: &[bool],
+) -> Result<String, Fail> {
+    let mut told = String::new(alloc);
+    for is_forgotten in forgets {
+        let run = run_as(alloc, disk, side, &["x"], *is_forgotten)?;
+        told.push_str(run.as_str())?;
+        let left = left(alloc, disk, side)?;
+        writeln!(told, "{left}")?;
+    }
+    Ok(told)
+}
+
+// The same over a file of these hexadecimal digits.
+fn run_some_over(alloc: Global, file: &str, forgets: &[bool]) -> Result<String, Fail> {
+    let file = bytes_of(alloc, file)?;
+    let side = RefCell::new(Side::new(alloc)?);
+    let disk = Disk::new(alloc, Some(file));
+    let told = run_some(alloc, &disk, &side, forgets);
+    drop(disk);
+    drop(side);
+    told
 }
 
 // The server has no session for the client of the file. Each run reports that, and only the first
 // one connects, until the session is forgotten.
 fn a_session_is_lost(rt: &impl Abort, alloc: Global) -> Result<(), Fail> {
-    let file = bytes_of(alloc, "4d5153020001770100040001000000000000")?;
-    let disk = Disk::new(alloc, Some(file));
-    let side = RefCell::new(Side::new(alloc)?);
-    let lost = "1resumed 0|closed C4|4c4f53544d5153020001770100040001000000000000 1 ";
-    let forgotten = "0resumed 0|published 1|4d5153020001770100640001000000000000 3 x";
-    let later = "0resumed 0|published 1|4d5153020001770100640002000000000000 4 xx";
-    for (is_forgotten, wanted) in [
-        (false, lost),
-        (false, lost),
-        (true, forgotten),
-        (false, later),
-    ] {
-        let mut told = run_as(alloc, &disk, &side, &["x"], is_forgotten)?;
-        let left = left(alloc, &disk, &side)?;
-        told.push_str(left.as_str())?;
-        expect_told(rt, Ok(told), wanted, "a lost session")?;
-    }
-    Ok(())
+    let file = "4d5153020001770100040001000000000000";
+    let told = run_some_over(alloc, file, &[false, false, true, false]);
+    let wanted = "1resumed 0|closed C4|4c4f53544d5153020001770100040001000000000000 1 \n\
+        1resumed 0|closed C4|4c4f53544d5153020001770100040001000000000000 1 \n\
+        0resumed 0|published 1|4d5153020001770100640001000000000000 3 x\n\
+        0resumed 0|published 1|4d5153020001770100640002000000000000 4 xx\n";
+    expect_told(rt, told, wanted, "a lost session")
 }
 
 #[test]

@@ -26,8 +26,12 @@ const TURN_LIMIT: u64 = 100;
 const WRITE_LIMIT: u64 = 10_000;
 
 /// The number of bytes of later output that may join the output that is not written yet. With more,
-/// bytes of the peer are not read until all is written.
+/// bytes of the peer are read at most once in `SLOW_READ` until the connection took the output.
 const MOST_LATER: usize = 1_048_576;
+
+/// The minimum time between two reads while there is much later output, in milliseconds. A client
+/// that sends packets in time is heard in time (3.1.2.10).
+const SLOW_READ: u64 = 100;
 
 // The tokens of a connection and of the calls.
 const BYTES: Token = Token(0);
@@ -111,6 +115,8 @@ pub struct PolledStream<'a, R: Wait + Clock> {
     later: BytesMut,
     // When the connection last took bytes.
     progress: Instant,
+    // When bytes of the peer were last read while there was a backlog.
+    heard: Instant,
 }
 
 impl<'a, R: Wait + Clock> PolledStream<'a, R> {
@@ -130,6 +136,7 @@ impl<'a, R: Wait + Clock> PolledStream<'a, R> {
             .poll
             .registry()
             .register(&mut stream, BYTES, interests)?;
+        let now = Instant::now(rt)?;
         Ok(PolledStream {
             rt,
             poll,
@@ -138,7 +145,8 @@ impl<'a, R: Wait + Clock> PolledStream<'a, R> {
             alloc,
             backlog: BytesMut::new(alloc),
             later: BytesMut::new(alloc),
-            progress: Instant::now(rt)?,
+            progress: now,
+            heard: now,
         })
     }
 
@@ -189,6 +197,7 @@ impl<'a, R: Wait + Clock> PolledStream<'a, R> {
             rt: self.rt,
             poll: self.poll,
             reads: true,
+            heard: self.heard,
             progress: self.progress,
         };
         let written = write_front(&mut self.stream, bytes, &mut patience);
@@ -211,6 +220,7 @@ impl<'a, R: Wait + Clock> PolledStream<'a, R> {
             rt: self.rt,
             poll: self.poll,
             reads: self.later.len() <= MOST_LATER,
+            heard: self.heard,
             progress: self.progress,
         };
         let written = write_front(&mut self.stream, self.backlog.as_slice(), &mut patience);
@@ -232,6 +242,9 @@ impl<'a, R: Wait + Clock> PolledStream<'a, R> {
             }
             let outcome = self.read_now(buffer);
             if outcome != ReadOutcome::Nothing || self.backlog.is_empty() {
+                if let Ok(now) = Instant::now(self.rt) {
+                    self.heard = now;
+                }
                 return outcome;
             }
         }
@@ -267,8 +280,10 @@ fn outcome(read: io::Result<usize>) -> ReadOutcome
 struct RoomWait<'a, R: Wait + Clock> {
     rt: &'a R,
     poll: &'a Mutex<WorkerPoll>,
-    // Whether bytes of the peer are a reason to pause.
+    // Whether bytes of the peer are always a reason to pause. If not, they are one when the last
+    // read was long ago.
     reads: bool,
+    heard: Instant,
     progress: Instant,
 }
 
@@ -285,7 +300,7 @@ impl Duplex for TcpStream {
 impl<R: Wait + Clock> RoomWait<'_, R> {
     // The next act after a write that found no room.
     fn after_full(&self, has_input: bool) -> WriteNext {
-        if self.reads && has_input {
+        if has_input && (self.reads || has_elapsed(self.rt, self.heard, SLOW_READ)) {
             return WriteNext::Pause;
         }
         self.poll.lock(self.rt).pause();
