@@ -1,0 +1,4 @@
+mod Escaping
+mod Lines
+mod Lanes
+mod Charts

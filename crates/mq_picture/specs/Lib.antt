@@ -1,0 +1,6 @@
+pub mod Summaries
+pub mod Rows
+pub mod Lanes
+pub mod Texts
+pub mod Image
+pub mod Fault
