@@ -14,6 +14,7 @@ use Rattle.mq_cli.specs.declared.broker.Broker.{Broker}
 use Rattle.mq_cli.specs.declared.jobs.Serve.{Serve}
 use Rattle.mq_cli.specs.declared.jobs.Publish.{Publish}
 use Rattle.mq_cli.specs.declared.jobs.Collect.{Collect}
+use Rattle.mq_cli.specs.declared.jobs.Draw.{Draw}
 
 -- The command of this name was given, with this value for an argument, or none.
 abbrev pub HasWord : Option (Text × List Row) → Text → Text → Option Text → Type 0
@@ -66,7 +67,7 @@ IsJobOf command (Show hex lenient) = IsDigits command hex.now × GivesFlag comma
 IsJobOf command (ShowFrom source lenient) = IsShownFrom command source × GivesFlag command (codes "show") (codes "LENIENT") lenient
 IsJobOf command (Check source lenient) = GivesSource command (codes "check") (codes "FILE") source × GivesFlag command (codes "check") (codes "LENIENT") lenient
 IsJobOf command (Match filter name) = GivesWord command (codes "match") (codes "FILTER") filter.now × GivesWord command (codes "match") (codes "NAME") name.now
-IsJobOf command (Replay source) = GivesSource command (codes "replay") (codes "FILE") source
+IsJobOf command (Replay source) = GivesSource command (codes "replay") (codes "FILE") source × HasWord command (codes "replay") (codes "SVG") None
 IsJobOf command (Random start steps) = GivesNumber command (codes "random") (codes "START") start × GivesNumber command (codes "random") (codes "STEPS") steps
 
 -- the option `--qos` of this command has the number of this quality of service
@@ -130,6 +131,11 @@ pub record IsBroker (command : Option (Text × List Row)) (broker : Broker) : Ty
   pub quiet : GivesFlag command (codes "broker") (codes "QUIET") broker.quiet
   pub verbose : GivesFlag command (codes "broker") (codes "VERBOSE") broker.verbose
 
+-- the words of `replay` with `--svg`
+pub record IsDraw (command : Option (Text × List Row)) (draw : Draw) : Type 0 where
+  pub source : GivesSource command (codes "replay") (codes "FILE") draw.source
+  pub image : GivesWord command (codes "replay") (codes "SVG") draw.image.now
+
 -- the command that was met, and its values, are this one
 abbrev pub IsCommandOf : Option (Text × List Row) → Command → Type 0
 IsCommandOf command (commands.Job job) = IsJobOf command job
@@ -138,6 +144,7 @@ IsCommandOf command (commands.Broker broker) = IsBroker command broker
 IsCommandOf command (commands.Publish publish) = IsPublish command publish
 IsCommandOf command (commands.Collect collect) = IsCollect command collect
 IsCommandOf command (commands.Loopback source) = GivesSource command (codes "loopback") (codes "FILE") source
+IsCommandOf command (commands.Draw draw) = IsDraw command draw
 
 -- The source of the bytes that a job reads.
 abbrev pub job_source : Job → Option Source

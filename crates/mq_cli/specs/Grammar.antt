@@ -34,6 +34,10 @@ file_rule word name = record (new_rule word) { long = Some name }
 abbrev pub show_words : App
 show_words = with_rule (with_rule (with_rule (new_app (codes "show")) (new_rule (codes "HEX"))) (file_rule (codes "FILE") (codes "file"))) lenient_rule
 
+-- `replay FILE [--svg SVG]`
+abbrev pub replay_words : App
+replay_words = with_rule (word_words (codes "replay") (codes "FILE")) (file_rule (codes "SVG") (codes "svg"))
+
 -- an option with a number of this kind, which has to be there
 abbrev pub number_rule : Text → Text → ValueParser → Rule
 number_rule word name kind = record (new_rule word) { long = Some name; parser = Some kind; required = true }
@@ -85,9 +89,9 @@ bare_words = on_top (λ s. record s { has_version = true; subcommand_required = 
 abbrev pub stream_words : App
 stream_words = with_subcommand (with_subcommand bare_words show_words.top) check_words.top
 
--- `match`, `replay FILE`, `random`
+-- `match`, `replay`, `random`
 abbrev pub job_words : App
-job_words = with_subcommand (with_subcommand (with_subcommand stream_words match_words.top) (word_words (codes "replay") (codes "FILE")).top) random_words.top
+job_words = with_subcommand (with_subcommand (with_subcommand stream_words match_words.top) replay_words.top) random_words.top
 
 -- `serve`, `publish`, `collect`
 abbrev pub socket_words : App

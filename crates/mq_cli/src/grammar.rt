@@ -3,7 +3,7 @@
 ghost use Rattle.std.specs.Prelude.{◌≡◌, false, codes, IfOk};
 ghost use Rattle.clap.specs.Words.{App, app_of, new_app, rule_of, with_rule, with_subcommand};
 ghost use Rattle.clap.specs.declared.builder.command.Command.TheViews.{out-Command};
-ghost use Rattle.mq_cli.specs.Grammar.{bare_words, check_words, client_words, collect_words, file_rule, flag_rule, job_words, lenient_rule, match_words, number_rule, port_rule, program_words, publish_words, qos_rule, random_words, serve_words, show_words, socket_words, stream_words, text_rule, texts_rule, word_words};
+ghost use Rattle.mq_cli.specs.Grammar.{bare_words, check_words, client_words, collect_words, file_rule, flag_rule, job_words, lenient_rule, match_words, number_rule, port_rule, program_words, publish_words, qos_rule, random_words, replay_words, serve_words, show_words, socket_words, stream_words, text_rule, texts_rule, word_words};
 
 use crate::broker::broker_command;
 use clap::builder::ValueParser;
@@ -186,10 +186,9 @@ fn match_command<'a>(alloc: Global) -> Result<Command<'a>, AllocError>
     with_arg(command, name)
 }
 
-// `replay FILE`.
+// `replay FILE [--svg SVG]`.
 fn replay_command<'a>(alloc: Global) -> Result<Command<'a>, AllocError>
-    ensures words { IfOk result
-        (λ command. app_of command ≡ word_words (codes "replay") (codes "FILE")) }
+    ensures words { IfOk result (λ command. app_of command ≡ replay_words) }
     ensures local { IfOk result (λ command. (out-Command command).has_globals ≡ false) }
 {
     let texts = Texts {
@@ -198,7 +197,9 @@ fn replay_command<'a>(alloc: Global) -> Result<Command<'a>, AllocError>
         example: "Example: mqtt replay schedule.txt",
     };
     let file = "The schedule; `-` is standard input";
-    word_command(alloc, texts, "FILE", file)
+    let command = word_command(alloc, texts, "FILE", file)?;
+    let image = "Draws the replay to this file, in SVG; a complete picture replaces the file";
+    with_arg(command, file_option(alloc, "SVG", "svg", image))
 }
 
 // A required number.

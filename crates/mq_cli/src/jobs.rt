@@ -30,6 +30,17 @@ pub enum Command<'a> {
     Collect(Collect<'a>),
     /// To run the broker and the clients of a loopback file.
     Loopback(Source<'a>),
+    /// To replay a schedule and draw it.
+    Draw(Draw<'a>),
+}
+
+/// A schedule to replay and draw.
+#[derive(Clone, Copy, Debug, PartialEq, Eq)]
+pub struct Draw<'a> {
+    /// The schedule.
+    pub source: Source<'a>,
+    /// The file for the image.
+    pub image: &'a str,
 }
 
 /// A broker on this machine.

@@ -22,7 +22,7 @@ pub use crate::broker::Broker;
 pub use crate::count::{CountEnd, CountFault, PacketCount, count_packets};
 pub use crate::failure::{Failure, exit_status};
 pub use crate::input::{Fallible, JobInput};
-pub use crate::jobs::{Collect, Command, Job, Publish, Serve, Source};
+pub use crate::jobs::{Collect, Command, Draw, Job, Publish, Serve, Source};
 pub use crate::output::{perform, perform_file, perform_opened};
 pub use crate::show::{ShowFault, shown};
 pub use crate::stream::{Shown, StreamEnd};

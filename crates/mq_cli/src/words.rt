@@ -2,13 +2,13 @@
 
 ghost use Rattle.std.specs.Prelude.{◌≡◌, ◌≤◌, ◌≢◌, [], None, codes, map, option_map, IfOk, IfSome};
 ghost use Rattle.clap.specs.Words.{subcommand_of, subcommand_rows_of};
-ghost use Rattle.mq_cli.specs.CommandLine.{GivesFlag, GivesId, GivesNumber, GivesQos, GivesSource, GivesTexts, GivesWord, HasWord, IsCollect, IsCommandOf, IsDigitsJob, IsJobOf, IsPublish, IsServe, IsSource};
+ghost use Rattle.mq_cli.specs.CommandLine.{GivesFlag, GivesId, GivesNumber, GivesQos, GivesSource, GivesTexts, GivesWord, HasWord, IsCollect, IsCommandOf, IsDigitsJob, IsDraw, IsJobOf, IsPublish, IsServe, IsSource};
 ghost use Rattle.mq_cli.specs.Grammar.{program_words};
 
 use crate::advice::advised;
 use crate::broker::broker_of;
 use crate::grammar::{command_line, shown_command};
-use crate::jobs::{Collect, Command, Job, Publish, Serve, Source};
+use crate::jobs::{Collect, Command, Draw, Job, Publish, Serve, Source};
 use clap::error::ErrorKind;
 use clap::{ArgMatches, Error as ParseError};
 use mq_topic::Qos;
@@ -204,7 +204,20 @@ fn replay_job<'a>(matches: &ArgMatches<'a>) -> Option<Job<'a>>
     ensures { IfSome result (IsJobOf (subcommand_rows_of matches.now)) }
 {
     let source = source_of(matches, "replay", "FILE")?;
-    Some(Job::Replay { source })
+    let image = given_of(matches, "replay", "SVG")?;
+    match image {
+        None => Some(Job::Replay { source }),
+        Some(_) => None,
+    }
+}
+
+fn draw_of<'a>(matches: &ArgMatches<'a>) -> Option<Draw<'a>>
+    ensures { IfSome result (IsDraw (subcommand_rows_of matches.now)) }
+{
+    Some(Draw {
+        source: source_of(matches, "replay", "FILE")?,
+        image: word_of(matches, "replay", "SVG")?,
+    })
 }
 
 fn random_job<'a>(matches: &ArgMatches<'a>) -> Option<Job<'a>>
@@ -337,6 +350,9 @@ fn command_of<'a>(
     }
     if let Some(source) = loopback_of(matches) {
         return Ok(Some(Command::Loopback(source)));
+    }
+    if let Some(draw) = draw_of(matches) {
+        return Ok(Some(Command::Draw(draw)));
     }
     match publish_of(alloc, matches)? {
         Some(publish) => Ok(Some(Command::Publish(publish))),
