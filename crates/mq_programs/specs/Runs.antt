@@ -71,3 +71,4 @@ IsClientRun (commands.Broker broker) status text = ⊥
 IsClientRun (commands.Publish publish) status text = IsPublishRun publish status text
 IsClientRun (commands.Collect collect) status text = IsCollectRun collect status text
 IsClientRun (commands.Loopback source) status text = ⊥
+IsClientRun (commands.Draw draw) status text = ⊥

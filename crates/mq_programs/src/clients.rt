@@ -331,8 +331,10 @@ pub fn run_client<R: Net + Clock + Files<File = File>, E: Write, W: Write>(
     match command {
         Command::Publish(words) => run_publish(rt, alloc, words, errors, output),
         Command::Collect(words) => run_collect(rt, alloc, words, errors, output),
-        Command::Job(_) | Command::Serve(_) | Command::Broker(_) | Command::Loopback(_) => {
-            Err(Failure::Words)
-        }
+        Command::Job(_)
+        | Command::Serve(_)
+        | Command::Broker(_)
+        | Command::Loopback(_)
+        | Command::Draw(_) => Err(Failure::Words),
     }
 }

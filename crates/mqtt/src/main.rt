@@ -2,9 +2,10 @@
 #![tactic(auto)]
 
 use mq_cli::{
-    Command, Failure, Fallible, Job, Source, WordsFault, exit_status, job, perform, perform_file,
+    Command, Draw, Failure, Fallible, Job, Source, WordsFault, exit_status, job, perform,
+    perform_file,
 };
-use mq_programs::{run_broker_command, run_client, run_loopback, run_serve};
+use mq_programs::{run_broker_command, run_client, run_draw, run_loopback, run_serve};
 use std::fs::File;
 use std::io::{BufReader, BufWriter, Input, Write};
 use std::net::{Net, TcpListener, TcpStream};
@@ -56,6 +57,15 @@ where
     Ok(status)
 }
 
+/// Replays and draws a schedule, and prints to the standard output through a buffer.
+fn run_drawn(rt: &HostRuntime, draw: Draw<'_>) -> Result<u8, Failure> {
+    let alloc = rt.alloc();
+    let mut output = BufWriter::new(alloc, io::writer(rt))?;
+    let status = run_draw(rt, alloc, draw, &mut rt.reader(), &mut output)?;
+    output.flush()?;
+    Ok(status)
+}
+
 /// Runs the given command and returns the exit status.
 fn run<R>(rt: &HostRuntime, host: &R) -> Result<u8, Failure>
 where
@@ -78,6 +88,7 @@ where
             run_broker_command(host, alloc, &words, &mut io::writer(rt), rt.stderr())
         }
         Ok(Command::Loopback(source)) => run_looped(rt, host, source),
+        Ok(Command::Draw(draw)) => run_drawn(rt, draw),
         Ok(client) => run_buffered(rt, &client),
         Err(WordsFault::Words(error)) => {
             error.print(rt)?;
