@@ -97,22 +97,41 @@ fn took(pipes: &RefCell<Vec<Pipe>>, number: usize, bytes: &[u8]) -> bool {
     }
 }
 
-// Whether a subscriber gets its messages whatever its socket does.
-fn gets_all(alloc: Global, piece: usize, hitch: Option<ErrorKind>) -> Result<bool, Fail> {
+// Opens two readers, makes rounds, opens a writer, and makes further rounds.
+fn run_three<'a>(
+    alloc: Global,
+    connections: &mut Loop<'a>,
+    pipes: &'a RefCell<Vec<Pipe>>,
+    before: u64,
+    after: u64,
+) -> Result<(), Fail> {
+    let _ = open(connections, pipes, 0)?;
+    let _ = open(connections, pipes, 1)?;
+    run(alloc, connections, 2, before)?;
+    let _ = open(connections, pipes, 2)?;
+    run(alloc, connections, 3, after)
+}
+
+// Three sockets: a reader whose socket takes and gives pieces of this size, another reader, and a
+// writer of three messages.
+fn readers(alloc: Global, piece: usize, hitch: Option<ErrorKind>) -> Result<[Pipe; 3], Fail> {
     let mut reader = subscriber(alloc, 1, b't')?;
     reader.piece = piece;
     reader.hitch = hitch;
     let mut other = subscriber(alloc, 2, b't')?;
     other.piece = 7;
-    let pipes = cell_of(alloc, [reader, other, publisher(alloc, 40, 3)?])?;
-    let mut connections = new_loop(alloc, 1_000_000)?;
-    let _ = open(&mut connections, &pipes, 0)?;
-    let _ = open(&mut connections, &pipes, 1)?;
-    let rounds = if piece < 8 { 320 } else { 40 };
-    run(alloc, &mut connections, 2, rounds)?;
-    let _ = open(&mut connections, &pipes, 2)?;
-    run(alloc, &mut connections, 3, rounds)?;
+    Ok([reader, other, publisher(alloc, 40, 3)?])
+}
+
+// Whether a subscriber gets its messages whatever its socket does.
+fn gets_all(alloc: Global, piece: usize, hitch: Option<ErrorKind>) -> Result<bool, Fail> {
     let bytes = expected(alloc, 40, 3)?;
+    let pipes = cell_of(alloc, readers(alloc, piece, hitch)?)?;
+    let mut connections = new_loop(alloc, 1_000_000)?;
+    let rounds = if piece < 8 { 320 } else { 40 };
+    let ran = run_three(alloc, &mut connections, &pipes, rounds, rounds);
+    drop(connections);
+    ran?;
     Ok(took(&pipes, 0, bytes.as_slice()) && took(&pipes, 1, bytes.as_slice()))
 }
 
@@ -131,22 +150,26 @@ fn writes_of_each_length_lose_nothing(rt: HostRuntime) -> Result<(), Fail> {
     Ok(())
 }
 
-// Whether the others get all messages if one socket fails after this number of bytes.
-fn survives(alloc: Global, most: usize) -> Result<bool, Fail> {
+// Three sockets: a reader whose socket fails after this number of bytes, another reader, and a
+// writer of two messages.
+fn one_broken(alloc: Global, most: usize) -> Result<[Pipe; 3], Fail> {
     let mut broken = subscriber(alloc, 1, b't')?;
     broken.most = most;
     broken.piece = 5;
     let other = subscriber(alloc, 2, b't')?;
-    let pipes = cell_of(alloc, [broken, other, publisher(alloc, 40, 2)?])?;
-    let mut connections = new_loop(alloc, 1_000_000)?;
-    let _ = open(&mut connections, &pipes, 0)?;
-    let _ = open(&mut connections, &pipes, 1)?;
-    run(alloc, &mut connections, 2, 10)?;
-    let _ = open(&mut connections, &pipes, 2)?;
-    run(alloc, &mut connections, 3, 20)?;
+    Ok([broken, other, publisher(alloc, 40, 2)?])
+}
+
+// Whether the others get all messages if one socket fails after this number of bytes.
+fn survives(alloc: Global, most: usize) -> Result<bool, Fail> {
     let bytes = expected(alloc, 40, 2)?;
-    let is_served = took(&pipes, 1, bytes.as_slice());
-    Ok(is_served && connections.len() == 2)
+    let pipes = cell_of(alloc, one_broken(alloc, most)?)?;
+    let mut connections = new_loop(alloc, 1_000_000)?;
+    let ran = run_three(alloc, &mut connections, &pipes, 10, 20);
+    let count = connections.len();
+    drop(connections);
+    ran?;
+    Ok(took(&pipes, 1, bytes.as_slice()) && count == 2)
 }
 
 #[test]
@@ -158,29 +181,52 @@ fn a_socket_that_fails_in_a_write_ends_alone(rt: HostRuntime) -> Result<(), Fail
     Ok(())
 }
 
-// Whether each of these clients gets all messages of one piece, for which one step is not enough.
-fn serves_many(alloc: Global, count: u16, messages: u32) -> Result<bool, Fail> {
+// Sockets of this number of readers, and of a writer.
+fn many(alloc: Global, count: u16, messages: u32) -> Result<Vec<Pipe>, Fail> {
     let mut list = Vec::new(alloc);
     for client in 0..count {
         list.push(subscriber(alloc, client, b't')?)?;
     }
     list.push(publisher(alloc, 10, messages)?)?;
-    let pipes = RefCell::new(list);
-    let mut connections = new_loop(alloc, 1_000_000)?;
+    Ok(list)
+}
+
+// Opens this number of readers, makes rounds, opens a writer, and makes further rounds.
+fn run_many<'a>(
+    alloc: Global,
+    connections: &mut Loop<'a>,
+    pipes: &'a RefCell<Vec<Pipe>>,
+    count: u16,
+) -> Result<(), Fail> {
     let places = u32::from(count);
     for number in 0..usize::from(count) {
-        let _ = open(&mut connections, &pipes, number)?;
+        let _ = open(connections, pipes, number)?;
     }
-    run(alloc, &mut connections, places, 2)?;
-    let _ = open(&mut connections, &pipes, usize::from(count))?;
-    run(alloc, &mut connections, places + 1, 8)?;
-    let bytes = expected(alloc, 10, messages)?;
+    run(alloc, connections, places, 2)?;
+    let _ = open(connections, pipes, usize::from(count))?;
+    run(alloc, connections, places + 1, 8)
+}
+
+// Whether the first sockets all took these bytes.
+fn all_took(pipes: &RefCell<Vec<Pipe>>, count: u16, bytes: &[u8]) -> bool {
     for number in 0..usize::from(count) {
-        if !took(&pipes, number, bytes.as_slice()) {
-            return Ok(false);
+        if !took(pipes, number, bytes) {
+            return false;
         }
     }
-    Ok(connections.len() == usize::from(count) + 1)
+    true
+}
+
+// Whether each of these clients gets all messages of one piece, for which one step is not enough.
+fn serves_many(alloc: Global, count: u16, messages: u32) -> Result<bool, Fail> {
+    let bytes = expected(alloc, 10, messages)?;
+    let pipes = RefCell::new(many(alloc, count, messages)?);
+    let mut connections = new_loop(alloc, 1_000_000)?;
+    let ran = run_many(alloc, &mut connections, &pipes, count);
+    let open = connections.len();
+    drop(connections);
+    ran?;
+    Ok(all_took(&pipes, count, bytes.as_slice()) && open == usize::from(count) + 1)
 }
 
 #[test]
@@ -203,25 +249,29 @@ fn counts(connections: &mut Loop<'_>) -> (u32, u32) {
     (slow, ended)
 }
 
-// The slow and ended connections if one takes nothing and is owed more than 1,000 bytes.
-fn slow_counts(alloc: Global, count: u32) -> Result<(u32, u32), Fail> {
+// Three sockets: a reader that takes nothing, another reader, and a writer.
+fn one_full(alloc: Global, count: u32) -> Result<[Pipe; 3], Fail> {
     let mut slow = subscriber(alloc, 1, b't')?;
     slow.is_full = true;
     let other = subscriber(alloc, 2, b't')?;
     let mut writer = publisher(alloc, 84, count)?;
     writer.piece = 200;
-    let pipes = cell_of(alloc, [slow, other, writer])?;
-    let mut connections = new_loop(alloc, 1_000)?;
-    let _ = open(&mut connections, &pipes, 0)?;
-    let _ = open(&mut connections, &pipes, 1)?;
-    run(alloc, &mut connections, 2, 4)?;
-    let _ = open(&mut connections, &pipes, 2)?;
-    run(alloc, &mut connections, 3, 10)?;
+    Ok([slow, other, writer])
+}
+
+// The slow and ended connections if one takes nothing and is owed more than 1,000 bytes.
+fn slow_counts(alloc: Global, count: u32) -> Result<(u32, u32), Fail> {
     let bytes = expected(alloc, 84, count)?;
+    let pipes = cell_of(alloc, one_full(alloc, count)?)?;
+    let mut connections = new_loop(alloc, 1_000)?;
+    let ran = run_three(alloc, &mut connections, &pipes, 4, 10);
+    let counted = counts(&mut connections);
+    drop(connections);
+    ran?;
     if !took(&pipes, 1, bytes.as_slice()) {
         return Err(Fail::from("the other reader was not served"));
     }
-    Ok(counts(&mut connections))
+    Ok(counted)
 }
 
 #[test]
@@ -234,9 +284,9 @@ fn a_reader_that_takes_nothing_is_ended(rt: HostRuntime) -> Result<(), Fail> {
     Ok(())
 }
 
-// Whether a client that leaves and connects again at once, on a socket that is ready first, has no
-// will.
-fn leaves_first(alloc: Global, count: u32) -> Result<bool, Fail> {
+// Three sockets: a reader of wills; a client that publishes this number of messages and leaves; and
+// the same client again.
+fn leaving(alloc: Global, count: u32) -> Result<[Pipe; 3], Fail> {
     let mut input = connect(alloc, 1, true)?;
     let message = publish(alloc, 100)?;
     for _ in 0..count {
@@ -246,19 +296,37 @@ fn leaves_first(alloc: Global, count: u32) -> Result<bool, Fail> {
     let mut old = Pipe::new(alloc, input);
     old.is_ended = true;
     let new = Pipe::new(alloc, connect(alloc, 1, true)?);
-    let pipes = cell_of(alloc, [subscriber(alloc, 2, b'w')?, old, new])?;
-    let mut connections = new_loop(alloc, 1_000_000)?;
+    Ok([subscriber(alloc, 2, b'w')?, old, new])
+}
+
+// Makes rounds in which the newest connection is ready first.
+fn run_newest_first<'a>(
+    alloc: Global,
+    connections: &mut Loop<'a>,
+    pipes: &'a RefCell<Vec<Pipe>>,
+) -> Result<(), Fail> {
     let mut buffer = vec![in alloc; 0u8; 65_536]?;
-    let _ = open(&mut connections, &pipes, 0)?;
-    let old = open(&mut connections, &pipes, 1)?;
-    let new = open(&mut connections, &pipes, 2)?;
+    let _ = open(connections, pipes, 0)?;
+    let old = open(connections, pipes, 1)?;
+    let new = open(connections, pipes, 2)?;
     for nth in 0..40 {
         connections.notice(new, false);
         connections.notice(old, true);
         connections.notice(0, false);
         connections.round(nth * 10, buffer.as_mut_slice());
     }
+    Ok(())
+}
+
+// Whether a client that leaves and connects again at once, on a socket that is ready first, has no
+// will.
+fn leaves_first(alloc: Global, count: u32) -> Result<bool, Fail> {
     let bytes = [CONNACK.as_slice(), SUBACK.as_slice()].concat(alloc)?;
+    let pipes = cell_of(alloc, leaving(alloc, count)?)?;
+    let mut connections = new_loop(alloc, 1_000_000)?;
+    let ran = run_newest_first(alloc, &mut connections, &pipes);
+    drop(connections);
+    ran?;
     Ok(took(&pipes, 0, bytes.as_slice()) && took(&pipes, 2, &CONNACK))
 }
 

@@ -1,6 +1,7 @@
 //! Sockets that a test scripts.
 
 ghost use Rattle.std.specs.Prelude.{◌≤◌, length};
+ghost use Rattle.std.specs.Io.{ReadsAtMost, WritesAtMost};
 
 use std::alloc::{AllocError, Global};
 use std::cell::RefCell;
@@ -56,7 +57,9 @@ impl Pipe {
         }
     }
 
-    fn give(&mut self, room: &mut [u8]) -> io::Result<usize> {
+    fn give(&mut self, room: &mut [u8]) -> io::Result<usize>
+        ensures { ReadsAtMost result room.new }
+    {
         if let Some(kind) = self.hitch() {
             return Err(io::Error::from(kind));
         }
@@ -73,7 +76,9 @@ impl Pipe {
         Ok(count)
     }
 
-    fn take(&mut self, bytes: &[u8]) -> io::Result<usize> {
+    fn take(&mut self, bytes: &[u8]) -> io::Result<usize>
+        ensures { WritesAtMost result bytes.now }
+    {
         if let Some(kind) = self.hitch() {
             return Err(io::Error::from(kind));
         }
