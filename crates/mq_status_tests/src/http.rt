@@ -11,7 +11,7 @@ const ROWS: [(&str, &str); 10] = [
     ("GET / HTTP/1.1\r\nHost: a\r\n", "pending"),
     (
         "HEAD / HTTP/1.1\r\nHost: a\r\n\r\n",
-        "HTTP/1.1 200 OK\r\nContent-Type: text/html; charset=utf-8\r\nContent-Length: 2523\r\n\
+        "HTTP/1.1 200 OK\r\nContent-Type: text/html; charset=utf-8\r\nContent-Length: 2542\r\n\
          Cache-Control: no-store\r\nConnection: close\r\n\r\n",
     ),
     (
