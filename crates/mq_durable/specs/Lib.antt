@@ -1,0 +1,6 @@
+pub mod Calls
+pub mod Memory
+pub mod Recorded
+pub mod Recovering
+pub mod Replaying
+pub mod State

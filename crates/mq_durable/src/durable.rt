@@ -1,0 +1,333 @@
+//! A broker with a journal of its events.
+
+ghost use Rattle.std.specs.Prelude.{◌≡◌, ◌≢◌, ◌+◌, ◌<◌, ◌≤◌, ◌^◌, ◌↔◌, [], ◌∷◌, ◌++◌, true, false, length, take, IfOk, IfErr, OnOk, OnErr};
+ghost use Rattle.mq_log.specs.Blocks.{at_rest};
+ghost use Rattle.mq_log.specs.Disk.{LeavesOnly};
+ghost use Rattle.mq_log.specs.Journal.{IsSettled};
+ghost use Rattle.mq_record.specs.Encoding.{event_bytes, is_recorded};
+ghost use Rattle.mq_route.specs.declared.event.HubEvent.TheVariants.{Collect};
+ghost use Rattle.mq_route.specs.Step.{HubStep};
+ghost use Rattle.mq_durable.specs.declared.condition.Condition.TheVariants.{Sound, Broken};
+ghost use Rattle.mq_durable.specs.Calls.{Collected, Committed, MakesCall, Stepped};
+ghost use Rattle.mq_durable.specs.Recorded.{HoldsAllOrNone, events_of};
+ghost use Rattle.mq_durable.specs.State.{FollowsJournal, IsCommitRefused, IsNotNoted, IsNotStepped, IsStepRefused, after_failure, after_step};
+
+use crate::condition::Condition;
+use crate::fault::{CommitError, StepRefusal};
+use crate::report::reports_memory;
+use mq_hub::Hub;
+use mq_log::{Disk, Journal, journal_laws};
+use mq_record::{encode_event, record_laws};
+use mq_route::{Conn, HubEvent, HubRefusal, HubReply};
+use std::alloc::Global;
+use std::marker::Model;
+use std::snapshot::Snapshot;
+
+/// A broker with a journal of its events.
+///
+/// Contracts see the broker before the first event of the journal's file as `base`. The broker
+/// follows from it by the events of the file, and then the pending ones.
+#[derive(Drop)]
+pub struct Durable<D: Disk> {
+    alloc: Global,
+    base: Snapshot<Hub>,
+    hub: Hub,
+    journal: Journal<D>,
+    // The encodings of the pending events.
+    entry: Vec<u8>,
+    condition: Condition,
+}
+
+impl<D: Disk> Model for Durable<D> {
+    ghost use Rattle.std.specs.Coded.{codes, coded_ℕ};
+    ghost use Rattle.std.specs.FinSet as set;
+    ghost use Rattle.std.specs.Ordering.{nat_cmp};
+    ghost use Rattle.mq_durable.specs.Recorded.{events_in};
+    ghost use Rattle.mq_durable.specs.State.{DurableState, IsDurable};
+
+    ghost Value = { DurableState D };
+
+    ghost coded = { Prim.hlevel (codes, set.code {R = nat_cmp} coded_ℕ, D.code) };
+
+    ghost view = { λ d. record {
+      base = d.base.value;
+      hub = d.hub;
+      pending = events_in d.entry.items;
+      disk = d.journal.disk;
+      condition = d.condition;
+    } };
+
+    ghost invariant = { λ d. IsDurable D.Disk.seen D.Disk.may_leave d.base.value d.hub d.journal
+        d.entry.items d.condition };
+}
+
+// The entry of a journal is shorter.
+const MOST_BYTES: usize = 1 << 32;
+
+// The length of the encoding of an event.
+fn encoded_len(event: &HubEvent) -> usize
+    ensures { result ≡ length (event_bytes event.now) }
+{
+    match event {
+        HubEvent::Opened(_) | HubEvent::Ended(_) => 7,
+        HubEvent::Bytes(_, piece) => 11 + piece.as_slice().len(),
+        HubEvent::Tick(_) => 9,
+        HubEvent::Collect(_) => 0,
+    }
+}
+
+// Encodes an event behind the others.
+fn note(event: &HubEvent, entry: &mut Vec<u8>) -> Result<(), StepRefusal>
+    requires recorded { is_recorded event.now ≡ true }
+    requires short { length entry.old.items < 2 ^ 32 }
+    ensures noted { OnOk result (entry.new.items ≡ entry.old.items ++ event_bytes event.now) }
+    ensures short { OnOk result (length entry.new.items < 2 ^ 32) }
+    ensures err { OnErr result (entry.new.items ≡ entry.old.items) }
+    ensures refused { IfErr result (IsNotNoted entry.old.items event.now) }
+{
+    if encoded_len(event) >= MOST_BYTES - entry.len() {
+        return Err(StepRefusal::EntryFull);
+    }
+    if encode_event(event, entry).is_err() {
+        return Err(StepRefusal::Hub(HubRefusal::Memory));
+    }
+    Ok(())
+}
+
+// Drops the bytes behind the first ones.
+fn forget(entry: &mut Vec<u8>, before: usize)
+    ensures { entry.new.items ≡ take before entry.old.items }
+{
+    entry.truncate(before);
+}
+
+// Steps the broker, and keeps the encoding of the event if the step is made.
+fn step_noted(hub: &mut Hub, entry: &mut Vec<u8>, event: &HubEvent) -> Result<HubReply, StepRefusal>
+    requires recorded { is_recorded event.now ≡ true }
+    requires short { length entry.old.items < 2 ^ 32 }
+    ensures step { IfOk result (λ reply. HubStep hub.old event.now reply hub.new) }
+    ensures noted { OnOk result (entry.new.items ≡ entry.old.items ++ event_bytes event.now) }
+    ensures short { OnOk result (length entry.new.items < 2 ^ 32) }
+    ensures hub { OnErr result (hub.new ≡ hub.old) }
+    ensures entry { OnErr result (entry.new.items ≡ entry.old.items) }
+    ensures refused { IfErr result (IsNotStepped entry.old.items hub.old event.now) }
+{
+    let before = entry.len();
+    note(event, entry)?;
+    match hub.step(event) {
+        Ok(reply) => Ok(reply),
+        Err(why) => {
+            forget(entry, before);
+            Err(StepRefusal::Hub(why))
+        }
+    }
+}
+
+// Takes the pending output of a connection.
+fn collect_from(hub: &mut Hub, conn: Conn) -> Result<HubReply, StepRefusal>
+    ensures step { IfOk result (λ reply. HubStep hub.old (Collect conn) reply hub.new) }
+    ensures err { OnErr result (hub.new ≡ hub.old) }
+    ensures refused { IfErr result (IsNotStepped [] hub.old (Collect conn)) }
+{
+    match hub.step(&HubEvent::Collect(conn)) {
+        Ok(reply) => Ok(reply),
+        Err(why) => Err(StepRefusal::Hub(why)),
+    }
+}
+
+fn is_broken(condition: Condition) -> bool
+    ensures yes { result ≡ true → condition ≡ Broken }
+    ensures no { result ≡ false → condition ≢ Broken }
+{
+    match condition {
+        Condition::Broken => true,
+        Condition::Sound | Condition::OutOfMemory => false,
+    }
+}
+
+// The condition after a step.
+fn condition_after(stepped: &Result<HubReply, StepRefusal>, condition: Condition) -> Condition
+    ensures { result ≡ after_step stepped.now condition }
+{
+    match condition {
+        Condition::Sound => match stepped {
+            Ok(reply) => {
+                if reports_memory(reply) {
+                    Condition::OutOfMemory
+                } else {
+                    Condition::Sound
+                }
+            }
+            Err(StepRefusal::Hub(HubRefusal::Memory)) => Condition::OutOfMemory,
+            Err(
+                StepRefusal::Hub(HubRefusal::UnknownConn | HubRefusal::ConnInUse)
+                | StepRefusal::EntryFull
+                | StepRefusal::Broken,
+            ) => Condition::Sound,
+        },
+        Condition::OutOfMemory => Condition::OutOfMemory,
+        Condition::Broken => Condition::Broken,
+    }
+}
+
+impl<D: Disk> Durable<D> {
+    /// A broker whose events are recorded in a journal that has no entry.
+    ///
+    /// The journal records the events after this call. See [`Recovery`](crate::Recovery) for the
+    /// ones before.
+    pub fn new(alloc: Global, hub: Hub, journal: Journal<D>) -> Durable<D>
+        requires settled { IsSettled D.seen D.may_leave journal }
+        requires begun { D.seen journal.disk ≡ at_rest [] }
+        ensures { result ≡ record {
+          base = hub;
+          hub = hub;
+          pending = [];
+          disk = journal.disk;
+          condition = Sound;
+        } }
+    {
+        record_laws();
+        Durable {
+            alloc,
+            base: Snapshot::of(&hub),
+            hub,
+            journal,
+            entry: Vec::new(alloc),
+            condition: Condition::Sound,
+        }
+    }
+
+    /// The broker.
+    pub fn hub(&self) -> &Hub
+        ensures hub { result.now ≡ self.now.hub }
+        ensures follows { self.now.condition ≢ Broken → FollowsJournal D.seen self.now }
+    {
+        &self.hub
+    }
+
+    /// The file of the journal.
+    pub fn disk(&self) -> &D
+        ensures { result.now ≡ self.now.disk }
+    {
+        &self.journal.disk
+    }
+
+    /// Whether the broker may go on. If the result is not `Sound`, the next [`commit`] fails, and
+    /// the process must end.
+    ///
+    /// [`commit`]: Durable::commit
+    pub fn condition(&self) -> Condition
+        ensures { result ≡ self.now.condition }
+    {
+        self.condition
+    }
+
+    /// Whether an event is pending: its step was made, and it is not committed.
+    pub fn has_pending(&self) -> bool
+        ensures { (result ≡ false) ↔ (self.now.pending ≡ []) }
+    {
+        record_laws();
+        !self.entry.is_empty()
+    }
+
+    /// Makes the broker's step for an event, which is then pending. The event must be one that is
+    /// recorded: use [`collect`](Durable::collect) for `Collect`.
+    ///
+    /// If a reply or the result reports that an allocation failed, the condition becomes
+    /// `OutOfMemory`. Otherwise an `Err` changes nothing. Errors:
+    ///
+    /// - `Hub` if the broker refuses the event, or if an allocation fails.
+    /// - `EntryFull` if the pending events would have 2^32 bytes or more.
+    /// - `Broken` if a commit failed before.
+    pub fn step(&mut self, event: &HubEvent) -> Result<HubReply, StepRefusal>
+        requires recorded { is_recorded event.now ≡ true }
+        ensures step { IfOk result (λ reply. HubStep self.old.hub event.now reply self.new.hub) }
+        ensures ok { OnOk result (self.new ≡ record self.old {
+          hub = self.new.hub;
+          pending = self.old.pending ++ event.now ∷ [];
+          condition = after_step result self.old.condition;
+        }) }
+        ensures err { OnErr result (self.new
+            ≡ record self.old { condition = after_step result self.old.condition }) }
+        ensures refused { IfErr result (IsStepRefused self.old event.now) }
+        ensures call { OnOk result (MakesCall D.seen (Stepped event.now) self.old self.new) }
+    {
+        record_laws();
+        if is_broken(self.condition) {
+            return Err(StepRefusal::Broken);
+        }
+        let stepped = step_noted(&mut self.hub, &mut self.entry, event);
+        self.condition = condition_after(&stepped, self.condition);
+        stepped
+    }
+
+    /// Takes the pending output of a connection. No event must be pending, so that the journal has
+    /// each event of which the output is a result.
+    ///
+    /// Errors, on which nothing changes:
+    ///
+    /// - `Hub` if the broker refuses, or if an allocation fails.
+    /// - `Broken` if a commit failed before.
+    pub fn collect(&mut self, conn: Conn) -> Result<HubReply, StepRefusal>
+        requires committed { self.old.pending ≡ [] }
+        ensures step { IfOk result (λ reply. HubStep self.old.hub (Collect conn) reply self.new.hub) }
+        ensures ok { OnOk result (self.new ≡ record self.old { hub = self.new.hub }) }
+        ensures err { OnErr result (self.new ≡ self.old) }
+        ensures refused { IfErr result (IsStepRefused self.old (Collect conn)) }
+        ensures call { OnOk result (MakesCall D.seen (Collected conn) self.old self.new) }
+    {
+        if is_broken(self.condition) {
+            return Err(StepRefusal::Broken);
+        }
+        collect_from(&mut self.hub, conn)
+    }
+
+    /// Appends the pending events to the journal as one entry. On `Ok` they are durable, and their
+    /// output may be given out. Does nothing if no event is pending.
+    ///
+    /// Errors, after which the process must end:
+    ///
+    /// - `OutOfMemory` if a step reported that an allocation failed. The file is unchanged.
+    /// - `Broken` if a commit failed before. The file is unchanged.
+    /// - `Disk` if the journal fails now. The file may have the pending events or not, and every
+    ///   later call is refused.
+    pub fn commit(&mut self) -> Result<(), CommitError>
+        ensures ok { OnOk result (self.new
+            ≡ record self.old { pending = []; disk = self.new.disk }) }
+        ensures recorded { OnOk result (events_of (D.seen self.new.disk)
+            ≡ events_of (D.seen self.old.disk) ++ self.old.pending) }
+        ensures sound { OnOk result (self.old.condition ≡ Sound) }
+        ensures call { OnOk result (MakesCall D.seen Committed self.old self.new) }
+        ensures err { IfErr result (λ why. self.new ≡ record self.old {
+          disk = self.new.disk;
+          condition = after_failure why self.old.condition;
+        }) }
+        ensures refused { IfErr result (IsCommitRefused self.old self.new) }
+
+        // A crash at any time of the call leaves the events from before it, with the pending ones
+        // or without.
+        ensures at_any_time { self.old.condition ≢ Broken
+            → LeavesOnly D.clock D.left_since self.old.disk self.new.disk
+            (HoldsAllOrNone (events_of (D.seen self.old.disk)) self.old.pending) }
+    {
+        journal_laws();
+        match self.condition {
+            Condition::Sound => {}
+            Condition::OutOfMemory => return Err(CommitError::OutOfMemory),
+            Condition::Broken => return Err(CommitError::Broken),
+        }
+        if self.entry.is_empty() {
+            return Ok(());
+        }
+        match self.journal.put(self.alloc, self.entry.as_slice()) {
+            Ok(()) => {
+                self.entry.clear();
+                Ok(())
+            }
+            Err(error) => {
+                self.condition = Condition::Broken;
+                Err(CommitError::Disk(error))
+            }
+        }
+    }
+}
