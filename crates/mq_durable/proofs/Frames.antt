@@ -34,7 +34,7 @@ use Rattle.mq_route.specs.declared.connection_state.ConnectionState.TheVariants.
 use Rattle.mq_route.specs.Copies.{will_message, kept}
 use Rattle.mq_route.specs.Hub.{HubState, HubConnection, changed, is_connection, with_connection, without_connection, stage_of, is_open, key_on, held_on, up_on, key_of, end_of, with_end, copies_of}
 use Rattle.mq_route.specs.Welcome.{client_of, ends_with, refusal}
-use Rattle.mq_route.specs.Work.{Work, begin, said, with_connections, with_sessions, staged, shut, put_on, put_where, does, publishes_next, place, place_all, have_room, deliver, remove, last_will, will_after, remove_if, leaves_behind, close, subscribed, unsubscribed, retained_copies}
+use Rattle.mq_route.specs.Work.{Work, begin, said, with_connections, with_sessions, staged, shut, put_on, put_where, does, publishes_next, place, place_all, have_room, is_missed, deliver, remove, last_will, will_after, remove_if, leaves_behind, close, subscribed, unsubscribed, retained_copies}
 use Rattle.mq_route.specs.Arrives.{Growth, granted, due, answers, answers_all, replies, greeting, terms_of, resume_session, new_session, start_session, take_over, goes_on, accept_connect, on_connect, on_first_packet, dispatch_packet, touched, touched_on, arrives, noted, takes, closes_by, broken, on_malformed}
 use Rattle.mq_route.specs.Step.{holding, Comes, Arrives, Waits, Breaks, Starves, LetsGo, Ticks, Done, InTime, Late, Does, HubStep, ended_open, told}
 use Rattle.mq_route.specs.Routed.{same_conn}
@@ -71,7 +71,9 @@ does_stays key move w =
 
 place_stays : (key : ℕ) (m : Message) (w : Work) → frame (place key m w).hub ≡ frame w.hub
 unfolding place
-place_stays key m w = does_stays key (publishes_next m) w
+place_stays key m w =
+    cond_both (is_missed key m w.hub) (said (acts.Missed key m) w) (said (acts.Placed key m) (does key (publishes_next m) w)) (λ v. frame v.hub ≡ frame w.hub)
+    (λ missed. refl) (λ room. does_stays key (publishes_next m) w)
 
 places_stay : (copies : List (ℕ × Message)) (w : Work) → frame (place_all copies w).hub ≡ frame w.hub
 places_stay [] w = refl

@@ -8,7 +8,7 @@ use mq_decode::Limits;
 use mq_durable::{CommitError, Durable, RecoverError, Recovery};
 use mq_hub::{Hub, HubConfig};
 use mq_log::{DiskError, FreezingDisk, Journal, MemoryDisk, begin};
-use mq_route::{Conn, HubEvent};
+use mq_route::{Conn, HubEvent, WhenFull};
 use std::alloc::{AllocError, Global};
 use std::process::Abort;
 use std::test::Fail;
@@ -59,6 +59,7 @@ fn config() -> Result<HubConfig, Fail>
         max_conns: 100,
         max_sessions: 100,
         users: None,
+        when_full: WhenFull::ClosePublisher,
     })
 }
 
