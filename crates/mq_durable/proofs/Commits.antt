@@ -12,15 +12,21 @@ use Rattle.mq_log.specs.declared.journal.Journal.{Journal}
 use Rattle.mq_durable.specs.declared.condition.Condition.{Condition}
 use Rattle.mq_durable.specs.declared.condition.Condition.TheVariants.{Sound, Broken}
 use Rattle.mq_durable.specs.Calls.{Committed, MakesCall}
-use Rattle.mq_durable.specs.Recorded.{events_in, events_of, HoldsAllOrNone, IsReadable}
+use Rattle.mq_durable.specs.Recorded.{AfterCrash, events_in, events_of, HoldsAllOrNone, IsReadable}
 use Rattle.mq_durable.specs.State.{DurableState, IsDurable}
-use Rattle.mq_durable.proofs.Crashes.{all_or_none, kept, weaker}
+use Rattle.mq_durable.proofs.Crashes.{all_or_none, kept, left_now, weaker}
 use Rattle.mq_durable.proofs.Entries.{none_found, of_push}
 use Rattle.mq_durable.proofs.Kept.{state}
 
 module _ {D : Type 0} (clock : D → ℕ) (left_since : D → ℕ → List ℕ → Type 0) (seen : D → List ℕ) (may_leave : D → List ℕ → Type 0)
     (base hub : HubState) (journal : Journal D) (entry : List ℕ) (condition : Condition) (old : DurableState D)
     (d : IsDurable seen may_leave base hub journal entry condition) (view : state base hub (events_in entry) journal.disk condition ≡ old) where
+  -- between two calls
+  pub crash_now : JournalLaws → old.condition ≢ Broken → AfterCrash (may_leave old.disk) (HoldsAllOrNone (events_of (seen old.disk)) old.pending)
+  crash_now laws =
+      subst (λ (o : DurableState D). o.condition ≢ Broken → AfterCrash (may_leave o.disk) (HoldsAllOrNone (events_of (seen o.disk)) o.pending)) view
+      (λ sound. left_now laws seen may_leave journal entry (d.kept sound).settled (d.kept sound).readable d.encoded)
+
   -- no call of the disk
   pub crash_without : JournalLaws → ((c : List ℕ) → left_since journal.disk (clock journal.disk) c → may_leave journal.disk c)
       → old.condition ≢ Broken → LeavesOnly clock left_since old.disk old.disk (HoldsAllOrNone (events_of (seen old.disk)) old.pending)

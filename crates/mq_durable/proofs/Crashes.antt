@@ -6,7 +6,7 @@ use Rattle.mq_log.specs.Disk.{LeavesOnly, Only}
 use Rattle.mq_log.specs.Journal.{IsBeforeOrAfter, IsSettled}
 use Rattle.mq_log.specs.declared.journal.Journal.{Journal}
 use Rattle.mq_log.specs.Laws.{JournalLaws}
-use Rattle.mq_durable.specs.Recorded.{events_in, events_of, HoldsAllOrNone, IsReadable}
+use Rattle.mq_durable.specs.Recorded.{AfterCrash, events_in, events_of, HoldsAllOrNone, IsReadable}
 use Rattle.mq_durable.proofs.Entries.{of_push, of_same, readable_push, readable_same}
 
 -- all pending events or none, by the entry of them
@@ -39,12 +39,20 @@ at_rest_is laws seen may_leave journal pending s =
     let closed : rest (seen journal.disk) ≡ 0 ∷ [] = subst (λ (f : List ℕ). rest f ≡ 0 ∷ []) (sym s.file) (laws.closed all s.short) in
     record { holds = inl refl; no_damage = subst (λ (r : List ℕ). gate r ≢ 1) (sym closed) (λ is. let wrong : ◌≡◌ {A = ℕ} 0 1 = is in absurd (omega (arith, wrong))) }
 
--- a crash without a call of the disk leaves the file
+-- a crash between two calls leaves the file
+pub left_now : (laws : JournalLaws) {D : Type 0} (seen : D → List ℕ) (may_leave : D → List ℕ → Type 0) (journal : Journal D) (entry : List ℕ)
+    → IsSettled seen may_leave journal → IsReadable (seen journal.disk) → IsEntry (events_in entry) entry
+    → AfterCrash (may_leave journal.disk) (HoldsAllOrNone (events_of (seen journal.disk)) (events_in entry))
+left_now laws seen may_leave journal entry s all whole file left =
+    let P : List ℕ → Type 0 = HoldsAllOrNone (events_of (seen journal.disk)) (events_in entry) in
+    let here : P (seen journal.disk) = all_or_none (seen journal.disk) entry (seen journal.disk) all whole (at_rest_is laws seen may_leave journal entry s) in
+    subst P (sym (s.durable file left)) here
+
+-- a crash during a call without a call of the disk leaves the file
 pub kept : (laws : JournalLaws) {D : Type 0} (clock : D → ℕ) (left_since : D → ℕ → List ℕ → Type 0) (seen : D → List ℕ) (may_leave : D → List ℕ → Type 0) (journal : Journal D) (entry : List ℕ)
     → IsSettled seen may_leave journal → ((c : List ℕ) → left_since journal.disk (clock journal.disk) c → may_leave journal.disk c)
     → IsReadable (seen journal.disk) → IsEntry (events_in entry) entry
     → LeavesOnly clock left_since journal.disk journal.disk (HoldsAllOrNone (events_of (seen journal.disk)) (events_in entry))
 kept laws clock left_since seen may_leave journal entry s now all whole =
-    let P = HoldsAllOrNone (events_of (seen journal.disk)) (events_in entry) in
-    let here : P (seen journal.disk) = all_or_none (seen journal.disk) entry (seen journal.disk) all whole (at_rest_is laws seen may_leave journal entry s) in
-    unchanged clock left_since P journal.disk (λ c left. subst P (sym (s.durable c (now c left))) here)
+    unchanged clock left_since (HoldsAllOrNone (events_of (seen journal.disk)) (events_in entry)) journal.disk
+    (λ c left. left_now laws seen may_leave journal entry s all whole c (now c left))

@@ -34,9 +34,17 @@ events_of file = flat_map events_in (entries file)
 abbrev pub IsReadable : List ℕ → Type 0
 IsReadable file = AllByRecursion (λ entry. IsEntry (events_in entry) entry) (entries file)
 
+-- each of these entries is the encodings of its events, and nothing else
+abbrev pub AreReadable : List (Vec ℕ Global) → Type 0
+AreReadable all = AllByRecursion (λ v. IsEntry (events_in v.items) v.items) all
+
 -- A crash left the events that were recorded before, or these and the pending ones. It left no
 -- entry that cannot be read, and no open gate behind the entries.
 pub record HoldsAllOrNone (before pending : List HubEvent) (file : List ℕ) : Type 0 where
   pub holds : (events_of file ≡ before) ⊎ (events_of file ≡ before ++ pending)
   pub readable : IsReadable file
   pub no_damage : gate (rest file) ≢ 1
+
+-- each content that a crash may leave has P
+abbrev pub AfterCrash : (List ℕ → Type 0) → (List ℕ → Type 0) → Type 0
+AfterCrash may_leave P = (file : List ℕ) → may_leave file → P file

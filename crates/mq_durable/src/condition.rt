@@ -1,6 +1,6 @@
-//! Whether a durable broker may go on.
+//! Whether a durable broker may continue.
 
-/// Whether a durable broker may go on.
+/// Whether a durable broker may continue.
 #[derive(Clone, Copy, Debug, PartialEq, Eq)]
 pub enum Condition {
     /// No step reported that an allocation failed, and no commit failed.

@@ -9,7 +9,7 @@ ghost use Rattle.mq_route.specs.declared.event.HubEvent.TheVariants.{Collect};
 ghost use Rattle.mq_route.specs.Step.{HubStep};
 ghost use Rattle.mq_durable.specs.declared.condition.Condition.TheVariants.{Sound, Broken};
 ghost use Rattle.mq_durable.specs.Calls.{Collected, Committed, MakesCall, Stepped};
-ghost use Rattle.mq_durable.specs.Recorded.{HoldsAllOrNone, events_of};
+ghost use Rattle.mq_durable.specs.Recorded.{AfterCrash, HoldsAllOrNone, events_of};
 ghost use Rattle.mq_durable.specs.State.{FollowsJournal, IsCommitRefused, IsNotNoted, IsNotStepped, IsStepRefused, after_failure, after_step};
 
 use crate::condition::Condition;
@@ -207,13 +207,19 @@ impl<D: Disk> Durable<D> {
 
     /// The file of the journal.
     pub fn disk(&self) -> &D
-        ensures { result.now ≡ self.now.disk }
+        ensures disk { result.now ≡ self.now.disk }
+
+        // A crash between two calls leaves the file's events, with the pending ones or without.
+        ensures crash { self.now.condition ≢ Broken
+            → AfterCrash (D.may_leave self.now.disk)
+            (HoldsAllOrNone (events_of (D.seen self.now.disk)) self.now.pending) }
     {
+        journal_laws();
         &self.journal.disk
     }
 
-    /// Whether the broker may go on. If the result is not `Sound`, the next [`commit`] fails, and
-    /// the process must end.
+    /// Whether the broker may continue. Unless the result is `Sound`, the next [`commit`] fails,
+    /// and the process must end.
     ///
     /// [`commit`]: Durable::commit
     pub fn condition(&self) -> Condition
@@ -264,7 +270,7 @@ impl<D: Disk> Durable<D> {
     /// Takes the pending output of a connection. No event must be pending, so that the journal has
     /// each event of which the output is a result.
     ///
-    /// Errors, on which nothing changes:
+    /// On `Err` nothing changes. Errors:
     ///
     /// - `Hub` if the broker refuses, or if an allocation fails.
     /// - `Broken` if a commit failed before.

@@ -1,7 +1,8 @@
 //! Stepping a broker through recorded events.
 
 ghost use Rattle.std.specs.Prelude.{◌≡◌, ◌∷◌, [], IfOk, OnOk};
-ghost use Rattle.mq_durable.specs.Recorded.{events_in, events_in_all};
+ghost use Rattle.mq_record.specs.Reading.{IsEntry};
+ghost use Rattle.mq_durable.specs.Recorded.{AreReadable, events_in, events_in_all};
 ghost use Rattle.mq_durable.specs.Recovering.{Continues, later, opened_by};
 ghost use Rattle.mq_durable.specs.Replaying.{Replays};
 
@@ -67,6 +68,7 @@ fn replay_on(hub: &mut Hub, event: &HubEvent) -> Result<(), RecoverError>
 // The events of an entry.
 fn events_in(alloc: Global, entry: &[u8]) -> Result<Vec<HubEvent>, RecoverError>
     ensures ok { IfOk result (λ events. events.items ≡ events_in entry.now) }
+    ensures readable { OnOk result (IsEntry (events_in entry.now) entry.now) }
 {
     record_laws();
     match decode_events(alloc, entry) {
@@ -99,7 +101,8 @@ impl Progress {
 
     // Steps the broker through the events of an entry. On `Err` the progress must be dropped.
     fn replay_entry(&mut self, alloc: Global, entry: &[u8]) -> Result<(), RecoverError>
-        ensures { OnOk result (Continues self.old (events_in entry.now) self.new) }
+        ensures continues { OnOk result (Continues self.old (events_in entry.now) self.new) }
+        ensures readable { OnOk result (IsEntry (events_in entry.now) entry.now) }
     {
         let events = events_in(alloc, entry)?;
         self.replay_events(events.as_slice())
@@ -107,7 +110,9 @@ impl Progress {
 
     /// Steps the broker through the events of entries.
     pub(crate) fn after(self, alloc: Global, entries: &[Vec<u8>]) -> Result<Progress, RecoverError>
-        ensures { IfOk result (λ progress. Continues self (events_in_all entries.now) progress) }
+        ensures continues { IfOk result
+            (λ progress. Continues self (events_in_all entries.now) progress) }
+        ensures readable { OnOk result (AreReadable entries.now) }
     {
         let mut progress = self;
         for entry in entries {

@@ -6,7 +6,7 @@ ghost use Rattle.mq_log.specs.declared.reader.Tail.TheVariants.{Closed, Torn};
 ghost use Rattle.mq_log.specs.Journal.{IsSettled};
 ghost use Rattle.mq_route.specs.declared.conn.Conn.{Conn};
 ghost use Rattle.mq_durable.specs.declared.condition.Condition.TheVariants.{Sound};
-ghost use Rattle.mq_durable.specs.Recorded.{events_of};
+ghost use Rattle.mq_durable.specs.Recorded.{IsReadable, events_of};
 ghost use Rattle.mq_durable.specs.Recovering.{AreEnds, AreKnownAmong, HasEnded, latest};
 ghost use Rattle.mq_durable.specs.Replaying.{Replays};
 
@@ -96,6 +96,7 @@ impl Recovery {
     pub fn replay(self, file: &[u8]) -> Result<Recovery, RecoverError>
         ensures hub { IfOk result (λ hub. Replays self (events_of file.now) hub) }
         ensures clock { IfOk result (λ hub. hub.clock ≡ latest self.clock (events_of file.now)) }
+        ensures readable { OnOk result (IsReadable file.now) }
         ensures whole { OnOk result (gate (rest file.now) ≢ 1) }
     {
         let Recovery { alloc, progress } = self;

@@ -31,8 +31,11 @@ fn lacks_memory(act: &Act) -> bool
     }
 }
 
-/// Whether an act of the reply reports that an allocation failed: a connection is closed for lack
-/// of memory, or a will is dropped. A dropped will counts whatever its cause.
+/// Whether an act of the reply reports that an allocation failed: a connection is closed with that
+/// reason, or a will is dropped.
+///
+/// A dropped will counts whatever its cause, because the act does not name it. Under
+/// `WhenFull::DropCopy` a failed allocation is the only cause.
 pub fn reports_memory(reply: &HubReply) -> bool
     ensures { result ≡ reports_memory reply.now }
 {
