@@ -4,12 +4,13 @@ use Rattle.std.specs.Option.{IfSome}
 use Rattle.std.specs.Result.{IfErr, IfOk, OnOk, OnErr}
 use Rattle.mq_route.specs.declared.conn.Conn.{Conn}
 use Rattle.mq_route.specs.declared.event.HubEvent.{HubEvent}
-use Rattle.mq_route.specs.declared.event.HubEvent.TheVariants.{Collect}
+use Rattle.mq_route.specs.declared.event.HubEvent.TheVariants.{Bytes, Collect}
 use Rattle.mq_route.specs.declared.refusal.HubRefusal.{HubRefusal}
 use Rattle.mq_route.specs.declared.refusal.HubRefusal.TheVariants as refusals
 use Rattle.mq_route.specs.declared.reply.HubReply.{HubReply}
 use Rattle.mq_route.specs.Hub.{HubState}
 use Rattle.mq_route.specs.Step.{HubStep, event_refusal}
+use Rattle.mq_route.specs.StepSome.{HubStepSome}
 use Rattle.mq_record.specs.Encoding.{event_bytes, entry_bytes, is_recorded}
 use Rattle.mq_record.specs.Laws.{RecordLaws}
 use Rattle.mq_record.specs.Reading.{IsEntry}
@@ -22,7 +23,7 @@ use Rattle.mq_durable.specs.Recorded.{events_in, events_of}
 use Rattle.mq_durable.specs.declared.fault.StepRefusal.{StepRefusal}
 use Rattle.mq_durable.specs.declared.fault.StepRefusal.TheVariants as steps
 use Rattle.mq_durable.specs.Calls.{Collected, MakesCall, Stepped}
-use Rattle.mq_durable.specs.State.{DurableState, IsDurable, IsKept, IsHubRefusal, IsNotStepped, IsStepRefused, after_step}
+use Rattle.mq_durable.specs.State.{DurableState, IsDurable, IsKept, IsHubRefusal, IsNotStepped, IsStepRefused, after_step, reply_in}
 use Rattle.mq_durable.proofs.Entries.{entry_push, found_push, is_empty, no_entry, none_found, of_none, of_push, readable_none, readable_push}
 use Rattle.mq_durable.proofs.Runs.{reaches_collect, reaches_none, reaches_push, reaches_so}
 
@@ -151,6 +152,16 @@ module _ {D : Type 0} (seen : D → List ℕ) (may_leave : D → List ℕ → Ty
   collect_kept (Ok reply) base hub next journal entry conn condition d step same = collected seen may_leave base hub next journal entry conn reply condition d step
   collect_kept (Err why) base hub next journal entry conn condition d step same = collect_failed seen may_leave base hub next journal entry condition d same
 
+  pub some_kept : (laws : RecordLaws) (r : Result (HubReply × ℕ) StepRefusal) (base hub next : HubState) (journal : Journal D) (entry later : List ℕ) (conn : Conn) (piece : List ℕ) (most : ℕ) (condition after : Condition)
+      → IsDurable seen may_leave base hub journal entry condition → condition ≢ Broken
+      → IfOk r (λ x. HubStepSome hub conn piece most x.0 x.1 next) → IfOk r (λ x. later ≡ entry ++ event_bytes (Bytes conn (take x.1 piece)))
+      → OnOk r (length later < 2 ^ 32) → OnErr r (next ≡ hub) → OnErr r (later ≡ entry)
+      → IsDurable seen may_leave base next journal later after
+  some_kept laws (Ok x) base hub next journal entry later conn piece most condition after d sound step noted short same is =
+      stepped seen may_leave laws base hub next journal entry later (Bytes conn (take x.1 piece)) x.0 condition after d sound step.step refl noted short
+  some_kept laws (Err why) base hub next journal entry later conn piece most condition after d sound step noted short same is =
+      refused seen may_leave base hub next journal entry later condition after d sound same is
+
 -- the view of a durable broker
 abbrev pub state : {D : Type 0} → HubState → HubState → List HubEvent → D → Condition → DurableState D
 state base hub pending disk condition = record { base = base; hub = hub; pending = pending; disk = disk; condition = condition }
@@ -172,13 +183,33 @@ step_err {D} (Err why) base hub next disk entry later condition after old view s
     subst (λ (o : DurableState D). state base next (events_in later) disk after ≡ record o { condition = after_step (Err why) o.condition }) view
     (λ i. state base (same i) (events_in (noted i)) disk (is i))
 
+pub some_ok : (laws : RecordLaws) {D : Type 0} (r : Result (HubReply × ℕ) StepRefusal) (base hub next : HubState) (disk : D) (entry later : List ℕ) (conn : Conn) (piece : List ℕ) (condition after : Condition) (old : DurableState D)
+    → state base hub (events_in entry) disk condition ≡ old → IsEntry (events_in entry) entry → IfOk r (λ x. later ≡ entry ++ event_bytes (Bytes conn (take x.1 piece))) → after ≡ after_step (reply_in r) condition
+    → IfOk r (λ x. state base next (events_in later) disk after ≡ record old { hub = next; pending = old.pending ++ Bytes conn (take x.1 piece) ∷ []; condition = after_step (reply_in r) old.condition })
+some_ok laws {D} (Ok x) base hub next disk entry later conn piece condition after old view encoded noted is =
+    step_ok laws (Ok x.0) base hub next disk entry later (Bytes conn (take x.1 piece)) condition after old view encoded refl noted is
+some_ok laws (Err why) base hub next disk entry later conn piece condition after old view encoded noted is = tt
+
+pub some_err : {D : Type 0} (r : Result (HubReply × ℕ) StepRefusal) (base hub next : HubState) (disk : D) (entry later : List ℕ) (condition after : Condition) (old : DurableState D)
+    → state base hub (events_in entry) disk condition ≡ old → OnErr r (next ≡ hub) → OnErr r (later ≡ entry) → after ≡ after_step (reply_in r) condition
+    → OnErr r (state base next (events_in later) disk after ≡ record old { condition = after_step (reply_in r) old.condition })
+some_err (Ok x) base hub next disk entry later condition after old view same noted is = tt
+some_err {D} (Err why) base hub next disk entry later condition after old view same noted is =
+    step_err (Err why) base hub next disk entry later condition after old view same noted is
+
+pub some_call : {D : Type 0} (r : Result (HubReply × ℕ) StepRefusal) (seen : D → List ℕ) (old new : DurableState D) (conn : Conn) (piece : List ℕ) (next : HubState) (after : Condition)
+    → IfOk r (λ x. new ≡ record old { hub = next; pending = old.pending ++ Bytes conn (take x.1 piece) ∷ []; condition = after })
+    → IfOk r (λ x. MakesCall seen (Stepped (Bytes conn (take x.1 piece))) old new)
+some_call {D} (Ok x) seen old new conn piece next after is = (ap (λ (d : DurableState D). d.disk) is, ap (λ (d : DurableState D). d.pending) is)
+some_call (Err why) seen old new conn piece next after is = tt
+
 pub step_call : {D : Type 0} (r : Outcome) (seen : D → List ℕ) (old new : DurableState D) (event : HubEvent) (next : HubState) (after : Condition)
     → OnOk r (new ≡ record old { hub = next; pending = old.pending ++ event ∷ []; condition = after }) → OnOk r (MakesCall seen (Stepped event) old new)
 step_call {D} (Ok reply) seen old new event next after is = (ap (λ (d : DurableState D). d.disk) is, ap (λ (d : DurableState D). d.pending) is)
 step_call (Err why) seen old new event next after is = tt
 
 -- the refusal of a step, by what contracts see
-pub step_refused : (r : Outcome) {D : Type 0} (base hub : HubState) (disk : D) (entry : List ℕ) (event : HubEvent) (condition : Condition) (old : DurableState D)
+pub step_refused : {T : Type 0} (r : Result T StepRefusal) {D : Type 0} (base hub : HubState) (disk : D) (entry : List ℕ) (event : HubEvent) (condition : Condition) (old : DurableState D)
     → state base hub (events_in entry) disk condition ≡ old → IsEntry (events_in entry) entry → IfErr r (IsNotStepped entry hub event) → IfErr r (IsStepRefused old event)
 step_refused (Ok reply) base hub disk entry event condition old view encoded why = tt
 step_refused (Err (steps.Hub w)) {D} base hub disk entry event condition old view encoded why = subst (λ (o : DurableState D). IsHubRefusal o.hub event w) view why

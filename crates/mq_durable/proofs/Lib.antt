@@ -8,3 +8,5 @@ mod Reports
 mod Kept
 mod CallLaws
 mod Commits
+mod Growth
+mod Determined

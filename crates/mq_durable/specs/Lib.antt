@@ -1,4 +1,5 @@
 pub mod Calls
+pub mod Determined
 pub mod Memory
 pub mod Recorded
 pub mod Recovering

@@ -68,6 +68,11 @@ after_step result Sound = after_sound_step result
 after_step result OutOfMemory = OutOfMemory
 after_step result Broken = Broken
 
+-- the reply of a step for the front of a piece, without the number of bytes used
+abbrev pub reply_in : Result (HubReply × ℕ) StepRefusal → Result HubReply StepRefusal
+reply_in (Ok r) = Ok r.0
+reply_in (Err why) = Err why
+
 -- the condition after a commit that failed
 abbrev pub after_failure : CommitError → Condition → Condition
 after_failure (commits.Disk why) condition = Broken

@@ -1,24 +1,26 @@
 //! A broker with a journal of its events.
 
-ghost use Rattle.std.specs.Prelude.{◌≡◌, ◌≢◌, ◌+◌, ◌<◌, ◌≤◌, ◌^◌, ◌↔◌, [], ◌∷◌, ◌++◌, true, false, length, take, IfOk, IfErr, OnOk, OnErr};
+ghost use Rattle.std.specs.Prelude.{◌≡◌, ◌≢◌, ◌<◌, ◌↔◌, [], ◌∷◌, ◌++◌, true, false, length, take, IfOk, IfErr, OnOk, OnErr};
 ghost use Rattle.mq_log.specs.Blocks.{at_rest};
 ghost use Rattle.mq_log.specs.Disk.{LeavesOnly};
 ghost use Rattle.mq_log.specs.Journal.{IsSettled};
-ghost use Rattle.mq_record.specs.Encoding.{event_bytes, is_recorded};
-ghost use Rattle.mq_route.specs.declared.event.HubEvent.TheVariants.{Collect};
+ghost use Rattle.mq_record.specs.Encoding.{is_recorded};
+ghost use Rattle.mq_route.specs.declared.event.HubEvent.TheVariants.{Bytes, Collect};
 ghost use Rattle.mq_route.specs.Step.{HubStep};
+ghost use Rattle.mq_route.specs.StepSome.{HubStepSome};
 ghost use Rattle.mq_durable.specs.declared.condition.Condition.TheVariants.{Sound, Broken};
 ghost use Rattle.mq_durable.specs.Calls.{Collected, Committed, MakesCall, Stepped};
 ghost use Rattle.mq_durable.specs.Recorded.{AfterCrash, HoldsAllOrNone, events_of};
-ghost use Rattle.mq_durable.specs.State.{FollowsJournal, IsCommitRefused, IsNotNoted, IsNotStepped, IsStepRefused, after_failure, after_step};
+ghost use Rattle.mq_durable.specs.State.{FollowsJournal, IsCommitRefused, IsStepRefused, after_failure, after_step, reply_in};
 
 use crate::condition::Condition;
 use crate::fault::{CommitError, StepRefusal};
-use crate::report::reports_memory;
+use crate::noted::{collect_from, step_noted, step_some_noted};
+use crate::outcome::{condition_after, condition_after_some};
 use mq_hub::Hub;
 use mq_log::{Disk, Journal, journal_laws};
-use mq_record::{encode_event, record_laws};
-use mq_route::{Conn, HubEvent, HubRefusal, HubReply};
+use mq_record::record_laws;
+use mq_route::{Conn, HubEvent, HubReply};
 use std::alloc::Global;
 use std::marker::Model;
 use std::snapshot::Snapshot;
@@ -61,80 +63,6 @@ impl<D: Disk> Model for Durable<D> {
         d.entry.items d.condition };
 }
 
-// The entry of a journal is shorter.
-const MOST_BYTES: usize = 1 << 32;
-
-// The length of the encoding of an event.
-fn encoded_len(event: &HubEvent) -> usize
-    ensures { result ≡ length (event_bytes event.now) }
-{
-    match event {
-        HubEvent::Opened(_) | HubEvent::Ended(_) => 7,
-        HubEvent::Bytes(_, piece) => 11 + piece.as_slice().len(),
-        HubEvent::Tick(_) => 9,
-        HubEvent::Collect(_) => 0,
-    }
-}
-
-// Encodes an event behind the others.
-fn note(event: &HubEvent, entry: &mut Vec<u8>) -> Result<(), StepRefusal>
-    requires recorded { is_recorded event.now ≡ true }
-    requires short { length entry.old.items < 2 ^ 32 }
-    ensures noted { OnOk result (entry.new.items ≡ entry.old.items ++ event_bytes event.now) }
-    ensures short { OnOk result (length entry.new.items < 2 ^ 32) }
-    ensures err { OnErr result (entry.new.items ≡ entry.old.items) }
-    ensures refused { IfErr result (IsNotNoted entry.old.items event.now) }
-{
-    if encoded_len(event) >= MOST_BYTES - entry.len() {
-        return Err(StepRefusal::EntryFull);
-    }
-    if encode_event(event, entry).is_err() {
-        return Err(StepRefusal::Hub(HubRefusal::Memory));
-    }
-    Ok(())
-}
-
-// Drops the bytes behind the first ones.
-fn forget(entry: &mut Vec<u8>, before: usize)
-    ensures { entry.new.items ≡ take before entry.old.items }
-{
-    entry.truncate(before);
-}
-
-// Steps the broker, and keeps the encoding of the event if the step is made.
-fn step_noted(hub: &mut Hub, entry: &mut Vec<u8>, event: &HubEvent) -> Result<HubReply, StepRefusal>
-    requires recorded { is_recorded event.now ≡ true }
-    requires short { length entry.old.items < 2 ^ 32 }
-    ensures step { IfOk result (λ reply. HubStep hub.old event.now reply hub.new) }
-    ensures noted { OnOk result (entry.new.items ≡ entry.old.items ++ event_bytes event.now) }
-    ensures short { OnOk result (length entry.new.items < 2 ^ 32) }
-    ensures hub { OnErr result (hub.new ≡ hub.old) }
-    ensures entry { OnErr result (entry.new.items ≡ entry.old.items) }
-    ensures refused { IfErr result (IsNotStepped entry.old.items hub.old event.now) }
-{
-    let before = entry.len();
-    note(event, entry)?;
-    match hub.step(event) {
-        Ok(reply) => Ok(reply),
-        Err(why) => {
-            forget(entry, before);
-            Err(StepRefusal::Hub(why))
-        }
-    }
-}
-
-// Takes the pending output of a connection.
-fn collect_from(hub: &mut Hub, conn: Conn) -> Result<HubReply, StepRefusal>
-    ensures step { IfOk result (λ reply. HubStep hub.old (Collect conn) reply hub.new) }
-    ensures err { OnErr result (hub.new ≡ hub.old) }
-    ensures refused { IfErr result (IsNotStepped [] hub.old (Collect conn)) }
-{
-    match hub.step(&HubEvent::Collect(conn)) {
-        Ok(reply) => Ok(reply),
-        Err(why) => Err(StepRefusal::Hub(why)),
-    }
-}
-
 fn is_broken(condition: Condition) -> bool
     ensures yes { result ≡ true → condition ≡ Broken }
     ensures no { result ≡ false → condition ≢ Broken }
@@ -142,31 +70,6 @@ fn is_broken(condition: Condition) -> bool
     match condition {
         Condition::Broken => true,
         Condition::Sound | Condition::OutOfMemory => false,
-    }
-}
-
-// The condition after a step.
-fn condition_after(stepped: &Result<HubReply, StepRefusal>, condition: Condition) -> Condition
-    ensures { result ≡ after_step stepped.now condition }
-{
-    match condition {
-        Condition::Sound => match stepped {
-            Ok(reply) => {
-                if reports_memory(reply) {
-                    Condition::OutOfMemory
-                } else {
-                    Condition::Sound
-                }
-            }
-            Err(StepRefusal::Hub(HubRefusal::Memory)) => Condition::OutOfMemory,
-            Err(
-                StepRefusal::Hub(HubRefusal::UnknownConn | HubRefusal::ConnInUse)
-                | StepRefusal::EntryFull
-                | StepRefusal::Broken,
-            ) => Condition::Sound,
-        },
-        Condition::OutOfMemory => Condition::OutOfMemory,
-        Condition::Broken => Condition::Broken,
     }
 }
 
@@ -264,6 +167,40 @@ impl<D: Disk> Durable<D> {
         }
         let stepped = step_noted(&mut self.hub, &mut self.entry, event);
         self.condition = condition_after(&stepped, self.condition);
+        stepped
+    }
+
+    /// Makes the broker's step for the front of bytes that arrive, up to the packet with which the
+    /// step reaches `most_acts` acts, or for all of them. Returns the reply and the number of bytes
+    /// used. The arrival of exactly these bytes is then pending.
+    ///
+    /// Conditions and errors are those of [`step`](Durable::step).
+    pub fn step_some(
+        &mut self,
+        conn: Conn,
+        piece: &[u8],
+        most_acts: usize,
+    ) -> Result<(HubReply, usize), StepRefusal>
+        ensures step { IfOk result
+            (λ r. HubStepSome self.old.hub conn piece.now most_acts r.0 r.1 self.new.hub) }
+        ensures some { IfOk result (λ r. 0 < length piece.now → 0 < r.1) }
+        ensures ok { IfOk result (λ r. self.new ≡ record self.old {
+          hub = self.new.hub;
+          pending = self.old.pending ++ Bytes conn (take r.1 piece.now) ∷ [];
+          condition = after_step (reply_in result) self.old.condition;
+        }) }
+        ensures err { OnErr result (self.new
+            ≡ record self.old { condition = after_step (reply_in result) self.old.condition }) }
+        ensures refused { IfErr result (IsStepRefused self.old (Bytes conn piece.now)) }
+        ensures call { IfOk result (λ r.
+            MakesCall D.seen (Stepped (Bytes conn (take r.1 piece.now))) self.old self.new) }
+    {
+        record_laws();
+        if is_broken(self.condition) {
+            return Err(StepRefusal::Broken);
+        }
+        let stepped = step_some_noted(&mut self.hub, &mut self.entry, conn, piece, most_acts);
+        self.condition = condition_after_some(&stepped, self.condition);
         stepped
     }
 

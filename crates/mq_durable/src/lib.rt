@@ -5,8 +5,8 @@
 //!
 //! 1. After a start, [`Recovery::new`], then [`Recovery::replay`] with the bytes of each file of
 //!    the journal, oldest first, then [`Recovery::resume`] with a new file.
-//! 2. In each round [`Durable::step`] for the events that came, then [`Durable::commit`], then
-//!    [`Durable::collect`] for each connection that may have output.
+//! 2. In each round [`Durable::step`] or [`Durable::step_some`] for the events that came, then
+//!    [`Durable::commit`], then [`Durable::collect`] for each connection that may have output.
 //! 3. If `commit` returns an error, the process must end without giving out any output. It
 //!    continues at 1.
 //!
@@ -24,6 +24,8 @@ mod condition;
 mod durable;
 mod fault;
 mod laws;
+mod noted;
+mod outcome;
 mod progress;
 mod recovery;
 mod report;
@@ -31,6 +33,6 @@ mod report;
 pub use crate::condition::Condition;
 pub use crate::durable::Durable;
 pub use crate::fault::{CommitError, RecoverError, StepRefusal};
-pub use crate::laws::durable_laws;
+pub use crate::laws::{durable_laws, replay_laws};
 pub use crate::recovery::Recovery;
 pub use crate::report::reports_memory;

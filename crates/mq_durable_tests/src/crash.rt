@@ -253,3 +253,39 @@ fn a_cut_and_a_changed_byte_at_each_place(rt: HostRuntime) -> Result<(), Fail> {
     }
     Ok(())
 }
+
+// A round in which the broker takes CONNECT and SUBSCRIBE of one piece in two steps. Returns the
+// numbers of bytes used.
+fn step_twice(
+    alloc: Global,
+    durable: &mut Durable<TestDisk>,
+    piece: &[u8],
+) -> Result<(usize, usize), Fail> {
+    let _ = durable.step(&HubEvent::Opened(HOME))?;
+    let (_, first) = durable.step_some(HOME, piece, 1)?;
+    let (_, behind) = piece.split_at(first);
+    let (_, second) = durable.step_some(HOME, behind, 1)?;
+    durable.commit()?;
+    Ok((first, second))
+}
+
+#[test]
+fn a_step_for_the_front_of_a_piece(rt: HostRuntime) -> Result<(), Fail> {
+    let alloc = rt.alloc();
+    let mut piece = hex::decode(alloc, CONNECT_HOME)
+        .ok()
+        .ok_or("no hexadecimal")?;
+    let subscribe = hex::decode(alloc, SUBSCRIBE).ok().ok_or("no hexadecimal")?;
+    piece.extend_from_slice(subscribe.as_slice())?;
+    let mut disk = FreezingDisk::new(MemoryDisk::new(alloc, Vec::new(alloc)), 100);
+    begin(&mut disk)?;
+    let hub = Hub::new(alloc, config()?);
+    let mut durable = Durable::new(alloc, hub, Journal::new(disk));
+    let used = step_twice(alloc, &mut durable, piece.as_slice())?;
+    assert_eq!(rt; used, (18, 8));
+    let hub = Hub::new(alloc, config()?);
+    let recovery = Recovery::new(alloc, hub).replay(durable.disk().disk().bytes())?;
+    let output = output_of(alloc, recovery)?;
+    assert_eq!(rt; output.as_str(), DELIVERED[0]);
+    Ok(())
+}
