@@ -1,5 +1,5 @@
 -- A step only adds acts. So if none of its acts reports a failed allocation, none did before.
-use Rattle.std.proofs.Common.{◌≡◌, ℕ, Bool, true, false, ◌&&◌, ◌||◌, List, [], ◌∷◌, ◌++◌, Option, Some, None, refl, sym, ap, ◌∙◌, subst, append_assoc, if◌then◌else◌}
+use Rattle.std.proofs.Common.{◌≡◌, ℕ, Bool, true, false, ◌&&◌, ◌||◌, List, [], ◌∷◌, ◌++◌, Option, Some, None, refl, sym, ap, ◌∙◌, subst, append_assoc, true≢false, if◌then◌else◌}
 use Rattle.std.proofs.lemmas.Bool.{cond_both}
 use Rattle.std.proofs.lemmas.List.{append-nil}
 use Rattle.std.specs.List.{list_any}
@@ -261,11 +261,12 @@ IsQuiet w = list_any lacks_memory w.did ≡ false
 
 quiet_front : (front more : List Act) → list_any lacks_memory (front ++ more) ≡ false → list_any lacks_memory front ≡ false
 quiet_front [] more quiet = refl
-quiet_front (a ∷ others) more quiet = go (lacks_memory a) quiet
+quiet_front (a ∷ others) more quiet = go (lacks_memory a) quiet (λ rest. quiet_front others more rest)
   where
-    go : (b : Bool) → (b || list_any lacks_memory (others ++ more)) ≡ false → (b || list_any lacks_memory others) ≡ false
-    go true no = no
-    go false rest = quiet_front others more rest
+    go : (b : Bool) → (b || list_any lacks_memory (others ++ more)) ≡ false → (list_any lacks_memory (others ++ more) ≡ false → list_any lacks_memory others ≡ false)
+        → (b || list_any lacks_memory others) ≡ false
+    go true no before = no
+    go false rest before = before rest
 
 pub quiet_before : (w v : Work) → Grows w v → IsQuiet v → IsQuiet w
 quiet_before w v grows quiet = quiet_front w.did grows.0 (subst (λ (l : List Act). list_any lacks_memory l ≡ false) grows.1 quiet)
@@ -276,11 +277,11 @@ quiet_last [] a quiet = go (lacks_memory a) quiet
     go : (b : Bool) → (b || false) ≡ false → b ≡ false
     go true no = no
     go false no = refl
-quiet_last (x ∷ xs) a quiet = go (lacks_memory x) quiet
+quiet_last (x ∷ xs) a quiet = go (lacks_memory x) quiet (λ rest. quiet_last xs a rest)
   where
-    go : (b : Bool) → (b || list_any lacks_memory (xs ++ a ∷ [])) ≡ false → lacks_memory a ≡ false
-    go true no = absurd cc
-    go false rest = quiet_last xs a rest
+    go : (b : Bool) → (b || list_any lacks_memory (xs ++ a ∷ [])) ≡ false → (list_any lacks_memory (xs ++ a ∷ []) ≡ false → lacks_memory a ≡ false) → lacks_memory a ≡ false
+    go true no behind = absurd (true≢false no)
+    go false rest behind = behind rest
 
 pub quiet_said : (a : Act) (w : Work) → IsQuiet (said a w) → lacks_memory a ≡ false
 quiet_said a w quiet = quiet_last w.did a quiet

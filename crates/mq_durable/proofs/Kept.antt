@@ -1,5 +1,6 @@
 -- The facts of a durable broker, after each of its calls.
-use Rattle.std.proofs.Common.{◌≡◌, ◌≢◌, ◌⊎◌, inl, inr, ℕ, ◌+◌, ◌<◌, ◌≤◌, ◌^◌, true, List, [], ◌∷◌, ◌++◌, length, take, refl, sym, ap, ◌∙◌, subst, arith, append_assoc, Option, Some, None, Result, Ok, Err}
+use Rattle.std.proofs.lemmas.List.{length-take-le, take_at}
+use Rattle.std.proofs.Common.{◌≡◌, ◌≢◌, ◌⊎◌, inl, inr, Bool, false, true≢false, length-append, ℕ, ◌+◌, ◌<◌, ◌≤◌, ◌^◌, true, List, [], ◌∷◌, ◌++◌, length, take, refl, sym, ap, ◌∙◌, subst, arith, append_assoc, Option, Some, None, Result, Ok, Err}
 use Rattle.std.specs.Option.{IfSome}
 use Rattle.std.specs.Result.{IfErr, IfOk, OnOk, OnErr}
 use Rattle.mq_route.specs.declared.conn.Conn.{Conn}
@@ -243,3 +244,33 @@ collect_call (Err why) seen old new conn next none is = tt
 -- a broken one
 pub broken_err : {D : Type 0} (old : DurableState D) → old.condition ≡ Broken → old ≡ record old { condition = after_step (Err steps.Broken) old.condition }
 broken_err old is = λ i. record old { condition = (is ∙ sym (ap (λ (c : Condition). after_step (Err steps.Broken) c) is)) i }
+
+-- a new one
+pub new_state : {D : Type 0} (base hub : HubState) (disk : D) (entry : List ℕ) → base ≡ hub → entry ≡ [] → state base hub (events_in entry) disk Sound ≡ state hub hub [] disk Sound
+new_state base hub disk entry same none =
+    let found : events_in entry ≡ [] = ap events_in none ∙ none_found in
+    λ i. state (same i) hub (found i) disk Sound
+
+-- the test for pending events
+pub pending_test : {D : Type 0} (b : Bool) (base hub : HubState) (disk : D) (slice entry : List ℕ) (condition : Condition) (old : DurableState D)
+    → state base hub (events_in entry) disk condition ≡ old → IsEntry (events_in entry) entry → slice ≡ entry → (b ≡ true → slice ≢ []) → (b ≡ false → slice ≡ [])
+    → (b ≡ false → old.pending ≡ []) × (old.pending ≡ [] → b ≡ false)
+pending_test {D} true base hub disk slice entry condition old view whole same yes no =
+    (λ e. absurd (true≢false e), λ e. absurd (yes refl (same ∙ is_empty entry whole (ap (λ (o : DurableState D). o.pending) view ∙ e))))
+pending_test {D} false base hub disk slice entry condition old view whole same yes no =
+    (λ e. sym (ap (λ (o : DurableState D). o.pending) view) ∙ ap events_in (sym same ∙ no refl) ∙ none_found, λ e. refl)
+
+-- the front of a piece that is kept
+pub front_noted : (before all new : List ℕ) (conn : Conn) (piece : List ℕ) (at taken : ℕ) → length before ≡ at → all ≡ before ++ event_bytes (Bytes conn piece) → taken ≤ length piece
+    → ((k : Conn) (p : List ℕ) → all ≡ take at all ++ event_bytes (Bytes k p) → taken ≤ length p → new ≡ take at all ++ event_bytes (Bytes k (take taken p)))
+    → new ≡ before ++ event_bytes (Bytes conn (take taken piece))
+front_noted before all new conn piece at taken at_is is within shortened =
+    let low : take at all ≡ before = ap (λ (l : List ℕ). take at l) is ∙ take_at before (event_bytes (Bytes conn piece)) at at_is in
+    shortened conn piece (is ∙ ap (λ (l : List ℕ). l ++ event_bytes (Bytes conn piece)) (sym low)) within ∙ ap (λ (l : List ℕ). l ++ event_bytes (Bytes conn (take taken piece))) low
+
+pub front_short : (before all new : List ℕ) (conn : Conn) (piece : List ℕ) (taken : ℕ) → all ≡ before ++ event_bytes (Bytes conn piece) → taken ≤ length piece
+    → new ≡ before ++ event_bytes (Bytes conn (take taken piece)) → length all < 2 ^ 32 → length new < 2 ^ 32
+front_short before all new conn piece taken is within new_is low =
+    let first : length all ≡ length before + length (event_bytes (Bytes conn piece)) = ap (λ (l : List ℕ). length l) is ∙ length-append before (event_bytes (Bytes conn piece)) in
+    let second : length new ≡ length before + length (event_bytes (Bytes conn (take taken piece))) = ap (λ (l : List ℕ). length l) new_is ∙ length-append before (event_bytes (Bytes conn (take taken piece))) in
+    omega (arith, first, second, length-take-le taken piece within, within, low)

@@ -30,56 +30,58 @@ knows_names n (x ∷ xs) = ap (λ (b : Bool). same_conn x.conn n || b) (knows_na
 
 among_left : (n : Conn) (ks ms : List Conn) → is_among n ks ≡ true → is_among n (ks ++ ms) ≡ true
 among_left n [] ms held = absurd (true≢false (sym held))
-among_left n (k ∷ ks) ms held = go (same_conn k n) held
+among_left n (k ∷ ks) ms held = go (same_conn k n) held (λ found. among_left n ks ms found)
   where
-    go : (b : Bool) → (b || is_among n ks) ≡ true → (b || is_among n (ks ++ ms)) ≡ true
-    go true held = refl
-    go false held = among_left n ks ms held
+    go : (b : Bool) → (b || is_among n ks) ≡ true → (is_among n ks ≡ true → is_among n (ks ++ ms) ≡ true) → (b || is_among n (ks ++ ms)) ≡ true
+    go true held behind = refl
+    go false held behind = behind held
+
+-- the last one
+among_last : (n k : Conn) (ms : List Conn) → (same_conn k n || false) ≡ true → is_among n (ms ++ k ∷ []) ≡ true
+among_last n k [] is = is
+among_last n k (m ∷ ms) is = either (same_conn m n) (among_last n k ms is)
+  where
+    either : (b : Bool) → is_among n (ms ++ k ∷ []) ≡ true → (b || is_among n (ms ++ k ∷ [])) ≡ true
+    either true is = refl
+    either false is = is
 
 -- the last one, or one before it
 among_push : (n k : Conn) (ks ms : List Conn) → (is_among n ks ≡ true → is_among n ms ≡ true) → is_among n (ks ++ k ∷ []) ≡ true → is_among n (ms ++ k ∷ []) ≡ true
-among_push n k ks ms more held = go ks more held
+among_push n k [] ms more held = among_last n k ms held
+among_push n k (x ∷ ks) ms more held = by (same_conn x n) refl held (λ others found. among_push n k ks ms others found)
   where
-    last : (ms : List Conn) → (same_conn k n || false) ≡ true → is_among n (ms ++ k ∷ []) ≡ true
-    last [] is = is
-    last (m ∷ ms) is = either (same_conn m n) (last ms is)
-      where
-        either : (b : Bool) → is_among n (ms ++ k ∷ []) ≡ true → (b || is_among n (ms ++ k ∷ [])) ≡ true
-        either true is = refl
-        either false is = is
-
-    go : (ks : List Conn) → (is_among n ks ≡ true → is_among n ms ≡ true) → is_among n (ks ++ k ∷ []) ≡ true → is_among n (ms ++ k ∷ []) ≡ true
-    go [] more held = last ms held
-    go (x ∷ ks) more held = by (same_conn x n) refl held
-      where
-        by : (b : Bool) → same_conn x n ≡ b → (b || is_among n (ks ++ k ∷ [])) ≡ true → is_among n (ms ++ k ∷ []) ≡ true
-        by true is held = among_left n ms (k ∷ []) (more (ap (λ (b : Bool). b || is_among n ks) is))
-        by false is held = go ks (λ found. more (ap (λ (b : Bool). b || is_among n ks) is ∙ found)) held
+    by : (b : Bool) → same_conn x n ≡ b → (b || is_among n (ks ++ k ∷ [])) ≡ true
+        → ((is_among n ks ≡ true → is_among n ms ≡ true) → is_among n (ks ++ k ∷ []) ≡ true → is_among n (ms ++ k ∷ []) ≡ true)
+        → is_among n (ms ++ k ∷ []) ≡ true
+    by true is held behind = among_left n ms (k ∷ []) (more (ap (λ (b : Bool). b || is_among n ks) is))
+    by false is held behind = behind (λ found. more (ap (λ (b : Bool). b || is_among n ks) is ∙ found)) held
 
 -- a connection that is left is an earlier one, and another than the one that ended
 left_is : (n k : Conn) (xs : List HubConnection) → is_among n (names (without_connection k xs)) ≡ true → (is_among n (names xs) ≡ true) × (same_conn k n ≡ false)
 left_is n k [] held = absurd (true≢false (sym held))
-left_is n k (x ∷ xs) held = go (same_conn x.conn k) refl held
+left_is n k (x ∷ xs) held = go (same_conn x.conn k) refl held (λ found. left_is n k xs found)
   where
+    either : (b : Bool) → is_among n (names xs) ≡ true → (b || is_among n (names xs)) ≡ true
+    either true found = refl
+    either false found = found
+
     rest : (is_among n (names xs) ≡ true) × (same_conn k n ≡ false) → ((same_conn x.conn n || is_among n (names xs)) ≡ true) × (same_conn k n ≡ false)
-    rest found = (either (same_conn x.conn n), found.1)
-      where
-        either : (b : Bool) → (b || is_among n (names xs)) ≡ true
-        either true = refl
-        either false = found.0
+    rest found = (either (same_conn x.conn n) found.0, found.1)
+
+    by : (c : Bool) → same_conn x.conn k ≡ false → same_conn x.conn n ≡ c → (c || is_among n (names (without_connection k xs))) ≡ true
+        → (is_among n (names (without_connection k xs)) ≡ true → (is_among n (names xs) ≡ true) × (same_conn k n ≡ false))
+        → ((same_conn x.conn n || is_among n (names xs)) ≡ true) × (same_conn k n ≡ false)
+    by true is here held behind = (
+      ap (λ (b : Bool). b || is_among n (names xs)) here,
+      false_from_ne_true (same_conn k n) (λ same. true≢false (sym (subst (λ (c : Conn). same_conn c k ≡ true) (sym (one_conn x.conn n here)) (subst (λ (c : Conn). same_conn c k ≡ true) (one_conn k n same) (itself k))) ∙ is)),
+    )
+    by false is here held behind = rest (behind held)
 
     go : (b : Bool) → same_conn x.conn k ≡ b → is_among n (names (if not b then x ∷ without_connection k xs else without_connection k xs)) ≡ true
+        → (is_among n (names (without_connection k xs)) ≡ true → (is_among n (names xs) ≡ true) × (same_conn k n ≡ false))
         → ((same_conn x.conn n || is_among n (names xs)) ≡ true) × (same_conn k n ≡ false)
-    go true is held = rest (left_is n k xs held)
-    go false is held = by (same_conn x.conn n) refl held
-      where
-        by : (b : Bool) → same_conn x.conn n ≡ b → (b || is_among n (names (without_connection k xs))) ≡ true
-            → ((same_conn x.conn n || is_among n (names xs)) ≡ true) × (same_conn k n ≡ false)
-        by true here held = (
-          ap (λ (b : Bool). b || is_among n (names xs)) here,
-          false_from_ne_true (same_conn k n) (λ same. true≢false (sym (subst (λ (c : Conn). same_conn c k ≡ true) (sym (one_conn x.conn n here)) (subst (λ (c : Conn). same_conn c k ≡ true) (one_conn k n same) (itself k))) ∙ is)),
-        )
-        by false here held = rest (left_is n k xs held)
+    go true is held behind = rest (behind held)
+    go false is held behind = by (same_conn x.conn n) is refl held behind
 
 names_are : (h : HubState) (ns : List Conn) (n : Conn) → names h.connections ≡ ns → knows n h.connections ≡ true → is_among n ns ≡ true
 names_are h ns n are known = subst (λ (l : List Conn). is_among n l ≡ true) are (sym (knows_names n h.connections) ∙ known)

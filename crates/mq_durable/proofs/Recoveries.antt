@@ -1,5 +1,5 @@
 -- Replayed files, and connections that end after them.
-use Rattle.std.proofs.Common.{◌≡◌, ◌≢◌, ◌⊎◌, ⊎_elim, ℕ, ◌+◌, ◌<◌, Bool, true, false, if◌then◌else◌, List, [], ◌∷◌, ◌++◌, length, take, drop, get_or, map, Vec, refl, sym, ap, ◌∙◌, subst, append_assoc, add-one, true≢false, ◌==◌, nat_le, ◌&&◌}
+use Rattle.std.proofs.Common.{◌≡◌, ◌≢◌, ◌⊎◌, ⊎_elim, ℕ, ◌+◌, ◌<◌, Bool, true, false, if◌then◌else◌, List, [], ◌∷◌, ◌++◌, length, take, drop, get_or, map, Vec, refl, sym, ap, ap₂, ◌∙◌, subst, append_assoc, add-one, drop-cons, true≢false, ◌==◌, nat_le, ◌&&◌}
 use Rattle.std.proofs.Math.Seq.{take-suc}
 use Rattle.std.proofs.lemmas.Grind.{flat_map-append}
 use Rattle.std.proofs.lemmas.List.{append-nil}
@@ -12,12 +12,13 @@ use Rattle.mq_route.specs.declared.reply.HubReply.{HubReply}
 use Rattle.mq_route.specs.Hub.{HubState, knows}
 use Rattle.mq_route.specs.Runs.{Episode, Follows}
 use Rattle.mq_route.specs.Step.{HubStep}
+use Rattle.mq_record.specs.Reading.{IsEntry}
 use Rattle.mq_log.specs.declared.reader.Tail.{Tail}
 use Rattle.mq_log.specs.declared.reader.Tail.TheVariants.{Closed, Torn, CutShort, Damaged}
 use Rattle.mq_log.specs.Blocks.{entries, gate, tail_of, stored_length}
 use Rattle.mq_durable.specs.declared.condition.Condition.{Condition}
 use Rattle.mq_durable.specs.declared.condition.Condition.TheVariants.{Sound, OutOfMemory}
-use Rattle.mq_durable.specs.Recorded.{events_in, events_in_all, events_of}
+use Rattle.mq_durable.specs.Recorded.{AreReadable, events_in, events_in_all, events_of, IsReadable}
 use Rattle.mq_durable.specs.declared.progress.Progress.{Progress}
 use Rattle.mq_durable.specs.Recovering.{AreEnds, AreKnownAmong, Continues, HasEnded, IsRecovering, later, latest, opened_by}
 use Rattle.mq_durable.specs.Replaying.{Replays}
@@ -28,7 +29,7 @@ use Rattle.mq_durable.proofs.Runs.{replays_all, replays_none, replays_one}
 
 -- ---- entries
 
-abbrev Entry : Type 0
+abbrev pub Entry : Type 0
 Entry = Vec ℕ Global
 
 -- one more entry
@@ -169,3 +170,52 @@ one_ended {D} old new conn reply after was step is condition sound = record {
   are_ends = (refl, tt);
   replays = replays_one old.hub new.hub (Ended conn) reply step (quiet (reports_memory reply) (sym condition ∙ sym (ap (λ (d : DurableState D). d.condition) is) ∙ sound));
 }
+
+-- ---- answers of calls
+
+-- one more readable entry
+pub readable_more : (all : List Entry) (i : ℕ) (entry : Entry) → i < length all → entry ≡ get_or all i entry → AreReadable (take i all) → IsEntry (events_in entry.items) entry.items
+    → AreReadable (take (i + 1) all)
+readable_more all i entry within is front whole =
+    subst (λ (l : List Entry). AreReadable l) (sym (ap (λ (n : ℕ). take n all) (add-one i) ∙ take-suc all i entry within ∙ ap (λ (e : Entry). take i all ++ e ∷ []) (sym is))) (go (take i all) front)
+  where
+    go : (es : List Entry) → AreReadable es → AreReadable (es ++ entry ∷ [])
+    go [] front = (whole, tt)
+    go (e ∷ es) front = (front.0, go es front.1)
+
+-- the entries that were read are those of the file
+pub readable_read : (all : List Entry) (file : List ℕ) → map (λ (v : Entry). v.items) all ≡ entries file → AreReadable all → IsReadable file
+readable_read all file are whole = subst (λ (l : List (List ℕ)). AllByRecursion (λ e. IsEntry (events_in e) e) l) are (go all whole)
+  where
+    go : (es : List Entry) → AreReadable es → AllByRecursion (λ (e : List ℕ). IsEntry (events_in e) e) (map (λ (v : Entry). v.items) es)
+    go [] front = tt
+    go (e ∷ es) front = (front.0, go es front.1)
+
+pub of_slice : (p q : Progress) (all slice : List Entry) (file : List ℕ) → slice ≡ all → map (λ (v : Entry). v.items) all ≡ entries file → Continues p (events_in_all slice) q → Continues p (events_of file) q
+of_slice p q all slice file same are continues =
+    subst (λ (l : List HubEvent). Continues p l q) (ap events_in_all same ∙ of_read all file are) continues
+
+-- a broker whose connections have all ended, behind a new journal
+pub record IsResumed {D : Type 0} (hub : HubState) (disk : D) (new : DurableState D) : Type 0 where
+  pub base : new.base ≡ hub
+  pub disk_is : new.disk ≡ disk
+  pub ends : AreEnds new.pending
+  pub replays : Replays hub new.pending new.hub
+  pub sound : new.condition ≡ Sound
+
+pub resumed : {D : Type 0} (hub : HubState) (disk : D) (old new : DurableState D)
+    → old ≡ record { base = hub; hub = hub; pending = []; disk = disk; condition = Sound } → HasEnded old new → IsResumed hub disk new
+resumed {D} hub disk old new is ended =
+    let e : HasEnded (record { base = hub; hub = hub; pending = []; disk = disk; condition = Sound }) new = subst (λ (o : DurableState D). HasEnded o new) is ended in
+    record {
+      base = e.base;
+      disk_is = e.disk;
+      ends = subst AreEnds (sym e.pending) e.are_ends;
+      replays = subst (λ (l : List HubEvent). Replays hub l new.hub) (sym e.pending) e.replays;
+      sound = e.sound;
+    }
+
+-- the first of some connections ended
+pub next_ended : (conns : List Conn) (i : ℕ) (conn : Conn) (hub : HubState) → i < length conns → conn ≡ get_or conns i conn → AreKnownAmong (drop i conns) hub → AreKnownAmong (conn ∷ drop (i + 1) conns) hub
+next_ended conns i conn hub within is known =
+    subst (λ (l : List Conn). AreKnownAmong l hub) (drop-cons conns i conn within ∙ sym (ap₂ (λ (c : Conn) (n : ℕ). c ∷ drop n conns) is (add-one i))) known

@@ -26,11 +26,11 @@ one h g event reply step = (step.right, step.does, step.after)
 
 sound_all : (es fs : List Episode) → IsSound es → IsSound fs → IsSound (es ++ fs)
 sound_all [] fs first more = more
-sound_all (e ∷ es) fs first more = go (reports_memory e.reply) first
+sound_all (e ∷ es) fs first more = go (reports_memory e.reply) first (λ rest. sound_all es fs rest more)
   where
-    go : (b : Bool) → (b || list_any (λ (x : Episode). reports_memory x.reply) es) ≡ false → (b || list_any (λ (x : Episode). reports_memory x.reply) (es ++ fs)) ≡ false
-    go true no = no
-    go false rest = sound_all es fs rest more
+    go : (b : Bool) → (b || list_any (λ (x : Episode). reports_memory x.reply) es) ≡ false → (IsSound es → IsSound (es ++ fs)) → (b || list_any (λ (x : Episode). reports_memory x.reply) (es ++ fs)) ≡ false
+    go true no behind = no
+    go false rest behind = behind rest
 
 -- ---- exactly these events
 

@@ -73,6 +73,16 @@ fn is_broken(condition: Condition) -> bool
     }
 }
 
+fn has_bytes(entry: &[u8]) -> bool
+    ensures yes { result ≡ true → entry.now ≢ [] }
+    ensures no { result ≡ false → entry.now ≡ [] }
+{
+    match entry {
+        [] => false,
+        _ => true,
+    }
+}
+
 impl<D: Disk> Durable<D> {
     /// A broker whose events are recorded in a journal that has no entry.
     ///
@@ -136,7 +146,7 @@ impl<D: Disk> Durable<D> {
         ensures { (result ≡ false) ↔ (self.now.pending ≡ []) }
     {
         record_laws();
-        !self.entry.is_empty()
+        has_bytes(self.entry.as_slice())
     }
 
     /// Makes the broker's step for an event, which is then pending. The event must be one that is
@@ -259,7 +269,7 @@ impl<D: Disk> Durable<D> {
             Condition::OutOfMemory => return Err(CommitError::OutOfMemory),
             Condition::Broken => return Err(CommitError::Broken),
         }
-        if self.entry.is_empty() {
+        if !has_bytes(self.entry.as_slice()) {
             return Ok(());
         }
         match self.journal.put(self.alloc, self.entry.as_slice()) {

@@ -21,6 +21,7 @@ fn is_for_memory(why: HubClose) -> bool
     }
 }
 
+#[tactic(auto, unfolding(crate::specs::Memory::lacks_memory))]
 fn lacks_memory(act: &Act) -> bool
     ensures { result ≡ lacks_memory act.now }
 {
