@@ -231,8 +231,8 @@ module _ (reading : OneReading) (laws : ReadsAgain) where
   -- ---- runs
 
   both_false : (a b : Bool) → (a || b) ≡ false → (a ≡ false) × (b ≡ false)
-  both_false true b no = absurd (true≢false no)
-  both_false false b no = (refl, no)
+  both_false true b wrong = absurd (true≢false wrong)
+  both_false false b right = (refl, right)
 
   follows_same : (h k g f : HubState) (es fs : List Episode) → Follows h es g → Follows k fs f → h ≡ k
       → map (λ (e : Episode). e.event) es ≡ map (λ (e : Episode). e.event) fs → IsSound es → IsSound fs

@@ -265,7 +265,7 @@ quiet_front (a ∷ others) more quiet = go (lacks_memory a) quiet (λ rest. quie
   where
     go : (b : Bool) → (b || list_any lacks_memory (others ++ more)) ≡ false → (list_any lacks_memory (others ++ more) ≡ false → list_any lacks_memory others ≡ false)
         → (b || list_any lacks_memory others) ≡ false
-    go true no before = no
+    go true wrong before = wrong
     go false rest before = before rest
 
 pub quiet_before : (w v : Work) → Grows w v → IsQuiet v → IsQuiet w
@@ -275,12 +275,12 @@ quiet_last : (front : List Act) (a : Act) → list_any lacks_memory (front ++ a 
 quiet_last [] a quiet = go (lacks_memory a) quiet
   where
     go : (b : Bool) → (b || false) ≡ false → b ≡ false
-    go true no = no
-    go false no = refl
+    go true wrong = wrong
+    go false right = refl
 quiet_last (x ∷ xs) a quiet = go (lacks_memory x) quiet (λ rest. quiet_last xs a rest)
   where
     go : (b : Bool) → (b || list_any lacks_memory (xs ++ a ∷ [])) ≡ false → (list_any lacks_memory (xs ++ a ∷ []) ≡ false → lacks_memory a ≡ false) → lacks_memory a ≡ false
-    go true no behind = absurd (true≢false no)
+    go true wrong behind = absurd (true≢false wrong)
     go false rest behind = behind rest
 
 pub quiet_said : (a : Act) (w : Work) → IsQuiet (said a w) → lacks_memory a ≡ false

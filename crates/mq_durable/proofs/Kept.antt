@@ -255,10 +255,10 @@ new_state base hub disk entry same none =
 pub pending_test : {D : Type 0} (b : Bool) (base hub : HubState) (disk : D) (slice entry : List ℕ) (condition : Condition) (old : DurableState D)
     → state base hub (events_in entry) disk condition ≡ old → IsEntry (events_in entry) entry → slice ≡ entry → (b ≡ true → slice ≢ []) → (b ≡ false → slice ≡ [])
     → (b ≡ false → old.pending ≡ []) × (old.pending ≡ [] → b ≡ false)
-pending_test {D} true base hub disk slice entry condition old view whole same yes no =
-    (λ e. absurd (true≢false e), λ e. absurd (yes refl (same ∙ is_empty entry whole (ap (λ (o : DurableState D). o.pending) view ∙ e))))
-pending_test {D} false base hub disk slice entry condition old view whole same yes no =
-    (λ e. sym (ap (λ (o : DurableState D). o.pending) view) ∙ ap events_in (sym same ∙ no refl) ∙ none_found, λ e. refl)
+pending_test {D} true base hub disk slice entry condition old view whole same some none =
+    (λ e. absurd (true≢false e), λ e. absurd (some refl (same ∙ is_empty entry whole (ap (λ (o : DurableState D). o.pending) view ∙ e))))
+pending_test {D} false base hub disk slice entry condition old view whole same some none =
+    (λ e. sym (ap (λ (o : DurableState D). o.pending) view) ∙ ap events_in (sym same ∙ none refl) ∙ none_found, λ e. refl)
 
 -- the front of a piece that is kept
 pub front_noted : (before all new : List ℕ) (conn : Conn) (piece : List ℕ) (at taken : ℕ) → length before ≡ at → all ≡ before ++ event_bytes (Bytes conn piece) → taken ≤ length piece

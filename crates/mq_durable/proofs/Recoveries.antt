@@ -1,5 +1,5 @@
 -- Replayed files, and connections that end after them.
-use Rattle.std.proofs.Common.{◌≡◌, ◌≢◌, ◌⊎◌, ⊎_elim, ℕ, ◌+◌, ◌<◌, Bool, true, false, if◌then◌else◌, List, [], ◌∷◌, ◌++◌, length, take, drop, get_or, map, Vec, refl, sym, ap, ap₂, ◌∙◌, subst, append_assoc, add-one, drop-cons, true≢false, ◌==◌, nat_le, ◌&&◌}
+use Rattle.std.proofs.Common.{◌≡◌, ◌≢◌, ◌⊎◌, ⊎_elim, ℕ, ◌+◌, ◌<◌, Bool, true, false, if◌then◌else◌, List, [], ◌∷◌, ◌++◌, length, take, drop, get_or, map, Vec, refl, sym, ap, ◌∙◌, subst, append_assoc, add-one, drop-cons, true≢false, ◌==◌, nat_le, ◌&&◌}
 use Rattle.std.proofs.Math.Seq.{take-suc}
 use Rattle.std.proofs.lemmas.Grind.{flat_map-append}
 use Rattle.std.proofs.lemmas.List.{append-nil}
@@ -216,6 +216,6 @@ resumed {D} hub disk old new is ended =
     }
 
 -- the first of some connections ended
-pub next_ended : (conns : List Conn) (i : ℕ) (conn : Conn) (hub : HubState) → i < length conns → conn ≡ get_or conns i conn → AreKnownAmong (drop i conns) hub → AreKnownAmong (conn ∷ drop (i + 1) conns) hub
-next_ended conns i conn hub within is known =
-    subst (λ (l : List Conn). AreKnownAmong l hub) (drop-cons conns i conn within ∙ sym (ap₂ (λ (c : Conn) (n : ℕ). c ∷ drop n conns) is (add-one i))) known
+pub next_ended : (conns : List Conn) (i : ℕ) (first : Conn) (hub : HubState) → i < length conns → AreKnownAmong (drop i conns) hub → AreKnownAmong (get_or conns i first ∷ drop (i + 1) conns) hub
+next_ended conns i first hub within known =
+    subst (λ (l : List Conn). AreKnownAmong l hub) (drop-cons conns i first within ∙ ap (λ (n : ℕ). get_or conns i first ∷ drop n conns) (sym (add-one i))) known

@@ -29,7 +29,7 @@ sound_all [] fs first more = more
 sound_all (e ∷ es) fs first more = go (reports_memory e.reply) first (λ rest. sound_all es fs rest more)
   where
     go : (b : Bool) → (b || list_any (λ (x : Episode). reports_memory x.reply) es) ≡ false → (IsSound es → IsSound (es ++ fs)) → (b || list_any (λ (x : Episode). reports_memory x.reply) (es ++ fs)) ≡ false
-    go true no behind = no
+    go true wrong behind = wrong
     go false rest behind = behind rest
 
 -- ---- exactly these events

@@ -13,9 +13,8 @@ pub loop-conn-preserved : goal.loop-conn-preserved
 loop-conn-preserved g c =
     let conns : List Conn = c.args.conns.now in
     let i : ℕ = c.loop-conn.conn-index in
-    let conn : Conn = c.conn-item.result in
     let within : i < length conns = omega (arith, c.loop-conn-test.true) in
     record {
       ended = ended_all c.args.durable.now c.loop-conn.durable c.end_one.new.durable c.loop-conn.invariant.ended c.in_ok-end_one.ensures.ended;
-      known = c.in_ok-end_one.ensures.known (drop (i + 1) conns) (next_ended conns i conn c.loop-conn.durable.hub within c.conn-item.is c.loop-conn.invariant.known);
+      known = c.in_ok-end_one.ensures.known (drop (i + 1) conns) (next_ended conns i _ c.loop-conn.durable.hub within c.loop-conn.invariant.known);
     }

@@ -4,8 +4,14 @@ use Rattle.mq_record.specs.Reading.{IsEntry}
 use Rattle.mq_route.specs.declared.event.HubEvent.{HubEvent}
 use Rattle.mq_durable.specs.Recorded.{events_in, events_in_all}
 use Rattle.mq_durable.specs.Recovering.{Continues}
-use Rattle.mq_durable.proofs.Recoveries.{continues_all, in_all_push, readable_more}
+use Rattle.mq_durable.proofs.Recoveries.{continues_all, continues_none, in_all_push, in_none, readable_more}
 use Rattle.mq_durable.proofs.progress.Progress.after.Goals as goal
+
+pub loop-entry-init : goal.loop-entry-init
+loop-entry-init c = record {
+  continues = subst (λ (l : List HubEvent). Continues c.args.self l c.args.self) (sym in_none) (continues_none c.args.self);
+  readable = tt;
+}
 
 pub loop-entry-preserved : goal.loop-entry-preserved
 loop-entry-preserved c =
