@@ -96,8 +96,8 @@ pub(crate) fn step_noted(
     }
 }
 
-// Steps the broker with the front of bytes that arrive, and keeps the encoding of exactly that front
-// if the step is made.
+// Steps the broker with the front of bytes that arrive, and keeps the encoding of exactly that
+// front if the step is made.
 pub(crate) fn step_some_noted(
     hub: &mut Hub,
     entry: &mut Vec<u8>,

@@ -13,8 +13,8 @@
 //! which it is pending. [`is_recorded`] tests for it.
 //!
 //! Record the events of an entry with [`encode_event`], one behind the other. [`decode_events`]
-//! reads the entry back. [`encode_piece`] and [`shorten_piece`] record a piece of which a broker may
-//! take only the front.
+//! reads the entry back. [`encode_piece`] and [`shorten_piece`] record a piece of which a broker
+//! takes only the front.
 //!
 //! A call that allocates returns a `Result`; other calls never allocate. On `Err` the receiver is
 //! unchanged unless stated otherwise.
