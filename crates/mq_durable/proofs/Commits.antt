@@ -1,18 +1,16 @@
 -- The outcomes of a commit, as contracts see them.
-use Rattle.std.proofs.Common.{◌≡◌, ◌≢◌, ℕ, List, [], ◌∷◌, ◌++◌, refl, sym, ap, ◌∙◌, subst}
+use Rattle.std.proofs.Common.{◌≡◌, ◌≢◌, ℕ, List, [], ◌∷◌, ◌++◌, sym, ap, ◌∙◌, subst}
 use Rattle.std.proofs.lemmas.List.{append-nil}
 use Rattle.mq_route.specs.declared.event.HubEvent.{HubEvent}
 use Rattle.mq_route.specs.Hub.{HubState}
-use Rattle.mq_record.specs.Reading.{IsEntry}
 use Rattle.mq_log.specs.Blocks.{entries}
 use Rattle.mq_log.specs.Disk.{LeavesOnly}
 use Rattle.mq_log.specs.Journal.{IsBeforeOrAfter}
 use Rattle.mq_log.specs.Laws.{JournalLaws}
 use Rattle.mq_log.specs.declared.journal.Journal.{Journal}
 use Rattle.mq_durable.specs.declared.condition.Condition.{Condition}
-use Rattle.mq_durable.specs.declared.condition.Condition.TheVariants.{Sound, Broken}
-use Rattle.mq_durable.specs.Calls.{Committed, MakesCall}
-use Rattle.mq_durable.specs.Recorded.{AfterCrash, events_in, events_of, HoldsAllOrNone, IsReadable}
+use Rattle.mq_durable.specs.declared.condition.Condition.TheVariants.{Broken}
+use Rattle.mq_durable.specs.Recorded.{AfterCrash, events_in, events_of, HoldsAllOrNone}
 use Rattle.mq_durable.specs.State.{DurableState, IsDurable}
 use Rattle.mq_durable.proofs.Crashes.{all_or_none, kept, left_now, weaker}
 use Rattle.mq_durable.proofs.Entries.{none_found, of_push}

@@ -1,8 +1,8 @@
 -- The files that a crash during a commit may leave.
-use Rattle.std.proofs.Common.{◌≡◌, ◌≢◌, ◌⊎◌, inl, inr, ⊎_elim, ℕ, ◌≤◌, List, [], ◌∷◌, ◌++◌, refl, sym, subst, arith}
+use Rattle.std.proofs.Common.{◌≡◌, ◌≢◌, inl, inr, ⊎_elim, ℕ, List, [], ◌∷◌, refl, sym, subst, arith}
 use Rattle.mq_record.specs.Reading.{IsEntry}
-use Rattle.mq_log.specs.Blocks.{entries, gate, rest, at_rest}
-use Rattle.mq_log.specs.Disk.{LeavesOnly, Only}
+use Rattle.mq_log.specs.Blocks.{entries, gate, rest}
+use Rattle.mq_log.specs.Disk.{LeavesOnly}
 use Rattle.mq_log.specs.Journal.{IsBeforeOrAfter, IsSettled}
 use Rattle.mq_log.specs.declared.journal.Journal.{Journal}
 use Rattle.mq_log.specs.Laws.{JournalLaws}

@@ -28,7 +28,7 @@ use Rattle.mq_route.specs.Hub.{HubState, HubConnection, without_connection, stag
 use Rattle.mq_route.specs.Welcome.{client_of, ends_with, refusal}
 use Rattle.mq_route.specs.Work.{Work, begin, said, with_sessions, shut, put_on, does, have_room, last_will, will_after, remove_if, leaves_behind, close}
 use Rattle.mq_route.specs.Arrives.{Growth, due, answers_all, replies, take_over, goes_on, accept_connect, on_connect, on_first_packet, dispatch_packet, touched_on, arrives, noted, takes, closes_by, broken, on_malformed}
-use Rattle.mq_route.specs.Step.{holding, is_open_on, Comes, Arrives, Waits, Breaks, Starves, LetsGo, Ticks, Done, InTime, Late, Does, HubStep, done, ended, ended_open, told}
+use Rattle.mq_route.specs.Step.{holding, is_open_on, Comes, Arrives, Waits, Breaks, Starves, LetsGo, Ticks, Done, InTime, Late, Does, done, ended, ended_open, told}
 use Rattle.mq_route.specs.Runs.{Episode, Follows}
 use Rattle.mq_durable.specs.Determined.{ReplayLaws}
 use Rattle.mq_durable.specs.Memory.{lacks_memory, reports_memory}

@@ -1,6 +1,6 @@
 -- The facts of a durable broker, after each of its calls.
 use Rattle.std.proofs.lemmas.List.{length-take-le, take_at}
-use Rattle.std.proofs.Common.{◌≡◌, ◌≢◌, ◌⊎◌, inl, inr, Bool, false, true≢false, length-append, ℕ, ◌+◌, ◌<◌, ◌≤◌, ◌^◌, true, List, [], ◌∷◌, ◌++◌, length, take, refl, sym, ap, ◌∙◌, subst, arith, append_assoc, Option, Some, None, Result, Ok, Err}
+use Rattle.std.proofs.Common.{◌≡◌, ◌≢◌, inl, inr, Bool, false, true≢false, length-append, ℕ, ◌+◌, ◌<◌, ◌≤◌, ◌^◌, true, List, [], ◌∷◌, ◌++◌, length, take, refl, sym, ap, ◌∙◌, subst, arith, append_assoc, Option, Some, None, Result, Ok, Err}
 use Rattle.std.specs.Option.{IfSome}
 use Rattle.std.specs.Result.{IfErr, IfOk, OnOk, OnErr}
 use Rattle.mq_route.specs.declared.conn.Conn.{Conn}
@@ -19,7 +19,7 @@ use Rattle.mq_log.specs.Blocks.{at_rest, entries}
 use Rattle.mq_log.specs.Journal.{IsSettled}
 use Rattle.mq_log.specs.declared.journal.Journal.{Journal}
 use Rattle.mq_durable.specs.declared.condition.Condition.{Condition}
-use Rattle.mq_durable.specs.declared.condition.Condition.TheVariants.{Sound, OutOfMemory, Broken}
+use Rattle.mq_durable.specs.declared.condition.Condition.TheVariants.{Sound, Broken}
 use Rattle.mq_durable.specs.Recorded.{events_in, events_of}
 use Rattle.mq_durable.specs.declared.fault.StepRefusal.{StepRefusal}
 use Rattle.mq_durable.specs.declared.fault.StepRefusal.TheVariants as steps

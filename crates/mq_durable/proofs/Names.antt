@@ -1,13 +1,12 @@
 -- The connections that a broker knows are among those that events opened.
-use Rattle.std.proofs.Common.{◌≡◌, ℕ, Bool, true, false, ◌||◌, List, [], ◌∷◌, ◌++◌, max, map, refl, sym, ap, ◌∙◌, subst, true≢false, not, if◌then◌else◌}
-use Rattle.std.proofs.lemmas.Bool.{cases_Bool, and_parts, false_from_ne_true}
-use Rattle.std.proofs.Common.{inl, inr, eqb, eqb-true, eq-eqb, ◌&&◌}
-use Rattle.std.specs.List.{list_any}
+use Rattle.std.proofs.Common.{◌≡◌, ℕ, Bool, true, false, ◌||◌, List, [], ◌∷◌, ◌++◌, map, refl, sym, ap, ◌∙◌, subst, true≢false, not, if◌then◌else◌}
+use Rattle.std.proofs.lemmas.Bool.{and_parts, false_from_ne_true}
+use Rattle.std.proofs.Common.{eqb, eqb-true, eq-eqb, ◌&&◌}
 use Rattle.mq_route.specs.declared.conn.Conn.{Conn}
 use Rattle.mq_route.specs.declared.event.HubEvent.{HubEvent}
 use Rattle.mq_route.specs.declared.event.HubEvent.TheVariants.{Opened, Bytes, Ended, Tick, Collect}
 use Rattle.mq_route.specs.declared.reply.HubReply.{HubReply}
-use Rattle.mq_route.specs.Hub.{HubState, HubConnection, knows, is_connection, without_connection}
+use Rattle.mq_route.specs.Hub.{HubState, HubConnection, knows, without_connection}
 use Rattle.mq_route.specs.Routed.{same_conn}
 use Rattle.mq_route.specs.Step.{HubStep}
 use Rattle.mq_durable.specs.Recovering.{is_among, AreKnownAmong, later, opened_by}

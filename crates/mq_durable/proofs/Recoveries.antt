@@ -1,5 +1,5 @@
 -- Replayed files, and connections that end after them.
-use Rattle.std.proofs.Common.{◌≡◌, ◌≢◌, ◌⊎◌, ⊎_elim, ℕ, ◌+◌, ◌<◌, Bool, true, false, if◌then◌else◌, List, [], ◌∷◌, ◌++◌, length, take, drop, get_or, map, Vec, refl, sym, ap, ◌∙◌, subst, append_assoc, add-one, drop-cons, true≢false, ◌==◌, nat_le, ◌&&◌}
+use Rattle.std.proofs.Common.{◌≡◌, ◌≢◌, ◌⊎◌, ⊎_elim, ℕ, ◌+◌, ◌<◌, Bool, true, false, if◌then◌else◌, List, [], ◌∷◌, ◌++◌, length, take, drop, get_or, map, Vec, refl, sym, ap, ◌∙◌, subst, append_assoc, add-one, drop-cons, ◌==◌, nat_le, ◌&&◌}
 use Rattle.std.proofs.Math.Seq.{take-suc}
 use Rattle.std.proofs.lemmas.Grind.{flat_map-append}
 use Rattle.std.proofs.lemmas.List.{append-nil}
@@ -9,11 +9,10 @@ use Rattle.mq_route.specs.declared.conn.Conn.{Conn}
 use Rattle.mq_route.specs.declared.event.HubEvent.{HubEvent}
 use Rattle.mq_route.specs.declared.event.HubEvent.TheVariants.{Ended}
 use Rattle.mq_route.specs.declared.reply.HubReply.{HubReply}
-use Rattle.mq_route.specs.Hub.{HubState, knows}
+use Rattle.mq_route.specs.Hub.{HubState}
 use Rattle.mq_route.specs.Runs.{Episode, Follows}
 use Rattle.mq_route.specs.Step.{HubStep}
 use Rattle.mq_record.specs.Reading.{IsEntry}
-use Rattle.mq_log.specs.declared.reader.Tail.{Tail}
 use Rattle.mq_log.specs.declared.reader.Tail.TheVariants.{Closed, Torn, CutShort, Damaged}
 use Rattle.mq_log.specs.Blocks.{entries, gate, tail_of, stored_length}
 use Rattle.mq_durable.specs.declared.condition.Condition.{Condition}

@@ -1,5 +1,5 @@
 -- Runs of a broker, one event after another.
-use Rattle.std.proofs.Common.{◌≡◌, Bool, true, false, List, [], ◌∷◌, ◌++◌, map, None, refl, sym, ◌∙◌, ap, subst, ◌||◌, if◌then◌else◌}
+use Rattle.std.proofs.Common.{◌≡◌, Bool, true, false, List, [], ◌∷◌, ◌++◌, map, refl, sym, ◌∙◌, ap, subst, ◌||◌, if◌then◌else◌}
 use Rattle.std.proofs.lemmas.List.{map-append, append-nil}
 use Rattle.std.proofs.lemmas.List.Elements.{filter-append}
 use Rattle.std.specs.List.{list_any, filter}
@@ -9,7 +9,7 @@ use Rattle.mq_route.specs.declared.event.HubEvent.TheVariants.{Collect}
 use Rattle.mq_route.specs.declared.reply.HubReply.{HubReply}
 use Rattle.mq_route.specs.Hub.{HubState}
 use Rattle.mq_route.specs.Runs.{Episode, Follows}
-use Rattle.mq_route.specs.Step.{Does, HubStep, event_refusal}
+use Rattle.mq_route.specs.Step.{HubStep}
 use Rattle.mq_record.specs.Encoding.{is_recorded}
 use Rattle.mq_durable.specs.Memory.{reports_memory}
 use Rattle.mq_durable.specs.Replaying.{IsSound, Reaches, Replays}

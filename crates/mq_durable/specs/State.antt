@@ -1,5 +1,5 @@
 -- What contracts see of a durable broker.
-use Rattle.std.specs.Prelude.{◌≡◌, ◌≢◌, ◌⊎◌, ℕ, ◌+◌, ◌≤◌, ◌<◌, ◌^◌, List, [], ◌∷◌, ◌++◌, length, Some, Result, Ok, Err, if◌then◌else◌}
+use Rattle.std.specs.Prelude.{◌≡◌, ◌≢◌, ◌⊎◌, ℕ, ◌+◌, ◌≤◌, ◌<◌, ◌^◌, List, ◌++◌, length, Some, Result, Ok, Err, if◌then◌else◌}
 use Rattle.mq_route.specs.declared.event.HubEvent.{HubEvent}
 use Rattle.mq_route.specs.declared.refusal.HubRefusal.{HubRefusal}
 use Rattle.mq_route.specs.declared.refusal.HubRefusal.TheVariants as refusals
@@ -9,7 +9,6 @@ use Rattle.mq_route.specs.Step.{event_refusal}
 use Rattle.mq_record.specs.Encoding.{entry_bytes, event_bytes}
 use Rattle.mq_record.specs.Reading.{IsEntry}
 use Rattle.mq_log.specs.Journal.{IsSettled}
-use Rattle.mq_log.specs.declared.disk.DiskError.{DiskError}
 use Rattle.mq_log.specs.declared.journal.Journal.{Journal}
 use Rattle.mq_durable.specs.declared.condition.Condition.{Condition}
 use Rattle.mq_durable.specs.declared.condition.Condition.TheVariants.{Sound, OutOfMemory, Broken}

@@ -1,6 +1,4 @@
-use Rattle.std.proofs.Common.{◌≡◌, ◌++◌, length, rules, arith}
-use Rattle.mq_route.specs.declared.event.HubEvent.TheVariants.{Bytes}
-use Rattle.mq_record.specs.Encoding.{event_bytes}
+use Rattle.std.proofs.Common.{◌≡◌, length, rules, arith}
 use Rattle.mq_durable.proofs.Kept.{front_noted, front_short}
 use Rattle.mq_durable.proofs.noted.step_some_noted.Goals as goal
 

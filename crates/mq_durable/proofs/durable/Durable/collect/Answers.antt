@@ -1,4 +1,4 @@
-use Rattle.mq_durable.proofs.Kept.{collect_call, collect_err, collect_kept, collect_ok, collect_refused}
+use Rattle.mq_durable.proofs.Kept.{collect_kept}
 use Rattle.mq_durable.proofs.durable.Durable.collect.Goals as goal
 
 pub invariant_of-self : goal.invariant_of-self

@@ -1,4 +1,4 @@
-use Rattle.std.proofs.Common.{◌≡◌, ◌+◌, ◌<◌, ℕ, List, length, take, sym, subst, arith, Vec}
+use Rattle.std.proofs.Common.{◌<◌, ℕ, List, length, take, sym, subst, arith, Vec}
 use Rattle.std.specs.declared.alloc.Global.{Global}
 use Rattle.mq_record.specs.Reading.{IsEntry}
 use Rattle.mq_route.specs.declared.event.HubEvent.{HubEvent}

@@ -1,5 +1,4 @@
-use Rattle.std.proofs.Common.{◌≡◌, List, sym, ◌∙◌, ap, subst}
-use Rattle.mq_durable.specs.declared.progress.Progress.{Progress}
+use Rattle.std.proofs.Common.{List, ◌∙◌, ap, subst}
 use Rattle.mq_durable.specs.Recorded.{AreReadable, events_of}
 use Rattle.mq_route.specs.Hub.{HubState}
 use Rattle.mq_durable.specs.Recovering.{Continues, latest}
