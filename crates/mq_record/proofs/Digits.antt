@@ -1,5 +1,6 @@
 -- Numbers that are written and read back.
-use Rattle.std.proofs.Common.{◌≡◌, ℕ, suc, ◌+◌, ◌*◌, ◌/◌, ◌%◌, ◌<◌, ◌≤◌, List, [], ◌∷◌, ◌++◌, length, drop, refl, sym, ◌∙◌, ap, arith}
+use Rattle.std.proofs.Common.{◌≡◌, ℕ, suc, ◌+◌, ◌*◌, ◌/◌, ◌%◌, ◌<◌, ◌≤◌, List, [], ◌∷◌, ◌++◌, length, take, drop, refl, sym, ◌∙◌, ap, ap₂, arith, append_assoc, length-append}
+use Rattle.std.proofs.lemmas.List.{drop_at, length-take-le, take_at, take-append-drop}
 use Rattle.std.specs.Int.{w16, w32, to_be_bytes}
 use Rattle.mq_wire.specs.Bytes.{AreBytes}
 use Rattle.mq_wire.specs.Number.{number, number_in}
@@ -102,3 +103,23 @@ eight_again n rest =
 pub front_first : (old front piece : List ℕ) (conn : Conn) (n : ℕ) → front ≡ 2 ∷ (conn_bytes conn ++ four_bytes n)
     → old ++ (front ++ piece) ≡ old ++ 2 ∷ (conn_bytes conn ++ (four_bytes n ++ piece))
 front_first old front piece conn n is = ap (λ (l : List ℕ). old ++ (l ++ piece)) is
+
+-- a piece of which the front is kept: its length is overwritten, and the rest is cut off
+pub front_kept : (all before four piece new : List ℕ) (conn : Conn) (at taken : ℕ)
+    → all ≡ before ++ 2 ∷ (conn_bytes conn ++ (four ++ piece)) → length before ≡ at → length four ≡ 4 → length new ≡ 4 → taken ≤ length piece
+    → take (at + 11 + taken) (take (at + 7) all ++ (new ++ drop 4 (drop (at + 7) all))) ≡ before ++ 2 ∷ (conn_bytes conn ++ (new ++ take taken piece))
+front_kept all before four piece new conn at taken is at_is four_is new_is within =
+    let head : List ℕ = 2 ∷ conn_bytes conn in
+    let front : List ℕ = before ++ head in
+    let long : length front ≡ at + 7 = omega (arith, length-append before head) in
+    let split : all ≡ front ++ (four ++ piece) = is ∙ sym (append_assoc before head (four ++ piece)) in
+    let low : take (at + 7) all ≡ front = ap (λ (l : List ℕ). take (at + 7) l) split ∙ take_at front (four ++ piece) (at + 7) long in
+    let high : drop 4 (drop (at + 7) all) ≡ piece =
+    ap (λ (l : List ℕ). drop 4 (drop (at + 7) l)) split ∙ ap (λ (l : List ℕ). drop 4 l) (drop_at front (four ++ piece) (at + 7) long) ∙ drop_at four piece 4 four_is in
+    let cut : take (at + 11 + taken) (front ++ (new ++ piece)) ≡ front ++ (new ++ take taken piece) =
+    ap (λ (l : List ℕ). take (at + 11 + taken) (front ++ (new ++ l))) (sym (take-append-drop taken piece))
+    ∙ ap (λ (l : List ℕ). take (at + 11 + taken) l) (sym (append_assoc front new (take taken piece ++ drop taken piece)) ∙ sym (append_assoc (front ++ new) (take taken piece) (drop taken piece)))
+    ∙ take_at ((front ++ new) ++ take taken piece) (drop taken piece) (at + 11 + taken)
+    (omega (arith, length-append (front ++ new) (take taken piece), length-append front new, length-take-le taken piece within, long, new_is, within))
+    ∙ append_assoc front new (take taken piece) in
+    ap₂ (λ (l m : List ℕ). take (at + 11 + taken) (l ++ (new ++ m))) low high ∙ cut ∙ append_assoc before head (new ++ take taken piece)

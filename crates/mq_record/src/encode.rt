@@ -1,7 +1,9 @@
 //! Encoding an event.
 
-ghost use Rattle.std.specs.Prelude.{◌≡◌, ◌↔◌, ◌≤◌, ◌<◌, ◌^◌, ◌++◌, ◌∷◌, length, true, OnOk, OnErr, IsErrOf};
-ghost use Rattle.mq_record.specs.Encoding.{conn_bytes, event_bytes, four_bytes, is_recorded, is_too_long};
+ghost use Rattle.std.specs.Prelude.{◌≡◌, ℕ, ◌↔◌, ◌+◌, ◌≤◌, ◌<◌, ◌^◌, ◌++◌, List, length, take, true, OnOk, OnErr, IsErrOf};
+ghost use Rattle.mq_route.specs.declared.conn.Conn.{Conn};
+ghost use Rattle.mq_route.specs.declared.event.HubEvent.TheVariants.{Bytes};
+ghost use Rattle.mq_record.specs.Encoding.{event_bytes, is_recorded, is_too_long};
 
 use crate::fault::EncodeFault;
 use crate::numbers::{with_conn, with_conn_and_len, with_time};
@@ -34,7 +36,7 @@ pub fn encode_event(event: &HubEvent, out: &mut Vec<u8>) -> Result<(), EncodeFau
             if piece.len() >= 1 << 32 {
                 return Err(EncodeFault::TooLong);
             }
-            put_piece(*conn, piece.as_slice(), out)?;
+            encode_piece(*conn, piece.as_slice(), out)?;
         }
         HubEvent::Ended(conn) => out.extend_from_slice(&with_conn(3, *conn))?,
         HubEvent::Tick(now) => out.extend_from_slice(&with_time(4, *now))?,
@@ -43,11 +45,12 @@ pub fn encode_event(event: &HubEvent, out: &mut Vec<u8>) -> Result<(), EncodeFau
     Ok(())
 }
 
+/// Appends the encoding of `Bytes(conn, piece)`. The piece must have fewer than 2^32 bytes.
 #[tactic(auto, using(crate::proofs::Digits::front_first))]
-fn put_piece(conn: Conn, piece: &[u8], out: &mut Vec<u8>) -> Result<(), AllocError>
+pub fn encode_piece(conn: Conn, piece: &[u8], out: &mut Vec<u8>) -> Result<(), AllocError>
     requires { length piece.now < 2 ^ 32 }
     ensures appended { OnOk result (out.new.items
-        ≡ out.old.items ++ 2 ∷ (conn_bytes conn ++ (four_bytes (length piece.now) ++ piece.now))) }
+        ≡ out.old.items ++ event_bytes (Bytes conn piece.now)) }
     ensures unchanged { OnErr result (out.new.items ≡ out.old.items) }
 {
     let front = with_conn_and_len(2, conn, piece.len() as u32);
@@ -66,4 +69,19 @@ fn put_both(front: &[u8], back: &[u8], out: &mut Vec<u8>) -> Result<(), AllocErr
         return Err(failed);
     }
     Ok(())
+}
+
+/// Shortens the piece of an encoding of `Bytes` to its first `taken` bytes. The encoding must begin
+/// at `at` and end `out`.
+pub fn shorten_piece(out: &mut Vec<u8>, at: usize, taken: usize)
+    requires within { at + 11 + taken ≤ length out.old.items }
+    requires short { taken < 2 ^ 32 }
+    ensures { (conn : Conn) (piece : List ℕ)
+        → out.old.items ≡ take at out.old.items ++ event_bytes (Bytes conn piece)
+        → taken ≤ length piece
+        → out.new.items ≡ take at out.old.items ++ event_bytes (Bytes conn (take taken piece)) }
+{
+    let len = (taken as u32).to_be_bytes();
+    out[at + 7..at + 11].copy_from_slice(&len);
+    out.truncate(at + 11 + taken);
 }

@@ -13,7 +13,8 @@
 //! which it is pending. [`is_recorded`] tests for it.
 //!
 //! Record the events of an entry with [`encode_event`], one behind the other. [`decode_events`]
-//! reads the entry back.
+//! reads the entry back. [`encode_piece`] and [`shorten_piece`] record a piece of which a broker
+//! takes only the front.
 //!
 //! A call that allocates returns a `Result`; other calls never allocate. On `Err` the receiver is
 //! unchanged unless stated otherwise.
@@ -28,6 +29,6 @@ mod numbers;
 mod tests;
 
 pub use crate::decode::{decode_event, decode_events};
-pub use crate::encode::{encode_event, is_recorded};
+pub use crate::encode::{encode_event, encode_piece, is_recorded, shorten_piece};
 pub use crate::fault::{EncodeFault, RecordFault};
 pub use crate::laws::record_laws;

@@ -1,0 +1,12 @@
+mod Entries
+mod Crashes
+mod Runs
+mod Frames
+mod Names
+mod Recoveries
+mod Reports
+mod Kept
+mod CallLaws
+mod Commits
+mod Growth
+mod Determined

@@ -1,0 +1,38 @@
+//! A broker that outlives its process: its events are in a journal before their output is given
+//! out.
+//!
+//! Order of calls:
+//!
+//! 1. After a start, [`Recovery::new`], then [`Recovery::replay`] with the bytes of each file of
+//!    the journal, oldest first, then [`Recovery::resume`] with a new file.
+//! 2. In each round [`Durable::step`] or [`Durable::step_some`] for the events that came, then
+//!    [`Durable::commit`], then [`Durable::collect`] for each connection that may have output.
+//! 3. If `commit` returns an error, the process must end without giving out any output. It
+//!    continues at 1.
+//!
+//! `collect` requires that no event is pending. So at any time the journal has each event that came
+//! before the last output was collected.
+//!
+//! The events of a file are those of its entries. `Collect` is not recorded: it only takes pending
+//! output, which a crash discards.
+//!
+//! A call that allocates returns a `Result`; other calls never allocate. On `Err` the receiver is
+//! unchanged unless stated otherwise.
+#![tactic(auto)]
+
+mod condition;
+mod durable;
+mod fault;
+mod laws;
+mod noted;
+mod outcome;
+mod progress;
+mod recovery;
+mod report;
+
+pub use crate::condition::Condition;
+pub use crate::durable::Durable;
+pub use crate::fault::{CommitError, RecoverError, StepRefusal};
+pub use crate::laws::{durable_laws, replay_laws};
+pub use crate::recovery::Recovery;
+pub use crate::report::reports_memory;
