@@ -186,7 +186,7 @@ fn check(rt: &impl Abort, alloc: Global, file: &[u8], acknowledged: usize) -> Re
     let mut holds = acknowledged == 0 && output.as_str() == NEW_SESSION;
     for count in 0..DELIVERED.len() {
         if output.as_str() == DELIVERED[count] {
-            holds = count == acknowledged || count == acknowledged + 1;
+            holds = count == acknowledged || count == acknowledged.saturating_add(1);
         }
     }
     assert!(rt;
