@@ -3,7 +3,6 @@
 use crate::packets::{CONNACK, DISCONNECT, SUBACK, connect, publish, subscribe};
 use crate::wires::{Pipe, Wire, cell_of};
 use mq_decode::Limits;
-use mq_hub::Hub;
 use mq_loop::{EventLoop, LoopLimits, NoObserver, NonBlocking, Report};
 use mq_route::{HubConfig, WhenFull};
 use std::alloc::{AllocError, Global};
@@ -29,7 +28,7 @@ fn new_loop<'a>(alloc: Global, most_owed: usize) -> Result<Loop<'a>, Fail> {
         most_owed,
         packets,
     };
-    Ok(EventLoop::new(alloc, Hub::new(alloc, config), limits, NoObserver))
+    Ok(EventLoop::new(alloc, config, limits, NoObserver))
 }
 
 // Opens a connection over the socket with this number.
