@@ -14,7 +14,7 @@ in_within (x ∷ xs) (suc p) e = let below = in_within xs p e in omega arith
 pub fewer_in : (m : List Bool) (p : ℕ) → is_in p m ≡ true → count_in (set m p false) < count_in m
 fewer_in m p h =
     let e = sum_by-set (λ (b : Bool). cond b 1 0) m p false false (in_within m p h) in
-    let first : cond (get_or m p false) 1 0 ≡ 1 = ap (λ (b : Bool). cond b 1 0) h in
+    let first : cond {A = ℕ} (get_or m p false) 1 0 ≡ 1 = ap (λ (b : Bool). cond {A = ℕ} b 1 0) h in
     omega (arith, e, first)
 
 line_within : (p : ℕ) (lines : List (Option Line)) → exists_at p lines ≡ true → p < length lines
@@ -33,7 +33,7 @@ some_line p lines e = go (get_or lines p None) e
 pub one_fewer : (lines : List (Option Line)) (p : ℕ) → exists_at p lines ≡ true → connections_in (set lines p None) + 1 ≡ connections_in lines
 one_fewer lines p h =
     let e = sum_by-set (λ (x : Option Line). cond (is_some x) 1 0) lines p None None (line_within p lines h) in
-    let first : cond (is_some (get_or lines p None)) 1 0 ≡ 1 = ap (λ (b : Bool). cond b 1 0) (some_line p lines h) in
+    let first : cond {A = ℕ} (is_some (get_or lines p None)) 1 0 ≡ 1 = ap (λ (b : Bool). cond {A = ℕ} b 1 0) (some_line p lines h) in
     omega (arith, e, first)
 
 -- the same places have connections

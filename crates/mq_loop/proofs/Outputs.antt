@@ -10,7 +10,7 @@ use Rattle.mq_route.specs.Step.{HubStep}
 use Rattle.mq_route.specs.Work.{Work}
 use Rattle.mq_loop.specs.declared.connection.Flushed.{Flushed}
 use Rattle.mq_loop.specs.declared.connection.Flushed.TheVariants.{All, Blocked, Failed}
-use Rattle.mq_loop.specs.Accounts.{Line, name_at, served_state}
+use Rattle.mq_loop.specs.Accounts.{Line, line_at, name_at, served_state}
 use Rattle.mq_loop.specs.Rounds.{AtOutputs, IsFlushed, IsWritten, Output, OthersStay, OutputStays, exists_at, output_at, output_of}
 use Rattle.mq_loop.proofs.CarriedBytes.{set_same, set_other}
 
@@ -70,7 +70,7 @@ collect_at lines q old new output within is so =
     (ap (λ (l : Line). l.broken || l.finished) so))
 
 -- a collect leaves nothing at the broker
-emptied_line : HubConnection → HubConnection
+pub emptied_line : HubConnection → HubConnection
 emptied_line x = record x { waiting = [] }
 
 pub nothing_left : (k : Conn) (xs : List HubConnection) → waiting_on k (with_connection emptied_line k xs) ≡ []
