@@ -100,6 +100,7 @@ fn new_hub(alloc: Global, limits: Limits) -> Hub {
             max_sessions: 10,
             users: None,
             when_full: WhenFull::ClosePublisher,
+            connect_within: None,
         },
     )
 }

@@ -78,6 +78,7 @@ pub(crate) fn broker(alloc: Global) -> anyhow::Result<Hub> {
         max_sessions: 1_000_000,
         users: None,
         when_full: WhenFull::ClosePublisher,
+        connect_within: None,
     };
     Ok(Hub::new(alloc, config))
 }

@@ -64,5 +64,6 @@ pub(crate) fn config() -> Result<HubConfig, Fail>
         max_sessions: 100,
         users: None,
         when_full: WhenFull::ClosePublisher,
+        connect_within: None,
     })
 }

@@ -3,7 +3,7 @@
 ghost use Rattle.std.specs.Prelude.{◌≡◌, ◌<◌, None, IfOk};
 
 use crate::told::{Happens, Row, all_told, counted, event, listed, told};
-use crate::{dropping, rows};
+use crate::{dropping, rows, silent};
 use bytes::Bytes;
 use mq_decode::Limits;
 use mq_end::BoxedList;
@@ -28,6 +28,8 @@ pub(crate) struct Kind {
     pub(crate) has_user: bool,
     /// The treatment of a copy whose session is full.
     pub(crate) when_full: WhenFull,
+    /// The time in milliseconds within which CONNECT must arrive.
+    pub(crate) connect_within: Option<u64>,
 }
 
 pub(crate) const WIDE: Kind = Kind {
@@ -36,6 +38,7 @@ pub(crate) const WIDE: Kind = Kind {
     max_sessions: 100,
     has_user: false,
     when_full: WhenFull::ClosePublisher,
+    connect_within: None,
 };
 
 const DROPPING: Kind = Kind {
@@ -48,7 +51,7 @@ const DROPPING: Kind = Kind {
 pub(crate) type Table = (&'static str, Kind, &'static [Row]);
 
 /// All tables of rows.
-pub(crate) const TABLES: [Table; 26] = [
+pub(crate) const TABLES: [Table; 27] = [
     ("refused", WIDE, &rows::REFUSED),
     ("routed", WIDE, &rows::ROUTED),
     ("level", WIDE, &rows::LEVEL),
@@ -79,6 +82,14 @@ pub(crate) const TABLES: [Table; 26] = [
     ),
     ("full_session_dropping", DROPPING, &dropping::FULL_SESSION),
     ("retained_dropping", DROPPING, &dropping::RETAINED),
+    (
+        "silent",
+        Kind {
+            connect_within: Some(1_000),
+            ..WIDE
+        },
+        &silent::SILENT,
+    ),
     (
         "crowded",
         Kind {
@@ -132,6 +143,7 @@ pub(crate) fn config(alloc: Global, kind: Kind) -> Result<HubConfig, Fail>
         max_sessions: kind.max_sessions,
         users,
         when_full: kind.when_full,
+        connect_within: kind.connect_within,
     })
 }
 

@@ -24,6 +24,7 @@ fn config() -> Option<HubConfig>
         max_sessions: 4,
         users: None,
         when_full: WhenFull::ClosePublisher,
+        connect_within: None,
     })
 }
 

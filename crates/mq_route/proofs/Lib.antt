@@ -21,3 +21,4 @@ mod History
 mod Names
 mod Logging
 mod Reading
+mod Silence

@@ -45,4 +45,8 @@ pub struct HubConfig {
     pub users: Option<BoxedList<User>>,
     /// The treatment of a copy whose session has no packet identifier free.
     pub when_full: WhenFull,
+    /// The time in milliseconds within which a new connection must send CONNECT; `None` for no
+    /// limit (3.1). A tick closes a connection that was opened longer ago. The time of opening is
+    /// that of the last tick, so call `Tick` before `Opened`.
+    pub connect_within: Option<u64>,
 }

@@ -8,6 +8,7 @@ ghost use Rattle.mq_route.specs.History.{HistoryLaws};
 ghost use Rattle.mq_route.specs.Laws.{OutputLaws, RoutingLaws, TakingLaws};
 ghost use Rattle.mq_route.specs.Names.{NameLaws};
 ghost use Rattle.mq_route.specs.Reading.{ReadLaws};
+ghost use Rattle.mq_route.specs.Silent.{SilentLaws};
 
 use mq_end::sound_laws;
 use mq_flow::{identifier_laws, next_laws};
@@ -77,6 +78,13 @@ pub fn accept_laws()
     next_laws();
     sound_laws();
 }
+
+/// A tick closes exactly the connections that wait for CONNECT longer than
+/// [`HubConfig::connect_within`](crate::HubConfig) (3.1). No other event closes a connection for
+/// it.
+pub fn silent_laws()
+    ensures { SilentLaws }
+{}
 
 /// Worked runs, with their acts and pending output.
 pub fn examples()

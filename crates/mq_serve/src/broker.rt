@@ -30,6 +30,7 @@ pub fn broker_config() -> HubConfig
       max_sessions = 1000;
       users = None;
       when_full = ClosePublisher;
+      connect_within = None;
     } }
 {
     HubConfig {
@@ -40,5 +41,6 @@ pub fn broker_config() -> HubConfig
         max_sessions: PLACES,
         users: None,
         when_full: WhenFull::ClosePublisher,
+        connect_within: None,
     }
 }
