@@ -48,6 +48,7 @@ impl BrokerOptions {
             max_sessions: self.max_sessions,
             users: self.users,
             when_full: WhenFull::DropCopy,
+            connect_within: None,
         }
     }
 }

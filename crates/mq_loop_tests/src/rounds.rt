@@ -23,6 +23,7 @@ fn new_loop<'a>(alloc: Global, most_owed: usize) -> Result<Loop<'a>, Fail> {
         max_sessions: 2_000,
         users: None,
         when_full: WhenFull::ClosePublisher,
+        connect_within: None,
     };
     let limits = LoopLimits {
         share: 4_096,
