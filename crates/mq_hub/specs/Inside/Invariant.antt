@@ -73,11 +73,7 @@ pub record HubInvariant (config : HubConfig) (next_key : ℕ) (t : HubTables) : 
   pub window : IfSome config.window (λ places. 0 < places)
   -- the limits of connections are the configured ones
   pub limits : t.connections.limits ≡ limits_of config
-  -- the limits of each connection
-abbrev pub limits_of : HubConfig → ConnectionLimits
-limits_of config = record { packets = config.limits; connect_within = config.connect_within }
-
--- names are distinct, and each client is connected at most once
+  -- names are distinct, and each client is connected at most once
   pub apart : AreApart t.connections.connections
   -- there is no pending output before a CONNECT
   pub quiet : AllByRecursion (λ x. IsQuiet x.stage x.waiting) t.connections.connections
