@@ -379,9 +379,9 @@ module _ (within : Option ℕ) (now : ℕ) (old : HubState) (i : ℕ) (h : HubSt
       pub late : late_reason within now line.since line.stage ≡ Some why
       pub name : k ≡ line.conn
 
-    is_late : (ys : List HubConnection) → drop i old.connections ≡ ys → Some (k, why) ≡ late_first within now (places ys) → IsLate
-    is_late [] e some = absurd cc
-    is_late (x ∷ ys) e some = go (late_at within now (place_of x)) refl
+    late_line : (ys : List HubConnection) → drop i old.connections ≡ ys → Some (k, why) ≡ late_first within now (places ys) → IsLate
+    late_line [] e some = absurd cc
+    late_line (x ∷ ys) e some = go (late_at within now (place_of x)) refl
       where
         go : (b : Bool) → late_at within now (place_of x) ≡ b → IsLate
         go true late =
@@ -398,7 +398,7 @@ module _ (within : Option ℕ) (now : ℕ) (old : HubState) (i : ℕ) (h : HubSt
             let none : Some (k, why) ≡ None = some ∙ cond-false (late_at within now (place_of x)) (Some (close_of (place_of x))) None early in absurd cc
 
     first_late : IsLate
-    first_late = is_late (drop i old.connections) refl (is ∙ front)
+    first_late = late_line (drop i old.connections) refl (is ∙ front)
 
     -- it is closed
     pub ticks_close : (g : HubState) (more : List Act) → knows k (drop (i + 1) h.connections) ≡ false
@@ -436,10 +436,11 @@ module _ (within : Option ℕ) (now : ℕ) (old : HubState) (i : ℕ) (h : HubSt
       all_passed within now i h.connections many t.passed
 
   -- none is left
-  pub ticks_last : length old.connections ≤ i → TicksTo now old h says
-  ticks_last past = record {
+  pub ticks_last : within ≡ old.config.connect_within → length old.connections ≤ i → TicksTo now old h says
+  ticks_last limit past = record {
     work = t.work;
-    ticks = t.rest t.work (subst (λ (l : List HubConnection). Ticks within now l t.work t.work) (sym (drop_all i old.connections past)) (Done t.work));
+    ticks = subst (λ (o : Option ℕ). Ticks o now old.connections (begin old) t.work) limit
+        (t.rest t.work (subst (λ (l : List HubConnection). Ticks within now l t.work t.work) (sym (drop_all i old.connections past)) (Done t.work)));
     hub = sym t.hub;
     did = sym t.did;
   }
@@ -573,5 +574,5 @@ module _ (within : Option ℕ) (now : ℕ) (old : HubState) (ps : List ℕ) (i :
     pub closing_all : AreInTime within now h.connections
     closing_all = ticks_all within now old (t.at + length old.connections) h says done (omega arith)
 
-    pub closing_last : TicksTo now old h says
-    closing_last = ticks_last within now old (t.at + length old.connections) h says done (omega arith)
+    pub closing_last : within ≡ old.config.connect_within → TicksTo now old h says
+    closing_last limit = ticks_last within now old (t.at + length old.connections) h says done limit (omega arith)

@@ -1,4 +1,4 @@
-use Rattle.std.proofs.Common.{◌<◌, ◌≤◌, ◌∙◌, get_or, length, sym, arith}
+use Rattle.std.proofs.Common.{◌<◌, ◌≤◌, ◌∙◌, get_or, length, refl, sym, arith}
 use Rattle.std.proofs.lemmas.List.{get_or_default}
 use Rattle.mq_hub.proofs.LateWalk.{IsClosing, closing_all, closing_first, closing_last, closing_late, closing_past, none_by}
 use Rattle.mq_hub.proofs.hub.HubOver.close_late.Goals as goal
@@ -38,7 +38,7 @@ loop-place-preserved g c =
 pub returns-clause-ticks : goal.returns-clause-ticks
 returns-clause-ticks g c =
     let past : length c.args.places.now ≤ c.loop-place.place-index = omega (arith, c.loop-place-test.false) in
-    closing_last c.args.self.now.config.connect_within c.args.now c.args.self.now c.args.places.now c.loop-place.place-index c.loop-place.self c.loop-place.log.acts c.loop-place.invariant.closing past
+    closing_last c.args.self.now.config.connect_within c.args.now c.args.self.now c.args.places.now c.loop-place.place-index c.loop-place.self c.loop-place.log.acts c.loop-place.invariant.closing past refl
 
 pub returns-clause-all : goal.returns-clause-all
 returns-clause-all g c =
