@@ -2,7 +2,8 @@
 
 use crate::told::{Happens, Row};
 
-/// With a limit of 1,000 ms, a tick closes a connection that waits longer than that, and no other.
+/// With a limit of 1,000 ms, a tick closes a connection that sends no CONNECT for longer, and no
+/// other.
 pub(crate) const SILENT: [Row; 11] = [
     (Happens::Ticks(5_000), ""),
     (Happens::Opens(1), ""),

@@ -13,8 +13,8 @@ use Rattle.mq_hub.specs.declared.connections.connection.Connection.{Connection}
 use Rattle.mq_hub.specs.declared.connections.table.ConnectionLimits.{ConnectionLimits}
 use Rattle.mq_hub.specs.Inside.Alarms.{AlarmTable, IsAwaited, is_late_on}
 
--- The connections in the order in which they were opened, and their limits. Then: for how many more there is room, how many more may become connected, and how many alarms there
--- are.
+-- The connections in the order in which they were opened, and their limits. Then: for how many more
+-- there is room, how many more may become connected, and how many alarms there are.
 pub record ConnectionList : Type 0 where
   pub connections : List HubConnection
   pub limits : ConnectionLimits

@@ -232,7 +232,12 @@ impl Connections {
         ensures alarms { OnOk result (self.new.alarms ≤ 2 * (length self.new.connections + 64) + 1) }
     {
         self.by_conn.reserve(count)?;
-        refresh_alarms(self.limits.connect_within, &self.by_conn, &mut self.alarms, 0);
+        refresh_alarms(
+            self.limits.connect_within,
+            &self.by_conn,
+            &mut self.alarms,
+            0,
+        );
         self.ups.reserve(count)
     }
 
@@ -363,7 +368,8 @@ impl Connections {
             return;
         };
         boxed.connect_end(key, terms, now);
-        self.alarms.set(conn, boxed.last_in_time(self.limits.connect_within));
+        self.alarms
+            .set(conn, boxed.last_in_time(self.limits.connect_within));
         add_connected(&mut self.ups, key, conn);
     }
 
@@ -386,7 +392,8 @@ impl Connections {
         let is_earlier = boxed.is_active_after(now);
         boxed.touched(now);
         if is_earlier {
-            self.alarms.set(conn, boxed.last_in_time(self.limits.connect_within));
+            self.alarms
+                .set(conn, boxed.last_in_time(self.limits.connect_within));
         }
         key
     }

@@ -132,8 +132,8 @@ impl<S: FilterStore> HubOver<S> {
     }
 
     /// Sets the clock to this time, in milliseconds. Closes each connection whose client sent no
-    /// packet for more than one and a half times its keep-alive (3.1.2.10), and each that waits for
-    /// CONNECT for too long (3.1). Reserves the memory for all of these closes before the first one.
+    /// packet for more than one and a half times its keep-alive (3.1.2.10), and each that sent no
+    /// CONNECT in time (3.1). Reserves the memory for all of these closes before the first one.
     pub(crate) fn on_tick(&mut self, now: u64) -> Result<HubReply, HubRefusal>
         ensures step { IfOk result (λ reply. HubStep self.old (HubEvent.Tick now) reply self.new) }
         ensures memory { IfErr result (λ why. why ≡ HubRefusal.Memory) }
