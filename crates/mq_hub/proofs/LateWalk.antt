@@ -325,9 +325,9 @@ pub record IsTicking (within : Option ℕ) (now : ℕ) (old : HubState) (i : ℕ
   pub passed : AllInTime within now (take i (places h.connections))
   pub count : length (places h.connections) ≡ length (places old.connections)
 
-pub none_by : (o : Option (Conn × HubClose)) → ((k : Conn) (why : HubClose) → o ≡ Some (k, why) → ⊥) → o ≡ None
+pub none_by : (o : Option (Conn × HubClose)) → ((late : Conn × HubClose) → o ≡ Some late → ⊥) → o ≡ None
 none_by None never = refl
-none_by (Some late) never = absurd (never late.0 late.1 refl)
+none_by (Some late) never = absurd (never late refl)
 
 pub ticks_first : (within : Option ℕ) (now : ℕ) (h : HubState) (says : List Act) → says ≡ [] → IsTicking within now h 0 h says
 ticks_first within now h says none = record { work = begin h; hub = refl; did = sym none; rest = λ v t. t; same = refl; passed = tt; count = refl }

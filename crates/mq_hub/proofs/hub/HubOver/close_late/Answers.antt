@@ -18,7 +18,7 @@ loop-place-preserved-in_default g c =
     record {
       closing =
           closing_past c.args.self.now.config.connect_within c.args.now c.args.self.now ps i c.loop-place.self c.loop-place.log.acts c.loop-place.invariant.closing p inside (get_or_default ps i 0 p inside)
-          (sym (none_by c.late_at.result (λ k why e. c.in_default.not-Some k why e)) ∙ c.late_at.ensures.late);
+          (sym (none_by c.late_at.result (λ late e. c.in_default.not-Some late e)) ∙ c.late_at.ensures.late);
       room = omega (arith, c.loop-place.invariant.room);
     }
 
