@@ -278,16 +278,17 @@ module _ (within : Option ℕ) (now : ℕ) (ts : List BrokerSession) where
   record IsSeenAt (xs : List HubConnection) (i : ℕ) (x : HubConnection) : Type 0 where
     pub line : HubConnection
     pub there : slice_get xs i ≡ Some line
-    pub turn : (line.since, line.stage) ≡ (x.since, x.stage)
+    pub since : line.since ≡ x.since
+    pub stage : line.stage ≡ x.stage
 
   seen_at : (xs : List HubConnection) (i : ℕ) (x : HubConnection) → slice_get (all_seen ts xs) i ≡ Some x → IsSeenAt xs i x
   seen_at [] i x at = absurd cc
   seen_at (y ∷ ys) zero x at =
-      let is : seen ts y ≡ x = cc in record { line = y; there = refl; turn = ap (λ (l : HubConnection). (l.since, l.stage)) is }
-  seen_at (y ∷ ys) (suc i) x at = let r = seen_at ys i x at in record { line = r.line; there = r.there; turn = r.turn }
+      let is : seen ts y ≡ x = cc in record { line = y; there = refl; since = ap (λ (l : HubConnection). l.since) is; stage = ap (λ (l : HubConnection). l.stage) is }
+  seen_at (y ∷ ys) (suc i) x at = let r = seen_at ys i x at in record { line = r.line; there = r.there; since = r.since; stage = r.stage }
 
   pub late_seen : (xs : List HubConnection) (places : List ℕ) → HasLate within now xs places → HasLate within now (all_seen ts xs) places
-  late_seen xs places all = λ i x at late. let r = seen_at xs i x at in all i r.line r.there (ap (λ (t : ℕ × ConnectionState). is_late_on within now t.0 t.1) r.turn ∙ late)
+  late_seen xs places all = λ i x at late. let r = seen_at xs i x at in all i r.line r.there (ap₂ (is_late_on within now) r.since r.stage ∙ late)
 
 -- ---- names are distinct
 

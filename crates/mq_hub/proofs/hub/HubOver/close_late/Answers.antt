@@ -1,5 +1,8 @@
-use Rattle.std.proofs.Common.{◌<◌, ◌≤◌, ◌∙◌, get_or, length, refl, sym, arith}
+use Rattle.std.proofs.Common.{◌<◌, ◌≤◌, ◌∙◌, get_or, length, refl, sym, ap, arith}
 use Rattle.std.proofs.lemmas.List.{get_or_default}
+use Rattle.std.specs.List.{slice_get}
+use Rattle.mq_route.specs.Hub.{HubState}
+use Rattle.mq_hub.specs.Inside.Tick.{late_of}
 use Rattle.mq_hub.proofs.LateWalk.{IsClosing, closing_all, closing_first, closing_last, closing_late, closing_past, none_by}
 use Rattle.mq_hub.proofs.hub.HubOver.close_late.Goals as goal
 
@@ -18,7 +21,8 @@ loop-place-preserved-in_default g c =
     record {
       closing =
           closing_past c.args.self.now.config.connect_within c.args.now c.args.self.now ps i c.loop-place.self c.loop-place.log.acts c.loop-place.invariant.closing p inside (get_or_default ps i 0 p inside)
-          (sym (none_by c.late_at.result (λ late e. c.in_default.not-Some late e)) ∙ c.late_at.ensures.late);
+          (sym (none_by c.late_at.result (λ late e. c.in_default.not-Some late e)) ∙ c.late_at.ensures.late
+          ∙ ap (λ (h : HubState). late_of h.config.connect_within c.args.now (slice_get c.loop-place.self.connections p)) c.self.view_is);
       room = omega (arith, c.loop-place.invariant.room);
     }
 
@@ -31,7 +35,8 @@ loop-place-preserved g c =
     record {
       closing =
           closing_late c.args.self.now.config.connect_within c.args.now c.args.self.now ps i c.loop-place.self c.loop-place.log.acts c.loop-place.invariant.closing p inside (get_or_default ps i 0 p inside)
-          c.requires.ascending c.in-Some.conn c.in-Some.why c.in-Some.ensures.late c.close.new.self c.close.new.log.acts c.in-Some.ensures.apart c.close.ensures.goes;
+          c.requires.ascending c.in-Some.conn c.in-Some.why
+          (c.in-Some.ensures.late ∙ ap (λ (h : HubState). late_of h.config.connect_within c.args.now (slice_get c.loop-place.self.connections p)) c.self.view_is) c.close.new.self c.close.new.log.acts c.in-Some.ensures.apart c.close.ensures.goes;
       room = omega (arith, c.loop-place.invariant.room, c.close.ensures.room);
     }
 
