@@ -101,6 +101,7 @@ fn new_hub(alloc: Global, limits: Limits) -> Hub {
             users: None,
             when_full: WhenFull::ClosePublisher,
             connect_within: None,
+            session_expiry: None,
         },
     )
 }

@@ -79,6 +79,7 @@ pub(crate) fn broker(alloc: Global) -> anyhow::Result<Hub> {
         users: None,
         when_full: WhenFull::ClosePublisher,
         connect_within: None,
+        session_expiry: None,
     };
     Ok(Hub::new(alloc, config))
 }

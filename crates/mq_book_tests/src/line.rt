@@ -65,5 +65,6 @@ pub(crate) fn config() -> Result<HubConfig, Fail>
         users: None,
         when_full: WhenFull::ClosePublisher,
         connect_within: None,
+        session_expiry: None,
     })
 }

@@ -49,6 +49,7 @@ impl BrokerOptions {
             users: self.users,
             when_full: WhenFull::DropCopy,
             connect_within: None,
+            session_expiry: None,
         }
     }
 }

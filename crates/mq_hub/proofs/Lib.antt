@@ -56,3 +56,5 @@ pub mod LateWalk
 pub mod RunLemmas
 pub mod PendingBytes
 pub mod MissedCopies
+pub mod DisconnectTimes
+pub mod ExpiredSessions

@@ -25,6 +25,7 @@ fn config() -> Option<HubConfig>
         users: None,
         when_full: WhenFull::ClosePublisher,
         connect_within: None,
+        session_expiry: None,
     })
 }
 

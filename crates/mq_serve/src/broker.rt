@@ -31,6 +31,7 @@ pub fn broker_config() -> HubConfig
       users = None;
       when_full = ClosePublisher;
       connect_within = None;
+      session_expiry = None;
     } }
 {
     HubConfig {
@@ -42,5 +43,6 @@ pub fn broker_config() -> HubConfig
         users: None,
         when_full: WhenFull::ClosePublisher,
         connect_within: None,
+        session_expiry: None,
     }
 }

@@ -56,6 +56,7 @@ fn new_hub(alloc: Global, limits: Limits) -> Hub {
         users: None,
         when_full: WhenFull::ClosePublisher,
         connect_within: None,
+        session_expiry: None,
     };
     Hub::new(alloc, config)
 }
