@@ -7,7 +7,7 @@ ARGS ?= --help
 STREAMS ?= small publish16 publish1024 publish65536 mixed
 export RT
 
-.PHONY: all help test prove lib lib-test program interop refusals install install-lib try bench-c bench-loopback bench-brokers clean
+.PHONY: all help test prove lib lib-test program interop refusals install install-lib try bench-c bench-lib bench-loopback bench-brokers clean
 
 # Stops with one line if the kit's command, or a C compiler, is missing.
 need_kit = $(if $(shell command -v $(RT) 2>/dev/null),,$(error $(RT) is not on the path: README explains it under "Requirements"))
@@ -59,6 +59,7 @@ help:
 	@echo 'make refusals         makes each allocation of worked sections fail in turn; needs a C compiler'
 	@echo 'make try ARGS=..      runs mqtt compiled with checks of each access to memory'
 	@echo 'make bench-c          measures plain C over the streams of mq_bench'
+	@echo 'make bench-lib        compares libposkvari with plain C over these streams'
 	@echo 'make bench-loopback   measures `mqtt serve` over 127.0.0.1'
 	@echo 'make bench-brokers    compares `mqtt broker` with mosquitto'
 	@echo 'make clean            removes bin/ and lib/'
@@ -116,6 +117,13 @@ bench-c:
 	mkdir -p bin
 	$(CC) -std=c11 -O3 -o bin/same_tests bench/same_tests.c
 	bin/same_tests $(STREAMS)
+
+# The same, and `posk_packet` of the library over the same streams: make bench-lib STREAMS=small
+bench-lib: lib
+	$(need_cc)
+	mkdir -p bin
+	$(CC) -std=c11 -O3 -DWITH_LIBRARY -Iinclude -o bin/same_tests_lib bench/same_tests.c lib/libposkvari.a
+	bin/same_tests_lib $(STREAMS)
 
 # Loads the program's broker, and mosquitto's if that is installed, over 127.0.0.1. Prints the
 # messages that each delivers in a second, and the latency: make bench-loopback DELIVERIES=10000

@@ -12,6 +12,11 @@
  *
  *     make bench-c
  *
+ * With the library libposkvari, which WITH_LIBRARY links, each packet is also found by
+ * `posk_packet`:
+ *
+ *     make bench-lib
+ *
  * A scan (the sum of all bytes) is timed in the same run, as in `mq_bench`, so that the ratios of
  * two programs can be compared.
  */
@@ -21,6 +26,9 @@
 #include <stdlib.h>
 #include <string.h>
 #include <time.h>
+#ifdef WITH_LIBRARY
+#include <poskvari.h>
+#endif
 
 #define STREAM 64000000u
 #define ROUNDS 5
@@ -471,6 +479,23 @@ static __attribute__((noinline)) uint64_t read_all(const uint8_t *bytes, size_t 
     return count == 0 ? packets : 0;
 }
 
+#ifdef WITH_LIBRARY
+/* The same, where the library finds each packet. */
+static __attribute__((noinline)) uint64_t read_by_library(const uint8_t *bytes, size_t count, uint64_t *sum)
+{
+    uint64_t packets = 0;
+    posk_fields fields;
+    posk_fault fault;
+    while (count > 0 && posk_packet(bytes, count, LIMIT, &fields, &fault) == POSK_OK) {
+        *sum += fields.kind + fields.id + fields.topic.size + fields.payload.size;
+        bytes += fields.size;
+        count -= fields.size;
+        packets++;
+    }
+    return count == 0 ? packets : 0;
+}
+#endif
+
 static __attribute__((noinline)) uint64_t scan(const uint8_t *bytes, size_t count)
 {
     uint64_t sum = 0;
@@ -684,6 +709,15 @@ static bool measure(struct buffer *stream, const char *name)
         return false;
     }
     print_row(name, "looked at", stream, packets, scans[ROUNDS / 2], looked);
+#ifdef WITH_LIBRARY
+    double found = time_of(read_by_library, stream, packets, &sum);
+    if (found < 0) {
+        fprintf(stderr, "same_tests: the library does not read %s to its end\n", name);
+        return false;
+    }
+    print_row(name, "library", stream, packets, scans[ROUNDS / 2], found);
+    printf("%-14s the library takes %.2f of plain C\n", name, found / looked);
+#endif
     print_row(name, "owned", stream, packets, scans[ROUNDS / 2], owned);
     printf("%-14s the sum is %llu\n", name, (unsigned long long)sum);
     return true;
