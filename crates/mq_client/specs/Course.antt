@@ -10,7 +10,7 @@ use Rattle.mq_packet.specs.declared.packet.Packet.TheVariants as packets
 use Rattle.mq_end.specs.declared.happening.Happening.{Happening}
 use Rattle.mq_end.specs.declared.reason.CloseReason.{CloseReason}
 use Rattle.mq_end.specs.End.{End, is_live, over}
-use Rattle.mq_end.specs.Client.{connects, subscribes, leaves}
+use Rattle.mq_end.specs.Client.{connects, subscribes, unsubscribes, leaves}
 use Rattle.mq_end.specs.State.{PutsOut, no_bytes}
 use Rattle.mq_end.specs.Publishing.{Accepts, ClientState, connect_of}
 use Rattle.mq_end.specs.Receiving.{Acts, ClientReceives}
@@ -29,12 +29,13 @@ pub record Moment : Type 0 where
   pub times : Option (List ℕ)
   pub quiet : ℕ
 
--- a request of the user: a connection, with clean session or not (3.1), a publication (3.3) or a
--- subscription (3.8)
+-- a request of the user: a connection, with clean session or not (3.1), a publication (3.3), a
+-- subscription (3.8), or the end of subscriptions (3.10)
 pub data Ask : Type 0 where
   Opening : Bool → Ask
   Publication : Message → Ask
   Subscription : List Request → Ask
+  Unsubscription : List (List ℕ) → Ask
 
 -- ---- steps
 
@@ -48,6 +49,8 @@ pub data Step : Type 0 where
   Publish : Message → Step
   -- a subscription is requested (3.8)
   Subscribe : List Request → Step
+  -- subscriptions are given up (3.10)
+  Unsubscribe : List (List ℕ) → Step
   -- the clock of the client is set to this time (3.1.2.10)
   Tick : ℕ → Step
   -- the clock reports this time, and memory runs out before it is used
@@ -78,6 +81,10 @@ pub record Subscribes (requests : List Request) (a b : ClientState) : Type 0 whe
   pub id : ℕ
   pub asks : Requests id (subscribes id requests a.link.end) a.link b.link
 
+pub record Unsubscribes (filters : List (List ℕ)) (a b : ClientState) : Type 0 where
+  pub id : ℕ
+  pub asks : Requests id (unsubscribes id filters a.link.end) a.link b.link
+
 pub record Writes (form bytes : List ℕ) (a b : ClientState) : Type 0 where
   pub saved : form ≡ saved_of a
   pub rest : List ℕ
@@ -95,6 +102,7 @@ Does (Connect now clean) a b = Connects now clean a b
 Does (Hear now bytes told closed) a b = (m : ClientState) × Ticks now a.link m.link × Hears bytes told closed m b
 Does (Publish m) a b = Publishes m a b
 Does (Subscribe requests) a b = Subscribes requests a b
+Does (Unsubscribe filters) a b = Unsubscribes filters a b
 Does (Tick now) a b = Ticks now a.link b.link
 Does (Starve now) a b = b ≡ a
 Does Leave a b = Acts (leaves a.link.end) a.link b.link
@@ -136,6 +144,7 @@ abbrev pub asked : Step → List Ask
 asked (Connect now clean) = Opening clean ∷ []
 asked (Publish m) = Publication m ∷ []
 asked (Subscribe requests) = Subscription requests ∷ []
+asked (Unsubscribe filters) = Unsubscription filters ∷ []
 asked s = []
 
 -- the happenings

@@ -7,7 +7,7 @@ ghost use Rattle.mq_flow.specs.Receiver.{none_received};
 ghost use Rattle.mq_end.specs.declared.happening.Happening.{Happening};
 ghost use Rattle.mq_end.specs.declared.reason.CloseReason.{CloseReason};
 ghost use Rattle.mq_end.specs.End.{is_up};
-ghost use Rattle.mq_client.specs.Course.{IsIdle, Leaves, Opening, Subscription, Ticked, Went, WentFirst, asked_by};
+ghost use Rattle.mq_client.specs.Course.{IsIdle, Leaves, Opening, Subscription, Ticked, Unsubscription, Went, WentFirst, asked_by};
 ghost use Rattle.mq_client.specs.Halts.{Closes, closes_of, halt_closes};
 ghost use Rattle.mq_client.specs.Publishing.{resumed_of};
 
@@ -18,6 +18,7 @@ use mq_end::{ClientEnd, CloseReason, Happening, Progress, PublishRefusal, State}
 use mq_flow::Sender;
 use mq_packet::{Message, NonEmpty, Request};
 use mq_stream::{Clock, Stream};
+use mq_topic::TopicFilter;
 use std::marker::Model;
 
 /// The maximum number of bytes of a read.
@@ -27,7 +28,8 @@ const CHUNK: usize = 4096;
 /// (3.2). So the read that completes CONNACK completes no PUBLISH that needs an acknowledgement.
 const FIRST_CHUNK: usize = 4;
 
-/// The connection counts as lost after this many reads in a row that bring nothing.
+/// Without another limit, the connection counts as lost after this many reads in a row that bring
+/// nothing.
 const MAX_QUIET: u32 = 900;
 
 /// A client end at a stream, with a clock and a session saver.
@@ -38,6 +40,8 @@ pub struct Peer<S: Stream, C: Clock, K: SessionSaver> {
     clock: C,
     keeper: K,
     quiet: u32,
+    // The connection counts as lost after this many reads in a row that bring nothing.
+    patience: u32,
     // The number of messages that were published, of those that are not finished while the client
     // has a session, and of those that were delivered.
     accepted: usize,
@@ -132,12 +136,32 @@ impl<S: Stream, C: Clock, K: SessionSaver> Peer<S, C, K> {
         ensures times { result.times ≡ C.reported clock }
         ensures quiet { result.quiet ≡ 0 }
     {
+        Peer::patient(client, stream, clock, keeper, MAX_QUIET)
+    }
+
+    /// The same, but the connection counts as lost after `patience` reads in a row that bring
+    /// nothing.
+    pub fn patient(
+        client: ClientEnd,
+        stream: S,
+        clock: C,
+        keeper: K,
+        patience: u32,
+    ) -> Peer<S, C, K>
+        ensures client { result.client ≡ client }
+        ensures coming { result.coming ≡ S.coming stream }
+        ensures written { result.written ≡ S.written stream }
+        ensures kept { result.kept ≡ K.kept keeper }
+        ensures times { result.times ≡ C.reported clock }
+        ensures quiet { result.quiet ≡ 0 }
+    {
         Peer {
             client,
             stream,
             clock,
             keeper,
             quiet: 0,
+            patience,
             accepted: 0,
             open: 0,
             delivered: 0,
@@ -184,7 +208,7 @@ impl<S: Stream, C: Clock, K: SessionSaver> Peer<S, C, K> {
         Halt {
             error,
             done: self.accepted.saturating_sub(self.open),
-            is_silent: self.quiet >= MAX_QUIET,
+            is_silent: self.quiet >= self.patience,
         }
     }
 
@@ -195,7 +219,7 @@ impl<S: Stream, C: Clock, K: SessionSaver> Peer<S, C, K> {
         Halt {
             error,
             done: self.delivered,
-            is_silent: self.quiet >= MAX_QUIET,
+            is_silent: self.quiet >= self.patience,
         }
     }
 
@@ -268,7 +292,7 @@ impl<S: Stream, C: Clock, K: SessionSaver> Peer<S, C, K> {
         ensures went { OnErr result (Went self.old self.new [] [] []) }
         ensures goes_on { closes_of result ≡ [] }
     {
-        if self.quiet >= MAX_QUIET {
+        if self.quiet >= self.patience {
             return Err(self.lose());
         }
         match self.stream.read(room).count() {
@@ -395,14 +419,27 @@ impl<S: Stream, C: Clock, K: SessionSaver> Peer<S, C, K> {
         Ok(true)
     }
 
-    // Requests a subscription.
-    pub(crate) fn subscribe(&mut self, requests: NonEmpty<Request>) -> Result<(), ClientError>
+    /// Requests a subscription (3.8).
+    pub fn subscribe(&mut self, requests: NonEmpty<Request>) -> Result<(), ClientError>
         ensures went { OnOk result
             (Went self.old self.new (Subscription requests ∷ []) [] []) }
         ensures refused { OnErr result (Went self.old self.new [] [] []) }
         ensures goes_on { closes_of result ≡ [] }
     {
         if let Err(why) = self.client.subscribe(requests) {
+            return Err(halt_of(why));
+        }
+        Ok(())
+    }
+
+    /// Gives subscriptions up (3.10).
+    pub fn unsubscribe(&mut self, filters: NonEmpty<TopicFilter>) -> Result<(), ClientError>
+        ensures went { OnOk result
+            (Went self.old self.new (Unsubscription filters ∷ []) [] []) }
+        ensures refused { OnErr result (Went self.old self.new [] [] []) }
+        ensures goes_on { closes_of result ≡ [] }
+    {
+        if let Err(why) = self.client.unsubscribe(filters) {
             return Err(halt_of(why));
         }
         Ok(())

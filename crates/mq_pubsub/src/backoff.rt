@@ -1,0 +1,51 @@
+//! The waits between connections.
+
+/// The first wait, in milliseconds.
+const FIRST_WAIT: u64 = 100;
+
+/// The waits between connections, in milliseconds: 100 first, then each twice the one before, and
+/// none over the limit.
+#[derive(Clone, Copy, Debug, PartialEq, Eq)]
+pub struct Backoff {
+    limit: u64,
+    next: u64,
+}
+
+impl Backoff {
+    /// Waits up to this limit.
+    pub fn new(limit: u64) -> Backoff {
+        Backoff {
+            limit,
+            next: FIRST_WAIT.min(limit),
+        }
+    }
+
+    /// The next wait.
+    pub fn wait(&mut self) -> u64 {
+        let wait = self.next;
+        self.next = wait.saturating_mul(2).min(self.limit);
+        wait
+    }
+
+    /// Begins again with the first wait.
+    pub fn reset(&mut self) {
+        *self = Backoff::new(self.limit);
+    }
+}
+
+#[cfg(test)]
+mod tests {
+    use super::*;
+
+    #[test]
+    fn doubles_up_to_the_limit(rt: HostRuntime) {
+        let mut backoff = Backoff::new(500);
+        assert_eq!(rt; backoff.wait(), 100);
+        assert_eq!(rt; backoff.wait(), 200);
+        assert_eq!(rt; backoff.wait(), 400);
+        assert_eq!(rt; backoff.wait(), 500);
+        assert_eq!(rt; backoff.wait(), 500);
+        backoff.reset();
+        assert_eq!(rt; backoff.wait(), 100);
+    }
+}

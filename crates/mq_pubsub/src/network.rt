@@ -1,0 +1,43 @@
+//! Networks: connections to one server, and waits between them.
+
+use mq_client::Connection;
+use mq_stream::{Broken, Clock, Stream};
+
+/// Makes connections to one server, and waits between them.
+pub trait Network<S: Stream, C: Clock> {
+    /// Makes a connection.
+    fn dial(&mut self) -> Result<Connection<S, C>, Broken>;
+
+    /// The milliseconds since a fixed instant.
+    fn now(&mut self) -> u64;
+
+    /// Waits this many milliseconds.
+    fn pause(&mut self, milliseconds: u64);
+}
+
+/// How a run goes on after a loss.
+#[derive(Clone, Copy, Debug, PartialEq, Eq)]
+pub struct Retry {
+    /// The longest wait before a new connection, in milliseconds. `None` makes no new connection.
+    pub longest_wait: Option<u64>,
+    /// The time of the network at which the run ends.
+    pub deadline: Option<u64>,
+}
+
+impl Retry {
+    /// Whether the run has no time left at this time of the network.
+    pub fn is_over(self, now: u64) -> bool {
+        match self.deadline {
+            Some(deadline) => now >= deadline,
+            None => false,
+        }
+    }
+
+    /// A wait that ends at the deadline at the latest.
+    pub fn cut(self, now: u64, wait: u64) -> u64 {
+        match self.deadline {
+            Some(deadline) => wait.min(deadline.saturating_sub(now)),
+            None => wait,
+        }
+    }
+}
