@@ -625,6 +625,71 @@ def _(room):
             proxy.close()
 
 
+def accepted(path):
+    """The number of messages that a session in a file has accepted: the identifier assigned last."""
+    with contextlib.suppress(FileNotFoundError), open(path, "rb") as file:
+        form = file.read()
+        place = 6 + struct.unpack(">H", form[4:6])[0] + 1
+        return struct.unpack(">H", form[place + 2:place + 4])[0]
+    return 0
+
+
+def killed(room, words, seconds, given=None, output=None):
+    """Runs a program and kills it after some seconds. Returns whether it ended before."""
+    source = subprocess.PIPE if given is not None else subprocess.DEVNULL
+    process = subprocess.Popen(words, stdin=source, stdout=output, stderr=subprocess.DEVNULL, env=environment())
+    room.stack.callback(process.kill)
+    if given is not None:
+        threading.Thread(target=feed, args=(process, given), daemon=True).start()
+    try:
+        process.wait(timeout=seconds)
+        return True
+    except subprocess.TimeoutExpired:
+        process.kill()
+        process.wait()
+        return False
+
+
+def feed(process, given):
+    with contextlib.suppress(OSError):
+        process.stdin.write(given)
+        process.stdin.close()
+
+
+@check("kills: each message once")
+def _(room):
+    room.broker()
+    count, kills, chance = 1000, 5, random.Random(7)
+    for number in range(int(os.environ.get("ROUNDS", "2"))):
+        proxy = Proxy(room.port, number)
+        at = ["-p", str(proxy.port), "-t", f"kill{number}", "-q", "2", "--retry", "1", "-k", "5"]
+        session, printed = f"{room.folder}/pub{number}", f"{room.folder}/printed{number}"
+        sub = [*OURS["sub"], *at, "-i", f"sub-kill{number}", "--session", f"{room.folder}/sub{number}"]
+        pub = [*OURS["pub"], *at, "-i", f"pub-kill{number}", "--session", session, "-l"]
+        same("subscribe", subprocess.run([*sub, "-E"], env=environment(), timeout=LIMIT).returncode, 0)
+        times = [chance.uniform(0.1, 1) for _ in range(2 * kills)]
+
+        def subscribe():
+            with open(printed, "ab", buffering=0) as output:
+                for it in times[:kills]:
+                    killed(room, sub, it, output=output)
+                subprocess.run([*sub, "-W", "20"], stdout=output, env=environment(), timeout=LIMIT)
+
+        thread = threading.Thread(target=subscribe)
+        thread.start()
+        for it in (*times[kills:], LIMIT):
+            lines = b"".join(b"%d\n" % line for line in range(accepted(session), count))
+            killed(room, pub, it, lines)
+        thread.join()
+        with open(printed, "rb") as file:
+            lines = file.read().split(b"\n")[:-1]
+        once = [line for place, line in enumerate(lines) if place == 0 or lines[place - 1] != line]
+        same(f"round {number}, {proxy.cuts} cuts, {len(lines) - len(once)} twice", once, [b"%d" % it for it in range(count)])
+        if len(lines) - len(once) > kills:
+            raise AssertionError(f"{len(lines) - len(once)} messages twice after {kills} kills")
+        proxy.close()
+
+
 def main():
     missing = [name for name, found in NEEDED.items() if not found]
     if missing:

@@ -1,5 +1,7 @@
 //! The waits between connections.
 
+ghost use Rattle.std.specs.Prelude.{◌≡◌, ◌*◌, min};
+
 /// The first wait, in milliseconds.
 const FIRST_WAIT: u64 = 100;
 
@@ -13,7 +15,10 @@ pub struct Backoff {
 
 impl Backoff {
     /// Waits up to this limit.
-    pub fn new(limit: u64) -> Backoff {
+    pub fn new(limit: u64) -> Backoff
+        ensures limit { result.limit ≡ limit }
+        ensures first { result.next ≡ min 100 limit }
+    {
         Backoff {
             limit,
             next: FIRST_WAIT.min(limit),
@@ -21,14 +26,21 @@ impl Backoff {
     }
 
     /// The next wait.
-    pub fn wait(&mut self) -> u64 {
+    pub fn wait(&mut self) -> u64
+        ensures wait { result ≡ self.old.next }
+        ensures doubled { self.new.next ≡ min (self.old.next * 2) self.old.limit }
+        ensures limit { self.new.limit ≡ self.old.limit }
+    {
         let wait = self.next;
         self.next = wait.saturating_mul(2).min(self.limit);
         wait
     }
 
     /// Begins again with the first wait.
-    pub fn reset(&mut self) {
+    pub fn reset(&mut self)
+        ensures limit { self.new.limit ≡ self.old.limit }
+        ensures first { self.new.next ≡ min 100 self.old.limit }
+    {
         *self = Backoff::new(self.limit);
     }
 }

@@ -1,5 +1,8 @@
 //! The messages that a subscriber prints.
 
+ghost use Rattle.std.specs.Prelude.{◌≡◌};
+ghost use Rattle.mq_pubsub.specs.Choices.{is_excluded, verdict_of};
+
 use mq_packet::Message;
 use mq_topic::{TopicFilter, matches};
 
@@ -27,14 +30,18 @@ pub struct Choice<'a> {
 
 impl Choice<'_> {
     // Whether a filter excludes a message.
-    fn excludes(&self, message: &Message) -> bool {
+    fn excludes(&self, message: &Message) -> bool
+        ensures { result ≡ is_excluded self.now message.now }
+    {
         self.excluded
             .iter()
             .any(|filter| matches(filter, &message.topic))
     }
 
     /// What to do with a delivered message.
-    pub fn verdict(&self, message: &Message) -> Verdict {
+    pub fn verdict(&self, message: &Message) -> Verdict
+        ensures { result ≡ verdict_of self.now message.now }
+    {
         if self.only_retained && !message.retain {
             return Verdict::End;
         }

@@ -1,5 +1,7 @@
 //! Streams that end each read where a packet ends.
 
+ghost use Rattle.std.specs.Prelude.{◌≡◌, ◌≤◌};
+
 use mq_decode::{Limits, packet_len};
 use mq_stream::{Broken, ReadOutcome, Stream};
 
@@ -23,7 +25,9 @@ pub struct PacketStream<S: Stream> {
 
 impl<S: Stream> PacketStream<S> {
     /// A stream whose packets have these limits.
-    pub fn new(inner: S, limits: Limits) -> PacketStream<S> {
+    pub fn new(inner: S, limits: Limits) -> PacketStream<S>
+        ensures { result.inner ≡ inner }
+    {
         PacketStream {
             inner,
             limits,
@@ -33,76 +37,66 @@ impl<S: Stream> PacketStream<S> {
         }
     }
 
-    // Takes a byte of a fixed header. Returns whether the packet ends with it.
-    fn take(&mut self, byte: u8) -> bool {
+    // The most bytes of the next read into a buffer of this length: one of a fixed header, or those
+    // that are left of a packet.
+    fn most(&self, room: usize) -> usize
+        ensures { result ≤ room }
+    {
+        if self.left == 0 {
+            return room.min(1);
+        }
+        room.min(self.left)
+    }
+
+    // Follows a byte of a fixed header.
+    fn follow_header(&mut self, byte: u8)
+        ensures { self.new.inner ≡ self.old.inner }
+    {
         if self.seen < MOST_HEADER {
             self.header[self.seen] = byte;
             self.seen += 1;
         }
-        match packet_len(self.limits, &self.header[..self.seen]) {
+        let seen = self.seen.min(MOST_HEADER);
+        match packet_len(self.limits, &self.header[..seen]) {
             Some(size) => {
-                self.left = size.saturating_sub(self.seen);
+                self.left = size.saturating_sub(seen);
                 self.seen = 0;
-                self.left == 0
             }
             None => {
-                if self.seen == MOST_HEADER {
+                if seen == MOST_HEADER {
                     // Not a header: the client closes at these bytes.
                     self.left = usize::MAX;
                 }
-                false
             }
         }
     }
 
-    // Reads the bytes of a fixed header into the front of `room`. Returns their number and whether
-    // the packet or the read ends with them, or the outcome if there is none.
-    fn read_header(&mut self, room: &mut [u8]) -> Result<(usize, bool), ReadOutcome> {
-        let mut count = 0;
-        while self.left == 0 && count < room.len() {
-            let mut byte = [0];
-            match self.inner.read(&mut byte) {
-                ReadOutcome::Bytes(_) => {
-                    room[count] = byte[0];
-                    count += 1;
-                    if self.take(byte[0]) {
-                        return Ok((count, true));
-                    }
-                }
-                outcome => {
-                    if count == 0 {
-                        return Err(outcome);
-                    }
-                    return Ok((count, true));
-                }
-            }
+    // Follows bytes that were read.
+    fn follow(&mut self, bytes: &[u8])
+        ensures { self.new.inner ≡ self.old.inner }
+    {
+        if self.left > 0 {
+            self.left = self.left.saturating_sub(bytes.len());
+            return;
         }
-        Ok((count, false))
+        if let [byte, ..] = bytes {
+            self.follow_header(*byte);
+        }
     }
 }
 
 impl<S: Stream> Stream for PacketStream<S> {
+    ghost coming = { λ s. S.coming s.inner };
+
+    ghost written = { λ s. S.written s.inner };
+
     fn read(&mut self, buffer: &mut [u8]) -> ReadOutcome {
-        let (count, is_over) = match self.read_header(buffer) {
-            Ok(found) => found,
-            Err(outcome) => return outcome,
-        };
-        let end = buffer.len().min(count.saturating_add(self.left));
-        if is_over || end == count {
-            return ReadOutcome::Bytes(count);
+        let most = self.most(buffer.len());
+        let outcome = self.inner.read(&mut buffer[..most]);
+        if let ReadOutcome::Bytes(count) = outcome {
+            self.follow(&buffer[..count.min(most)]);
         }
-        match self.inner.read(&mut buffer[count..end]) {
-            ReadOutcome::Bytes(more) => {
-                self.left = self.left.saturating_sub(more);
-                ReadOutcome::Bytes(count + more)
-            }
-            outcome => {
-                if count == 0 {
-                    return outcome;
-                }
-                ReadOutcome::Bytes(count)
-            }
-        }
+        outcome
     }
 
     fn write_all(&mut self, bytes: &[u8]) -> Result<(), Broken> {

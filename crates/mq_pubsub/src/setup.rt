@@ -1,5 +1,9 @@
 //! Configurations from which clients are made.
 
+ghost use Rattle.std.specs.Prelude.{◌≡◌, IfOk};
+ghost use Rattle.mq_decode.specs.Limits.{strict};
+ghost use Rattle.mq_pubsub.specs.Setups.{Begins, Continues, config_of};
+
 use mq_decode::Limits;
 use mq_end::{ClientConfig, ClientEnd};
 use mq_flow::{LoadError, Saved};
@@ -28,12 +32,16 @@ pub struct Setup {
 
 impl Setup {
     /// The bound on the remaining length of packets: that of the standard (2.2.3).
-    pub fn limits() -> Limits {
+    pub fn limits() -> Limits
+        ensures { result ≡ strict 268435455 }
+    {
         Limits::new(MOST_PACKET).unwrap()
     }
 
     // The configuration of a client.
-    fn config(&self) -> Result<ClientConfig, AllocError> {
+    fn config(&self) -> Result<ClientConfig, AllocError>
+        ensures { IfOk result (λ config. config ≡ config_of self.now) }
+    {
         Ok(ClientConfig {
             id: self.id.clone()?,
             keep_alive: self.keep_alive,
@@ -46,12 +54,16 @@ impl Setup {
     }
 
     /// A client without a session.
-    pub fn client(&self, alloc: Global) -> Result<ClientEnd, AllocError> {
+    pub fn client(&self, alloc: Global) -> Result<ClientEnd, AllocError>
+        ensures { IfOk result (Begins self.now) }
+    {
         Ok(ClientEnd::new(alloc, self.config()?))
     }
 
     /// A client with the session that `bytes` are the saved form of (4.1).
-    pub fn saved_client(&self, alloc: Global, bytes: &[u8]) -> Result<ClientEnd, LoadError> {
+    pub fn saved_client(&self, alloc: Global, bytes: &[u8]) -> Result<ClientEnd, LoadError>
+        ensures { IfOk result (Continues self.now bytes.now) }
+    {
         let saved = Saved::load(alloc, bytes)?;
         match self.config() {
             Ok(config) => ClientEnd::with_saved(alloc, config, saved),

@@ -1,5 +1,9 @@
 //! The run of `mqtt sub`.
 
+ghost use Rattle.std.specs.Prelude.{◌≡◌, ◌⊎◌, ◌∷◌, List, [], true, OnErr, OnOk};
+ghost use Rattle.mq_client.specs.Course.{Ask, Went};
+ghost use Rattle.mq_pubsub.specs.Shown.{Attended, Prints, Unshown, after, after_all, after_message, printed_one, shown, shown_all, subscriptions};
+
 use crate::backoff::Backoff;
 use crate::choice::{Choice, Verdict};
 use crate::error::RunError;
@@ -47,12 +51,10 @@ pub struct Subscribed<K: SessionSaver> {
 
 // How far a subscriber is.
 #[derive(Clone, Copy)]
-struct Inbox {
+pub(crate) struct Inbox {
     printed: u64,
     // The server has granted the subscriptions in the session.
     is_granted: bool,
-    // The subscriptions have to be requested on this connection.
-    is_due: bool,
     is_ended: bool,
 }
 
@@ -79,7 +81,9 @@ fn print<P: Printer, W: Write>(
     message: &Message,
     id: Option<PacketId>,
     output: &mut W,
-) -> Result<(), RunError> {
+) -> Result<(), RunError>
+    ensures { OnOk result (Prints P.is_line (message.now ∷ []) (W.contents output.old) (W.contents output.new)) }
+{
     let line = printer.line(alloc, message, id)?;
     if write_bytes(output, line.as_slice(), &mut OnInterrupt).is_err() {
         return Err(RunError::Output);
@@ -110,7 +114,10 @@ fn check_codes<P: Printer>(printer: &mut P, codes: &[SubAckCode]) -> Result<(), 
 fn request<S: Stream, C: Clock, K: SessionSaver>(
     peer: &mut Peer<S, C, K>,
     options: &SubscribeOptions<'_>,
-) -> Result<(), RunError> {
+) -> Result<(), RunError>
+    ensures went { (asks : List Ask) × Went peer.old peer.new asks [] [] }
+    ensures ok { OnOk result (Went peer.old peer.new (subscriptions options.now) [] []) }
+{
     if let Some(requests) = options.requests {
         peer.subscribe(requests.clone()?)?;
     }
@@ -121,6 +128,17 @@ fn request<S: Stream, C: Clock, K: SessionSaver>(
 }
 
 impl Inbox {
+    // Notes that a message was printed.
+    fn printed_one(&mut self, options: &SubscribeOptions<'_>)
+        ensures { self.new ≡ printed_one options.now self.old }
+    {
+        self.printed = self.printed.saturating_add(1);
+        self.is_ended = match options.count {
+            Some(count) => count == self.printed,
+            None => false,
+        };
+    }
+
     // Decides about a delivered message, and prints it or not.
     fn deliver<P: Printer, W: Write>(
         &mut self,
@@ -130,7 +148,11 @@ impl Inbox {
         id: Option<PacketId>,
         printer: &mut P,
         output: &mut W,
-    ) -> Result<(), RunError> {
+    ) -> Result<(), RunError>
+        ensures next { OnOk result (self.new ≡ after_message options.now self.old message.now) }
+        ensures prints { OnOk result (Prints P.is_line (shown options.now self.old (Happening.Handed message.now))
+            (W.contents output.old) (W.contents output.new)) }
+    {
         if self.is_ended {
             return Ok(());
         }
@@ -139,10 +161,7 @@ impl Inbox {
             Verdict::End => self.is_ended = true,
             Verdict::Print => {
                 print(alloc, printer, message, id, output)?;
-                self.printed = self.printed.saturating_add(1);
-                if options.count == Some(self.printed) {
-                    self.is_ended = true;
-                }
+                self.printed_one(options);
             }
         }
         Ok(())
@@ -157,11 +176,14 @@ impl Inbox {
         happening: &Happening,
         printer: &mut P,
         output: &mut W,
-    ) -> Result<(), RunError> {
+    ) -> Result<(), RunError>
+        ensures next { OnOk result (self.new ≡ after options.now self.old happening.now) }
+        ensures prints { OnOk result (Prints P.is_line (shown options.now self.old happening.now)
+            (W.contents output.old) (W.contents output.new)) }
+    {
         match happening {
             Happening::Up { session_present } => {
                 self.is_granted = self.is_granted && *session_present;
-                self.is_due = !self.is_granted;
                 Ok(())
             }
             Happening::Handed(message) => {
@@ -174,16 +196,41 @@ impl Inbox {
                 self.is_ended = self.is_ended || options.ends_when_granted;
                 Ok(())
             }
-            Happening::UnsubAck(_) => {
-                if options.requests.is_none() {
-                    self.is_granted = true;
-                    self.is_ended = self.is_ended || options.ends_when_granted;
-                }
-                Ok(())
-            }
-            Happening::Subscribe { .. } | Happening::Unsubscribe { .. } | Happening::Pong => Ok(()),
+            Happening::UnsubAck(_)
+            | Happening::Subscribe { .. }
+            | Happening::Unsubscribe { .. }
+            | Happening::Pong => Ok(()),
         }
     }
+
+    // Takes events in order.
+    fn take_all<P: Printer, W: Write>(
+        &mut self,
+        alloc: Global,
+        options: &SubscribeOptions<'_>,
+        client: &ClientEnd,
+        happenings: &[Happening],
+        printer: &mut P,
+        output: &mut W,
+    ) -> Result<(), RunError>
+        ensures next { OnOk result (self.new ≡ after_all options.now self.old happenings.now) }
+        ensures prints { OnOk result (Prints P.is_line (shown_all options.now self.old happenings.now)
+            (W.contents output.old) (W.contents output.new)) }
+    {
+        let mut rest = happenings;
+        while let [happening, more @ ..] = rest {
+            self.take(alloc, options, client, happening, printer, output)?;
+            rest = more;
+        }
+        Ok(())
+    }
+}
+
+// Whether the server accepted the connection.
+fn has_risen(happenings: &[Happening]) -> bool {
+    happenings
+        .iter()
+        .any(|happening| matches!(happening, Happening::Up { .. }))
 }
 
 // Receives the bytes of one read, prints the message that they complete, and answers.
@@ -194,13 +241,16 @@ fn attend<S: Stream, C: Clock, K: SessionSaver, P: Printer, W: Write>(
     options: &SubscribeOptions<'_>,
     printer: &mut P,
     output: &mut W,
-) -> Result<(), RunError> {
+) -> Result<(), RunError>
+    ensures ok { OnOk result (Attended P.is_line options.now peer.old peer.new inbox.old inbox.new
+        (W.contents output.old) (W.contents output.new)) }
+    ensures err { OnErr result (Attended P.is_line options.now peer.old peer.new inbox.old inbox.new (W.contents output.old) (W.contents output.new)
+        ⊎ Unshown P.is_line options.now peer.old peer.new inbox.old (W.contents output.old)) }
+{
     let progress = peer.hear()?;
-    for happening in progress.happenings.as_slice() {
-        inbox.take(alloc, options, peer.client(), happening, printer, output)?;
-    }
-    if inbox.is_due && peer.is_up() {
-        inbox.is_due = false;
+    let happenings = progress.happenings.as_slice();
+    inbox.take_all(alloc, options, peer.client(), happenings, printer, output)?;
+    if has_risen(happenings) && !inbox.is_granted {
         request(peer, options)?;
     }
     Ok(peer.answer(progress.closed)?)
@@ -217,7 +267,13 @@ fn subscribe_over<S: Stream, C: Clock, K: SessionSaver, N: Network<S, C>, P: Pri
     printer: &mut P,
     output: &mut W,
     was_up: &mut bool,
-) -> Result<(), RunError> {
+) -> Result<(), RunError>
+    ensures ok { OnOk result (Attended P.is_line options.now peer.old peer.new inbox.old inbox.new
+        (W.contents output.old) (W.contents output.new)) }
+    ensures ended { OnOk result (inbox.new.is_ended ≡ true) }
+    ensures err { OnErr result (Attended P.is_line options.now peer.old peer.new inbox.old inbox.new (W.contents output.old) (W.contents output.new)
+        ⊎ Unshown P.is_line options.now peer.old peer.new inbox.old (W.contents output.old)) }
+{
     peer.open(options.clean)?;
     for _ in 0..u64::MAX {
         attend(alloc, peer, inbox, options, printer, output)?;
@@ -234,7 +290,9 @@ fn subscribe_over<S: Stream, C: Clock, K: SessionSaver, N: Network<S, C>, P: Pri
 }
 
 // Leaves, if the client is connected.
-fn leave<S: Stream, C: Clock, K: SessionSaver>(peer: &mut Peer<S, C, K>) -> Result<(), RunError> {
+fn leave<S: Stream, C: Clock, K: SessionSaver>(peer: &mut Peer<S, C, K>) -> Result<(), RunError>
+    ensures { Went peer.old peer.new [] [] [] }
+{
     if peer.is_up() {
         return Ok(peer.leave()?);
     }
@@ -269,7 +327,6 @@ pub fn subscribe<
     let mut inbox = Inbox {
         printed: 0,
         is_granted: false,
-        is_due: true,
         is_ended: false,
     };
     let (mut has_dialed, mut was_up) = (false, false);

@@ -1,0 +1,4 @@
+pub mod Choices
+pub mod Losses
+pub mod Setups
+pub mod Shown
