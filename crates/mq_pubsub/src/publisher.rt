@@ -1,5 +1,10 @@
 //! The run of `mqtt pub`.
 
+ghost use Rattle.std.specs.Prelude.{◌≡◌, ◌≤◌, ◌*◌, ◌∷◌, ◌&&◌, ℕ, [], is_some, min, OnOk};
+ghost use Rattle.std.specs.Io.KnownBytes.{Appends};
+ghost use Rattle.mq_client.specs.Course.{IsIdle, Leaves, Moment};
+ghost use Rattle.mq_pubsub.specs.Losses.{is_loss};
+
 use crate::backoff::Backoff;
 use crate::error::RunError;
 use crate::network::{Network, Retry};
@@ -40,7 +45,9 @@ fn publish_over<S: Stream, C: Clock, K: SessionSaver, N: Network<S, C>, M: Sourc
     outbox: &mut Outbox,
     options: PublishOptions,
     was_up: &mut bool,
-) -> Result<(), RunError> {
+) -> Result<(), RunError>
+    ensures { OnOk result ((last : Moment) × IsIdle last.client.link.end × Leaves last peer.new) }
+{
     peer.open(options.clean)?;
     for _ in 0..u64::MAX {
         let filled = outbox.fill(peer, source)?;
@@ -62,7 +69,9 @@ fn publish_over<S: Stream, C: Clock, K: SessionSaver, N: Network<S, C>, M: Sourc
 }
 
 // Whether and how a run goes on after an error.
-fn goes_on(error: RunError, was_up: bool, retry: Retry) -> bool {
+fn goes_on(error: RunError, was_up: bool, retry: Retry) -> bool
+    ensures { result ≡ (is_some retry.longest_wait && is_loss error was_up) }
+{
     retry.longest_wait.is_some() && error.is_loss(was_up)
 }
 
@@ -71,7 +80,11 @@ pub(crate) fn wait<S: Stream, C: Clock, N: Network<S, C>>(
     network: &mut N,
     backoff: &mut Backoff,
     retry: Retry,
-) -> Result<(), RunError> {
+) -> Result<(), RunError>
+    ensures waits { OnOk result ((pause : ℕ) × (pause ≤ backoff.old.next)
+        × Appends (N.pauses network.old) (N.pauses network.new) (pause ∷ [])) }
+    ensures doubled { OnOk result (backoff.new.next ≡ min (backoff.old.next * 2) backoff.old.limit) }
+{
     let now = network.now();
     if retry.is_over(now) {
         return Err(RunError::TimedOut);
