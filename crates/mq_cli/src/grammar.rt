@@ -11,7 +11,8 @@ use clap::{Arg, ArgAction, Command, value_parser};
 use std::alloc::{AllocError, Global};
 
 /// The codes and the exit statuses, for the help.
-const CODES_AND_STATUSES: &str = "`mqtt pub` and `mqtt sub` have the options of mosquitto_pub and mosquitto_sub: `mqtt pub --help`.
+const CODES_AND_STATUSES: &str =
+    "`mqtt pub` and `mqtt sub` have the options of mosquitto_pub and mosquitto_sub: `mqtt pub --help`.
 
 Codes of a topic filter or topic name (`filter N..`, `name N..`):
   N1 empty                          N4 `+` or `#` in a topic name

@@ -6,7 +6,7 @@ ghost use Rattle.mq_pubsub.specs.Choices.{is_excluded, verdict_of};
 use mq_packet::Message;
 use mq_topic::{TopicFilter, matches};
 
-/// What to do with a delivered message.
+/// The decision about a delivered message.
 #[derive(Clone, Copy, Debug, PartialEq, Eq)]
 pub enum Verdict {
     /// It is printed.
@@ -38,7 +38,7 @@ impl Choice<'_> {
             .any(|filter| matches(filter, &message.topic))
     }
 
-    /// What to do with a delivered message.
+    /// Decides about a delivered message.
     pub fn verdict(&self, message: &Message) -> Verdict
         ensures { result ≡ verdict_of self.now message.now }
     {

@@ -24,7 +24,7 @@ pub trait Network<S: Stream, C: Clock> {
         ensures { Appends (pauses self.old) (pauses self.new) (milliseconds ∷ []) };
 }
 
-/// How a run goes on after a loss.
+/// How a run continues after a loss.
 #[derive(Clone, Copy, Debug, PartialEq, Eq)]
 pub struct Retry {
     /// The longest wait before a new connection, in milliseconds. `None` makes no new connection.

@@ -20,7 +20,7 @@ pub struct PublishOptions {
     /// The clean session flag of each connection (3.1.2.4). With it a loss ends the session, so it
     /// is for messages of QoS 0, or for runs that make no new connection.
     pub clean: bool,
-    /// How the run goes on after a loss.
+    /// How the run continues after a loss.
     pub retry: Retry,
 }
 
@@ -68,7 +68,7 @@ fn publish_over<S: Stream, C: Clock, K: SessionSaver, N: Network<S, C>, M: Sourc
     Err(RunError::Client(ClientError::Lost))
 }
 
-// Whether and how a run goes on after an error.
+// Whether a run continues after an error.
 fn goes_on(error: RunError, was_up: bool, retry: Retry) -> bool
     ensures { result ≡ (is_some retry.longest_wait && is_loss error was_up) }
 {

@@ -3,7 +3,7 @@
 use crate::error::RunError;
 use mq_packet::Message;
 
-/// What a source has.
+/// The state of a source.
 #[derive(Debug, Drop)]
 pub enum Next {
     /// The next message.

@@ -19,7 +19,7 @@ use mq_topic::{Qos, TopicFilter};
 use std::alloc::Global;
 use std::io::Write;
 
-/// What a subscriber asks for, and which messages it prints.
+/// The subscriptions of a run, and the messages that it prints.
 #[derive(Clone, Copy, Debug)]
 pub struct SubscribeOptions<'a> {
     /// The subscriptions to request.
@@ -34,7 +34,7 @@ pub struct SubscribeOptions<'a> {
     pub ends_when_granted: bool,
     /// The clean session flag of each connection (3.1.2.4).
     pub clean: bool,
-    /// How the run goes on after a loss.
+    /// How the run continues after a loss.
     pub retry: Retry,
 }
 

@@ -10,7 +10,7 @@ use url::Url;
 /// The port of a broker that has none.
 const PORT: u16 = 1883;
 
-/// What the environment says, for what no option says.
+/// Values of the environment, which options replace.
 #[derive(Debug, Drop)]
 pub struct Defaults {
     /// MQTT_HOST

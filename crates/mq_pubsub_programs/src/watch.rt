@@ -1,4 +1,4 @@
-//! What a read of a connection waits for besides the connection.
+//! Events that end a read besides bytes of the connection.
 
 use std::cell::Cell;
 
@@ -8,7 +8,7 @@ const LONGEST: i32 = 100;
 /// No descriptor.
 const NONE: i32 = -1;
 
-/// What a read of a connection waits for besides the connection: a source of messages tells it.
+/// Events that end a read besides bytes of the connection. A source of messages sets them.
 #[derive(Drop)]
 pub(crate) struct Watch {
     descriptor: Cell<i32>,
