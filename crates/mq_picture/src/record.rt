@@ -1,5 +1,14 @@
 //! The record of a replay.
 
+ghost use Rattle.std.specs.Prelude.{◌≡◌, ◌<◌, ◌∷◌, [], length, IfOk, IfSome, OnOk};
+ghost use Rattle.std.specs.List.{flat_map};
+ghost use Rattle.std.specs.Int.NonZero.{non_zero_u16_get};
+ghost use Rattle.mq_world.specs.declared.answer.Answer.{Answer};
+ghost use Rattle.mq_world.specs.World.{IsNew};
+ghost use Rattle.mq_schedule.specs.Schedule.{number_of};
+ghost use Rattle.mq_replay.specs.Replay.{StepDoes};
+ghost use Rattle.mq_picture.specs.Record.{IsRecord, Tells, anew_entries, answer_entries, closed_entries, delivery_entries, dropped_entries, happening_entries, left_entries, noted, opening_entries, published_entries, refused_entries, restarted_entries, settling_entries, ticked_entries};
+
 use crate::entry::{Entry, Note};
 use crate::summary::summary_of;
 use mq_decode::{DecodeError, Decoder, Limits};
@@ -8,6 +17,7 @@ use mq_packet::PacketId;
 use mq_schedule::{Schedule, Step};
 use mq_world::{Answer, Delivery, Opening, Settling, Side, World};
 use std::alloc::{AllocError, Global};
+use std::num::NonZeroU16;
 
 // The entries that were recorded.
 type Entries = Vec<Entry>;
@@ -15,15 +25,13 @@ type Entries = Vec<Entry>;
 // The bytes in flight to a side that are recorded: their number, and a decoder that has read them.
 #[derive(Drop)]
 struct Wire {
-    to: Side,
     decoder: Decoder,
     in_flight: usize,
 }
 
 impl Wire {
-    fn new(alloc: Global, to: Side, limits: Limits) -> Wire {
+    fn new(alloc: Global, limits: Limits) -> Wire {
         Wire {
-            to,
             decoder: Decoder::new(alloc, limits),
             in_flight: 0,
         }
@@ -33,15 +41,18 @@ impl Wire {
     fn read(
         &mut self,
         alloc: Global,
+        to: Side,
         bytes: &[u8],
         entries: &mut Entries,
-    ) -> Result<(), AllocError> {
+    ) -> Result<(), AllocError>
+        ensures { OnOk result (Tells entries.old.items entries.new.items []) }
+    {
         let mut packets = Vec::new(alloc);
         if let Err(DecodeError::Memory) = self.decoder.feed(bytes, &mut packets) {
             return Err(AllocError);
         }
         for packet in &packets {
-            entries.push(Entry::Sent(self.to, summary_of(packet)))?;
+            entries.push(Entry::Sent(to, summary_of(packet)))?;
         }
         Ok(())
     }
@@ -50,11 +61,14 @@ impl Wire {
     fn look(
         &mut self,
         alloc: Global,
+        to: Side,
         bytes: &[u8],
         entries: &mut Entries,
-    ) -> Result<(), AllocError> {
+    ) -> Result<(), AllocError>
+        ensures { OnOk result (Tells entries.old.items entries.new.items []) }
+    {
         if let Some(new) = bytes.get(self.in_flight..) {
-            self.read(alloc, new, entries)?;
+            self.read(alloc, to, new, entries)?;
         }
         self.in_flight = bytes.len();
         Ok(())
@@ -66,14 +80,17 @@ impl Wire {
         alloc: Global,
         delivery: &Delivery,
         entries: &mut Entries,
-    ) -> Result<(), AllocError> {
+    ) -> Result<(), AllocError>
+        ensures { OnOk result (Tells entries.old.items entries.new.items
+            (Entry.Arrived delivery.now.side (length delivery.now.bytes) delivery.now.lost ∷ [])) }
+    {
         let bytes = delivery.bytes.as_slice();
         if let Some(new) = bytes.get(self.in_flight..) {
-            self.read(alloc, new, entries)?;
+            self.read(alloc, delivery.side, new, entries)?;
         }
         self.in_flight = self.in_flight.saturating_sub(bytes.len());
         entries.push(Entry::Arrived {
-            to: self.to,
+            to: delivery.side,
             count: bytes.len(),
             lost: delivery.lost,
         })?;
@@ -81,10 +98,12 @@ impl Wire {
     }
 
     // Records that the bytes in flight are lost.
-    fn clear(&mut self, entries: &mut Entries) -> Result<(), AllocError> {
+    fn clear(&mut self, to: Side, entries: &mut Entries) -> Result<(), AllocError>
+        ensures { OnOk result (Tells entries.old.items entries.new.items (Entry.Cleared to ∷ [])) }
+    {
         self.decoder.reset();
         self.in_flight = 0;
-        entries.push(Entry::Cleared(self.to))?;
+        entries.push(Entry::Cleared(to))?;
         Ok(())
     }
 }
@@ -99,39 +118,54 @@ struct Recorder {
 }
 
 impl Recorder {
-    fn note(&mut self, side: Side, note: Note) -> Result<(), AllocError> {
+    fn note(&mut self, side: Side, note: Note) -> Result<(), AllocError>
+        ensures { OnOk result
+            (Tells self.old.entries.items self.new.entries.items (noted side note)) }
+    {
         self.entries.push(Entry::Noted(side, note))?;
         Ok(())
     }
 
-    fn clear(&mut self, to: Side) -> Result<(), AllocError> {
+    fn clear(&mut self, to: Side) -> Result<(), AllocError>
+        ensures { OnOk result
+            (Tells self.old.entries.items self.new.entries.items (Entry.Cleared to ∷ [])) }
+    {
         match to {
-            Side::Client => self.to_client.clear(&mut self.entries),
-            Side::Server => self.to_server.clear(&mut self.entries),
+            Side::Client => self.to_client.clear(to, &mut self.entries),
+            Side::Server => self.to_server.clear(to, &mut self.entries),
         }
     }
 
     // Records the packets that were sent since the last look.
-    fn look(&mut self, world: &World) -> Result<(), AllocError> {
+    fn look(&mut self, world: &World) -> Result<(), AllocError>
+        ensures { OnOk result (Tells self.old.entries.items self.new.entries.items []) }
+    {
+        let (client, server) = (world.wire(Side::Client), world.wire(Side::Server));
         let entries = &mut self.entries;
         self.to_client
-            .look(self.alloc, world.wire(Side::Client), entries)?;
+            .look(self.alloc, Side::Client, client, entries)?;
         self.to_server
-            .look(self.alloc, world.wire(Side::Server), entries)
+            .look(self.alloc, Side::Server, server, entries)
     }
 
     fn published(
         &mut self,
         side: Side,
         outcome: Result<Option<PacketId>, PublishRefusal>,
-    ) -> Result<(), AllocError> {
+    ) -> Result<(), AllocError>
+        ensures { OnOk result
+            (Tells self.old.entries.items self.new.entries.items (published_entries side outcome)) }
+    {
         match outcome {
             Ok(id) => self.note(side, Note::Accepted(id)),
             Err(why) => self.note(side, Note::Refused(why)),
         }
     }
 
-    fn happened(&mut self, side: Side, happening: &Happening) -> Result<(), AllocError> {
+    fn happened(&mut self, side: Side, happening: &Happening) -> Result<(), AllocError>
+        ensures { OnOk result (Tells self.old.entries.items self.new.entries.items
+            (happening_entries side happening.now)) }
+    {
         match happening {
             Happening::Up { session_present } => self.note(side, Note::Up(*session_present)),
             Happening::Handed(message) => self.note(side, Note::Delivered(message.clone()?)),
@@ -143,8 +177,21 @@ impl Recorder {
         }
     }
 
+    fn happened_all(&mut self, side: Side, happenings: &[Happening]) -> Result<(), AllocError>
+        ensures { OnOk result (Tells self.old.entries.items self.new.entries.items
+            (flat_map (happening_entries side) happenings.now)) }
+    {
+        for happening in happenings {
+            self.happened(side, happening)?;
+        }
+        Ok(())
+    }
+
     // Records the reason if a side closed its connection. The bytes in flight to it are lost.
-    fn closed(&mut self, side: Side, closed: Option<CloseReason>) -> Result<(), AllocError> {
+    fn closed(&mut self, side: Side, closed: Option<CloseReason>) -> Result<(), AllocError>
+        ensures { OnOk result
+            (Tells self.old.entries.items self.new.entries.items (closed_entries side closed)) }
+    {
         match closed {
             Some(why) => {
                 self.clear(side)?;
@@ -154,21 +201,41 @@ impl Recorder {
         }
     }
 
-    fn delivered(&mut self, delivery: &Delivery) -> Result<(), AllocError> {
-        let side = delivery.side;
+    fn arrived(&mut self, delivery: &Delivery) -> Result<(), AllocError>
+        ensures { OnOk result (Tells self.old.entries.items self.new.entries.items
+            (Entry.Arrived delivery.now.side (length delivery.now.bytes) delivery.now.lost ∷ [])) }
+    {
         let entries = &mut self.entries;
-        match side {
-            Side::Client => self.to_client.arrive(self.alloc, delivery, entries)?,
-            Side::Server => self.to_server.arrive(self.alloc, delivery, entries)?,
+        match delivery.side {
+            Side::Client => self.to_client.arrive(self.alloc, delivery, entries),
+            Side::Server => self.to_server.arrive(self.alloc, delivery, entries),
         }
-        for happening in delivery.progress.happenings.as_slice() {
-            self.happened(side, happening)?;
+    }
+
+    fn delivered(&mut self, delivery: &Delivery) -> Result<(), AllocError>
+        ensures { OnOk result
+            (Tells self.old.entries.items self.new.entries.items (delivery_entries delivery.now)) }
+    {
+        self.arrived(delivery)?;
+        self.happened_all(delivery.side, delivery.progress.happenings.as_slice())?;
+        self.closed(delivery.side, delivery.progress.closed)
+    }
+
+    fn delivered_all(&mut self, deliveries: &[Delivery]) -> Result<(), AllocError>
+        ensures { OnOk result (Tells self.old.entries.items self.new.entries.items
+            (flat_map delivery_entries deliveries.now)) }
+    {
+        for delivery in deliveries {
+            self.delivered(delivery)?;
         }
-        self.closed(side, delivery.progress.closed)
+        Ok(())
     }
 
     // Records that a side lost the bytes in flight to it, and its connection if it was open.
-    fn dropped(&mut self, side: Side, was_open: bool) -> Result<(), AllocError> {
+    fn dropped(&mut self, side: Side, was_open: bool) -> Result<(), AllocError>
+        ensures { OnOk result
+            (Tells self.old.entries.items self.new.entries.items (dropped_entries side was_open)) }
+    {
         self.clear(side)?;
         if was_open {
             return self.note(side, Note::Dropped);
@@ -176,55 +243,84 @@ impl Recorder {
         Ok(())
     }
 
-    fn opened(&mut self, opening: Opening) -> Result<(), AllocError> {
-        self.dropped(Side::Client, opening.client_dropped)?;
-        self.dropped(Side::Server, opening.server_dropped)?;
-        if opening.refused {
+    fn refused(&mut self, refused: bool) -> Result<(), AllocError>
+        ensures { OnOk result
+            (Tells self.old.entries.items self.new.entries.items (refused_entries refused)) }
+    {
+        if refused {
             return self.note(Side::Client, Note::Refused(PublishRefusal::Memory));
         }
         Ok(())
     }
 
-    fn restarted(
-        &mut self,
-        was_open: bool,
-        outcome: Result<(), PublishRefusal>,
-    ) -> Result<(), AllocError> {
-        self.dropped(Side::Client, was_open)?;
+    fn opened(&mut self, opening: Opening) -> Result<(), AllocError>
+        ensures { OnOk result
+            (Tells self.old.entries.items self.new.entries.items (opening_entries opening)) }
+    {
+        self.dropped(Side::Client, opening.client_dropped)?;
+        self.dropped(Side::Server, opening.server_dropped)?;
+        self.refused(opening.refused)
+    }
+
+    fn continued(&mut self, outcome: Result<(), PublishRefusal>) -> Result<(), AllocError>
+        ensures { OnOk result
+            (Tells self.old.entries.items self.new.entries.items (anew_entries outcome)) }
+    {
         match outcome {
             Ok(()) => self.note(Side::Client, Note::Restarted),
             Err(why) => self.note(Side::Client, Note::Refused(why)),
         }
     }
 
+    fn restarted(
+        &mut self,
+        was_open: bool,
+        outcome: Result<(), PublishRefusal>,
+    ) -> Result<(), AllocError>
+        ensures { OnOk result (Tells self.old.entries.items self.new.entries.items
+            (restarted_entries was_open outcome)) }
+    {
+        self.dropped(Side::Client, was_open)?;
+        self.continued(outcome)
+    }
+
     fn ticked(
         &mut self,
         side: Side,
         outcome: Result<Option<CloseReason>, PublishRefusal>,
-    ) -> Result<(), AllocError> {
+    ) -> Result<(), AllocError>
+        ensures { OnOk result
+            (Tells self.old.entries.items self.new.entries.items (ticked_entries side outcome)) }
+    {
         match outcome {
             Ok(closed) => self.closed(side, closed),
             Err(why) => self.note(side, Note::Refused(why)),
         }
     }
 
-    fn left(&mut self, outcome: Result<(), PublishRefusal>) -> Result<(), AllocError> {
+    fn left(&mut self, outcome: Result<(), PublishRefusal>) -> Result<(), AllocError>
+        ensures { OnOk result
+            (Tells self.old.entries.items self.new.entries.items (left_entries outcome)) }
+    {
         match outcome {
             Ok(()) => self.closed(Side::Client, Some(CloseReason::Left)),
             Err(why) => self.note(Side::Client, Note::Refused(why)),
         }
     }
 
-    fn settled(&mut self, settling: &Settling) -> Result<(), AllocError> {
+    fn settled(&mut self, settling: &Settling) -> Result<(), AllocError>
+        ensures { OnOk result
+            (Tells self.old.entries.items self.new.entries.items (settling_entries settling.now)) }
+    {
         self.opened(settling.opening)?;
-        for delivery in settling.deliveries.as_slice() {
-            self.delivered(delivery)?;
-        }
-        Ok(())
+        self.delivered_all(settling.deliveries.as_slice())
     }
 
     // Records the result of a step.
-    fn answered(&mut self, answer: &Answer) -> Result<(), AllocError> {
+    fn answered(&mut self, answer: &Answer) -> Result<(), AllocError>
+        ensures { OnOk result
+            (Tells self.old.entries.items self.new.entries.items (answer_entries answer.now)) }
+    {
         match answer {
             Answer::Published(side, outcome) => self.published(*side, *outcome),
             Answer::Delivered(delivery) => self.delivered(delivery),
@@ -239,7 +335,11 @@ impl Recorder {
 }
 
 // Processes a step and returns its result.
-fn make(world: &mut World, step: &Step) -> Result<Answer, AllocError> {
+fn make(world: &mut World, step: &Step) -> Result<Answer, AllocError>
+    ensures does { IfOk result (λ answer. StepDoes world.old.limit world.old.capacity step.now answer world.old.wired world.new.wired) }
+    ensures limit { world.new.limit ≡ world.old.limit }
+    ensures capacity { world.new.capacity ≡ world.old.capacity }
+{
     match step {
         Step::Event(event) => world.step(event),
         Step::Settle => world.settle(),
@@ -247,29 +347,53 @@ fn make(world: &mut World, step: &Step) -> Result<Answer, AllocError> {
 }
 
 // Records a step.
-fn advance(recorder: &mut Recorder, world: &mut World, step: &Step) -> Result<(), AllocError> {
+fn advance(recorder: &mut Recorder, world: &mut World, step: &Step) -> Result<(), AllocError>
+    ensures does { OnOk result ((answer : Answer)
+        × StepDoes world.old.limit world.old.capacity step.now answer world.old.wired world.new.wired
+        × Tells recorder.old.entries.items recorder.new.entries.items (answer_entries answer)) }
+    ensures limit { world.new.limit ≡ world.old.limit }
+    ensures capacity { world.new.capacity ≡ world.old.capacity }
+{
     let answer = make(world, step)?;
     recorder.answered(&answer)?;
-    recorder.look(world)
+    recorder.look(world)?;
+    Ok(())
+}
+
+// The number of places of a receiving window, if there is one.
+fn places(window: Option<NonZeroU16>) -> Option<u16>
+    ensures places { result ≡ number_of window }
+    ensures some { IfSome result (λ n. 0 < n) }
+{
+    match window {
+        Some(window) => Some(window.get()),
+        None => None,
+    }
 }
 
 // A new world for a schedule.
-fn new_world(alloc: Global, schedule: &Schedule) -> Result<World, AllocError> {
+fn new_world(alloc: Global, schedule: &Schedule) -> Result<World, AllocError>
+    ensures new { IfOk result (λ world. IsNew schedule.now.limits (non_zero_u16_get schedule.now.capacity) (number_of schedule.now.window) world.wired) }
+    ensures limit { IfOk result (λ world. world.limit ≡ schedule.now.limits) }
+    ensures capacity { IfOk result (λ world. world.capacity ≡ non_zero_u16_get schedule.now.capacity) }
+{
     let capacity = schedule.capacity.get();
-    match schedule.window {
-        Some(window) => World::with_window(alloc, schedule.limits, capacity, window.get()),
+    match places(schedule.window) {
+        Some(window) => World::with_window(alloc, schedule.limits, capacity, window),
         None => World::new(alloc, schedule.limits, capacity),
     }
 }
 
 /// Runs a schedule in a new world and records what happens to its packets and at its sides.
-pub fn record_of(alloc: Global, schedule: &Schedule) -> Result<Vec<Entry>, AllocError> {
+pub fn record_of(alloc: Global, schedule: &Schedule) -> Result<Vec<Entry>, AllocError>
+    ensures { IfOk result (λ entries. IsRecord schedule.now entries.items) }
+{
     let mut world = new_world(alloc, schedule)?;
     let mut recorder = Recorder {
         alloc,
         entries: Vec::new(alloc),
-        to_client: Wire::new(alloc, Side::Client, schedule.limits),
-        to_server: Wire::new(alloc, Side::Server, schedule.limits),
+        to_client: Wire::new(alloc, schedule.limits),
+        to_server: Wire::new(alloc, schedule.limits),
     };
     for step in &schedule.steps {
         advance(&mut recorder, &mut world, step)?;
