@@ -177,7 +177,7 @@ impl<S: Stream, C: Clock, K: SessionSaver> Peer<S, C, K> {
         (self.client, self.keeper)
     }
 
-    // Where the program is halted that published over this peer.
+    // The halt of a program that published over this peer, with the progress that it made.
     pub(crate) fn publish_halt(&self, error: ClientError) -> Halt
         ensures { result.error ≡ error }
     {
@@ -188,7 +188,7 @@ impl<S: Stream, C: Clock, K: SessionSaver> Peer<S, C, K> {
         }
     }
 
-    // Where the program is halted that collected from this peer.
+    // The halt of a program that collected from this peer, with the progress that it made.
     pub(crate) fn collect_halt(&self, error: ClientError) -> Halt
         ensures { result.error ≡ error }
     {

@@ -14,7 +14,7 @@ pub enum Stop {
     Halted(Halt),
 }
 
-/// Why and where a client program was halted.
+/// The reason for which a client program was halted, and its progress.
 #[derive(Clone, Copy, Debug, PartialEq, Eq)]
 pub struct Halt {
     /// Why.

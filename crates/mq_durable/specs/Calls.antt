@@ -27,7 +27,7 @@ MakesCalls seen old [] new = new ≡ old
 MakesCalls {D} seen old (call ∷ calls) new =
     (next : DurableState D) × MakesCall seen call old next × MakesCalls seen next calls new
 
--- the events that came, after those of before
+-- the events that came, after the earlier ones
 abbrev pub came : List HubEvent → List DurableCall → List HubEvent
 came before [] = before
 came before (Stepped event ∷ calls) = came (before ++ event ∷ []) calls

@@ -17,8 +17,8 @@ abbrev pub is_for_memory : HubClose → Bool
 is_for_memory (Own reason) = is_memory reason
 is_for_memory why = false
 
--- A connection is closed for lack of memory, or a will is dropped. A dropped will counts whatever
--- its cause, because the act doesn't name it.
+-- A connection is closed because an allocation failed, or a will is dropped. A dropped will counts
+-- with any cause, because the act doesn't name it.
 unfoldable pub lacks_memory : Act → Bool
 lacks_memory (Closed conn why) = is_for_memory why
 lacks_memory (WillDropped client) = true

@@ -52,8 +52,8 @@ opened_by (Ended conn) conns = conns
 opened_by (Tick now) conns = conns
 opened_by (Collect conn) conns = conns
 
--- What is known of a recovery: the connections of the broker are among those that events opened,
--- and the clock is the broker's.
+-- The facts of a recovery: the connections of the broker are among those that events opened, and
+-- the clock is the broker's.
 pub record IsRecovering (progress : Progress) : Type 0 where
   pub known : AreKnownAmong progress.opened.items progress.hub
   pub clock_is : progress.clock ≡ progress.hub.clock

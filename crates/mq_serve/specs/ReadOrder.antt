@@ -1,4 +1,4 @@
--- The order in which workers pass on what they read. Connections are numbered in the order in which
+-- The order in which workers pass on their bytes. Connections are numbered in the order in which
 -- they were accepted.
 use Rattle.std.specs.Prelude.{ℕ, Bool, true, ◌||◌, nat_le, Option, Some, None}
 use Rattle.mq_serve.specs.declared.read_order.ReadSeat.{ReadSeat}

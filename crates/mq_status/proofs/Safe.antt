@@ -53,7 +53,7 @@ choose : (test : Bool) (xs ys rest : List ℕ) → (test ≡ true → is_safe (x
 choose true xs ys rest here there = here refl
 choose false xs ys rest here there = there refl
 
--- what stands for a byte behind the tests of the first entities
+-- the text for a byte after the tests of the first entities
 abbrev from_39 : ℕ → List ℕ
 from_39 byte = if byte == 39 then codes "&#39;" else escaped_byte byte
 

@@ -115,7 +115,7 @@ fn write_by_qos<W: Write>(
     write_family(output, name, help, "qos", &samples)
 }
 
-// Writes the counters of messages that come in and go out.
+// Writes the counters of accepted messages and of placed copies.
 fn write_messages<W: Write>(output: &mut W, counts: &[u64; COUNTERS]) -> io::Result<()>
     ensures { OnOk result (Appends (W.contents output.old) (W.contents output.new)
         (messages_text counts.now)) }
