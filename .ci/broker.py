@@ -196,6 +196,7 @@ def no_descriptor(program):
             served = ready
             if len(ready) >= 5 and any("not-accepting" in it for it in broker.lines()):
                 break
+            time.sleep(0.1)
         count = len(served)
         assert 5 <= count < 40, count
         for client in clients:

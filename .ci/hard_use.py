@@ -318,6 +318,25 @@ def lost_session(program, expect):
             expect("publish: a removed session", run([*words, "x"]), (0, "resumed 0\npublished 1\n", ""))
 
 
+def unmarked_session(program, expect):
+    """If a lost session cannot be marked, the run says so."""
+    with tempfile.TemporaryDirectory() as folder, socket.create_server(("127.0.0.1", 0)) as scripted:
+        file = f"{folder}/m.sess"
+        with broker(program) as (_, port):
+            run(publish_words(program, port, "--qos", 2, "--session", file, "x"))
+        words = publish_words(program, scripted.getsockname()[1], "--qos", 2, "--session", file, "y")
+        second = subprocess.Popen([str(it) for it in words], stdout=subprocess.PIPE, stderr=subprocess.PIPE, text=True)
+        stream, _ = scripted.accept()
+        with stream:
+            stream.recv(1 << 16)
+            # A file of this name cannot be created any more.
+            os.mkdir(f"{file}.new")
+            stream.sendall(b"\x20\2\0\0")
+            told = second.communicate(timeout=60)
+        reason = f"mqtt: the broker lost the session of {file}, and the next run will not report it: cannot write {file}: is a directory; --forget begins a new session\n"
+        expect("publish: a lost session that cannot be marked", (second.returncode, *told), (1, "resumed 0\nclosed C4\n", reason))
+
+
 # ---- collect
 
 
@@ -371,7 +390,7 @@ def killed_collect(program, expect, count=5):
 
 def check(program, expect):
     """Runs all checks."""
-    for it in (reconnects, slow_reader, few_descriptors, pairs, held_session, files, lost_session, full_output, killed_collect):
+    for it in (reconnects, slow_reader, few_descriptors, pairs, held_session, files, lost_session, unmarked_session, full_output, killed_collect):
         try:
             it(program, expect)
         except (OSError, subprocess.SubprocessError, ValueError, IndexError) as fault:

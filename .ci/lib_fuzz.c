@@ -27,6 +27,40 @@ static bool is_within(posk_field field, size_t size) {
     return field.at <= size && field.size <= size - field.at;
 }
 
+static posk_bytes bytes_of(const uint8_t *bytes, posk_field field) {
+    return (posk_bytes){bytes + field.at, field.size};
+}
+
+static ptrdiff_t encode_connect(const uint8_t *bytes, const posk_fields *f, uint8_t *out,
+                                size_t room) {
+    posk_options options = {.id = bytes_of(bytes, f->client_id), .keep_alive = f->keep_alive};
+    options.has_user_name = f->has_user_name;
+    options.user_name = bytes_of(bytes, f->user_name);
+    options.has_password = f->has_password;
+    options.password = bytes_of(bytes, f->password);
+    options.has_will = f->has_will;
+    options.will_topic = bytes_of(bytes, f->topic);
+    options.will_payload = bytes_of(bytes, f->payload);
+    options.will_qos = f->qos;
+    options.will_retain = f->retain;
+    return posk_encode_connect(&options, f->clean_session, out, room);
+}
+
+static ptrdiff_t encode(const uint8_t *bytes, const posk_fields *f, uint8_t *out, size_t room) {
+    switch (f->kind) {
+    case POSK_CONNECT: return encode_connect(bytes, f, out, room);
+    case POSK_CONNACK: return posk_encode_connack(f->session_present, f->code, out, room);
+    case POSK_PUBLISH:
+        return posk_encode_publish(bytes + f->topic.at, f->topic.size, bytes + f->payload.at,
+                                   f->payload.size, f->qos, f->retain, f->dup, f->id, out, room);
+    case POSK_SUBSCRIBE: case POSK_SUBACK: case POSK_UNSUBSCRIBE:
+        return posk_encode_list(f->kind, f->id, bytes + f->list.at, f->list.size, out, room);
+    case POSK_PINGREQ: case POSK_PINGRESP: case POSK_DISCONNECT:
+        return posk_encode_bare(f->kind, out, room);
+    default: return posk_encode_acknowledgement(f->kind, f->id, out, room);
+    }
+}
+
 /* The packet is written again, into a block of its size: the same bytes. */
 static void encode_again(const uint8_t *bytes, const posk_fields *f) {
     for (size_t less = 0; less < 2; less++) {
@@ -34,17 +68,11 @@ static void encode_again(const uint8_t *bytes, const posk_fields *f) {
         uint8_t *out = malloc(room + 1);
         CHECK(out);
         memset(out, 0xa5, room + 1);
-        ptrdiff_t size = POSK_ERROR_ARGUMENT;
-        if (f->kind >= POSK_PINGREQ)
-            size = posk_encode_bare(f->kind, out, room);
-        else if (f->id && f->size == 4)
-            size = posk_encode_acknowledgement(f->kind, f->id, out, room);
-        if (size != POSK_ERROR_ARGUMENT) {
-            if (less)
-                CHECK(size == POSK_ERROR_ROOM && out[0] == 0xa5);
-            else
-                CHECK(size == (ptrdiff_t)f->size && memcmp(out, bytes, f->size) == 0);
-        }
+        ptrdiff_t size = encode(bytes, f, out, room);
+        if (less)
+            CHECK(size == POSK_ERROR_ROOM && out[0] == 0xa5);
+        else
+            CHECK(size == (ptrdiff_t)f->size && memcmp(out, bytes, f->size) == 0);
         CHECK(out[room] == 0xa5);
         free(out);
     }
@@ -92,6 +120,32 @@ static bool fits(const char *filter, const char *name) {
     return fits(filter + 1, name + 1);
 }
 
+/* Random arguments give a packet that is found again, or an error. */
+static void encode_random(const uint8_t *data, size_t size) {
+    uint8_t out[128];
+    posk_fields f;
+    posk_fault fault;
+    size_t cut = random_below((uint32_t)size + 1);
+    uint8_t kind = (uint8_t)random_below(16), qos = (uint8_t)random_below(4);
+    uint16_t id = (uint16_t)random_below(3);
+    bool dup = random_below(2), retain = random_below(2);
+    ptrdiff_t made[3] = {
+        posk_encode_publish(data, cut, data + cut, size - cut, qos, retain, dup, id, out, 128)};
+    if (made[0] > 0)
+        CHECK(posk_packet(out, 128, POSK_MAX_PACKET, &f, &fault) == POSK_OK && f.id == id &&
+              f.size == (size_t)made[0] && f.topic.size == cut && f.qos == qos && f.dup == dup &&
+              f.retain == retain && memcmp(out + f.topic.at, data, cut) == 0);
+    else
+        CHECK(posk_name_check(data, cut) || qos > 2 || (qos == 0) != (id == 0) || (!qos && dup));
+    made[1] = posk_encode_list(kind, id, data, size, out, 128);
+    if (made[1] > 0)
+        CHECK(posk_packet(out, 128, POSK_MAX_PACKET, &f, &fault) == POSK_OK && f.kind == kind &&
+              f.id == id && f.list.size == size && memcmp(out + f.list.at, data, size) == 0);
+    made[2] = posk_encode_connack(dup, kind, out, 128);
+    CHECK(made[2] == (kind > 5 || (kind && dup) ? POSK_ERROR_ARGUMENT : 4));
+    for (int i = 0; i < 3; i++) CHECK(made[i] > 0 || made[i] == POSK_ERROR_ARGUMENT);
+}
+
 static void match(void) {
     static const char *const parts[] = {"a", "b", "/", "+", "#", "$", "ab", "//"};
     char filter[32] = "", name[32] = "";
@@ -110,6 +164,25 @@ static void match(void) {
         CHECK(code == (fits(filter, name) && !(strchr("+#", filter[0]) && name[0] == '$')));
 }
 
+/* Lists that posk_add_filter makes are those of the packets. */
+static void test_lists(void) {
+    static const uint8_t wanted[] = "\x82\x0e\0\7\0\3a/+\1\0\3b/#\2";
+    uint8_t items[12], out[16];
+    size_t size = 0;
+    CHECK(posk_add_filter(items, 12, &size, "a/+", 3, 1) && size == 6);
+    CHECK(!posk_add_filter(items, 11, &size, "b/#", 3, 2) && size == 6);
+    CHECK(posk_add_filter(items, 12, &size, "b/#", 3, 2) && size == 12);
+    CHECK(posk_encode_list(POSK_SUBSCRIBE, 7, items, size, out, 16) == 16);
+    CHECK(memcmp(out, wanted, 16) == 0);
+    CHECK(posk_encode_list(POSK_UNSUBSCRIBE, 7, items, size, out, 16) == POSK_ERROR_ARGUMENT);
+    size = 0;
+    CHECK(posk_add_filter(items, 12, &size, "a/+", 3, -1) && size == 5);
+    CHECK(posk_encode_list(POSK_UNSUBSCRIBE, 7, items, size, out, 16) == 9);
+    CHECK(memcmp(out, "\xa2\7\0\7\0\3a/+", 9) == 0);
+    CHECK(posk_encode_list(POSK_SUBACK, 7, "\1\x80", 2, out, 16) == 6);
+    CHECK(posk_encode_list(POSK_SUBACK, 0, "\1\x80", 2, out, 16) == POSK_ERROR_ARGUMENT);
+}
+
 int main(int count, char **words) {
     static const char *const seeds[] = {
         "\x10\x23\0\4MQTT\4\xc6\0\x3c\0\2id\0\4gone\0\3bye\0\4name\0\2pw", "\x20\2\1\0",
@@ -120,6 +193,7 @@ int main(int count, char **words) {
     state = count > 2 ? strtoull(words[2], NULL, 10) : 88172645463325252ull;
     time_t end = time(NULL) + seconds;
     unsigned long rounds = 0, found = 0;
+    test_lists();
     while (rounds % 1024 || time(NULL) < end) {
         uint8_t data[64];
         uint32_t seed = random_below(12);
@@ -130,6 +204,7 @@ int main(int count, char **words) {
             data[random_below((uint32_t)size)] = (uint8_t)random_below(256);
         if (random_below(4) == 0) size = random_below((uint32_t)size + 1);
         found += look(data, size) == POSK_OK;
+        encode_random(data, size);
         match();
         rounds++;
     }

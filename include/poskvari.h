@@ -119,6 +119,19 @@ int32_t poskvari_packet(const uint8_t *bytes, size_t size, uint32_t max_packet, 
                         posk_fields *fields, posk_fault *fault);
 ptrdiff_t poskvari_encode_acknowledgement(uint8_t kind, uint16_t id, uint8_t *out, size_t room);
 ptrdiff_t poskvari_encode_bare(uint8_t kind, uint8_t *out, size_t room);
+ptrdiff_t poskvari_encode_list(uint8_t kind, uint16_t id, const uint8_t *items, size_t size,
+                               uint8_t *out, size_t room);
+ptrdiff_t poskvari_encode_connack(bool session_present, uint8_t code, uint8_t *out, size_t room);
+ptrdiff_t poskvari_encode_publish(const uint8_t *topic, size_t topic_size, const uint8_t *payload,
+                                  size_t payload_size, uint8_t qos, bool retain, bool dup,
+                                  uint16_t id, uint8_t *out, size_t room);
+ptrdiff_t poskvari_encode_connect(const uint8_t *client_id, size_t client_id_size,
+                                  uint16_t keep_alive, bool clean_session, bool has_user_name,
+                                  const uint8_t *user_name, size_t user_name_size,
+                                  bool has_password, const uint8_t *password, size_t password_size,
+                                  bool has_will, const uint8_t *will_topic, size_t will_topic_size,
+                                  const uint8_t *will_payload, size_t will_payload_size,
+                                  uint8_t will_qos, bool will_retain, uint8_t *out, size_t room);
 
 /* Replaces a null pointer with size 0 by one that is not null. */
 static inline const uint8_t *posk_bytes_(const void *bytes) {
@@ -159,9 +172,40 @@ static inline bool posk_next_filter(const void *bytes, const posk_fields *fields
     return true;
 }
 
+/* Bytes of the caller. */
+typedef struct posk_bytes {
+    const void *at;
+    size_t size;
+} posk_bytes;
+
+/* The fields of a CONNECT (3.1). Set those that are not needed to 0. */
+typedef struct posk_options {
+    posk_bytes id;           /* the client identifier (3.1.3.1) */
+    uint16_t keep_alive;     /* in seconds; 0 for none (3.1.2.10) */
+    bool has_user_name;
+    posk_bytes user_name;
+    bool has_password;       /* only with a user name */
+    posk_bytes password;
+    bool has_will;           /* the server publishes the will if the connection is lost (3.1.2.5) */
+    posk_bytes will_topic;
+    posk_bytes will_payload;
+    uint8_t will_qos;
+    bool will_retain;
+} posk_options;
+
+/* Whether the pointers of the options may be passed on. */
+static inline bool posk_are_valid_(const posk_options *o) {
+    return POSK_IS_VALID_(o->id.at, o->id.size) &&
+           POSK_IS_VALID_(o->user_name.at, o->user_name.size) &&
+           POSK_IS_VALID_(o->password.at, o->password.size) &&
+           POSK_IS_VALID_(o->will_topic.at, o->will_topic.size) &&
+           POSK_IS_VALID_(o->will_payload.at, o->will_payload.size);
+}
+
 /* The following functions write a packet to the buffer `out` of `room` bytes. They return the size
- * of the packet, or POSK_ERROR_ARGUMENT or POSK_ERROR_ROOM. Bytes behind the
- * packet are unchanged; on an error all are. They allocate nothing. */
+ * of the packet, or POSK_ERROR_ARGUMENT if there is no such packet, POSK_ERROR_ROOM, or
+ * POSK_ERROR_TOO_LARGE. Bytes behind the packet are unchanged; on an error all are. They allocate
+ * nothing. */
 
 /* PUBACK, PUBREC, PUBREL, PUBCOMP or UNSUBACK (3.4 to 3.7, 3.11). */
 static inline ptrdiff_t posk_encode_acknowledgement(uint8_t kind, uint16_t id, void *out,
@@ -174,6 +218,63 @@ static inline ptrdiff_t posk_encode_acknowledgement(uint8_t kind, uint16_t id, v
 static inline ptrdiff_t posk_encode_bare(uint8_t kind, void *out, size_t room) {
     if (!POSK_IS_VALID_(out, room)) return POSK_ERROR_ARGUMENT;
     return poskvari_encode_bare(kind, posk_room_(out), room);
+}
+
+/* CONNECT (3.1). */
+static inline ptrdiff_t posk_encode_connect(const posk_options *options, bool clean_session,
+                                            void *out, size_t room) {
+    const posk_options *o = options;
+    if (!o || !posk_are_valid_(o) || !POSK_IS_VALID_(out, room)) return POSK_ERROR_ARGUMENT;
+    return poskvari_encode_connect(
+        posk_bytes_(o->id.at), o->id.size, o->keep_alive, clean_session, o->has_user_name,
+        posk_bytes_(o->user_name.at), o->user_name.size, o->has_password,
+        posk_bytes_(o->password.at), o->password.size, o->has_will, posk_bytes_(o->will_topic.at),
+        o->will_topic.size, posk_bytes_(o->will_payload.at), o->will_payload.size, o->will_qos,
+        o->will_retain, posk_room_(out), room);
+}
+
+/* CONNACK (3.2). `code` is 0 to 5, and `session_present` only with 0. */
+static inline ptrdiff_t posk_encode_connack(bool session_present, uint8_t code, void *out,
+                                            size_t room) {
+    if (!POSK_IS_VALID_(out, room)) return POSK_ERROR_ARGUMENT;
+    return poskvari_encode_connack(session_present, code, posk_room_(out), room);
+}
+
+/* PUBLISH (3.3). With QoS 0, `dup` must be false and `id` 0. */
+static inline ptrdiff_t posk_encode_publish(const void *topic, size_t topic_size,
+                                            const void *payload, size_t payload_size, uint8_t qos,
+                                            bool retain, bool dup, uint16_t id, void *out,
+                                            size_t room) {
+    if (!POSK_IS_VALID_(topic, topic_size) || !POSK_IS_VALID_(payload, payload_size) ||
+        !POSK_IS_VALID_(out, room))
+        return POSK_ERROR_ARGUMENT;
+    return poskvari_encode_publish(posk_bytes_(topic), topic_size, posk_bytes_(payload),
+                                   payload_size, qos, retain, dup, id, posk_room_(out), room);
+}
+
+/* SUBSCRIBE (3.8), SUBACK (3.9) or UNSUBSCRIBE (3.10). `items` is the list as it is encoded: for a
+ * SUBACK the return codes, otherwise what posk_add_filter made. */
+static inline ptrdiff_t posk_encode_list(uint8_t kind, uint16_t id, const void *items, size_t size,
+                                         void *out, size_t room) {
+    if (!POSK_IS_VALID_(items, size) || !POSK_IS_VALID_(out, room)) return POSK_ERROR_ARGUMENT;
+    return poskvari_encode_list(kind, id, posk_bytes_(items), size, posk_room_(out), room);
+}
+
+/* Appends a filter to a list of *size bytes in the buffer `items`, and changes *size: with its QoS
+ * for a SUBSCRIBE, and without, if `qos` is negative, for an UNSUBSCRIBE. Returns false if the
+ * filter is too long or does not fit, and then changes nothing. */
+static inline bool posk_add_filter(void *items, size_t room, size_t *size, const void *filter,
+                                   size_t filter_size, int qos) {
+    const uint8_t *from = (const uint8_t *)filter;
+    uint8_t *to = (uint8_t *)items + *size;
+    size_t more = 2 + filter_size + (qos < 0 ? 0 : 1), i;
+    if (filter_size > 65535 || *size > room || room - *size < more) return false;
+    to[0] = (uint8_t)(filter_size >> 8);
+    to[1] = (uint8_t)filter_size;
+    for (i = 0; i < filter_size; i++) to[2 + i] = from[i];
+    if (qos >= 0) to[2 + filter_size] = (uint8_t)qos;
+    *size += more;
+    return true;
 }
 
 /* ---- Topics and saved sessions */

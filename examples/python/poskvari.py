@@ -1,7 +1,7 @@
 """MQTT 3.1.1 packets and topics from the library libposkvari, by ctypes.
 
-`packet` finds the packet at the front of bytes. `matches` tests a topic filter against a topic
-name.
+`packet` finds the packet at the front of bytes. `encode_connect` and others encode packets.
+`matches` tests a topic filter against a topic name.
 
 The library is libposkvari.so in the folder that the variable POSKVARI_LIB names, or where the
 system finds it.
@@ -11,6 +11,7 @@ from __future__ import annotations
 
 import ctypes
 import os
+from dataclasses import dataclass
 
 _TEXTS = {
     -1: "out of memory",
@@ -31,6 +32,16 @@ class Error(Exception):
     def __init__(self, code: int) -> None:
         super().__init__(_TEXTS.get(code, f"error {code}"))
         self.code = code
+
+
+@dataclass(frozen=True)
+class Message:
+    """A message of a PUBLISH or a will."""
+
+    topic: str
+    payload: bytes
+    qos: int
+    retain: bool
 
 
 class _Field(ctypes.Structure):
@@ -68,13 +79,24 @@ class _Fault(ctypes.Structure):
 
 
 _BYTES = [ctypes.c_char_p, ctypes.c_size_t]
-_I32 = ctypes.c_int32
+_I32, _SIZE = ctypes.c_int32, ctypes.c_ssize_t
+_U8, _U16, _BOOL = ctypes.c_uint8, ctypes.c_uint16, ctypes.c_bool
 _FUNCTIONS = {
     "packet": (
         _I32,
-        [*_BYTES, ctypes.c_uint32, ctypes.c_bool, ctypes.POINTER(Fields), ctypes.POINTER(_Fault)],
+        [*_BYTES, ctypes.c_uint32, _BOOL, ctypes.POINTER(Fields), ctypes.POINTER(_Fault)],
     ),
     "match": (_I32, [*_BYTES, *_BYTES]),
+    "encode_acknowledgement": (_SIZE, [_U8, _U16, *_BYTES]),
+    "encode_bare": (_SIZE, [_U8, *_BYTES]),
+    "encode_list": (_SIZE, [_U8, _U16, *_BYTES, *_BYTES]),
+    "encode_connack": (_SIZE, [_BOOL, _U8, *_BYTES]),
+    "encode_publish": (_SIZE, [*_BYTES, *_BYTES, _U8, _BOOL, _BOOL, _U16, *_BYTES]),
+    "encode_connect": (
+        _SIZE,
+        [*_BYTES, _U16, _BOOL, _BOOL, *_BYTES, _BOOL, *_BYTES]
+        + [_BOOL, *_BYTES, *_BYTES, _U8, _BOOL, *_BYTES],
+    ),
 }
 
 
@@ -117,3 +139,97 @@ def matches(topic_filter: str, topic: str) -> bool:
     """Returns whether a topic filter matches a topic name."""
     left, right = topic_filter.encode(), topic.encode()
     return _call("match", left, len(left), right, len(right)) == 1
+
+
+def _encode(name: str, most: int, *words: object) -> bytes:
+    """Returns the packet that a function encodes, which has at most so many bytes."""
+    room = ctypes.create_string_buffer(most)
+    size = _call(f"encode_{name}", *words, room, most)
+    return room.raw[:size]
+
+
+def encode_acknowledgement(kind: int, packet_id: int) -> bytes:
+    """Encodes PUBACK (4), PUBREC (5), PUBREL (6), PUBCOMP (7) or UNSUBACK (11)."""
+    return _encode("acknowledgement", 4, _within("kind", kind, 255), _id(packet_id))
+
+
+def encode_bare(kind: int) -> bytes:
+    """Encodes PINGREQ (12), PINGRESP (13) or DISCONNECT (14)."""
+    return _encode("bare", 2, _within("kind", kind, 255))
+
+
+def encode_subscribe(packet_id: int, filters: list[tuple[str, int]]) -> bytes:
+    """Encodes SUBSCRIBE of these topic filters, each with its quality of service."""
+    items = b"".join(_counted(it) + bytes([_within("qos", qos, 255)]) for it, qos in filters)
+    return _encode_list(8, packet_id, items)
+
+
+def encode_suback(packet_id: int, codes: bytes) -> bytes:
+    """Encodes SUBACK with these return codes."""
+    return _encode_list(9, packet_id, codes)
+
+
+def encode_unsubscribe(packet_id: int, filters: list[str]) -> bytes:
+    """Encodes UNSUBSCRIBE of these topic filters."""
+    return _encode_list(10, packet_id, b"".join(_counted(it) for it in filters))
+
+
+def encode_connack(session_present: bool, code: int) -> bytes:
+    """Encodes CONNACK."""
+    return _encode("connack", 4, session_present, _within("code", code, 255))
+
+
+def encode_connect(
+    client_id: str,
+    *,
+    keep_alive: int = 60,
+    clean: bool = True,
+    user_name: str | None = None,
+    password: bytes | None = None,
+    will: Message | None = None,
+) -> bytes:
+    """Encodes CONNECT."""
+    data = client_id.encode()
+    login, last = _login(user_name, password), _will(will)
+    parts = [data, login[1], login[4], last[1], last[3]]
+    return _encode(
+        "connect",
+        sum(len(it) for it in parts) + 25,
+        *(data, len(data), _within("keep_alive", keep_alive, 65_535), clean, *login, *last),
+    )
+
+
+def _login(user_name: str | None, password: bytes | None) -> tuple:
+    name, secret = (user_name or "").encode(), password or b""
+    return user_name is not None, name, len(name), password is not None, secret, len(secret)
+
+
+def _will(will: Message | None) -> tuple:
+    topic, payload = (will.topic.encode(), will.payload) if will else (b"", b"")
+    qos = _within("qos", will.qos, 255) if will else 0
+    retain = will is not None and will.retain
+    return will is not None, topic, len(topic), payload, len(payload), qos, retain
+
+
+def encode_publish(message: Message, packet_id: int = 0, dup: bool = False) -> bytes:
+    """Encodes PUBLISH, with a packet identifier for quality of service 1 and 2."""
+    topic, payload = message.topic.encode(), message.payload
+    return _encode(
+        "publish",
+        len(topic) + len(payload) + 9,
+        *(topic, len(topic), payload, len(payload)),
+        *(_within("qos", message.qos, 255), message.retain, dup, _id(packet_id)),
+    )
+
+
+def _encode_list(kind: int, packet_id: int, items: bytes) -> bytes:
+    return _encode("list", len(items) + 7, kind, _id(packet_id), items, len(items))
+
+
+def _id(packet_id: int) -> int:
+    return _within("packet_id", packet_id, 65_535)
+
+
+def _counted(text: str) -> bytes:
+    data = text.encode()
+    return _within("the size of a filter", len(data), 65_535).to_bytes(2, "big") + data

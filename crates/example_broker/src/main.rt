@@ -99,7 +99,9 @@ fn new_hub(alloc: Global, limits: Limits) -> Hub {
             max_conns: 10,
             max_sessions: 10,
             users: None,
+            hashed_users: None,
             when_full: WhenFull::ClosePublisher,
+            connect_within: None,
         },
     )
 }

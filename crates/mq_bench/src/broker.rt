@@ -77,7 +77,9 @@ pub(crate) fn broker(alloc: Global) -> anyhow::Result<Hub> {
         max_conns: 1_000_000,
         max_sessions: 1_000_000,
         users: None,
+        hashed_users: None,
         when_full: WhenFull::ClosePublisher,
+        connect_within: None,
     };
     Ok(Hub::new(alloc, config))
 }

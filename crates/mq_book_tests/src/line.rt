@@ -63,6 +63,8 @@ pub(crate) fn config() -> Result<HubConfig, Fail>
         max_conns: 100,
         max_sessions: 100,
         users: None,
+        hashed_users: None,
         when_full: WhenFull::ClosePublisher,
+        connect_within: None,
     })
 }

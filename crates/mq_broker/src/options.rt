@@ -48,7 +48,9 @@ impl BrokerOptions {
             max_conns: self.max_connections,
             max_sessions: self.max_sessions,
             users: self.users,
+            hashed_users: None,
             when_full: WhenFull::DropCopy,
+            connect_within: None,
         }
     }
 }

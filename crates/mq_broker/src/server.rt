@@ -9,7 +9,6 @@ use crate::peers::Peers;
 use crate::status_port::{FIRST, LISTENER as STATUS_LISTENER, SLOTS, StatusPort};
 use mio::net::{TcpListener, TcpStream};
 use mio::{Events, Interest, Poll, Token};
-use mq_hub::Hub;
 use mq_loop::{EventLoop, LoopLimits, NonBlocking, Report};
 use mq_status::{Counter, MAX_ROWS, Metrics, RowState, SessionRow, write_response};
 use mq_stream::{Clock, Elapsed};
@@ -110,12 +109,12 @@ impl<L: Write + Drop> Server<L> {
             None => None,
         };
         let most = options.max_connections;
-        let hub = Hub::new(alloc, options.into_config(packets));
+        let config = options.into_config(packets);
         let counted = Counted(Metrics::new());
         Ok(Server {
             poll,
             listener,
-            connections: EventLoop::new(alloc, hub, limits, counted),
+            connections: EventLoop::new(alloc, config, limits, counted),
             status,
             peers: Peers::new(alloc),
             log,

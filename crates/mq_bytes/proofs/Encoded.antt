@@ -48,18 +48,23 @@ parts_give lengths Is p first body old new (Err TooLarge) is packet is_first is_
 parts_give lengths Is p first body old new (Err Room) is packet is_first is_body h = (p, is, subst (λ (b : List ℕ). length old < encoded_size (length b)) is_body h.0, h.1)
 parts_give lengths Is p first body old new (Err Argument) is packet is_first is_body h = absurd h
 
--- The result of writing the parts.
+-- The result of writing the fields.
+pub fields_framed : (first rest at : ℕ) (body old mid new : List ℕ) → rest ≡ length body → at + rest ≤ length old → at ≡ 1 + length (length_bytes rest) → rest < 2 ^ 28
+    → Filled old (first ∷ length_bytes rest) mid → Puts at body mid new → Frames first body old new (at + rest)
+fields_framed first rest at body old mid new size within here small f put =
+    let filled = fields_fill first at (length_bytes rest) body old mid new f put here in
+    let all : length (length_bytes rest) ≡ length (length_bytes (length body)) = ap (λ (k : ℕ). length (length_bytes k)) size in
+    (subst (λ (k : ℕ). Filled old (first ∷ (length_bytes k ++ body)) new) size filled, omega arith, within, subst (λ (k : ℕ). k < 2 ^ 28) size small)
+
+-- The same of four parts.
 pub parts_framed : (first rest at : ℕ) (a b c d old mid new : List ℕ) → rest ≡ length a + (length b + (length c + length d)) → at + rest ≤ length old → at ≡ 1 + length (length_bytes rest) → rest < 2 ^ 28
     → Filled old (first ∷ length_bytes rest) mid → Puts at (a ++ (b ++ (c ++ d))) mid new → Frames first (a ++ (b ++ (c ++ d))) old new (at + rest)
 parts_framed first rest at a b c d old mid new is within here small f put =
     let one = length-append a (b ++ (c ++ d)) in
     let two = length-append b (c ++ d) in
     let three = length-append c d in
-    let body = a ++ (b ++ (c ++ d)) in
-    let size : rest ≡ length body = omega arith in
-    let filled = fields_fill first at (length_bytes rest) body old mid new f put here in
-    let all : length (length_bytes rest) ≡ length (length_bytes (length body)) = ap (λ (k : ℕ). length (length_bytes k)) size in
-    (subst (λ (k : ℕ). Filled old (first ∷ (length_bytes k ++ body)) new) size filled, omega arith, within, subst (λ (k : ℕ). k < 2 ^ 28) size small)
+    let size : rest ≡ length (a ++ (b ++ (c ++ d))) = omega arith in
+    fields_framed first rest at (a ++ (b ++ (c ++ d))) old mid new size within here small f put
 
 -- ---- packets
 

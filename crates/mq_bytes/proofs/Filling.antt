@@ -1,5 +1,5 @@
 -- Buffers that are filled from the front.
-use Rattle.std.proofs.Common.{◌≡◌, ℕ, ◌+◌, ◌≤◌, List, [], ◌∷◌, ◌++◌, length, take, drop, refl, ap, subst, ◌∙◌, arith}
+use Rattle.std.proofs.Common.{◌≡◌, ℕ, ◌+◌, ◌≤◌, List, [], ◌∷◌, ◌++◌, length, take, drop, refl, sym, ap, subst, ◌∙◌, append_assoc, append-nil, arith}
 use Rattle.std.proofs.lemmas.List.{length-append, length-drop}
 use Rattle.std.proofs.Math.Seq.{drop-append_seam, take-append_seam}
 use Rattle.mq_bytes.specs.Buffers.{Filled}
@@ -30,3 +30,13 @@ begin_fills first at bytes len old mid new one two here same =
 -- The fields behind them.
 pub fields_fill : (first at : ℕ) (len body old mid new : List ℕ) → Filled old (first ∷ len) mid → Puts at body mid new → at ≡ 1 + length len → Filled old (first ∷ (len ++ body)) new
 fields_fill first at len body old mid new f put here = put old (first ∷ len) f (omega arith)
+
+-- Two writes, one behind the other.
+pub puts_then : (at behind : ℕ) (x y now mid new : List ℕ) → Puts at x now mid → behind ≡ at + length x → Puts behind y mid new → Puts at (x ++ y) now new
+puts_then at behind x y now mid new one here two old front f start =
+    let size = length-append front x in
+    let all = two old (front ++ x) (one old front f start) (omega (arith, here, start, size)) in
+    subst (λ (z : List ℕ). Filled old z new) (append_assoc front x y) all
+
+pub puts_nothing : (at : ℕ) (now : List ℕ) → Puts at [] now now
+puts_nothing at now old front f start = subst (λ (z : List ℕ). Filled old z now) (sym (append-nil front)) f

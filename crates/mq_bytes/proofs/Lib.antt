@@ -3,3 +3,8 @@ mod Filling
 mod Texts
 mod Encoded
 mod Located
+mod ItemLists
+mod ItemParts
+mod Listed
+mod Published
+mod Connecting

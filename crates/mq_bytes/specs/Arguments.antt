@@ -1,7 +1,21 @@
--- The packets with the fields that a caller gives (chapter 3).
-use Rattle.std.specs.Prelude.{◌≡◌, ℕ}
+-- Values and packets with the fields that a caller gives (chapter 3).
+use Rattle.std.specs.Prelude.{◌≡◌, ℕ, Bool, true, false, List, Option, None, Some}
+use Rattle.std.specs.List.{flat_map}
+use Rattle.mq_wire.specs.Text.{counted}
+use Rattle.mq_topic.specs.Qos.{qos_number}
+use Rattle.mq_topic.specs.declared.qos.Qos.{Qos}
+use Rattle.mq_topic.specs.declared.qos.Qos.TheVariants.{Q0, Q1, Q2}
+use Rattle.mq_packet.specs.declared.connack.ConnAck.{ConnAck}
+use Rattle.mq_packet.specs.declared.connack.ConnAck.TheVariants.{Accepted, Refused}
+use Rattle.mq_packet.specs.declared.connect.Login.{Login}
+use Rattle.mq_packet.specs.declared.connect.Will.{Will}
+use Rattle.mq_packet.specs.declared.message.Message.{Message}
 use Rattle.mq_packet.specs.declared.packet.Packet.{Packet}
 use Rattle.mq_packet.specs.declared.packet.Packet.TheVariants as packets
+use Rattle.mq_packet.specs.Codes.{refusal_number}
+use Rattle.mq_packet.specs.Encoding.{code_fields, request_fields}
+use Rattle.mq_packet.specs.Identifier.{IsIdentifier}
+use Rattle.mq_bytes.specs.Places.{dup_of, identifier_of}
 
 -- A packet of this type whose only field is this identifier (3.4 to 3.7, 3.11).
 abbrev pub IsAcknowledgementOf : ℕ → ℕ → Packet → Type 0
@@ -18,3 +32,65 @@ IsBareOf kind packets.PingReq = kind ≡ 12
 IsBareOf kind packets.PingResp = kind ≡ 13
 IsBareOf kind packets.Disconnect = kind ≡ 14
 IsBareOf kind p = ⊥
+
+-- A packet of this type with this identifier and this list, as it is encoded (3.8 to 3.10).
+abbrev pub IsListOf : ℕ → ℕ → List ℕ → Packet → Type 0
+IsListOf kind id items (packets.Subscribe i requests) =
+    (kind ≡ 8) × (i ≡ id) × (flat_map request_fields requests ≡ items)
+IsListOf kind id items (packets.SubAck i codes) =
+    (kind ≡ 9) × (i ≡ id) × (flat_map code_fields codes ≡ items)
+IsListOf kind id items (packets.Unsubscribe i filters) =
+    (kind ≡ 10) × (i ≡ id) × (flat_map counted filters ≡ items)
+IsListOf kind id items p = ⊥
+
+-- CONNACK with this Session Present and return code (3.2).
+abbrev pub IsAnswerOf : Bool → ℕ → ConnAck → Type 0
+IsAnswerOf present code (Accepted p) = (p ≡ present) × (code ≡ 0)
+IsAnswerOf present code (Refused c) = (present ≡ false) × (refusal_number c ≡ code)
+
+abbrev pub IsConnAckOf : Bool → ℕ → Packet → Type 0
+IsConnAckOf present code (packets.ConnAck answer) = IsAnswerOf present code answer
+IsConnAckOf present code p = ⊥
+
+-- The message with these parts (3.3).
+abbrev pub IsMessageOf : List ℕ → List ℕ → ℕ → Bool → Message → Type 0
+IsMessageOf topic payload qos retain m =
+    (m.topic ≡ topic) × (m.payload ≡ payload) × (qos_number m.qos ≡ qos) × (m.retain ≡ retain)
+
+-- PUBLISH of this message, with this DUP and identifier: false and 0 with QoS 0 (3.3).
+abbrev pub IsPublishOf : List ℕ → List ℕ → ℕ → Bool → Bool → ℕ → Packet → Type 0
+IsPublishOf topic payload qos retain dup id (packets.Publish p) =
+    IsMessageOf topic payload qos retain p.message
+    × (dup_of p.delivery ≡ dup) × (identifier_of p.delivery ≡ id)
+IsPublishOf topic payload qos retain dup id p = ⊥
+
+-- With this quality of service a PUBLISH can have this DUP and identifier (2.3.1, 3.3.1.1).
+abbrev pub MayDeliver : Qos → Bool → ℕ → Type 0
+MayDeliver Q0 dup id = (dup ≡ false) × (id ≡ 0)
+MayDeliver Q1 dup id = IsIdentifier id
+MayDeliver Q2 dup id = IsIdentifier id
+
+-- The will with these parts (3.1.3.2, 3.1.3.3), if there is one.
+abbrev pub IsWillOf : Bool → List ℕ → List ℕ → ℕ → Bool → Option Will → Type 0
+IsWillOf there topic payload qos retain None = there ≡ false
+IsWillOf there topic payload qos retain (Some w) =
+    (there ≡ true) × (w.topic ≡ topic) × (w.message ≡ payload) × (qos_number w.qos ≡ qos)
+    × (w.retain ≡ retain)
+
+-- The password (3.1.3.5), if there is one.
+abbrev pub IsPasswordOf : Bool → List ℕ → Option (List ℕ) → Type 0
+IsPasswordOf there password None = there ≡ false
+IsPasswordOf there password (Some p) = (there ≡ true) × (p ≡ password)
+
+-- The user name (3.1.3.4), if there is one, with the password. There is no password alone.
+abbrev pub IsLoginOf : Bool → List ℕ → Bool → List ℕ → Option Login → Type 0
+IsLoginOf there name has_password password None = (there ≡ false) × (has_password ≡ false)
+IsLoginOf there name has_password password (Some l) =
+    (there ≡ true) × (l.name ≡ name) × IsPasswordOf has_password password l.password
+
+-- CONNECT with these fields (3.1).
+abbrev pub IsConnectOf : List ℕ → ℕ → Bool → (Option Will → Type 0) → (Option Login → Type 0) → Packet → Type 0
+IsConnectOf client_id keep_alive clean IsWill IsLogin (packets.Connect c) =
+    (c.client_id ≡ client_id) × (c.keep_alive ≡ keep_alive) × (c.clean_session ≡ clean)
+    × IsWill c.will × IsLogin c.login
+IsConnectOf client_id keep_alive clean IsWill IsLogin p = ⊥

@@ -10,8 +10,8 @@ use crate::buffer::{begin, put_all};
 use crate::fault::EncodeFault;
 use mq_wire::length_laws;
 
-// Writes a packet whose fields are these four pieces.
-fn encode(
+/// Writes a packet whose fields are these four pieces.
+pub(crate) fn encode(
     out: &mut [u8],
     first: u8,
     a: &[u8],
@@ -30,8 +30,8 @@ fn encode(
     Ok(at + rest)
 }
 
-// The two bytes of a number (1.5.2).
-fn number(n: u16) -> [u8; 2]
+/// The two bytes of a number (1.5.2).
+pub(crate) fn number(n: u16) -> [u8; 2]
     ensures { result ≡ number n }
 {
     n.to_be_bytes()

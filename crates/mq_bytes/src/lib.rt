@@ -11,7 +11,11 @@ mod connect_places;
 mod encode;
 mod fault;
 mod front_fields;
+mod items;
 mod places;
+mod write_connect;
+mod write_list;
+mod write_publish;
 
 pub use crate::buffer::put;
 pub use crate::check::{check_filter, check_name, check_session, is_match};
@@ -19,3 +23,6 @@ pub use crate::encode::{encode_acknowledgement, encode_bare};
 pub use crate::fault::{CheckFault, EncodeFault};
 pub use crate::front_fields::locate;
 pub use crate::places::{Field, Front, PacketFields};
+pub use crate::write_connect::encode_connect;
+pub use crate::write_list::encode_list;
+pub use crate::write_publish::{encode_connack, encode_publish};

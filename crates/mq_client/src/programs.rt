@@ -274,9 +274,11 @@ fn publish_kept<S: Stream + Drop, C: Clock + Drop, D: Dial<S, C>, F: Disk + Drop
         Ok(mut peer) => {
             let status = resume(alloc, &mut peer, texts, stop, output);
             let (client, mut keeper) = peer.into_parts();
-            if is_lost(stop) {
-                // Without the mark, the next run continues with the server's new session.
-                let _ = mark_lost(alloc, &client, &mut keeper.store);
+            // Without the mark, the next run continues with the server's new session.
+            if is_lost(stop)
+                && let Err(why) = mark_lost(alloc, &client, &mut keeper.store)
+            {
+                *stop = Some(Stop::Unmarked(why));
             }
             drop(client);
             drop(keeper);

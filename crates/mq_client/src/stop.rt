@@ -4,6 +4,7 @@ ghost use Rattle.std.specs.Prelude.{◌≡◌};
 
 use crate::client::LoadFailure;
 use crate::error::ClientError;
+use crate::saver::SaveError;
 
 /// The early stop of a client program, for a message to its user.
 #[derive(Clone, Copy, Debug, PartialEq, Eq)]
@@ -12,6 +13,9 @@ pub enum Stop {
     Unloaded(LoadFailure),
     /// The program was halted.
     Halted(Halt),
+    /// The server lost the session, and its file could not be marked, so that the next run will
+    /// not report it.
+    Unmarked(SaveError),
 }
 
 /// The reason for which a client program was halted, and its progress.

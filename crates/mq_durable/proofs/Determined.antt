@@ -183,18 +183,20 @@ module _ (reading : OneReading) (laws : ReadsAgain) where
   comes_same limits k _ _ _ _ _ _ (Waits b w on pending) (LetsGo c u closed) same start quiet calm = absurd (true≢false (sym on ∙ ap (is_open_on k) start ∙ closed))
   comes_same limits k _ _ _ _ _ _ (Breaks b fault fits w on faulty) (LetsGo c u closed) same start quiet calm = absurd (true≢false (sym on ∙ ap (is_open_on k) start ∙ closed))
 
-  ticks_same : (now : ℕ) (xs : List HubConnection) (w u v x : Work) → Ticks now xs w v → Ticks now xs u x → w ≡ u → IsQuiet v → IsQuiet x → v ≡ x
-  ticks_same now _ _ _ _ _ (Done w) (Done u) start quiet calm = start
-  ticks_same now _ _ _ _ _ (InTime y ys w v soon more) (InTime _ _ u x again later) start quiet calm = ticks_same now ys w u v x more later start quiet calm
-  ticks_same now _ _ _ _ _ (InTime y ys w v soon more) (Late _ _ fits u x late later) start quiet calm = absurd (true≢false (sym late ∙ soon))
-  ticks_same now _ _ _ _ _ (Late y ys fits w v late more) (InTime _ _ u x soon later) start quiet calm = absurd (true≢false (sym late ∙ soon))
-  ticks_same now _ _ _ _ _ (Late y ys fits w v late more) (Late _ _ fit u x again later) start quiet calm =
-      let first : Work = close y.conn (Own reasons.KeepAlive) fits w in
-      let second : Work = close y.conn (Own reasons.KeepAlive) fit u in
-      ticks_same now ys first second v x more later
-      (close_same y.conn (Own reasons.KeepAlive) fits w (quiet_before first v (ticks_grow now ys first v more) quiet)
-      ∙ ap (λ (z : Work). close y.conn (Own reasons.KeepAlive) true z) start
-      ∙ sym (close_same y.conn (Own reasons.KeepAlive) fit u (quiet_before second x (ticks_grow now ys second x later) calm)))
+  ticks_same : (within : Option ℕ) (now : ℕ) (xs : List HubConnection) (w u v x : Work) → Ticks within now xs w v → Ticks within now xs u x → w ≡ u → IsQuiet v → IsQuiet x → v ≡ x
+  ticks_same within now _ _ _ _ _ (Done w) (Done u) start quiet calm = start
+  ticks_same within now _ _ _ _ _ (InTime y ys w v soon more) (InTime _ _ u x again later) start quiet calm = ticks_same within now ys w u v x more later start quiet calm
+  ticks_same within now _ _ _ _ _ (InTime y ys w v soon more) (Late _ _ why fits u x late later) start quiet calm = absurd (let clash : None ≡ Some why = sym soon ∙ late in cc)
+  ticks_same within now _ _ _ _ _ (Late y ys why fits w v late more) (InTime _ _ u x soon later) start quiet calm = absurd (let clash : None ≡ Some why = sym soon ∙ late in cc)
+  ticks_same within now _ _ _ _ _ (Late y ys why fits w v late more) (Late _ _ other fit u x again later) start quiet calm =
+      let both : Some why ≡ Some other = sym late ∙ again in
+      let same : why ≡ other = cc in
+      let first : Work = close y.conn why fits w in
+      let second : Work = close y.conn other fit u in
+      ticks_same within now ys first second v x more later
+      (close_same y.conn why fits w (quiet_before first v (ticks_grow within now ys first v more) quiet)
+      ∙ (λ i. close y.conn (same i) true (start i))
+      ∙ sym (close_same y.conn other fit u (quiet_before second x (ticks_grow within now ys second x later) calm)))
       quiet calm
 
   ended_same : (k : Conn) (fits : Bool) (h : HubState) → IsQuiet (ended k fits h) → ended k fits h ≡ ended k true h
@@ -224,7 +226,7 @@ module _ (reading : OneReading) (laws : ReadsAgain) where
       (same, d.2 ∙ ap (λ (x : Work). done false x) same ∙ sym f.2)
   does_same h (Tick now) r s w v d f quiet calm =
       let start : Work = begin (told now h) in
-      let same : w ≡ v = ticks_same (max h.clock now) h.connections start start w v d.0 f.0 refl (quiet_reply r true w d.1 quiet) (quiet_reply s true v f.1 calm) in
+      let same : w ≡ v = ticks_same h.config.connect_within (max h.clock now) h.connections start start w v d.0 f.0 refl (quiet_reply r true w d.1 quiet) (quiet_reply s true v f.1 calm) in
       (same, d.1 ∙ ap (λ (x : Work). done true x) same ∙ sym f.1)
   does_same h (Collect k) r s w v d f quiet calm = (d.0 ∙ sym f.0, d.1 ∙ sym f.1)
 

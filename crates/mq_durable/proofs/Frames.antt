@@ -221,10 +221,10 @@ comes_stay limits k b w w2 (Breaks c fault fits v on faulty) = malformed_stays k
 comes_stay limits k b w w2 (Starves c fits v on some) = close_stays k (Own reasons.Memory) fits v
 comes_stay limits k b w w2 (LetsGo c v closed) = refl
 
-ticks_stay : (now : ℕ) (xs : List HubConnection) (w w2 : Work) → Ticks now xs w w2 → frame w2.hub ≡ frame w.hub
-ticks_stay now xs w w2 (Done v) = refl
-ticks_stay now xs w w2 (InTime x ys v v2 soon more) = ticks_stay now ys v v2 more
-ticks_stay now xs w w2 (Late x ys fits v v2 late more) = ticks_stay now ys (close x.conn (Own reasons.KeepAlive) fits v) v2 more ∙ close_stays x.conn (Own reasons.KeepAlive) fits v
+ticks_stay : (within : Option ℕ) (now : ℕ) (xs : List HubConnection) (w w2 : Work) → Ticks within now xs w w2 → frame w2.hub ≡ frame w.hub
+ticks_stay within now xs w w2 (Done v) = refl
+ticks_stay within now xs w w2 (InTime x ys v v2 soon more) = ticks_stay within now ys v v2 more
+ticks_stay within now xs w w2 (Late x ys why fits v v2 late more) = ticks_stay within now ys (close x.conn why fits v) v2 more ∙ close_stays x.conn why fits v
 
 ended_stays : (k : Conn) (alive fits : Bool) (w : Work) → frame (ended_open k alive fits w).hub ≡ frame w.hub
 ended_stays k true fits w = close_stays k PeerEnded fits w
@@ -260,14 +260,14 @@ framed (Collect k) h = frame h
 does_frame : (h : HubState) (e : HubEvent) (r : HubReply) (w : Work) → Does h e r w → frame w.hub ≡ framed e h
 does_frame h (Opened k) r w d =
     ap (λ (v : Work). frame v.hub) d.0
-    ∙ ap (λ (ns : List Conn). (ns, h.clock)) (map-append (λ (x : HubConnection). x.conn) h.connections (record { conn = k; stage = AwaitingConnect; held = []; waiting = [] } ∷ []))
+    ∙ ap (λ (ns : List Conn). (ns, h.clock)) (map-append (λ (x : HubConnection). x.conn) h.connections (record { conn = k; stage = AwaitingConnect; held = []; waiting = []; since = h.clock } ∷ []))
 does_frame h (Bytes k piece) r w d = comes_stay h.config.limits k (held_on k h.connections ++ piece) (holding k [] (begin h)) w d.0 ∙ holding_stays k [] (begin h)
 does_frame h (Ended k) r w d =
     let v = ended_open k (is_open (stage_of k h.connections)) d.0 (begin h) in
     let same = ended_stays k (is_open (stage_of k h.connections)) d.0 (begin h) in
     ap (λ (u : Work). frame u.hub) d.1
     ∙ ap₂ (λ (ns : List Conn) (n : ℕ). (ns, n)) (without_names k v.hub.connections h.connections (ap (λ (f : List Conn × ℕ). f.0) same)) (ap (λ (f : List Conn × ℕ). f.1) same)
-does_frame h (Tick now) r w d = ticks_stay (max h.clock now) h.connections (begin (told now h)) w d.0
+does_frame h (Tick now) r w d = ticks_stay h.config.connect_within (max h.clock now) h.connections (begin (told now h)) w d.0
 does_frame h (Collect k) r w d =
     ap (λ (v : Work). frame v.hub) d.0 ∙ ap (λ (ns : List Conn). (ns, h.clock)) (named (λ x. record x { waiting = [] }) (λ x. refl) k h.connections)
 

@@ -246,12 +246,12 @@ comes_grow limits k b w v (Breaks c fault fits u on faulty) = malformed_grows k 
 comes_grow limits k b w v (Starves c fits u on some) = close_grows k (Own reasons.Memory) fits u
 comes_grow limits k b w v (LetsGo c u closed) = still u u refl
 
-pub ticks_grow : (now : ℕ) (xs : List HubConnection) (w v : Work) → Ticks now xs w v → Grows w v
-ticks_grow now xs w v (Done u) = still u u refl
-ticks_grow now xs w v (InTime x ys u z soon more) = ticks_grow now ys u z more
-ticks_grow now xs w v (Late x ys fits u z late more) =
-    let c : Work = close x.conn (Own reasons.KeepAlive) fits u in
-    chain u c z (close_grows x.conn (Own reasons.KeepAlive) fits u) (ticks_grow now ys c z more)
+pub ticks_grow : (within : Option ℕ) (now : ℕ) (xs : List HubConnection) (w v : Work) → Ticks within now xs w v → Grows w v
+ticks_grow within now xs w v (Done u) = still u u refl
+ticks_grow within now xs w v (InTime x ys u z soon more) = ticks_grow within now ys u z more
+ticks_grow within now xs w v (Late x ys why fits u z late more) =
+    let c : Work = close x.conn why fits u in
+    chain u c z (close_grows x.conn why fits u) (ticks_grow within now ys c z more)
 
 -- ---- nothing is reported
 

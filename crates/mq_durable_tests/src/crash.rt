@@ -59,7 +59,9 @@ fn config() -> Result<HubConfig, Fail>
         max_conns: 100,
         max_sessions: 100,
         users: None,
+        hashed_users: None,
         when_full: WhenFull::ClosePublisher,
+        connect_within: None,
     })
 }
 
@@ -150,6 +152,16 @@ fn crash_of(alloc: Global, disk: &TestDisk, acknowledged: usize) -> Result<Crash
     })
 }
 
+// The rounds of both clients, and what the disk holds then.
+fn crash_in(alloc: Global, durable: &mut Durable<TestDisk>) -> Result<Crash, Fail> {
+    let acknowledged = if subscribe(alloc, durable)? {
+        publish(alloc, durable)?
+    } else {
+        0
+    };
+    Ok(crash_of(alloc, durable.disk(), acknowledged)?)
+}
+
 // The crash after a number of calls of the disk.
 fn crash_after(alloc: Global, calls: u64) -> Result<Crash, Fail> {
     let mut disk = FreezingDisk::new(MemoryDisk::new(alloc, Vec::new(alloc)), calls);
@@ -158,14 +170,17 @@ fn crash_after(alloc: Global, calls: u64) -> Result<Crash, Fail> {
         Err(DiskError::Failed) => return Ok(crash_of(alloc, &disk, 0)?),
         Err(error) => return Err(error.into()),
     }
-    let hub = Hub::new(alloc, config()?);
-    let mut durable = Durable::new(alloc, hub, Journal::new(disk));
-    let acknowledged = if subscribe(alloc, &mut durable)? {
-        publish(alloc, &mut durable)?
-    } else {
-        0
-    };
-    Ok(crash_of(alloc, durable.disk(), acknowledged)?)
+    let mut durable = Durable::new(alloc, Hub::new(alloc, config()?), Journal::new(disk));
+    let crash = crash_in(alloc, &mut durable);
+    drop(durable);
+    crash
+}
+
+// The output to `home` when it connects.
+fn output_at(alloc: Global, durable: &mut Durable<TestDisk>) -> Result<String, Fail> {
+    let _ = durable.step(&HubEvent::Opened(HOME))?;
+    let event = bytes_on(alloc, HOME, CONNECT_HOME)?;
+    Ok(round(alloc, durable, &event, HOME)?.ok_or("the disk stopped")?)
 }
 
 // The output to `home` when it connects to a recovered broker.
@@ -173,9 +188,9 @@ fn output_of(alloc: Global, recovery: Recovery) -> Result<String, Fail> {
     let mut disk = FreezingDisk::new(MemoryDisk::new(alloc, Vec::new(alloc)), 100);
     begin(&mut disk)?;
     let mut durable = recovery.resume(Journal::new(disk))?;
-    let _ = durable.step(&HubEvent::Opened(HOME))?;
-    let event = bytes_on(alloc, HOME, CONNECT_HOME)?;
-    Ok(round(alloc, &mut durable, &event, HOME)?.ok_or("the disk stopped")?)
+    let output = output_at(alloc, &mut durable);
+    drop(durable);
+    output
 }
 
 // Everything that was acknowledged is there, and at most one message more.
@@ -255,18 +270,19 @@ fn a_cut_and_a_changed_byte_at_each_place(rt: HostRuntime) -> Result<(), Fail> {
 }
 
 // A round in which the broker takes CONNECT and SUBSCRIBE of one piece in two steps. Returns the
-// numbers of bytes used.
+// numbers of bytes used, and what the disk holds then.
 fn step_twice(
     alloc: Global,
     durable: &mut Durable<TestDisk>,
     piece: &[u8],
-) -> Result<(usize, usize), Fail> {
+) -> Result<(usize, usize, Vec<u8>), Fail> {
     let _ = durable.step(&HubEvent::Opened(HOME))?;
     let (_, first) = durable.step_some(HOME, piece, 1)?;
     let (_, behind) = piece.split_at(first);
     let (_, second) = durable.step_some(HOME, behind, 1)?;
     durable.commit()?;
-    Ok((first, second))
+    let file = durable.disk().disk().bytes().to_vec(alloc)?;
+    Ok((first, second, file))
 }
 
 #[test]
@@ -279,12 +295,13 @@ fn a_step_for_the_front_of_a_piece(rt: HostRuntime) -> Result<(), Fail> {
     piece.extend_from_slice(subscribe.as_slice())?;
     let mut disk = FreezingDisk::new(MemoryDisk::new(alloc, Vec::new(alloc)), 100);
     begin(&mut disk)?;
+    let mut durable = Durable::new(alloc, Hub::new(alloc, config()?), Journal::new(disk));
+    let used = step_twice(alloc, &mut durable, piece.as_slice());
+    drop(durable);
+    let (first, second, file) = used?;
+    assert_eq!(rt; (first, second), (18, 8));
     let hub = Hub::new(alloc, config()?);
-    let mut durable = Durable::new(alloc, hub, Journal::new(disk));
-    let used = step_twice(alloc, &mut durable, piece.as_slice())?;
-    assert_eq!(rt; used, (18, 8));
-    let hub = Hub::new(alloc, config()?);
-    let recovery = Recovery::new(alloc, hub).replay(durable.disk().disk().bytes())?;
+    let recovery = Recovery::new(alloc, hub).replay(file.as_slice())?;
     let output = output_of(alloc, recovery)?;
     assert_eq!(rt; output.as_str(), DELIVERED[0]);
     Ok(())

@@ -69,3 +69,7 @@ match_memory P Q (Err fault) code e h p q = inr (inr (e ∙ ap match_code (ap Er
 pub small_fits : (r : Result ℕ EncodeFault) → IfOk r (λ n. n ≤ 7) → IfOk r (λ n. n < 2 ^ 63)
 small_fits (Ok n) h = omega (arith, h)
 small_fits (Err fault) h = tt
+
+pub large_fits : (r : Result ℕ EncodeFault) → IfOk r (λ n. n < 2 ^ 29) → IfOk r (λ n. n < 2 ^ 63)
+large_fits (Ok n) h = omega (arith, h)
+large_fits (Err fault) h = tt

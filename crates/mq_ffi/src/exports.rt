@@ -3,7 +3,7 @@
 ghost use Rattle.std.specs.Prelude.{◌≡◌, ◌≤◌, ◌<◌, ◌^◌, ◌↔◌, ◌⊎◌, pos, negsuc, IsSome, IfSome};
 ghost use Rattle.mq_topic.specs.Match.{Match};
 ghost use Rattle.mq_topic.specs.Topic.{IsTopicFilter, IsTopicName};
-ghost use Rattle.mq_bytes.specs.Arguments.{IsAcknowledgementOf, IsBareOf};
+ghost use Rattle.mq_bytes.specs.Arguments.{IsAcknowledgementOf, IsBareOf, IsConnAckOf, IsConnectOf, IsListOf, IsLoginOf, IsPublishOf, IsWillOf};
 ghost use Rattle.mq_bytes.specs.Buffers.{Gives};
 ghost use Rattle.mq_bytes.specs.Checks.{IsSavedSession};
 ghost use Rattle.mq_ffi.specs.Exports.{CodesOf, ReportsFront, ReportsPacket, bounds};
@@ -130,4 +130,81 @@ pub extern "C" fn poskvari_encode_bare(kind: u8, out: &mut [u8]) -> isize
     ensures { CodesOf (Gives (IsBareOf kind) out.old out.new) result }
 {
     encode_code(mq_bytes::encode_bare(kind, out))
+}
+
+/// Encodes SUBSCRIBE (8), SUBACK (9) or UNSUBSCRIBE (10) with a list of encoded items. Returns the
+/// size.
+#[tactic(auto, using(crate::proofs::Reports::coded, crate::proofs::Reports::large_fits))]
+#[unsafe(no_mangle)]
+pub extern "C" fn poskvari_encode_list(kind: u8, id: u16, items: &[u8], out: &mut [u8]) -> isize
+    ensures { CodesOf (Gives (IsListOf kind id items.now) out.old out.new) result }
+{
+    encode_code(mq_bytes::encode_list(kind, id, items, out))
+}
+
+/// Encodes CONNACK (3.2). Returns the size.
+#[tactic(auto, using(crate::proofs::Reports::coded, crate::proofs::Reports::small_fits))]
+#[unsafe(no_mangle)]
+pub extern "C" fn poskvari_encode_connack(session_present: bool, code: u8, out: &mut [u8]) -> isize
+    ensures { CodesOf (Gives (IsConnAckOf session_present code) out.old out.new) result }
+{
+    encode_code(mq_bytes::encode_connack(session_present, code, out))
+}
+
+/// Encodes PUBLISH (3.3). Returns the size.
+#[tactic(auto, using(crate::proofs::Reports::coded, crate::proofs::Reports::large_fits))]
+#[unsafe(no_mangle)]
+pub extern "C" fn poskvari_encode_publish(
+    topic: &[u8],
+    payload: &[u8],
+    qos: u8,
+    retain: bool,
+    dup: bool,
+    id: u16,
+    out: &mut [u8],
+) -> isize
+    ensures { CodesOf (Gives (IsPublishOf topic.now payload.now qos retain dup id) out.old out.new) result }
+{
+    let encoded = mq_bytes::encode_publish(topic, payload, qos, retain, dup, id, out);
+    encode_code(encoded)
+}
+
+/// Encodes CONNECT (3.1). Returns the size.
+#[tactic(auto, using(crate::proofs::Reports::coded, crate::proofs::Reports::large_fits))]
+#[unsafe(no_mangle)]
+pub extern "C" fn poskvari_encode_connect(
+    client_id: &[u8],
+    keep_alive: u16,
+    clean_session: bool,
+    has_user_name: bool,
+    user_name: &[u8],
+    has_password: bool,
+    password: &[u8],
+    has_will: bool,
+    will_topic: &[u8],
+    will_payload: &[u8],
+    will_qos: u8,
+    will_retain: bool,
+    out: &mut [u8],
+) -> isize
+    ensures { CodesOf (Gives (IsConnectOf client_id.now keep_alive clean_session
+        (IsWillOf has_will will_topic.now will_payload.now will_qos will_retain)
+        (IsLoginOf has_user_name user_name.now has_password password.now)) out.old out.new) result }
+{
+    let encoded = mq_bytes::encode_connect(
+        client_id,
+        keep_alive,
+        clean_session,
+        has_user_name,
+        user_name,
+        has_password,
+        password,
+        has_will,
+        will_topic,
+        will_payload,
+        will_qos,
+        will_retain,
+        out,
+    );
+    encode_code(encoded)
 }

@@ -10,6 +10,7 @@ mod codes;
 mod exports;
 
 pub use crate::exports::{
-    Fault, poskvari_encode_acknowledgement, poskvari_encode_bare, poskvari_filter_check,
+    Fault, poskvari_encode_acknowledgement, poskvari_encode_bare, poskvari_encode_connack,
+    poskvari_encode_connect, poskvari_encode_list, poskvari_encode_publish, poskvari_filter_check,
     poskvari_match, poskvari_name_check, poskvari_packet, poskvari_session_check,
 };

@@ -24,7 +24,7 @@ use Rattle.mq_route.specs.declared.conn.Conn.{Conn}
 use Rattle.mq_route.specs.declared.connection_state.ConnectionState.TheVariants.{Closed}
 use Rattle.mq_route.specs.Arrives.{accept_connect, on_first_packet, goes_on, resume_session, start_session, take_over, on_connect}
 use Rattle.mq_route.specs.Hub.{HubSession, HubState, key_of, stage_of, up_on}
-use Rattle.mq_route.specs.Welcome.{client_of, ends_on, ends_with, is_crowded, is_unavailable, login_refusal, needs_new, refusal}
+use Rattle.mq_route.specs.Welcome.{client_of, ends_on, ends_with, is_crowded, is_unavailable, needs_new, refusal_by_tables, refusal}
 use Rattle.mq_route.specs.Work.{Work, close, put_on, remove}
 use Rattle.mq_hub.specs.Inside.Refinement.{Refines}
 use Rattle.mq_hub.specs.Inside.Invariant.{IsWillWithin}
@@ -59,10 +59,10 @@ module _ (c : Connect) (h : HubState) (none : refusal c h ≡ None) where
   pub named : (not c.clean_session && length c.client_id == 0) ≡ false
   named = swap_and (not c.clean_session) (length c.client_id == 0) ∙ is_named
 
-  logs_in : login_refusal h.config.users c.login ≡ None
-  logs_in = go (login_refusal h.config.users c.login) refl
+  logs_in : refusal_by_tables h.config.users h.config.hashed_users c.login ≡ None
+  logs_in = go (refusal_by_tables h.config.users h.config.hashed_users c.login) refl
     where
-      go : (o : Option RefusalCode) → login_refusal h.config.users c.login ≡ o → login_refusal h.config.users c.login ≡ None
+      go : (o : Option RefusalCode) → refusal_by_tables h.config.users h.config.hashed_users c.login ≡ o → refusal_by_tables h.config.users h.config.hashed_users c.login ≡ None
       go None e = e
       go (Some code) e = let w : Some code ≡ None = sym (by_login c h code is_named e) ∙ none in absurd cc
 

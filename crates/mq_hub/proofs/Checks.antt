@@ -6,7 +6,7 @@ use Rattle.mq_packet.specs.declared.connect.Connect.{Connect}
 use Rattle.mq_packet.specs.declared.connack.RefusalCode.{RefusalCode}
 use Rattle.mq_packet.specs.declared.connack.RefusalCode.TheVariants.{IdentifierRejected, ServerUnavailable}
 use Rattle.mq_route.specs.Hub.{HubState, HubSession, key_of}
-use Rattle.mq_route.specs.Welcome.{client_of, is_unavailable, login_refusal, made_up, made_up_from, refusal}
+use Rattle.mq_route.specs.Welcome.{client_of, is_unavailable, refusal_by_tables, made_up, made_up_from, refusal}
 
 -- ---- why a CONNECT is refused
 
@@ -18,16 +18,16 @@ rejected c h so = rw so refl
 abbrev placed : Connect → HubState → Option RefusalCode
 placed c h = cond (is_unavailable c (key_of (client_of c h.sessions) h.sessions) h) (Some ServerUnavailable) None
 
-not_rejected : (c : Connect) (h : HubState) → (length c.client_id == 0 && not c.clean_session) ≡ false → refusal c h ≡ option_or (login_refusal h.config.users c.login) (placed c h)
+not_rejected : (c : Connect) (h : HubState) → (length c.client_id == 0 && not c.clean_session) ≡ false → refusal c h ≡ option_or (refusal_by_tables h.config.users h.config.hashed_users c.login) (placed c h)
 unfolding refusal
-not_rejected c h other = cond-false (length c.client_id == 0 && not c.clean_session) (Some IdentifierRejected) (option_or (login_refusal h.config.users c.login) (placed c h)) other
+not_rejected c h other = cond-false (length c.client_id == 0 && not c.clean_session) (Some IdentifierRejected) (option_or (refusal_by_tables h.config.users h.config.hashed_users c.login) (placed c h)) other
 
 pub by_login : (c : Connect) (h : HubState) (code : RefusalCode) → (length c.client_id == 0 && not c.clean_session) ≡ false
-    → login_refusal h.config.users c.login ≡ Some code → refusal c h ≡ Some code
+    → refusal_by_tables h.config.users h.config.hashed_users c.login ≡ Some code → refusal c h ≡ Some code
 by_login c h code other login = not_rejected c h other ∙ ap (λ (o : Option RefusalCode). option_or o (placed c h)) login
 
 pub by_place : (c : Connect) (h : HubState) (full : Bool) → (length c.client_id == 0 && not c.clean_session) ≡ false
-    → login_refusal h.config.users c.login ≡ None → is_unavailable c (key_of (client_of c h.sessions) h.sessions) h ≡ full
+    → refusal_by_tables h.config.users h.config.hashed_users c.login ≡ None → is_unavailable c (key_of (client_of c h.sessions) h.sessions) h ≡ full
     → refusal c h ≡ cond full (Some ServerUnavailable) None
 by_place c h full other login place =
     not_rejected c h other ∙ ap (λ (o : Option RefusalCode). option_or o (placed c h)) login ∙ ap (λ (b : Bool). cond b (Some ServerUnavailable) None) place

@@ -253,12 +253,12 @@ served_without by k (e ∷ es) served = go (same_conn k e.0) (served_without by 
 
 -- ---- alarms
 
-pub awaited_of : (by : Service) (es : List Entry) → AllByRecursion (IsServed by) es → AreAwaited by.alarms es
+pub awaited_of : (by : Service) (es : List Entry) → AllByRecursion (IsServed by) es → AreAwaited by.within by.alarms es
 awaited_of by [] served = tt
 awaited_of by (e ∷ es) served = (served.0.1.1, awaited_of by es served.1)
 
-served_anew : (by : Service) (alarms : AlarmTable) (es : List Entry) → AreAwaited alarms es → AllByRecursion (IsServed by) es
-    → AllByRecursion (IsServed (service by.bounds alarms)) es
+served_anew : (by : Service) (alarms : AlarmTable) (es : List Entry) → AreAwaited by.within alarms es → AllByRecursion (IsServed by) es
+    → AllByRecursion (IsServed (record by { alarms = alarms })) es
 served_anew by alarms [] all served = tt
 served_anew by alarms (e ∷ es) all served = ((served.0.0, (served.0.1.0, all.0)), served_anew by alarms es all.1 served.1)
 
@@ -654,8 +654,8 @@ kept_shut by k key es c w find after count less kept there same reading up down 
     }
 
 -- the invariant with other alarms
-pub kept_anew : (by : Service) (alarms : AlarmTable) (es : List Entry) (find : ℕ → Option Conn) (count : ℕ) → AreAwaited alarms es
-    → AreConnections by es find count → AreConnections (service by.bounds alarms) es find count
+pub kept_anew : (by : Service) (alarms : AlarmTable) (es : List Entry) (find : ℕ → Option Conn) (count : ℕ) → AreAwaited by.within alarms es
+    → AreConnections by es find count → AreConnections (record by { alarms = alarms }) es find count
 kept_anew by alarms es find count all kept = record {
   served = served_anew by alarms es all kept.served;
   distinct = kept.distinct;

@@ -11,6 +11,7 @@ pub mod Checks
 pub mod TakenOutput
 pub mod ConnectionTable
 pub mod Counts
+pub mod Gauges
 pub mod PlannedCopies
 pub mod ClientLogs
 pub mod RemovedConnection

@@ -378,7 +378,7 @@ module _ (m : Message) (t p : HubTables) (hubs : AreHubTables t) (same : AreSame
   leaves_ready = record { connect_end = λ c key small none r. rise_less c key [] (whole_size (publish_size m)) p.sessions.list (rise_ready c key none r) }
 
   -- and they are placed
-  pub leaves_shared : SizeLaws → (cs : List (ℕ × Message)) (u : HubTables) → publish_size m ≤ t.connections.limits.most → AreApart cs
+  pub leaves_shared : SizeLaws → (cs : List (ℕ × Message)) (u : HubTables) → publish_size m ≤ t.connections.limits.packets.most → AreApart cs
       → AllByRecursion (λ x. publish_size x.1 ≤ publish_size m) cs → u.sessions.list ≡ placed_all cs p.sessions.list → KeepsConnectRoom (m ∷ []) t u
   leaves_shared laws cs u within apart small_ones placed = record {
     connect_end = λ c key small none r.

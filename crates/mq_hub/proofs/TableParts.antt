@@ -7,7 +7,7 @@ use Rattle.std.specs.Str.{bytes_eq}
 use Rattle.mq_topic.specs.Rows.{without_client}
 use Rattle.mq_packet.specs.declared.connect.Will.{Will}
 use Rattle.mq_packet.specs.declared.message.Message.{Message}
-use Rattle.mq_decode.specs.Limits.{Bounds}
+use Rattle.mq_hub.specs.declared.connections.table.ConnectionLimits.{ConnectionLimits}
 use Rattle.mq_end.specs.Sizes.{publish_size}
 use Rattle.mq_route.specs.declared.act.Act.{Act}
 use Rattle.mq_route.specs.declared.act.Act.TheVariants as acts
@@ -106,12 +106,12 @@ spares_alike t u alike room = record {
 }
 
 -- a size is within the limit that a broker has
-pub within_limit : (config : HubConfig) (next n : ℕ) (t : HubTables) → HubInvariant config next t → n ≤ t.connections.limits.most → n ≤ config.limits.most
-within_limit config next n t kept within = subst (λ (l : Bounds). n ≤ l.most) kept.limits within
+pub within_limit : (config : HubConfig) (next n : ℕ) (t : HubTables) → HubInvariant config next t → n ≤ t.connections.limits.packets.most → n ≤ config.limits.most
+within_limit config next n t kept within = subst (λ (l : ConnectionLimits). n ≤ l.packets.most) kept.limits within
 
 -- room is made in the tables, and then a message is delivered
 pub spares_shared : (m : Message) (cs : List (ℕ × Message)) (t p u : HubTables) → AreTablesAlike t p → p.sessions.room ≡ t.sessions.room
-    → publish_size m ≤ t.connections.limits.most
+    → publish_size m ≤ t.connections.limits.packets.most
     → ((config : HubConfig) (next : ℕ) → HubInvariant config next p → publish_size m ≤ config.limits.most → HubInvariant config next u)
     → u.sessions.list ≡ placed_all cs p.sessions.list → u.sessions.room ≡ p.sessions.room → u.connections ≡ p.connections → Spares t u
 spares_shared m cs t p u alike room within keeps list after connections = record {
@@ -226,9 +226,9 @@ hubs_after policy change t v did says hubs p = record { config = hubs.config; ne
 
 -- and the will that is left is within their limit
 pub will_after_close : (policy : WhenFull) (change : Bool → Work → Work) (k : Conn) (why : HubClose) (will : Option Will) (t v : HubTables) (did says : List Act) → AreHubTables t
-    → Proceeds policy change t did v says → will ≡ will_left why (stage_of k t.connections.connections) → IsWillWithin v.connections.limits.most will
+    → Proceeds policy change t did v says → will ≡ will_left why (stage_of k t.connections.connections) → IsWillWithin v.connections.limits.packets.most will
 will_after_close policy change k why will t v did says hubs p is =
     let kept = hubs.keeps in
     let within = will_within hubs.config.limits.most why k t.sessions.list t.connections.connections kept.backed in
-    subst (λ (l : Bounds). IsWillWithin l.most will) (sym (p.keeps hubs.config hubs.next_key kept).limits)
+    subst (λ (l : ConnectionLimits). IsWillWithin l.packets.most will) (sym (p.keeps hubs.config hubs.next_key kept).limits)
     (subst (IsWillWithin hubs.config.limits.most) (sym is) within)

@@ -11,6 +11,7 @@ pub mod Settlement
 pub mod Input
 pub mod Invariant
 pub mod Logs
+pub mod Numbers
 pub mod Output
 pub mod Placement
 pub mod Reception

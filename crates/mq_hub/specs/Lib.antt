@@ -1,3 +1,4 @@
 pub mod Deadline
+pub mod Gauges
 pub mod Inside
 pub mod Run

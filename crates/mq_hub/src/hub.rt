@@ -4,6 +4,7 @@ ghost use Rattle.std.specs.Prelude.{◌≡◌, ◌<◌, [], IfSome};
 ghost use Rattle.mq_route.specs.Hub.{knows, new_hub};
 ghost use Rattle.mq_route.specs.Step.{event_refusal};
 
+use crate::connections::table::ConnectionLimits;
 use crate::tables::Tables;
 use mq_route::{Conn, HubConfig, HubEvent, HubRefusal};
 use mq_topic::{FilterStore, TrieStore};
@@ -60,7 +61,11 @@ impl<S: FilterStore> HubOver<S> {
         requires window { IfSome config.window (λ window. 0 < window) }
         ensures { result ≡ new_hub config }
     {
-        let tables = Tables::new(alloc, config.limits, store);
+        let limits = ConnectionLimits {
+            packets: config.limits,
+            connect_within: config.connect_within,
+        };
+        let tables = Tables::new(alloc, limits, store);
         HubOver {
             alloc,
             config,

@@ -16,6 +16,7 @@ mod connections;
 mod hub;
 mod input;
 mod keep_alive;
+mod numbers;
 mod publish;
 mod retained;
 mod run;
@@ -28,8 +29,9 @@ mod unsubscribe;
 mod will;
 
 pub use crate::hub::{Hub, HubOver};
+pub use crate::numbers::{HubCounts, SessionCounts};
 pub use crate::run::{hub_run, hub_run_over};
 pub use mq_route::{
-    Act, ClientLog, Conn, HubClose, HubConfig, HubEvent, HubRefusal, HubReply, HubTrace, User,
-    WhenFull,
+    Act, ClientLog, Conn, HashedUser, HubClose, HubConfig, HubEvent, HubRefusal, HubReply,
+    HubTrace, User, WhenFull,
 };

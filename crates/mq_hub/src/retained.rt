@@ -1,6 +1,6 @@
 //! The table of retained messages (3.3.1.3, 3.8.4).
 
-ghost use Rattle.std.specs.Prelude.{◌≡◌, ◌+◌, ◌≤◌, ◌<◌, ◌++◌, ◌∷◌, [], not, filter, if◌then◌else◌, IfOk, IfSome, OnOk, IsOk};
+ghost use Rattle.std.specs.Prelude.{◌≡◌, ◌+◌, ◌≤◌, ◌<◌, ◌++◌, ◌∷◌, [], length, not, filter, if◌then◌else◌, IfOk, IfSome, OnOk, IsOk};
 ghost use Rattle.std.specs.List.{list_any};
 ghost use Rattle.indexmap.specs.IndexMap.{spare, values};
 ghost use Rattle.mq_route.specs.Copies.{is_of, kept, replaced, retained_for};
@@ -100,6 +100,12 @@ impl Retained {
         Retained {
             by_name: IndexMap::new(alloc),
         }
+    }
+
+    pub(crate) fn len(&self) -> usize
+        ensures { result ≡ length self.now.messages }
+    {
+        self.by_name.len()
     }
 
     pub(crate) fn reserve(&mut self, count: usize) -> Result<(), AllocError>

@@ -10,11 +10,11 @@ ghost use Rattle.mq_hub.specs.Inside.Sessions.{sessions_of, session_at, with_ser
 ghost use Rattle.mq_topic.specs.Rows.{without_client};
 
 use crate::connections::connection::BoxedConnection;
-use crate::connections::table::Connections;
+use crate::connections::table::{ConnectionLimits, Connections};
 use crate::retained::Retained;
 use crate::sessions::table::Sessions;
 use bytes::Bytes;
-use mq_decode::{Decoder, Limits};
+use mq_decode::Decoder;
 use mq_end::ByteQueue;
 use mq_route::{Conn, ConnectionState};
 use mq_topic::{ClientKey, FilterStore};
@@ -44,8 +44,8 @@ impl<S: FilterStore> Model for Tables<S> {
 }
 
 impl<S: FilterStore> Tables<S> {
-    /// Empty tables over a store. Packets are decoded within `limits` on each connection.
-    pub(crate) fn new(alloc: Global, limits: Limits, store: S) -> Tables<S>
+    /// Empty tables over a store. `limits` apply to each connection.
+    pub(crate) fn new(alloc: Global, limits: ConnectionLimits, store: S) -> Tables<S>
         ensures rows { result.rows ≡ S.rows store }
         ensures retained { result.retained.messages ≡ [] }
         ensures sessions { result.sessions.list ≡ [] }
@@ -60,18 +60,19 @@ impl<S: FilterStore> Tables<S> {
         }
     }
 
-    /// Adds a connection (4.2). Its name must not be in use. On `Err` only reserved capacity may
-    /// have changed.
-    pub(crate) fn open(&mut self, alloc: Global, conn: Conn) -> Result<(), AllocError>
+    /// Adds a connection that is opened at this time (4.2). Its name must not be in use. On `Err`
+    /// only reserved capacity may have changed.
+    pub(crate) fn open(&mut self, alloc: Global, conn: Conn, since: u64) -> Result<(), AllocError>
         requires { knows conn self.old.connections.connections ≡ false }
         ensures ok { OnOk result (self.new.connections.connections
-            ≡ self.old.connections.connections ++ record { conn = conn; stage = ConnectionState.AwaitingConnect; held = []; waiting = [] } ∷ []) }
+            ≡ self.old.connections.connections ++ record { conn = conn; stage = ConnectionState.AwaitingConnect; held = []; waiting = []; since = since } ∷ []) }
         ensures err { OnErr result (self.new.connections.connections ≡ self.old.connections.connections) }
         ensures limits { self.new.connections.limits ≡ self.old.connections.limits }
         ensures rest { self.new ≡ record self.old { connections = self.new.connections } }
     {
         self.connections.reserve(1)?;
-        let boxed = BoxedConnection::new(alloc, conn, self.connections.limits())?;
+        let limits = self.connections.limits().packets;
+        let boxed = BoxedConnection::new(alloc, conn, since, limits)?;
         self.connections.open(boxed);
         Ok(())
     }
@@ -167,10 +168,10 @@ impl<S: FilterStore> Tables<S> {
 
     pub(crate) fn swap_decoder(&mut self, conn: Conn, decoder: &mut Decoder)
         requires known { knows conn self.old.connections.connections ≡ true }
-        requires reading { IsDecoding self.old.connections.limits decoder.old }
+        requires reading { IsDecoding self.old.connections.limits.packets decoder.old }
         ensures connections { self.new.connections.connections ≡ with_connection (holds decoder.old.held) conn self.old.connections.connections }
         ensures held { decoder.new.held ≡ held_on conn self.old.connections.connections }
-        ensures reading { IsDecoding self.old.connections.limits decoder.new }
+        ensures reading { IsDecoding self.old.connections.limits.packets decoder.new }
         ensures limits { self.new.connections.limits ≡ self.old.connections.limits }
         ensures rest { self.new ≡ record self.old { connections = self.new.connections } }
     {

@@ -3,11 +3,13 @@
 ghost use Rattle.std.specs.Prelude.{◌≡◌, ◌<◌, None, IfOk};
 
 use crate::told::{Happens, Row, all_told, counted, event, listed, told};
-use crate::{dropping, rows};
+use crate::{dropping, rows, silent};
 use bytes::Bytes;
 use mq_decode::Limits;
 use mq_end::BoxedList;
-use mq_hub::{Conn, Hub, HubConfig, HubEvent, HubOver, HubRefusal, User, WhenFull, hub_run};
+use mq_hub::{
+    Conn, HashedUser, Hub, HubConfig, HubEvent, HubOver, HubRefusal, User, WhenFull, hub_run,
+};
 use mq_packet::Binary;
 use mq_topic::{FilterStore, ListStore};
 use mq_wire::Text;
@@ -26,8 +28,12 @@ pub(crate) struct Kind {
     pub(crate) max_sessions: usize,
     /// The one user is `u` with the password `p`.
     pub(crate) has_user: bool,
+    /// The same user is in the table of users whose passwords are stored as digests.
+    pub(crate) has_hashed_user: bool,
     /// The treatment of a copy whose session is full.
     pub(crate) when_full: WhenFull,
+    /// The time in milliseconds within which CONNECT must arrive.
+    pub(crate) connect_within: Option<u64>,
 }
 
 pub(crate) const WIDE: Kind = Kind {
@@ -35,7 +41,9 @@ pub(crate) const WIDE: Kind = Kind {
     max_conns: 100,
     max_sessions: 100,
     has_user: false,
+    has_hashed_user: false,
     when_full: WhenFull::ClosePublisher,
+    connect_within: None,
 };
 
 const DROPPING: Kind = Kind {
@@ -48,7 +56,7 @@ const DROPPING: Kind = Kind {
 pub(crate) type Table = (&'static str, Kind, &'static [Row]);
 
 /// All tables of rows.
-pub(crate) const TABLES: [Table; 26] = [
+pub(crate) const TABLES: [Table; 29] = [
     ("refused", WIDE, &rows::REFUSED),
     ("routed", WIDE, &rows::ROUTED),
     ("level", WIDE, &rows::LEVEL),
@@ -80,6 +88,14 @@ pub(crate) const TABLES: [Table; 26] = [
     ("full_session_dropping", DROPPING, &dropping::FULL_SESSION),
     ("retained_dropping", DROPPING, &dropping::RETAINED),
     (
+        "silent",
+        Kind {
+            connect_within: Some(1_000),
+            ..WIDE
+        },
+        &silent::SILENT,
+    ),
+    (
         "crowded",
         Kind {
             max_conns: 1,
@@ -103,6 +119,23 @@ pub(crate) const TABLES: [Table; 26] = [
         },
         &rows::USERS,
     ),
+    (
+        "hashed_users",
+        Kind {
+            has_hashed_user: true,
+            ..WIDE
+        },
+        &rows::USERS,
+    ),
+    (
+        "users_of_both",
+        Kind {
+            has_user: true,
+            has_hashed_user: true,
+            ..WIDE
+        },
+        &rows::USERS,
+    ),
 ];
 
 fn one_user(alloc: Global) -> Result<BoxedList<User>, Fail> {
@@ -115,23 +148,50 @@ fn one_user(alloc: Global) -> Result<BoxedList<User>, Fail> {
     Ok(BoxedList::from_vec(users))
 }
 
+// The salt is `s`; the digest was computed by another program.
+fn one_hashed_user(alloc: Global) -> Result<BoxedList<HashedUser>, Fail> {
+    let user = HashedUser {
+        name: Text::new(alloc, "u")?,
+        salt: Binary::new(Bytes::from_static(b"s")).ok_or("no salt")?,
+        digest: [
+            0xbe, 0x18, 0xb8, 0x5f, 0x77, 0xfc, 0x02, 0x4d, 0xb3, 0x79, 0xac, 0xf1, 0x9e, 0x8a,
+            0x1c, 0xe6, 0x23, 0x07, 0xab, 0x7b, 0xb1, 0xbc, 0xa3, 0x95, 0x38, 0x9e, 0xcf, 0xc2,
+            0xda, 0xfa, 0xf7, 0x41,
+        ],
+    };
+    let mut users = Vec::new(alloc);
+    users.push(user)?;
+    Ok(BoxedList::from_vec(users))
+}
+
+fn users(alloc: Global, kind: Kind) -> Result<Option<BoxedList<User>>, Fail> {
+    if kind.has_user {
+        return Ok(Some(one_user(alloc)?));
+    }
+    Ok(None)
+}
+
+fn hashed_users(alloc: Global, kind: Kind) -> Result<Option<BoxedList<HashedUser>>, Fail> {
+    if kind.has_hashed_user {
+        return Ok(Some(one_hashed_user(alloc)?));
+    }
+    Ok(None)
+}
+
 pub(crate) fn config(alloc: Global, kind: Kind) -> Result<HubConfig, Fail>
     ensures capacity { IfOk result (λ c. 0 < c.capacity) }
     ensures window { IfOk result (λ c. c.window ≡ None) }
 {
-    let users = if kind.has_user {
-        Some(one_user(alloc)?)
-    } else {
-        None
-    };
     Ok(HubConfig {
         limits: Limits::new(1_048_576).ok_or("no limits")?,
         capacity: kind.capacity.max(1),
         window: None,
         max_conns: kind.max_conns,
         max_sessions: kind.max_sessions,
-        users,
+        users: users(alloc, kind)?,
+        hashed_users: hashed_users(alloc, kind)?,
         when_full: kind.when_full,
+        connect_within: kind.connect_within,
     })
 }
 
@@ -260,5 +320,42 @@ fn known(alloc: Global) -> Result<[bool; 3], Fail> {
 fn a_connection_is_known_until_it_is_over(rt: HostRuntime) -> Result<(), Fail> {
     let known = known(rt.alloc())?;
     assert_eq!(rt; known, [false, true, false]);
+    Ok(())
+}
+
+fn numbered(alloc: Global, hub: &mut Hub) -> Result<String, Fail> {
+    for (happens, _) in &rows::OFFLINE {
+        let _ = answer(alloc, hub, *happens)?;
+    }
+    let counts = hub.counts();
+    let mut text = format!(in alloc; "{} {} {}", counts.sessions, counts.retained, counts.stored)?;
+    for index in 0..3_usize {
+        if let (Some(client), Some(each)) = (hub.session_client(index), hub.session_counts(index)) {
+            write!(
+                text,
+                ", {} {} {}",
+                client.as_str(),
+                each.stored,
+                each.is_full
+            )?;
+        }
+    }
+    Ok(text)
+}
+
+fn numbers(alloc: Global, kind: Kind) -> Result<String, Fail> {
+    let mut hub = Hub::new(alloc, config(alloc, kind)?);
+    numbered(alloc, &mut hub)
+}
+
+// Two messages are sent to `c` and not acknowledged.
+#[test]
+fn counts_are_of_all_sessions_and_of_each(rt: HostRuntime) -> Result<(), Fail> {
+    let kind = Kind {
+        capacity: 2,
+        ..WIDE
+    };
+    let text = numbers(rt.alloc(), kind)?;
+    assert_eq!(rt; text.as_str(), "2 0 2, c 2 true, p 0 false");
     Ok(())
 }

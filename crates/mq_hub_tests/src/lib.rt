@@ -12,4 +12,6 @@ mod portions;
 #[cfg(test)]
 mod rows;
 #[cfg(test)]
+mod silent;
+#[cfg(test)]
 mod told;

@@ -17,12 +17,12 @@ use Rattle.mq_loop.specs.Sockets.{Sends}
 
 -- ---- lists and options
 
-set_same : (lines : List (Option Line)) (q : ℕ) (x : Option Line) → q < length lines → line_at q (set lines q x) ≡ x
+pub set_same : (lines : List (Option Line)) (q : ℕ) (x : Option Line) → q < length lines → line_at q (set lines q x) ≡ x
 set_same [] q x within = absurd (omega (arith, within))
 set_same (y ∷ ys) zero x within = refl
 set_same (y ∷ ys) (suc q) x within = set_same ys q x (omega (arith, within))
 
-set_other : (lines : List (Option Line)) (q p : ℕ) (x : Option Line) → (q ≡ p → ⊥) → line_at p (set lines q x) ≡ line_at p lines
+pub set_other : (lines : List (Option Line)) (q p : ℕ) (x : Option Line) → (q ≡ p → ⊥) → line_at p (set lines q x) ≡ line_at p lines
 set_other [] q p x apart = refl
 set_other (y ∷ ys) zero zero x apart = absurd (apart refl)
 set_other (y ∷ ys) zero (suc p) x apart = refl
@@ -45,7 +45,7 @@ known_more (Some bytes) more P Q so h = so bytes h
 
 -- ---- one step more
 
-follows_last : (h mid g : HubState) (es : List Episode) (e : Episode) → Follows h es mid → event_refusal e.event mid ≡ None → Does mid e.event e.reply e.work
+pub follows_last : (h mid g : HubState) (es : List Episode) (e : Episode) → Follows h es mid → event_refusal e.event mid ≡ None → Does mid e.event e.reply e.work
     → g ≡ e.work.hub → Follows h (es ++ e ∷ []) g
 follows_last h mid g [] e f right does after =
     (subst (λ (b : HubState). event_refusal e.event b ≡ None) f right, subst (λ (b : HubState). Does b e.event e.reply e.work) f does, after)
@@ -140,7 +140,7 @@ end_served base h g lines q reply s step within =
 
 pub read_served : (base h g : HubState) (lines : List (Option Line)) (q : ℕ) (old new : Line) (piece front rest : List ℕ) (reply : HubReply)
     → IsServed (served_state base h lines) → HubStep h (Bytes (name_at q) front) reply g → q < length lines → line_at q lines ≡ Some old → old.unread ≡ []
-    → piece ≡ front ++ rest → new ≡ record old { came = append_known old.came piece; unread = rest } → IsServed (served_state base g (set lines q (Some new)))
+    → piece ≡ front ++ rest → new ≡ record old { came = append_known old.came piece; unread = rest; finished = new.finished } → IsServed (served_state base g (set lines q (Some new)))
 read_served base h g lines q old new piece front rest reply s step within is empty parts so =
     served_step base h g lines (set lines q (Some new)) (Bytes (name_at q) front) reply s step
     (at_place q lines (Some new) (Bytes (name_at q) front) reply (λ a. record a { took = a.took ++ front }) (λ p a. refl) within own)
@@ -150,7 +150,7 @@ read_served base h g lines q old new piece front rest reply s step within is emp
         let all : bytes ≡ a.took = e ∙ (ap (λ (b : List ℕ). a.took ++ b) empty ∙ append-nil a.took) in
         ap₂ (λ (b c : List ℕ). b ++ c) all parts ∙ sym (append_assoc a.took front rest)
 
-    read : (a : Account) → Carries a old → Carries (record a { took = a.took ++ front }) (record old { came = append_known old.came piece; unread = rest })
+    read : (a : Account) → Carries a old → Carries (record a { took = a.took ++ front }) (record old { came = append_known old.came piece; unread = rest; finished = new.finished })
     read a c = record {
       is_open = c.is_open;
       came = λ whole.
@@ -183,35 +183,42 @@ unread_served base h g lines q old new front rest reply s step within is parts s
 
 pub lost_step_served : (base h g : HubState) (lines : List (Option Line)) (q : ℕ) (old new : Line) (front : List ℕ) (came : Option (List ℕ)) (reply : HubReply)
     → IsServed (served_state base h lines) → HubStep h (Bytes (name_at q) front) reply g → q < length lines → line_at q lines ≡ Some old
-    → new ≡ record old { came = came; broken = true } → IsServed (served_state base g (set lines q (Some new)))
+    → new ≡ record old { came = came; broken = true; finished = new.finished } → IsServed (served_state base g (set lines q (Some new)))
 lost_step_served base h g lines q old new front came reply s step within is so =
     served_step base h g lines (set lines q (Some new)) (Bytes (name_at q) front) reply s step
     (at_place q lines (Some new) (Bytes (name_at q) front) reply (λ a. record a { took = a.took ++ front }) (λ p a. refl) within own)
   where
-    lost : (a : Account) → Carries a old → Carries (record a { took = a.took ++ front }) (record old { came = came; broken = true })
+    lost : (a : Account) → Carries a old → Carries (record a { took = a.took ++ front }) (record old { came = came; broken = true; finished = new.finished })
     lost a c = record { is_open = c.is_open; came = λ whole. absurd (true≢false whole); went = c.went }
 
     own : (a : Account) → CarriesAt a (line_at q lines) → CarriesAt (record a { took = a.took ++ front }) (Some new)
     own a c = subst (λ (l : Line). Carries (record a { took = a.took ++ front }) l) (sym so) (lost a (subst (λ (l : Option Line). CarriesAt a l) is c))
 
 pub lost_served : (base h : HubState) (lines : List (Option Line)) (q : ℕ) (old new : Line) (came : Option (List ℕ)) → IsServed (served_state base h lines)
-    → q < length lines → line_at q lines ≡ Some old → new ≡ record old { came = came; broken = true } → IsServed (served_state base h (set lines q (Some new)))
+    → q < length lines → line_at q lines ≡ Some old → new ≡ record old { came = came; broken = true; finished = new.finished } → IsServed (served_state base h (set lines q (Some new)))
 lost_served base h lines q old new came s within is so = line_served base h lines q (Some new) s within own
   where
-    lost : (a : Account) → Carries a old → Carries a (record old { came = came; broken = true })
+    lost : (a : Account) → Carries a old → Carries a (record old { came = came; broken = true; finished = new.finished })
     lost a c = record { is_open = c.is_open; came = λ whole. absurd (true≢false whole); went = c.went }
 
     own : (a : Account) → CarriesAt a (line_at q lines) → CarriesAt a (Some new)
     own a c = subst (λ (l : Line). Carries a l) (sym so) (lost a (subst (λ (l : Option Line). CarriesAt a l) is c))
 
 pub same_served : (base h : HubState) (lines : List (Option Line)) (q : ℕ) (old new : Line) → IsServed (served_state base h lines) → q < length lines
-    → line_at q lines ≡ Some old → new ≡ old → IsServed (served_state base h (set lines q (Some new)))
-same_served base h lines q old new s within is so =
-    line_served base h lines q (Some new) s within
-    (λ a c. subst (λ (l : Line). Carries a l) (sym so) (subst (λ (l : Option Line). CarriesAt a l) is c))
+    → line_at q lines ≡ Some old → new.came ≡ old.came → new ≡ record old { came = new.came; finished = new.finished } → IsServed (served_state base h (set lines q (Some new)))
+same_served base h lines q old new s within is came so = line_served base h lines q (Some new) s within own
+  where
+    alike : new ≡ record old { finished = new.finished }
+    alike = so ∙ ap (λ (c : Option (List ℕ)). record old { came = c; finished = new.finished }) came
+
+    still : (a : Account) → Carries a old → Carries a (record old { finished = new.finished })
+    still a c = record { is_open = c.is_open; came = c.came; went = c.went }
+
+    own : (a : Account) → CarriesAt a (line_at q lines) → CarriesAt a (Some new)
+    own a c = subst (λ (l : Line). Carries a l) (sym alike) (still a (subst (λ (l : Option Line). CarriesAt a l) is c))
 
 pub flush_served : (base h : HubState) (lines : List (Option Line)) (q : ℕ) (old new : Line) → IsServed (served_state base h lines) → q < length lines
-    → line_at q lines ≡ Some old → Sends old.went old.kept new.went new.kept → new ≡ record old { went = new.went; kept = new.kept }
+    → line_at q lines ≡ Some old → Sends old.went old.kept new.went new.kept → new ≡ record old { went = new.went; kept = new.kept; full = new.full; finished = new.finished }
     → IsServed (served_state base h (set lines q (Some new)))
 flush_served base h lines q old new s within is sends so = line_served base h lines q (Some new) s within own
   where
@@ -223,7 +230,7 @@ flush_served base h lines q old new s within is sends so = line_served base h li
         subst (λ (o : Option (List ℕ)). IfSome o (λ bytes. bytes ++ new.kept ≡ a.collected)) (sym sends.2)
         (known_more old.went sends.0 (λ bytes. bytes ++ old.kept ≡ a.collected) (λ bytes. bytes ++ new.kept ≡ a.collected) (parts a) c.went)
 
-    sent : (a : Account) → Carries a old → Carries a (record old { went = new.went; kept = new.kept })
+    sent : (a : Account) → Carries a old → Carries a (record old { went = new.went; kept = new.kept; full = new.full; finished = new.finished })
     sent a c = record { is_open = c.is_open; came = c.came; went = went a c }
 
     own : (a : Account) → CarriesAt a (line_at q lines) → CarriesAt a (Some new)
@@ -271,7 +278,7 @@ pub none_served : (base h g : HubState) (lines : List (Option Line)) (q : ℕ) (
     → q < length lines → line_at q lines ≡ Some old → IsServed (served_state base g (set lines q (Some old)))
 none_served base h g lines q old s same within is =
     subst (λ (hub : HubState). IsServed (served_state base hub (set lines q (Some old)))) (sym same)
-    (same_served base h lines q old old s within is refl)
+    (same_served base h lines q old old s within is refl refl)
 
 pub no_bytes : (xs : List ℕ) → true ≡ (length xs == 0) → xs ≡ []
 no_bytes [] h = refl
@@ -288,31 +295,35 @@ front_all n count buffer within =
 -- a step with the front of bytes that were read; the rest is kept, or lost
 pub rest_served : (base h g : HubState) (lines : List (Option Line)) (q : ℕ) (old mid new : Line) (buffer : List ℕ) (n count : ℕ) (reply : HubReply)
     → IsServed (served_state base h lines) → HubStep h (Bytes (name_at q) (take n (take count buffer))) reply g → q < length lines → line_at q lines ≡ Some old → old.unread ≡ []
-    → mid.came ≡ append_known old.came (take count buffer) → mid ≡ record old { came = mid.came } → n ≤ count
+    → mid.came ≡ append_known old.came (take count buffer) → mid ≡ record old { came = mid.came; finished = mid.finished } → n ≤ count
     → (new ≡ record mid { unread = take (count - n) (drop n buffer) }) ⊎ (new ≡ record mid { broken = true }) → IsServed (served_state base g (set lines q (Some new)))
 rest_served base h g lines q old mid new buffer n count reply s step within is empty came same part (inl kept) =
     let rest : List ℕ = take (count - n) (drop n buffer) in
     read_served base h g lines q old new (take count buffer) (take n (take count buffer)) rest reply s step within is empty (front_rest n count buffer part)
-    (kept ∙ (ap (λ (m : Line). record m { unread = rest }) same ∙ ap (λ (c : Option (List ℕ)). record old { came = c; unread = rest }) came))
+    (kept ∙ (ap (λ (m : Line). record m { unread = rest }) same
+    ∙ ap₂ (λ (c : Option (List ℕ)) (f : Bool). record old { came = c; unread = rest; finished = f }) came (sym (ap (λ (l : Line). l.finished) kept))))
 rest_served base h g lines q old mid new buffer n count reply s step within is empty came same part (inr lost) =
     lost_step_served base h g lines q old new (take n (take count buffer)) mid.came reply s step within is
-    (lost ∙ ap (λ (m : Line). record m { broken = true }) same)
+    (lost ∙ (ap (λ (m : Line). record m { broken = true }) same
+    ∙ ap (λ (f : Bool). record old { came = mid.came; broken = true; finished = f }) (sym (ap (λ (l : Line). l.finished) lost))))
 
 -- a step with all bytes that were read
 pub all_served : (base h g : HubState) (lines : List (Option Line)) (q : ℕ) (old mid : Line) (buffer : List ℕ) (n count : ℕ) (reply : HubReply)
     → IsServed (served_state base h lines) → HubStep h (Bytes (name_at q) (take n (take count buffer))) reply g → q < length lines → line_at q lines ≡ Some old → old.unread ≡ []
-    → mid.came ≡ append_known old.came (take count buffer) → mid ≡ record old { came = mid.came } → count ≤ n → IsServed (served_state base g (set lines q (Some mid)))
+    → mid.came ≡ append_known old.came (take count buffer) → mid ≡ record old { came = mid.came; finished = mid.finished } → count ≤ n → IsServed (served_state base g (set lines q (Some mid)))
 all_served base h g lines q old mid buffer n count reply s step within is empty came same all =
     read_served base h g lines q old mid (take count buffer) (take n (take count buffer)) [] reply s step within is empty (front_all n count buffer all)
-    (same ∙ (ap (λ (c : Option (List ℕ)). record old { came = c }) came ∙ ap (λ (b : List ℕ). record old { came = append_known old.came (take count buffer); unread = b }) empty))
+    (same ∙ (ap (λ (c : Option (List ℕ)). record old { came = c; finished = mid.finished }) came
+    ∙ ap (λ (b : List ℕ). record old { came = append_known old.came (take count buffer); unread = b; finished = mid.finished }) empty))
 
 -- no step was made, and bytes that were read are lost
 pub none_lost_served : (base h g : HubState) (lines : List (Option Line)) (q : ℕ) (old mid new : Line) → IsServed (served_state base h lines) → g ≡ h
-    → q < length lines → line_at q lines ≡ Some old → mid ≡ record old { came = mid.came } → new ≡ record mid { broken = true }
+    → q < length lines → line_at q lines ≡ Some old → mid ≡ record old { came = mid.came; finished = mid.finished } → new ≡ record mid { broken = true }
     → IsServed (served_state base g (set lines q (Some new)))
 none_lost_served base h g lines q old mid new s same within is read lost =
     subst (λ (hub : HubState). IsServed (served_state base hub (set lines q (Some new)))) (sym same)
-    (lost_served base h lines q old new mid.came s within is (lost ∙ ap (λ (m : Line). record m { broken = true }) read))
+    (lost_served base h lines q old new mid.came s within is (lost ∙ (ap (λ (m : Line). record m { broken = true }) read
+    ∙ ap (λ (f : Bool). record old { came = mid.came; broken = true; finished = f }) (sym (ap (λ (l : Line). l.finished) lost)))))
 
 -- the line of one place is written as it was
 pub untouched_served : (base h : HubState) (lines : List (Option Line)) (q : ℕ) (line : Option Line) → IsServed (served_state base h lines) → q < length lines

@@ -41,14 +41,17 @@ abbrev pub account_of : Conn → List Episode → Account
 account_of conn made = account_from conn made unopened
 
 -- A connection, for contracts: the bytes read from its socket and those that the socket took, if
--- they are known; the bytes that were read and wait for a step; the output that is kept for it; and
--- whether bytes that were read are lost, because an allocation failed.
+-- they are known; the bytes that were read and wait for a step; the output that is kept for it;
+-- whether bytes that were read are lost, because an allocation failed; whether its socket takes no
+-- byte now, or it is not known; and whether nothing more comes from its socket, or it failed.
 pub record Line : Type 0 where
   pub came : Option (List ℕ)
   pub went : Option (List ℕ)
   pub unread : List ℕ
   pub kept : List ℕ
   pub broken : Bool
+  pub full : Bool
+  pub finished : Bool
 
 -- A connection carries the bytes of its account, in order: those that were read are those that its
 -- steps took, followed by those that wait for a step, unless some are lost; those that its socket

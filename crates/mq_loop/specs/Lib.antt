@@ -1,2 +1,4 @@
 pub mod Accounts
+pub mod Places
+pub mod Rounds
 pub mod Sockets

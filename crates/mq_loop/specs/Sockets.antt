@@ -1,5 +1,5 @@
 -- Reads and writes of a socket that never waits.
-use Rattle.std.specs.Prelude.{◌≡◌, ℕ, ◌≤◌, List, ◌++◌, length, take, Option}
+use Rattle.std.specs.Prelude.{◌≡◌, ℕ, ◌≤◌, List, ◌++◌, length, take, Bool, true, false, Option}
 use Rattle.std.specs.Io.KnownBytes.{append_known}
 use Rattle.mq_stream.specs.declared.stream.ReadOutcome.{ReadOutcome}
 use Rattle.mq_stream.specs.declared.stream.ReadOutcome.TheVariants.{Bytes, Nothing, End, Failed}
@@ -12,6 +12,13 @@ IsWithin most (Bytes n) = n ≤ most
 IsWithin most Nothing = Unit {0}
 IsWithin most End = Unit {0}
 IsWithin most Failed = Unit {0}
+
+-- nothing more comes from a socket, or it failed
+abbrev pub finishes : ReadOutcome → Bool
+finishes (Bytes n) = false
+finishes Nothing = false
+finishes End = true
+finishes Failed = true
 
 -- at most this number of bytes were written
 abbrev pub IsTaken : ℕ → WriteOutcome → Type 0

@@ -1,8 +1,8 @@
 //! One connection: its socket, and the output that the socket has not taken.
 
-ghost use Rattle.std.specs.Prelude.{◌≡◌, ◌≤◌, ◌⊎◌, [], true, false, drop, length};
-ghost use Rattle.mq_loop.specs.declared.connection.Flushed.TheVariants.{All};
-ghost use Rattle.mq_loop.specs.Sockets.{ComesIn, Sends};
+ghost use Rattle.std.specs.Prelude.{◌≡◌, ◌≢◌, ◌≤◌, ◌⊎◌, ◌||◌, [], true, false, drop, length};
+ghost use Rattle.mq_loop.specs.declared.connection.Flushed.TheVariants.{All, Blocked, Failed};
+ghost use Rattle.mq_loop.specs.Sockets.{ComesIn, Sends, finishes};
 
 use crate::socket::{Socket, WriteOutcome};
 use bytes::Bytes;
@@ -29,6 +29,7 @@ pub struct Connection<S: Socket> {
     unread: Bytes,
     kept: Bytes,
     is_broken: bool,
+    is_finished: bool,
 }
 
 impl<S: Socket> Model for Connection<S> {
@@ -42,6 +43,8 @@ impl<S: Socket> Model for Connection<S> {
       unread = c.unread;
       kept = c.kept;
       broken = c.is_broken;
+      full = S.full c.socket;
+      finished = c.is_finished;
     } };
 }
 
@@ -54,6 +57,8 @@ impl<S: Socket> Connection<S> {
           unread = [];
           kept = [];
           broken = false;
+          full = S.full socket;
+          finished = false;
         } }
     {
         Connection {
@@ -61,12 +66,14 @@ impl<S: Socket> Connection<S> {
             unread: Bytes::new(),
             kept: Bytes::new(),
             is_broken: false,
+            is_finished: false,
         }
     }
 
     /// Whether output is kept, because the socket did not take it.
     pub fn is_blocked(&self) -> bool
-        ensures { result ≡ false → self.now.kept ≡ [] }
+        ensures none { result ≡ false → self.now.kept ≡ [] }
+        ensures kept { result ≡ true → ¬ self.now.kept ≡ [] }
     {
         !self.kept.is_empty()
     }
@@ -78,19 +85,26 @@ impl<S: Socket> Connection<S> {
         self.kept.len()
     }
 
-    /// Whether bytes were lost, because an allocation failed. The connection must then be ended.
-    pub fn is_broken(&self) -> bool
-        ensures { result ≡ self.now.broken }
+    /// Whether the connection must be ended: nothing more comes from its socket, it failed, or
+    /// bytes were lost because an allocation failed.
+    pub fn is_finished(&self) -> bool
+        ensures { result ≡ (self.now.broken || self.now.finished) }
     {
-        self.is_broken
+        self.is_broken || self.is_finished
     }
 
     /// Reads some of the bytes that have arrived into `buffer`, which must not be empty.
     pub fn read(&mut self, buffer: &mut [u8]) -> ReadOutcome
         ensures came { ComesIn self.old.came self.new.came buffer.new result }
-        ensures rest { self.new ≡ record self.old { came = self.new.came } }
+        ensures rest { self.new ≡ record self.old { came = self.new.came; finished = self.new.finished } }
+        ensures finished { self.new.finished ≡ (self.old.finished || finishes result) }
     {
-        self.socket.read(buffer)
+        let outcome = self.socket.read(buffer);
+        match outcome {
+            ReadOutcome::Bytes(_) | ReadOutcome::Nothing => {}
+            ReadOutcome::End | ReadOutcome::Failed => self.is_finished = true,
+        }
+        outcome
     }
 
     /// Marks that bytes were lost.
@@ -115,11 +129,16 @@ impl<S: Socket> Connection<S> {
         self.unread.advance(count);
     }
 
-    /// Stores bytes that wait for a step. If an allocation fails, marks that they are lost.
+    /// Stores bytes that wait for a step, or none. If an allocation fails, marks that they are
+    /// lost.
     pub fn keep_unread(&mut self, alloc: Global, bytes: &[u8])
         ensures { (self.new ≡ record self.old { unread = bytes.now })
             ⊎ (self.new ≡ record self.old { broken = true }) }
     {
+        if bytes.is_empty() {
+            self.unread = Bytes::new();
+            return;
+        }
         match Bytes::copy_from_slice(alloc, bytes) {
             Ok(bytes) => self.unread = bytes,
             Err(_) => self.is_broken = true,
@@ -138,8 +157,11 @@ impl<S: Socket> Connection<S> {
     #[tactic(auto, using(crate::proofs::Sent::sends_none))]
     pub fn flush(&mut self) -> Flushed
         ensures went { Sends self.old.went self.old.kept self.new.went self.new.kept }
-        ensures rest { self.new ≡ record self.old { went = self.new.went; kept = self.new.kept } }
+        ensures rest { self.new ≡ record self.old { went = self.new.went; kept = self.new.kept; full = self.new.full; finished = self.new.finished } }
         ensures all { result ≡ All → self.new.kept ≡ [] }
+        ensures blocked { result ≡ Blocked → self.new.full ≡ true }
+        ensures failed { result ≡ Failed → self.new.finished ≡ true }
+        ensures sound { result ≢ Failed → self.new.finished ≡ self.old.finished }
     {
         for _ in 0..u64::MAX {
             if self.kept.is_empty() {
@@ -148,9 +170,10 @@ impl<S: Socket> Connection<S> {
             match self.socket.write(self.kept.as_slice()) {
                 WriteOutcome::Bytes(count) => self.kept.advance(count),
                 WriteOutcome::Nothing => return Flushed::Blocked,
-                WriteOutcome::Failed => return Flushed::Failed,
+                WriteOutcome::Failed => break,
             }
         }
+        self.is_finished = true;
         Flushed::Failed
     }
 }

@@ -1,22 +1,22 @@
 //! Rounds of a loop over all connections.
 
-ghost use Rattle.std.specs.Prelude.{◌≡◌, [], IfSome};
+ghost use Rattle.std.specs.Prelude.{◌≡◌, ◌<◌, [], false, IfSome};
+ghost use Rattle.mq_route.specs.Hub.{new_hub};
+ghost use Rattle.mq_loop.specs.Accounts.{IsServed};
+ghost use Rattle.mq_loop.specs.Rounds.{IsReached, IsSettled};
 
-mod acts;
 mod input;
-mod output;
 
 use crate::observer::Observer;
+use crate::reading::Reading;
 use crate::report::Report;
-use crate::seat::Seat;
-use crate::served::Served;
 use crate::socket::Socket;
+use crate::watched::Watched;
 use mq_decode::Limits;
 use mq_hub::Hub;
-use mq_topic::ClientKey;
+use mq_route::HubConfig;
 use std::alloc::{AllocError, Global};
-use std::collections::HashMap;
-use std::mem;
+use std::marker::Model;
 
 /// The time between two ticks of the broker, in milliseconds.
 const TICK: u64 = 100;
@@ -52,64 +52,89 @@ struct Turn {
 pub struct EventLoop<S: Socket + Drop, O: Observer + Drop> {
     alloc: Global,
     limits: LoopLimits,
-    served: Served<S>,
+    watched: Watched<S>,
     observer: O,
-    seats: Vec<Option<Seat>>,
-    // Places without a connection.
-    vacant: Vec<u32>,
-    // The place of each connected client.
-    places: HashMap<ClientKey, u32>,
+    readings: Vec<Reading>,
     // The number of places for which each list below has room. A list names a place once at most.
     room: usize,
     ready: Vec<Turn>,
     turns: Vec<Turn>,
     newcomers: Vec<u32>,
-    marked: Vec<u32>,
-    over: Vec<u32>,
-    unended: Vec<u32>,
-    reports: Vec<Report>,
     last_tick: Option<u64>,
-    now: u64,
+    time: u64,
     // The number of connections that were opened.
     opened: u64,
     // In this round, connections with a greater age wait for an older one that has more to read,
     // and for one whose peer has hung up.
     held_after: u64,
     hung_up_after: u64,
-    count: usize,
+}
+
+impl<S: Socket + Drop, O: Observer + Drop> Model for EventLoop<S, O> {
+    ghost use Rattle.std.specs.Coded.{codes, coded_ℕ};
+    ghost use Rattle.std.specs.FinSet as set;
+    ghost use Rattle.std.specs.Ordering.{nat_cmp};
+    ghost use Rattle.mq_loop.specs.Rounds.{WatchedState};
+
+    ghost Value = { WatchedState };
+
+    ghost coded = { Prim.hlevel (codes, set.code {R = nat_cmp} coded_ℕ) };
+
+    ghost view = { λ e. e.watched };
 }
 
 impl<S: Socket + Drop, O: Observer + Drop> EventLoop<S, O> {
-    /// A loop over a broker that knows no connection.
-    pub fn new(alloc: Global, hub: Hub, limits: LoopLimits, observer: O) -> EventLoop<S, O> {
+    /// A loop over a new broker. `config.capacity` must be above 0, and so must `config.window` if
+    /// it is set.
+    #[tactic(auto, using(crate::proofs::Watching::new_reached))]
+    pub fn new(alloc: Global, config: HubConfig, limits: LoopLimits, observer: O) -> EventLoop<S, O>
+        requires capacity { 0 < config.capacity }
+        requires window { IfSome config.window (λ window. 0 < window) }
+        ensures { result ≡ record {
+          served = record { base = new_hub config; hub = new_hub config; lines = [] };
+          marked = [];
+          over = [];
+          failed = false;
+        } }
+    {
+        EventLoop::over(alloc, Hub::new(alloc, config), limits, observer)
+    }
+
+    /// A loop over a broker that made steps before and knows no connection.
+    pub fn over(alloc: Global, hub: Hub, limits: LoopLimits, observer: O) -> EventLoop<S, O>
+        requires { IsReached hub }
+        ensures { result ≡ record { served = record { base = hub; hub = hub; lines = [] }; marked = []; over = []; failed = false } }
+    {
         EventLoop {
             alloc,
             limits,
-            served: Served::new(alloc, hub),
+            watched: Watched::new(alloc, hub, limits.most_owed),
             observer,
-            seats: Vec::new(alloc),
-            vacant: Vec::new(alloc),
-            places: HashMap::new(alloc),
+            readings: Vec::new(alloc),
             room: 0,
             ready: Vec::new(alloc),
             turns: Vec::new(alloc),
             newcomers: Vec::new(alloc),
-            marked: Vec::new(alloc),
-            over: Vec::new(alloc),
-            unended: Vec::new(alloc),
-            reports: Vec::new(alloc),
             last_tick: None,
-            now: 0,
+            time: 0,
             opened: 0,
             held_after: u64::MAX,
             hung_up_after: u64::MAX,
-            count: 0,
         }
     }
 
+    /// All steps form one chain of one broker, in which each connection carries its bytes.
+    pub fn laws(&self)
+        ensures { IsServed self.now.served }
+    {
+        self.watched.laws();
+    }
+
     /// The broker.
-    pub fn hub(&self) -> &Hub {
-        self.served.hub()
+    pub fn hub(&self) -> &Hub
+        ensures { result.now ≡ self.now.served.hub }
+    {
+        self.watched.hub()
     }
 
     /// The observer.
@@ -124,63 +149,57 @@ impl<S: Socket + Drop, O: Observer + Drop> EventLoop<S, O> {
 
     /// The number of bytes that are kept for the connection at a place or owed to it.
     pub fn pending(&self, place: u32) -> usize {
-        let at = place as usize;
-        if at >= self.seats.len() {
-            return 0;
-        }
-        match &self.seats[at] {
-            Some(seat) => self.served.kept(place).saturating_add(seat.owed),
-            None => 0,
-        }
+        self.watched.pending(place)
     }
 
     /// The number of places.
     pub fn places(&self) -> u32 {
-        u32::try_from(self.seats.len()).unwrap_or(u32::MAX)
+        u32::try_from(self.watched.notes().places()).unwrap_or(u32::MAX)
     }
 
     /// The number of connections.
     pub fn len(&self) -> usize {
-        self.count
+        self.watched.notes().count()
     }
 
-    /// Whether the next round must begin at once, because a connection has more to read.
+    /// Whether the next round must begin at once, because a connection has more to read or must be
+    /// ended.
     pub fn is_due(&self) -> bool {
-        !self.ready.is_empty() || !self.newcomers.is_empty() || !self.unended.is_empty()
+        !self.ready.is_empty() || !self.newcomers.is_empty() || self.watched.has_over()
     }
 
     /// Takes the reports of the rounds up to now.
-    pub fn take_reports(&mut self) -> Vec<Report> {
-        mem::replace(&mut self.reports, Vec::new(self.alloc))
+    pub fn take_reports(&mut self) -> Vec<Report>
+        ensures { self.new ≡ self.old }
+    {
+        self.watched.take_reports()
     }
 
     /// Returns a place without a connection, for the next call of [`open`](EventLoop::open).
-    pub fn vacant_place(&mut self) -> Result<u32, AllocError> {
-        if let Some(place) = self.vacant.last() {
-            return Ok(*place);
+    pub fn vacant_place(&mut self) -> Result<u32, AllocError>
+        ensures { self.new.served.base ≡ self.old.served.base }
+    {
+        if let Some(place) = self.watched.notes().vacant() {
+            return Ok(place);
         }
         self.make_room()?;
-        self.seats.reserve(1)?;
-        let place = self.served.add_place()?;
-        self.seats.push(None)?;
-        self.vacant.push(place)?;
-        Ok(place)
+        self.watched.add_place()
     }
 
     // Makes room for one more place in each list.
-    fn make_room(&mut self) -> Result<(), AllocError> {
-        if self.seats.len() < self.room {
+    fn make_room(&mut self) -> Result<(), AllocError>
+        ensures { self.new ≡ self.old }
+    {
+        if self.readings.len() < self.room {
+            self.readings.push(Reading::new(0, 0))?;
             return Ok(());
         }
         let room = self.room.saturating_mul(2).max(FIRST_ROOM);
         make_room_for(&mut self.newcomers, room)?;
-        make_room_for(&mut self.marked, room)?;
-        make_room_for(&mut self.over, room)?;
-        make_room_for(&mut self.unended, room)?;
-        make_room_for(&mut self.vacant, room)?;
         // A place is listed as ready again if its connection ended and another one was opened.
         make_room_for(&mut self.ready, room.saturating_mul(2))?;
         make_room_for(&mut self.turns, room.saturating_mul(2))?;
+        self.readings.push(Reading::new(0, 0))?;
         self.room = room;
         Ok(())
     }
@@ -193,99 +212,76 @@ impl<S: Socket + Drop, O: Observer + Drop> EventLoop<S, O> {
     pub fn open(&mut self, place: u32, socket: S) -> bool
         requires came { IfSome (S.came socket) (λ bytes. bytes ≡ []) }
         requires went { IfSome (S.went socket) (λ bytes. bytes ≡ []) }
+        ensures { self.new.served.base ≡ self.old.served.base }
     {
-        if self.vacant.last().copied() != Some(place) {
+        if self.watched.notes().vacant() != Some(place) {
             return false;
         }
-        let Ok(reply) = self.served.open(place, socket) else {
+        if !self.watched.open(place, socket) {
             return false;
-        };
+        }
         self.opened = self.opened.saturating_add(1);
-        let _ = self.vacant.pop();
-        let mut seat = Seat::new(self.opened, self.now);
-        seat.is_ready = true;
+        let mut reading = Reading::new(self.opened, self.time);
+        reading.is_ready = true;
         let at = place as usize;
-        if at < self.seats.len() {
-            self.seats[at] = Some(seat);
+        if at < self.readings.len() {
+            self.readings[at] = reading;
         }
         let _ = self.newcomers.push(place);
-        self.count = self.count.saturating_add(1);
-        drop(reply);
         true
-    }
-
-    fn seat(&mut self, place: u32) -> Option<&mut Seat> {
-        let at = place as usize;
-        if at >= self.seats.len() {
-            return None;
-        }
-        self.seats[at].as_mut()
     }
 
     /// Notes that a connection may have bytes to read or take bytes. `has_hung_up` says that its
     /// peer will send nothing more.
-    pub fn notice(&mut self, place: u32, has_hung_up: bool) {
-        let Some(seat) = self.seat(place) else {
-            return;
-        };
-        seat.has_hung_up = seat.has_hung_up || has_hung_up;
+    pub fn notice(&mut self, place: u32, has_hung_up: bool)
+        ensures { self.new ≡ self.old }
+    {
+        let at = place as usize;
+        if at < self.readings.len() {
+            let reading = &mut self.readings[at];
+            reading.has_hung_up = reading.has_hung_up || has_hung_up;
+        }
         self.list_ready(place);
     }
 
-    fn list_ready(&mut self, place: u32) {
-        let Some(seat) = self.seat(place) else {
+    fn list_ready(&mut self, place: u32)
+        ensures { self.new ≡ self.old }
+    {
+        let at = place as usize;
+        if at >= self.readings.len() {
             return;
-        };
-        if !seat.is_ready {
-            seat.is_ready = true;
-            let age = seat.age;
+        }
+        let reading = &mut self.readings[at];
+        if !reading.is_ready {
+            reading.is_ready = true;
+            let age = reading.age;
             let _ = self.ready.push(Turn { age, place });
         }
     }
 
-    fn mark(&mut self, place: u32) {
-        let Some(seat) = self.seat(place) else {
-            return;
-        };
-        if !seat.is_marked {
-            seat.is_marked = true;
-            let _ = self.marked.push(place);
-        }
-    }
-
-    fn put_over(&mut self, place: u32) {
-        let Some(seat) = self.seat(place) else {
-            return;
-        };
-        if !seat.is_over {
-            seat.is_over = true;
-            let _ = self.over.push(place);
-        }
-    }
-
-    fn report(&mut self, report: Report) {
-        // Without memory the report is lost.
-        let _ = self.reports.push(report);
-    }
-
     /// Makes a round at this time, in milliseconds. Reads into `buffer`, which must not be empty.
-    pub fn round(&mut self, now: u64, buffer: &mut [u8]) {
-        self.now = now;
+    pub fn round(&mut self, now: u64, buffer: &mut [u8])
+        ensures settled { IsSettled self.new }
+        ensures base { self.new.served.base ≡ self.old.served.base }
+    {
+        self.time = now;
         self.tick(now);
         self.hear_all(buffer);
-        self.settle();
+        self.watched.settle(&mut self.observer);
     }
 
     // Tells the broker the time, if it advanced enough.
-    fn tick(&mut self, now: u64) {
+    fn tick(&mut self, now: u64)
+        ensures { self.new.served.base ≡ self.old.served.base }
+    {
         if let Some(last) = self.last_tick {
             if now < last.saturating_add(TICK) {
                 return;
             }
         }
-        if let Ok(reply) = self.served.tick(now) {
+        if let Some(reply) = self.watched.tick(now) {
             self.last_tick = Some(now);
-            self.note(&reply);
+            self.observer.on_reply(&reply);
         }
     }
 }

@@ -3,23 +3,31 @@
 //! Order of calls: [`EventLoop::vacant_place`] and [`EventLoop::open`] for each new connection,
 //! [`EventLoop::notice`] for each one that became ready, and then [`EventLoop::round`].
 //!
+//! Below the loop are [`Served`] (a broker and its connections, whose bytes it accounts for) and
+//! notes about the acts of the broker, by which a round misses no output and no end.
+//!
 //! A call that can fail for lack of memory says so in its return type; other calls never allocate
 //! unless stated otherwise. On `Err` the receiver is unchanged unless stated otherwise. The
-//! definitions of the contracts are in `specs/`: `Sockets` (what a socket does) and `Accounts` (the
-//! bytes of a connection in a broker's steps).
+//! definitions of the contracts are in `specs/`: `Sockets` (what a socket does), `Accounts` (the
+//! bytes of a connection in a broker's steps), `Places` (sets of connections) and `Rounds` (the end
+//! of a round).
 #![tactic(auto)]
 
 mod connection;
 mod event_loop;
+mod notes;
 mod observer;
+mod place_set;
+mod reading;
 mod report;
 mod seat;
 mod served;
 mod socket;
+mod watched;
 
 pub use crate::connection::{Connection, Flushed};
 pub use crate::event_loop::{EventLoop, LoopLimits};
 pub use crate::observer::{NoObserver, Observer};
 pub use crate::report::Report;
-pub use crate::served::{Heard, Served};
+pub use crate::served::{Given, Heard, Served};
 pub use crate::socket::{NonBlocking, Socket, WriteOutcome};

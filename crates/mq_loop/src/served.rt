@@ -1,9 +1,10 @@
 //! A broker and the connections that it serves.
 
-ghost use Rattle.std.specs.Prelude.{◌≡◌, ◌≤◌, ◌<◌, ◌∷◌, [], ◌++◌, false, None, Some, IfErr, IfNone, IfOk, IfSome, OnErr, OnOk, length, slice_set, take};
+ghost use Rattle.std.specs.Prelude.{◌≡◌, ◌+◌, ◌≤◌, ◌<◌, ◌∷◌, [], ◌++◌, false, None, Some, IfErr, IfNone, IfOk, IfSome, OnErr, OnOk, OnSome, length, slice_set, take};
 ghost use Rattle.mq_route.specs.declared.event.HubEvent.TheVariants.{Bytes as BytesSeen, Collect, Ended, Opened, Tick};
 ghost use Rattle.mq_route.specs.Step.{HubStep};
 ghost use Rattle.mq_loop.specs.Accounts.{IsServed, line_at, name_at};
+ghost use Rattle.mq_loop.specs.Rounds.{AtOutputs, Collects, Hears, HearsNothing, IsFlushed, IsGiven, IsSame, IsWrittenAt, MayCollect, OthersStay, connections_in, exists_at, output_at};
 
 use crate::connection::{Connection, Flushed};
 use crate::socket::Socket;
@@ -28,6 +29,19 @@ pub enum Heard {
     /// The connection must be ended: nothing more comes, its socket failed, or an allocation
     /// failed.
     Over,
+}
+
+/// How far the output of a connection was written.
+#[derive(Clone, Copy, Debug, PartialEq, Eq)]
+pub enum Given {
+    /// This number of bytes was collected at the broker, and written as far as the socket takes
+    /// them.
+    Written(usize),
+    /// Nothing was collected, because the socket does not take the output that is kept.
+    Full,
+    /// The connection must be ended: its socket failed, an allocation failed, or the broker closed
+    /// it and its output is written.
+    Finished,
 }
 
 /// A broker and the connections that it serves, each at a place.
@@ -108,6 +122,13 @@ impl<S: Socket + Drop> Served<S> {
         &self.hub
     }
 
+    /// The number of places.
+    pub fn places(&self) -> usize
+        ensures { result ≡ length self.now.lines }
+    {
+        self.connections.len()
+    }
+
     /// Adds a place without a connection. Returns the place, or an error if there are 2^32.
     #[tactic(auto, using(crate::proofs::CarriedBytes::place_served))]
     pub fn add_place(&mut self) -> Result<u32, AllocError>
@@ -132,8 +153,10 @@ impl<S: Socket + Drop> Served<S> {
         requires went { IfSome (S.went socket) (λ bytes. bytes ≡ []) }
         ensures step { IfOk result (λ reply. HubStep self.old.hub (Opened (name_at place)) reply self.new.hub) }
         ensures line { OnOk result (self.new.lines ≡ slice_set self.old.lines place
-            (Some record { came = S.came socket; went = S.went socket; unread = []; kept = []; broken = false })) }
+            (Some record { came = S.came socket; went = S.went socket; unread = []; kept = []; broken = false; full = S.full socket; finished = false })) }
         ensures err { OnErr result (self.new ≡ self.old) }
+        ensures same { IsSame self.old self.new }
+        ensures vacant { OnOk result (output_at place self.old.lines ≡ None) }
     {
         let at = place as usize;
         if at >= self.connections.len() || self.connections[at].is_some() {
@@ -149,6 +172,7 @@ impl<S: Socket + Drop> Served<S> {
     pub fn tick(&mut self, now: u64) -> Result<HubReply, HubRefusal>
         ensures step { IfOk result (λ reply. HubStep self.old.hub (Tick now) reply self.new.hub) }
         ensures lines { self.new.lines ≡ self.old.lines }
+        ensures base { self.new.base ≡ self.old.base }
         ensures err { OnErr result (self.new ≡ self.old) }
     {
         self.hub.step(&HubEvent::Tick(now))
@@ -157,7 +181,13 @@ impl<S: Socket + Drop> Served<S> {
     /// Makes the broker's step with bytes of a connection: with those that wait for a step, or else
     /// with bytes that are read into `buffer`, which must not be empty.
     #[tactic(auto, using(crate::proofs::CarriedBytes::same_served, crate::proofs::CarriedBytes::none_served))]
-    pub fn read(&mut self, place: u32, buffer: &mut [u8]) -> Heard {
+    pub fn read(&mut self, place: u32, buffer: &mut [u8]) -> Heard
+        ensures step { Hears place self.old.hub self.new.hub result }
+        ensures nothing { HearsNothing self.old.lines self.new.lines result }
+        ensures others { OthersStay place self.old.lines self.new.lines }
+        ensures exists { exists_at place self.new.lines ≡ exists_at place self.old.lines }
+        ensures same { IsSame self.old self.new }
+    {
         let at = place as usize;
         if at >= self.connections.len() {
             return Heard::Nothing;
@@ -165,35 +195,27 @@ impl<S: Socket + Drop> Served<S> {
         let Some(connection) = &mut self.connections[at] else {
             return Heard::Nothing;
         };
-        if connection.is_broken() {
+        if connection.is_finished() {
             return Heard::Over;
         }
         if !connection.unread().is_empty() {
-            return match take_some(&mut self.hub, place, connection.unread()) {
-                Some((reply, used)) => {
-                    connection.skip_unread(used);
-                    Heard::Step(0, reply)
-                }
-                None => Heard::Over,
+            let Some((reply, used)) = take_some(&mut self.hub, place, connection.unread()) else {
+                return Heard::Over;
             };
+            connection.skip_unread(used);
+            return Heard::Step(0, reply);
         }
         let count = match connection.read(buffer) {
             ReadOutcome::Bytes(count) => count,
             ReadOutcome::Nothing => return Heard::Nothing,
             ReadOutcome::End | ReadOutcome::Failed => return Heard::Over,
         };
-        match take_some(&mut self.hub, place, &buffer[..count]) {
-            Some((reply, used)) => {
-                if used < count {
-                    connection.keep_unread(self.alloc, &buffer[used..count]);
-                }
-                Heard::Step(count, reply)
-            }
-            None => {
-                connection.mark_broken();
-                Heard::Over
-            }
-        }
+        let Some((reply, used)) = take_some(&mut self.hub, place, &buffer[..count]) else {
+            connection.mark_broken();
+            return Heard::Over;
+        };
+        connection.keep_unread(self.alloc, &buffer[used..count]);
+        Heard::Step(count, reply)
     }
 
     /// Whether bytes of a connection wait for a step, or were lost.
@@ -203,7 +225,7 @@ impl<S: Socket + Drop> Served<S> {
             return false;
         }
         match &self.connections[at] {
-            Some(connection) => connection.is_broken() || !connection.unread().is_empty(),
+            Some(connection) => connection.is_finished() || !connection.unread().is_empty(),
             None => false,
         }
     }
@@ -216,6 +238,21 @@ impl<S: Socket + Drop> Served<S> {
         }
         match &self.connections[at] {
             Some(connection) => connection.is_blocked(),
+            None => false,
+        }
+    }
+
+    /// Whether a connection must be ended: nothing more comes from its socket, it failed, or bytes
+    /// were lost because an allocation failed.
+    pub fn is_finished(&self, place: u32) -> bool
+        ensures { IfSome (output_at place self.now.lines) (λ output. result ≡ output.finished) }
+    {
+        let at = place as usize;
+        if at >= self.connections.len() {
+            return false;
+        }
+        match &self.connections[at] {
+            Some(connection) => connection.is_finished(),
             None => false,
         }
     }
@@ -233,21 +270,32 @@ impl<S: Socket + Drop> Served<S> {
     }
 
     /// Writes the output that is kept for a connection, as far as its socket takes it.
-    pub fn flush(&mut self, place: u32) -> Flushed {
+    pub fn flush(&mut self, place: u32) -> Flushed
+        ensures hub { self.new.hub ≡ self.old.hub }
+        ensures others { OthersStay place self.old.lines self.new.lines }
+        ensures here { AtOutputs (output_at place self.old.lines) (output_at place self.new.lines) (IsFlushed result) }
+        ensures same { IsSame self.old self.new }
+    {
         let at = place as usize;
         if at >= self.connections.len() {
             return Flushed::All;
         }
-        match &mut self.connections[at] {
-            Some(connection) => connection.flush(),
-            None => Flushed::All,
-        }
+        let Some(connection) = &mut self.connections[at] else {
+            return Flushed::All;
+        };
+        connection.flush()
     }
 
     /// Collects the pending output of a connection, unless output is kept for it, and keeps it to
     /// be written. Returns the reply, or `None` if nothing was collected.
     #[tactic(auto, using(crate::proofs::CarriedBytes::collect_served))]
-    pub fn collect(&mut self, place: u32) -> Result<Option<bool>, HubRefusal> {
+    pub fn collect(&mut self, place: u32) -> Result<Option<bool>, HubRefusal>
+        ensures step { IfOk result (Collects place self.old.hub self.new.hub (output_at place self.old.lines)) }
+        ensures others { OthersStay place self.old.lines self.new.lines }
+        ensures here { AtOutputs (output_at place self.old.lines) (output_at place self.new.lines) (λ old new. new.finished ≡ old.finished) }
+        ensures same { IsSame self.old self.new }
+        ensures err { OnErr result (self.new ≡ self.old) }
+    {
         let at = place as usize;
         if at >= self.connections.len() {
             return Ok(None);
@@ -263,9 +311,49 @@ impl<S: Socket + Drop> Served<S> {
         Ok(Some(reply.alive))
     }
 
+    /// Writes the pending output of a connection, at the broker and here, as far as its socket
+    /// takes it. Keeps the rest.
+    pub fn give(&mut self, place: u32) -> Given
+        ensures given { IsGiven result (IsWrittenAt place self.new) }
+        ensures hub { MayCollect place self.old.hub self.new.hub }
+        ensures others { OthersStay place self.old.lines self.new.lines }
+        ensures exists { exists_at place self.new.lines ≡ exists_at place self.old.lines }
+        ensures same { IsSame self.old self.new }
+    {
+        if self.is_finished(place) {
+            return Given::Finished;
+        }
+        match self.flush(place) {
+            Flushed::All => {}
+            Flushed::Blocked => return Given::Full,
+            Flushed::Failed => return Given::Finished,
+        }
+        let Ok(alive) = self.collect(place) else {
+            return Given::Finished;
+        };
+        let count = self.kept(place);
+        let flushed = self.flush(place);
+        if alive == Some(false) {
+            return Given::Finished;
+        }
+        match flushed {
+            Flushed::Failed => return Given::Finished,
+            _ => {}
+        }
+        Given::Written(count)
+    }
+
     /// Ends a connection, and drops its socket. Returns `None` if the place has no connection.
     #[tactic(auto, using(crate::proofs::CarriedBytes::end_served))]
-    pub fn end(&mut self, place: u32) -> Result<Option<HubReply>, HubRefusal> {
+    pub fn end(&mut self, place: u32) -> Result<Option<HubReply>, HubRefusal>
+        ensures step { IfOk result (λ made. IfSome made (λ reply. HubStep self.old.hub (Ended (name_at place)) reply self.new.hub)) }
+        ensures none { IfOk result (λ made. IfNone made (self.new ≡ self.old)) }
+        ensures ended { OnOk result (output_at place self.new.lines ≡ None) }
+        ensures fewer { IfOk result (λ made. OnSome made (connections_in self.new.lines + 1 ≡ connections_in self.old.lines)) }
+        ensures others { OthersStay place self.old.lines self.new.lines }
+        ensures same { IsSame self.old self.new }
+        ensures err { OnErr result (self.new ≡ self.old) }
+    {
         let at = place as usize;
         if at >= self.connections.len() || self.connections[at].is_none() {
             return Ok(None);

@@ -1,8 +1,9 @@
 //! Sockets that never wait.
 
-ghost use Rattle.std.specs.Prelude.{◌≡◌, ◌≤◌, List, ℕ, Option, None, IfOk, IfSome, OnErr, length};
+ghost use Rattle.std.specs.Prelude.{◌≡◌, ◌≤◌, Bool, List, ℕ, Option, None, true, IfOk, IfSome, OnErr, length};
 ghost use Rattle.std.specs.Io.{ReadsAtMost, WritesAtMost};
 ghost use Rattle.mq_stream.specs.Stream.{IsUnread};
+ghost use Rattle.mq_loop.specs.declared.socket.WriteOutcome.TheVariants.{Nothing};
 ghost use Rattle.mq_loop.specs.Sockets.{ComesIn, GoesOut, IsTaken, IsWithin};
 
 use mq_stream::ReadOutcome;
@@ -22,8 +23,9 @@ pub enum WriteOutcome {
 
 /// A socket that never waits: a stream of bytes in both directions (4.2).
 ///
-/// Contracts see which bytes came from the socket and which it took, since it was opened, as far as
-/// an implementation says so. Of a socket of the system nothing is known.
+/// Contracts see which bytes came from the socket and which it took, since it was opened, and
+/// whether it takes no byte now, as far as an implementation says so. Of a socket of the system
+/// nothing is known.
 pub trait Socket {
     /// The bytes that were read, if they are known.
     ghost came: { Self → Option (List ℕ) } = { λ _. None };
@@ -31,15 +33,20 @@ pub trait Socket {
     /// The bytes that were written, if they are known.
     ghost went: { Self → Option (List ℕ) } = { λ _. None };
 
+    /// Whether the socket takes no byte now, or it is not known.
+    ghost full: { Self → Bool } = { λ _. true };
+
     /// Reads some of the bytes that have arrived into `buffer`, which must not be empty.
     fn read(&mut self, buffer: &mut [u8]) -> ReadOutcome
         ensures came { ComesIn (came self.old) (came self.new) buffer.new result }
-        ensures went { went self.new ≡ went self.old };
+        ensures went { went self.new ≡ went self.old }
+        ensures full { full self.new ≡ full self.old };
 
     /// Writes some of `bytes`, which must not be empty.
     fn write(&mut self, bytes: &[u8]) -> WriteOutcome
         ensures went { GoesOut (went self.old) (went self.new) bytes.now result }
-        ensures came { came self.new ≡ came self.old };
+        ensures came { came self.new ≡ came self.old }
+        ensures full { result ≡ Nothing → full self.new ≡ true };
 }
 
 /// A socket made of a stream whose calls return `WouldBlock` if they would wait.

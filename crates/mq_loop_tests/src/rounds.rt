@@ -3,7 +3,6 @@
 use crate::packets::{CONNACK, DISCONNECT, SUBACK, connect, publish, subscribe};
 use crate::wires::{Pipe, Wire, cell_of};
 use mq_decode::Limits;
-use mq_hub::Hub;
 use mq_loop::{EventLoop, LoopLimits, NoObserver, NonBlocking, Report};
 use mq_route::{HubConfig, WhenFull};
 use std::alloc::{AllocError, Global};
@@ -22,14 +21,16 @@ fn new_loop<'a>(alloc: Global, most_owed: usize) -> Result<Loop<'a>, Fail> {
         max_conns: 2_000,
         max_sessions: 2_000,
         users: None,
+        hashed_users: None,
         when_full: WhenFull::ClosePublisher,
+        connect_within: None,
     };
     let limits = LoopLimits {
         share: 4_096,
         most_owed,
         packets,
     };
-    Ok(EventLoop::new(alloc, Hub::new(alloc, config), limits, NoObserver))
+    Ok(EventLoop::new(alloc, config, limits, NoObserver))
 }
 
 // Opens a connection over the socket with this number.

@@ -1,6 +1,6 @@
 //! Lines for the standard error that say why a client program stopped early.
 
-use mq_client::{ClientError, Halt, LoadFailure, Stop};
+use mq_client::{ClientError, Halt, LoadFailure, SaveError, Stop};
 use mq_end::CloseReason;
 use mq_line::Escaped;
 use mq_packet::RefusalCode;
@@ -130,13 +130,26 @@ fn write_unloaded<E: Write>(errors: &mut E, name: &str, why: LoadFailure) -> io:
     }
 }
 
+// The mark of a lost session was not written.
+fn write_unmarked<E: Write>(errors: &mut E, name: &str, why: SaveError) -> io::Result<()> {
+    write!(
+        errors,
+        "mqtt: the broker lost the session of {name}, and the next run will not report it: "
+    )?;
+    match why {
+        SaveError::Unwritten(kind) => write!(errors, "cannot write {name}: {kind}")?,
+        SaveError::Memory => write!(errors, "out of memory")?,
+    }
+    writeln!(errors, "; --forget begins a new session")
+}
+
 /// Says why a program stopped early. Nothing is reported if the output is not writable.
 pub(crate) fn explain_stop<E: Write>(errors: &mut E, stopped: &Stopped<'_>, stop: Option<Stop>) {
+    let name = stopped.session.unwrap_or("the session file");
     let _ = match stop {
         Some(Stop::Halted(halt)) => write_halt(errors, stopped, halt),
-        Some(Stop::Unloaded(why)) => {
-            write_unloaded(errors, stopped.session.unwrap_or("the session file"), why)
-        }
+        Some(Stop::Unloaded(why)) => write_unloaded(errors, name, why),
+        Some(Stop::Unmarked(why)) => write_unmarked(errors, name, why),
         None => Ok(()),
     };
 }

@@ -23,7 +23,9 @@ fn config() -> Option<HubConfig>
         max_conns: 4,
         max_sessions: 4,
         users: None,
+        hashed_users: None,
         when_full: WhenFull::ClosePublisher,
+        connect_within: None,
     })
 }
 

@@ -619,13 +619,13 @@ module _ (capacity : ℕ) (drop : Bool) (ids : IdentifierLaws) (next : NextLaws)
   comes_go limits k b w w2 (Starves c fits v on some) h = close_goes k (Own reasons.Memory) fits v h
   comes_go limits k b w w2 (LetsGo c v closed) h = quiet v v (λ c. refl) h
 
-  ticks_go : (now : ℕ) (xs : List HubConnection) (w w2 : Work) (t : Ticks now xs w w2) → Kept w → Goes w (in_ticks now xs w w2 t) w2
-  ticks_go now xs w w2 (Done v) h = quiet v v (λ c. refl) h
-  ticks_go now xs w w2 (InTime x ys v v2 soon more) h = ticks_go now ys v v2 more h
-  ticks_go now xs w w2 (Late x ys fits v v2 late more) h =
-      let u = close x.conn (Own reasons.KeepAlive) fits v in
-      let c = close_goes x.conn (Own reasons.KeepAlive) fits v h in
-      go_on v u v2 (in_close x.conn (Own reasons.KeepAlive) fits v) (in_ticks now ys u v2 more) c (ticks_go now ys u v2 more c.kept)
+  ticks_go : (within : Option ℕ) (now : ℕ) (xs : List HubConnection) (w w2 : Work) (t : Ticks within now xs w w2) → Kept w → Goes w (in_ticks within now xs w w2 t) w2
+  ticks_go within now xs w w2 (Done v) h = quiet v v (λ c. refl) h
+  ticks_go within now xs w w2 (InTime x ys v v2 soon more) h = ticks_go within now ys v v2 more h
+  ticks_go within now xs w w2 (Late x ys why fits v v2 late more) h =
+      let u = close x.conn why fits v in
+      let c = close_goes x.conn why fits v h in
+      go_on v u v2 (in_close x.conn why fits v) (in_ticks within now ys u v2 more) c (ticks_go within now ys u v2 more c.kept)
 
   ended_goes : (k : Conn) (alive fits : Bool) (w : Work) → Kept w → Goes w (cond alive (in_close k PeerEnded fits w) []) (ended_open k alive fits w)
   ended_goes k true fits w h = close_goes k PeerEnded fits w h
@@ -644,7 +644,7 @@ module _ (capacity : ℕ) (drop : Bool) (ids : IdentifierLaws) (next : NextLaws)
       (record { accepts = over.accepts; kept = record { is = over.kept.is; policy = over.kept.policy; books = over.kept.books; rows = over.kept.rows }; whole = over.whole; places = over.places })
   event_goes h (Tick now) r w d s =
       let v = begin (told now h) in
-      after_quiet (begin h) v w (in_ticks (max h.clock now) h.connections v w d.0) (λ c. refl) (ticks_go (max h.clock now) h.connections v w d.0 (record { is = s.is; policy = s.policy; books = s.books; rows = s.rows }))
+      after_quiet (begin h) v w (in_ticks h.config.connect_within (max h.clock now) h.connections v w d.0) (λ c. refl) (ticks_go h.config.connect_within (max h.clock now) h.connections v w d.0 (record { is = s.is; policy = s.policy; books = s.books; rows = s.rows }))
   event_goes h (Collect k) r w d s = quiet (begin h) w (same_still [] w.did (ap (λ (w : Work). w.did) d.0)) (subst Kept (sym d.0) (record { is = s.is; policy = s.policy; books = s.books; rows = s.rows }))
 
   run_kept : (es : List Episode) (h h2 : HubState) → Follows h es h2 → Holds capacity drop h → Holds capacity drop h2

@@ -31,9 +31,9 @@ not_known k h e = go (knows k h.connections) e
 
 pub sound_opened : (k : Conn) (h : HubState) → knows k h.connections ≡ false → Sound h → Sound (opened k h)
 sound_opened k h none s = record {
-  apart = apart_opened k h.connections none s.apart;
+  apart = apart_opened k h.clock h.connections none s.apart;
   keyless = s.keyless;
-  tied = λ c. subst (λ (o : Option (Conn × Bool)). Tied o (has c h.sessions) (end_of c h.sessions)) (sym (upper_opened k c h.connections)) (s.tied c);
+  tied = λ c. subst (λ (o : Option (Conn × Bool)). Tied o (has c h.sessions) (end_of c h.sessions)) (sym (upper_opened k h.clock c h.connections)) (s.tied c);
 }
 
 -- a connection whose output is taken

@@ -406,7 +406,7 @@ module _ (store : StoreLaws) (log : List Act) where
       inl (ap (λ (w : Work). full_closes w.did) d.1
       ∙ only (ended_both (Few [] ⊥) (May [] ⊥) Anywhere (inner [] ⊥) (outer [] ⊥) (ways [] ⊥) anywhere k (is_open (stage_of k h.connections)) d.0 (begin h) tt (s, inl refl)).1)
   few_event h (Tick now) r w d s a =
-      inl (only (ticks_both (Few [] ⊥) (May [] ⊥) Anywhere (inner [] ⊥) (outer [] ⊥) (ways [] ⊥) anywhere (λ fits w. tt) (max h.clock now) h.connections (begin (told now h)) w d.0 (s, inl refl)).1)
+      inl (only (ticks_both (Few [] ⊥) (May [] ⊥) Anywhere (inner [] ⊥) (outer [] ⊥) (ways [] ⊥) anywhere (λ fits w. tt) (inl (λ k. refl)) h.config.connect_within (max h.clock now) h.connections (begin (told now h)) w d.0 (s, inl refl)).1)
   few_event h (Collect k) r w d s a = inl (ap (λ (w : Work). full_closes w.did) d.0)
 
 -- under DropCopy no event is too much

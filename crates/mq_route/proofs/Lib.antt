@@ -21,3 +21,5 @@ mod History
 mod Names
 mod Logging
 mod Reading
+mod Silence
+mod Clients

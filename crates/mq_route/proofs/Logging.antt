@@ -194,10 +194,10 @@ comes_log limits k b w w2 (Breaks c fault fits v on faulty) = malformed_logs k f
 comes_log limits k b w w2 (Starves c fits v on some) = close_logs k (Own reasons.Memory) fits v ∙ sym (append-nil v.came)
 comes_log limits k b w w2 (LetsGo c v closed) = sym (append-nil v.came)
 
-ticks_log : (now : ℕ) (xs : List HubConnection) (w w2 : Work) → Ticks now xs w w2 → w2.came ≡ w.came
-ticks_log now xs w w2 (Done v) = refl
-ticks_log now xs w w2 (InTime x ys v v2 soon more) = ticks_log now ys v v2 more
-ticks_log now xs w w2 (Late x ys fits v v2 late more) = ticks_log now ys (close x.conn (Own reasons.KeepAlive) fits v) v2 more ∙ close_logs x.conn (Own reasons.KeepAlive) fits v
+ticks_log : (within : Option ℕ) (now : ℕ) (xs : List HubConnection) (w w2 : Work) → Ticks within now xs w w2 → w2.came ≡ w.came
+ticks_log within now xs w w2 (Done v) = refl
+ticks_log within now xs w w2 (InTime x ys v v2 soon more) = ticks_log within now ys v v2 more
+ticks_log within now xs w w2 (Late x ys why fits v v2 late more) = ticks_log within now ys (close x.conn why fits v) v2 more ∙ close_logs x.conn why fits v
 
 ended_logs : (k : Conn) (alive fits : Bool) (w : Work) → (ended_open k alive fits w).came ≡ w.came
 ended_logs k true fits w = close_logs k PeerEnded fits w
@@ -207,5 +207,5 @@ pub logs_event : (h : HubState) (e : HubEvent) (r : HubReply) (w : Work) (d : Do
 logs_event h (Opened k) r w d = ap (λ (w : Work). w.came) d.0
 logs_event h (Bytes k piece) r w d = comes_log h.config.limits k (held_on k h.connections ++ piece) (holding k [] (begin h)) w d.0
 logs_event h (Ended k) r w d = ap (λ (w : Work). w.came) d.1 ∙ ended_logs k (is_open (stage_of k h.connections)) d.0 (begin h)
-logs_event h (Tick now) r w d = ticks_log (max h.clock now) h.connections (begin (told now h)) w d.0
+logs_event h (Tick now) r w d = ticks_log h.config.connect_within (max h.clock now) h.connections (begin (told now h)) w d.0
 logs_event h (Collect k) r w d = ap (λ (w : Work). w.came) d.0

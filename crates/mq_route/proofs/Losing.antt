@@ -1,5 +1,5 @@
 -- Each dropped will has a reason.
-use Rattle.std.proofs.Common.{◌≡◌, ◌⊎◌, inl, inr, ℕ, Bool, true, false, ◌&&◌, ◌||◌, cond, List, [], ◌∷◌, ◌++◌, map, length, nat_le, ◌-◌, max, Some, is_some, refl, sym, ap, ap₂, subst, ◌∙◌, append-nil, eqb, eqb-true, true≢false}
+use Rattle.std.proofs.Common.{◌≡◌, ◌⊎◌, inl, inr, ℕ, Bool, true, false, ◌&&◌, ◌||◌, cond, List, [], ◌∷◌, ◌++◌, map, length, nat_le, ◌-◌, max, Option, Some, is_some, refl, sym, ap, ap₂, subst, ◌∙◌, append-nil, eqb, eqb-true, true≢false}
 use Rattle.std.proofs.lemmas.List.Concat.{flat_map-append}
 use Rattle.std.specs.List.{flat_map, list_all}
 use Rattle.mq_topic.specs.Rows.{matched, without_client}
@@ -299,23 +299,23 @@ few_comes config limits k b w w2 (Starves c fits v on some) s is n i =
     (close_both (Few config fits v is) Freely (IsNear fits v) (inner config fits v is) (outer config fits v is) freely (nearby fits v) k (Own reasons.Memory) fits v (at_itself fits v) tt (s, λ c i. inl i)).1 n i
 few_comes config limits k b w w2 (LetsGo c v closed) s is n i = inl i
 
-few_ticks : (config : HubConfig) (now : ℕ) (xs : List HubConnection) (w w2 : Work) (t : Ticks now xs w w2) → Sound w.hub → w.hub.config ≡ config → (c : ℕ) → is_in c (dropped w2.did) ≡ true
-    → (is_in c (dropped w.did) ≡ true) ⊎ TicksLosing config.when_full c now xs w w2 t
-few_ticks config now xs w w2 (Done v) s is c i = inl i
-few_ticks config now xs w w2 (InTime x ys v v2 soon more) s is c i = few_ticks config now ys v v2 more s is c i
-few_ticks config now xs w w2 (Late x ys fits v v2 late more) s is c i =
-    let t = close_both (Few config fits v is) Freely (IsNear fits v) (inner config fits v is) (outer config fits v is) freely (nearby fits v) x.conn (Own reasons.KeepAlive) fits v (at_itself fits v) tt (s, λ c i. inl i) in
-    let same = close_both (reading.Same config) Freely Anywhere (reading.same_inner config) (reading.same_outer config) freely anywhere x.conn (Own reasons.KeepAlive) fits v tt tt (s, is) in
-    go (t.1 c) (few_ticks config now ys u v2 more t.0 same.1 c i)
+few_ticks : (config : HubConfig) (within : Option ℕ) (now : ℕ) (xs : List HubConnection) (w w2 : Work) (t : Ticks within now xs w w2) → Sound w.hub → w.hub.config ≡ config → (c : ℕ) → is_in c (dropped w2.did) ≡ true
+    → (is_in c (dropped w.did) ≡ true) ⊎ TicksLosing config.when_full c within now xs w w2 t
+few_ticks config within now xs w w2 (Done v) s is c i = inl i
+few_ticks config within now xs w w2 (InTime x ys v v2 soon more) s is c i = few_ticks config within now ys v v2 more s is c i
+few_ticks config within now xs w w2 (Late x ys why fits v v2 late more) s is c i =
+    let t = close_both (Few config fits v is) Freely (IsNear fits v) (inner config fits v is) (outer config fits v is) freely (nearby fits v) x.conn why fits v (at_itself fits v) tt (s, λ c i. inl i) in
+    let same = close_both (reading.Same config) Freely Anywhere (reading.same_inner config) (reading.same_outer config) freely anywhere x.conn why fits v tt tt (s, is) in
+    go (t.1 c) (few_ticks config within now ys u v2 more t.0 same.1 c i)
   where
     u : Work
-    u = close x.conn (Own reasons.KeepAlive) fits v
+    u = close x.conn why fits v
 
     Loses : Type 0
     Loses = LosesWill config.when_full c fits v
 
     More : Type 0
-    More = TicksLosing config.when_full c now ys u v2 more
+    More = TicksLosing config.when_full c within now ys u v2 more
 
     go : (is_in c (dropped u.did) ≡ true → (is_in c (dropped v.did) ≡ true) ⊎ Loses) → (is_in c (dropped u.did) ≡ true) ⊎ More → (is_in c (dropped v.did) ≡ true) ⊎ (Loses ⊎ More)
     go here (inr x) = inr (inr x)
@@ -342,7 +342,7 @@ few_event h (Ended k) r w d s c i =
     let end = ended_both (Few h.config f b refl) Freely (IsNear f b) (inner h.config f b refl) (outer h.config f b refl) freely (nearby f b) k (is_open (stage_of k h.connections)) f b (at_itself f b) (s, λ c i. inl i) in
     none_yet (LosesWill h.config.when_full c f b) (end.1 c (subst (λ (w : Work). is_in c (dropped w.did) ≡ true) d.1 i))
 few_event h (Tick now) r w d s c i =
-    none_yet (TicksLosing h.config.when_full c (max h.clock now) h.connections (begin (told now h)) w d.0) (few_ticks h.config (max h.clock now) h.connections (begin (told now h)) w d.0 s refl c i)
+    none_yet (TicksLosing h.config.when_full c h.config.connect_within (max h.clock now) h.connections (begin (told now h)) w d.0) (few_ticks h.config h.config.connect_within (max h.clock now) h.connections (begin (told now h)) w d.0 s refl c i)
 few_event h (Collect k) r w d s c i = absurd (true≢false (sym i ∙ ap (λ (w : Work). is_in c (dropped w.did)) d.0))
 
 pub laws : WillLaws

@@ -159,7 +159,7 @@ module _ (config : HubConfig) (keep : drops_copies config.when_full ≡ false) w
       let end = ended_both Calm Freely Anywhere inner outer freely anywhere k (is_open (stage_of k h.connections)) d.0 (begin h) tt (s, (same, λ c. refl)) in
       subst (Calm nothing) (sym d.1) (end.1.0, end.1.1)
   calm_event h (Tick now) r w d s same =
-      (ticks_both Calm Freely Anywhere inner outer freely anywhere (λ fits w. tt) (max h.clock now) h.connections (begin (told now h)) w d.0 (s, (same, λ c. refl))).1
+      (ticks_both Calm Freely Anywhere inner outer freely anywhere (λ fits w. tt) tt h.config.connect_within (max h.clock now) h.connections (begin (told now h)) w d.0 (s, (same, λ c. refl))).1
   calm_event h (Collect k) r w d s same = subst (Calm nothing) (sym d.0) (same, λ c. refl)
 
   pub none_run : (es : List Episode) (h h2 : HubState) → Follows h es h2 → Sound h → h.config ≡ config → NoMiss (acts_of es)

@@ -173,21 +173,21 @@ any_outer = record {
 abbrev pub Leaves : Conn → HubState → HubEvent → HubReply → Work → Type 0
 Leaves n h e r w = Sound w.hub × (knows n w.hub.connections ≡ true) × (cond (collects n e) r.output [] ++ waiting_on n w.hub.connections ≡ waiting_on n h.connections ++ encodings (on_conn n w.sent))
 
-waiting_opened : (n k : Conn) (xs : List HubConnection) → knows n xs ≡ true → waiting_on n (xs ++ newcomer k ∷ []) ≡ waiting_on n xs
-waiting_opened n k [] h = absurd cc
-waiting_opened n k (x ∷ xs) h = go (is_connection n x) refl (waiting_opened n k xs)
+waiting_opened : (n k : Conn) (at : ℕ) (xs : List HubConnection) → knows n xs ≡ true → waiting_on n (xs ++ newcomer k at ∷ []) ≡ waiting_on n xs
+waiting_opened n k at [] h = absurd cc
+waiting_opened n k at (x ∷ xs) h = go (is_connection n x) refl (waiting_opened n k at xs)
   where
-    go : (b : Bool) → is_connection n x ≡ b → (knows n xs ≡ true → waiting_on n (xs ++ newcomer k ∷ []) ≡ waiting_on n xs) → waiting_on n (x ∷ (xs ++ newcomer k ∷ [])) ≡ waiting_on n (x ∷ xs)
+    go : (b : Bool) → is_connection n x ≡ b → (knows n xs ≡ true → waiting_on n (xs ++ newcomer k at ∷ []) ≡ waiting_on n xs) → waiting_on n (x ∷ (xs ++ newcomer k at ∷ [])) ≡ waiting_on n (x ∷ xs)
     go true e ih =
-        cond-true (is_connection n x) x.waiting (waiting_on n (xs ++ newcomer k ∷ [])) e ∙ sym (cond-true (is_connection n x) x.waiting (waiting_on n xs) e)
+        cond-true (is_connection n x) x.waiting (waiting_on n (xs ++ newcomer k at ∷ [])) e ∙ sym (cond-true (is_connection n x) x.waiting (waiting_on n xs) e)
     go false e ih =
         ap (λ (b : List ℕ). cond (is_connection n x) x.waiting b) (ih (sym (ap (λ (t : Bool). t || knows n xs) e) ∙ h))
 
-knows_opened : (n k : Conn) (xs : List HubConnection) → knows n xs ≡ true → knows n (xs ++ newcomer k ∷ []) ≡ true
-knows_opened n k [] h = absurd cc
-knows_opened n k (x ∷ xs) h = go (is_connection n x) (knows_opened n k xs) h
+knows_opened : (n k : Conn) (at : ℕ) (xs : List HubConnection) → knows n xs ≡ true → knows n (xs ++ newcomer k at ∷ []) ≡ true
+knows_opened n k at [] h = absurd cc
+knows_opened n k at (x ∷ xs) h = go (is_connection n x) (knows_opened n k at xs) h
   where
-    go : (b : Bool) → (knows n xs ≡ true → knows n (xs ++ newcomer k ∷ []) ≡ true) → (b || knows n xs) ≡ true → (b || knows n (xs ++ newcomer k ∷ [])) ≡ true
+    go : (b : Bool) → (knows n xs ≡ true → knows n (xs ++ newcomer k at ∷ []) ≡ true) → (b || knows n xs) ≡ true → (b || knows n (xs ++ newcomer k at ∷ [])) ≡ true
     go true ih e = refl
     go false ih e = ih e
 
@@ -231,7 +231,7 @@ pub leaves : (n : Conn) (h : HubState) (e : HubEvent) (r : HubReply) (w : Work) 
 leaves n h (Opened k) r w right d stays s known =
     subst (Leaves n h (Opened k) r) (sym d.0)
     (grew n h (Opened k) r (begin (opened k h)) refl (sound_opened k h (not_known k h right) s)
-    (knows_opened n k h.connections known, waiting_opened n k h.connections known ∙ sym (append-nil (waiting_on n h.connections))))
+    (knows_opened n k h.clock h.connections known, waiting_opened n k h.clock h.connections known ∙ sym (append-nil (waiting_on n h.connections))))
 leaves n h (Bytes k piece) r w right d stays s known =
     let base = waiting_on n h.connections in
     let start = holding_both (Grows n base) Freely Anywhere (inner n base) (outer n base) freely anywhere k [] (begin h) (λ r. holds_grows n base k [] (begin h) r) (s, begins_at n h known) in
@@ -247,7 +247,7 @@ leaves n h (Ended k) r w right d stays s known =
     (grew n h (Ended k) r (ended k fits h) refl (sound_without k v (ended_idle k fits (begin h)) end.0) (kept.0 ∙ end.1.0, kept.1 ∙ end.1.1))
 leaves n h (Tick now) r w right d stays s known =
     let base = waiting_on n h.connections in
-    let end = ticks_both (Grows n base) Freely Anywhere (inner n base) (outer n base) freely anywhere (λ fits w. tt) (max h.clock now) h.connections (begin (told now h)) w d.0 (s, begins_at n h known) in
+    let end = ticks_both (Grows n base) Freely Anywhere (inner n base) (outer n base) freely anywhere (λ fits w. tt) tt h.config.connect_within (max h.clock now) h.connections (begin (told now h)) w d.0 (s, begins_at n h known) in
     grew n h (Tick now) r w refl end.0 end.1
 leaves n h (Collect k) r w right d stays s known =
     subst (Leaves n h (Collect k) r) (sym d.0) (collected_leaves n k h r (ap (λ (r : HubReply). r.output) d.1) s known)
@@ -261,7 +261,7 @@ sound_event h (Bytes k piece) r w right d s = (comes_both Any Freely Anywhere an
 sound_event h (Ended k) r w right d s =
     let v = ended_open k (is_open (stage_of k h.connections)) d.0 (begin h) in
     subst (λ (w : Work). Sound w.hub) (sym d.1) (sound_without k v (ended_idle k d.0 (begin h)) (ended_both Any Freely Anywhere any_inner any_outer freely anywhere k (is_open (stage_of k h.connections)) d.0 (begin h) tt (s, tt)).0)
-sound_event h (Tick now) r w right d s = (ticks_both Any Freely Anywhere any_inner any_outer freely anywhere (λ fits w. tt) (max h.clock now) h.connections (begin (told now h)) w d.0 (s, tt)).0
+sound_event h (Tick now) r w right d s = (ticks_both Any Freely Anywhere any_inner any_outer freely anywhere (λ fits w. tt) tt h.config.connect_within (max h.clock now) h.connections (begin (told now h)) w d.0 (s, tt)).0
 sound_event h (Collect k) r w right d s = subst (λ (w : Work). Sound w.hub) (sym d.0) (sound_collected k h s)
 
 pub sound_run : (es : List Episode) (h h2 : HubState) → Follows h es h2 → Sound h → Sound h2

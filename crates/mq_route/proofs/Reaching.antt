@@ -198,12 +198,12 @@ module _ (n : Conn) (h : HubState) where
       calm (changed f k) nothing w (names_changed f k (λ x. refl)) (ups_changed f k (λ x. (λ c. refl, refl))) (bytes_changed f k (λ x. refl)) r
 
   -- another connection is opened
-  opens : (k : Conn) (xs : List HubConnection) → IsOther k → waiting_on n (xs ++ newcomer k ∷ []) ≡ waiting_on n xs
-  opens k [] other = cond-false (same_conn k n) [] [] other
-  opens k (x ∷ xs) other = ap (λ (b : List ℕ). cond (is_connection n x) x.waiting b) (opens k xs other)
+  opens : (k : Conn) (at : ℕ) (xs : List HubConnection) → IsOther k → waiting_on n (xs ++ newcomer k at ∷ []) ≡ waiting_on n xs
+  opens k at [] other = cond-false (same_conn k n) [] [] other
+  opens k at (x ∷ xs) other = ap (λ (b : List ℕ). cond (is_connection n x) x.waiting b) (opens k at xs other)
 
   event : (e : HubEvent) (r : HubReply) (w : Work) → Does h e r w → Sound h → is_on n e ≡ false → list_any (places_on n h) w.did ≡ false → waiting_on n w.hub.connections ≡ waiting_on n h.connections
-  event (Opened k) r w d s other none = ap (λ (w : Work). waiting_on n w.hub.connections) d.0 ∙ opens k h.connections other
+  event (Opened k) r w d s other none = ap (λ (w : Work). waiting_on n w.hub.connections) d.0 ∙ opens k h.clock h.connections other
   event (Bytes k piece) r w d s other none =
       let start = holding_both Quiet Freely Anywhere inner outer freely anywhere k [] (begin h) (λ r. holds k [] (begin h) r) (s, starts s) in
       (comes_both Quiet Freely Anywhere inner outer freely anywhere (λ fits w. tt) tt h.config.limits k other (holds k) (held_on k h.connections ++ piece) (holding k [] (begin h)) w d.0 start).1.1 none
@@ -214,7 +214,7 @@ module _ (n : Conn) (h : HubState) where
       ∙ (kept_line n k other v.hub.connections).1
       ∙ end.1.1 (sym (ap (λ (w : Work). list_any (places_on n h) w.did) d.1) ∙ none)
   event (Tick now) r w d s other none =
-      (ticks_both Quiet Freely Anywhere inner outer freely anywhere (λ fits w. tt) (max h.clock now) h.connections (begin (told now h)) w d.0 (s, starts s)).1.1 none
+      (ticks_both Quiet Freely Anywhere inner outer freely anywhere (λ fits w. tt) tt h.config.connect_within (max h.clock now) h.connections (begin (told now h)) w d.0 (s, starts s)).1.1 none
   event (Collect k) r w d s other none = ap (λ (w : Work). waiting_on n w.hub.connections) d.0 ∙ put_there k n emptied h.connections (λ x. refl) other
 
   pub others : (e : HubEvent) (r : HubReply) (h2 : HubState) → HubStep h e r h2 → Sound h → is_on n e ≡ false → list_any (places_on n h) r.acts ≡ false

@@ -100,7 +100,7 @@ same_event h (Ended k) r w d s =
     ap (λ (w : Work). w.hub.config) d.1 ∙ (ended_both (Same c) Freely Anywhere (same_inner c) (same_outer c) freely anywhere k (is_open (stage_of k h.connections)) d.0 (begin h) tt (s, refl)).1
 same_event h (Tick now) r w d s =
     let c = h.config in
-    (ticks_both (Same c) Freely Anywhere (same_inner c) (same_outer c) freely anywhere (λ fits w. tt) (max h.clock now) h.connections (begin (told now h)) w d.0 (s, refl)).1
+    (ticks_both (Same c) Freely Anywhere (same_inner c) (same_outer c) freely anywhere (λ fits w. tt) tt h.config.connect_within (max h.clock now) h.connections (begin (told now h)) w d.0 (s, refl)).1
 same_event h (Collect k) r w d s = ap (λ (w : Work). w.hub.config) d.0
 
 pub same_run : (es : List Episode) (h h2 : HubState) → Follows h es h2 → Sound h → h2.config ≡ h.config
@@ -245,15 +245,15 @@ quiet n limits h w still = record { front = []; rest = held_on n h.connections; 
 begins_still : (n : Conn) (h : HubState) → Still n (is_open (stage_of n h.connections) ≡ true) (held_on n h.connections) nothing (begin h)
 begins_still n h up = (up, refl)
 
-newcomer_after : (n k : Conn) (xs : List HubConnection) → knows n xs ≡ true → (stage_of n (xs ++ newcomer k ∷ []) ≡ stage_of n xs) × (held_on n (xs ++ newcomer k ∷ []) ≡ held_on n xs)
-newcomer_after n k [] h = absurd (true≢false (sym h))
-newcomer_after n k (x ∷ xs) h = go (is_connection n x) refl (newcomer_after n k xs)
+newcomer_after : (n k : Conn) (at : ℕ) (xs : List HubConnection) → knows n xs ≡ true → (stage_of n (xs ++ newcomer k at ∷ []) ≡ stage_of n xs) × (held_on n (xs ++ newcomer k at ∷ []) ≡ held_on n xs)
+newcomer_after n k at [] h = absurd (true≢false (sym h))
+newcomer_after n k at (x ∷ xs) h = go (is_connection n x) refl (newcomer_after n k at xs)
   where
-    go : (b : Bool) → is_connection n x ≡ b → (knows n xs ≡ true → (stage_of n (xs ++ newcomer k ∷ []) ≡ stage_of n xs) × (held_on n (xs ++ newcomer k ∷ []) ≡ held_on n xs))
-        → (stage_of n (x ∷ (xs ++ newcomer k ∷ [])) ≡ stage_of n (x ∷ xs)) × (held_on n (x ∷ (xs ++ newcomer k ∷ [])) ≡ held_on n (x ∷ xs))
+    go : (b : Bool) → is_connection n x ≡ b → (knows n xs ≡ true → (stage_of n (xs ++ newcomer k at ∷ []) ≡ stage_of n xs) × (held_on n (xs ++ newcomer k at ∷ []) ≡ held_on n xs))
+        → (stage_of n (x ∷ (xs ++ newcomer k at ∷ [])) ≡ stage_of n (x ∷ xs)) × (held_on n (x ∷ (xs ++ newcomer k at ∷ [])) ≡ held_on n (x ∷ xs))
     go true e ih = (
-      cond-true (is_connection n x) x.stage (stage_of n (xs ++ newcomer k ∷ [])) e ∙ sym (cond-true (is_connection n x) x.stage (stage_of n xs) e),
-      cond-true (is_connection n x) x.held (held_on n (xs ++ newcomer k ∷ [])) e ∙ sym (cond-true (is_connection n x) x.held (held_on n xs) e),
+      cond-true (is_connection n x) x.stage (stage_of n (xs ++ newcomer k at ∷ [])) e ∙ sym (cond-true (is_connection n x) x.stage (stage_of n xs) e),
+      cond-true (is_connection n x) x.held (held_on n (xs ++ newcomer k at ∷ [])) e ∙ sym (cond-true (is_connection n x) x.held (held_on n xs) e),
     )
     go false e ih =
         let r = ih (sym (ap (λ (t : Bool). t || knows n xs) e) ∙ h) in
@@ -300,7 +300,7 @@ reads_event : (n : Conn) (h : HubState) (e : HubEvent) (r : HubReply) (w : Work)
     → ReadsIn n h.config.limits (read_by n h e r w d) (held_on n h.connections ++ bytes_to n e) h w.hub
 reads_event n h (Opened k) r w right d stays s known =
     quiet n h.config.limits h w (subst (λ (w : Work). Still n (is_open (stage_of n h.connections) ≡ true) (held_on n h.connections) nothing w) (sym d.0)
-    (λ up. let same = newcomer_after n k h.connections known in (ap is_open (sym same.0) ∙ up, same.1)))
+    (λ up. let same = newcomer_after n k h.clock h.connections known in (ap is_open (sym same.0) ∙ up, same.1)))
 reads_event n h (Bytes k piece) r w right d stays s known = go (same_conn k n) refl
   where
     packets : List Packet
@@ -327,7 +327,7 @@ reads_event n h (Tick now) r w right d stays s known =
     let A : Type 0 = is_open (stage_of n h.connections) ≡ true in
     let b = held_on n h.connections in
     quiet n h.config.limits h w
-    (ticks_both (Still n A b) Freely Anywhere (still_inner n A b) (still_outer n A b) freely anywhere (λ fits w. tt) (max h.clock now) h.connections (begin (told now h)) w d.0 (s, begins_still n h)).1
+    (ticks_both (Still n A b) Freely Anywhere (still_inner n A b) (still_outer n A b) freely anywhere (λ fits w. tt) tt h.config.connect_within (max h.clock now) h.connections (begin (told now h)) w d.0 (s, begins_still n h)).1
 reads_event n h (Collect k) r w right d stays s known =
     let f = changed emptied k in
     let names : Names f = names_changed emptied k (λ x. refl) in

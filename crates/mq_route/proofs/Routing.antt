@@ -361,7 +361,7 @@ module _ (store : StoreLaws) where
   tells_event : (log : List Act) (h : HubState) (e : HubEvent) (r : HubReply) (w : Work) → event_refusal e h ≡ None → Does h e r w → Sound h → Agrees log h [] → Agrees (log ++ r.acts) w.hub []
   tells_event log h (Opened k) r w right d s a =
       let v = begin (opened k h) in
-      let same : (c : ℕ) → up_on c (opened k h).connections ≡ up_on c h.connections = λ c. up_is c (opened k h).connections ∙ ap conn_in (upper_opened k c h.connections) ∙ sym (up_is c h.connections) in
+      let same : (c : ℕ) → up_on c (opened k h).connections ≡ up_on c h.connections = λ c. up_is c (opened k h).connections ∙ ap conn_in (upper_opened k h.clock c h.connections) ∙ sym (up_is c h.connections) in
       acted log h r w (acts_in _ _ d.1)
       (subst (λ (w : Work). Agrees (log ++ w.did) w.hub []) (sym d.0) (looks [] (log ++ []) h (opened k h) [] (lines_as [] h (opened k h).connections same) (starts log h a)))
   tells_event log h (Bytes k piece) r w right d s a =
@@ -376,7 +376,7 @@ module _ (store : StoreLaws) where
       acted log h r w (acts_in _ _ d.2)
       (subst (λ (w : Work). Agrees (log ++ w.did) w.hub []) (sym d.1) (looks [] (log ++ v.did) v.hub (ended k d.0 h).hub [] (lines_as [] v.hub (without_connection k v.hub.connections) same) end.1))
   tells_event log h (Tick now) r w right d s a =
-      let end = ticks_both (Tells log) Freely Anywhere (inner log) (outer log) freely anywhere (λ fits w. tt) (max h.clock now) h.connections (begin (told now h)) w d.0 (s, starts log h a) in
+      let end = ticks_both (Tells log) Freely Anywhere (inner log) (outer log) freely anywhere (λ fits w. tt) tt h.config.connect_within (max h.clock now) h.connections (begin (told now h)) w d.0 (s, starts log h a) in
       acted log h r w (acts_in _ _ d.1) end.1
   tells_event log h (Collect k) r w right d s a =
       let same : (c : ℕ) → up_on c (collected k h).connections ≡ up_on c h.connections = λ c. up_map (changed emptied k) (names_changed emptied k emptied_names) (ups_changed emptied k emptied_ups) c h.connections in

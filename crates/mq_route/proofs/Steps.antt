@@ -15,20 +15,21 @@ use Rattle.mq_end.specs.declared.reason.CloseReason.{CloseReason}
 use Rattle.mq_end.specs.declared.reason.CloseReason.TheVariants as reasons
 use Rattle.mq_end.specs.declared.state.State.TheVariants.{Connected}
 use Rattle.mq_end.specs.End.{End, renewed}
+use Rattle.mq_end.specs.KeepAlive.{is_late}
 use Rattle.mq_end.specs.Server.{server_gets}
 use Rattle.mq_route.specs.declared.act.Act.TheVariants as acts
 use Rattle.mq_route.specs.declared.conn.Conn.{Conn}
 use Rattle.mq_route.specs.declared.close.HubClose.{HubClose}
-use Rattle.mq_route.specs.declared.close.HubClose.TheVariants.{Own, TargetFull, TakenOver, PeerEnded}
+use Rattle.mq_route.specs.declared.close.HubClose.TheVariants.{Own, TargetFull, TakenOver, PeerEnded, NoConnect}
 use Rattle.mq_route.specs.declared.connection_state.ConnectionState.{ConnectionState}
 use Rattle.mq_route.specs.declared.connection_state.ConnectionState.TheVariants.{AwaitingConnect, ConnectedAs, Closed}
 use Rattle.mq_route.specs.declared.connection_state.ConnectionTerms.{ConnectionTerms}
 use Rattle.mq_route.specs.Routed.{same_conn}
 use Rattle.mq_route.specs.Hub.{HubState, HubSession, HubConnection, new_end, no_end, stage_of, with_connection, is_open, key_on, is_clean, is_for, up_on, end_of, key_of}
-use Rattle.mq_route.specs.Welcome.{client_of, refusal, login_refusal, is_unavailable, ends_on}
+use Rattle.mq_route.specs.Welcome.{client_of, refusal, refusal_by_tables, is_unavailable, ends_on}
 use Rattle.mq_route.specs.Work.{Work, said, with_connections, staged, shut, put_on, does, have_room, remove, will_after, leaves_behind, close}
 use Rattle.mq_route.specs.Arrives.{Growth, due, answers, answers_all, replies, greeting, terms_of, resume_session, new_session, start_session, take_over, goes_on, accept_connect, on_connect, on_first_packet, dispatch_packet, touched, touched_on, arrives, noted, takes, closes_by, broken, on_malformed}
-use Rattle.mq_route.specs.Step.{holding, Comes, Arrives, Waits, Breaks, Starves, LetsGo, Ticks, Done, InTime, Late, ended_open}
+use Rattle.mq_route.specs.Step.{holding, Comes, Arrives, Waits, Breaks, Starves, LetsGo, Ticks, Done, InTime, Late, has_passed, late_reason, ended_open}
 use Rattle.mq_route.proofs.Lines.{one_conn, upper, up_is, upper_none, conn_in, Mild, stage_here, fresh_known}
 use Rattle.mq_route.proofs.Uppers.{IsIdle, unless, upper_at, upper_stage}
 use Rattle.mq_route.proofs.Sessions.{has, has_new, end_new, key_there}
@@ -69,7 +70,7 @@ unfolding refusal
 accepted c h none = go (eqb (length c.client_id) 0) c.clean_session none
   where
     go : (empty clean : Bool)
-        → cond (empty && not clean) (Some IdentifierRejected) (option_or (login_refusal h.config.users c.login) (cond (is_unavailable c (key_of (client_of c h.sessions) h.sessions) h) (Some ServerUnavailable) None)) ≡ None
+        → cond (empty && not clean) (Some IdentifierRejected) (option_or (refusal_by_tables h.config.users h.config.hashed_users c.login) (cond (is_unavailable c (key_of (client_of c h.sessions) h.sessions) h) (Some ServerUnavailable) None)) ≡ None
         → (not clean && empty) ≡ false
     go true true e = refl
     go false true e = refl
@@ -294,11 +295,27 @@ module _ {IsOwn : Conn → Type 0} (R : Debt → Work → Type 0) (May : HubClos
   pub holding_both : (k : Conn) (b : List ℕ) (w : Work) → (R nothing w → R nothing (holding k b w)) → Both nothing w → Both nothing (holding k b w)
   holding_both k b w holds h = (sound_holding k b w h.0, holds h.1)
 
-  pub ticks_both : ((fits : Bool) (w : Work) → Near fits w) → (now : ℕ) (xs : List HubConnection) (w w2 : Work) → Ticks now xs w w2 → Both nothing w → Both nothing w2
-  ticks_both near now xs w w2 (Done v) h = h
-  ticks_both near now xs w w2 (InTime x ys v v2 soon more) h = ticks_both near now ys v v2 more h
-  ticks_both near now xs w w2 (Late x ys fits v v2 late more) h =
-      ticks_both near now ys (close x.conn (Own reasons.KeepAlive) fits v) v2 more (close_both x.conn (Own reasons.KeepAlive) fits v (near fits v) (ways.own reasons.KeepAlive) h)
+  -- a tick closes connections for two reasons
+  may_late : May NoConnect → (within : Option ℕ) (now since : ℕ) (s : ConnectionState) (why : HubClose) → late_reason within now since s ≡ Some why → May why
+  may_late silent within now since AwaitingConnect why e = go (has_passed within since now) e
+    where
+      go : (b : Bool) → cond b (Some NoConnect) None ≡ Some why → May why
+      go true e = let same : NoConnect ≡ why = cc in subst May same silent
+      go false e = absurd cc
+  may_late silent within now since (ConnectedAs key terms last_activity) why e = go (is_late last_activity terms.keep_alive now) e
+    where
+      go : (b : Bool) → cond b (Some (Own reasons.KeepAlive)) None ≡ Some why → May why
+      go true e = let same : Own reasons.KeepAlive ≡ why = cc in subst May same (ways.own reasons.KeepAlive)
+      go false e = absurd cc
+  may_late silent within now since Closed why e = absurd cc
+
+  pub ticks_both : ((fits : Bool) (w : Work) → Near fits w) → May NoConnect → (within : Option ℕ) (now : ℕ) (xs : List HubConnection) (w w2 : Work) → Ticks within now xs w w2
+      → Both nothing w → Both nothing w2
+  ticks_both near silent within now xs w w2 (Done v) h = h
+  ticks_both near silent within now xs w w2 (InTime x ys v v2 soon more) h = ticks_both near silent within now ys v v2 more h
+  ticks_both near silent within now xs w w2 (Late x ys why fits v v2 late more) h =
+      ticks_both near silent within now ys (close x.conn why fits v) v2 more
+      (close_both x.conn why fits v (near fits v) (may_late silent within now x.since x.stage why late) h)
 
   pub ended_both : (k : Conn) (alive fits : Bool) (w : Work) → Near fits w → Both nothing w → Both nothing (ended_open k alive fits w)
   ended_both k true fits w near h = close_both k PeerEnded fits w near ways.peer h

@@ -308,7 +308,7 @@ hands_event log before h (Ended k) r w right d s a =
     let end = ended_both (Hands log before) Freely Anywhere (inner log before) (outer log before) freely anywhere k (is_open (stage_of k h.connections)) d.0 (begin h) tt (s, starts log before h a) in
     subst (λ (w : Work). r.acts ≡ w.did → Kept (log ++ r.acts) (before ++ w.came) w.hub) (sym d.1) (λ same. ends log before r (ended k d.0 h) same end.1) (acts_in _ _ d.2)
 hands_event log before h (Tick now) r w right d s a =
-    let end = ticks_both (Hands log before) Freely Anywhere (inner log before) (outer log before) freely anywhere (λ fits w. tt) (max h.clock now) h.connections (begin (told now h)) w d.0 (s, starts log before h a) in
+    let end = ticks_both (Hands log before) Freely Anywhere (inner log before) (outer log before) freely anywhere (λ fits w. tt) tt h.config.connect_within (max h.clock now) h.connections (begin (told now h)) w d.0 (s, starts log before h a) in
     ends log before r w (acts_in _ _ d.1) end.1
 hands_event log before h (Collect k) r w right d s a =
     subst (λ (w : Work). r.acts ≡ w.did → Kept (log ++ r.acts) (before ++ w.came) w.hub) (sym d.0) (λ same. ends log before r (begin (collected k h)) same (starts log before h a))

@@ -262,27 +262,27 @@ apart_without k (x ∷ xs) a =
     cond_both (not (is_connection k x)) (x ∷ without_connection k xs) (without_connection k xs) Apart
     (λ e. (knows_without k x.conn xs a.0, λ c up. upper_less k c xs (a.1 c up), apart_without k xs a.2)) (λ e. apart_without k xs a.2)
 
-abbrev pub newcomer : Conn → HubConnection
-newcomer k = record { conn = k; stage = AwaitingConnect; held = []; waiting = [] }
+abbrev pub newcomer : Conn → ℕ → HubConnection
+newcomer k since = record { conn = k; stage = AwaitingConnect; held = []; waiting = []; since = since }
 
-pub upper_opened : (k : Conn) (c : ℕ) (xs : List HubConnection) → upper c (xs ++ newcomer k ∷ []) ≡ upper c xs
-upper_opened k c [] = refl
-upper_opened k c (x ∷ xs) = ap (upper_than (is_for c x.stage) x) (upper_opened k c xs)
+pub upper_opened : (k : Conn) (at c : ℕ) (xs : List HubConnection) → upper c (xs ++ newcomer k at ∷ []) ≡ upper c xs
+upper_opened k at c [] = refl
+upper_opened k at c (x ∷ xs) = ap (upper_than (is_for c x.stage) x) (upper_opened k at c xs)
 
-knows_opened : (k n : Conn) (xs : List HubConnection) → knows n xs ≡ false → same_conn k n ≡ false → knows n (xs ++ newcomer k ∷ []) ≡ false
-knows_opened k n [] h apart = or_from (same_conn k n) false apart refl
-knows_opened k n (x ∷ xs) h apart =
+knows_opened : (k n : Conn) (at : ℕ) (xs : List HubConnection) → knows n xs ≡ false → same_conn k n ≡ false → knows n (xs ++ newcomer k at ∷ []) ≡ false
+knows_opened k n at [] h apart = or_from (same_conn k n) false apart refl
+knows_opened k n at (x ∷ xs) h apart =
     let p = or_parts (is_connection n x) (knows n xs) h in
-    or_from (is_connection n x) (knows n (xs ++ newcomer k ∷ [])) p.0 (knows_opened k n xs p.1 apart)
+    or_from (is_connection n x) (knows n (xs ++ newcomer k at ∷ [])) p.0 (knows_opened k n at xs p.1 apart)
 
 pub same_swap : (a b : Conn) → same_conn a b ≡ false → same_conn b a ≡ false
 same_swap a b h = false_from_ne_true (same_conn b a) (λ same. true≢false (sym (subst (λ (n : Conn). same_conn n b ≡ true) (one_conn b a same) (same_conn-itself b)) ∙ h))
 
-pub apart_opened : (k : Conn) (xs : List HubConnection) → knows k xs ≡ false → Apart xs → Apart (xs ++ newcomer k ∷ [])
-apart_opened k [] h a = (refl, λ c up. refl, tt)
-apart_opened k (x ∷ xs) h a =
+pub apart_opened : (k : Conn) (at : ℕ) (xs : List HubConnection) → knows k xs ≡ false → Apart xs → Apart (xs ++ newcomer k at ∷ [])
+apart_opened k at [] h a = (refl, λ c up. refl, tt)
+apart_opened k at (x ∷ xs) h a =
     let p = or_parts (is_connection k x) (knows k xs) h in (
-      knows_opened k x.conn xs a.0 (same_swap x.conn k p.0),
-      λ c up. upper_opened k c xs ∙ a.1 c up,
-      apart_opened k xs p.1 a.2,
+      knows_opened k x.conn at xs a.0 (same_swap x.conn k p.0),
+      λ c up. upper_opened k at c xs ∙ a.1 c up,
+      apart_opened k at xs p.1 a.2,
     )

@@ -175,11 +175,11 @@ in_comes limits conn bytes start stop (Starves rest fits work on some) = in_clos
 in_comes limits conn bytes start stop (LetsGo rest work closed) = []
 
 -- the copies that a tick places
-abbrev pub in_ticks : (now : ℕ) (xs : List HubConnection) (start stop : Work) → Ticks now xs start stop → List Placing
-in_ticks now xs start stop (Done work) = []
-in_ticks now xs start stop (InTime x ys work last soon more) = in_ticks now ys work last more
-in_ticks now xs start stop (Late x ys fits work last late more) =
-    in_close x.conn (Own reasons.KeepAlive) fits work ++ in_ticks now ys (close x.conn (Own reasons.KeepAlive) fits work) last more
+abbrev pub in_ticks : (within : Option ℕ) (now : ℕ) (xs : List HubConnection) (start stop : Work) → Ticks within now xs start stop → List Placing
+in_ticks within now xs start stop (Done work) = []
+in_ticks within now xs start stop (InTime x ys work last soon more) = in_ticks within now ys work last more
+in_ticks within now xs start stop (Late x ys why fits work last late more) =
+    in_close x.conn why fits work ++ in_ticks within now ys (close x.conn why fits work) last more
 
 -- the copies that a step places
 abbrev pub in_step : (hub : HubState) (event : HubEvent) (reply : HubReply) (work : Work) → Does hub event reply work → List Placing
@@ -188,7 +188,7 @@ in_step hub (Bytes conn piece) reply work does =
     in_comes hub.config.limits conn (held_on conn hub.connections ++ piece) (holding conn [] (begin hub)) work does.0
 in_step hub (Ended conn) reply work does =
     if is_open (stage_of conn hub.connections) then in_close conn PeerEnded does.0 (begin hub) else []
-in_step hub (Tick now) reply work does = in_ticks (max hub.clock now) hub.connections (begin (told now hub)) work does.0
+in_step hub (Tick now) reply work does = in_ticks hub.config.connect_within (max hub.clock now) hub.connections (begin (told now hub)) work does.0
 in_step hub (Collect conn) reply work does = []
 
 pub record AcceptLaws : Type 0 where

@@ -1,14 +1,12 @@
 -- Why a will is dropped (3.1.2.5).
-use Rattle.std.specs.Prelude.{◌≡◌, ◌⊎◌, ℕ, ◌==◌, Bool, true, false, List, [], ◌∷◌, ◌++◌, max, Some, None}
+use Rattle.std.specs.Prelude.{◌≡◌, ◌⊎◌, ℕ, ◌==◌, Bool, true, false, List, [], ◌∷◌, ◌++◌, max, Option, Some, None}
 use Rattle.std.specs.List.{flat_map, list_any}
 use Rattle.mq_packet.specs.declared.connect.Will.{Will}
 use Rattle.mq_decode.specs.Limits.{Bounds}
-use Rattle.mq_end.specs.declared.reason.CloseReason.TheVariants as reasons
 use Rattle.mq_end.specs.End.{over}
 use Rattle.mq_route.specs.declared.act.Act.{Act}
 use Rattle.mq_route.specs.declared.act.Act.TheVariants as acts
 use Rattle.mq_route.specs.declared.close.HubClose.{HubClose}
-use Rattle.mq_route.specs.declared.close.HubClose.TheVariants.{Own}
 use Rattle.mq_route.specs.declared.config.HubConfig.{HubConfig}
 use Rattle.mq_route.specs.declared.config.WhenFull.{WhenFull}
 use Rattle.mq_route.specs.declared.config.WhenFull.TheVariants.{ClosePublisher}
@@ -74,11 +72,11 @@ ComesLosing policy client limits conn bytes start stop (Starves rest fits work o
 ComesLosing policy client limits conn bytes start stop (LetsGo rest work closed) = ⊥
 
 -- the client loses its will when one of the late connections closes
-abbrev pub TicksLosing : WhenFull → ℕ → (now : ℕ) (xs : List HubConnection) (start stop : Work) → Ticks now xs start stop → Type 0
-TicksLosing policy client now xs start stop (Done work) = ⊥
-TicksLosing policy client now xs start stop (InTime x ys work last soon more) = TicksLosing policy client now ys work last more
-TicksLosing policy client now xs start stop (Late x ys fits work last late more) =
-    LosesWill policy client fits work ⊎ TicksLosing policy client now ys (close x.conn (Own reasons.KeepAlive) fits work) last more
+abbrev pub TicksLosing : WhenFull → ℕ → (within : Option ℕ) (now : ℕ) (xs : List HubConnection) (start stop : Work) → Ticks within now xs start stop → Type 0
+TicksLosing policy client within now xs start stop (Done work) = ⊥
+TicksLosing policy client within now xs start stop (InTime x ys work last soon more) = TicksLosing policy client within now ys work last more
+TicksLosing policy client within now xs start stop (Late x ys why fits work last late more) =
+    LosesWill policy client fits work ⊎ TicksLosing policy client within now ys (close x.conn why fits work) last more
 
 -- the client loses its will in the event
 abbrev pub IsLosingEvent : ℕ → (hub : HubState) (event : HubEvent) (reply : HubReply) (work : Work) → Does hub event reply work → Type 0
@@ -87,7 +85,7 @@ IsLosingEvent client hub (Bytes conn piece) reply work does =
     ComesLosing hub.config.when_full client hub.config.limits conn (held_on conn hub.connections ++ piece) (holding conn [] (begin hub)) work does.0
 IsLosingEvent client hub (Ended conn) reply work does = LosesWill hub.config.when_full client does.0 (begin hub)
 IsLosingEvent client hub (Tick now) reply work does =
-    TicksLosing hub.config.when_full client (max hub.clock now) hub.connections (begin (told now hub)) work does.0
+    TicksLosing hub.config.when_full client hub.config.connect_within (max hub.clock now) hub.connections (begin (told now hub)) work does.0
 IsLosingEvent client hub (Collect conn) reply work does = ⊥
 
 pub record WillLaws : Type 0 where

@@ -14,7 +14,7 @@ use Rattle.mq_end.specs.Server.{server_gets}
 use Rattle.mq_route.specs.declared.act.Act.{Act}
 use Rattle.mq_route.specs.declared.act.Act.TheVariants as acts
 use Rattle.mq_route.specs.declared.close.HubClose.{HubClose}
-use Rattle.mq_route.specs.declared.close.HubClose.TheVariants.{Own, TargetFull, TakenOver, PeerEnded}
+use Rattle.mq_route.specs.declared.close.HubClose.TheVariants.{Own, TargetFull, TakenOver, PeerEnded, NoConnect}
 use Rattle.mq_route.specs.declared.config.HubConfig.{HubConfig}
 use Rattle.mq_route.specs.declared.config.WhenFull.TheVariants.{ClosePublisher, DropCopy}
 use Rattle.mq_route.specs.declared.conn.Conn.{Conn}
@@ -34,6 +34,7 @@ if_full TargetFull k = k ∷ []
 if_full (Own reason) k = []
 if_full TakenOver k = []
 if_full PeerEnded k = []
+if_full NoConnect k = []
 
 unfoldable pub full_by : Act → List Conn
 full_by (acts.Closed k why) = if_full why k

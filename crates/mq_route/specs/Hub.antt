@@ -20,12 +20,14 @@ pub record HubSession : Type 0 where
   pub key : ℕ
   pub end : End
 
--- A connection: its name, its state, the bytes of an incomplete packet, and the pending output.
+-- A connection: its name, its state, the bytes of an incomplete packet, the pending output, and the
+-- time at which it was opened.
 pub record HubConnection : Type 0 where
   pub conn : Conn
   pub stage : ConnectionState
   pub held : List ℕ
   pub waiting : List ℕ
+  pub since : ℕ
 
 -- A broker. clock: the time in milliseconds. next_key: the key of the next new session. rows: the
 -- subscriptions (3.8.4). retained: the retained messages (3.3.1.3), oldest topic name first.

@@ -17,3 +17,5 @@ pub mod History
 pub mod Names
 pub mod Reading
 pub mod StepSome
+pub mod Silent
+pub mod Clients

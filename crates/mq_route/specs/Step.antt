@@ -1,5 +1,5 @@
 -- HubStep: the result of an event (4.2, 4.6, 4.8).
-use Rattle.std.specs.Prelude.{◌≡◌, ℕ, ◌<◌, Bool, true, false, max, List, [], ◌∷◌, ◌++◌, length, Option, Some, None, if◌then◌else◌}
+use Rattle.std.specs.Prelude.{◌≡◌, ℕ, ◌+◌, ◌<◌, nat_lt, Bool, true, false, max, List, [], ◌∷◌, ◌++◌, length, Option, Some, None, if◌then◌else◌}
 use Rattle.mq_packet.specs.declared.packet.Packet.{Packet}
 use Rattle.mq_decode.specs.declared.fault.DecodeFault.{DecodeFault}
 use Rattle.mq_decode.specs.Grammar.{ReadsWithin, Pending, Faulty}
@@ -7,7 +7,8 @@ use Rattle.mq_decode.specs.Limits.{Bounds}
 use Rattle.mq_end.specs.declared.reason.CloseReason.TheVariants as reasons
 use Rattle.mq_end.specs.KeepAlive.{is_late}
 use Rattle.mq_route.specs.declared.conn.Conn.{Conn}
-use Rattle.mq_route.specs.declared.close.HubClose.TheVariants.{Own, PeerEnded}
+use Rattle.mq_route.specs.declared.close.HubClose.{HubClose}
+use Rattle.mq_route.specs.declared.close.HubClose.TheVariants.{Own, PeerEnded, NoConnect}
 use Rattle.mq_route.specs.declared.event.HubEvent.{HubEvent}
 use Rattle.mq_route.specs.declared.event.HubEvent.TheVariants.{Opened, Bytes, Ended, Tick, Collect}
 use Rattle.mq_route.specs.declared.reply.HubReply.{HubReply}
@@ -46,19 +47,27 @@ pub data Comes (limits : Bounds) (k : Conn) : List ℕ → Work → Work → Typ
 
 -- ---- time
 
--- a connected client is late (3.1.2.10)
-abbrev pub is_late_on : ℕ → ConnectionState → Bool
-is_late_on now AwaitingConnect = false
-is_late_on now (ConnectedAs key terms last_activity) = is_late last_activity terms.keep_alive now
-is_late_on now Closed = false
+-- there is a limit, and more time than it has passed
+abbrev pub has_passed : Option ℕ → ℕ → ℕ → Bool
+has_passed None since now = false
+has_passed (Some within) since now = nat_lt (since + within) now
+
+-- the reason for which a tick closes a connection that was opened at this time: it waits for
+-- CONNECT for too long (3.1), or its client is late (3.1.2.10)
+abbrev pub late_reason : Option ℕ → ℕ → ℕ → ConnectionState → Option HubClose
+late_reason within now since AwaitingConnect = if has_passed within since now then Some NoConnect else None
+late_reason within now since (ConnectedAs key terms last_activity) =
+    if is_late last_activity terms.keep_alive now then Some (Own reasons.KeepAlive) else None
+late_reason within now since Closed = None
 
 -- The late ones among these connections are closed one after another, in the order in which they
--- were opened (3.1.2.10).
-pub data Ticks (now : ℕ) : List HubConnection → Work → Work → Type 0 where
-  Done : (w : Work) → Ticks now [] w w
-  InTime : (x : HubConnection) (xs : List HubConnection) (w w2 : Work) → is_late_on now x.stage ≡ false → Ticks now xs w w2 → Ticks now (x ∷ xs) w w2
-  Late : (x : HubConnection) (xs : List HubConnection) (fits : Bool) (w w2 : Work) → is_late_on now x.stage ≡ true
-      → Ticks now xs (close x.conn (Own reasons.KeepAlive) fits w) w2 → Ticks now (x ∷ xs) w w2
+-- were opened.
+pub data Ticks (within : Option ℕ) (now : ℕ) : List HubConnection → Work → Work → Type 0 where
+  Done : (w : Work) → Ticks within now [] w w
+  InTime : (x : HubConnection) (xs : List HubConnection) (w w2 : Work) → late_reason within now x.since x.stage ≡ None
+      → Ticks within now xs w w2 → Ticks within now (x ∷ xs) w w2
+  Late : (x : HubConnection) (xs : List HubConnection) (why : HubClose) (fits : Bool) (w w2 : Work) → late_reason within now x.since x.stage ≡ Some why
+      → Ticks within now xs (close x.conn why fits w) w2 → Ticks within now (x ∷ xs) w w2
 
 -- ---- events
 
@@ -77,7 +86,7 @@ done alive w = record { acts = w.did; output = []; alive = alive }
 
 -- a new connection goes last
 abbrev pub opened : Conn → HubState → HubState
-opened k h = record h { connections = h.connections ++ record { conn = k; stage = AwaitingConnect; held = []; waiting = [] } ∷ [] }
+opened k h = record h { connections = h.connections ++ record { conn = k; stage = AwaitingConnect; held = []; waiting = []; since = h.clock } ∷ [] }
 
 abbrev pub ended_open : Conn → Bool → Bool → Work → Work
 ended_open k true fits w = close k PeerEnded fits w
@@ -101,7 +110,7 @@ Does h (Opened k) r w = (w ≡ begin (opened k h)) × (r ≡ done true w)
 Does h (Bytes k piece) r w =
     Comes h.config.limits k (held_on k h.connections ++ piece) (holding k [] (begin h)) w × (r ≡ done (is_open_on k w) w)
 Does h (Ended k) r w = (fits : Bool) × (w ≡ ended k fits h) × (r ≡ done false w)
-Does h (Tick now) r w = Ticks (max h.clock now) h.connections (begin (told now h)) w × (r ≡ done true w)
+Does h (Tick now) r w = Ticks h.config.connect_within (max h.clock now) h.connections (begin (told now h)) w × (r ≡ done true w)
 Does h (Collect k) r w =
     (w ≡ begin (collected k h)) × (r ≡ record { acts = []; output = waiting_on k h.connections; alive = is_open (stage_of k h.connections) })
 

@@ -22,10 +22,13 @@ pub enum HubClose {
     /// The peer ended the connection.
     #[error("the peer ended the connection")]
     PeerEnded,
+    /// No CONNECT arrived within [`HubConfig::connect_within`](crate::HubConfig).
+    #[error("no CONNECT arrived in time")]
+    NoConnect,
 }
 
 impl HubClose {
-    /// Returns the code, `C1` to `C11`.
+    /// Returns the code, `C1` to `C12`.
     pub fn code(self) -> &'static str
         ensures { result.now ≡ hub_close_code self }
     {
@@ -34,6 +37,7 @@ impl HubClose {
             HubClose::TargetFull => "C8",
             HubClose::TakenOver => "C9",
             HubClose::PeerEnded => "C10",
+            HubClose::NoConnect => "C12",
         }
     }
 }

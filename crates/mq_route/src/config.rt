@@ -14,6 +14,14 @@ pub struct User {
     pub password: Binary,
 }
 
+/// A user name, and the SHA-256 digest of a salt followed by the password (3.1.3.4, 3.1.3.5).
+#[derive(Debug, Drop)]
+pub struct HashedUser {
+    pub name: Text,
+    pub salt: Binary,
+    pub digest: [u8; 32],
+}
+
 /// The treatment of a copy of QoS 1 or 2 whose session has no packet identifier free (2.3.1).
 #[derive(Clone, Copy, Debug, Default, PartialEq, Eq)]
 pub enum WhenFull {
@@ -41,8 +49,15 @@ pub struct HubConfig {
     pub max_conns: usize,
     /// The maximum number of sessions.
     pub max_sessions: usize,
-    /// The users that may connect; `None` lets anyone connect (3.1.3.4).
+    /// The users that may connect (3.1.3.4). Anyone may connect if this and `hashed_users` are
+    /// `None`.
     pub users: Option<BoxedList<User>>,
+    /// More users that may connect, whose passwords are stored as digests (3.1.3.4).
+    pub hashed_users: Option<BoxedList<HashedUser>>,
     /// The treatment of a copy whose session has no packet identifier free.
     pub when_full: WhenFull,
+    /// The time in milliseconds within which a new connection must send CONNECT; `None` for no
+    /// limit (3.1). A tick closes a connection that was opened longer ago. The time of opening is
+    /// that of the last tick, so call `Tick` before `Opened`.
+    pub connect_within: Option<u64>,
 }

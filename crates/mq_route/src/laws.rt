@@ -1,6 +1,7 @@
 //! Laws of every run of a broker.
 
 ghost use Rattle.mq_route.specs.Accepted.{AcceptLaws};
+ghost use Rattle.mq_route.specs.Clients.{ClientLaws};
 ghost use Rattle.mq_route.specs.Dropped.{WillLaws};
 ghost use Rattle.mq_route.specs.Examples.{Examples};
 ghost use Rattle.mq_route.specs.Full.{FullLaws};
@@ -8,6 +9,7 @@ ghost use Rattle.mq_route.specs.History.{HistoryLaws};
 ghost use Rattle.mq_route.specs.Laws.{OutputLaws, RoutingLaws, TakingLaws};
 ghost use Rattle.mq_route.specs.Names.{NameLaws};
 ghost use Rattle.mq_route.specs.Reading.{ReadLaws};
+ghost use Rattle.mq_route.specs.Silent.{SilentLaws};
 
 use mq_end::sound_laws;
 use mq_flow::{identifier_laws, next_laws};
@@ -76,6 +78,20 @@ pub fn accept_laws()
     identifier_laws();
     next_laws();
     sound_laws();
+}
+
+/// A tick closes exactly the connections that wait for CONNECT longer than
+/// [`HubConfig::connect_within`](crate::HubConfig) (3.1). No other event closes a connection for
+/// it.
+pub fn silent_laws()
+    ensures { SilentLaws }
+{}
+
+/// A client is connected on a connection exactly if the acts of the run say so (3.1.4, 4.6).
+pub fn client_laws()
+    ensures { ClientLaws }
+{
+    store_laws();
 }
 
 /// Worked runs, with their acts and pending output.

@@ -29,7 +29,9 @@ pub fn broker_config() -> HubConfig
       max_conns = 1000;
       max_sessions = 1000;
       users = None;
+      hashed_users = None;
       when_full = ClosePublisher;
+      connect_within = None;
     } }
 {
     HubConfig {
@@ -39,6 +41,8 @@ pub fn broker_config() -> HubConfig
         max_conns: PLACES,
         max_sessions: PLACES,
         users: None,
+        hashed_users: None,
         when_full: WhenFull::ClosePublisher,
+        connect_within: None,
     }
 }

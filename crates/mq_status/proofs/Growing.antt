@@ -45,6 +45,7 @@ close_low (closes.Own ends.Window) = lit< tt
 close_low closes.TargetFull = lit< tt
 close_low closes.TakenOver = lit< tt
 close_low closes.PeerEnded = lit< tt
+close_low closes.NoConnect = lit< tt
 
 qos_low : (qos : Qos) → qos_number qos < 3
 qos_low qoses.Q0 = lit< tt

@@ -30,6 +30,7 @@ close_number closes.TargetFull = 8
 close_number closes.TakenOver = 9
 close_number closes.PeerEnded = 10
 close_number (closes.Own ends.Window) = 11
+close_number closes.NoConnect = 12
 
 -- the place of a counter among all
 abbrev pub place : Counter → ℕ

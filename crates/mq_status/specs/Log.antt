@@ -24,6 +24,7 @@ close_words (closes.Own ends.Window) = codes "receive window exceeded"
 close_words closes.TargetFull = codes "a subscriber's session is full"
 close_words closes.TakenOver = codes "client connected again"
 close_words closes.PeerEnded = codes "connection ended by peer"
+close_words closes.NoConnect = codes "no CONNECT in time"
 
 -- (3.2.2.3)
 abbrev pub refusal_words : RefusalCode → List ℕ

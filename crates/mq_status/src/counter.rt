@@ -78,6 +78,7 @@ fn close_number(reason: HubClose) -> usize
         HubClose::TakenOver => 9,
         HubClose::PeerEnded => 10,
         HubClose::Own(CloseReason::Window) => 11,
+        HubClose::NoConnect => 12,
     }
 }
 

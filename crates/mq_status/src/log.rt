@@ -48,6 +48,7 @@ fn close_words(reason: HubClose) -> &'static str
         HubClose::TargetFull => "a subscriber's session is full",
         HubClose::TakenOver => "client connected again",
         HubClose::PeerEnded => "connection ended by peer",
+        HubClose::NoConnect => "no CONNECT in time",
     }
 }
 

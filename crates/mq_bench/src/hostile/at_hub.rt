@@ -54,7 +54,9 @@ fn new_hub(alloc: Global, limits: Limits) -> Hub {
         max_conns: 3,
         max_sessions: 3,
         users: None,
+        hashed_users: None,
         when_full: WhenFull::ClosePublisher,
+        connect_within: None,
     };
     Hub::new(alloc, config)
 }
@@ -81,6 +83,7 @@ fn number_of_hub_close(why: HubClose) -> usize {
         HubClose::TargetFull => 8,
         HubClose::TakenOver => 9,
         HubClose::PeerEnded => 10,
+        HubClose::NoConnect => 12,
     }
 }
 

@@ -8,8 +8,8 @@ pub(crate) const FAULTS: [&str; 20] = [
     "F16", "F17", "F18", "F19", "F20",
 ];
 
-pub(crate) const CLOSES: [&str; 11] = [
-    "C1", "C2", "C3", "C4", "C5", "C6", "C7", "C8", "C9", "C10", "C11",
+pub(crate) const CLOSES: [&str; 12] = [
+    "C1", "C2", "C3", "C4", "C5", "C6", "C7", "C8", "C9", "C10", "C11", "C12",
 ];
 
 pub(crate) const REFUSALS: [&str; 5] = ["P1", "P2", "P3", "P4", "P5"];

@@ -1,15 +1,32 @@
--- When connections may be late (3.1.2.10).
-use Rattle.std.specs.Prelude.{◌≡◌, ◌≤◌, ℕ, Bool, false, ◌||◌, List, [], ◌∷◌}
+-- When connections may be late (3.1, 3.1.2.10).
+use Rattle.std.specs.Prelude.{◌≡◌, ◌≤◌, ℕ, Bool, false, ◌||◌, List, [], ◌∷◌, Option}
 use Rattle.std.specs.List.{All, AllByRecursion}
 use Rattle.std.specs.Ordering.{nat_cmp, ordering_then}
 use Rattle.std.specs.declared.cmp.Ordering.{Ordering}
 use Rattle.std.specs.declared.cmp.Reverse.{Reverse}
+use Rattle.mq_end.specs.declared.reason.CloseReason.TheVariants as reasons
+use Rattle.mq_end.specs.KeepAlive.{is_late}
 use Rattle.mq_route.specs.declared.conn.Conn.{Conn}
+use Rattle.mq_route.specs.declared.close.HubClose.{HubClose}
+use Rattle.mq_route.specs.declared.close.HubClose.TheVariants.{NoConnect, Own}
 use Rattle.mq_route.specs.declared.connection_state.ConnectionState.{ConnectionState}
+use Rattle.mq_route.specs.declared.connection_state.ConnectionState.TheVariants.{AwaitingConnect, ConnectedAs, Closed}
 use Rattle.mq_route.specs.Routed.{same_conn}
-use Rattle.mq_route.specs.Step.{is_late_on}
+use Rattle.mq_route.specs.Step.{has_passed}
 use Rattle.mq_hub.specs.declared.keep_alive.deadlines.Alarm.{Alarm}
 use Rattle.mq_hub.specs.declared.connections.connection.Connection.{Connection}
+
+-- a connection that was opened at this time is late: a tick closes it
+abbrev pub is_late_on : Option ℕ → ℕ → ℕ → ConnectionState → Bool
+is_late_on within now since AwaitingConnect = has_passed within since now
+is_late_on within now since (ConnectedAs key terms last_activity) = is_late last_activity terms.keep_alive now
+is_late_on within now since Closed = false
+
+-- why a tick closes a late connection in this state
+abbrev pub why_late : ConnectionState → HubClose
+why_late AwaitingConnect = NoConnect
+why_late (ConnectedAs key terms last_activity) = Own reasons.KeepAlive
+why_late Closed = Own reasons.KeepAlive
 
 -- Alarms: each says up to which time the connection that it names is not late. After `until` any
 -- connection may be late.
@@ -26,9 +43,9 @@ soonest_first x y =
 abbrev pub IsQuiet : AlarmTable → Conn → ℕ → Type 0
 IsQuiet a k now = (now ≤ a.until) × All (λ r. r.0.conn ≡ k → now ≤ r.0.until) a.alarms
 
--- before one of its alarms rings, a connection in this state is not late
-abbrev pub IsAwaited : AlarmTable → Conn → ConnectionState → Type 0
-IsAwaited a k s = (now : ℕ) → IsQuiet a k now → is_late_on now s ≡ false
+-- before one of its alarms rings, a connection that was opened at this time is not late
+abbrev pub IsAwaited : Option ℕ → AlarmTable → Conn → ℕ → ConnectionState → Type 0
+IsAwaited within a k since s = (now : ℕ) → IsQuiet a k now → is_late_on within now since s ≡ false
 
 -- every alarm of the first table that rings by some time makes the second table ring by then
 abbrev pub RingsWith : AlarmTable → AlarmTable → Type 0
@@ -40,9 +57,9 @@ is_named k [] = false
 is_named k (n ∷ ns) = same_conn k n || is_named k ns
 
 -- each of these connections is not late before an alarm of its rings
-abbrev pub AreAwaited : AlarmTable → List (Conn × Connection) → Type 0
-AreAwaited a = AllByRecursion (λ e. IsAwaited a e.1.conn e.1.stage)
+abbrev pub AreAwaited : Option ℕ → AlarmTable → List (Conn × Connection) → Type 0
+AreAwaited within a = AllByRecursion (λ e. IsAwaited within a e.1.conn e.1.since e.1.stage)
 
 -- the same, except for the connections with these names
-abbrev pub AreAwaitedBut : List Conn → AlarmTable → List (Conn × Connection) → Type 0
-AreAwaitedBut names a = AllByRecursion (λ e. is_named e.1.conn names ≡ false → IsAwaited a e.1.conn e.1.stage)
+abbrev pub AreAwaitedBut : Option ℕ → List Conn → AlarmTable → List (Conn × Connection) → Type 0
+AreAwaitedBut within names a = AllByRecursion (λ e. is_named e.1.conn names ≡ false → IsAwaited within a e.1.conn e.1.since e.1.stage)

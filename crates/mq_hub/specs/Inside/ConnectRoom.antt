@@ -77,5 +77,5 @@ will_messages (Some will) = will_message will ∷ []
 -- The session of a client without connection, which had room for a CONNECT and these messages,
 -- still has room for the CONNECT.
 pub record KeepsConnectRoom (ms : List Message) (old new : HubTables) : Type 0 where
-  pub connect_end : (c : Connect) (key : ℕ) → old.connections.limits.most < 2 ^ 28 → up_on key old.connections.connections ≡ None → HasConnectRoomAt c key ms 0 old.sessions.list
+  pub connect_end : (c : Connect) (key : ℕ) → old.connections.limits.packets.most < 2 ^ 28 → up_on key old.connections.connections ≡ None → HasConnectRoomAt c key ms 0 old.sessions.list
       → HasConnectRoomAt c key [] 0 new.sessions.list

@@ -9,23 +9,22 @@ use Rattle.mq_route.specs.declared.conn.Conn.{Conn}
 use Rattle.mq_route.specs.declared.connection_state.ConnectionState.{ConnectionState}
 use Rattle.mq_route.specs.Hub.{HubConnection, key_on}
 use Rattle.mq_route.specs.Routed.{same_conn}
-use Rattle.mq_route.specs.Step.{is_late_on}
 use Rattle.mq_hub.specs.declared.connections.connection.Connection.{Connection}
-use Rattle.mq_hub.specs.Inside.Alarms.{AlarmTable, IsAwaited}
+use Rattle.mq_hub.specs.declared.connections.table.ConnectionLimits.{ConnectionLimits}
+use Rattle.mq_hub.specs.Inside.Alarms.{AlarmTable, IsAwaited, is_late_on}
 
--- The connections in the order in which they were opened, and the limits of their packets. Then:
--- for how many more there is room, how many more may become connected, and how many alarms there
--- are.
+-- The connections in the order in which they were opened, and their limits. Then: for how many more
+-- there is room, how many more may become connected, and how many alarms there are.
 pub record ConnectionList : Type 0 where
   pub connections : List HubConnection
-  pub limits : Bounds
+  pub limits : ConnectionLimits
   pub room : ℕ
   pub up_room : ℕ
   pub alarms : ℕ
 
 -- a connection as the broker's definition sees it
 abbrev pub connection_of : Connection → HubConnection
-connection_of c = record { conn = c.conn; stage = c.stage; held = c.decoder.held; waiting = c.waiting }
+connection_of c = record { conn = c.conn; stage = c.stage; held = c.decoder.held; waiting = c.waiting; since = c.since }
 
 abbrev pub connections_of : List (Conn × Connection) → List HubConnection
 connections_of es = map (λ e. connection_of e.1) es
@@ -42,21 +41,23 @@ IsDecoding limits d = (d.limit ≡ limits) × (d.failed ≡ None) × Pending lim
 abbrev pub IsReading : Bounds → Connection → Type 0
 IsReading limits c = IsDecoding limits c.decoder
 
--- How connections are served: the limits of their packets, and the alarms.
+-- How connections are served: the limits of their packets, the time within which each must send
+-- CONNECT, and the alarms.
 pub record Service : Type 0 where
   pub bounds : Bounds
+  pub within : Option ℕ
   pub alarms : AlarmTable
 
-abbrev pub service : Bounds → AlarmTable → Service
-service bounds alarms = record { bounds = bounds; alarms = alarms }
+abbrev pub service : ConnectionLimits → AlarmTable → Service
+service limits alarms = record { bounds = limits.packets; within = limits.connect_within; alarms = alarms }
 
--- it is not late up to this time (3.1.2.10)
-abbrev pub IsTimely : ℕ → ConnectionState → Type 0
-IsTimely due s = (now : ℕ) → now ≤ due → is_late_on now s ≡ false
+-- it is not late up to this time (3.1, 3.1.2.10)
+abbrev pub IsTimely : Option ℕ → ℕ → ℕ → ConnectionState → Type 0
+IsTimely within due since s = (now : ℕ) → now ≤ due → is_late_on within now since s ≡ false
 
 -- a connection is served in this way
 abbrev pub IsServedBy : Service → Connection → Type 0
-IsServedBy by c = IsReading by.bounds c × IsAwaited by.alarms c.conn c.stage
+IsServedBy by c = IsReading by.bounds c × IsAwaited by.within by.alarms c.conn c.since c.stage
 
 -- and is stored under its name
 abbrev pub IsServed : Service → Conn × Connection → Type 0

@@ -10,9 +10,14 @@ use Rattle.mq_route.specs.declared.connection_state.ConnectionState.{ConnectionS
 use Rattle.mq_route.specs.declared.connection_state.ConnectionState.TheVariants.{AwaitingConnect, ConnectedAs, Closed}
 use Rattle.mq_route.specs.Copies.{will_message}
 use Rattle.mq_route.specs.Hub.{HubConnection, is_clean, is_for, knows, up_on}
+use Rattle.mq_hub.specs.declared.connections.table.ConnectionLimits.{ConnectionLimits}
 use Rattle.mq_hub.specs.declared.sessions.session.BrokerSession.{BrokerSession}
 use Rattle.mq_hub.specs.Inside.Sessions.{session_at, AreAscending, AreBelow}
 use Rattle.mq_hub.specs.Inside.View.{HubTables}
+
+-- the limits of each connection
+abbrev pub limits_of : HubConfig → ConnectionLimits
+limits_of config = record { packets = config.limits; connect_within = config.connect_within }
 
 -- names are distinct, and each client is connected on at most one connection
 abbrev pub AreApart : List HubConnection → Type 0
@@ -66,8 +71,8 @@ pub record HubInvariant (config : HubConfig) (next_key : ℕ) (t : HubTables) : 
   -- identifiers can be given, and a receive window is not empty
   pub capacity : 0 < config.capacity
   pub window : IfSome config.window (λ places. 0 < places)
-  -- packets are decoded within the configured limits
-  pub limits : t.connections.limits ≡ config.limits
+  -- the limits of connections are the configured ones
+  pub limits : t.connections.limits ≡ limits_of config
   -- names are distinct, and each client is connected at most once
   pub apart : AreApart t.connections.connections
   -- there is no pending output before a CONNECT

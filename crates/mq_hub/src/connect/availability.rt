@@ -61,7 +61,7 @@ impl<S: FilterStore> HubOver<S> {
         })
     }
 
-    fn counts(&self) -> Counts
+    fn limit_counts(&self) -> Counts
         ensures { IsCounted result self.now }
     {
         Counts {
@@ -84,6 +84,11 @@ impl<S: FilterStore> HubOver<S> {
         requires { client.now ≡ client_of connect.now self.now.sessions }
         ensures { result ≡ refusal connect.now self.now }
     {
-        refusal(&self.config, connect, self.status(client), self.counts())
+        refusal(
+            &self.config,
+            connect,
+            self.status(client),
+            self.limit_counts(),
+        )
     }
 }

@@ -1,16 +1,18 @@
 //! The checks of a CONNECT, and the client identifier of its session (3.1.3.1, 3.1.3.4, 3.2.2.3).
 
-ghost use Rattle.std.specs.Prelude.{◌≡◌, ℕ, ◌==◌, ◌&&◌, not, Option, length, IfOk};
+ghost use Rattle.std.specs.Prelude.{◌≡◌, ℕ, ◌==◌, ◌&&◌, ◌++◌, not, Option, length, IfOk};
 ghost use Rattle.std.specs.List.{list_any};
 ghost use Rattle.mq_route.specs.Hub.{HubState, key_of};
 ghost use Rattle.mq_hub.specs.Inside.ConnectChecks.{IsCounted, IsStatusOf};
-ghost use Rattle.mq_route.specs.Welcome.{client_of, has_password, is_one_of, is_unavailable, login_refusal, made_up, made_up_from, refusal};
+ghost use Rattle.mq_route.specs.Welcome.{client_of, has_digest, has_password, is_hashed_login, is_hashed_one, is_one_of, is_unavailable, login_refusal, made_up, made_up_from, refusal, refusal_by_tables};
 ghost use Rattle.mq_hub.specs.Inside.Sessions.{sessions_of};
+ghost use Rattle.sha2.specs.Sha256.{sha256};
 
 use crate::sessions::table::Sessions;
 use mq_packet::{Connect, Login, RefusalCode};
-use mq_route::{HubConfig, User};
+use mq_route::{HashedUser, HubConfig, User};
 use mq_wire::Text;
+use sha2::{Digest, Sha256};
 use std::alloc::{AllocError, Global};
 
 // The client identifier that the broker makes from a number (3.1.3.1).
@@ -75,18 +77,69 @@ fn is_one_of(users: &[User], login: &Login) -> bool
     }
 }
 
-/// Returns the code with which the login of a CONNECT is refused (3.1.3.4, 3.1.3.5). Without a
-/// table of users every login is accepted.
-pub(crate) fn login_refusal(config: &HubConfig, connect: &Connect) -> Option<RefusalCode>
-    ensures { result ≡ login_refusal config.now.users connect.now.login }
+// The code for a login that must be one of these users.
+fn refusal_of(users: &[User], login: &Option<Login>) -> Option<RefusalCode>
+    ensures { result ≡ login_refusal (Some users.now) login.now }
 {
-    let Some(users) = &config.users else {
-        return None;
-    };
-    match &connect.login {
+    match login {
         None => Some(RefusalCode::NotAuthorized),
-        Some(login) if is_one_of(users.as_slice(), login) => None,
+        Some(login) if is_one_of(users, login) => None,
         Some(_) => Some(RefusalCode::BadUserNameOrPassword),
+    }
+}
+
+// SHA-256 of a salt followed by a password.
+fn digest_of(salt: &[u8], password: &[u8]) -> [u8; 32]
+    ensures { result ≡ sha256 (salt.now ++ password.now) }
+{
+    let mut hasher = Sha256::new();
+    hasher.update(salt);
+    hasher.update(password);
+    hasher.finalize()
+}
+
+// Whether the user has this name and this password (3.1.3.4, 3.1.3.5).
+fn has_digest(user: &HashedUser, name: &str, password: &[u8]) -> bool
+    ensures { result ≡ has_digest name.now password.now user.now }
+{
+    user.name.as_str() == name
+        && user.digest.as_slice() == digest_of(user.salt.as_slice(), password).as_slice()
+}
+
+fn is_hashed_one(users: &[HashedUser], name: &str, password: &[u8]) -> bool
+    ensures { result ≡ list_any (has_digest name.now password.now) users.now }
+{
+    users.iter().any(
+        |user: &HashedUser| -> bool
+            ensures { result ≡ has_digest name.entry.now password.entry.now user.now }
+        { has_digest(user, name, password) },
+    )
+}
+
+fn is_hashed_login(users: &[HashedUser], login: &Option<Login>) -> bool
+    ensures { result ≡ is_hashed_login users.now login.now }
+{
+    let Some(login) = login else {
+        return false;
+    };
+    match &login.password {
+        Some(password) => is_hashed_one(users, login.name.as_str(), password.as_slice()),
+        None => false,
+    }
+}
+
+/// Returns the code with which the login of a CONNECT is refused (3.1.3.4, 3.1.3.5). Without tables
+/// of users every login is accepted.
+pub(crate) fn login_refusal(config: &HubConfig, connect: &Connect) -> Option<RefusalCode>
+    ensures { result
+        ≡ refusal_by_tables config.now.users config.now.hashed_users connect.now.login }
+{
+    match (&config.users, &config.hashed_users) {
+        (None, None) => None,
+        (Some(users), None) => refusal_of(users.as_slice(), &connect.login),
+        (_, Some(hashed)) if is_hashed_login(hashed.as_slice(), &connect.login) => None,
+        (Some(users), Some(_)) => refusal_of(users.as_slice(), &connect.login),
+        (None, Some(_)) => refusal_of(&[], &connect.login),
     }
 }
 

@@ -56,10 +56,10 @@ impl<S: FilterStore> Tables<S> {
         ensures alike { AreSameButRoom self.old.sessions.list self.new.sessions.list }
         ensures still { AreStillReady self.old.sessions.list self.new.sessions.list }
         ensures rest { self.new ≡ record self.old { sessions = self.new.sessions; connections = self.new.connections } }
-        ensures small { self.new.connections.limits.most < 2 ^ 28 }
+        ensures small { self.new.connections.limits.packets.most < 2 ^ 28 }
     {
         // Brings the bound of the limit (2.2.3) into the proof.
-        let _ = self.connections.limits().max_packet();
+        let _ = self.connections.limits().packets.max_packet();
         self.connections.reserve(1)?;
         self.sessions.reserve_connect(key, connect, messages)
     }
@@ -198,7 +198,7 @@ impl<S: FilterStore> Tables<S> {
         requires room { 2 ≤ log.old.room }
         ensures proceeds { Proceeds when_full (close conn TakenOver) self.old log.old.acts self.new log.new.acts }
         ensures away { up_on key self.new.connections.connections ≡ None }
-        ensures connect_end { (c : Connect) → self.old.connections.limits.most < 2 ^ 28
+        ensures connect_end { (c : Connect) → self.old.connections.limits.packets.most < 2 ^ 28
             → HasConnectRoomAt c key (will_messages (will_left TakenOver (stage_of conn self.old.connections.connections))) 0 self.old.sessions.list
             → HasConnectRoomAt c key [] 0 self.new.sessions.list }
         ensures room { log.old.room ≤ log.new.room + 2 }

@@ -1,9 +1,10 @@
 //! One connection (4.2).
 
-ghost use Rattle.std.specs.Prelude.{◌≡◌, ◌≤◌, ℕ, [], None, false, IfOk, IsFalse, OnOk, OnErr};
+ghost use Rattle.std.specs.Prelude.{◌≡◌, ◌≤◌, ℕ, [], Option, None, false, IfOk, IsFalse, OnOk, OnErr};
 ghost use Rattle.mq_route.specs.Arrives.{touched};
 ghost use Rattle.mq_route.specs.Hub.{key_on};
-ghost use Rattle.mq_route.specs.Step.{is_late_on};
+ghost use Rattle.mq_route.specs.Step.{has_passed};
+ghost use Rattle.mq_hub.specs.Inside.Alarms.{is_late_on};
 ghost use Rattle.mq_hub.specs.Inside.Connections.{connection_of, IsReading, IsTimely};
 ghost use Rattle.mq_end.specs.KeepAlive.{is_late};
 
@@ -23,6 +24,8 @@ pub(crate) struct Connection {
     pub(crate) conn: Conn,
     /// The state of the connection.
     pub(crate) stage: ConnectionState,
+    /// The time at which it was opened, in milliseconds.
+    pub(crate) since: u64,
     /// Decodes the bytes that come, and holds the incomplete packet.
     pub(crate) decoder: Decoder,
     /// Pending output while no client is connected. A connected client's output is in its session's
@@ -44,6 +47,16 @@ impl Model for BoxedConnection {
     ghost view = { λ b. b.connection.value };
 }
 
+// The last time at which a connection that was opened at this time may wait for its CONNECT (3.1).
+fn last_without_connect(within: Option<u64>, since: u64) -> u64
+    ensures { (now : ℕ) → now ≤ result → has_passed within since now ≡ false }
+{
+    match within {
+        Some(within) => since.saturating_add(within),
+        None => u64::MAX,
+    }
+}
+
 // The last time at which a connection with this last activity is not late (3.1.2.10).
 fn last_in_time(last_activity: u64, keep_alive: u16) -> u64
     ensures { (now : ℕ) → now ≤ result → is_late last_activity keep_alive now ≡ false }
@@ -59,14 +72,16 @@ impl BoxedConnection {
     pub(crate) fn new(
         alloc: Global,
         conn: Conn,
+        since: u64,
         limits: Limits,
     ) -> Result<BoxedConnection, AllocError>
-        ensures line { IfOk result (λ c. connection_of c ≡ record { conn = conn; stage = ConnectionState.AwaitingConnect; held = []; waiting = [] }) }
+        ensures line { IfOk result (λ c. connection_of c ≡ record { conn = conn; stage = ConnectionState.AwaitingConnect; held = []; waiting = []; since = since }) }
         ensures reading { IfOk result (λ c. IsReading limits c) }
     {
         let connection = Connection {
             conn,
             stage: ConnectionState::AwaitingConnect,
+            since,
             decoder: Decoder::new(alloc, limits),
             waiting: ByteQueue::new(alloc),
         };
@@ -89,16 +104,18 @@ impl BoxedConnection {
         }
     }
 
-    /// The last time at which the connection is not late (3.1.2.10).
-    pub(crate) fn last_in_time(&self) -> u64
-        ensures { IsTimely result self.now.stage }
+    /// The last time at which the connection is not late. It may wait for its CONNECT for the time
+    /// `within` (3.1, 3.1.2.10).
+    pub(crate) fn last_in_time(&self, within: Option<u64>) -> u64
+        ensures { IsTimely within result self.now.since self.now.stage }
     {
         match &self.connection.stage {
             ConnectionState::ConnectedAs(_, terms, last_activity) => last_in_time(
                 *last_activity,
                 terms.keep_alive,
             ),
-            ConnectionState::AwaitingConnect | ConnectionState::Closed => u64::MAX,
+            ConnectionState::AwaitingConnect => last_without_connect(within, self.connection.since),
+            ConnectionState::Closed => u64::MAX,
         }
     }
 
@@ -125,7 +142,8 @@ impl BoxedConnection {
     /// Whether the last packet came after this time. If not, a packet that comes now does not make
     /// the connection late any sooner (3.1.2.10).
     pub(crate) fn is_active_after(&self, now: u64) -> bool
-        ensures { IsFalse result → (n : ℕ) → is_late_on n self.now.stage ≡ false → is_late_on n (touched now self.now.stage) ≡ false }
+        ensures { IsFalse result → (within : Option ℕ) (n : ℕ) → is_late_on within n self.now.since self.now.stage ≡ false
+            → is_late_on within n self.now.since (touched now self.now.stage) ≡ false }
     {
         match &self.connection.stage {
             ConnectionState::ConnectedAs(_, _, last_activity) => *last_activity > now,

@@ -17,7 +17,7 @@ impl<S: FilterStore> HubOver<S> {
         ensures memory { IfErr result (λ why. why ≡ HubRefusal.Memory) }
         ensures err { OnErr result (self.new ≡ self.old) }
     {
-        match self.tables.open(self.alloc, conn) {
+        match self.tables.open(self.alloc, conn, self.clock) {
             Ok(()) => Ok(ActLog::new(self.alloc).into_reply(true)),
             Err(_) => Err(HubRefusal::Memory),
         }

@@ -10,7 +10,7 @@ ghost use Rattle.mq_route.specs.Arrives.{touched};
 ghost use Rattle.mq_route.specs.Hub.{held_on, key_on, knows, stage_of, up_on, waiting_on, with_connection, without_connection};
 ghost use Rattle.mq_route.specs.Routed.{same_conn};
 ghost use Rattle.mq_route.specs.Welcome.{up_count};
-ghost use Rattle.mq_hub.specs.Inside.Alarms.{AreAwaited, AreAwaitedBut};
+ghost use Rattle.mq_hub.specs.Inside.Alarms.{AreAwaited, AreAwaitedBut, IsAwaited, RingsWith};
 ghost use Rattle.mq_hub.specs.Inside.Connections.{connection_of, connections_of, IsDecoding, IsNamedAt, IsReading};
 ghost use Rattle.mq_hub.specs.Inside.Tick.{AreInTime, HasLate, HasLateNamed};
 
@@ -30,6 +30,15 @@ use std::marker::Model;
 // connections and this number together.
 const FEW_ALARMS: usize = 64;
 
+/// The limits of each connection.
+#[derive(Clone, Copy)]
+pub(crate) struct ConnectionLimits {
+    /// The limits of its packets.
+    pub(crate) packets: Limits,
+    /// The time in milliseconds within which it must send CONNECT (3.1).
+    pub(crate) connect_within: Option<u64>,
+}
+
 // Connections by name, in the order in which they were opened.
 type ByConn = IndexMap<Conn, BoxedConnection>;
 
@@ -40,7 +49,7 @@ type Ups = HashMap<ClientKey, Conn>;
 /// name, and by the key of the session for which it is connected.
 #[derive(Drop)]
 pub(crate) struct Connections {
-    limits: Limits,
+    limits: ConnectionLimits,
     by_conn: ByConn,
     ups: Ups,
     alarms: Alarms,
@@ -101,26 +110,37 @@ fn index_near(by_conn: &ByConn, conn: Conn, place: usize) -> Option<usize>
     }
 }
 
+// Sets the alarm of a connection that waits for its CONNECT, if there is a limit (3.1).
+fn set_connect_alarm(within: Option<u64>, boxed: &BoxedConnection, alarms: &mut Alarms)
+    requires { boxed.now.stage ≡ ConnectionState.AwaitingConnect }
+    ensures keeps { RingsWith alarms.old alarms.new }
+    ensures awaited { IsAwaited within alarms.new boxed.now.conn boxed.now.since boxed.now.stage }
+{
+    if within.is_some() {
+        alarms.set(boxed.connection().conn, boxed.last_in_time(within));
+    }
+}
+
 // Sets one alarm for each connection and drops all others.
-fn reset_alarms(by_conn: &ByConn, alarms: &mut Alarms)
-    ensures awaited { AreAwaited alarms.new by_conn.now.entries }
+fn reset_alarms(within: Option<u64>, by_conn: &ByConn, alarms: &mut Alarms)
+    ensures awaited { AreAwaited within alarms.new by_conn.now.entries }
     ensures few { length alarms.new.alarms ≤ length by_conn.now.entries }
 {
     alarms.clear();
     for boxed in by_conn.values() {
-        alarms.set(boxed.connection().conn, boxed.last_in_time());
+        alarms.set(boxed.connection().conn, boxed.last_in_time(within));
     }
 }
 
 // Sets all alarms anew if they do not reach up to this time, or if they are many more than the
 // connections.
-fn refresh_alarms(by_conn: &ByConn, alarms: &mut Alarms, now: u64)
-    requires { AreAwaited alarms.old by_conn.now.entries }
-    ensures awaited { AreAwaited alarms.new by_conn.now.entries }
+fn refresh_alarms(within: Option<u64>, by_conn: &ByConn, alarms: &mut Alarms, now: u64)
+    requires { AreAwaited within alarms.old by_conn.now.entries }
+    ensures awaited { AreAwaited within alarms.new by_conn.now.entries }
     ensures few { length alarms.new.alarms ≤ 2 * (length by_conn.now.entries + 64) + 1 }
 {
     if alarms.until() < now || alarms.len() / 2 > by_conn.len() + FEW_ALARMS {
-        reset_alarms(by_conn, alarms);
+        reset_alarms(within, by_conn, alarms);
     }
 }
 
@@ -128,6 +148,7 @@ fn refresh_alarms(by_conn: &ByConn, alarms: &mut Alarms, now: u64)
 // alarms again. On `Err` any connection may be late.
 fn find_named(
     alloc: Global,
+    within: Option<u64>,
     by_conn: &ByConn,
     alarms: &mut Alarms,
     names: &mut Vec<Conn>,
@@ -135,17 +156,17 @@ fn find_named(
 ) -> Result<Vec<usize>, AllocError>
     requires named { AllByRecursion (λ e. e.0 ≡ e.1.conn) by_conn.now.entries }
     requires distinct { IsDistinct same_conn (keys_of by_conn.now.entries) }
-    requires awaited { AreAwaitedBut names.old.items alarms.old by_conn.now.entries }
-    requires late { HasLateNamed now (connections_of by_conn.now.entries) names.old.items }
-    ensures awaited { AreAwaited alarms.new by_conn.now.entries }
-    ensures late { IfOk result (λ places. HasLate now (connections_of by_conn.now.entries) places.items) }
+    requires awaited { AreAwaitedBut within names.old.items alarms.old by_conn.now.entries }
+    requires late { HasLateNamed within now (connections_of by_conn.now.entries) names.old.items }
+    ensures awaited { AreAwaited within alarms.new by_conn.now.entries }
+    ensures late { IfOk result (λ places. HasLate within now (connections_of by_conn.now.entries) places.items) }
 {
     let mut places = Vec::new(alloc);
     while let Some(conn) = names.pop() {
         let Some((place, _, boxed)) = by_conn.get_full(&conn) else {
             continue;
         };
-        let until = boxed.last_in_time();
+        let until = boxed.last_in_time(within);
         alarms.set(conn, until);
         if now <= until {
             continue;
@@ -164,30 +185,31 @@ fn find_named(
 // Returns the indices of the connections that may be late at this time, in ascending order.
 fn find_late(
     alloc: Global,
+    within: Option<u64>,
     by_conn: &ByConn,
     alarms: &mut Alarms,
     now: u64,
 ) -> Result<Vec<usize>, AllocError>
     requires named { AllByRecursion (λ e. e.0 ≡ e.1.conn) by_conn.now.entries }
     requires distinct { IsDistinct same_conn (keys_of by_conn.now.entries) }
-    requires awaited { AreAwaited alarms.old by_conn.now.entries }
-    ensures awaited { AreAwaited alarms.new by_conn.now.entries }
-    ensures late { IfOk result (λ places. HasLate now (connections_of by_conn.now.entries) places.items) }
+    requires awaited { AreAwaited within alarms.old by_conn.now.entries }
+    ensures awaited { AreAwaited within alarms.new by_conn.now.entries }
+    ensures late { IfOk result (λ places. HasLate within now (connections_of by_conn.now.entries) places.items) }
     ensures ascending { IfOk result (λ places. IsNonDecreasing places.items) }
 {
-    refresh_alarms(by_conn, alarms, now);
+    refresh_alarms(within, by_conn, alarms, now);
     if alarms.until() < now {
         return Err(AllocError);
     }
     let mut names = alarms.take_ringing(alloc, now)?;
-    let mut places = find_named(alloc, by_conn, alarms, &mut names, now)?;
+    let mut places = find_named(alloc, within, by_conn, alarms, &mut names, now)?;
     places.sort_unstable();
     Ok(places)
 }
 
 impl Connections {
-    /// An empty table. Packets on its connections are decoded within `limits`.
-    pub(crate) fn new(alloc: Global, limits: Limits) -> Connections
+    /// An empty table. `limits` apply to each connection.
+    pub(crate) fn new(alloc: Global, limits: ConnectionLimits) -> Connections
         ensures connections { result.connections ≡ [] }
         ensures limits { result.limits ≡ limits }
     {
@@ -210,11 +232,16 @@ impl Connections {
         ensures alarms { OnOk result (self.new.alarms ≤ 2 * (length self.new.connections + 64) + 1) }
     {
         self.by_conn.reserve(count)?;
-        refresh_alarms(&self.by_conn, &mut self.alarms, 0);
+        refresh_alarms(
+            self.limits.connect_within,
+            &self.by_conn,
+            &mut self.alarms,
+            0,
+        );
         self.ups.reserve(count)
     }
 
-    pub(crate) fn limits(&self) -> Limits
+    pub(crate) fn limits(&self) -> ConnectionLimits
         ensures { result ≡ self.now.limits }
     {
         self.limits
@@ -288,7 +315,7 @@ impl Connections {
     pub(crate) fn open(&mut self, boxed: BoxedConnection)
         requires name { knows boxed.conn self.old.connections ≡ false }
         requires stage { boxed.stage ≡ ConnectionState.AwaitingConnect }
-        requires reading { IsReading self.old.limits boxed }
+        requires reading { IsReading self.old.limits.packets boxed }
         requires room { 0 < self.old.room }
         ensures connections { self.new.connections ≡ self.old.connections ++ connection_of boxed ∷ [] }
         ensures limits { self.new.limits ≡ self.old.limits }
@@ -296,6 +323,7 @@ impl Connections {
         ensures up_room { self.new.up_room ≡ self.old.up_room }
     {
         let conn = boxed.connection().conn;
+        set_connect_alarm(self.limits.connect_within, &boxed, &mut self.alarms);
         let _ = self.by_conn.insert(conn, boxed);
     }
 
@@ -340,7 +368,8 @@ impl Connections {
             return;
         };
         boxed.connect_end(key, terms, now);
-        self.alarms.set(conn, boxed.last_in_time());
+        self.alarms
+            .set(conn, boxed.last_in_time(self.limits.connect_within));
         add_connected(&mut self.ups, key, conn);
     }
 
@@ -363,17 +392,18 @@ impl Connections {
         let is_earlier = boxed.is_active_after(now);
         boxed.touched(now);
         if is_earlier {
-            self.alarms.set(conn, boxed.last_in_time());
+            self.alarms
+                .set(conn, boxed.last_in_time(self.limits.connect_within));
         }
         key
     }
 
     pub(crate) fn swap_decoder(&mut self, conn: Conn, decoder: &mut Decoder)
         requires known { knows conn self.old.connections ≡ true }
-        requires reading { IsDecoding self.old.limits decoder.old }
+        requires reading { IsDecoding self.old.limits.packets decoder.old }
         ensures connections { self.new.connections ≡ with_connection (λ x. record x { held = decoder.old.held }) conn self.old.connections }
         ensures held { decoder.new.held ≡ held_on conn self.old.connections }
-        ensures reading { IsDecoding self.old.limits decoder.new }
+        ensures reading { IsDecoding self.old.limits.packets decoder.new }
         ensures limits { self.new.limits ≡ self.old.limits }
         ensures room { self.new.room ≡ self.old.room }
         ensures up_room { self.new.up_room ≡ self.old.up_room }
@@ -416,15 +446,21 @@ impl Connections {
     /// looks only at connections whose alarm rings, except when all alarms are set anew.
     pub(crate) fn late_places(&mut self, alloc: Global, now: u64) -> Result<Vec<usize>, AllocError>
         ensures same { self.new ≡ record self.old { alarms = self.new.alarms } }
-        ensures late { IfOk result (λ places. HasLate now self.old.connections places.items) }
+        ensures late { IfOk result (λ places. HasLate self.old.limits.connect_within now self.old.connections places.items) }
         ensures ascending { IfOk result (λ places. IsNonDecreasing places.items) }
     {
-        find_late(alloc, &self.by_conn, &mut self.alarms, now)
+        find_late(
+            alloc,
+            self.limits.connect_within,
+            &self.by_conn,
+            &mut self.alarms,
+            now,
+        )
     }
 
-    /// Up to this time no connection is late (3.1.2.10).
+    /// Up to this time no connection is late (3.1, 3.1.2.10).
     pub(crate) fn in_time_until(&self) -> u64
-        ensures { (now : ℕ) → now ≤ result → AreInTime now self.now.connections }
+        ensures { (now : ℕ) → now ≤ result → AreInTime self.now.limits.connect_within now self.now.connections }
     {
         self.alarms.quiet_until()
     }

@@ -1,10 +1,10 @@
-//! Closes the connections whose keep-alive has run out (3.1.2.10).
+//! Closes the connections whose keep-alive has run out (3.1.2.10), and those without CONNECT (3.1).
 
 ghost use Rattle.std.specs.Prelude.{◌≡◌, ◌+◌, ◌*◌, ◌≤◌, ◌^◌, [], drop, false, length, max, slice_get, Some, IfOk, IfErr, IfNone, IfSome, OnErr, OnOk};
 ghost use Rattle.std.specs.List.Sorted.{IsNonDecreasing};
 ghost use Rattle.mq_end.specs.KeepAlive.{is_late};
 ghost use Rattle.mq_route.specs.Hub.{knows};
-ghost use Rattle.mq_route.specs.Step.{HubStep, told};
+ghost use Rattle.mq_route.specs.Step.{HubStep, has_passed, told};
 ghost use Rattle.mq_hub.specs.Inside.Connections.{connection_of};
 ghost use Rattle.mq_hub.specs.Deadline.{IsIdleBefore};
 ghost use Rattle.mq_hub.specs.Inside.Tick.{AreInTime, HasLate, TicksTo, late_of};
@@ -26,13 +26,28 @@ fn is_late(last_activity: u64, keep_alive: u16, now: u64) -> bool
     wait > 0 && now > last_activity && now - last_activity > wait
 }
 
-// The name of a connection, if it is late at this time.
-fn late(connection: &Connection, now: u64) -> Option<Conn>
-    ensures { result ≡ late_of now (Some (connection_of connection.now)) }
+// Whether more time than the limit has passed since this time. `None` is no limit.
+fn has_passed(within: Option<u64>, since: u64, now: u64) -> bool
+    ensures { result ≡ has_passed within since now }
+{
+    match within {
+        Some(within) => now > since && now - since > within,
+        None => false,
+    }
+}
+
+// The name of a connection and the reason to close it, if it is late at this time.
+fn late(within: Option<u64>, connection: &Connection, now: u64) -> Option<(Conn, HubClose)>
+    ensures { result ≡ late_of within now (Some (connection_of connection.now)) }
 {
     match &connection.stage {
+        ConnectionState::AwaitingConnect if has_passed(within, connection.since, now) => {
+            Some((connection.conn, HubClose::NoConnect))
+        }
         ConnectionState::ConnectedAs(_, terms, last_activity)
-            if is_late(*last_activity, terms.keep_alive, now) => { Some(connection.conn) }
+            if is_late(*last_activity, terms.keep_alive, now) => {
+            Some((connection.conn, HubClose::Own(CloseReason::KeepAlive)))
+        }
         ConnectionState::AwaitingConnect
         | ConnectionState::ConnectedAs(..)
         | ConnectionState::Closed => None,
@@ -64,21 +79,21 @@ impl<S: FilterStore> HubOver<S> {
         self.clock = self.clock.max(now);
     }
 
-    // The name of the connection at an index, if it is late at this time. No connection behind it
-    // has that name.
-    fn late_at(&self, index: usize, now: u64) -> Option<Conn>
-        ensures late { result ≡ late_of now (slice_get self.now.connections index) }
-        ensures apart { IfSome result (λ conn. knows conn (drop (index + 1) self.now.connections) ≡ false) }
+    // The name of the connection at an index and the reason to close it, if it is late at this
+    // time. No connection behind it has that name.
+    fn late_at(&self, index: usize, within: Option<u64>, now: u64) -> Option<(Conn, HubClose)>
+        ensures late { result ≡ late_of within now (slice_get self.now.connections index) }
+        ensures apart { IfSome result (λ late. knows late.0 (drop (index + 1) self.now.connections) ≡ false) }
     {
         let _ = &self.alloc;
         let connection = self.tables.connections.at(index)?;
-        late(connection, now)
+        late(within, connection, now)
     }
 
     // The indices of the connections that may be late at this time, in ascending order.
     fn late_places(&mut self, now: u64) -> Result<Vec<usize>, AllocError>
         ensures same { self.new ≡ self.old }
-        ensures late { IfOk result (λ places. HasLate now self.old.connections places.items) }
+        ensures late { IfOk result (λ places. HasLate self.old.config.connect_within now self.old.connections places.items) }
         ensures ascending { IfOk result (λ places. IsNonDecreasing places.items) }
     {
         self.tables.connections.late_places(self.alloc, now)
@@ -88,22 +103,23 @@ impl<S: FilterStore> HubOver<S> {
     // indices must be among `places`.
     fn close_late(&mut self, now: u64, places: &[usize], log: &mut ActLog)
         requires none { log.old.acts ≡ [] }
-        requires late { HasLate now self.old.connections places.now }
+        requires late { HasLate self.old.config.connect_within now self.old.connections places.now }
         requires ascending { IsNonDecreasing places.now }
         requires room { 3 * length places.now ≤ log.old.room }
         ensures ticks { TicksTo now self.old self.new log.new.acts }
-        ensures all { AreInTime now self.new.connections }
+        ensures all { AreInTime self.old.config.connect_within now self.new.connections }
     {
+        let within = self.config.connect_within;
         for place in places {
-            let Some(conn) = self.late_at(*place, now) else {
+            let Some((conn, why)) = self.late_at(*place, within, now) else {
                 continue;
             };
-            self.close(conn, HubClose::Own(CloseReason::KeepAlive), log);
+            self.close(conn, why, log);
         }
     }
 
     /// Returns the first time, in milliseconds, at which a `Tick` may close a connection because of
-    /// its keep-alive (3.1.2.10). `None` if no time can.
+    /// its keep-alive (3.1.2.10), or because it sent no CONNECT (3.1). `None` if no time can.
     ///
     /// The result may be too early, because the connection that it is for has sent packets since or
     /// is closed. A `Tick` at that time then closes nothing and moves the result on. Steps change
@@ -115,9 +131,9 @@ impl<S: FilterStore> HubOver<S> {
         self.tables.connections.in_time_until().checked_add(1)
     }
 
-    /// Sets the clock to this time, in milliseconds, and closes each connection whose client sent
-    /// no packet for more than one and a half times its keep-alive (3.1.2.10). Reserves the memory
-    /// for all of these closes before the first one.
+    /// Sets the clock to this time, in milliseconds. Closes each connection whose client sent no
+    /// packet for more than one and a half times its keep-alive (3.1.2.10), and each that sent no
+    /// CONNECT in time (3.1). Reserves the memory for all of these closes before the first one.
     pub(crate) fn on_tick(&mut self, now: u64) -> Result<HubReply, HubRefusal>
         ensures step { IfOk result (λ reply. HubStep self.old (HubEvent.Tick now) reply self.new) }
         ensures memory { IfErr result (λ why. why ≡ HubRefusal.Memory) }

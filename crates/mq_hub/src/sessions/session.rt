@@ -1,6 +1,6 @@
 //! One session.
 
-ghost use Rattle.std.specs.Prelude.{◌≡◌, ℕ, List, [], ◌∷◌, true, IfOk, OnOk};
+ghost use Rattle.std.specs.Prelude.{◌≡◌, ℕ, List, [], ◌∷◌, length, true, IfOk, OnOk};
 ghost use Rattle.mq_end.specs.End.{is_up};
 ghost use Rattle.mq_end.specs.Ready.{HasRise, HasRoom};
 ghost use Rattle.mq_packet.specs.declared.connect.Connect.{Connect};
@@ -8,6 +8,7 @@ ghost use Rattle.mq_packet.specs.declared.message.Message.{Message};
 ghost use Rattle.mq_packet.specs.Publication.{fits_delivery};
 ghost use Rattle.mq_end.specs.Receiving.{told_of};
 ghost use Rattle.mq_hub.specs.Inside.Calls.{IsAllowed, Serves, publish_call};
+ghost use Rattle.mq_hub.specs.Inside.Numbers.{stored_at};
 ghost use Rattle.mq_hub.specs.Inside.Output.{Collects};
 ghost use Rattle.mq_hub.specs.Inside.Close.{parted};
 ghost use Rattle.mq_hub.specs.Inside.Placement.{free_of, published, IsReady, Readies};
@@ -17,7 +18,7 @@ use crate::connect::resume::connect_end;
 use crate::sessions::call::{Call, serve, take_publish};
 use bytes::Bytes;
 use mq_end::{ByteQueue, PacketOutcome, PublishOutcome, PublishRefusal, ServerEnd};
-use mq_flow::next_laws;
+use mq_flow::{Sender, next_laws};
 use mq_packet::{BoxedConnect, Connect, Delivery, Message, encoding_laws};
 use mq_topic::ClientKey;
 use mq_wire::Text;
@@ -202,6 +203,24 @@ pub(crate) fn free_of(end: &ServerEnd) -> usize
         Some(session) => session.sender.left(),
         None => 0,
     }
+}
+
+/// Returns the number of messages that an end stores (4.3); 0 if it has no session.
+pub(crate) fn stored_of(end: &ServerEnd) -> usize
+    ensures { result ≡ stored_at end.now }
+{
+    match end.session() {
+        Some(session) => stored_by(&session.sender),
+        None => 0,
+    }
+}
+
+// The number of messages of a sender: the identifiers in use without those of other packets.
+fn stored_by(sender: &Sender) -> usize
+    ensures { result ≡ length sender.now.book.entries }
+{
+    let used = sender.capacity() as usize - sender.left();
+    used - sender.released() - sender.pending().len()
 }
 
 // Takes the pending output of an end without copying it.

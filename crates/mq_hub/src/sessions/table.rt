@@ -1,6 +1,6 @@
 //! The table of sessions (3.1.2.4, 3.1.3.1).
 
-ghost use Rattle.std.specs.Prelude.{◌≡◌, ◌+◌, ◌≤◌, ◌<◌, ℕ, List, [], ◌∷◌, ◌++◌, true, Some, None, length, map, nat_lt, vec_capacity, if◌then◌else◌, OnOk, OnErr, IfOk, IsSome, IfSome};
+ghost use Rattle.std.specs.Prelude.{◌≡◌, ◌+◌, ◌-◌, ◌^◌, ◌≤◌, ◌<◌, ℕ, List, [], ◌∷◌, ◌++◌, true, Some, None, length, map, min, nat_lt, slice_get, vec_capacity, if◌then◌else◌, OnOk, OnErr, IfOk, IsSome, IfSome};
 ghost use Rattle.std.specs.HashMap.{get, spare};
 ghost use Rattle.std.specs.List.{prefix_len};
 ghost use Rattle.std.specs.Str.{bytes_eq};
@@ -11,6 +11,7 @@ ghost use Rattle.mq_packet.specs.declared.message.Message.{Message};
 ghost use Rattle.mq_packet.specs.Publication.{fits_delivery};
 ghost use Rattle.mq_end.specs.Receiving.{told_of};
 ghost use Rattle.mq_hub.specs.Inside.Calls.{CanServe, ServesAt, publish_call};
+ghost use Rattle.mq_hub.specs.Inside.Numbers.{all_stored};
 ghost use Rattle.mq_hub.specs.Inside.Output.{CollectsAt};
 ghost use Rattle.mq_hub.specs.Inside.Close.{parted};
 ghost use Rattle.mq_hub.specs.Inside.Placement.{free_of, placed_at, AreSameButRoom, AreStillReady, IsReadyAt, ReadiesAt};
@@ -18,7 +19,7 @@ ghost use Rattle.mq_hub.specs.Inside.ConnectRoom.{left, connected_end, HasConnec
 ghost use Rattle.mq_hub.specs.Inside.Sessions.{sessions_of, session_at, with_server, without_key, AreBelow, AreAscending};
 
 use crate::sessions::call::Call;
-use crate::sessions::session::{BoxedSession, BrokerSession, free_of};
+use crate::sessions::session::{BoxedSession, BrokerSession, free_of, stored_of};
 use bytes::Bytes;
 use mq_end::{ByteQueue, PacketOutcome, PublishOutcome, PublishRefusal, ServerEnd};
 use mq_packet::{BoxedConnect, Connect, Delivery, Message};
@@ -194,6 +195,14 @@ impl Sessions {
             Some(session) => free_of(&session.end),
             None => 0,
         }
+    }
+
+    /// Returns the session at an index.
+    pub(crate) fn at(&self, index: usize) -> Option<&BrokerSession>
+        ensures { option_copied result ≡ slice_get self.now.list index }
+    {
+        let boxed = self.list.get(index)?;
+        Some(boxed.session())
     }
 
     pub(crate) fn get(&self, key: ClientKey) -> Option<&BrokerSession>
@@ -479,5 +488,25 @@ impl Sessions {
         ensures { IfOk result (λ names. names.items ≡ map (λ t. t.client) self.now.list) }
     {
         clients_of(alloc, self.list.as_slice())
+    }
+}
+
+// The number of messages that the ends of these sessions store (4.3).
+fn stored_in(list: &[BoxedSession]) -> u64
+    ensures { result ≡ min (all_stored list.now) (2 ^ 64 - 1) }
+{
+    let mut total = 0_u64;
+    for boxed in list {
+        total = total.saturating_add(stored_of(&boxed.session().end) as u64);
+    }
+    total
+}
+
+impl Sessions {
+    /// Returns the number of messages that the sessions store (4.3).
+    pub(crate) fn stored(&self) -> u64
+        ensures { result ≡ min (all_stored self.now.list) (2 ^ 64 - 1) }
+    {
+        stored_in(self.list.as_slice())
     }
 }

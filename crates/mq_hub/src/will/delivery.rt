@@ -35,7 +35,7 @@ impl<S: FilterStore> Tables<S> {
         log: &mut ActLog,
     ) -> Result<bool, AllocError>
         requires hubs { AreHubTables self.old }
-        requires within { publish_size message ≤ self.old.connections.limits.most }
+        requires within { publish_size message ≤ self.old.connections.limits.packets.most }
         ensures goes { result ≡ Ok true → (config : HubConfig) (clock next_key : ℕ) → HubInvariant config next_key self.old → config.when_full ≡ when_full
             → Refines (deliver (Act.Will key message) message) (hub_of config clock next_key self.old) log.old.acts (hub_of config clock next_key self.new) log.new.acts }
         ensures enough { IfOk result (λ enough. (config : HubConfig) (clock next_key : ℕ) → HubInvariant config next_key self.old → config.when_full ≡ when_full

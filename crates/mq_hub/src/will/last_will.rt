@@ -33,7 +33,7 @@ impl<S: FilterStore> Tables<S> {
         log: &mut ActLog,
     ) -> Result<bool, AllocError>
         requires hubs { AreHubTables self.old }
-        requires within { publish_size (will_message will.now) ≤ self.old.connections.limits.most }
+        requires within { publish_size (will_message will.now) ≤ self.old.connections.limits.packets.most }
         ensures goes { result ≡ Ok true → (config : HubConfig) (clock next_key : ℕ) → HubInvariant config next_key self.old → config.when_full ≡ when_full
             → Refines (deliver (Act.Will key (will_message will.now)) (will_message will.now)) (hub_of config clock next_key self.old) log.old.acts
             (hub_of config clock next_key self.new) log.new.acts }
@@ -59,7 +59,7 @@ impl<S: FilterStore> Tables<S> {
         log: &mut ActLog,
     ) -> bool
         requires hubs { AreHubTables self.old }
-        requires within { publish_size (will_message will.now) ≤ self.old.connections.limits.most }
+        requires within { publish_size (will_message will.now) ≤ self.old.connections.limits.packets.most }
         ensures published { result ≡ true → (config : HubConfig) (clock next_key : ℕ) → HubInvariant config next_key self.old → config.when_full ≡ when_full
             → Refines (last_will key (Some will.now) true) (hub_of config clock next_key self.old) log.old.acts
             (hub_of config clock next_key self.new) log.new.acts }
@@ -86,7 +86,7 @@ impl<S: FilterStore> Tables<S> {
         log: &mut ActLog,
     )
         requires hubs { AreHubTables self.old }
-        requires within { publish_size (will_message will.now) ≤ self.old.connections.limits.most }
+        requires within { publish_size (will_message will.now) ≤ self.old.connections.limits.packets.most }
         requires room { 0 < log.old.room }
         ensures goes { (config : HubConfig) (clock next_key : ℕ) → HubInvariant config next_key self.old → config.when_full ≡ when_full
             → (fits : Bool) × Refines (last_will key (Some will.now) fits) (hub_of config clock next_key self.old) log.old.acts
@@ -114,7 +114,7 @@ impl<S: FilterStore> Tables<S> {
         log: &mut ActLog,
     )
         requires hubs { AreHubTables self.old }
-        requires within { IsWillWithin self.old.connections.limits.most will }
+        requires within { IsWillWithin self.old.connections.limits.packets.most will }
         requires room { 0 < log.old.room }
         ensures goes { (config : HubConfig) (clock next_key : ℕ) → HubInvariant config next_key self.old → config.when_full ≡ when_full
             → (fits : Bool) × Refines (last_will key will fits) (hub_of config clock next_key self.old) log.old.acts

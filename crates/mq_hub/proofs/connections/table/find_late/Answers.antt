@@ -5,14 +5,14 @@ use Rattle.mq_hub.proofs.connections.table.find_late.Goals as goal
 
 pub find_named-requires-clause-awaited : goal.find_named-requires-clause-awaited
 find_named-requires-clause-awaited c =
-    awaited_but c.refresh_alarms.new.alarms c.take_ringing.new.self c.in_ok-names.names.items c.args.by_conn.now.entries c.in_ok-names.ensures.others c.refresh_alarms.ensures.awaited
+    awaited_but c.args.within c.refresh_alarms.new.alarms c.take_ringing.new.self c.in_ok-names.names.items c.args.by_conn.now.entries c.in_ok-names.ensures.others c.refresh_alarms.ensures.awaited
 
 pub find_named-requires-clause-late : goal.find_named-requires-clause-late
 find_named-requires-clause-late c =
-    let within : c.args.now ≤ c.take_ringing.new.self.until =
+    let soon : c.args.now ≤ c.take_ringing.new.self.until =
     omega (arith, c.if-until-now.false, c.until.ensures, c.in_ok-names.ensures.until) in
-    late_rang c.args.now c.refresh_alarms.new.alarms c.take_ringing.new.self c.in_ok-names.names.items c.args.by_conn.now.entries c.requires.named c.refresh_alarms.ensures.awaited
-    (λ k. c.in_ok-names.ensures.quiet k within) c.in_ok-names.ensures.others
+    late_rang c.args.within c.args.now c.refresh_alarms.new.alarms c.take_ringing.new.self c.in_ok-names.names.items c.args.by_conn.now.entries c.requires.named c.refresh_alarms.ensures.awaited
+    (λ k. c.in_ok-names.ensures.quiet k soon) c.in_ok-names.ensures.others
 
 pub returns-clause-late : goal.returns-clause-late
 returns-clause-late c = λ i x at late.

@@ -6,8 +6,8 @@ use Rattle.mq_hub.proofs.connections.table.find_named.Given as goal
 
 abbrev pub invariant-loop-conn : goal.invariant-loop-conn
 invariant-loop-conn l = record {
-  awaited : AreAwaitedBut l.names.items l.alarms l.by_conn.entries;
-  late : HasLateBut l.now (connections_of l.by_conn.entries) l.names.items l.places.items;
+  awaited : AreAwaitedBut l.within l.names.items l.alarms l.by_conn.entries;
+  late : HasLateBut l.within l.now (connections_of l.by_conn.entries) l.names.items l.places.items;
 }
 
 abbrev pub decreases-loop-conn : goal.decreases-loop-conn

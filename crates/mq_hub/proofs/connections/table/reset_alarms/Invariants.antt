@@ -8,7 +8,7 @@ use Rattle.mq_hub.proofs.connections.table.reset_alarms.Given as goal
 -- if those to come are awaited, all are
 abbrev pub invariant-loop-boxed : goal.invariant-loop-boxed
 invariant-loop-boxed l = record {
-  awaited : (a : AlarmTable) → RingsWith l.alarms a → AllByRecursion (λ (c : Connection). IsAwaited a c.conn c.stage) l.boxed-iterator
-      → AllByRecursion (λ (c : Connection). IsAwaited a c.conn c.stage) (values l.by_conn);
+  awaited : (a : AlarmTable) → RingsWith l.alarms a → AllByRecursion (λ (c : Connection). IsAwaited l.within a c.conn c.since c.stage) l.boxed-iterator
+      → AllByRecursion (λ (c : Connection). IsAwaited l.within a c.conn c.since c.stage) (values l.by_conn);
   few : length l.alarms.alarms + length l.boxed-iterator ≤ length (values l.by_conn);
 }

@@ -1,11 +1,14 @@
-use Rattle.std.proofs.Common.{◌<◌, ◌≤◌, ◌∙◌, get_or, length, sym, arith}
+use Rattle.std.proofs.Common.{◌<◌, ◌≤◌, ◌∙◌, get_or, length, refl, sym, ap, arith}
 use Rattle.std.proofs.lemmas.List.{get_or_default}
+use Rattle.std.specs.List.{slice_get}
+use Rattle.mq_route.specs.Hub.{HubState}
+use Rattle.mq_hub.specs.Inside.Tick.{late_of}
 use Rattle.mq_hub.proofs.LateWalk.{IsClosing, closing_all, closing_first, closing_last, closing_late, closing_past, none_by}
 use Rattle.mq_hub.proofs.hub.HubOver.close_late.Goals as goal
 
 pub loop-place-init : goal.loop-place-init
 loop-place-init g c = record {
-  closing = closing_first c.args.now c.args.self.now c.args.places.now c.args.log.now.acts c.requires.late c.requires.none;
+  closing = closing_first c.args.self.now.config.connect_within c.args.now c.args.self.now c.args.places.now c.args.log.now.acts c.requires.late c.requires.none;
   room = omega (arith, c.requires.room);
 }
 
@@ -14,11 +17,12 @@ loop-place-preserved-in_default g c =
     let i = c.loop-place.place-index in
     let ps = c.args.places.now in
     let p = get_or ps i 0 in
-    let within : i < length ps = omega (arith, c.loop-place-test.true) in
+    let inside : i < length ps = omega (arith, c.loop-place-test.true) in
     record {
       closing =
-          closing_past c.args.now c.args.self.now ps i c.loop-place.self c.loop-place.log.acts c.loop-place.invariant.closing p within (get_or_default ps i 0 p within)
-          (sym (none_by c.late_at.result (λ k e. c.in_default.not-Some k e)) ∙ c.late_at.ensures.late);
+          closing_past c.args.self.now.config.connect_within c.args.now c.args.self.now ps i c.loop-place.self c.loop-place.log.acts c.loop-place.invariant.closing p inside (get_or_default ps i 0 p inside)
+          (sym (none_by c.late_at.result (λ late e. c.in_default.not-Some late e)) ∙ c.late_at.ensures.late
+          ∙ ap (λ (h : HubState). late_of h.config.connect_within c.args.now (slice_get c.loop-place.self.connections p)) c.self.view_is);
       room = omega (arith, c.loop-place.invariant.room);
     }
 
@@ -27,20 +31,21 @@ loop-place-preserved g c =
     let i = c.loop-place.place-index in
     let ps = c.args.places.now in
     let p = get_or ps i 0 in
-    let within : i < length ps = omega (arith, c.loop-place-test.true) in
+    let inside : i < length ps = omega (arith, c.loop-place-test.true) in
     record {
       closing =
-          closing_late c.args.now c.args.self.now ps i c.loop-place.self c.loop-place.log.acts c.loop-place.invariant.closing p within (get_or_default ps i 0 p within)
-          c.requires.ascending c.in-Some.conn c.in-Some.ensures.late c.close.new.self c.close.new.log.acts c.in-Some.ensures.apart c.close.ensures.goes;
+          closing_late c.args.self.now.config.connect_within c.args.now c.args.self.now ps i c.loop-place.self c.loop-place.log.acts c.loop-place.invariant.closing p inside (get_or_default ps i 0 p inside)
+          c.requires.ascending c.in-Some.conn c.in-Some.why
+          (c.in-Some.ensures.late ∙ ap (λ (h : HubState). late_of h.config.connect_within c.args.now (slice_get c.loop-place.self.connections p)) c.self.view_is) c.close.new.self c.close.new.log.acts c.in-Some.ensures.apart c.close.ensures.goes;
       room = omega (arith, c.loop-place.invariant.room, c.close.ensures.room);
     }
 
 pub returns-clause-ticks : goal.returns-clause-ticks
 returns-clause-ticks g c =
     let past : length c.args.places.now ≤ c.loop-place.place-index = omega (arith, c.loop-place-test.false) in
-    closing_last c.args.now c.args.self.now c.args.places.now c.loop-place.place-index c.loop-place.self c.loop-place.log.acts c.loop-place.invariant.closing past
+    closing_last c.args.self.now.config.connect_within c.args.now c.args.self.now c.args.places.now c.loop-place.place-index c.loop-place.self c.loop-place.log.acts c.loop-place.invariant.closing past refl
 
 pub returns-clause-all : goal.returns-clause-all
 returns-clause-all g c =
     let past : length c.args.places.now ≤ c.loop-place.place-index = omega (arith, c.loop-place-test.false) in
-    closing_all c.args.now c.args.self.now c.args.places.now c.loop-place.place-index c.loop-place.self c.loop-place.log.acts c.loop-place.invariant.closing past
+    closing_all c.args.self.now.config.connect_within c.args.now c.args.self.now c.args.places.now c.loop-place.place-index c.loop-place.self c.loop-place.log.acts c.loop-place.invariant.closing past

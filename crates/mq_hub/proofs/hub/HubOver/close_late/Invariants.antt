@@ -4,6 +4,6 @@ use Rattle.mq_hub.proofs.hub.HubOver.close_late.Given as goal
 
 abbrev pub invariant-loop-place : goal.invariant-loop-place
 invariant-loop-place g l = record {
-  closing : IsClosing l.now l.fn.self l.places l.place-index l.self l.log.acts;
+  closing : IsClosing l.fn.self.config.connect_within l.now l.fn.self l.places l.place-index l.self l.log.acts;
   room : 3 * length l.places ≤ l.log.room + 3 * l.place-index;
 }

@@ -1,6 +1,7 @@
-use Rattle.std.proofs.Common.{◌≡◌, ◌∙◌, ℕ, List, refl, sym, ap, subst}
+use Rattle.std.proofs.Common.{◌≡◌, ◌∙◌, ℕ, List, Option, refl, sym, ap, subst}
 use Rattle.mq_route.specs.declared.config.HubConfig.{HubConfig}
 use Rattle.mq_route.specs.Hub.{HubState, HubConnection}
+use Rattle.mq_hub.specs.declared.connections.table.ConnectionLimits.{ConnectionLimits}
 use Rattle.mq_hub.specs.Inside.Connections.{ConnectionList}
 use Rattle.mq_hub.specs.Inside.Invariant.{HubInvariant}
 use Rattle.mq_hub.specs.Inside.Tick.{HasLate}
@@ -50,7 +51,8 @@ returns-clause-late g c =
     let t = c.self.inside.tables in
     if_ok_by c.late_places.result
     (λ places all.
-    subst (λ (h : HubState). HasLate c.args.now h.connections places.items) c.self.view_is
-    (late_seen c.args.now t.sessions.list t.connections.connections places.items
-    (subst (λ (xs : List HubConnection). HasLate c.args.now xs places.items) (λ i. (c.self-inside.view_is i).tables.connections.connections) all)))
+    subst (λ (h : HubState). HasLate h.config.connect_within c.args.now h.connections places.items) c.self.view_is
+    (late_seen c.self.inside.config.connect_within c.args.now t.sessions.list t.connections.connections places.items
+    (subst (λ (within : Option ℕ). HasLate within c.args.now t.connections.connections places.items) (ap (λ (l : ConnectionLimits). l.connect_within) c.self.invariant.limits)
+    (subst (λ (l : ConnectionList). HasLate l.limits.connect_within c.args.now l.connections places.items) (λ i. (c.self-inside.view_is i).tables.connections) all))))
     c.late_places.ensures.late

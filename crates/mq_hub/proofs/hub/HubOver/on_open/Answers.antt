@@ -16,7 +16,7 @@ pub invariant_of-self : goal.invariant_of-self
 invariant_of-self g c =
     let h = c.self.inside in
     let u : HubTables = c.open.new.self in
-    let x : HubConnection = record { conn = c.args.conn; stage = AwaitingConnect; held = []; waiting = [] } in
+    let x : HubConnection = record { conn = c.args.conn; stage = AwaitingConnect; held = []; waiting = []; since = h.clock } in
     let none : knows c.args.conn h.tables.connections.connections ≡ false =
     sym (knows_seen c.args.conn h.tables.sessions.list h.tables.connections.connections) ∙ ap (λ (s : HubState). knows c.args.conn s.connections) c.self.view_is ∙ c.requires in
     let rest = c.open.ensures.rest in

@@ -1,5 +1,5 @@
 use Rattle.std.proofs.Common.{◌<◌, ◌^◌, ◌∙◌, Bool, Option, sym, ap, subst}
-use Rattle.mq_decode.specs.Limits.{Bounds}
+use Rattle.mq_hub.specs.declared.connections.table.ConnectionLimits.{ConnectionLimits}
 use Rattle.mq_packet.specs.declared.connect.Will.{Will}
 use Rattle.mq_route.specs.declared.close.HubClose.TheVariants.{TakenOver}
 use Rattle.mq_route.specs.Hub.{up_on}
@@ -38,6 +38,6 @@ pub returns-clause-connect_end : goal.returns-clause-connect_end
 returns-clause-connect_end g c = λ connect small h.
     let key = c.args.key in
     let first = c.leave_with-will.ensures in
-    c.last_will.ensures.connect_end.connect_end connect key (subst (λ (l : Bounds). l.most < 2 ^ 28) (sym first.limits) small) first.away
+    c.last_will.ensures.connect_end.connect_end connect key (subst (λ (l : ConnectionLimits). l.packets.most < 2 ^ 28) (sym first.limits) small) first.away
     (subst (λ (o : Option Will). HasConnectRoomAt connect key (will_messages o) 0 c.leave_with-will.new.self.sessions.list) (sym first.will)
     (first.connect_end connect (will_messages _) h))

@@ -12,4 +12,5 @@ loop-preserved g c =
       came = c.write.ensures.came ∙ before.came;
       unread = before.unread;
       broken = before.broken;
+      finished = before.finished;
     }

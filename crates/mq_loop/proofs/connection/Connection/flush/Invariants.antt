@@ -8,4 +8,5 @@ invariant-loop g l = record {
   came : g.S.Socket.came l.self-inside.socket ≡ g.S.Socket.came l.initial.self-inside.socket;
   unread : l.self-inside.unread ≡ l.initial.self-inside.unread;
   broken : l.self-inside.is_broken ≡ l.initial.self-inside.is_broken;
+  finished : l.self-inside.is_finished ≡ l.initial.self-inside.is_finished;
 }

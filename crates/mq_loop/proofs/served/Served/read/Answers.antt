@@ -1,46 +1,47 @@
-use Rattle.std.proofs.Common.{sym, ◌∙◌, arith}
-use Rattle.mq_loop.proofs.CarriedBytes.{all_served, line_here, no_bytes, none_lost_served, none_served, rest_served, unread_step_served}
+use Rattle.std.proofs.Common.{take, length-take, sym, subst, ◌∙◌, arith}
+use Rattle.mq_route.specs.declared.event.HubEvent.TheVariants.{Bytes}
+use Rattle.mq_route.specs.Step.{HubStep}
+use Rattle.mq_loop.specs.Accounts.{ServedState, name_at}
+use Rattle.mq_loop.proofs.CarriedBytes.{line_here, no_bytes, none_lost_served, rest_served, unread_step_served}
 use Rattle.mq_loop.proofs.served.Served.read.Goals as goal
-use Rattle.mq_loop.proofs.served.Served.read.Goals.{in-Some-take_some, in-None, in-Some-take_some-2, then-used-count, else-used-count, in-None-take_some}
 
 pub invariant_of-self-then-not-is_empty : goal.invariant_of-self-then-not-is_empty
 invariant_of-self-then-not-is_empty g c =
     let s = c.self.inside in
     let lines = s.connections.items in
+    let r = c.in-Some-take_some in
     let is = line_here lines c.args.place c.index_mut.result.now (omega arith) c.index_mut.ensures.value ∙ c.in-Some.is in
-    elim c.match-take_some.branch [
-      | in-Some-take_some w ↦
-          rw w.self-inside-is (unread_step_served s.base.value s.hub c.take_some.new.hub lines c.args.place c.in-Some.connection w.skip_unread.new.self
-          c.unread-then-not-is_empty.result.now w.in-Some-take_some.used w.in-Some-take_some.reply c.self.invariant w.in-Some-take_some.ensures.step
-          c.unread-then-not-is_empty.ensures (omega arith) is w.skip_unread.ensures)
-      | in-None w ↦
-          rw w.self-inside-is (none_served s.base.value s.hub c.take_some.new.hub lines c.args.place c.in-Some.connection c.self.invariant
-          w.in-None.ensures.none (omega arith) is)
-    ]
+    unread_step_served s.base.value s.hub c.take_some.new.hub lines c.args.place c.in-Some.connection c.skip_unread.new.self c.unread-then-not-is_empty.result.now r.used r.reply
+    c.self.invariant r.ensures.step c.unread-then-not-is_empty.ensures (omega arith) is c.skip_unread.ensures
+
+pub returns-then-not-is_empty-clause-step : goal.returns-then-not-is_empty-clause-step
+returns-then-not-is_empty-clause-step g c =
+    let r = c.in-Some-take_some in
+    let bytes = take r.used c.unread-then-not-is_empty.result.now in
+    (bytes, subst (λ (v : ServedState). HubStep v.hub (Bytes (name_at c.args.place) bytes) r.reply c.take_some.new.hub) c.self.view_is r.ensures.step)
+
+pub invariant_of-self-in_default-take_some-2 : goal.invariant_of-self-in_default-take_some-2
+invariant_of-self-in_default-take_some-2 g c =
+    let s = c.self.inside in
+    let lines = s.connections.items in
+    let is = line_here lines c.args.place c.index_mut.result.now (omega arith) c.index_mut.ensures.value ∙ c.in-Some.is in
+    none_lost_served s.base.value s.hub c.take_some-2.new.hub lines c.args.place c.in-Some.connection c.read.new.self c.mark_broken.new.self c.self.invariant
+    c.in_default-take_some-2.ensures.none (omega arith) is c.read.ensures.rest c.mark_broken.ensures
 
 pub invariant_of-self-2 : goal.invariant_of-self-2
 invariant_of-self-2 g c =
     let s = c.self.inside in
     let lines = s.connections.items in
-    let place = c.args.place in
-    let old = c.in-Some.connection in
-    let mid = c.read.new.self in
+    let r = c.in-Some-take_some-2 in
+    let count = c.in-Bytes.count in
     let buffer = c.read.new.buffer in
-    let hub = c.take_some-2.new.hub in
-    let is = line_here lines place c.index_mut.result.now (omega arith) c.index_mut.ensures.value ∙ c.in-Some.is in
+    let is = line_here lines c.args.place c.index_mut.result.now (omega arith) c.index_mut.ensures.value ∙ c.in-Some.is in
     let empty = sym c.unread.ensures ∙ no_bytes c.unread.result.now c.if-not-is_empty.ensures in
-    elim c.match-take_some-2.branch [
-      | in-Some-take_some-2 w ↦
-          let r = w.in-Some-take_some-2 in
-          elim w.if-used-count.branch [
-            | then-used-count v ↦
-                rw (w.self-inside-is, v.self-inside-is) (rest_served s.base.value s.hub hub lines place old mid v.keep_unread.new.self buffer r.used c.in-Bytes.count r.reply c.self.invariant
-                r.ensures.step (omega arith) is empty c.in-Bytes.ensures.came.1 c.read.ensures.rest (omega arith) v.keep_unread.ensures)
-            | else-used-count v ↦
-                rw (w.self-inside-is, v.self-inside-is) (all_served s.base.value s.hub hub lines place old mid buffer r.used c.in-Bytes.count r.reply c.self.invariant
-                r.ensures.step (omega arith) is empty c.in-Bytes.ensures.came.1 c.read.ensures.rest (omega arith))
-          ]
-      | in-None-take_some w ↦
-          rw w.self-inside-is (none_lost_served s.base.value s.hub hub lines place old mid w.mark_broken.new.self c.self.invariant
-          w.in-None-take_some.ensures.none (omega arith) is c.read.ensures.rest w.mark_broken.ensures)
-    ]
+    rest_served s.base.value s.hub c.take_some-2.new.hub lines c.args.place c.in-Some.connection c.read.new.self c.keep_unread.new.self buffer r.used count r.reply c.self.invariant
+    r.ensures.step (omega arith) is empty c.in-Bytes.ensures.came.1 c.read.ensures.rest (omega (arith, r.ensures.within, length-take count buffer)) c.keep_unread.ensures
+
+pub returns-clause-step : goal.returns-clause-step
+returns-clause-step g c =
+    let r = c.in-Some-take_some-2 in
+    let bytes = take r.used (take c.in-Bytes.count c.read.new.buffer) in
+    (bytes, subst (λ (v : ServedState). HubStep v.hub (Bytes (name_at c.args.place) bytes) r.reply c.take_some-2.new.hub) c.self.view_is r.ensures.step)

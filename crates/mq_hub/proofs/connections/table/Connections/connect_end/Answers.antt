@@ -36,7 +36,7 @@ invariant_of-self-2 c =
     let says = c.connect_end.ensures in
     let alarms = c.set.new.self in
     let next = service c.self.inside.limits alarms in
-    let rings = still_all_awaited by.alarms alarms es c.set.ensures.keeps (awaited_of by es c.self.invariant.served) in
+    let rings = still_all_awaited by.within by.alarms alarms es c.set.ensures.keeps (awaited_of by es c.self.invariant.served) in
     let kept = kept_anew by alarms es (get eqb ups) (hash_map_len ups) rings c.self.invariant in
     let name : k ≡ w.conn = found_name k es own (are_named by es c.self.invariant.served) there ∙ sym (ap (λ (x : Connection). x.conn) says) in
     let read = served_at by k es own c.self.invariant.served there in
@@ -45,7 +45,7 @@ invariant_of-self-2 c =
     ∙ ap (λ (v : ConnectionList). stage_of k v.connections) c.self.view_is ∙ c.requires.stage in
     subst (λ (rs : List Entry). AreConnections next rs (get eqb new) (hash_map_len new)) (sym (c.get_mut.follows.holds w).0)
     (kept_rise next k c.args.key es own w (get eqb ups) (get eqb new) (hash_map_len ups) (hash_map_len new) kept there (ap (λ (x : Connection). x.conn) says)
-    (same_decoding by.bounds own.decoder w.decoder (ap (λ (x : Connection). x.decoder) says) read.0, subst (λ (n : Conn). IsAwaited alarms n w.stage) name (alarm_awaited alarms k c.last_in_time.result w.stage c.set.ensures.rings c.last_in_time.ensures))
+    (same_decoding by.bounds own.decoder w.decoder (ap (λ (x : Connection). x.decoder) says) read.0, subst (λ (n : Conn). IsAwaited by.within alarms n w.since w.stage) name (alarm_awaited by.within alarms k c.last_in_time.result w.since w.stage c.set.ensures.rings c.last_in_time.ensures))
     (ap key_on fresh) (ap (λ (x : Connection). key_on x.stage) says)
     (sym (up_is c.args.key es) ∙ ap (λ (v : ConnectionList). up_on c.args.key v.connections) c.self.view_is ∙ c.requires.client)
     c.add_connected.ensures.found c.add_connected.ensures.len)

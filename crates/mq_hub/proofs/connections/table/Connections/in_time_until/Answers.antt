@@ -6,7 +6,7 @@ use Rattle.mq_hub.proofs.RingTimes.{quiet_in_time}
 use Rattle.mq_hub.proofs.connections.table.Connections.in_time_until.Goals as goal
 
 pub returns : goal.returns
-returns c = λ now within.
-    subst (λ (v : ConnectionList). AreInTime now v.connections) c.self.view_is
-    (quiet_in_time c.self.inside.alarms now c.self.inside.by_conn.entries (λ k. c.quiet_until.ensures k now within)
+returns c = λ now soon.
+    subst (λ (v : ConnectionList). AreInTime v.limits.connect_within now v.connections) c.self.view_is
+    (quiet_in_time c.self.inside.limits.connect_within c.self.inside.alarms now c.self.inside.by_conn.entries (λ k. c.quiet_until.ensures k now soon)
     (awaited_of (service c.self.inside.limits c.self.inside.alarms) c.self.inside.by_conn.entries c.self.invariant.served))

@@ -1,17 +1,16 @@
-use Rattle.std.proofs.Common.{refl, ◌≡◌, ◌∙◌, ◌<◌, ◌++◌, ◌∷◌, [], List, ℕ, None, eqb, sym, ap, subst}
+use Rattle.std.proofs.Common.{◌≡◌, ◌∙◌, ◌<◌, ◌++◌, ◌∷◌, [], List, ℕ, None, eqb, sym, ap, subst}
 use Rattle.std.specs.HashMap.{get, hash_map_len, spare}
 use Rattle.indexmap.specs.IndexMap.{insert_entry}
 use Rattle.indexmap.proofs.CallerLemmas.{insert_entry-new}
 use Rattle.std.specs.List.{IsDistinct}
 use Rattle.std.specs.Map.{keys_of, lookup}
 use Rattle.mq_decode.specs.Limits.{Bounds}
-use Rattle.mq_route.specs.declared.connection_state.ConnectionState.TheVariants.{AwaitingConnect}
 use Rattle.mq_route.specs.Routed.{same_conn}
 use Rattle.mq_route.specs.Hub.{knows}
 use Rattle.mq_hub.specs.declared.connections.connection.Connection.{Connection}
 use Rattle.mq_hub.specs.Inside.Connections.{service, ConnectionList, connections_of, connection_of, AreConnections, IsReading}
-use Rattle.mq_hub.proofs.RingTimes.{never_late}
-use Rattle.mq_hub.proofs.ConnectionTable.{Entry, are_named, known, kept_last, lines_last, not_some}
+use Rattle.mq_hub.proofs.RingTimes.{still_all_awaited}
+use Rattle.mq_hub.proofs.ConnectionTable.{Entry, are_named, awaited_of, kept_anew, known, kept_last, lines_last, not_some}
 use Rattle.mq_hub.proofs.RetainedEntries.{entries_in}
 use Rattle.mq_hub.proofs.connections.table.Connections.open.Goals as goal
 
@@ -34,10 +33,14 @@ invariant_of-self c =
     let by = service c.self.inside.limits c.self.inside.alarms in
     let es = c.self.inside.by_conn.entries in
     let ups = c.self.inside.ups in
-    let bounds = ap (λ (v : ConnectionList). v.limits) c.self.view_is in
-    subst (λ (rs : List Entry). AreConnections by rs (get eqb ups) (hash_map_len ups)) (sym (last c))
-    (kept_last by c.args.boxed es (get eqb ups) (hash_map_len ups) c.self.invariant c.requires.stage
-    (subst (λ (l : Bounds). IsReading l c.args.boxed) (sym bounds) c.requires.reading, never_late by.alarms c.args.boxed.conn c.args.boxed.stage AwaitingConnect c.requires.stage (λ now. refl))
+    let bounds = ap (λ (v : ConnectionList). v.limits.packets) c.self.view_is in
+    let alarms = c.set_connect_alarm.new.alarms in
+    let next = service c.self.inside.limits alarms in
+    let rings = still_all_awaited by.within by.alarms alarms es c.set_connect_alarm.ensures.keeps (awaited_of by es c.self.invariant.served) in
+    let kept = kept_anew by alarms es (get eqb ups) (hash_map_len ups) rings c.self.invariant in
+    subst (λ (rs : List Entry). AreConnections next rs (get eqb ups) (hash_map_len ups)) (sym (last c))
+    (kept_last next c.args.boxed es (get eqb ups) (hash_map_len ups) kept c.requires.stage
+    (subst (λ (l : Bounds). IsReading l c.args.boxed) (sym bounds) c.requires.reading, c.set_connect_alarm.ensures.awaited)
     (subst (λ (rs : List Entry). IsDistinct same_conn (keys_of rs)) (last c) c.insert.ensures.unique))
 
 pub returns-clause-connections : goal.returns-clause-connections

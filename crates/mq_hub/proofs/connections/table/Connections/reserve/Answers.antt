@@ -7,7 +7,7 @@ use Rattle.mq_hub.proofs.connections.table.Connections.reserve.Goals as goal
 
 pub refresh_alarms-requires : goal.refresh_alarms-requires
 refresh_alarms-requires c =
-    subst (λ (es : List Entry). AreAwaited c.self.inside.alarms es) (sym c.in_ok-reserve.ensures.entries)
+    subst (λ (es : List Entry). AreAwaited c.self.inside.limits.connect_within c.self.inside.alarms es) (sym c.in_ok-reserve.ensures.entries)
     (awaited_of (service c.self.inside.limits c.self.inside.alarms) c.self.inside.by_conn.entries c.self.invariant.served)
 
 pub invariant_of-self-2 : goal.invariant_of-self-2

@@ -35,7 +35,7 @@ invariant_of-self-in-Some-up c =
     let read = served_at by k es own c.self.invariant.served there in
     subst (λ (rs : List Entry). AreConnections by rs (get eqb new) (hash_map_len new)) (sym (c.get_mut.follows.holds w).0)
     (kept_shut by k c.in-Some-up.key es own w (get eqb ups) (get eqb new) (hash_map_len ups) (hash_map_len new) c.self.invariant there
-    (ap (λ (x : HubConnection). x.conn) c.shut-stage.ensures.line) (empty_decoding by.bounds w.decoder (c.shut-stage.ensures.limit ∙ read.0.0) c.shut-stage.ensures.failed (ap (λ (x : HubConnection). x.held) c.shut-stage.ensures.line), never_late by.alarms w.conn w.stage Closed (ap (λ (x : HubConnection). x.stage) c.shut-stage.ensures.line) (λ now. refl))
+    (ap (λ (x : HubConnection). x.conn) c.shut-stage.ensures.line) (empty_decoding by.bounds w.decoder (c.shut-stage.ensures.limit ∙ read.0.0) c.shut-stage.ensures.failed (ap (λ (x : HubConnection). x.held) c.shut-stage.ensures.line), never_late by.within by.alarms w.conn w.since w.stage Closed (ap (λ (x : HubConnection). x.stage) c.shut-stage.ensures.line) (λ now. refl))
     (sym c.key-up.ensures ∙ c.in-Some-up.is) (ap (λ (x : HubConnection). key_on x.stage) c.shut-stage.ensures.line) c.remove_connected.ensures.found c.remove_connected.ensures.len)
 
 pub invariant_of-self-in_default-up : goal.invariant_of-self-in_default-up
@@ -50,7 +50,7 @@ invariant_of-self-in_default-up c =
     let read = served_at by k es own c.self.invariant.served there in
     subst (λ (rs : List Entry). AreConnections by rs (get eqb ups) (hash_map_len ups)) (sym (c.get_mut.follows.holds w).0)
     (kept_same by k es own w (get eqb ups) (hash_map_len ups) c.self.invariant there (ap (λ (x : HubConnection). x.conn) c.shut-stage.ensures.line)
-    (empty_decoding by.bounds w.decoder (c.shut-stage.ensures.limit ∙ read.0.0) c.shut-stage.ensures.failed (ap (λ (x : HubConnection). x.held) c.shut-stage.ensures.line), never_late by.alarms w.conn w.stage Closed (ap (λ (x : HubConnection). x.stage) c.shut-stage.ensures.line) (λ now. refl))
+    (empty_decoding by.bounds w.decoder (c.shut-stage.ensures.limit ∙ read.0.0) c.shut-stage.ensures.failed (ap (λ (x : HubConnection). x.held) c.shut-stage.ensures.line), never_late by.within by.alarms w.conn w.since w.stage Closed (ap (λ (x : HubConnection). x.stage) c.shut-stage.ensures.line) (λ now. refl))
     (ap (λ (x : HubConnection). key_on x.stage) c.shut-stage.ensures.line ∙ sym c.in_default-up.is ∙ c.key-up.ensures))
 
 pub returns-in-Some-up-clause-connections : goal.returns-in-Some-up-clause-connections

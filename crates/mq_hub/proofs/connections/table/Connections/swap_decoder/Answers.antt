@@ -32,11 +32,11 @@ invariant_of-self-2 c =
     let own = c.in-Some.boxed.now in
     let w = c.swap_decoder.new.self in
     let there = sym c.in-Some.ensures.value in
-    let bounds = ap (λ (v : ConnectionList). v.limits) c.self.view_is in
+    let bounds = ap (λ (v : ConnectionList). v.limits.packets) c.self.view_is in
     let says = c.swap_decoder.ensures.own in
     subst (λ (rs : List Entry). AreConnections by rs (get eqb ups) (hash_map_len ups)) (sym (c.get_mut.follows.holds w).0)
     (kept_same by c.args.conn es own w (get eqb ups) (hash_map_len ups) c.self.invariant there (ap (λ (x : Connection). x.conn) says)
-    (same_decoding by.bounds c.args.decoder.now w.decoder (ap (λ (x : Connection). x.decoder) says) (subst (λ (l : Bounds). IsDecoding l c.args.decoder.now) (sym bounds) c.requires.reading), same_awaited by.alarms own w (ap (λ (x : Connection). x.conn) says) (ap (λ (x : Connection). x.stage) says) (served_at by c.args.conn es own c.self.invariant.served there).1)
+    (same_decoding by.bounds c.args.decoder.now w.decoder (ap (λ (x : Connection). x.decoder) says) (subst (λ (l : Bounds). IsDecoding l c.args.decoder.now) (sym bounds) c.requires.reading), same_awaited by.within by.alarms own w (ap (λ (x : Connection). x.conn) says) (ap (λ (x : Connection). x.since) says) (ap (λ (x : Connection). x.stage) says) (served_at by c.args.conn es own c.self.invariant.served there).1)
     (ap (λ (x : Connection). key_on x.stage) says))
 
 pub returns-clause-connections : goal.returns-clause-connections
@@ -59,5 +59,5 @@ pub returns-clause-reading : goal.returns-clause-reading
 returns-clause-reading c =
     let own = c.in-Some.boxed.now in
     let read = served_at (service c.self.inside.limits c.self.inside.alarms) c.args.conn c.self.inside.by_conn.entries own c.self.invariant.served (sym c.in-Some.ensures.value) in
-    subst (λ (l : Bounds). IsDecoding l c.swap_decoder.new.decoder) (ap (λ (v : ConnectionList). v.limits) c.self.view_is)
-    (same_decoding c.self.inside.limits own.decoder c.swap_decoder.new.decoder c.swap_decoder.ensures.other read.0)
+    subst (λ (l : Bounds). IsDecoding l c.swap_decoder.new.decoder) (ap (λ (v : ConnectionList). v.limits.packets) c.self.view_is)
+    (same_decoding c.self.inside.limits.packets own.decoder c.swap_decoder.new.decoder c.swap_decoder.ensures.other read.0)

@@ -34,7 +34,7 @@ invariant_of-self-2 c =
     let read = served_at by c.args.conn es own c.self.invariant.served there in
     subst (λ (rs : List Entry). AreConnections by rs (get eqb ups) (hash_map_len ups)) (sym (c.get_mut.follows.holds w).0)
     (kept_same by c.args.conn es own w (get eqb ups) (hash_map_len ups) c.self.invariant there (ap (λ (x : Connection). x.conn) says)
-    (same_decoding by.bounds own.decoder w.decoder (ap (λ (x : Connection). x.decoder) says) read.0, same_awaited by.alarms own w (ap (λ (x : Connection). x.conn) says) (ap (λ (x : Connection). x.stage) says) read.1)
+    (same_decoding by.bounds own.decoder w.decoder (ap (λ (x : Connection). x.decoder) says) read.0, same_awaited by.within by.alarms own w (ap (λ (x : Connection). x.conn) says) (ap (λ (x : Connection). x.since) says) (ap (λ (x : Connection). x.stage) says) read.1)
     (ap (λ (x : Connection). key_on x.stage) says))
 
 pub returns-clause-connections : goal.returns-clause-connections

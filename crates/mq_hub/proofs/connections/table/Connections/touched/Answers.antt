@@ -46,7 +46,7 @@ invariant_of-self-then-is_earlier c =
     let there = own_at k c.in-Some.index es own c.self.invariant.distinct c.in-Some.ensures.some c.in-Some-get_index_mut.ensures.value in
     let alarms = c.set.new.self in
     let next = service c.self.inside.limits alarms in
-    let rings = still_all_awaited by.alarms alarms es c.set.ensures.keeps (awaited_of by es c.self.invariant.served) in
+    let rings = still_all_awaited by.within by.alarms alarms es c.set.ensures.keeps (awaited_of by es c.self.invariant.served) in
     let kept = kept_anew by alarms es (get eqb ups) (hash_map_len ups) rings c.self.invariant in
     let read = served_at by k es own c.self.invariant.served there in
     let name : k ≡ w.conn = found_name k es own (are_named by es c.self.invariant.served) there ∙ sym (ap (λ (x : Connection). x.conn) c.touched.ensures) in
@@ -54,7 +54,7 @@ invariant_of-self-then-is_earlier c =
     (sym (set_at k c.in-Some.index es w c.self.invariant.distinct c.in-Some.ensures.some))
     (kept_same next k es own w (get eqb ups) (hash_map_len ups) kept there (ap (λ (x : Connection). x.conn) c.touched.ensures) (
       same_decoding by.bounds own.decoder w.decoder (ap (λ (x : Connection). x.decoder) c.touched.ensures) read.0,
-      subst (λ (n : Conn). IsAwaited alarms n w.stage) name (alarm_awaited alarms k c.last_in_time.result w.stage c.set.ensures.rings c.last_in_time.ensures),
+      subst (λ (n : Conn). IsAwaited by.within alarms n w.since w.stage) name (alarm_awaited by.within alarms k c.last_in_time.result w.since w.stage c.set.ensures.rings c.last_in_time.ensures),
     )
     (ap (λ (x : Connection). key_on x.stage) c.touched.ensures ∙ heard_key c.args.now own.stage))
 
@@ -73,7 +73,8 @@ invariant_of-self-else-is_earlier c =
     (sym (set_at k c.in-Some.index es w c.self.invariant.distinct c.in-Some.ensures.some))
     (kept_same by k es own w (get eqb ups) (hash_map_len ups) c.self.invariant there conn (
       same_decoding by.bounds own.decoder w.decoder (ap (λ (x : Connection). x.decoder) c.touched.ensures) read.0,
-      heard_awaited by.alarms own w c.args.now conn (ap (λ (x : Connection). x.stage) c.touched.ensures) (c.is_active_after-is_earlier.ensures c.if-is_earlier.false) read.1,
+      heard_awaited by.within by.alarms own w c.args.now conn (ap (λ (x : Connection). x.since) c.touched.ensures) (ap (λ (x : Connection). x.stage) c.touched.ensures)
+          (c.is_active_after-is_earlier.ensures c.if-is_earlier.false by.within) read.1,
     )
     (ap (λ (x : Connection). key_on x.stage) c.touched.ensures ∙ heard_key c.args.now own.stage))
 

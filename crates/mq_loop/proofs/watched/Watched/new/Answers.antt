@@ -1,0 +1,9 @@
+use Rattle.std.proofs.Common.{nat_eq}
+use Rattle.std.specs.HashMap.{get}
+use Rattle.mq_loop.proofs.Watching.{new_watched}
+use Rattle.mq_loop.proofs.watched.Watched.new.Goals as goal
+
+pub invariant_of-result : goal.invariant_of-result
+invariant_of-result g c =
+    rw (c.new.ensures, c.new-2.ensures.marked, c.new-2.ensures.over)
+    (new_watched c.args.hub (get nat_eq c.new-2.result.clients) c.requires)

@@ -1,0 +1,24 @@
+use Rattle.std.proofs.Common.{false, [], nat_eq}
+use Rattle.std.specs.HashMap.{get}
+use Rattle.mq_loop.specs.Accounts.{Line}
+use Rattle.mq_loop.proofs.Watching.{open_watched}
+use Rattle.mq_loop.proofs.watched.Watched.open.Goals as goal
+
+pub invariant_of-self : goal.invariant_of-self
+invariant_of-self g c =
+    let s = c.self.inside in
+    let e = c.in-Ok.ensures in
+    let n = c.note.new.self in
+    let noted = rw c.as_slice.ensures at c.note.ensures.noted in
+    let line : Line = record {
+      came = g.S.Socket.came c.args.socket;
+      went = g.S.Socket.went c.args.socket;
+      unread = [];
+      kept = [];
+      broken = false;
+      full = g.S.Socket.full c.args.socket;
+      finished = false;
+    } in
+    rw (c.sit.ensures.clients, c.put.ensures, c.sit.ensures.marked, c.sit.ensures.over)
+    (open_watched c.client_laws.ensures c.output_laws.ensures s.served c.open.new.self c.args.place line c.in-Ok.reply (get nat_eq s.notes.clients) (get nat_eq n.clients)
+    s.notes.marked s.notes.over n.marked n.over c.self.invariant c.laws.ensures e.same e.line e.step noted)

@@ -1,0 +1,15 @@
+-- Sets of places.
+use Rattle.std.specs.Prelude.{◌≡◌, ℕ, Bool, true, false, List, nat_eq, slice_index_or}
+use Rattle.std.specs.List.{count_by, list_any}
+
+-- the place is in the set
+abbrev pub is_in : ℕ → List Bool → Bool
+is_in place flags = slice_index_or flags place false
+
+-- the number of places in the set
+abbrev pub count_in : List Bool → ℕ
+count_in flags = count_by (λ flag. flag) flags
+
+-- the list names each place of the set
+abbrev pub AreListed : List Bool → List ℕ → Type 0
+AreListed flags listed = (place : ℕ) → is_in place flags ≡ true → list_any (nat_eq place) listed ≡ true

@@ -1,0 +1,206 @@
+-- The end of a round: which connections have pending output, and which must be ended (4.6).
+use Rattle.std.specs.Prelude.{◌≡◌, ◌⊎◌, ℕ, suc, ◌+◌, ◌*◌, ◌<◌, ◌≤◌, ◌==◌, ◌||◌, Bool, true, false, List, [], ◌++◌, length, Option, Some, None, IfSome, is_some}
+use Rattle.std.specs.List.{count_by, list_any}
+use Rattle.mq_route.specs.declared.act.Act.{Act}
+use Rattle.mq_route.specs.declared.act.Act.TheVariants as acts
+use Rattle.mq_route.specs.declared.config.HubConfig.{HubConfig}
+use Rattle.mq_route.specs.declared.event.HubEvent.TheVariants.{Bytes, Collect}
+use Rattle.mq_route.specs.declared.reply.HubReply.{HubReply}
+use Rattle.mq_route.specs.Hub.{HubState, new_hub, is_for, stage_of, waiting_on}
+use Rattle.mq_route.specs.Routed.{seen}
+use Rattle.mq_route.specs.Runs.{Episode, Follows}
+use Rattle.mq_route.specs.Step.{HubStep}
+use Rattle.mq_loop.specs.declared.connection.Flushed.{Flushed}
+use Rattle.mq_loop.specs.declared.connection.Flushed.TheVariants.{All, Blocked, Failed}
+use Rattle.mq_loop.specs.declared.served.Given.{Given}
+use Rattle.mq_loop.specs.declared.served.Given.TheVariants.{Written, Full, Finished}
+use Rattle.mq_loop.specs.declared.served.Heard.{Heard}
+use Rattle.mq_loop.specs.declared.served.Heard.TheVariants.{Step, Nothing, Over}
+use Rattle.mq_loop.specs.Accounts.{Line, ServedState, line_at, name_at}
+use Rattle.mq_loop.specs.Places.{count_in, is_in}
+
+-- ---- brokers
+
+-- The broker was reached by steps from a new one.
+pub record IsReached (hub : HubState) : Type 0 where
+  pub config : HubConfig
+  pub before : List Episode
+  pub follows : Follows (new_hub config) before hub
+
+-- ---- output
+
+-- The output that is kept for a connection, whether its socket takes no byte now, and whether the
+-- connection must be ended: nothing more comes from its socket, it failed, or bytes are lost.
+pub record Output : Type 0 where
+  pub kept : List ℕ
+  pub full : Bool
+  pub finished : Bool
+
+-- the output of the connection at a place
+abbrev pub output_of : Option Line → Option Output
+output_of None = None
+output_of (Some line) = Some record { kept = line.kept; full = line.full; finished = line.broken || line.finished }
+
+abbrev pub output_at : ℕ → List (Option Line) → Option Output
+output_at place lines = output_of (line_at place lines)
+
+-- The connection need not be ended, and nothing is pending for it, at the broker or here, unless
+-- its socket takes no byte.
+abbrev pub IsWritten : List ℕ → Output → Type 0
+IsWritten waiting output = (output.finished ≡ false) × ((output.full ≡ true) ⊎ ((waiting ≡ []) × (output.kept ≡ [])))
+
+-- the same of the connection at a place, if there is one
+abbrev pub IsWrittenAt : ℕ → ServedState → Type 0
+IsWrittenAt place served = IfSome (output_at place served.lines) (IsWritten (waiting_on (name_at place) served.hub.connections))
+
+-- ---- calls on a broker and its connections
+
+-- A call that changes no place.
+pub record IsSame (old new : ServedState) : Type 0 where
+  pub base : new.base ≡ old.base
+  pub places : length new.lines ≡ length old.lines
+
+-- the output of each connection is as before; or that of each but one
+abbrev pub OutputStays : List (Option Line) → List (Option Line) → Type 0
+OutputStays old new = (place : ℕ) → output_at place new ≡ output_at place old
+
+abbrev pub OthersStay : ℕ → List (Option Line) → List (Option Line) → Type 0
+OthersStay place old new = (other : ℕ) → ¬ other ≡ place → output_at other new ≡ output_at other old
+
+-- a read: the broker made a step with bytes of the connection, or it made none
+abbrev pub Hears : ℕ → HubState → HubState → Heard → Type 0
+Hears place old new (Step count reply) = (bytes : List ℕ) × HubStep old (Bytes (name_at place) bytes) reply new
+Hears place old new Nothing = new ≡ old
+Hears place old new Over = new ≡ old
+
+-- only a read that returns nothing leaves the output of its connection as it is for certain
+abbrev pub HearsNothing : List (Option Line) → List (Option Line) → Heard → Type 0
+HearsNothing old new (Step count reply) = Unit {0}
+HearsNothing old new Nothing = OutputStays old new
+HearsNothing old new Over = Unit {0}
+
+-- kept output was written: all of it, or as much as the socket takes, or the socket failed
+abbrev pub IsFlushed : Flushed → Output → Output → Type 0
+IsFlushed All old new = (new.kept ≡ []) × (new.finished ≡ old.finished)
+IsFlushed Blocked old new = (new.full ≡ true) × (new.finished ≡ old.finished)
+IsFlushed Failed old new = Unit {0}
+
+-- the outputs of a connection before and after a call
+abbrev pub AtOutputs : Option Output → Option Output → (Output → Output → Type 0) → Type 0
+AtOutputs None None P = Unit {0}
+AtOutputs None (Some new) P = ⊥
+AtOutputs (Some old) None P = ⊥
+AtOutputs (Some old) (Some new) P = P old new
+
+-- output was given to a socket
+abbrev pub IsGiven : Given → Type 0 → Type 0
+IsGiven (Written count) P = P
+IsGiven Full P = P
+IsGiven Finished P = Unit {0}
+
+-- a collect: the broker made its step, or it made none, because output is kept
+abbrev pub Collects : ℕ → HubState → HubState → Option Output → Option Bool → Type 0
+Collects place old new output (Some alive) = (reply : HubReply) × HubStep old (Collect (name_at place)) reply new
+Collects place old new output None = (new ≡ old) × IfSome output (λ o. ¬ o.kept ≡ [])
+
+-- at most a collect
+abbrev pub MayCollect : ℕ → HubState → HubState → Type 0
+MayCollect place old new = (new ≡ old) ⊎ ((reply : HubReply) × HubStep old (Collect (name_at place)) reply new)
+
+-- ---- notes
+
+-- the act is a copy that is placed for a client
+unfoldable pub is_copy_for : ℕ → Act → Bool
+is_copy_for client (acts.Placed other message) = other == client
+is_copy_for client (acts.Missed other message) = false
+is_copy_for client (acts.Took publisher message) = false
+is_copy_for client (acts.Will publisher message) = false
+is_copy_for client (acts.Subscribed other topic_filter qos) = false
+is_copy_for client (acts.Unsubscribed other topic_filter) = false
+is_copy_for client (acts.Up conn other present) = false
+is_copy_for client (acts.Closed conn why) = false
+is_copy_for client (acts.Removed other) = false
+is_copy_for client (acts.WillDropped other) = false
+
+-- The notes of a loop: the place of each client that is connected, the places that may have output
+-- at the broker, and those that must be ended.
+
+-- a client that is connected at a place by the acts of a broker is noted there, or the place must
+-- be ended
+abbrev pub AreNotedAt : ℕ → List Act → (ℕ → Option ℕ) → List Bool → Type 0
+AreNotedAt place log place_of over =
+    (client : ℕ) → (seen client log).up ≡ Some (name_at place) → (place_of client ≡ Some place) ⊎ (is_in place over ≡ true)
+
+-- each place of the first set is in the second
+abbrev pub AllIn : List Bool → List Bool → Type 0
+AllIn old new = (place : ℕ) → is_in place old ≡ true → is_in place new ≡ true
+
+-- the second set has the places of the first, of at least as many
+abbrev pub IsRoomier : List Bool → List Bool → Type 0
+IsRoomier old new = (length old ≤ length new) × AllIn old new
+
+-- The notes after further acts.
+pub record IsNoted (log : List Act) (place_of : ℕ → Option ℕ) (marked over : List Bool) (later_place_of : ℕ → Option ℕ) (later_marked later_over : List Bool) : Type 0 where
+  pub marked_places : length later_marked ≡ length marked
+  pub over_places : length later_over ≡ length over
+  pub marked_stay : AllIn marked later_marked
+  pub over_stay : AllIn over later_over
+  -- a client stays noted at its place, unless the place is marked
+  pub stays : (client place : ℕ) → place < length marked → place_of client ≡ Some place
+      → (later_place_of client ≡ Some place) ⊎ (is_in place later_marked ≡ true)
+  -- the place of a client for which a copy is placed is marked
+  pub marks : (client place : ℕ) → place < length marked → place_of client ≡ Some place
+      → list_any (is_copy_for client) log ≡ true → is_in place later_marked ≡ true
+  pub noted : (place : ℕ) → place < length over → (before : List Act) → AreNotedAt place before place_of over
+      → AreNotedAt place (before ++ log) later_place_of later_over
+
+-- ---- watched connections
+
+-- a connection exists at the place
+abbrev pub exists_at : ℕ → List (Option Line) → Bool
+exists_at place lines = is_some (output_at place lines)
+
+-- The notes miss nothing: a client that is connected at a place is noted there, and a place with
+-- pending output that its socket may take is marked; or the place must be ended.
+pub record IsWatched (served : ServedState) (place_of : ℕ → Option ℕ) (marked over : List Bool) : Type 0 where
+  pub reached : IsReached served.base
+  pub marked_places : length served.lines ≤ length marked
+  pub over_places : length served.lines ≤ length over
+  pub noted : (client place : ℕ) → exists_at place served.lines ≡ true
+      → is_for client (stage_of (name_at place) served.hub.connections) ≡ true → (place_of client ≡ Some place) ⊎ (is_in place over ≡ true)
+  pub written : (place : ℕ) → IsWrittenAt place served ⊎ ((is_in place marked ≡ true) ⊎ (is_in place over ≡ true))
+
+-- A broker and the connections that it serves, with notes, for contracts: the places that may have
+-- output at the broker, those that must be ended, and whether the broker refused to end one of them
+-- in this round, because an allocation failed.
+pub record WatchedState : Type 0 where
+  pub served : ServedState
+  pub marked : List Bool
+  pub over : List Bool
+  pub failed : Bool
+
+abbrev pub watched_state : ServedState → List Bool → List Bool → Bool → WatchedState
+watched_state served marked over failed = record { served = served; marked = marked; over = over; failed = failed }
+
+-- no place is in the set
+abbrev pub IsEmpty : List Bool → Type 0
+IsEmpty flags = (place : ℕ) → is_in place flags ≡ false
+
+-- the number of connections
+abbrev pub connections_in : List (Option Line) → ℕ
+connections_in lines = count_by is_some lines
+
+-- no connection is over, unless an allocation failed
+abbrev pub AreEnded : WatchedState → Type 0
+AreEnded watched = IsEmpty watched.over ⊎ (watched.failed ≡ true)
+
+-- the number of ends that are left, at most: a bound on the connections and on the places that are
+-- over
+abbrev pub ends_left : WatchedState → ℕ
+ends_left watched = connections_in watched.served.lines * suc (length watched.over) + count_in watched.over
+
+-- Each connection has nothing pending that its socket would take, and none is left that must be
+-- ended, unless an allocation failed.
+abbrev pub IsSettled : WatchedState → Type 0
+IsSettled watched =
+    (place : ℕ) → IsWrittenAt place watched.served ⊎ ((is_in place watched.over ≡ true) × (watched.failed ≡ true))

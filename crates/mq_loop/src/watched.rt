@@ -1,0 +1,302 @@
+//! A broker and its connections, with notes about which have output and which are over.
+
+ghost use Rattle.std.specs.Prelude.{◌≡◌, ◌<◌, ◌≤◌, ◌⊎◌, ◌||◌, ◌∷◌, [], ◌++◌, ℕ, false, true, None, Some, IfOk, IfSome, IfNone, OnErr, OnOk, OnSome, length};
+ghost use Rattle.mq_loop.specs.Accounts.{IsServed};
+ghost use Rattle.mq_loop.specs.Places.{count_in};
+ghost use Rattle.mq_loop.specs.Rounds.{AreEnded, IsEmpty, IsReached, IsSettled, connections_in, ends_left};
+
+use crate::connection::Flushed;
+use crate::notes::Notes;
+use crate::observer::Observer;
+use crate::report::Report;
+use crate::served::{Given, Heard, Served};
+use crate::socket::Socket;
+use mq_hub::Hub;
+use mq_route::{HubReply, client_laws, output_laws};
+use std::alloc::{AllocError, Global};
+use std::marker::Model;
+
+/// A broker and the connections that it serves, with notes.
+#[derive(Drop)]
+pub(crate) struct Watched<S: Socket + Drop> {
+    served: Served<S>,
+    notes: Notes,
+    most_owed: usize,
+}
+
+impl<S: Socket + Drop> Model for Watched<S> {
+    ghost use Rattle.std.specs.Prelude.{nat_eq};
+    ghost use Rattle.std.specs.Coded.{codes, coded_ℕ};
+    ghost use Rattle.std.specs.FinSet as set;
+    ghost use Rattle.std.specs.HashMap.{get};
+    ghost use Rattle.std.specs.Ordering.{nat_cmp};
+    ghost use Rattle.mq_loop.specs.Rounds.{IsWatched, WatchedState, watched_state};
+
+    ghost Value = { WatchedState };
+
+    ghost coded = { Prim.hlevel (codes, set.code {R = nat_cmp} coded_ℕ) };
+
+    ghost view = { λ w. watched_state w.served w.notes.marked w.notes.over w.notes.has_failed };
+
+    ghost invariant = { λ w. IsWatched w.served (get nat_eq w.notes.clients) w.notes.marked w.notes.over };
+}
+
+// Whether one of two is true.
+fn either(first: bool, second: bool) -> bool
+    ensures { result ≡ (first || second) }
+{
+    first || second
+}
+
+impl<S: Socket + Drop> Watched<S> {
+    /// A broker that serves no connection yet.
+    pub(crate) fn new(alloc: Global, hub: Hub, most_owed: usize) -> Watched<S>
+        requires { IsReached hub }
+        ensures { result ≡ record { served = record { base = hub; hub = hub; lines = [] }; marked = []; over = []; failed = false } }
+    {
+        Watched {
+            served: Served::new(alloc, hub),
+            notes: Notes::new(alloc),
+            most_owed,
+        }
+    }
+
+    /// The broker.
+    pub(crate) fn hub(&self) -> &Hub
+        ensures { result.now ≡ self.now.served.hub }
+    {
+        self.served.hub()
+    }
+
+    /// All steps form one chain of one broker, in which each connection carries its bytes.
+    pub(crate) fn laws(&self)
+        ensures { IsServed self.now.served }
+    {
+        self.served.laws();
+    }
+
+    /// Adds a place without a connection.
+    pub(crate) fn add_place(&mut self) -> Result<u32, AllocError>
+        ensures base { self.new.served.base ≡ self.old.served.base }
+    {
+        self.notes.add_place(self.served.places())?;
+        let place = self.served.add_place()?;
+        self.notes.add_vacant(place);
+        Ok(place)
+    }
+
+    /// Opens a connection over a fresh socket at a place without a connection. Returns false, and
+    /// drops the socket, if the place has a connection, or if an allocation fails.
+    pub(crate) fn open(&mut self, place: u32, socket: S) -> bool
+        requires came { IfSome (S.came socket) (λ bytes. bytes ≡ []) }
+        requires went { IfSome (S.went socket) (λ bytes. bytes ≡ []) }
+        ensures base { self.new.served.base ≡ self.old.served.base }
+    {
+        self.served.laws();
+        client_laws();
+        output_laws();
+        match self.served.open(place, socket) {
+            Ok(reply) => {
+                self.notes.note(reply.acts.as_slice());
+                self.notes.sit(place);
+                self.notes.marked.put(place);
+                drop(reply);
+                true
+            }
+            Err(_) => false,
+        }
+    }
+
+    /// Tells the broker the current time, in milliseconds. `None` if an allocation failed.
+    pub(crate) fn tick(&mut self, now: u64) -> Option<HubReply>
+        ensures base { self.new.served.base ≡ self.old.served.base }
+    {
+        self.served.laws();
+        client_laws();
+        output_laws();
+        let Ok(reply) = self.served.tick(now) else {
+            return None;
+        };
+        self.notes.note(reply.acts.as_slice());
+        Some(reply)
+    }
+
+    /// Makes the broker's step with bytes of a connection, as [`Served::read`].
+    pub(crate) fn read(&mut self, place: u32, buffer: &mut [u8]) -> Heard
+        ensures base { self.new.served.base ≡ self.old.served.base }
+    {
+        self.served.laws();
+        client_laws();
+        output_laws();
+        let heard = self.served.read(place, buffer);
+        match &heard {
+            Heard::Step(_, reply) => {
+                self.notes.note(reply.acts.as_slice());
+                self.notes.marked.put(place);
+            }
+            Heard::Nothing => {}
+            Heard::Over => self.notes.over.put(place),
+        }
+        heard
+    }
+
+    /// Writes the output that is kept for a connection. Returns whether nothing is kept any more.
+    pub(crate) fn flush(&mut self, place: u32) -> bool
+        ensures base { self.new.served.base ≡ self.old.served.base }
+    {
+        match self.served.flush(place) {
+            Flushed::All => {
+                self.notes.marked.put(place);
+                true
+            }
+            Flushed::Blocked => false,
+            Flushed::Failed => {
+                self.notes.over.put(place);
+                false
+            }
+        }
+    }
+
+    /// Ends the connections that are over, and writes the output of the others.
+    pub(crate) fn settle<O: Observer>(&mut self, observer: &mut O)
+        ensures settled { IsSettled self.new }
+        ensures base { self.new.served.base ≡ self.old.served.base }
+    {
+        self.notes.has_failed = false;
+        let _ = self.end_all(observer);
+        self.give_all(observer);
+        while self.end_all(observer) {
+            self.give_all(observer);
+        }
+        self.check_settled();
+    }
+
+    // Nothing to do: states the end of a round.
+    fn check_settled(&self)
+        ensures { IsEmpty self.now.marked → AreEnded self.now → IsSettled self.now }
+    {
+        let _ = &self.served;
+    }
+
+    // Ends each connection that is over. Returns whether a connection was ended.
+    fn end_all<O: Observer>(&mut self, observer: &mut O) -> bool
+        ensures ended { AreEnded self.new }
+        ensures some { result ≡ true → connections_in self.new.served.lines < connections_in self.old.served.lines }
+        ensures none { result ≡ false → self.new.marked ≡ self.old.marked }
+        ensures base { self.new.served.base ≡ self.old.served.base }
+    {
+        let mut has_ended = false;
+        while let Some(is_ended) = self.end_next(observer) {
+            has_ended = either(has_ended, is_ended);
+        }
+        has_ended
+    }
+
+    // Takes a place that is over, and ends its connection. Returns whether there was one; `None` if
+    // no place is over, or if an allocation fails.
+    fn end_next<O: Observer>(&mut self, observer: &mut O) -> Option<bool>
+        ensures left { OnSome result (ends_left self.new < ends_left self.old) }
+        ensures some { IfSome result (λ is_ended. is_ended ≡ true → connections_in self.new.served.lines < connections_in self.old.served.lines) }
+        ensures same { IfSome result (λ is_ended. is_ended ≡ false → (self.new.marked ≡ self.old.marked) × (self.new.served ≡ self.old.served)) }
+        ensures none { IfNone result ((AreEnded self.new) × (self.new.marked ≡ self.old.marked) × (self.new.served ≡ self.old.served)) }
+        ensures base { self.new.served.base ≡ self.old.served.base }
+    {
+        self.served.laws();
+        client_laws();
+        output_laws();
+        let Some(place) = self.notes.over.pop() else {
+            return None;
+        };
+        match self.served.end(place) {
+            Ok(Some(reply)) => {
+                observer.on_reply(&reply);
+                self.notes.note(reply.acts.as_slice());
+                self.notes.leave(place);
+                Some(true)
+            }
+            Ok(None) => Some(false),
+            Err(_) => {
+                self.notes.over.put(place);
+                self.notes.has_failed = true;
+                None
+            }
+        }
+    }
+
+    fn give_all<O: Observer>(&mut self, observer: &mut O)
+        ensures marked { IsEmpty self.new.marked }
+        ensures connections { connections_in self.new.served.lines ≡ connections_in self.old.served.lines }
+        ensures base { self.new.served.base ≡ self.old.served.base }
+    {
+        while self.give_next(observer) {}
+    }
+
+    // Writes the output of a connection that is marked. Returns false if none is.
+    fn give_next<O: Observer>(&mut self, observer: &mut O) -> bool
+        ensures none { result ≡ false → IsEmpty self.new.marked }
+        ensures some { result ≡ true → count_in self.new.marked < count_in self.old.marked }
+        ensures connections { connections_in self.new.served.lines ≡ connections_in self.old.served.lines }
+        ensures base { self.new.served.base ≡ self.old.served.base }
+    {
+        self.served.laws();
+        client_laws();
+        output_laws();
+        let Some(place) = self.notes.marked.pop() else {
+            return false;
+        };
+        match self.served.give(place) {
+            Given::Written(count) => {
+                observer.on_collect(count);
+                self.notes.settle(place);
+            }
+            Given::Full => {
+                if self.notes.is_lost(place, self.most_owed) {
+                    self.notes.over.put(place);
+                }
+            }
+            Given::Finished => self.notes.over.put(place),
+        }
+        true
+    }
+
+    /// Whether output is kept for a connection, because its socket did not take it.
+    pub(crate) fn is_blocked(&self, place: u32) -> bool {
+        self.served.is_blocked(place)
+    }
+
+    /// Whether bytes of a connection wait for a step, or were lost.
+    pub(crate) fn has_unread(&self, place: u32) -> bool {
+        self.served.has_unread(place)
+    }
+
+    /// The number of bytes that are kept for a connection or owed to it.
+    pub(crate) fn pending(&self, place: u32) -> usize {
+        self.served
+            .kept(place)
+            .saturating_add(self.notes.owed(place))
+    }
+
+    /// The notes.
+    pub(crate) fn notes(&self) -> &Notes {
+        &self.notes
+    }
+
+    /// Whether a connection must be ended.
+    pub(crate) fn has_over(&self) -> bool {
+        self.notes.over.may_have_some()
+    }
+
+    /// Adds a report.
+    pub(crate) fn report(&mut self, report: Report)
+        ensures { self.new ≡ self.old }
+    {
+        self.notes.report(report);
+    }
+
+    /// Takes the reports.
+    pub(crate) fn take_reports(&mut self) -> Vec<Report>
+        ensures { self.new ≡ self.old }
+    {
+        self.notes.take_reports()
+    }
+}
