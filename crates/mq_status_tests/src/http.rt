@@ -84,8 +84,7 @@ fn answer_to_long(alloc: Global, length: usize, missing: usize) -> Result<String
     }
     head.extend_from_slice(b"\r\n\r\n")?;
     let end = head.len().saturating_sub(missing);
-    let answer = answer_to(alloc, &head.as_slice()[..end])?;
-    Ok(answer.as_str()[..answer.len().min(7)].to_string(alloc)?)
+    answer_to(alloc, &head.as_slice()[..end])
 }
 
 #[test]
@@ -101,7 +100,7 @@ fn long_heads(rt: HostRuntime) -> Result<(), Fail> {
     ];
     for (length, missing, expected) in &rows {
         let answer = answer_to_long(alloc, *length, *missing)?;
-        assert_eq!(rt; answer.as_str(), *expected);
+        assert!(rt; answer.as_str().starts_with(*expected));
     }
     Ok(())
 }
