@@ -39,7 +39,7 @@ lib/libposkvari.a: $(shell .ci/lib --sources) $(wildcard $(lib_proved))
 
 lib/pkgconfig/poskvari.pc: Makefile
 	@mkdir -p lib/pkgconfig
-	@printf '%s\n' 'prefix=$(PREFIX)' 'Name: poskvari' 'Description: MQTT 3.1.1 packets and topics' \
+	@printf '%s\n' 'prefix=$(PREFIX)' 'Name: poskvari' 'Description: MQTT 3.1.1 packets, topics and client' \
 	    'Version: 0' 'Libs: -L$${prefix}/lib -lposkvari' 'Cflags: -I$${prefix}/include' >$@
 
 # Tests the library and its examples.

@@ -194,7 +194,7 @@ int main(int count, char **words) {
     time_t end = time(NULL) + seconds;
     unsigned long rounds = 0, found = 0;
     test_lists();
-    while (rounds % 1024 || time(NULL) < end) {
+    while (!rounds || rounds % 1024 || time(NULL) < end) {
         uint8_t data[64];
         uint32_t seed = random_below(12);
         size_t size = seed < 11 ? sizes[seed] : random_below(24);

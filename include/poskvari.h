@@ -1,4 +1,4 @@
-/* poskvari.h: MQTT 3.1.1 packets and topics, from the library libposkvari.
+/* poskvari.h: MQTT 3.1.1 packets, topics and a client, from the library libposkvari.
  *
  * The functions posk_* below are inline. They check their pointers and call the functions
  * poskvari_* of the library, whose pointers must not be null.
@@ -7,11 +7,15 @@
  *
  * - A pointer with a size must point to that many bytes, which no other thread changes. It may be
  *   null if the size is 0. A buffer for output must not overlap an input.
+ * - A posk_client must be set to POSK_CLIENT_NONE before posk_client_new. It must not be copied,
+ *   changed or used after posk_client_free, except that posk_client_new may fill it again.
+ * - One call at a time uses a client, always from the thread that made it.
  * - No call is made from a signal handler, or in a forked child of a process with threads.
  * - malloc, realloc and free must be those of one allocator of the C library.
  *
- * The library reads and writes nothing beyond the sizes that it is given. It keeps nothing between
- * calls, so that threads may call it at the same time. Sizes are in bytes. */
+ * The library reads and writes nothing beyond the sizes that it is given. It keeps no pointer of
+ * the caller. Times are in milliseconds, from any start, by a clock that does not go back. Sizes
+ * are in bytes. */
 #ifndef POSKVARI_H
 #define POSKVARI_H
 
@@ -36,7 +40,11 @@ enum posk_code {
     POSK_ERROR_NAME = -6,            /* not a topic name (4.7) */
     POSK_ERROR_FILTER = -7,          /* not a topic filter (4.7) */
     POSK_ERROR_SESSION = -8,         /* not a saved session */
-    POSK_ERROR_MALFORMED = -9        /* the bytes are not a packet */
+    POSK_ERROR_MALFORMED = -9,       /* the bytes are not a packet */
+    POSK_ERROR_NOT_CONNECTED = -10,  /* there is no established connection */
+    POSK_ERROR_FULL = -11,           /* no packet identifier is free */
+    POSK_ERROR_EVENTS = -12,         /* take all events first, by posk_next_event */
+    POSK_ERROR_ANOTHER_CLIENT = -13  /* the saved session belongs to another client */
 };
 
 /* Returns the error as a sentence without a full stop. */
@@ -53,6 +61,10 @@ static inline const char *posk_error_text(int code) {
     case POSK_ERROR_FILTER: return "the text is not a topic filter";
     case POSK_ERROR_SESSION: return "the bytes are not a saved session";
     case POSK_ERROR_MALFORMED: return "the bytes are not a packet";
+    case POSK_ERROR_NOT_CONNECTED: return "not connected";
+    case POSK_ERROR_FULL: return "no packet identifier is free";
+    case POSK_ERROR_EVENTS: return "events are pending";
+    case POSK_ERROR_ANOTHER_CLIENT: return "the session belongs to another client";
     default: return "not an error of this library";
     }
 }
@@ -178,7 +190,8 @@ typedef struct posk_bytes {
     size_t size;
 } posk_bytes;
 
-/* The fields of a CONNECT (3.1). Set those that are not needed to 0. */
+/* The fields of a CONNECT (3.1), then options of posk_client_new. Set those that are not needed to
+ * 0. */
 typedef struct posk_options {
     posk_bytes id;           /* the client identifier (3.1.3.1) */
     uint16_t keep_alive;     /* in seconds; 0 for none (3.1.2.10) */
@@ -191,6 +204,9 @@ typedef struct posk_options {
     posk_bytes will_payload;
     uint8_t will_qos;
     bool will_retain;
+    uint32_t max_packet;     /* the greatest remaining length of packets; 0: 1,048,576 */
+    uint16_t capacity;       /* the most packet identifiers in use; 0: 1,000 */
+    uint16_t window;         /* the most unreleased QoS 2 messages; 0 for no limit */
 } posk_options;
 
 /* Whether the pointers of the options may be passed on. */
@@ -313,6 +329,199 @@ static inline int posk_match(const void *filter, size_t filter_size, const void 
 static inline int posk_session_check(const void *saved, size_t size) {
     if (!POSK_IS_VALID_(saved, size)) return POSK_ERROR_ARGUMENT;
     return poskvari_session_check(posk_bytes_(saved), size);
+}
+
+/* ---- A client */
+
+/* A client's end of its connections, one after another, with its session (3.1.2.4). It opens no
+ * socket: it takes received bytes, and gives bytes to send. */
+typedef struct posk_client {
+    void *at;
+} posk_client;
+
+#define POSK_CLIENT_NONE {NULL}
+
+/* What posk_next_event reports. */
+enum posk_event_kind {
+    POSK_EVENT_NONE,
+    POSK_EVENT_CONNECTED,     /* the server accepted the connection (3.2) */
+    POSK_EVENT_MESSAGE,       /* a message; the bytes are the topic name and then the payload */
+    POSK_EVENT_SUBSCRIBED,    /* the response to SUBSCRIBE; the byte is the code, 128 is a refusal */
+    POSK_EVENT_UNSUBSCRIBED,  /* the response to UNSUBSCRIBE */
+    POSK_EVENT_PONG           /* the response to PINGREQ */
+};
+
+typedef struct posk_event {
+    uint8_t kind;
+    uint8_t qos;              /* of a message */
+    bool retain;              /* of a message */
+    bool session_present;     /* CONNECTED: the server had a session of this client */
+    uint16_t id;              /* (UN)SUBSCRIBED: the identifier that the request returned */
+    size_t topic_size;        /* MESSAGE: the number of bytes of the topic name */
+    size_t size;              /* the number of all bytes */
+} posk_event;
+
+/* Why posk_receive reports that the client closed its end. Close the connection then. */
+enum posk_close {
+    POSK_CLOSED_MALFORMED = 1,     /* bytes that are not a packet */
+    POSK_CLOSED_UNEXPECTED = 2,    /* a packet that may not come there */
+    POSK_CLOSED_SESSION_LOST = 4,  /* the server lost the session */
+    POSK_CLOSED_MEMORY = 6,        /* an allocation failed */
+    POSK_CLOSED_WINDOW = 11,       /* a QoS 2 message does not fit the window */
+    POSK_CLOSED_REFUSED = 30       /* and the return code of CONNACK, 1 to 5, added */
+};
+
+int32_t poskvari_client_new(const uint8_t *id, size_t id_size, uint16_t keep_alive,
+                            uint32_t max_packet, uint16_t capacity, uint16_t window,
+                            bool has_user_name, const uint8_t *user_name, size_t user_name_size,
+                            bool has_password, const uint8_t *password, size_t password_size,
+                            bool has_will, const uint8_t *will_topic, size_t will_topic_size,
+                            const uint8_t *will_payload, size_t will_payload_size, uint8_t will_qos,
+                            bool will_retain, const uint8_t *saved, size_t saved_size,
+                            posk_client *client);
+void poskvari_client_free(posk_client *client);
+int32_t poskvari_client_connect(posk_client *client, uint64_t now, bool clean);
+int32_t poskvari_client_receive(posk_client *client, uint64_t now, const uint8_t *bytes,
+                                size_t size);
+size_t poskvari_client_output(posk_client *client, uint8_t *out, size_t room);
+int32_t poskvari_client_publish(posk_client *client, const uint8_t *topic, size_t topic_size,
+                                const uint8_t *payload, size_t payload_size, uint8_t qos,
+                                bool retain);
+int32_t poskvari_client_subscribe(posk_client *client, const uint8_t *filter, size_t size,
+                                  uint8_t qos);
+int32_t poskvari_client_unsubscribe(posk_client *client, const uint8_t *filter, size_t size);
+int32_t poskvari_client_next_event(posk_client *client, posk_event *event, uint8_t *out,
+                                   size_t room);
+int32_t poskvari_client_tick(posk_client *client, uint64_t now);
+uint64_t poskvari_client_next_deadline(posk_client *client);
+void poskvari_client_dropped(posk_client *client);
+int32_t poskvari_client_disconnect(posk_client *client);
+ptrdiff_t poskvari_client_save(posk_client *client, uint8_t *out, size_t room);
+bool poskvari_client_is_idle(posk_client *client);
+
+/* Makes a client that continues the session that posk_save wrote to `saved`, or one without a
+ * session if that has no bytes. *client must be POSK_CLIENT_NONE. Returns POSK_OK, or
+ * POSK_ERROR_ARGUMENT, POSK_ERROR_MEMORY, POSK_ERROR_SESSION, POSK_ERROR_ANOTHER_CLIENT or
+ * POSK_ERROR_TOO_LARGE, and then *client stays POSK_CLIENT_NONE. */
+static inline int posk_load(posk_client *client, const posk_options *options, const void *saved,
+                            size_t size) {
+    const posk_options *o = options;
+    if (!client || client->at || !o || !posk_are_valid_(o) || !POSK_IS_VALID_(saved, size))
+        return POSK_ERROR_ARGUMENT;
+    return poskvari_client_new(
+        posk_bytes_(o->id.at), o->id.size, o->keep_alive, o->max_packet ? o->max_packet : 1048576,
+        o->capacity ? o->capacity : 1000, o->window, o->has_user_name,
+        posk_bytes_(o->user_name.at), o->user_name.size, o->has_password,
+        posk_bytes_(o->password.at), o->password.size, o->has_will, posk_bytes_(o->will_topic.at),
+        o->will_topic.size, posk_bytes_(o->will_payload.at), o->will_payload.size, o->will_qos,
+        o->will_retain, posk_bytes_(saved), size, client);
+}
+
+/* Makes a client without a session. *client must be POSK_CLIENT_NONE. Returns POSK_OK, or
+ * POSK_ERROR_ARGUMENT or POSK_ERROR_MEMORY, and then *client stays POSK_CLIENT_NONE. */
+static inline int posk_client_new(posk_client *client, const posk_options *options) {
+    return posk_load(client, options, NULL, 0);
+}
+
+/* Frees a client and sets it to POSK_CLIENT_NONE. Does nothing if it is that already. */
+static inline void posk_client_free(posk_client *client) {
+    if (client && client->at) poskvari_client_free(client);
+}
+
+/* Begins a connection at time `now`: queues CONNECT (3.1). Call it when the socket is connected.
+ * `clean` discards the session. */
+static inline int posk_connect(posk_client *client, uint64_t now, bool clean) {
+    if (!client || !client->at) return POSK_ERROR_ARGUMENT;
+    return poskvari_client_connect(client, now, clean);
+}
+
+/* Processes bytes that the server sent, received at time `now`. Returns POSK_OK; or why the client
+ * closed its end, a positive number of enum posk_close; or POSK_ERROR_EVENTS if events of an
+ * earlier call were not taken, and then nothing changes. Take all events afterwards, also if the
+ * end closed. */
+static inline int posk_receive(posk_client *client, uint64_t now, const void *bytes, size_t size) {
+    if (!client || !client->at || !POSK_IS_VALID_(bytes, size)) return POSK_ERROR_ARGUMENT;
+    return poskvari_client_receive(client, now, posk_bytes_(bytes), size);
+}
+
+/* Moves bytes that must be sent to the server to the buffer, as many as fit, and returns their
+ * number. Call it after each other call until it returns 0. */
+static inline size_t posk_output(posk_client *client, void *out, size_t room) {
+    if (!client || !client->at || !out) return 0;
+    return poskvari_client_output(client, (uint8_t *)out, room);
+}
+
+/* Publishes a message. Returns its packet identifier, or 0 with QoS 0. A message with QoS 1 or 2 is
+ * stored until it is acknowledged, also without a connection. Errors: POSK_ERROR_ARGUMENT,
+ * POSK_ERROR_NOT_CONNECTED (QoS 0 only), POSK_ERROR_TOO_LARGE, POSK_ERROR_FULL,
+ * POSK_ERROR_MEMORY. */
+static inline int posk_publish(posk_client *client, const void *topic, size_t topic_size,
+                               const void *payload, size_t payload_size, uint8_t qos, bool retain) {
+    if (!client || !client->at || !POSK_IS_VALID_(topic, topic_size) ||
+        !POSK_IS_VALID_(payload, payload_size))
+        return POSK_ERROR_ARGUMENT;
+    return poskvari_client_publish(client, posk_bytes_(topic), topic_size, posk_bytes_(payload),
+                                   payload_size, qos, retain);
+}
+
+/* Subscribes to a topic filter. Returns the packet identifier, which the event
+ * POSK_EVENT_SUBSCRIBED repeats. The errors are those of posk_publish. */
+static inline int posk_subscribe(posk_client *client, const void *filter, size_t size,
+                                 uint8_t qos) {
+    if (!client || !client->at || !POSK_IS_VALID_(filter, size)) return POSK_ERROR_ARGUMENT;
+    return poskvari_client_subscribe(client, posk_bytes_(filter), size, qos);
+}
+
+/* Unsubscribes from a topic filter. Returns the packet identifier, which the event
+ * POSK_EVENT_UNSUBSCRIBED repeats. The errors are those of posk_publish. */
+static inline int posk_unsubscribe(posk_client *client, const void *filter, size_t size) {
+    if (!client || !client->at || !POSK_IS_VALID_(filter, size)) return POSK_ERROR_ARGUMENT;
+    return poskvari_client_unsubscribe(client, posk_bytes_(filter), size);
+}
+
+/* Takes the next event, and writes its bytes to the buffer. The kind is POSK_EVENT_NONE if there is
+ * none. Returns POSK_OK, or POSK_ERROR_ROOM if the buffer is smaller than event->size, and then the
+ * event stays. */
+static inline int posk_next_event(posk_client *client, posk_event *event, void *out, size_t room) {
+    if (!client || !client->at || !event || !POSK_IS_VALID_(out, room)) return POSK_ERROR_ARGUMENT;
+    return poskvari_client_next_event(client, event, posk_room_(out), room);
+}
+
+/* Queues a PINGREQ if the keep-alive has elapsed (3.1.2.10). Call it at posk_next_deadline.
+ * Returns POSK_OK or POSK_ERROR_MEMORY. */
+static inline int posk_tick(posk_client *client, uint64_t now) {
+    if (!client || !client->at) return POSK_ERROR_ARGUMENT;
+    return poskvari_client_tick(client, now);
+}
+
+/* The time from which posk_tick does something, or UINT64_MAX. Ask again after each other call. */
+static inline uint64_t posk_next_deadline(posk_client *client) {
+    if (!client || !client->at) return UINT64_MAX;
+    return poskvari_client_next_deadline(client);
+}
+
+/* Reports that the connection is lost. Discards pending output; the session stays. */
+static inline void posk_dropped(posk_client *client) {
+    if (client && client->at) poskvari_client_dropped(client);
+}
+
+/* Queues DISCONNECT, and closes the client's end (3.14). Send the output, then close the socket.
+ * Returns POSK_OK, POSK_ERROR_NOT_CONNECTED or POSK_ERROR_MEMORY. */
+static inline int posk_disconnect(posk_client *client) {
+    if (!client || !client->at) return POSK_ERROR_ARGUMENT;
+    return poskvari_client_disconnect(client);
+}
+
+/* Writes the session to the buffer, and returns its number of bytes, or POSK_ERROR_ROOM or
+ * POSK_ERROR_MEMORY. posk_load continues it. */
+static inline ptrdiff_t posk_save(posk_client *client, void *out, size_t room) {
+    if (!client || !client->at || !POSK_IS_VALID_(out, room)) return POSK_ERROR_ARGUMENT;
+    return poskvari_client_save(client, posk_room_(out), room);
+}
+
+/* Whether each message that was published with QoS 1 or 2 is acknowledged. */
+static inline bool posk_is_idle(posk_client *client) {
+    return client && client->at && poskvari_client_is_idle(client);
 }
 
 #ifdef __cplusplus

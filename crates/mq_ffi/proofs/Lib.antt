@@ -1,1 +1,4 @@
+pub mod ClientCalls
+pub mod RawBoxes
 mod Reports
+pub mod Words

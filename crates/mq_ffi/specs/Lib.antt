@@ -1,2 +1,4 @@
+pub mod Boxed
+pub mod Clients
 pub mod Codes
 pub mod Exports

@@ -1,0 +1,5 @@
+pub mod Arguments
+pub mod Calls
+pub mod Faults
+pub mod Queue
+pub mod Starts

@@ -1,0 +1,7 @@
+-- The events that a client reported and its user has not taken yet.
+use Rattle.std.specs.Prelude.{List, [], ◌++◌, option_to_list, unwrap_or}
+use Rattle.mq_end.specs.declared.happening.Happening.{Happening}
+use Rattle.mq_embedded.specs.declared.queue.Queue.{Queue}
+
+abbrev pub queued : Queue → List Happening
+queued q = option_to_list q.first ++ unwrap_or q.rest []

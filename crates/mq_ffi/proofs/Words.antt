@@ -1,0 +1,42 @@
+-- The machine value of a handle: a struct with one pointer.
+use Rattle.std.specs.Prelude.{Option, None, Some, IsSome}
+use Rattle.std.proofs.Common.{◌≡◌, List, [], ◌∷◌, ◌++◌, refl, ◌∙◌, lit<}
+use seplogic.Ra.Ura.{Ura}
+use mir.Syntax.{Ty, ty_ptr, ty_struct, tcons, tnil}
+use mir.Val.{Val, vstruct, vcons, vnil, of_list, has_ty, WT}
+use base.Logic.{ent, emp}
+use base.Fml.{Fml}
+use types.Logic.{Logic, sem}
+use denote.RattleType.{RattleType}
+use denote.RawPtr.{Ptr, RawPtr, block_ptr, null_ptr, ptr_val}
+use denote.Shadow.{shadow, makes_shadow}
+use denote.Struct.Struct.{Struct}
+use lib.Dec.{T}
+
+abbrev pub Good : Ty → Val → Type 0
+Good τ v = T (has_ty τ v) × WT v
+
+abbrev pub word : Ptr → Val
+word p = vstruct (vcons (ptr_val p) vnil)
+
+-- a struct by its field alone: what it owns does not read its name
+abbrev pub field_own : Ptr → List Val → Fml
+field_own p = (Struct (record { name = []; args = []; types = []; fields = RawPtr ∷ [] })).own_val (p, tt)
+
+pub told : (p : Ptr) (vs : List Val) → shadow (field_own p vs) → vs ≡ word p ∷ []
+told p vs s = s.1.0 ∙ (λ i. vstruct (of_list (s.1.1.0 i ++ [])) ∷ [])
+
+pub made : {M : Type 1} {𝓤 : Ura M} (𝓛 : Logic 𝓤) (p : Ptr) → ent 𝓤 (emp 𝓤) (sem 𝓛 (field_own p (word p ∷ [])))
+made 𝓛 p = makes_shadow 𝓛 (field_own p (word p ∷ [])) (λ _. (tt, (tt, tt))) ((ptr_val p ∷ [], tt), (refl, (refl, tt)))
+
+pub ptr_typed : (p : Ptr) → Good ty_ptr (ptr_val p)
+ptr_typed (block_ptr b o) = (tt, tt)
+ptr_typed null_ptr = (tt, record { fits = lit< tt })
+
+pub word_typed : (p : Ptr) → Good (ty_struct [] (tcons ty_ptr tnil)) (word p)
+word_typed (block_ptr b o) = (tt, (tt, tt))
+word_typed null_ptr = (tt, (record { fits = lit< tt }, tt))
+
+pub some_of : {X : Type 0} (v : Option X) → IsSome v → (x : X) × (v ≡ Some x)
+some_of None there = absurd cc
+some_of (Some x) there = (x, refl)

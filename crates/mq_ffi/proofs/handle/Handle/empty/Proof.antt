@@ -1,0 +1,42 @@
+-- `empty` owns nothing beside its pointer.
+use Rattle.std.proofs.Common.{◌≡◌, List, [], ◌∷◌, refl}
+use Rattle.std.specs.Prelude.{None}
+use mir.Syntax.{Fn}
+use mir.Val.{Val}
+use base.Logic.{SProp, emp}
+use base.Fml.{ftrue}
+use prog.Wp.{WpFn}
+use contract.Monad.{fact, fact_i}
+use contract.Running.{tables}
+use types.Kit.{‵, raw, ◌⊛◌, ◌$◌, ◌∵◌, !, qed, by, move, keep, use0, split, fjoin}
+use types.Part.{agg}
+use types.Run.{lit, no_more, and_then, returns, enter}
+use types.ByLocal.{alloc_all, pass_all, free_all, look_at, sets}
+use denote.RattleType.{owns}
+use denote.RawPtr.{null_ptr}
+use denote.Signature.{types_at}
+use denote.Steps.{nothing}
+use denote.Triple.Entry.{alive}
+use denote.Triple.Walked.{walk_of}
+use Rattle.std.proofs.raw_atomic.Walks.{proved_at, leaves}
+use Rattle.mq_ffi.proofs.Words.{word, field_own, made, word_typed}
+use Rattle.mq_ffi.specs.contracts.handle.Handle as handle
+use Rattle.mq_ffi.specs.contracts.handle.Handle.empty.{ended, clauses}
+use Rattle.mq_ffi.specs.contracts.handle.Handle.empty.Key.{name as #self}
+use Rattle.mq_ffi.proofs.handle.Handle.empty.Statement.{statement}
+use Rattle.mq_ffi.proofs.handle.Handle.empty.Code as code
+
+pub empty_spec : {M : Type 1} → statement M
+empty_spec 𝓤 𝓛 𝓜 𝓡 wired =
+    let H = 𝓛.H in let c = clauses 𝓛 𝓜.mem 𝓡.returns in let fn : Fn = code.function in let 𝓣 = tables 𝓤 H 𝓜 𝓡 𝓡.env in
+    proved_at 𝓛 ended tt c 𝓜 𝓡 tt #self fn (code.unfolded 𝓤 H 𝓜 𝓡 wired) (λ z are.
+    let Post : Val → SProp 𝓤 = (walk_of 𝓛 ended tt c).post z in
+    qed 𝓛 ((raw (alive 𝓛 ended.signature z.0.0 z.0.1) ⊛ ‵ (owns (types_at ended.signature.params z.0.0) z.0.3 z.0.4)) ∷ ‵ ftrue ∷ []) ∵ split ! $ keep ! (0 ∷ []) $
+    let x : (handle.the_row).Denot = record { at = null_ptr; value = None } in
+    enter ! 𝓣.C 𝓣.Λ fn [] Post $ alloc_all ! (λ l. pass_all ! refl tt $
+    sets ! (agg ! (and_then ! (lit ! tt) (no_more !))) refl (word_typed null_ptr) $
+    returns ! (look_at ! 0 refl) $ free_all ! refl $
+    nothing ! $ use0 𝓛 (‵ (field_own null_ptr (word null_ptr ∷ []))) (made 𝓛 null_ptr) $ fjoin ! $
+    use0 𝓛 (raw (fact 𝓤 (None ≡ None))) (fact_i 𝓤 (None ≡ None) (emp 𝓤) refl) $ nothing ! $
+    move ! (3 ∷ 0 ∷ 2 ∷ 1 ∷ []) $
+    by ! (leaves 𝓛 ended tt c z (word null_ptr) x tt tt)))
