@@ -1,5 +1,5 @@
 -- The arguments of a caller.
-use Rattle.std.specs.Prelude.{◌≡◌, ◌⊎◌, ℕ, ◌<◌, ◌^◌, Bool, true, false, Unit, List, [], ◌∷◌, length}
+use Rattle.std.specs.Prelude.{◌≡◌, ◌⊎◌, ℕ, ◌<◌, ◌^◌, Bool, true, false, List, [], ◌∷◌, length}
 use Rattle.mq_wire.specs.Text.{IsText}
 use Rattle.mq_topic.specs.Qos.{qos_number}
 use Rattle.mq_topic.specs.Topic.{IsTopicFilter, IsTopicName}

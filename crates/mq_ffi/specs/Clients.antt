@@ -1,5 +1,5 @@
 -- Calls of a client behind a handle.
-use Rattle.std.specs.Prelude.{◌≡◌, ◌⊎◌, ℕ, suc, ◌-◌, ◌^◌, ◌≤◌, ◌<◌, Unit, List, Option, None, Some, Result, Ok, Err, ℤ, unwrap_or}
+use Rattle.std.specs.Prelude.{◌≡◌, ◌⊎◌, ℕ, suc, ◌-◌, ◌^◌, ◌≤◌, ◌<◌, List, Option, None, Some, Result, Ok, Err, ℤ, unwrap_or}
 use Rattle.mq_wire.specs.Text.{IsText}
 use Rattle.mq_decode.specs.Limits.{strict}
 use Rattle.mq_end.specs.declared.config.ClientConfig.{ClientConfig}
