@@ -118,12 +118,15 @@ bench-c:
 	$(CC) -std=c11 -O3 -o bin/same_tests bench/same_tests.c
 	bin/same_tests $(STREAMS)
 
-# The same, and `posk_packet` of the library over the same streams: make bench-lib STREAMS=small
+# The same, `posk_packet` of the library over the same streams, and messages through its client:
+# make bench-lib STREAMS=small
 bench-lib: lib
 	$(need_cc)
 	mkdir -p bin
 	$(CC) -std=c11 -O3 -DWITH_LIBRARY -Iinclude -o bin/same_tests_lib bench/same_tests.c lib/libposkvari.a
 	bin/same_tests_lib $(STREAMS)
+	$(CC) -std=c11 -O3 -Iinclude -o bin/client_lib bench/client.c lib/libposkvari.a
+	bin/client_lib
 
 # Loads the program's broker, and mosquitto's if that is installed, over 127.0.0.1. Prints the
 # messages that each delivers in a second, and the latency: make bench-loopback DELIVERIES=10000
