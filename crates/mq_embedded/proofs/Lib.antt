@@ -1,3 +1,6 @@
+mod Codes
 mod Fronts
 mod Heard
-mod Refused
+mod Moved
+mod Started
+mod Texts

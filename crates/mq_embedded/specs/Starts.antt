@@ -1,5 +1,5 @@
 -- New clients.
-use Rattle.std.specs.Prelude.{◌≡◌, ◌⊎◌, List, [], ◌∷◌, Result, Ok, Err}
+use Rattle.std.specs.Prelude.{◌≡◌, ◌⊎◌, ℕ, List, [], ◌∷◌, Result, Ok, Err}
 use Rattle.mq_flow.specs.SavedTwo.{IsSavedAs}
 use Rattle.mq_flow.specs.declared.saved.Saved.{Saved}
 use Rattle.mq_bytes.specs.Checks.{IsSavedSession}
