@@ -1,5 +1,5 @@
 -- Calls of a client behind a handle.
-use Rattle.std.specs.Prelude.{◌≡◌, ◌⊎◌, ℕ, suc, ◌-◌, ◌^◌, ◌≤◌, ◌<◌, List, Option, None, Some, Result, Ok, Err, ℤ, unwrap_or}
+use Rattle.std.specs.Prelude.{◌≡◌, ◌⊎◌, ℕ, zero, suc, ◌-◌, ◌^◌, ◌≤◌, ◌<◌, List, Option, None, Some, Result, Ok, Err, ℤ, unwrap_or}
 use Rattle.mq_wire.specs.Text.{IsText}
 use Rattle.mq_decode.specs.Limits.{strict}
 use Rattle.mq_end.specs.declared.config.ClientConfig.{ClientConfig}
@@ -35,7 +35,7 @@ IsNextTick client time =
 
 -- A window of 0 sets no limit.
 abbrev pub window_of : ℕ → Option ℕ
-window_of 0 = None
+window_of zero = None
 window_of (suc n) = Some (suc n)
 
 abbrev pub HasOptions : List ℕ → ℕ → ℕ → ℕ → ℕ → ClientConfig → Type 0
