@@ -1,3 +1,4 @@
+mod Arguments
 pub mod ClientCalls
 pub mod RawBoxes
 mod Reports
