@@ -1,5 +1,5 @@
 -- New clients with a saved session.
-use Rattle.std.proofs.Common.{◌≡◌, ℕ, ◌<◌, List, [], ◌∷◌, length, Result, Ok, Err, inl, inr, arith}
+use Rattle.std.proofs.Common.{ℕ, ◌<◌, List, [], ◌∷◌, length, Result, Ok, Err, inl, inr, arith}
 use Rattle.mq_flow.specs.SavedTwo.{IsSavedAs}
 use Rattle.mq_flow.specs.declared.saved.Saved.{Saved}
 use Rattle.mq_end.specs.declared.config.ClientConfig.{ClientConfig}

@@ -1,5 +1,5 @@
 -- Bytes that are texts (1.5.3).
-use Rattle.std.proofs.Common.{◌≡◌, ℕ, List, Result, Ok, Err, MatchResult, IsOk, inr, refl}
+use Rattle.std.proofs.Common.{ℕ, List, Result, Ok, Err, MatchResult, IsOk, inr, refl}
 use Rattle.std.specs.Str.{IsUtf8}
 use Rattle.std.proofs.lemmas.Str.{IsUtf8-from_is_utf8}
 use Rattle.mq_wire.specs.Text.{IsText}

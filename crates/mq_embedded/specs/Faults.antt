@@ -1,5 +1,5 @@
 -- Why an end refuses a call.
-use Rattle.std.specs.Prelude.{◌≡◌, ◌⊎◌, Option, None, Some}
+use Rattle.std.specs.Prelude.{◌≡◌, Option, None, Some}
 use Rattle.mq_end.specs.declared.refusal.PublishRefusal.{PublishRefusal}
 use Rattle.mq_end.specs.declared.refusal.PublishRefusal.TheVariants as refusals
 use Rattle.mq_embedded.specs.declared.fault.CallFault.{CallFault}

@@ -20,7 +20,7 @@ Passes R (Some old) (Some new) = R old new
 abbrev pub Codes : {X : Type 0} → (Result X CallFault → ℤ) → (Result X CallFault → Type 0) → ℤ → Type 0
 Codes {X} code_of Allows code = (r : Result X CallFault) × Allows r × (code ≡ code_of r)
 
--- The same of a call with a result, whose code is returned.
+-- They are related by a call of the client, whose result's code is returned.
 abbrev pub Calls : {X : Type 0} → (Result X CallFault → ℤ) → (WithEvents → WithEvents → Result X CallFault → Type 0) → Option WithEvents → Option WithEvents → ℤ → Type 0
 Calls code_of R None new code = ⊥
 Calls code_of R (Some old) None code = ⊥
