@@ -31,13 +31,19 @@ pub record WithEvents : Type 0 where
   pub end : ClientState
   pub events : List Happening
 
+-- The options of an end stay.
+abbrev pub KeepsOptions : ClientState → ClientState → Type 0
+KeepsOptions old new =
+    (new.link.limit ≡ old.link.limit) × (new.link.capacity ≡ old.link.capacity)
+    × (new.config ≡ old.config)
+
 -- A connection begins at time `now`: CONNECT is queued (3.1).
 abbrev pub Begins : ℕ → Bool → WithEvents → WithEvents → Type 0
 Begins now clean old new =
     (new.end.link.end ≡ (connects (connect_of old.end.config clean) old.end.link.end).end)
     × PutsOut (packets.Connect (connect_of old.end.config clean) ∷ []) [] new.end.link.output
     × (new.end.link.held ≡ []) × (new.end.link.last_activity ≡ now)
-    × (new.end.config ≡ old.end.config) × (new.events ≡ old.events)
+    × KeepsOptions old.end new.end × (new.events ≡ old.events)
 
 abbrev pub Connects : ℕ → Bool → WithEvents → WithEvents → Result (Unit {0}) CallFault → Type 0
 Connects now clean old new (Ok done) = Begins now clean old new
@@ -51,7 +57,7 @@ Hears bytes old new closed =
     → (acknowledged : List ℕ) × ClientReceives bytes old.end.link new.end.link new.events acknowledged closed)
     × (is_live old.end.link.end.state ≡ false
     → (new.end ≡ old.end) × (new.events ≡ []) × (closed ≡ None))
-    × (new.end.config ≡ old.end.config)
+    × KeepsOptions old.end new.end
 
 -- Bytes are refused exactly while events are pending.
 abbrev pub Receives : List ℕ → WithEvents → WithEvents → Result (Option CloseReason) CallFault → Type 0
@@ -143,7 +149,7 @@ Pings now old new (Err why) = (why ≡ faults.Memory) × (new ≡ old)
 abbrev pub Drops : WithEvents → WithEvents → Type 0
 Drops old new =
     (new.end.link.end ≡ over old.end.link.end) × (new.end.link.output ≡ [])
-    × (new.end.link.held ≡ []) × (new.end.config ≡ old.end.config) × (new.events ≡ old.events)
+    × (new.end.link.held ≡ []) × KeepsOptions old.end new.end × (new.events ≡ old.events)
 
 -- DISCONNECT is queued, and the end closes (3.14).
 abbrev pub Leaves : WithEvents → WithEvents → Result (Unit {0}) CallFault → Type 0
