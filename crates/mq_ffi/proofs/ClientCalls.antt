@@ -1,6 +1,6 @@
 -- Calls of a client behind a handle.
-use Rattle.std.proofs.Common.{◌≡◌, Result, refl, sym, subst}
-use Rattle.std.specs.Prelude.{Option, None, Some, ℤ}
+use Rattle.std.proofs.Common.{◌≡◌, Result, sym, subst}
+use Rattle.std.specs.Prelude.{Option, Some, ℤ}
 use Rattle.mq_embedded.specs.declared.fault.CallFault.{CallFault}
 use Rattle.mq_embedded.specs.Calls.{WithEvents}
 use Rattle.mq_ffi.specs.Clients.{Calls, Passes}

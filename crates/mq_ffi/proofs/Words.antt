@@ -7,7 +7,6 @@ use mir.Val.{Val, vstruct, vcons, vnil, of_list, has_ty, WT}
 use base.Logic.{ent, emp}
 use base.Fml.{Fml}
 use types.Logic.{Logic, sem}
-use denote.RattleType.{RattleType}
 use denote.RawPtr.{Ptr, RawPtr, block_ptr, null_ptr, ptr_val}
 use denote.Shadow.{shadow, makes_shadow}
 use denote.Struct.Struct.{Struct}
