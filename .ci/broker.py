@@ -297,6 +297,50 @@ def silent_connections(program):
             reader.send(packet(0x40, (nth + 1).to_bytes(2, "big")))
 
 
+def late_connects(program):
+    """A connection without CONNECT is closed in time, also after a time without any connection."""
+    with Broker(program, "--connect-within", "1") as broker, contextlib.ExitStack() as stack:
+        early = stack.enter_context(Client(broker, "early"))
+        time.sleep(2)
+        start = time.monotonic()
+        silent, half, late = [stack.enter_context(Client(broker)) for _ in range(3)]
+        half.send(connect("half")[:5])
+        time.sleep(0.5)
+        late.send(connect("late"))
+        late.expect(0x20)
+        assert silent.is_closed() and half.is_closed()
+        passed = time.monotonic() - start
+        assert 0.8 < passed < 5, f"closed after {passed:.1f} s"
+        early.ping()
+        late.ping()
+        line = r'closed address=127\.0\.0\.1:\d+ code=C12 reason="no CONNECT in time"'
+        assert sum(bool(re.fullmatch(line, it)) for it in broker.lines()) == 2, broker.lines()
+
+
+def full_session(program):
+    """A full session misses messages, or closes the publisher with `--when-full close`."""
+    for words, taken in (([], 5), (["--when-full", "drop"], 5), (["--when-full", "close"], 3)):
+        with Broker(program, "--capacity", "3", *words) as broker, contextlib.ExitStack() as stack:
+            away = stack.enter_context(Client(broker, "away", clean=False))
+            away.subscribe("t", 1)
+            away.send(DISCONNECT)
+            assert away.is_closed()
+            publisher = stack.enter_context(Client(broker, "p"))
+            for nth in range(1, 6):
+                publisher.send(publish("t", b"%d" % nth, 1, nth))
+            found = [publisher.packet() for _ in range(taken)]
+            assert found == [(0x40, nth.to_bytes(2, "big")) for nth in range(1, taken + 1)], found
+            if taken < 5:
+                assert publisher.is_closed()
+                line = 'closed client=p code=C8 reason="a subscriber\'s session is full"'
+                assert line in broker.lines(), broker.lines()
+            else:
+                publisher.ping()
+            back = stack.enter_context(Client(broker, "away", clean=False))
+            assert [back.expect(0x30)[-1:] for _ in range(3)] == [b"1", b"2", b"3"]
+            back.ping()
+
+
 def endless_publisher(program):
     """Publishers that never stop do not keep others waiting."""
     with Broker(program, "--quiet") as broker, contextlib.ExitStack() as stack:
@@ -334,7 +378,7 @@ def arguments(program):
         ran = subprocess.run([program, "broker", "--listen", f"127.0.0.1:{broker.port}"], capture_output=True, timeout=LIMIT, check=False)
         assert (ran.returncode, ran.stdout) == (1, b""), ran
         assert b"address is in use" in ran.stderr, ran
-    for words in (["--listen", "localhost"], ["--capacity", "0"], ["--max-packet", "268435456"], ["--max-packet", "63"], ["--log", "/nowhere/log"]):
+    for words in (["--listen", "localhost"], ["--capacity", "0"], ["--max-packet", "268435456"], ["--max-packet", "63"], ["--log", "/nowhere/log"], ["--connect-within", "0"], ["--connect-within", "soon"], ["--when-full", "wait"]):
         ran = subprocess.run([program, "broker", *words], capture_output=True, timeout=LIMIT, check=False)
         assert (ran.returncode, ran.stdout) == (2, b""), ran
     with contextlib.suppress(OSError), socket.create_server(("::1", 0), family=socket.AF_INET6) as free:
@@ -349,31 +393,54 @@ def arguments(program):
             process.stdout.close()
 
 
+def log_in(broker, name, password):
+    """The return code of the CONNACK for a login."""
+    with Client(broker) as client:
+        flags = 2 | (0xC0 if name else 0)
+        body = text("MQTT") + bytes([4, flags, 0, 0]) + text("c")
+        client.send(packet(0x10, body + (text(name) + text(password) if name else b"")))
+        return client.expect(0x20)[1]
+
+
+def password_line(program, name, password):
+    """The line that `mqtt password` prints."""
+    ran = subprocess.run([program, "password", name], input=password, capture_output=True, timeout=LIMIT, check=True)
+    assert ran.stderr == b"", ran
+    return ran.stdout
+
+
 def passwords(program):
-    """Only the users of the file may connect."""
+    """Only the users of the file may connect, with plain passwords or with digests of them."""
+    hashed = [password_line(program, "bob", it) for it in (b"other\n", b"other\r\n", b"other")]
+    assert all(re.fullmatch(rb"bob:sha256:[0-9a-f]{32}:[0-9a-f]{64}\n", it) for it in hashed), hashed
+    assert len(set(hashed)) == 3 and b"other" not in b"".join(hashed)
     with tempfile.NamedTemporaryFile() as file:
-        file.write(b"alice:secret\nbob:other\n")
-        file.flush()
-        with Broker(program, "--passwords", file.name) as broker:
-            for name, password, code in (("alice", "secret", 0), ("alice", "other", 4), ("carol", "secret", 4), (None, None, 4)):
-                with Client(broker) as client:
-                    flags = 2 | (0xC0 if name else 0)
-                    body = text("MQTT") + bytes([4, flags, 0, 0]) + text("c")
-                    client.send(packet(0x10, body + (text(name) + text(password) if name else b"")))
-                    answer = client.expect(0x20)
-                    assert answer[0] == 0 and (answer[1] == 0) == (code == 0), (name, password, answer)
-            for _ in range(100):
-                refused = [it for it in broker.lines() if it.startswith("refused")]
-                if len(refused) == 3:
-                    break
-                time.sleep(0.05)
-            assert len(refused) == 3, refused
-        file.seek(0)
-        file.truncate()
-        file.write(b"no colon\n")
-        file.flush()
-        ran = subprocess.run([program, "broker", "--passwords", file.name], capture_output=True, timeout=LIMIT, check=False)
-        assert (ran.returncode, ran.stdout) == (2, b"") and b"line 1" in ran.stderr, ran
+        for lines in (b"alice:secret\nbob:other\n", *(b"alice:secret\n" + it for it in hashed)):
+            file.seek(0)
+            file.truncate()
+            file.write(b"# users\n\n" + lines)
+            file.flush()
+            with Broker(program, "--passwords", file.name) as broker:
+                logins = [("alice", "secret", 0), ("bob", "other", 0), ("alice", "other", 4), ("bob", "secret", 4), ("carol", "secret", 4), ("bob", "", 4), (None, None, 5)]
+                for name, password, code in logins:
+                    found = log_in(broker, name, password)
+                    assert found == code, (lines, name, password, found)
+                for _ in range(100):
+                    refused = [it for it in broker.lines() if it.startswith("refused")]
+                    if len(refused) == 5:
+                        break
+                    time.sleep(0.05)
+                assert len(refused) == 5, refused
+        for lines, reason in ((b"a:b\nno colon\n", b"line 2: no colon"), (b"a:sha256:salt:00", b"line 1: a salt"), (b"a:\xff", b"not UTF-8")):
+            file.seek(0)
+            file.truncate()
+            file.write(lines)
+            file.flush()
+            ran = subprocess.run([program, "broker", "--passwords", file.name], capture_output=True, timeout=LIMIT, check=False)
+            assert (ran.returncode, ran.stdout) == (2, b"") and file.name.encode() in ran.stderr and reason in ran.stderr, ran
+    for name, password in (("a:b", b"x"), ("#a", b"x"), ("", b"x"), ("a", 65_536 * b"x")):
+        ran = subprocess.run([program, "password", name], input=password, capture_output=True, timeout=LIMIT, check=False)
+        assert (ran.returncode, ran.stdout) == (2, b"") and ran.stderr.startswith(b"mqtt: the "), ran
 
 
 def ask(port, request):
@@ -413,7 +480,7 @@ def metrics(program):
 
 TESTS = [
     arguments, many_connections, too_many_connections, no_descriptor, silent_reader, leaving,
-    silent_connections, endless_publisher, passwords, metrics,
+    silent_connections, late_connects, full_session, endless_publisher, passwords, metrics,
 ]
 
 

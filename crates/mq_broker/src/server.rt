@@ -150,11 +150,13 @@ impl<L: Write + Drop> Server<L> {
         for _ in 0..u64::MAX {
             self.wait(&mut events, now)?;
             now = clock.now();
-            self.accept_all(now)?;
             let began = Instant::now(rt);
             self.connections.round(now, buffer.as_mut_slice());
             self.count_round(rt, began);
+            // A new connection takes a free place, so the reports about its last connection are
+            // written before. The round before told the broker the time at which it is opened.
             self.take_reports();
+            self.accept_all(now)?;
             self.answer_requests(alloc, &events);
         }
         Ok(())
