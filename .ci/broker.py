@@ -317,6 +317,42 @@ def late_connects(program):
         assert sum(bool(re.fullmatch(line, it)) for it in broker.lines()) == 2, broker.lines()
 
 
+def await_line(broker, line):
+    """Waits until the log has this line."""
+    for _ in range(200):
+        if line in broker.lines():
+            return
+        time.sleep(0.02)
+    raise AssertionError(f"the log has no line {line}: {broker.lines()}")
+
+
+def missed_messages(program):
+    """The log has one line for the messages that a client missed in a second, also at its end."""
+    with Broker(program, "--capacity", "1") as broker, contextlib.ExitStack() as stack:
+        away = stack.enter_context(Client(broker, "away", clean=False))
+        away.subscribe("t", 1)
+        away.send(DISCONNECT)
+        publisher = stack.enter_context(Client(broker, "p"))
+        for count in (1, 300, 200):
+            for nth in range(count + (count == 1)):
+                publisher.send(publish("t", b"x", 1, nth + 1))
+                publisher.expect(0x40)
+            if count < 300:
+                time.sleep(1.2)
+        # The session ends before the log has its last line, which then has its number.
+        publisher.send(publish("t", b"x", 1, 1))
+        publisher.expect(0x40)
+        Client(broker, "away").socket.close()
+        ended = "session-ended client=away"
+        await_line(broker, ended)
+        time.sleep(1.2)
+        lines = [it for it in broker.lines() if it.startswith("missed")]
+        numbers = [re.fullmatch(r"missed client=(away|#\d+) messages=(\d+)", it) for it in lines]
+        assert all(numbers), lines
+        assert numbers[0][0] == "missed client=away messages=1", lines
+        assert sum(int(it[2]) for it in numbers) == 502 and len(lines) <= 6, lines
+
+
 def full_session(program):
     """A full session misses messages, or closes the publisher with `--when-full close`."""
     for words, taken in (([], 5), (["--when-full", "drop"], 5), (["--when-full", "close"], 3)):
@@ -336,6 +372,7 @@ def full_session(program):
                 assert line in broker.lines(), broker.lines()
             else:
                 publisher.ping()
+                await_line(broker, "missed client=away messages=2")
             back = stack.enter_context(Client(broker, "away", clean=False))
             assert [back.expect(0x30)[-1:] for _ in range(3)] == [b"1", b"2", b"3"]
             back.ping()
@@ -455,6 +492,14 @@ def ask(port, request):
             response += data
 
 
+def metric(port, name):
+    """The value of a metric."""
+    body = ask(port, b"GET /metrics HTTP/1.1\r\nHost: x\r\n\r\n").decode()
+    found = re.search(rf"(?m)^{re.escape(name)} (.*)$", body)
+    assert found, f"no metric {name}"
+    return found[1]
+
+
 def metrics(program):
     """The metrics and the page are served over HTTP, on the same loop."""
     with socket.create_server(("127.0.0.1", 0)) as free:
@@ -468,8 +513,7 @@ def metrics(program):
             head, _, body = ask(port, method + b" /metrics HTTP/1.1\r\nHost: x\r\n\r\n").partition(b"\r\n\r\n")
             assert head.startswith(b"HTTP/1.1 200 OK\r\n"), head
             assert len(body) >= size and (size or not body), body
-            if body:
-                assert re.search(rb'(?m)^mqtt\w*messages\w*in\w*\{qos="0"\} 3$', body), body
+        assert metric(port, 'mqtt_messages_in_total{qos="0"}') == "3"
         assert b"<title>" in ask(port, b"GET / HTTP/1.1\r\nHost: x\r\n\r\n")
         assert ask(port, b"POST / HTTP/1.1\r\n\r\n").startswith(b"HTTP/1.1 405 ")
         assert ask(port, b"GET /other HTTP/1.1\r\n\r\n").startswith(b"HTTP/1.1 404 ")
@@ -478,9 +522,36 @@ def metrics(program):
         client.ping()
 
 
+def rows(program):
+    """The gauges, and the page's rows: full sessions first, then those that store the most."""
+    with socket.create_server(("127.0.0.1", 0)) as free:
+        port = free.getsockname()[1]
+    words = ["--quiet", "--capacity", "4", "--metrics", f"127.0.0.1:{port}"]
+    with Broker(program, *words) as broker, contextlib.ExitStack() as stack:
+        for nth in range(24):
+            with Client(broker, f"<{nth}>", clean=False) as client:
+                for index in range(min(nth, 5)):
+                    client.subscribe(f"t{index}" if nth < 23 else f"t{index + 4}", 1)
+        publisher = stack.enter_context(Client(broker, "p"))
+        for index in range(5):
+            retained = bytearray(publish(f"t{index}", b"x", 1, index + 1))
+            retained[0] |= 1
+            publisher.send(retained)
+            publisher.expect(0x40)
+        found = {name: metric(port, f"mqtt_{name}") for name in ("connections", "sessions", "retained_messages", "stored_messages")}
+        # The sessions 0 to 22 store 0, 1, 2, 3, 4, 4 .. messages, session 23 one, and p none.
+        assert found == {"connections": "1", "sessions": "25", "retained_messages": "5", "stored_messages": "83"}, found
+        assert metric(port, 'mqtt_messages_missed_total{reason="session_full"}') == "18"
+        page = ask(port, b"GET / HTTP/1.1\r\nHost: x\r\n\r\n").decode()
+        shown = re.findall(r"<tr><td>(.*)<td>(\d+)<td>(\d+)<td>(\d+)<td>(\w+)\n", page)
+        full = [(f"&lt;{nth}&gt;", "4", "0", "1" if nth > 4 else "0", "full") for nth in range(4, 23)]
+        assert shown == full + [("&lt;3&gt;", "3", "0", "0", "away")], shown
+        publisher.ping()
+
+
 TESTS = [
     arguments, many_connections, too_many_connections, no_descriptor, silent_reader, leaving,
-    silent_connections, late_connects, full_session, endless_publisher, passwords, metrics,
+    silent_connections, late_connects, missed_messages, full_session, endless_publisher, passwords, metrics, rows,
 ]
 
 

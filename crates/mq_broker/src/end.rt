@@ -1,5 +1,9 @@
 //! Reasons of a broker to end.
 
+ghost use Rattle.std.specs.Prelude.{◌≡◌, ◌≢◌};
+ghost use Rattle.mq_broker.specs.End.{end_status};
+ghost use Rattle.mq_broker.specs.declared.end.BrokerEnd.TheVariants.{PacketLimit};
+
 use std::alloc::AllocError;
 use std::io;
 use std::io::ErrorKind;
@@ -31,7 +35,9 @@ pub enum BrokerEnd {
 impl BrokerEnd {
     /// The exit status of the program: 2 for an invalid option, 3 if an allocation failed, 4 if the
     /// output failed, otherwise 1.
-    pub fn status(self) -> u8 {
+    pub fn status(self) -> u8
+        ensures { result ≡ end_status self }
+    {
         match self {
             BrokerEnd::PacketLimit => 2,
             BrokerEnd::Memory => 3,
@@ -41,7 +47,9 @@ impl BrokerEnd {
     }
 
     /// Why an address can't be listened on.
-    pub(crate) fn of_bind(error: &io::Error) -> BrokerEnd {
+    pub(crate) fn of_bind(error: &io::Error) -> BrokerEnd
+        ensures { result ≢ PacketLimit }
+    {
         match error.kind() {
             ErrorKind::AddrInUse => BrokerEnd::AddressInUse,
             ErrorKind::OutOfMemory => BrokerEnd::Memory,
@@ -50,7 +58,9 @@ impl BrokerEnd {
     }
 
     /// Why a wait for connections failed.
-    pub(crate) fn of_wait(error: &io::Error) -> BrokerEnd {
+    pub(crate) fn of_wait(error: &io::Error) -> BrokerEnd
+        ensures { result ≢ PacketLimit }
+    {
         match error.kind() {
             ErrorKind::OutOfMemory => BrokerEnd::Memory,
             _ => BrokerEnd::Listener,

@@ -1,7 +1,8 @@
 //! Options of a broker.
 
-ghost use Rattle.std.specs.Prelude.{◌≡◌, ◌<◌, ◌≤◌, ◌×◌, ◌^◌, ◌↔◌, None, IfSome, IsSome, max};
+ghost use Rattle.std.specs.Prelude.{◌≡◌, ◌↔◌, None, IfSome, IsSome, max};
 ghost use Rattle.mq_decode.specs.Limits.{strict};
+ghost use Rattle.mq_broker.specs.End.{IsPacketLimit};
 
 use mq_decode::Limits;
 use mq_end::BoxedList;
@@ -40,8 +41,7 @@ impl BrokerOptions {
     /// The limits of packets. `None` if the maximum is below 64, or above that of the standard
     /// (2.2.3).
     pub(crate) fn packets(&self) -> Option<Limits>
-        ensures fits { IsSome result
-            ↔ ((64 ≤ self.now.max_packet) × (self.now.max_packet < 2 ^ 28)) }
+        ensures fits { IsSome result ↔ IsPacketLimit self.now.max_packet }
         ensures value { IfSome result (λ limits. limits ≡ strict self.now.max_packet) }
     {
         Limits::new(self.max_packet)

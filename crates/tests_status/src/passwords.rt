@@ -140,29 +140,27 @@ fn logged(alloc: Global, line: LogLine) -> Result<String, Fail> {
     text_of(alloc, out.as_slice())
 }
 
+// Each line of the log must be the expected one.
+fn expect_lines(rt: &HostRuntime, rows: &[(LogLine<'_>, &str)]) -> Result<(), Fail> {
+    for (line, expected) in rows {
+        let text = logged(rt.alloc(), *line)?;
+        assert_eq!(rt; text.as_str(), *expected);
+    }
+    Ok(())
+}
+
 #[test]
-fn log_lines(rt: HostRuntime) -> Result<(), Fail> {
-    let alloc = rt.alloc();
-    let client = "a\nclosed client=b";
-    let address = "127.0.0.1:5";
+fn lines_about_clients(rt: HostRuntime) -> Result<(), Fail> {
+    let (client, address) = ("a\nclosed client=b", "127.0.0.1:5");
+    let reason = HubClose::Own(CloseReason::KeepAlive);
     let rows = [
         (
             LogLine::Connected { client, address },
             "connected client=a%0aclosed%20client=b address=127.0.0.1:5\n",
         ),
         (
-            LogLine::ClosedEarly {
-                address,
-                reason: HubClose::PeerEnded,
-            },
-            "closed address=127.0.0.1:5 code=C10 reason=\"connection ended by peer\"\n",
-        ),
-        (
-            LogLine::Closed {
-                client: "c",
-                reason: HubClose::Own(CloseReason::KeepAlive),
-            },
-            "closed client=c code=C5 reason=\"keep-alive expired\"\n",
+            LogLine::Closed { client, reason },
+            "closed client=a%0aclosed%20client=b code=C5 reason=\"keep-alive expired\"\n",
         ),
         (
             LogLine::SessionEnded {
@@ -178,13 +176,6 @@ fn log_lines(rt: HostRuntime) -> Result<(), Fail> {
             "missed client=c messages=12\n",
         ),
         (
-            LogLine::Refused {
-                address,
-                code: RefusalCode::NotAuthorized,
-            },
-            "refused address=127.0.0.1:5 code=5 reason=\"not authorized\"\n",
-        ),
-        (
             LogLine::Slow {
                 client: "c",
                 pending: 99,
@@ -192,9 +183,22 @@ fn log_lines(rt: HostRuntime) -> Result<(), Fail> {
             "slow client=c pending=99\n",
         ),
     ];
-    for (line, expected) in &rows {
-        let text = logged(alloc, *line)?;
-        assert_eq!(rt; text.as_str(), *expected);
-    }
-    Ok(())
+    expect_lines(&rt, &rows)
+}
+
+#[test]
+fn lines_about_addresses(rt: HostRuntime) -> Result<(), Fail> {
+    let address = "127.0.0.1:5";
+    let (reason, code) = (HubClose::PeerEnded, RefusalCode::NotAuthorized);
+    let rows = [
+        (
+            LogLine::ClosedEarly { address, reason },
+            "closed address=127.0.0.1:5 code=C10 reason=\"connection ended by peer\"\n",
+        ),
+        (
+            LogLine::Refused { address, code },
+            "refused address=127.0.0.1:5 code=5 reason=\"not authorized\"\n",
+        ),
+    ];
+    expect_lines(&rt, &rows)
 }
