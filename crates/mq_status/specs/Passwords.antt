@@ -157,7 +157,7 @@ abbrev pub is_accepted : List Entry → List ℕ → Option (List ℕ) → Bool
 is_accepted entries name None = false
 is_accepted entries name (Some password) = list_any (accepts_login name password) entries
 
--- Why a login is refused by entries: it must be there, and one of them must accept it (3.1.3.4, 3.1.3.5).
+-- why entries refuse a login: it must be there, and one of them must accept it (3.1.3.4)
 abbrev pub refusal_by_entries : List Entry → Option Login → Option RefusalCode
 refusal_by_entries entries None = Some NotAuthorized
 refusal_by_entries entries (Some login) =
