@@ -7,7 +7,7 @@ use Rattle.mq_broker.specs.declared.end.BrokerEnd.TheVariants as ends
 abbrev pub IsPacketLimit : ℕ → Type 0
 IsPacketLimit bytes = (64 ≤ bytes) × (bytes < 2 ^ 28)
 
--- the exit status: 2 for an invalid option, 3 if an allocation failed, 4 if the output failed, otherwise 1
+-- the exit status: 2 for an invalid option, 3 if an allocation failed, 4 if the output failed
 abbrev pub end_status : BrokerEnd → ℕ
 end_status ends.PacketLimit = 2
 end_status ends.Memory = 3
