@@ -326,6 +326,16 @@ def await_line(broker, line):
     raise AssertionError(f"the log has no line {line}: {broker.lines()}")
 
 
+def await_missed(broker, client, count):
+    """Waits until the log has lines with this number of missed messages."""
+    for _ in range(200):
+        lines = [it for it in broker.lines() if it.startswith(f"missed client={client} messages=")]
+        if sum(int(it.rpartition("=")[2]) for it in lines) == count:
+            return
+        time.sleep(0.02)
+    raise AssertionError(f"{client} missed other than {count} messages: {lines}")
+
+
 def missed_messages(program):
     """The log has one line for the messages that a client missed in a second, also at its end."""
     with Broker(program, "--capacity", "1") as broker, contextlib.ExitStack() as stack:
@@ -368,11 +378,10 @@ def full_session(program):
             assert found == [(0x40, nth.to_bytes(2, "big")) for nth in range(1, taken + 1)], found
             if taken < 5:
                 assert publisher.is_closed()
-                line = 'closed client=p code=C8 reason="a subscriber\'s session is full"'
-                assert line in broker.lines(), broker.lines()
+                await_line(broker, 'closed client=p code=C8 reason="a subscriber\'s session is full"')
             else:
                 publisher.ping()
-                await_line(broker, "missed client=away messages=2")
+                await_missed(broker, "away", 2)
             back = stack.enter_context(Client(broker, "away", clean=False))
             assert [back.expect(0x30)[-1:] for _ in range(3)] == [b"1", b"2", b"3"]
             back.ping()
