@@ -1,7 +1,7 @@
 -- The tables of entries accept the logins that an entry accepts.
-use Rattle.std.proofs.Common.{◌≡◌, ℕ, Bool, true, false, ◌||◌, ◌&&◌, List, [], ◌∷◌, ◌++◌, Option, Some, None, Result, Ok, refl, ap, ◌∙◌}
+use Rattle.std.proofs.Common.{◌≡◌, ℕ, Bool, true, false, ◌||◌, ◌&&◌, List, [], ◌∷◌, ◌++◌, Option, Some, None, Ok, refl, ap, ◌∙◌}
 use Rattle.std.specs.Prelude.{if◌then◌else◌}
-use Rattle.std.specs.List.{flat_map, list_any}
+use Rattle.std.specs.List.{list_any}
 use Rattle.std.proofs.lemmas.List.{flat_map_more}
 use Rattle.std.specs.Str.{bytes_eq}
 use Rattle.mq_packet.specs.declared.connack.RefusalCode.{RefusalCode}
@@ -12,7 +12,6 @@ use Rattle.mq_route.specs.declared.config.User.{User}
 use Rattle.mq_route.specs.Welcome.{has_digest, has_password, is_hashed_one, is_one_of, refusal_by_tables}
 use Rattle.mq_status.specs.Passwords.{AreTablesOf, ReadsTables, accepts, accepts_login, file_gives, hashed_users, hashed_with, is_accepted, plain_users, plain_with, refusal_by_entries}
 use Rattle.mq_status.specs.declared.passwords.Entry.{Entry}
-use Rattle.mq_status.specs.declared.passwords.PasswordFault.{PasswordFault}
 use Rattle.mq_status.specs.declared.passwords.Stored.{Stored}
 use Rattle.mq_status.specs.declared.passwords.Stored.TheVariants.{Plain, Sha256}
 

@@ -1,22 +1,20 @@
 -- A line that is written reads as its name, and the digest of its salt and password.
-use Rattle.std.proofs.Common.{◌≡◌, ℕ, zero, suc, ◌+◌, ◌*◌, ◌/◌, ◌%◌, ◌<◌, ◌≤◌, Bool, true, false, ◌==◌, ◌&&◌, ◌||◌, not, nat_le, nat_lt, List, [], ◌∷◌, ◌++◌, length, take, drop, slice_index, codes, refl, sym, ap, ◌∙◌, subst, arith, Option, Some, None, Result, Ok, Err}
+use Rattle.std.proofs.Common.{◌≡◌, ℕ, zero, suc, ◌+◌, ◌*◌, ◌/◌, ◌%◌, ◌<◌, Bool, true, false, ◌==◌, ◌&&◌, not, nat_le, List, [], ◌∷◌, ◌++◌, length, take, drop, slice_index, codes, refl, ap, ◌∙◌, arith, Some, None, Result, Ok, Err}
 use Rattle.std.specs.Prelude.{if◌then◌else◌}
-use Rattle.std.specs.List.{before_first, after_first, position_or_len, list_all, list_any}
-use Rattle.std.specs.Int.{w32, byte_at, bytes_high_first, to_be_bytes}
+use Rattle.std.specs.List.{before_first, after_first, position_or_len, list_all}
+use Rattle.std.specs.Int.{w32, bytes_high_first, to_be_bytes}
 use Rattle.std.specs.Str.{bytes_eq}
 use Rattle.std.specs.Result.{result_ok}
 use Rattle.std.proofs.lemmas.Bool.{and_parts}
 use Rattle.std.proofs.lemmas.Bool.Decides.{nat_tests}
 use Rattle.std.proofs.lemmas.List.{length-append}
-use native.Mathlib.Numerals.{unary_clauses}
-use Rattle.hex.specs.Hex.{IsBytes, decode_of, decode_pairs, decode_sized, encode_lower, lower_digits}
+use Rattle.hex.specs.Hex.{IsBytes, decode_sized, encode_lower, lower_digits}
 use Rattle.hex.specs.declared.error.FromHexError.{FromHexError}
 use Rattle.hex.proofs.HexLemmas.{decode_pairs-encode_with, length-encode_with, IsDigits-lower_digits}
 use Rattle.sha2.specs.Sha256.{sha256, digest_bytes}
 use Rattle.sha2.proofs.Facts256.{length-sha256}
 use Rattle.mq_wire.specs.Text.{has_nul}
 use Rattle.mq_status.specs.Passwords.{entry_of, field_in, fits, has_colon, hash_in, hash_of, is_colon, is_field, is_field_byte, is_name, is_skipped, line_gives, name_in, password_line, plain_of, some_of, stored_in, written}
-use Rattle.mq_status.specs.declared.passwords.Entry.{Entry}
 use Rattle.mq_status.specs.declared.passwords.PasswordFault.{PasswordFault}
 use Rattle.mq_status.specs.declared.passwords.PasswordFault.TheVariants.{NoColon, NoName, NotHash, NotText, TooLong}
 use Rattle.mq_status.specs.declared.passwords.Stored.{Stored}
