@@ -1,5 +1,6 @@
 //! Reasons of a broker to end.
 
+use mq_loop::CommitFailure;
 use std::alloc::AllocError;
 use std::io;
 use std::io::ErrorKind;
@@ -26,6 +27,9 @@ pub enum BrokerEnd {
     /// An allocation failed.
     #[error("out of memory")]
     Memory,
+    /// The journal failed. No output of the events that it lacks was sent.
+    #[error("the journal failed")]
+    Journal,
 }
 
 impl BrokerEnd {
@@ -36,7 +40,10 @@ impl BrokerEnd {
             BrokerEnd::PacketLimit => 2,
             BrokerEnd::Memory => 3,
             BrokerEnd::Output => 4,
-            BrokerEnd::AddressInUse | BrokerEnd::AddressRefused | BrokerEnd::Listener => 1,
+            BrokerEnd::AddressInUse
+            | BrokerEnd::AddressRefused
+            | BrokerEnd::Listener
+            | BrokerEnd::Journal => 1,
         }
     }
 
@@ -66,5 +73,18 @@ impl From<AllocError> for BrokerEnd {
 
     fn from(_e: AllocError) -> BrokerEnd {
         BrokerEnd::Memory
+    }
+}
+
+impl From<CommitFailure> for BrokerEnd {
+    ghost use Rattle.std.specs.Prelude.{Unit};
+
+    ghost from_gives = { λ _ _. Unit {0} };
+
+    fn from(failure: CommitFailure) -> BrokerEnd {
+        match failure {
+            CommitFailure::Memory => BrokerEnd::Memory,
+            CommitFailure::Storage | CommitFailure::Full => BrokerEnd::Journal,
+        }
     }
 }

@@ -9,6 +9,7 @@ use crate::peers::Peers;
 use crate::status_port::{FIRST, LISTENER as STATUS_LISTENER, SLOTS, StatusPort};
 use mio::net::{TcpListener, TcpStream};
 use mio::{Events, Interest, Poll, Token};
+use mq_hub::Hub;
 use mq_loop::{EventLoop, LoopLimits, NonBlocking, Report};
 use mq_status::{Counter, MAX_ROWS, Metrics, RowState, SessionRow, write_response};
 use mq_stream::{Clock, Elapsed};
@@ -41,7 +42,7 @@ const LISTENER: Token = Token(usize::MAX);
 struct Server<W: Write> {
     poll: Poll,
     listener: TcpListener,
-    connections: EventLoop<NonBlocking<TcpStream>, Counted>,
+    connections: EventLoop<Hub, NonBlocking<TcpStream>, Counted>,
     status: Option<StatusPort>,
     peers: Peers,
     log: Log<W>,
@@ -152,9 +153,10 @@ impl<L: Write + Drop> Server<L> {
             now = clock.now();
             self.accept_all(now)?;
             let began = Instant::now(rt);
-            self.connections.round(now, buffer.as_mut_slice());
+            let settled = self.connections.round(now, buffer.as_mut_slice());
             self.count_round(rt, began);
             self.take_reports();
+            settled?;
             self.answer_requests(alloc, &events);
         }
         Ok(())
