@@ -169,13 +169,24 @@ impl<B: Broker + Drop, S: Socket + Drop> Watched<B, S> {
     {
         self.notes.has_failed = false;
         let _ = self.end_all(observer);
-        self.commit()?;
-        self.give_all(observer);
+        self.commit_and_give(observer)?;
         while self.end_all(observer) {
-            self.commit()?;
-            self.give_all(observer);
+            self.commit_and_give(observer)?;
         }
         self.check_settled();
+        Ok(())
+    }
+
+    // Commits all steps, and then writes the output of each connection that is marked.
+    fn commit_and_give<O: Observer>(&mut self, observer: &mut O) -> Result<(), CommitFailure>
+        ensures marked { OnOk result (IsEmpty self.new.marked) }
+        ensures committed { OnOk result (self.new.served.committed ≡ true) }
+        ensures sure { OnErr result (B.can_fail ≡ true) }
+        ensures connections { connections_in self.new.served.lines ≡ connections_in self.old.served.lines }
+        ensures base { self.new.served.base ≡ self.old.served.base }
+    {
+        self.commit()?;
+        self.give_all(observer);
         Ok(())
     }
 
@@ -183,7 +194,6 @@ impl<B: Broker + Drop, S: Socket + Drop> Watched<B, S> {
     fn commit(&mut self) -> Result<(), CommitFailure>
         ensures committed { OnOk result (self.new.served.committed ≡ true) }
         ensures sure { OnErr result (B.can_fail ≡ true) }
-        ensures rest { self.new ≡ record self.old { served = self.new.served } }
         ensures lines { self.new.served.lines ≡ self.old.served.lines }
         ensures base { self.new.served.base ≡ self.old.served.base }
     {
