@@ -12,7 +12,7 @@
 //!
 //! A call that can fail for lack of memory says so in its return type; other calls never allocate
 //! unless stated otherwise. On `Err` the receiver is unchanged unless stated otherwise. The
-//! definitions of the contracts are in `specs/`: `Brokers` (events), `Sockets` (what a socket does),
+//! definitions of the contracts are in `specs/`: `Brokers` (events), `Sockets` (reads and writes),
 //! `Accounts` (the bytes of a connection in a broker's steps), `Places` (sets of connections) and
 //! `Rounds` (the end of a round).
 #![tactic(auto)]
