@@ -1,6 +1,6 @@
 //! Rounds of a loop over all connections.
 
-ghost use Rattle.std.specs.Prelude.{◌≡◌, ◌<◌, false, true, IfSome, IsErr, OnErr, OnOk};
+ghost use Rattle.std.specs.Prelude.{◌≡◌, ◌<◌, [], false, true, IfSome, IsErr, OnErr, OnOk};
 ghost use Rattle.mq_route.specs.Hub.{new_hub};
 ghost use Rattle.mq_loop.specs.Accounts.{IsServed};
 ghost use Rattle.mq_loop.specs.Rounds.{IsReached, IsSettled, new_loop};
