@@ -4,6 +4,7 @@ ghost use Rattle.std.specs.Prelude.{◌≡◌, ◌≢◌};
 ghost use Rattle.mq_broker.specs.End.{end_status};
 ghost use Rattle.mq_broker.specs.declared.end.BrokerEnd.TheVariants.{PacketLimit};
 
+use mq_loop::CommitFailure;
 use std::alloc::AllocError;
 use std::io;
 use std::io::ErrorKind;
@@ -30,6 +31,9 @@ pub enum BrokerEnd {
     /// An allocation failed.
     #[error("out of memory")]
     Memory,
+    /// The journal failed. No output of the events that it lacks was sent.
+    #[error("the journal failed")]
+    Journal,
 }
 
 impl BrokerEnd {
@@ -42,7 +46,10 @@ impl BrokerEnd {
             BrokerEnd::PacketLimit => 2,
             BrokerEnd::Memory => 3,
             BrokerEnd::Output => 4,
-            BrokerEnd::AddressInUse | BrokerEnd::AddressRefused | BrokerEnd::Listener => 1,
+            BrokerEnd::AddressInUse
+            | BrokerEnd::AddressRefused
+            | BrokerEnd::Listener
+            | BrokerEnd::Journal => 1,
         }
     }
 
@@ -76,5 +83,19 @@ impl From<AllocError> for BrokerEnd {
 
     fn from(_e: AllocError) -> BrokerEnd {
         BrokerEnd::Memory
+    }
+}
+
+impl From<CommitFailure> for BrokerEnd {
+    ghost use Rattle.std.specs.Prelude.{◌≢◌};
+    ghost use Rattle.mq_broker.specs.declared.end.BrokerEnd.TheVariants.{PacketLimit};
+
+    ghost from_gives = { λ _ end. end ≢ PacketLimit };
+
+    fn from(failure: CommitFailure) -> BrokerEnd {
+        match failure {
+            CommitFailure::Memory => BrokerEnd::Memory,
+            CommitFailure::Storage | CommitFailure::Full => BrokerEnd::Journal,
+        }
     }
 }

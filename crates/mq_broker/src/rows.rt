@@ -3,7 +3,7 @@
 use crate::counted::Counted;
 use crate::peers::Peers;
 use mio::net::TcpStream;
-use mq_hub::SessionCounts;
+use mq_hub::{Hub, SessionCounts};
 use mq_loop::{EventLoop, NonBlocking};
 use mq_status::{MAX_ROWS, RowState, SessionRow};
 use mq_topic::ClientKey;
@@ -76,7 +76,7 @@ fn add(list: &mut Vec<Ranked>, session: Ranked) -> Result<(), AllocError> {
 // The bytes pending for each connected client.
 fn pending_bytes(
     alloc: Global,
-    connections: &EventLoop<NonBlocking<TcpStream>, Counted>,
+    connections: &EventLoop<Hub, NonBlocking<TcpStream>, Counted>,
     peers: &Peers,
 ) -> Result<BTreeMap<ClientKey, usize>, AllocError> {
     let mut pending = BTreeMap::new(alloc);
@@ -91,7 +91,7 @@ fn pending_bytes(
 // The sessions that the page shows, in order.
 fn first_sessions(
     alloc: Global,
-    connections: &EventLoop<NonBlocking<TcpStream>, Counted>,
+    connections: &EventLoop<Hub, NonBlocking<TcpStream>, Counted>,
     peers: &Peers,
 ) -> Result<Vec<Ranked>, AllocError> {
     let pending = pending_bytes(alloc, connections, peers)?;
@@ -108,7 +108,7 @@ fn first_sessions(
 /// The rows of the page: the sessions that are full, slow or store the most messages.
 pub(crate) fn rows_of(
     alloc: Global,
-    connections: &EventLoop<NonBlocking<TcpStream>, Counted>,
+    connections: &EventLoop<Hub, NonBlocking<TcpStream>, Counted>,
     peers: &Peers,
 ) -> Result<Vec<SessionRow>, AllocError> {
     let sessions = first_sessions(alloc, connections, peers)?;

@@ -18,6 +18,7 @@ use crate::status_port::StatusPort;
 use mio::net::{TcpListener, TcpStream};
 use mio::{Events, Poll, Token};
 use mq_decode::Limits;
+use mq_hub::Hub;
 use mq_loop::{EventLoop, LoopLimits, NonBlocking};
 use mq_stream::{Clock, Elapsed};
 use std::alloc::Global;
@@ -46,7 +47,7 @@ const LISTENER: Token = Token(usize::MAX);
 struct Server<W: Write> {
     poll: Poll,
     listener: TcpListener,
-    connections: EventLoop<NonBlocking<TcpStream>, Counted>,
+    connections: EventLoop<Hub, NonBlocking<TcpStream>, Counted>,
     status: Option<StatusPort>,
     peers: Peers,
     log: Log<W>,
@@ -189,9 +190,10 @@ impl<L: Write + Drop> Server<L> {
             self.wait(&mut events, now)?;
             now = clock.now();
             let began = Instant::now(rt);
-            self.connections.round(now, buffer.as_mut_slice());
+            let settled = self.connections.round(now, buffer.as_mut_slice());
             self.count_round(rt, began);
             self.take_reports(now);
+            settled?;
             self.accept_all(now)?;
             self.answer_requests(alloc, &events);
         }
