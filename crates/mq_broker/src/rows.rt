@@ -30,7 +30,7 @@ struct Ranked {
 }
 
 // The rank of a session. Its pending bytes are known if its client is connected.
-fn ranked(index: usize, counts: SessionCounts, pending: Option<usize>) -> Ranked {
+fn rank_session(index: usize, counts: SessionCounts, pending: Option<usize>) -> Ranked {
     let bytes = pending.unwrap_or(0);
     Ranked {
         rank: Rank {
@@ -99,7 +99,7 @@ fn first_sessions(
     for index in 0..connections.hub().counts().sessions {
         if let Some(counts) = connections.hub().session_counts(index) {
             let bytes = pending.get(&counts.key).copied();
-            add(&mut list, ranked(index, counts, bytes))?;
+            add(&mut list, rank_session(index, counts, bytes))?;
         }
     }
     Ok(list)

@@ -121,8 +121,10 @@ fn with_patience<'a>(alloc: Global, command: Command<'a>) -> Result<Command<'a>,
     ensures local { IfOk result (λ new. (out-Command new).has_globals ≡ (out-Command command.entry).has_globals) }
 {
     let help = "The seconds within which a connection must send CONNECT, or `never` [default: 10]";
-    let time = file_option(alloc, "CONNECT_WITHIN", "connect-within", help);
-    let command = with_arg(command, time)?;
+    let command = with_arg(
+        command,
+        file_option(alloc, "CONNECT_WITHIN", "connect-within", help),
+    )?;
     let help =
         "What happens to a message for a full session: `drop`, or `close` its publisher [default: drop]";
     with_arg(command, file_option(alloc, "WHEN_FULL", "when-full", help))
